@@ -1,0 +1,12 @@
+use Rattle.std.proofs.Common.{◌≤◌}
+use Rattle.hsr_frame.specs.Lines.{Continues}
+use Rattle.hsr_frame.proofs.lines.next_line.Given as goal
+
+abbrev pub invariant-loop-reads : goal.invariant-loop-reads
+invariant-loop-reads g l = record {
+  line : Continues (g.R.Read.remaining l.initial.reader) (g.R.Read.remaining l.reader) l.line.items;
+  reads : l.reads ≤ l.initial.reads;
+}
+
+abbrev pub decreases-loop-reads : goal.decreases-loop-reads
+decreases-loop-reads g l = l.reads

@@ -1,0 +1,45 @@
+-- The words of a line of text, and what each kind of word says.
+use Rattle.std.specs.Prelude.{ℕ, ◌+◌, ◌-◌, ◌*◌, ◌^◌, ◌==◌, ◌&&◌, nat_lt, nat_le, List, [], ◌∷◌, length, Option, Some, None, if◌then◌else◌, Bool}
+use Rattle.std.specs.Int.{from_be_bytes, w16}
+use Rattle.std.specs.Result.{result_ok}
+use Rattle.hex.specs.Hex.{decode_of, decode_sized}
+
+-- the second step, if the first gave a value
+infixl 10 ◌>>=◌
+abbrev pub ◌>>=◌ : {A B : Type 0} → Option A → (A → Option B) → Option B
+(Some x) >>= f = f x
+None >>= f = None
+
+-- what stands before the first separator, and what follows it, if there is one
+abbrev pub cut : ℕ → List ℕ → List ℕ × Option (List ℕ)
+cut separator [] = ([], None)
+cut separator (b ∷ bs) = if b == separator then ([], Some bs) else (b ∷ (cut separator bs).0, (cut separator bs).1)
+
+-- the next word, and what follows the space behind it
+abbrev pub word_at : Option (List ℕ) → Option (List ℕ × Option (List ℕ))
+word_at None = None
+word_at (Some text) = Some (cut 32 text)
+
+abbrev pub is_digit : ℕ → Bool
+is_digit b = nat_le 48 b && nat_le b 57
+
+-- the number of digits behind those that gave n
+abbrev pub digits_on : ℕ → List ℕ → Option ℕ
+digits_on n [] = Some n
+digits_on n (b ∷ bs) = if is_digit b && nat_lt (10 * n + (b - 48)) (2 ^ 64) then digits_on (10 * n + (b - 48)) bs else None
+
+-- a decimal number below 2^64, without sign or leading zeros
+abbrev pub decimal_of : List ℕ → Option ℕ
+decimal_of [] = None
+decimal_of (b ∷ bs) = if b == 48 && nat_lt 0 (length bs) then None else digits_on 0 (b ∷ bs)
+
+-- four hexadecimal digits of either case
+abbrev pub hex_pair_of : List ℕ → Option ℕ
+hex_pair_of word = do
+  octets ← result_ok (decode_sized word 2)
+  Some (from_be_bytes w16 octets)
+
+-- hexadecimal text of either case, or a hyphen for no octets
+abbrev pub hex_octets_of : List ℕ → Option (List ℕ)
+hex_octets_of [] = None
+hex_octets_of (b ∷ bs) = if b == 45 && length bs == 0 then Some [] else result_ok (decode_of (b ∷ bs))

@@ -1,0 +1,21 @@
+//! Addresses, the octets of frames, the words of texts, and the small types that several crates share.
+#![tactic(auto)]
+
+mod fault;
+mod lines;
+mod mac;
+mod node;
+mod octets;
+mod raw;
+mod words;
+
+pub use fault::{FrameFault, MacFault, NoMemory, SendFault, Spent};
+pub use lines::{Front, MOST_READS, ReadFault, next_line};
+pub use mac::Mac;
+pub use node::{Cause, Counters, Life, Mode, RingPort};
+pub use octets::{HSR, VLAN, copied, put, put_head, put_pair, u16_at};
+pub use raw::Raw;
+pub use words::{decimal, hex_octets, hex_pair, put_decimal, put_hex, word};
+
+#[cfg(test)]
+mod tests;

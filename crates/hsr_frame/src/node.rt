@@ -1,0 +1,68 @@
+//! What all kinds of node share.
+use crate::fault::FrameFault;
+
+/// Which frames a node forwards round the ring (IEC 62439-3 clause 5.3.2).
+#[derive(Clone, Copy, Debug, PartialEq, Eq)]
+pub enum Mode {
+    /// Every frame but a unicast frame to the node itself.
+    H,
+    /// None.
+    N,
+}
+
+/// A port on the ring.
+#[derive(Clone, Copy, Debug, PartialEq, Eq)]
+pub enum RingPort {
+    A,
+    B,
+}
+
+/// Why an arrival went where it did.
+#[derive(Clone, Copy, Debug, PartialEq, Eq)]
+pub enum Cause {
+    /// At least one egress passed it.
+    Passed,
+    /// Some egress wanted it, and each that did remembers it.
+    Duplicate,
+    /// Its source is an address of the node itself.
+    Returned,
+    /// No egress wanted it.
+    Foreign,
+    /// It goes from one known station to another.
+    Local,
+    /// It came to a ring port without an HSR tag.
+    Untagged,
+    /// It came to an interlink or a station with an HSR tag.
+    Tagged,
+    /// It is no frame.
+    Malformed(FrameFault),
+}
+
+/// How often each thing happened at a node.
+#[derive(Clone, Copy, Debug, PartialEq, Eq)]
+pub struct Counters {
+    /// Sends that were accepted.
+    pub sent: u64,
+    /// Supervision frames that were sent.
+    pub life: u64,
+    /// Arrivals that were passed up.
+    pub up: u64,
+    /// Copies of arrivals that were passed to ports.
+    pub forwarded: u64,
+    pub duplicate: u64,
+    pub returned: u64,
+    pub foreign: u64,
+    pub local: u64,
+    pub untagged: u64,
+    pub tagged: u64,
+    pub malformed: u64,
+    /// Supervision frames whose payload could not be read.
+    pub bad_life: u64,
+}
+
+/// The numbers of a supervision frame: that of its tag, and how many the node sent before, modulo 65536.
+#[derive(Clone, Copy, Debug, PartialEq, Eq)]
+pub struct Life {
+    pub seq: u16,
+    pub life: u16,
+}

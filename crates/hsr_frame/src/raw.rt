@@ -1,0 +1,107 @@
+//! Frames before any HSR tag is looked for.
+ghost use Rattle.std.specs.Prelude.{◌≡◌, ◌≢◌, ◌+◌, ◌*◌, ◌<◌, ◌≤◌, ◌++◌, List, length, take, drop, IfOk, IfErr, MatchResult, Ok, Err, IsOkAnd, Some, None};
+ghost use Rattle.hsr_frame.specs.Grammar.{Fields, spelling, IsRaw, fields_of, raw_fault, raw_of};
+
+use crate::fault::FrameFault;
+use crate::mac::Mac;
+use crate::octets::{VLAN, copied, put, put_head, put_pair, u16_at};
+use arrayvec::ArrayVec;
+use std::marker::Model;
+
+/// A frame, before any HSR tag is looked for: what stands after the type is its rest. No group sends it,
+/// and its type is not that of a VLAN tag (IEEE 802.3 clause 3, IEEE 802.1Q clause 9).
+#[derive(Drop)]
+pub struct Raw {
+    pub dst: Mac,
+    pub src: Mac,
+    pub vlan: Option<u16>,
+    pub kind: u16,
+    pub rest: ArrayVec<u8, 1506>,
+}
+
+impl Model for Raw {
+    ghost use Rattle.std.specs.Prelude.{◌≢◌};
+    ghost use Rattle.hsr_frame.specs.Address.{IsGroup};
+    ghost use Rattle.hsr_frame.specs.Grammar.{Fields};
+
+    ghost Value = { Fields };
+
+    ghost view = { λ r. record { dst = r.dst; src = r.src; vlan = r.vlan; kind = r.kind; rest = r.rest.items } };
+
+    ghost invariant = { λ r. (¬ IsGroup r.src) × (r.kind ≢ 0x8100) };
+}
+
+/// The address at a place.
+fn mac_at(octets: &[u8], at: usize) -> Mac
+    requires { at + 5 < length octets.now }
+    ensures { result ≡ take 6 (drop at octets.now) }
+{
+    let o = &octets[at..at + 6];
+    Mac::new([o[0], o[1], o[2], o[3], o[4], o[5]])
+}
+
+/// The frame by its places, or the first of the faults.
+fn read(octets: &[u8]) -> Result<Raw, FrameFault>
+    ensures found { IfOk result (λ r. (raw_fault octets.now ≡ None) × (r ≡ fields_of octets.now)) }
+    ensures fault { IfErr result (λ e. raw_fault octets.now ≡ Some e) }
+{
+    if octets.len() < 14 {
+        return Err(FrameFault::Short);
+    }
+    let first = u16_at(octets, 12);
+    let tagged = first == VLAN;
+    if tagged && octets.len() < 18 {
+        return Err(FrameFault::Short);
+    }
+    let head = if tagged { 18 } else { 14 };
+    let rest = &octets[head..];
+    if rest.len() > 1506 {
+        return Err(FrameFault::Long);
+    }
+    let src = mac_at(octets, 6);
+    if src.is_group() {
+        return Err(FrameFault::GroupSource);
+    }
+    let vlan = if tagged {
+        Some(u16_at(octets, 14))
+    } else {
+        None
+    };
+    let kind = u16_at(octets, head - 2);
+    if kind == VLAN {
+        return Err(FrameFault::DoubleVlan);
+    }
+    Ok(Raw {
+        dst: mac_at(octets, 0),
+        src,
+        vlan,
+        kind,
+        rest: copied(rest),
+    })
+}
+
+impl Raw {
+    /// The frame that the octets spell, or the first of the faults: too short, too long, from a group,
+    /// with two VLAN tags.
+    pub fn parse(octets: &[u8]) -> Result<Raw, FrameFault>
+        ensures exact { result ≡ raw_of octets.now }
+        // What is read is spelled so.
+        ensures found { IfOk result (λ r. IsRaw r × (octets.now ≡ spelling r)) }
+        // What is spelled so is read.
+        ensures only { (f : Fields) → IsRaw f → octets.now ≡ spelling f → result ≡ Ok f }
+    {
+        read(octets)
+    }
+
+    /// The octets of the frame: at most 1524.
+    pub fn write(&self) -> ArrayVec<u8, 1524>
+        ensures octets { result.items ≡ spelling self.now }
+        ensures well_formed { IsRaw self.now }
+    {
+        let mut out = ArrayVec::new();
+        put_head(&mut out, &self.dst, &self.src, self.vlan);
+        put_pair(&mut out, self.kind);
+        put(&mut out, self.rest.as_slice());
+        out
+    }
+}

@@ -1,0 +1,127 @@
+//! The words of a line of text, and texts that grow by words.
+ghost use Rattle.std.specs.Prelude.{◌≡◌, ◌≤◌, ◌*◌, ◌++◌, length, map, option_map, OnErr, OnOk};
+ghost use Rattle.std.specs.Fmt.{decimal as decimal_text};
+ghost use Rattle.std.specs.Result.{result_ok};
+ghost use Rattle.std.specs.Char.{to_ascii_uppercase};
+ghost use Rattle.hex.specs.Hex.{decode_of, encode_lower, encode_upper};
+ghost use Rattle.hsr_frame.specs.Words.{cut, word_at, decimal_of, hex_pair_of, hex_octets_of};
+
+use crate::octets::copied;
+use arrayvec::ArrayVec;
+use hex::FromHex;
+use itoa::Buffer;
+use std::alloc::AllocError;
+
+/// What stands before the first space, and what follows it.
+fn split_word(text: &[u8]) -> (&[u8], Option<&[u8]>)
+    ensures { cut 32 text.now ≡ (result.0.now, option_map (λ s. s.now) result.1) }
+{
+    for (i, b) in text.iter().enumerate() {
+        if *b == b' ' {
+            return (&text[..i], Some(&text[i + 1..]));
+        }
+    }
+    (text, None)
+}
+
+/// The next word of what is left of a line, and what follows the one space behind it.
+pub fn word(rest: Option<&[u8]>) -> Option<(&[u8], Option<&[u8]>)>
+    ensures { option_map (λ w. (w.0.now, option_map (λ s. s.now) w.1)) result ≡ word_at (option_map (λ s. s.now) rest.entry) }
+{
+    match rest {
+        Some(text) => Some(split_word(text)),
+        None => None,
+    }
+}
+
+/// The decimal number below 2^64 that a word spells, without sign or leading zeros.
+pub fn decimal(word: &[u8]) -> Option<u64>
+    ensures { result ≡ decimal_of word.now }
+{
+    let first = *word.first()?;
+    if first == b'0' && word.len() > 1 {
+        return None;
+    }
+    let mut n = 0u64;
+    for b in word {
+        if !b.is_ascii_digit() {
+            return None;
+        }
+        n = n.checked_mul(10)?.checked_add(u64::from(*b - b'0'))?;
+    }
+    Some(n)
+}
+
+/// The number of 16 bits that four hexadecimal digits of either case spell.
+pub fn hex_pair(word: &[u8]) -> Option<u16>
+    ensures { result ≡ hex_pair_of word.now }
+{
+    match <[u8; 2] as FromHex>::from_hex(word) {
+        Ok(octets) => Some(u16::from_be_bytes(octets)),
+        Err(_) => None,
+    }
+}
+
+/// The octets that hexadecimal text of either case spells; a hyphen spells none.
+pub fn hex_octets<const N: usize>(word: &[u8]) -> Option<ArrayVec<u8, N>>
+    requires { length word.now ≤ 2 * N }
+    ensures { option_map (λ v. v.items) result ≡ hex_octets_of word.now }
+{
+    match word {
+        [] => None,
+        [b'-'] => Some(ArrayVec::new()),
+        _ => decoded(word),
+    }
+}
+
+/// The octets of hexadecimal text.
+fn decoded<const N: usize>(word: &[u8]) -> Option<ArrayVec<u8, N>>
+    requires { length word.now ≤ 2 * N }
+    ensures { option_map (λ v. v.items) result ≡ result_ok (decode_of word.now) }
+{
+    let mut room = [0u8; N];
+    let octets = &mut room[..word.len() / 2];
+    match hex::decode_to_slice(word, octets) {
+        Ok(()) => Some(copied(octets)),
+        Err(_) => None,
+    }
+}
+
+/// Puts a number in decimal digits last.
+pub fn put_decimal(text: &mut Vec<u8>, n: u64) -> Result<(), AllocError>
+    ensures ok { OnOk result (text.new.items ≡ text.old.items ++ decimal_text n) }
+    ensures err { OnErr result (text.new.items ≡ text.old.items) }
+{
+    let mut buffer = Buffer::new();
+    text.extend_from_slice(buffer.format(n).as_bytes())
+}
+
+/// Puts octets, at most 2048, in hexadecimal digits of upper case last.
+pub fn put_hex(text: &mut Vec<u8>, octets: &[u8]) -> Result<(), AllocError>
+    requires { length octets.now ≤ 2048 }
+    ensures ok { OnOk result (text.new.items ≡ text.old.items ++ encode_upper octets.now) }
+    ensures err { OnErr result (text.new.items ≡ text.old.items) }
+{
+    let mut room = [0u8; 4096];
+    let digits = &mut room[..2 * octets.len()];
+    write_hex(digits, octets);
+    text.extend_from_slice(digits)
+}
+
+/// Fills a slice with the hexadecimal digits of octets.
+fn write_hex(digits: &mut [u8], octets: &[u8])
+    requires { length digits.old ≡ 2 * length octets.now }
+    ensures { digits.new ≡ encode_upper octets.now }
+{
+    hex::encode_to_slice(octets, digits).unwrap();
+    raise(digits);
+}
+
+/// Puts letters in upper case.
+fn raise(text: &mut [u8])
+    ensures { text.new ≡ map to_ascii_uppercase text.old }
+{
+    for letter in text.iter_mut() {
+        letter.make_ascii_uppercase();
+    }
+}
