@@ -1,14 +1,22 @@
 -- The words of a line of text, and what each kind of word says.
-use Rattle.std.specs.Prelude.{ℕ, ◌+◌, ◌-◌, ◌*◌, ◌^◌, ◌==◌, ◌&&◌, nat_lt, nat_le, List, [], ◌∷◌, length, Option, Some, None, if◌then◌else◌, Bool}
+use Rattle.std.specs.Prelude.{ℕ, ◌≡◌, Result, Ok, Err, ◌+◌, ◌-◌, ◌*◌, ◌^◌, ◌==◌, ◌&&◌, nat_lt, nat_le, List, [], ◌∷◌, length, Option, Some, None, if◌then◌else◌, Bool}
 use Rattle.std.specs.Int.{from_be_bytes, w16}
 use Rattle.std.specs.Result.{result_ok}
 use Rattle.hex.specs.Hex.{decode_of, decode_sized}
+use Rattle.hsr_frame.specs.declared.words.WordFault.{WordFault}
+use Rattle.hsr_frame.specs.declared.words.WordFault.TheVariants.{Bad, Memory}
 
 -- the second step, if the first gave a value
 infixl 10 ◌>>=◌
 abbrev pub ◌>>=◌ : {A B : Type 0} → Option A → (A → Option B) → Option B
 (Some x) >>= f = f x
 None >>= f = None
+
+-- what reading a word answered is what the definition says, unless memory ran out
+abbrev pub Gives : {X Y : Type 0} → (X → Y) → Result X WordFault → Option Y → Type 0
+Gives view (Ok x) said = said ≡ Some (view x)
+Gives view (Err Bad) said = said ≡ None
+Gives view (Err Memory) said = Unit {0}
 
 -- what stands before the first separator, and what follows it, if there is one
 abbrev pub cut : ℕ → List ℕ → List ℕ × Option (List ℕ)

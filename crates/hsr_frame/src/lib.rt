@@ -15,7 +15,7 @@ pub use mac::Mac;
 pub use node::{Cause, Counters, Life, Mode, RingPort};
 pub use octets::{HSR, VLAN, copied, put, put_head, put_pair, u16_at};
 pub use raw::Raw;
-pub use words::{decimal, hex_octets, hex_pair, put_decimal, put_hex, word};
+pub use words::{WordFault, decimal, hex_octets, hex_pair, put_decimal, put_hex, word};
 
 #[cfg(test)]
 mod tests;

@@ -29,7 +29,7 @@ fn words_of_a_line(rt: HostRuntime) -> Result<(), Fail> {
     let (at, rest) = word(rest).ok_or("no word")?;
     assert_eq!(rt; decimal(at), Some(0));
     let (octets, rest) = word(rest).ok_or("no word")?;
-    assert!(rt; hex_octets::<8>(octets).is_some());
+    assert!(rt; hex_octets(rt.alloc(), octets).is_ok());
     assert!(rt; word(rest).is_none());
     assert_eq!(rt; decimal(b"18446744073709551615"), Some(u64::MAX));
     for wrong in [b"".as_slice(), b"00", b"+1", b"18446744073709551616", b"1 "] {
@@ -38,6 +38,7 @@ fn words_of_a_line(rt: HostRuntime) -> Result<(), Fail> {
     assert_eq!(rt; hex_pair(b"892f"), Some(HSR));
     assert_eq!(rt; hex_pair(b"8100"), Some(VLAN));
     assert_eq!(rt; hex_pair(b"810"), None);
+    assert_eq!(rt; hex_octets(rt.alloc(), b"0aB").err(), Some(WordFault::Bad));
     let mut text = Vec::new(rt.alloc());
     put_decimal(&mut text, 10)?;
     put_hex(&mut text, &[0x0A, 0xBF])?;

@@ -1,16 +1,21 @@
 //! The words of a line of text, and texts that grow by words.
 ghost use Rattle.std.specs.Prelude.{◌≡◌, ◌≤◌, ◌*◌, ◌++◌, length, map, option_map, OnErr, OnOk};
 ghost use Rattle.std.specs.Fmt.{decimal as decimal_text};
-ghost use Rattle.std.specs.Result.{result_ok};
 ghost use Rattle.std.specs.Char.{to_ascii_uppercase};
-ghost use Rattle.hex.specs.Hex.{decode_of, encode_lower, encode_upper};
-ghost use Rattle.hsr_frame.specs.Words.{cut, word_at, decimal_of, hex_pair_of, hex_octets_of};
+ghost use Rattle.hex.specs.Hex.{encode_upper};
+ghost use Rattle.hsr_frame.specs.Words.{Gives, cut, word_at, decimal_of, hex_pair_of, hex_octets_of};
 
-use crate::octets::copied;
-use arrayvec::ArrayVec;
-use hex::FromHex;
+use hex::{FromHex, FromHexError};
 use itoa::Buffer;
-use std::alloc::AllocError;
+use std::alloc::{AllocError, Global};
+
+/// Why a word isn't read.
+#[derive(Clone, Copy, Debug, PartialEq, Eq)]
+pub enum WordFault {
+    /// It spells nothing of its kind.
+    Bad,
+    Memory,
+}
 
 /// What stands before the first space, and what follows it.
 fn split_word(text: &[u8]) -> (&[u8], Option<&[u8]>)
@@ -63,27 +68,17 @@ pub fn hex_pair(word: &[u8]) -> Option<u16>
 }
 
 /// The octets that hexadecimal text of either case spells; a hyphen spells none.
-pub fn hex_octets<const N: usize>(word: &[u8]) -> Option<ArrayVec<u8, N>>
-    requires { length word.now ≤ 2 * N }
-    ensures { option_map (λ v. v.items) result ≡ hex_octets_of word.now }
+pub fn hex_octets(alloc: Global, word: &[u8]) -> Result<Vec<u8>, WordFault>
+    ensures { Gives (λ v. v.items) result (hex_octets_of word.now) }
 {
     match word {
-        [] => None,
-        [b'-'] => Some(ArrayVec::new()),
-        _ => decoded(word),
-    }
-}
-
-/// The octets of hexadecimal text.
-fn decoded<const N: usize>(word: &[u8]) -> Option<ArrayVec<u8, N>>
-    requires { length word.now ≤ 2 * N }
-    ensures { option_map (λ v. v.items) result ≡ result_ok (decode_of word.now) }
-{
-    let mut room = [0u8; N];
-    let octets = &mut room[..word.len() / 2];
-    match hex::decode_to_slice(word, octets) {
-        Ok(()) => Some(copied(octets)),
-        Err(_) => None,
+        [] => Err(WordFault::Bad),
+        [b'-'] => Ok(Vec::new(alloc)),
+        _ => match hex::decode(alloc, word) {
+            Ok(octets) => Ok(octets),
+            Err(FromHexError::OutOfMemory) => Err(WordFault::Memory),
+            Err(_) => Err(WordFault::Bad),
+        },
     }
 }
 

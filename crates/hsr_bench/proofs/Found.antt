@@ -1,0 +1,40 @@
+-- What a parse found, by the walk of its command.
+use Rattle.std.proofs.Common.{◌≡◌, ◌<◌, List, [], ◌∷◌, length, map, Option, Some, None, option_map, IfSome, refl, sym, ap, ap₂, subst, ◌∙◌, codes, arith, true}
+use Rattle.clap.specs.Words.{Row, Text, first_of, is_simple, subcommand_of}
+use Rattle.hsr_bench.specs.Options.{Chosen, ChosenIn, Says, Listed, bench_app}
+use Rattle.hsr_bench.specs.declared.chosen.Options.{Options}
+use Rattle.hsr_bench.specs.declared.chosen.Options.TheVariants.{Node}
+
+-- equal look-ups choose the same
+pub chosen_same : (name : Text) (f g : Text → Option Text) (o : Options) → ((id : Text) → f id ≡ g id) → Chosen name f o → Chosen name g o
+chosen_same name f g (Node node) e h =
+    (h.0, ((h.1.0.0, sym (e (codes "mac")) ∙ h.1.0.1, h.1.0.2), sym (e (codes "mode")) ∙ h.1.1, sym (e (codes "table")) ∙ h.1.2))
+
+-- a name and rows that a subcommand has
+pub joined : (found : Option (Text × List Row)) (name : Text) (rows : List Row) → Some name ≡ option_map (λ p. p.0) found → Some rows ≡ option_map (λ p. p.1) found
+    → found ≡ Some (name, rows)
+joined None name rows a b = cc
+joined (Some p) name rows a b =
+    let x : name ≡ p.0 = cc in
+    let y : rows ≡ p.1 = cc in
+    ap Some (ap₂ (λ u v. (u, v)) (sym x) (sym y))
+
+pub chosen_from : (found : Option (Text × List Row)) (name : Text) (rows : List Row) (o : Options) → found ≡ Some (name, rows)
+    → Chosen name (λ id. first_of id rows) o → ChosenIn found o
+chosen_from found name rows o e h = subst (λ f. ChosenIn f o) (sym e) h
+
+pub is_simple_bench : (modes tables : Listed) → is_simple (bench_app modes tables) ≡ true
+is_simple_bench modes tables = refl
+
+pub says : (words : List Text) (modes tables : Listed) (o : Options) → 0 < length words → map (λ s. s.now) modes.now ≡ codes "H" ∷ codes "N" ∷ []
+    → map (λ s. s.now) tables.now ≡ codes "small" ∷ codes "large" ∷ [] → ChosenIn (subcommand_of (bench_app modes tables) words) o → Says words o
+says [] modes tables o h a b c = absurd (omega arith)
+says (w ∷ ws) modes tables o h a b c = (modes, tables, a, b, c)
+
+pub some_weaker : {X : Type 0} (o : Option X) (P Q : X → Type 0) → ((x : X) → P x → Q x) → IfSome o P → IfSome o Q
+some_weaker None P Q f h = tt
+some_weaker (Some x) P Q f h = f x h
+
+pub first_part : {X A B : Type 0} (n : X → A) (r : X → B) (o : Option X) → option_map (λ (p : A × B). p.0) (option_map (λ x. (n x, r x)) o) ≡ option_map n o
+first_part n r None = refl
+first_part n r (Some x) = refl

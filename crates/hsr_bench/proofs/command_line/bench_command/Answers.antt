@@ -1,0 +1,6 @@
+use Rattle.std.proofs.Common.{◌∙◌, ap, ap₂}
+use Rattle.clap.specs.Words.{App, with_subcommand}
+use Rattle.hsr_bench.proofs.command_line.bench_command.Goals as goal
+
+pub returns : goal.returns
+returns c = c.in_ok-bench.ensures.shape c.in_ok-node.ensures.own ∙ ap₂ with_subcommand c.top_command.ensures (ap (λ (a : App). a.top) c.in_ok-node.ensures.app)

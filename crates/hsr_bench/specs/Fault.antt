@@ -1,0 +1,18 @@
+-- The status of a run, and the line of a fault.
+use Rattle.std.specs.Prelude.{ℕ, List, ◌++◌, codes}
+use Rattle.std.specs.Fmt.{decimal}
+use Rattle.hsr_bench.specs.declared.fault.Fault.{Fault}
+use Rattle.hsr_bench.specs.declared.fault.Fault.TheVariants.{Line, Read, Write, Memory}
+use Rattle.hsr_bench.specs.declared.fault.Status.{Status}
+use Rattle.hsr_bench.specs.declared.fault.Status.TheVariants.{Certified, Fault as Stopped, Doubt}
+
+abbrev pub code_of : Status → ℕ
+code_of Certified = 0
+code_of (Stopped fault) = 1
+code_of Doubt = 2
+
+abbrev pub fault_line : Fault → List ℕ
+fault_line (Line n) = codes "fault: line " ++ decimal n
+fault_line Read = codes "fault: read"
+fault_line Write = codes "fault: write"
+fault_line Memory = codes "fault: memory"

@@ -1,0 +1,69 @@
+-- What the words of a command line say: the values that clap's walk of this command finds.
+use Rattle.std.specs.Prelude.{◌≡◌, ℕ, List, [], ◌∷◌, map, Option, Some, None, Ok, codes, true}
+use Rattle.std.specs.Borrow.{Bor}
+use Rattle.clap.specs.Words.{App, Row, Rule, Text, new_app, new_rule, with_rule, with_subcommand, subcommand_of, first_of}
+use Rattle.clap.specs.declared.builder.value_parser.ValueParser.TheVariants.{Names}
+use Rattle.hsr_frame.specs.Address.{address_of}
+use Rattle.hsr_frame.specs.declared.node.Mode.{Mode}
+use Rattle.hsr_frame.specs.declared.node.Mode.TheVariants.{H, N}
+use Rattle.hsr_bench.specs.declared.chosen.Table.{Table}
+use Rattle.hsr_bench.specs.declared.chosen.Table.TheVariants.{Small, Large}
+use Rattle.hsr_bench.specs.declared.chosen.NodeOptions.{NodeOptions}
+use Rattle.hsr_bench.specs.declared.chosen.Options.{Options}
+use Rattle.hsr_bench.specs.declared.chosen.Options.TheVariants.{Node}
+
+-- ---- the command line
+
+-- a list of names, wherever it lies
+abbrev pub Listed : Type 0
+Listed = Bor (List (Bor (List ℕ)))
+
+-- `--mac`, with its default
+abbrev pub mac_rule : Rule
+mac_rule = record (new_rule (codes "mac")) { long = Some (codes "mac"); defaults = codes "02-00-00-00-00-01" ∷ [] }
+
+-- `--mode`, one of some names, with its default
+abbrev pub mode_rule : Listed → Rule
+mode_rule modes = record (new_rule (codes "mode")) { long = Some (codes "mode"); defaults = codes "H" ∷ []; parser = Some (Names modes) }
+
+-- `--table`, one of some names, with its default
+abbrev pub table_rule : Listed → Rule
+table_rule tables = record (new_rule (codes "table")) { long = Some (codes "table"); defaults = codes "large" ∷ []; parser = Some (Names tables) }
+
+abbrev pub node_app : Listed → Listed → App
+node_app modes tables = with_rule (with_rule (with_rule (new_app (codes "node")) mac_rule) (mode_rule modes)) (table_rule tables)
+
+abbrev pub top_app : App
+top_app = record { top = record (new_app (codes "hsr_bench")).top { no_binary_name = true; subcommand_required = true }; subs = [] }
+
+abbrev pub bench_app : Listed → Listed → App
+bench_app modes tables = with_subcommand top_app (node_app modes tables).top
+
+-- ---- what is chosen
+
+abbrev pub mode_text : Mode → Text
+mode_text H = codes "H"
+mode_text N = codes "N"
+
+abbrev pub table_text : Table → Text
+table_text Small = codes "small"
+table_text Large = codes "large"
+
+-- a node's options are the values that were found: the address that a text spells, and two names
+abbrev pub IsNode : (Text → Option Text) → NodeOptions → Type 0
+IsNode found node = ((t : Text) × (found (codes "mac") ≡ Some t) × (address_of t ≡ Ok node.mac))
+    × (found (codes "mode") ≡ Some (mode_text node.mode)) × (found (codes "table") ≡ Some (table_text node.table))
+
+-- the options are the values of a subcommand, by its name and what it found
+abbrev pub Chosen : Text → (Text → Option Text) → Options → Type 0
+Chosen name found (Node node) = (name ≡ codes "node") × IsNode found node
+
+abbrev pub ChosenIn : Option (Text × List Row) → Options → Type 0
+ChosenIn None o = ⊥
+ChosenIn (Some found) o = Chosen found.0 (λ id. first_of id found.1) o
+
+-- words say these options: none say `node` with its defaults, others what the command finds in them
+abbrev pub Says : List Text → Options → Type 0
+Says [] (Node node) = (node.mac ≡ 2 ∷ 0 ∷ 0 ∷ 0 ∷ 0 ∷ 1 ∷ []) × (node.mode ≡ H) × (node.table ≡ Large)
+Says (w ∷ ws) o = (modes : Listed) × (tables : Listed) × (map (λ s. s.now) modes.now ≡ codes "H" ∷ codes "N" ∷ [])
+    × (map (λ s. s.now) tables.now ≡ codes "small" ∷ codes "large" ∷ []) × ChosenIn (subcommand_of (bench_app modes tables) (w ∷ ws)) o

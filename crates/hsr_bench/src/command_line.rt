@@ -1,0 +1,201 @@
+//! Reads the words of a command line, by clap.
+ghost use Rattle.std.specs.Prelude.{◌≡◌, IfOk, IfSome, Some, Ok, codes, false, map};
+ghost use Rattle.hsr_frame.specs.Address.{IsGroup, address_of};
+ghost use Rattle.clap.specs.Words.{Text, app_of, first_value, found_of, rule_of, subcommand_rows_of};
+ghost use Rattle.clap.specs.declared.builder.Command.TheViews.{out-Command as fields_of};
+ghost use Rattle.hsr_bench.specs.Options.{Chosen, ChosenIn, IsNode, Says, bench_app, mac_rule, mode_rule, mode_text, node_app, table_rule, table_text, top_app};
+
+use crate::chosen::{NodeOptions, OptionFault, Options, Table};
+use clap::error::ErrorKind;
+use clap::{Arg, ArgMatches, Command, Error};
+use hsr_frame::{Mac, Mode};
+use std::alloc::{AllocError, Global};
+
+static MODES: [&str; 2] = ["H", "N"];
+
+static TABLES: [&str; 2] = ["small", "large"];
+
+const NODE_LINES: &str = "\
+Each line of standard input, with one space between its words, is one of:
+  send <at> <dst> <type> <payload> [<vlan>]
+      at milliseconds, to an address as 02-00-00-00-00-02, four hexadecimal digits of type,
+      the payload in hexadecimal or - for none, four digits of a VLAN tag's control information
+The answer is `sent <number>` with the octets of both copies, or `refused <reason>`
+(1 to the node itself, 2 a reserved type, 3 no step is left, 4 over 1500 octets of payload).
+The last line counts what happened. A bad line ends the run with status 1.
+
+Example: echo 'send 0 02-00-00-00-00-02 0800 AABB' | hsr_bench node";
+
+impl From<AllocError> for OptionFault {
+    fn from(_e: AllocError) -> OptionFault {
+        OptionFault::Memory
+    }
+}
+
+fn mac_arg<'a>(alloc: Global) -> Arg<'a>
+    ensures rule { rule_of result ≡ mac_rule }
+    ensures own { result.global ≡ false }
+{
+    Arg::new(alloc, "mac")
+        .long("mac")
+        .help("The node's address, which is no group's")
+        .default_value("02-00-00-00-00-01")
+}
+
+fn mode_arg<'a>(alloc: Global, modes: &'a [&'a str]) -> Arg<'a>
+    ensures rule { rule_of result ≡ mode_rule modes.entry }
+    ensures own { result.global ≡ false }
+{
+    Arg::new(alloc, "mode")
+        .long("mode")
+        .help("Forwards round the ring (H) or not (N)")
+        .value_parser(modes)
+        .default_value("H")
+}
+
+fn table_arg<'a>(alloc: Global, tables: &'a [&'a str]) -> Arg<'a>
+    ensures rule { rule_of result ≡ table_rule tables.entry }
+    ensures own { result.global ≡ false }
+{
+    Arg::new(alloc, "table")
+        .long("table")
+        .help("Entries of a duplicate table: 4 (small) or 512 (large)")
+        .value_parser(tables)
+        .default_value("large")
+}
+
+fn node_command<'a>(
+    alloc: Global,
+    modes: &'a [&'a str],
+    tables: &'a [&'a str],
+) -> Result<Command<'a>, AllocError>
+    ensures app { IfOk result (λ c. app_of c ≡ node_app modes.entry tables.entry) }
+    ensures own { IfOk result (λ c. (fields_of c).has_globals ≡ false) }
+{
+    Command::new(alloc, "node")
+        .about("Answers lines of standard input as one DANH")
+        .after_help(NODE_LINES)
+        .arg(mac_arg(alloc))?
+        .arg(mode_arg(alloc, modes))?
+        .arg(table_arg(alloc, tables))
+}
+
+fn top_command<'a>(alloc: Global) -> Command<'a>
+    ensures { app_of result ≡ top_app }
+{
+    Command::new(alloc, "hsr_bench")
+        .about("A bench for HSR rings (IEC 62439-3 clause 5). With no words it runs `node`.")
+        .no_binary_name(true)
+        .subcommand_required(true)
+}
+
+fn bench_command<'a>(
+    alloc: Global,
+    modes: &'a [&'a str],
+    tables: &'a [&'a str],
+) -> Result<Command<'a>, AllocError>
+    ensures { IfOk result (λ c. app_of c ≡ bench_app modes.entry tables.entry) }
+{
+    let node = node_command(alloc, modes, tables)?;
+    let bench = top_command(alloc).subcommand(node)?;
+    Ok(bench)
+}
+
+/// The text of a refusal.
+fn refused(alloc: Global, error: &Error) -> OptionFault {
+    if error.kind() == ErrorKind::OutOfMemory {
+        return OptionFault::Memory;
+    }
+    match format!(in alloc; "{error}") {
+        Ok(text) => OptionFault::Usage { text },
+        Err(_) => OptionFault::Memory,
+    }
+}
+
+fn usage(alloc: Global, text: &str) -> OptionFault {
+    match String::from_str(alloc, text) {
+        Ok(text) => OptionFault::Usage { text },
+        Err(_) => OptionFault::Memory,
+    }
+}
+
+fn table_of(matches: &ArgMatches<'_>) -> Option<Table>
+    ensures { IfSome result (λ t. first_value (found_of matches.now) (codes "table") ≡ Some (table_text t)) }
+{
+    match matches.get_str("table") {
+        Some("small") => Some(Table::Small),
+        Some("large") => Some(Table::Large),
+        _ => None,
+    }
+}
+
+fn mode_of(matches: &ArgMatches<'_>) -> Option<Mode>
+    ensures { IfSome result (λ m. first_value (found_of matches.now) (codes "mode") ≡ Some (mode_text m)) }
+{
+    match matches.get_str("mode") {
+        Some("H") => Some(Mode::H),
+        Some("N") => Some(Mode::N),
+        _ => None,
+    }
+}
+
+/// The address of `--mac`, if it is one and no group's.
+fn mac_of(matches: &ArgMatches<'_>) -> Option<Mac>
+    ensures address { IfSome result (λ m. (t : Text) × (first_value (found_of matches.now) (codes "mac") ≡ Some t) × (address_of t ≡ Ok m)) }
+    ensures station { IfSome result (λ m. ¬ IsGroup m) }
+{
+    let text = matches.get_str("mac")?;
+    match Mac::from_text(text) {
+        Ok(mac) if !mac.is_group() => Some(mac),
+        _ => None,
+    }
+}
+
+fn node_options(matches: &ArgMatches<'_>) -> Option<NodeOptions>
+    ensures { IfSome result (IsNode (first_value (found_of matches.now))) }
+{
+    let mode = mode_of(matches)?;
+    let table = table_of(matches)?;
+    let mac = mac_of(matches)?;
+    Some(NodeOptions { mac, mode, table })
+}
+
+/// The options of a subcommand.
+fn options_of(name: &str, matches: &ArgMatches<'_>) -> Option<Options>
+    ensures { IfSome result (Chosen name.now (first_value (found_of matches.now))) }
+{
+    match name {
+        "node" => Some(Options::Node(node_options(matches)?)),
+        _ => None,
+    }
+}
+
+/// What a parse found.
+fn chosen_in(matches: &ArgMatches<'_>) -> Option<Options>
+    ensures { IfSome result (ChosenIn (subcommand_rows_of matches.now)) }
+{
+    let (name, inner) = matches.subcommand()?;
+    options_of(name, inner)
+}
+
+/// What the words after the program's name say: with none, `node` and its defaults. A `--mac` that is no
+/// address or a group's is refused by the text `usage: --mac`, and other words by clap's text.
+pub fn options<'a>(alloc: Global, words: &'a [&'a str]) -> Result<Options, OptionFault>
+    ensures { IfOk result (Says (map (λ s. s.now) words.entry.now)) }
+{
+    if words.is_empty() {
+        return Ok(Options::Node(NodeOptions {
+            mac: Mac::new([2, 0, 0, 0, 0, 1]),
+            mode: Mode::H,
+            table: Table::Large,
+        }));
+    }
+    let command = bench_command(alloc, MODES.as_slice(), TABLES.as_slice())?;
+    match command.try_get_matches_from(words) {
+        Ok(matches) => match chosen_in(&matches) {
+            Some(options) => Ok(options),
+            None => Err(usage(alloc, "usage: --mac")),
+        },
+        Err(error) => Err(refused(alloc, &error)),
+    }
+}

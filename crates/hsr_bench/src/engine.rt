@@ -1,0 +1,143 @@
+//! The run of `node` over a reader and a writer.
+ghost use Rattle.std.specs.Prelude.{◌≡◌, ◌<◌, ◌≤◌, IfSome, OnOk, length};
+ghost use Rattle.hsr_frame.specs.Address.{IsGroup};
+ghost use Rattle.hsr_frame.specs.Lines.{lines_of};
+ghost use Rattle.hsr_danh.specs.Machine.{new_machine};
+ghost use Rattle.hsr_bench.specs.Output.{Ended, output};
+ghost use Rattle.hsr_bench.specs.Run.{Finished, Ran, Served, Turned};
+
+use crate::chosen::{NodeOptions, Table};
+use crate::fault::{Fault, Status};
+use crate::reply::{answer, put_counters};
+use crate::request::read_request;
+use arrayvec::ArrayVec;
+use hsr_danh::Danh;
+use hsr_frame::{Front, MOST_READS, Mac, Mode, WordFault, next_line};
+use std::alloc::Global;
+use std::io::{Read, Write};
+
+/// Answers one line.
+fn serve<W: Write, const C: usize>(
+    alloc: Global,
+    danh: &mut Danh<C>,
+    number: u64,
+    line: &[u8],
+    writer: &mut W,
+    text: &mut Vec<u8>,
+) -> Result<(), Fault>
+    ensures { Served danh.old danh.new number line.now (W.contents writer.old) (W.contents writer.new) result }
+{
+    let send = match read_request(alloc, line) {
+        Ok(send) => send,
+        Err(WordFault::Bad) => return Err(Fault::Line(number)),
+        Err(WordFault::Memory) => return Err(Fault::Memory),
+    };
+    answer(danh, &send, text)?;
+    match writer.write_all(text.as_slice()) {
+        Ok(()) => Ok(()),
+        Err(_) => Err(Fault::Write),
+    }
+}
+
+/// Reads and answers the next line, and tells whether more may follow.
+#[tactic(auto, using(crate::proofs::Turns::turned_line, crate::proofs::Turns::turned_line_err, crate::proofs::Turns::turned_rest, crate::proofs::Turns::turned_rest_err, crate::proofs::Turns::turned_none, crate::proofs::Turns::turned_long))]
+fn turn<R: Read, W: Write, const C: usize>(
+    alloc: Global,
+    danh: &mut Danh<C>,
+    number: u64,
+    reader: &mut R,
+    reads: &mut u64,
+    writer: &mut W,
+    text: &mut Vec<u8>,
+) -> Result<bool, Fault>
+    ensures turned { Turned (R.remaining reader.old) (R.remaining reader.new) (W.contents writer.old) (W.contents writer.new) danh.old danh.new number result }
+    ensures fewer { OnOk result (reads.new < reads.old) }
+    ensures bounded { reads.new ≤ reads.old }
+{
+    let mut line = ArrayVec::<u8, 4096>::new();
+    match next_line(reader, reads, &mut line)? {
+        Front::TooLong => Err(Fault::Line(number)),
+        Front::Line => match serve(alloc, danh, number, line.as_slice(), writer, text) {
+            Ok(()) => Ok(true),
+            Err(fault) => Err(fault),
+        },
+        Front::Rest => {
+            if line.is_empty() {
+                return Ok(false);
+            }
+            match serve(alloc, danh, number, line.as_slice(), writer, text) {
+                Ok(()) => Ok(false),
+                Err(fault) => Err(fault),
+            }
+        }
+    }
+}
+
+/// Writes the line at the end.
+fn finish<W: Write, const C: usize>(
+    danh: &Danh<C>,
+    writer: &mut W,
+    text: &mut Vec<u8>,
+) -> Result<(), Fault>
+    ensures { Finished danh.now (W.contents writer.old) (W.contents writer.new) result }
+{
+    put_counters(text, &danh.counters())?;
+    match writer.write_all(text.as_slice()) {
+        Ok(()) => {}
+        Err(_) => return Err(Fault::Write),
+    }
+    match writer.flush() {
+        Ok(()) => Ok(()),
+        Err(_) => Err(Fault::Write),
+    }
+}
+
+/// Reads all lines, and answers each.
+#[tactic(auto, using(crate::proofs::Turns::way_begins, crate::proofs::Turns::way_on, crate::proofs::Turns::way_fails, crate::proofs::Turns::way_ends))]
+fn run<R: Read, W: Write, const C: usize>(
+    alloc: Global,
+    reader: &mut R,
+    writer: &mut W,
+    mac: Mac,
+    mode: Mode,
+) -> Result<(), Fault>
+    requires { ¬ IsGroup mac }
+    ensures { Ran (R.remaining reader.old) (W.contents writer.old) (W.contents writer.new) (new_machine mac mode) result }
+{
+    let mut danh = match Danh::<C>::new(alloc, mac, mode) {
+        Ok(danh) => danh,
+        Err(_) => return Err(Fault::Memory),
+    };
+    let mut text = Vec::new(alloc);
+    let mut reads = MOST_READS;
+    let mut number = 1u64;
+    loop {
+        match turn(
+            alloc, &mut danh, number, reader, &mut reads, writer, &mut text,
+        ) {
+            Ok(true) => number += 1,
+            Ok(false) => return finish(&danh, writer, &mut text),
+            Err(fault) => return Err(fault),
+        }
+    }
+}
+
+/// Answers the lines of a text by a DANH with the chosen address, mode and size of tables.
+pub fn node_run<R: Read, W: Write>(
+    alloc: Global,
+    reader: &mut R,
+    writer: &mut W,
+    chosen: &NodeOptions,
+) -> Status
+    ensures { IfSome (R.remaining reader.old) (λ text.
+        Ended (W.contents writer.old) (W.contents writer.new) (output (new_machine chosen.now.mac chosen.now.mode) 1 (lines_of text)) result) }
+{
+    let ran = match chosen.table {
+        Table::Small => run::<R, W, 4>(alloc, reader, writer, chosen.mac, chosen.mode),
+        Table::Large => run::<R, W, 512>(alloc, reader, writer, chosen.mac, chosen.mode),
+    };
+    match ran {
+        Ok(()) => Status::Certified,
+        Err(fault) => Status::Fault(fault),
+    }
+}

@@ -1,0 +1,75 @@
+//! How a run ended.
+ghost use Rattle.std.specs.Prelude.{◌≡◌, Some};
+ghost use Rattle.hsr_bench.specs.Fault.{code_of, fault_line};
+ghost use Rattle.hsr_bench.specs.declared.fault.Fault.TheVariants.{Memory, Read as ReadFailed};
+
+use hsr_frame::ReadFault;
+use std::alloc::AllocError;
+use std::fmt;
+
+/// How a run ended.
+#[derive(Clone, Copy, Debug, PartialEq, Eq)]
+pub enum Status {
+    /// All is as it should be: of `node`, all lines were answered.
+    Certified,
+    /// The run stopped.
+    Fault(Fault),
+    /// The run is no proof of delivery.
+    Doubt,
+}
+
+/// Why a run stopped.
+#[derive(Clone, Copy, Debug, PartialEq, Eq)]
+pub enum Fault {
+    /// A line, counted from 1, that is bad or too long.
+    Line(u64),
+    /// The reader failed.
+    Read,
+    /// The writer failed.
+    Write,
+    /// Memory ran out.
+    Memory,
+}
+
+impl Status {
+    /// The status of the process.
+    pub fn code(&self) -> u8
+        ensures { result ≡ code_of self.now }
+    {
+        match self {
+            Status::Certified => 0,
+            Status::Fault(_) => 1,
+            Status::Doubt => 2,
+        }
+    }
+}
+
+/// The line on standard error, without its line feed.
+impl fmt::Display for Fault {
+    ghost output = { λ fault. Some (fault_line fault) };
+
+    fn fmt<W: fmt::Write>(&self, f: &mut fmt::Formatter<W>) -> fmt::Result {
+        match self {
+            Fault::Line(n) => write!(f, "fault: line {n}"),
+            Fault::Read => write!(f, "fault: read"),
+            Fault::Write => write!(f, "fault: write"),
+            Fault::Memory => write!(f, "fault: memory"),
+        }
+    }
+}
+
+impl From<AllocError> for Fault {
+    ghost from_gives = { λ _ e. e ≡ Memory };
+
+    fn from(_e: AllocError) -> Fault {
+        Fault::Memory
+    }
+}
+
+impl From<ReadFault> for Fault {
+    ghost from_gives = { λ _ e. e ≡ ReadFailed };
+
+    fn from(_e: ReadFault) -> Fault {
+        Fault::Read
+    }
+}

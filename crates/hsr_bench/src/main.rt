@@ -1,0 +1,66 @@
+//! The bench's program: a command and its options, standard input, standard output.
+#![tactic(auto)]
+
+mod chosen;
+mod command_line;
+mod engine;
+mod fault;
+mod reply;
+mod request;
+
+use crate::chosen::{NodeOptions, OptionFault, Options};
+use crate::command_line::options;
+use crate::engine::node_run;
+use crate::fault::{Fault, Status};
+use std::alloc::{AllocError, Global};
+use std::io::{BufReader, BufWriter, Write};
+use std::process::ExitCode;
+use std::{env, io};
+
+#[cfg(test)]
+mod tests;
+
+/// The words after the program's name.
+fn words_of(alloc: Global, args: &Vec<String>) -> Result<Vec<&str>, AllocError> {
+    let mut words = Vec::new(alloc);
+    for word in args.iter().skip(1) {
+        words.push(word.as_str())?;
+    }
+    Ok(words)
+}
+
+/// Runs `node` over the standard streams.
+fn node(rt: &HostRuntime, chosen: &NodeOptions) -> Status {
+    let Ok(mut reader) = BufReader::new(rt.alloc(), rt.reader()) else {
+        return Status::Fault(Fault::Memory);
+    };
+    let Ok(mut writer) = BufWriter::new(rt.alloc(), io::writer(rt)) else {
+        return Status::Fault(Fault::Memory);
+    };
+    let status = node_run(rt.alloc(), &mut reader, &mut writer, chosen);
+    match writer.flush() {
+        Ok(()) => status,
+        Err(_) => Status::Fault(Fault::Write),
+    }
+}
+
+/// Writes a fault's line on standard error, and gives the status of the process.
+fn finish(rt: &HostRuntime, status: Status) -> io::Result<ExitCode> {
+    if let Status::Fault(fault) = status {
+        eprintln!(rt; "{fault}")?;
+    }
+    Ok(ExitCode::from(status.code()))
+}
+
+fn main(rt: HostRuntime) -> io::Result<ExitCode> {
+    let args: Vec<String> = env::args(&rt)?.collect(rt.alloc())?;
+    let words = words_of(rt.alloc(), &args)?;
+    match options(rt.alloc(), words.as_slice()) {
+        Ok(Options::Node(chosen)) => finish(&rt, node(&rt, &chosen)),
+        Err(OptionFault::Usage { text }) => {
+            eprintln!(rt; "{text}")?;
+            Ok(ExitCode::from(3))
+        }
+        Err(OptionFault::Memory) => finish(&rt, Status::Fault(Fault::Memory)),
+    }
+}

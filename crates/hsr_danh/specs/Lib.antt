@@ -1,0 +1,3 @@
+pub use Rattle.hsr_frame.specs.Address
+pub mod Machine
+pub mod Send

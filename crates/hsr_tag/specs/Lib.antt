@@ -1,0 +1,4 @@
+pub use Rattle.hsr_frame.specs.Address
+pub use Rattle.hsr_frame.specs.Grammar
+pub mod Tag
+pub mod Seen

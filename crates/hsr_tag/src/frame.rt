@@ -1,0 +1,118 @@
+//! Frames with and without an HSR tag.
+ghost use Rattle.std.specs.Prelude.{◌≡◌, ◌+◌, ◌*◌, ◌<◌, ◌≤◌, ◌++◌, length};
+ghost use Rattle.hsr_frame.specs.Grammar.{spelling};
+ghost use Rattle.hsr_tag.specs.Tag.{tag_of, untag_of, IsPlain, IsTagged, tagged_spelling};
+
+use arrayvec::ArrayVec;
+use hsr_frame::{HSR, Mac, copied, put, put_head, put_pair};
+use std::marker::Model;
+
+/// A frame with no HSR tag. No group sends it, and its type is that of no VLAN or HSR tag. The payload has
+/// at most 1500 octets; a length field in place of a type is kept as a number (IEEE 802.3 clause 3).
+#[derive(Drop)]
+pub struct Frame {
+    pub dst: Mac,
+    pub src: Mac,
+    pub vlan: Option<u16>,
+    pub kind: u16,
+    pub payload: ArrayVec<u8, 1500>,
+}
+
+impl Model for Frame {
+    ghost use Rattle.std.specs.Prelude.{◌≢◌};
+    ghost use Rattle.hsr_frame.specs.Address.{IsGroup};
+    ghost use Rattle.hsr_frame.specs.Grammar.{Fields};
+
+    ghost Value = { Fields };
+
+    ghost view = { λ r. record { dst = r.dst; src = r.src; vlan = r.vlan; kind = r.kind; rest = r.payload.items } };
+
+    ghost invariant = { λ r. (¬ IsGroup r.src) × (r.kind ≢ 0x8100) × (r.kind ≢ 0x892F) };
+}
+
+/// A frame with its HSR tag (IEC 62439-3 clause 5.6): path below 16, size below 4096, as they came.
+#[derive(Drop)]
+pub struct Tagged {
+    pub dst: Mac,
+    pub src: Mac,
+    pub vlan: Option<u16>,
+    pub path: u8,
+    pub size: u16,
+    pub seq: u16,
+    pub kind: u16,
+    pub payload: ArrayVec<u8, 1500>,
+}
+
+impl Model for Tagged {
+    ghost use Rattle.std.specs.Prelude.{◌≢◌, ◌<◌};
+    ghost use Rattle.hsr_frame.specs.Address.{IsGroup};
+    ghost use Rattle.hsr_tag.specs.Tag.{TaggedFields};
+
+    ghost Value = { TaggedFields };
+
+    ghost view = { λ r. record { dst = r.dst; src = r.src; vlan = r.vlan; path = r.path; size = r.size; seq = r.seq; kind = r.kind; payload = r.payload.items } };
+
+    ghost invariant = { λ r. (¬ IsGroup r.src) × (r.kind ≢ 0x8100) × (r.kind ≢ 0x892F) × (r.path < 16) × (r.size < 4096) };
+}
+
+impl Frame {
+    /// The frame with a tag of this path, below 16, and number.
+    pub fn tag(&self, path: u8, seq: u16) -> Tagged
+        requires { path < 16 }
+        ensures tagged { result ≡ tag_of self.now path seq }
+        ensures back { untag_of result ≡ self.now }
+    {
+        Tagged {
+            dst: self.dst,
+            src: self.src,
+            vlan: self.vlan,
+            path,
+            size: self.payload.len() as u16 + 6,
+            seq,
+            kind: self.kind,
+            payload: copied(self.payload.as_slice()),
+        }
+    }
+
+    /// The octets of the frame: at most 1524.
+    pub fn write(&self) -> ArrayVec<u8, 1524>
+        ensures octets { result.items ≡ spelling self.now }
+        ensures well_formed { IsPlain self.now }
+    {
+        let mut out = ArrayVec::new();
+        put_head(&mut out, &self.dst, &self.src, self.vlan);
+        put_pair(&mut out, self.kind);
+        put(&mut out, self.payload.as_slice());
+        out
+    }
+}
+
+impl Tagged {
+    /// The frame without its tag.
+    pub fn untag(&self) -> Frame
+        ensures { result ≡ untag_of self.now }
+    {
+        Frame {
+            dst: self.dst,
+            src: self.src,
+            vlan: self.vlan,
+            kind: self.kind,
+            payload: copied(self.payload.as_slice()),
+        }
+    }
+
+    /// The octets of the frame: at most 1524.
+    pub fn write(&self) -> ArrayVec<u8, 1524>
+        ensures octets { result.items ≡ tagged_spelling self.now }
+        ensures well_formed { IsTagged self.now }
+    {
+        let mut out = ArrayVec::new();
+        put_head(&mut out, &self.dst, &self.src, self.vlan);
+        put_pair(&mut out, HSR);
+        put_pair(&mut out, u16::from(self.path) * 4096 + self.size);
+        put_pair(&mut out, self.seq);
+        put_pair(&mut out, self.kind);
+        put(&mut out, self.payload.as_slice());
+        out
+    }
+}

@@ -1,0 +1,85 @@
+//! What octets are.
+ghost use Rattle.std.specs.Prelude.{List, ℕ, ◌≡◌, ◌<◌, ◌≤◌, ◌+◌, ◌*◌, length, IfOk, IfErr, MatchResult, Ok, Some, None};
+ghost use Rattle.hsr_frame.specs.Grammar.{Fields, spelling, IsRaw};
+ghost use Rattle.hsr_tag.specs.Tag.{TaggedFields, IsPlain, IsTagged, tagged_spelling};
+
+use crate::frame::{Frame, Tagged};
+use hsr_frame::{FrameFault, HSR, Raw, VLAN, copied, u16_at};
+
+/// A frame that was read.
+#[derive(Drop)]
+pub enum Seen {
+    Plain(Frame),
+    Tagged(Tagged),
+}
+
+ghost use Rattle.hsr_tag.specs.Seen.{IsReadOneWay, Sees, Spells, classified, seen_in, tag_fault};
+
+/// What a frame is from its type on.
+fn seen_of(raw: &Raw) -> Result<Seen, FrameFault>
+    requires { IsRaw raw.now }
+    ensures sees { IfOk result (λ s. Sees raw.now s) }
+    ensures found { IfOk result (λ s. (tag_fault raw.now ≡ None) × (s ≡ seen_in raw.now)) }
+    ensures fault { IfErr result (λ e. tag_fault raw.now ≡ Some e) }
+{
+    let rest = raw.rest.as_slice();
+    if raw.kind != HSR {
+        if rest.len() > 1500 {
+            return Err(FrameFault::Long);
+        }
+        return Ok(Seen::Plain(Frame {
+            dst: raw.dst,
+            src: raw.src,
+            vlan: raw.vlan,
+            kind: raw.kind,
+            payload: copied(rest),
+        }));
+    }
+    if rest.len() < 6 {
+        return Err(FrameFault::ShortTag);
+    }
+    let first = u16_at(rest, 0);
+    let kind = u16_at(rest, 4);
+    if kind == HSR {
+        return Err(FrameFault::NestedTag);
+    }
+    if kind == VLAN {
+        return Err(FrameFault::DoubleVlan);
+    }
+    Ok(Seen::Tagged(Tagged {
+        dst: raw.dst,
+        src: raw.src,
+        vlan: raw.vlan,
+        path: (first / 4096) as u8,
+        size: first % 4096,
+        seq: u16_at(rest, 2),
+        kind,
+        payload: copied(&rest[6..]),
+    }))
+}
+
+/// Reads octets.
+fn read(octets: &[u8]) -> Result<Seen, FrameFault>
+    ensures exact { result ≡ classified octets.now }
+    ensures found { IfOk result (λ s. Spells octets.now s) }
+    ensures only_plain { (f : Fields) → IsPlain f → octets.now ≡ spelling f → result ≡ Ok (Seen.Plain f) }
+    ensures only_tagged { (t : TaggedFields) → IsTagged t → octets.now ≡ tagged_spelling t → result ≡ Ok (Seen.Tagged t) }
+{
+    let raw = Raw::parse(octets)?;
+    seen_of(&raw)
+}
+
+/// The frame that the octets spell, or the first of the faults: those of `Raw::parse`, and then a tag that
+/// is too short, a tag or VLAN tag behind it, a plain frame that is too long (IEC 62439-3 clause 5.6).
+pub fn classify(octets: &[u8]) -> Result<Seen, FrameFault>
+    ensures exact { result ≡ classified octets.now }
+    // What is read is spelled so.
+    ensures found { IfOk result (λ s. Spells octets.now s) }
+    // What is spelled so is read.
+    ensures only_plain { (f : Fields) → IsPlain f → octets.now ≡ spelling f → result ≡ Ok (Seen.Plain f) }
+    ensures only_tagged { (t : TaggedFields) → IsTagged t → octets.now ≡ tagged_spelling t → result ≡ Ok (Seen.Tagged t) }
+    // Whatever the octets are, they are read in one way.
+    ensures one_way { IsReadOneWay octets.now }
+{
+    read(octets)
+}
