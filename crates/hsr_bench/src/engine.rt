@@ -16,6 +16,13 @@ use hsr_frame::{Front, MOST_READS, Mac, Mode, WordFault, next_line};
 use std::alloc::Global;
 use std::io::{Read, Write};
 
+/// Room for a line, without its line feed, and for its answer, used again for each line.
+#[derive(Drop)]
+struct Room {
+    line: ArrayVec<u8, 4096>,
+    text: Vec<u8>,
+}
+
 /// Answers one line.
 fn serve<W: Write, const C: usize>(
     alloc: Global,
@@ -48,14 +55,15 @@ fn turn<R: Read, W: Write, const C: usize>(
     reader: &mut R,
     reads: &mut u64,
     writer: &mut W,
-    text: &mut Vec<u8>,
+    room: &mut Room,
 ) -> Result<bool, Fault>
     ensures turned { Turned (R.remaining reader.old) (R.remaining reader.new) (W.contents writer.old) (W.contents writer.new) danh.old danh.new number result }
     ensures fewer { OnOk result (reads.new < reads.old) }
     ensures bounded { reads.new ≤ reads.old }
 {
-    let mut line = ArrayVec::<u8, 4096>::new();
-    match next_line(reader, reads, &mut line)? {
+    let line = &mut room.line;
+    let text = &mut room.text;
+    match next_line(reader, reads, line)? {
         Front::TooLong => Err(Fault::Line(number)),
         Front::Line => match serve(alloc, danh, number, line.as_slice(), writer, text) {
             Ok(()) => Ok(true),
@@ -108,15 +116,18 @@ fn run<R: Read, W: Write, const C: usize>(
         Ok(danh) => danh,
         Err(_) => return Err(Fault::Memory),
     };
-    let mut text = Vec::new(alloc);
+    let mut room = Room {
+        line: ArrayVec::new(),
+        text: Vec::new(alloc),
+    };
     let mut reads = MOST_READS;
     let mut number = 1u64;
     loop {
         match turn(
-            alloc, &mut danh, number, reader, &mut reads, writer, &mut text,
+            alloc, &mut danh, number, reader, &mut reads, writer, &mut room,
         ) {
             Ok(true) => number += 1,
-            Ok(false) => return finish(&danh, writer, &mut text),
+            Ok(false) => return finish(&danh, writer, &mut room.text),
             Err(fault) => return Err(fault),
         }
     }

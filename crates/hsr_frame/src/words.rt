@@ -91,16 +91,17 @@ pub fn put_decimal(text: &mut Vec<u8>, n: u64) -> Result<(), AllocError>
     text.extend_from_slice(buffer.format(n).as_bytes())
 }
 
-/// Puts octets, at most 2048, in hexadecimal digits of upper case last.
+/// Puts octets in hexadecimal digits of upper case last.
 pub fn put_hex(text: &mut Vec<u8>, octets: &[u8]) -> Result<(), AllocError>
-    requires { length octets.now ≤ 2048 }
     ensures ok { OnOk result (text.new.items ≡ text.old.items ++ encode_upper octets.now) }
     ensures err { OnErr result (text.new.items ≡ text.old.items) }
 {
-    let mut room = [0u8; 4096];
-    let digits = &mut room[..2 * octets.len()];
-    write_hex(digits, octets);
-    text.extend_from_slice(digits)
+    let start = text.len();
+    let digits = octets.len().checked_mul(2).ok_or(AllocError)?;
+    let end = start.checked_add(digits).ok_or(AllocError)?;
+    text.resize(end, 0)?;
+    write_hex(&mut text.as_mut_slice()[start..], octets);
+    Ok(())
 }
 
 /// Fills a slice with the hexadecimal digits of octets.
