@@ -1,0 +1,2 @@
+pub mod RisingNotes
+pub mod LogLaws

@@ -1,0 +1,4 @@
+pub mod Key
+pub mod Notes
+pub mod Table
+pub mod Log

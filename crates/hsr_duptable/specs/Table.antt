@@ -1,0 +1,46 @@
+-- What a contract sees of a `DupTable`.
+use Rattle.std.specs.Prelude.{ℕ, ◌≡◌, ◌+◌, ◌≤◌, Bool, List, [], ◌∷◌, ◌++◌}
+use Rattle.hsr_duptable.specs.Notes.{has_key, unexpired_notes, last_notes, IsRising}
+use Rattle.hsr_duptable.specs.Key.{Key}
+use Rattle.hsr_duptable.specs.declared.note.Note.{Note}
+
+-- the notes held, the oldest first; how long one is remembered; the latest moment; how many notes were ever made
+pub record Table : Type 0 where
+  pub notes : List Note
+  pub forget : ℕ
+  pub last : ℕ
+  pub noted : ℕ
+
+abbrev pub empty_table : ℕ → Table
+empty_table forget = record { notes = []; forget = forget; last = 0; noted = 0 }
+
+-- an unexpired note that is held has the key
+abbrev pub remembers : Table → Key → ℕ → Bool
+remembers table key at = has_key key (unexpired_notes table.forget at table.notes)
+
+-- the table after a note: it stands last, and of all the last `capacity` stay
+abbrev pub after_note : ℕ → Table → Key → ℕ → Table
+after_note capacity table key at =
+    record {
+      notes = last_notes capacity (table.notes ++ record { key = key; moment = at } ∷ []);
+      forget = table.forget;
+      last = at;
+      noted = table.noted + 1;
+    }
+
+-- the table after ageing: the unexpired notes stay
+abbrev pub after_age : Table → ℕ → Table
+after_age table at =
+    record {
+      notes = unexpired_notes table.forget at table.notes;
+      forget = table.forget;
+      last = at;
+      noted = table.noted;
+    }
+
+-- there is room for just `capacity` notes, and the moments of those held never fall
+pub record IsSound (capacity room : ℕ) (notes : List Note) (last : ℕ) : Type 0 where
+  pub least : 1 ≤ capacity
+  pub most : capacity ≤ 65535
+  pub exact : room ≡ capacity
+  pub rising : IsRising 0 notes last

@@ -1,0 +1,11 @@
+//! The duplicate table of an egress: which frames passed there lately (IEC 62439-3 clause 5.3).
+#![tactic(auto)]
+
+mod note;
+mod table;
+
+pub use note::{ENTRY_FORGET, Key, Note};
+pub use table::{DupTable, answers_as_log};
+
+#[cfg(test)]
+mod tests;

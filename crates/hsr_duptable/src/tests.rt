@@ -1,0 +1,71 @@
+use super::*;
+use hsr_frame::Mac;
+use std::process::Abort;
+use std::test::Fail;
+
+/// Number `seq` of the station 02-00-00-00-00-02.
+fn numbered(seq: u16) -> Key {
+    let src = Mac::new([2, 0, 0, 0, 0, 2]);
+    Key { src, seq }
+}
+
+/// Whether a frame passes at a moment: it does where it is not remembered, and is noted then.
+fn passes<const C: usize>(rt: &impl Abort, table: &mut DupTable<C>, seq: u16, at: u64) -> bool {
+    assert!(rt; table.last() <= at && table.noted() < 100);
+    let seen = table.seen(numbered(seq), at);
+    if !seen {
+        table.note(numbered(seq), at);
+    }
+    !seen
+}
+
+#[test]
+fn forgotten_at_400(rt: HostRuntime) -> Result<(), Fail> {
+    let mut table: DupTable<512> = DupTable::new(rt.alloc(), ENTRY_FORGET)?;
+    assert!(rt; passes(&rt, &mut table, 7, 0));
+    assert!(rt; !passes(&rt, &mut table, 7, 399));
+    assert!(rt; passes(&rt, &mut table, 7, 400));
+    assert_eq!(rt; table.noted(), 2);
+    Ok(())
+}
+
+#[test]
+fn ageing_gives_up_at_400(rt: HostRuntime) -> Result<(), Fail> {
+    let mut table: DupTable<512> = DupTable::new(rt.alloc(), ENTRY_FORGET)?;
+    assert!(rt; passes(&rt, &mut table, 7, 0));
+    assert!(rt; passes(&rt, &mut table, 8, 1));
+    assert!(rt; table.last() <= 399);
+    table.age(399);
+    assert_eq!(rt; table.held(), 2);
+    table.age(400);
+    assert_eq!(rt; table.held(), 1);
+    assert_eq!(rt; table.last(), 400);
+    assert!(rt; !passes(&rt, &mut table, 8, 400));
+    Ok(())
+}
+
+#[test]
+fn refused_duplicates_renew_nothing(rt: HostRuntime) -> Result<(), Fail> {
+    let mut table: DupTable<512> = DupTable::new(rt.alloc(), ENTRY_FORGET)?;
+    assert!(rt; passes(&rt, &mut table, 7, 0));
+    assert!(rt; !passes(&rt, &mut table, 7, 300));
+    assert!(rt; passes(&rt, &mut table, 7, 450));
+    Ok(())
+}
+
+#[test]
+fn five_frames_small_table(rt: HostRuntime) -> Result<(), Fail> {
+    let mut small: DupTable<4> = DupTable::new(rt.alloc(), ENTRY_FORGET)?;
+    let mut large: DupTable<512> = DupTable::new(rt.alloc(), ENTRY_FORGET)?;
+    for seq in 0..5 {
+        assert!(rt; passes(&rt, &mut small, seq, 0));
+        assert!(rt; passes(&rt, &mut large, seq, 0));
+    }
+    assert!(rt; passes(&rt, &mut small, 0, 0));
+    assert!(rt; !passes(&rt, &mut small, 4, 0));
+    assert_eq!(rt; small.held(), 4);
+    assert!(rt; !passes(&rt, &mut large, 0, 0));
+    assert!(rt; !passes(&rt, &mut large, 4, 0));
+    assert_eq!(rt; large.held(), 5);
+    Ok(())
+}

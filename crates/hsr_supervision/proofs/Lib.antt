@@ -1,0 +1,2 @@
+pub mod Tlvs
+pub mod Again

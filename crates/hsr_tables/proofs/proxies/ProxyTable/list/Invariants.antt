@@ -1,0 +1,9 @@
+use Rattle.std.proofs.Common.{◌≡◌, ◌≤◌, take, length}
+use Rattle.hsr_tables.specs.Known.{known}
+use Rattle.hsr_tables.proofs.proxies.ProxyTable.list.Given as goal
+
+abbrev pub invariant-loop-row : goal.invariant-loop-row
+invariant-loop-row l = record {
+  so_far : l.list.items ≡ known l.at (take l.row-index l.row-items);
+  few : length l.list.items ≤ l.row-index;
+}

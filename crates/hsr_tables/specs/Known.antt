@@ -1,0 +1,28 @@
+-- What is known of addresses that were heard, in lists that have the latest first.
+use Rattle.std.specs.Prelude.{ℕ, ◌-◌, Bool, not, List, [], ◌∷◌, filter, take, nat_lt}
+use Rattle.hsr_frame.specs.Address.{is_same_address}
+
+-- what was heard of other addresses
+abbrev pub others : {X : Type 0} → (X → List ℕ) → List ℕ → List X → List X
+others mac_of mac xs = filter (λ x. not (is_same_address (mac_of x) mac)) xs
+
+-- What is heard goes first. What the list had of its address goes, and so does the 65th.
+abbrev pub put_first : {X : Type 0} → (X → List ℕ) → X → List X → List X
+put_first mac_of x xs = take 64 (x ∷ others mac_of (mac_of x) xs)
+
+-- heard less than 60000 milliseconds ago
+abbrev pub is_young : ℕ → ℕ → Bool
+is_young at heard = nat_lt (at - heard) 60000
+
+-- those that aren't forgotten, of what has the moment of its latest hearing beside it
+abbrev pub known : {X : Type 0} → ℕ → List (X × ℕ) → List (X × ℕ)
+known at rows = filter (λ r. is_young at r.1) rows
+
+-- the latest hearing of each address
+abbrev pub latest_of_each : {X : Type 0} → (X → List ℕ) → List X → List X
+latest_of_each mac_of [] = []
+latest_of_each mac_of (x ∷ past) = x ∷ others mac_of (mac_of x) (latest_of_each mac_of past)
+
+-- the 64 addresses with the latest hearings, each with its latest
+abbrev pub latest_64 : {X : Type 0} → (X → List ℕ) → List X → List X
+latest_64 mac_of past = take 64 (latest_of_each mac_of past)

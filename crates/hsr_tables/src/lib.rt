@@ -1,0 +1,13 @@
+//! The tables of addresses that were heard: those behind a RedBox, and the nodes of the ring.
+#![tactic(auto)]
+
+mod nodes;
+mod proxies;
+mod times;
+
+pub use nodes::{NodeRow, NodeTable, known_nodes};
+pub use proxies::{ProxyTable, known_proxies};
+pub use times::{LIFE_CHECK, NODE_FORGET};
+
+#[cfg(test)]
+mod tests;

@@ -1,0 +1,135 @@
+//! The nodes of which a node hears supervision frames.
+ghost use Rattle.std.specs.Prelude.{◌≡◌, ◌≤◌, map};
+ghost use Rattle.hsr_tables.specs.Known.{known, others};
+
+use crate::times::is_known_at;
+use arrayvec::ArrayVec;
+use hsr_frame::{Mac, RingPort};
+use hsr_supervision::{SupKind, Supervision};
+use std::marker::Model;
+
+/// A node that was heard: its address, kind and RedBox as its latest
+/// supervision frame has them, and the moments in milliseconds of its latest frame on each port. They go
+/// back to the frame that made it known, and no further.
+#[derive(Clone, Copy, Debug, Default, PartialEq, Eq)]
+pub struct NodeRow {
+    pub mac: Mac,
+    pub kind: SupKind,
+    pub redbox: Option<Mac>,
+    pub heard_a: Option<u64>,
+    pub heard_b: Option<u64>,
+}
+
+/// The 64 nodes that were heard latest (the NodesTable of IEC 62439-3 clause 5), each known for `NODE_FORGET`
+/// milliseconds after it was heard last.
+#[derive(Drop)]
+pub struct NodeTable {
+    rows: ArrayVec<(NodeRow, u64), 64>,
+    last: u64,
+}
+
+impl Model for NodeTable {
+    ghost use Rattle.hsr_tables.specs.Nodes.{Nodes};
+
+    ghost Value = { Nodes };
+
+    ghost view = { λ t. record { rows = t.rows.items; last = t.last } };
+}
+
+impl NodeTable {
+    ghost use Rattle.hsr_tables.specs.Nodes.{heard, no_nodes};
+
+    /// A table that has heard nothing.
+    pub fn new() -> Self
+        ensures { result ≡ no_nodes }
+    {
+        NodeTable {
+            rows: ArrayVec::new(),
+            last: 0,
+        }
+    }
+
+    /// The moment of the latest hearing in milliseconds, 0 at first.
+    pub fn last(&self) -> u64
+        ensures { result ≡ self.now.last }
+    {
+        self.last
+    }
+
+    /// Puts the node that a payload is about first, as heard on a port at this moment in milliseconds,
+    /// and gives up the 65th.
+    pub fn hear(&mut self, said: &Supervision, port: RingPort, at: u64)
+        requires { self.old.last ≤ at }
+        ensures { self.new ≡ heard self.old (record { said = said.now; port = port; at = at }) }
+    {
+        let earlier = find_known(self.rows.as_slice(), said.about, at);
+        let row = row_of(said, port, at, earlier);
+        keep_others(&mut self.rows, row.mac);
+        // one place is left for the new row
+        self.rows.truncate(63);
+        self.rows.insert(0, (row, at));
+        self.last = at;
+    }
+
+    /// The nodes that aren't forgotten at this moment, the latest heard first.
+    pub fn rows(&self, at: u64) -> ArrayVec<NodeRow, 64>
+        requires { self.now.last ≤ at }
+        ensures { result.items ≡ map (λ r. r.0) (known at self.now.rows) }
+    {
+        let mut list = ArrayVec::new();
+        for row in self.rows.as_slice() {
+            if is_known_at(row.1, at) {
+                list.push(row.0);
+            }
+        }
+        list
+    }
+}
+
+ghost use Rattle.hsr_tables.specs.Nodes.{RowsOfLatest, known_row, row_on};
+
+/// The row of an address, if it isn't forgotten.
+fn find_known(rows: &[(NodeRow, u64)], mac: Mac, at: u64) -> Option<(NodeRow, u64)>
+    ensures { result ≡ known_row at mac rows.now }
+{
+    for row in rows {
+        if row.0.mac == mac && is_known_at(row.1, at) {
+            return Some(*row);
+        }
+    }
+    None
+}
+
+/// Removes the row of an address.
+fn keep_others(rows: &mut ArrayVec<(NodeRow, u64), 64>, mac: Mac)
+    ensures { rows.new.items ≡ others (λ r. r.0.mac) mac rows.old.items }
+{
+    rows.retain(|row| row.0.mac != mac);
+}
+
+/// The row of a hearing, with what its address had on the other port.
+fn row_of(said: &Supervision, port: RingPort, at: u64, earlier: Option<(NodeRow, u64)>) -> NodeRow
+    ensures { result ≡ row_on port (record { said = said.now; port = port; at = at }) earlier }
+{
+    let (earlier_a, earlier_b) = match earlier {
+        Some((row, _)) => (row.heard_a, row.heard_b),
+        None => (None, None),
+    };
+    let (heard_a, heard_b) = match port {
+        RingPort::A => (Some(at), earlier_b),
+        RingPort::B => (earlier_a, Some(at)),
+    };
+    NodeRow {
+        mac: said.about,
+        kind: said.kind,
+        redbox: said.redbox,
+        heard_a,
+        heard_b,
+    }
+}
+
+/// The law of `NodeTable`, for the proofs of callers: over any list of hearings its rows are those of the 64
+/// addresses heard latest, but for the forgotten.
+pub fn known_nodes()
+    ensures { RowsOfLatest }
+{}

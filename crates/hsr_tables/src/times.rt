@@ -1,0 +1,18 @@
+//! Times in milliseconds (IEC 62439-3 clause 5.8).
+ghost use Rattle.std.specs.Prelude.{◌≡◌};
+ghost use Rattle.hsr_tables.specs.Known.{is_young};
+
+/// An address is forgotten so many milliseconds after it was heard last (NodeForgetTime and
+/// ProxyNodeTableForgetTime, IEC 62439-3 clause 5.8).
+pub const NODE_FORGET: u64 = 60000;
+
+/// A node sends a supervision frame every so many milliseconds (LifeCheckInterval, IEC 62439-3
+/// clause 5.8).
+pub const LIFE_CHECK: u64 = 2000;
+
+/// Whether what was heard at one moment isn't forgotten at another.
+pub fn is_known_at(heard: u64, at: u64) -> bool
+    ensures { result ≡ is_young at heard }
+{
+    at.saturating_sub(heard) < NODE_FORGET
+}
