@@ -2,8 +2,10 @@
 use Rattle.std.specs.Prelude.{◌≡◌, ℕ, ◌+◌, nat_lt, List, [], ◌∷◌, ◌++◌, length, Option, Some, None, if◌then◌else◌}
 use Rattle.std.specs.Io.KnownBytes.{Appends}
 use Rattle.hsr_danh.specs.Machine.{Machine}
-use Rattle.hsr_bench.specs.Request.{Request, request_of}
+use Rattle.hsr_bench.specs.Request.{Asked, request_of}
 use Rattle.hsr_bench.specs.Reply.{after, counter_line, reply}
+use Rattle.hsr_bench.specs.declared.chosen.Table.{Table}
+use Rattle.hsr_bench.specs.declared.chosen.Table.TheVariants.{Small, Large}
 use Rattle.hsr_bench.specs.declared.fault.Fault.TheVariants.{Line, Write}
 use Rattle.hsr_bench.specs.declared.fault.Status.{Status}
 use Rattle.hsr_bench.specs.declared.fault.Status.TheVariants.{Certified, Fault as Stopped, Doubt}
@@ -17,18 +19,23 @@ abbrev pub put : List ℕ → Output → Output
 put front output = record { text = front ++ output.text; bad_line = output.bad_line }
 
 -- what a line asks for, if it has at most 4096 octets
-abbrev pub request_in : List ℕ → Option Request
+abbrev pub request_in : List ℕ → Option Asked
 request_in line = if nat_lt 4096 (length line) then None else request_of line
 
 -- the output that a line begins, with that for the lines behind it
-abbrev pub with_line : Machine → ℕ → Option Request → (Machine → Output) → Output
-with_line machine n None more = record { text = []; bad_line = Some n }
-with_line machine n (Some r) more = put (reply machine r) (more (after machine r))
+abbrev pub with_line : ℕ → Machine → ℕ → Option Asked → (Machine → Output) → Output
+with_line capacity machine n None more = record { text = []; bad_line = Some n }
+with_line capacity machine n (Some r) more = put (reply capacity machine r) (more (after capacity machine r))
 
--- the output for lines that are counted from n on
-abbrev pub output : Machine → ℕ → List (List ℕ) → Output
-output machine n [] = record { text = counter_line machine.counters; bad_line = None }
-output machine n (line ∷ lines) = with_line machine n (request_in line) (λ next. output next (n + 1) lines)
+-- how many entries a duplicate table holds
+abbrev pub capacity_of : Table → ℕ
+capacity_of Small = 4
+capacity_of Large = 512
+
+-- the output for lines that are counted from n on, by a node whose tables have so many entries
+abbrev pub output : ℕ → Machine → ℕ → List (List ℕ) → Output
+output capacity machine n [] = record { text = counter_line machine.counters; bad_line = None }
+output capacity machine n (line ∷ lines) = with_line capacity machine n (request_in line) (λ next. output capacity next (n + 1) lines)
 
 -- How a run ended, and what stands on the writer: all of the output, and its bad line if it has one; a front
 -- of it where reading or memory failed. After a failed write nothing is said.

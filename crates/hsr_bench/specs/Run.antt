@@ -3,7 +3,7 @@ use Rattle.std.specs.Prelude.{◌≡◌, ℕ, ◌+◌, List, [], Option, None, S
 use Rattle.std.specs.Io.KnownBytes.{Appends, Keeps}
 use Rattle.hsr_frame.specs.Lines.{lines_of}
 use Rattle.hsr_danh.specs.Machine.{Machine}
-use Rattle.hsr_bench.specs.Request.{Request, request_of}
+use Rattle.hsr_bench.specs.Request.{Asked, request_of}
 use Rattle.hsr_bench.specs.Reply.{after, counter_line, reply}
 use Rattle.hsr_bench.specs.Output.{Ended, Output, output, put}
 use Rattle.hsr_bench.specs.declared.fault.Fault.{Fault}
@@ -11,23 +11,23 @@ use Rattle.hsr_bench.specs.declared.fault.Fault.TheVariants.{Line, Read, Write, 
 use Rattle.hsr_bench.specs.declared.fault.Status.TheVariants.{Certified, Fault as Stopped}
 
 -- what is known of a run that goes on: the whole output is what was written, and then the output for what is left
-abbrev pub OnTheWay : Output → Option (List ℕ) → Option (List ℕ) → Option (List ℕ) → Machine → ℕ → Type 0
-OnTheWay whole left held holds machine n =
-    (text : List ℕ) × (left ≡ Some text) × (front : List ℕ) × (whole ≡ put front (output machine n (lines_of text))) × Appends held holds front
+abbrev pub OnTheWay : ℕ → Output → Option (List ℕ) → Option (List ℕ) → Option (List ℕ) → Machine → ℕ → Type 0
+OnTheWay capacity whole left held holds machine n =
+    (text : List ℕ) × (left ≡ Some text) × (front : List ℕ) × (whole ≡ put front (output capacity machine n (lines_of text))) × Appends held holds front
 
 -- what one line did: it was answered, or is bad, or the writer or memory failed
-abbrev pub Served : Machine → Machine → ℕ → List ℕ → Option (List ℕ) → Option (List ℕ) → Result Unit Fault → Type 0
-Served old new n line held holds (Ok _) = (r : Request) × (request_of line ≡ Some r) × (new ≡ after old r) × Appends held holds (reply old r)
-Served old new n line held holds (Err (Line k)) = (k ≡ n) × (request_of line ≡ None) × Keeps held holds
-Served old new n line held holds (Err Write) = Unit {0}
-Served old new n line held holds (Err Memory) = Keeps held holds
-Served old new n line held holds (Err Read) = ⊥
+abbrev pub Served : ℕ → Machine → Machine → ℕ → List ℕ → Option (List ℕ) → Option (List ℕ) → Result Unit Fault → Type 0
+Served capacity old new n line held holds (Ok _) = (r : Asked) × (request_of line ≡ Some r) × (new ≡ after capacity old r) × Appends held holds (reply capacity old r)
+Served capacity old new n line held holds (Err (Line k)) = (k ≡ n) × (request_of line ≡ None) × Keeps held holds
+Served capacity old new n line held holds (Err Write) = Unit {0}
+Served capacity old new n line held holds (Err Memory) = Keeps held holds
+Served capacity old new n line held holds (Err Read) = ⊥
 
 -- what one turn did, from the output for what was left to that for what is left now; `false` is the last turn
-abbrev pub Turned : Option (List ℕ) → Option (List ℕ) → Option (List ℕ) → Option (List ℕ) → Machine → Machine → ℕ → Result Bool Fault → Type 0
-Turned left rest held holds old new n (Ok true) = IfSome left (λ text. OnTheWay (output old n (lines_of text)) rest held holds new (n + 1))
-Turned left rest held holds old new n (Ok false) = IfSome left (λ text. (front : List ℕ) × (output old n (lines_of text) ≡ put front (output new 0 [])) × Appends held holds front)
-Turned left rest held holds old new n (Err fault) = IfSome left (λ text. Ended held holds (output old n (lines_of text)) (Stopped fault))
+abbrev pub Turned : Option (List ℕ) → Option (List ℕ) → Option (List ℕ) → Option (List ℕ) → ℕ → Machine → Machine → ℕ → Result Bool Fault → Type 0
+Turned left rest held holds capacity old new n (Ok true) = IfSome left (λ text. OnTheWay capacity (output capacity old n (lines_of text)) rest held holds new (n + 1))
+Turned left rest held holds capacity old new n (Ok false) = IfSome left (λ text. (front : List ℕ) × (output capacity old n (lines_of text) ≡ put front (output capacity new 0 [])) × Appends held holds front)
+Turned left rest held holds capacity old new n (Err fault) = IfSome left (λ text. Ended held holds (output capacity old n (lines_of text)) (Stopped fault))
 
 -- the end of a run
 abbrev pub Finished : Machine → Option (List ℕ) → Option (List ℕ) → Result Unit Fault → Type 0
@@ -37,10 +37,10 @@ Finished machine held holds (Err Memory) = Keeps held holds
 Finished machine held holds (Err _) = ⊥
 
 -- a run on its way, for a text that may be unknown
-abbrev pub Way : Machine → Option (List ℕ) → Option (List ℕ) → Option (List ℕ) → Option (List ℕ) → Machine → ℕ → Type 0
-Way start text left held holds machine n = IfSome text (λ known. OnTheWay (output start 1 (lines_of known)) left held holds machine n)
+abbrev pub Way : ℕ → Machine → Option (List ℕ) → Option (List ℕ) → Option (List ℕ) → Option (List ℕ) → Machine → ℕ → Type 0
+Way capacity start text left held holds machine n = IfSome text (λ known. OnTheWay capacity (output capacity start 1 (lines_of known)) left held holds machine n)
 
 -- a whole run
-abbrev pub Ran : Option (List ℕ) → Option (List ℕ) → Option (List ℕ) → Machine → Result Unit Fault → Type 0
-Ran text held holds start (Ok _) = IfSome text (λ known. Ended held holds (output start 1 (lines_of known)) Certified)
-Ran text held holds start (Err fault) = IfSome text (λ known. Ended held holds (output start 1 (lines_of known)) (Stopped fault))
+abbrev pub Ran : Option (List ℕ) → Option (List ℕ) → Option (List ℕ) → ℕ → Machine → Result Unit Fault → Type 0
+Ran text held holds capacity start (Ok _) = IfSome text (λ known. Ended held holds (output capacity start 1 (lines_of known)) Certified)
+Ran text held holds capacity start (Err fault) = IfSome text (λ known. Ended held holds (output capacity start 1 (lines_of known)) (Stopped fault))

@@ -17,12 +17,18 @@ static TABLES: [&str; 2] = ["small", "large"];
 
 const NODE_LINES: &str = "\
 Each line of standard input, with one space between its words, is one of:
-  send <at> <dst> <type> <payload> [<vlan>]
-      at milliseconds, to an address as 02-00-00-00-00-02, four hexadecimal digits of type,
-      the payload in hexadecimal or - for none, four digits of a VLAN tag's control information
-The answer is `sent <number>` with the octets of both copies, or `refused <reason>`
-(1 to the node itself, 2 a reserved type, 3 no step is left, 4 over 1500 octets of payload).
-The last line counts what happened. A bad line ends the run with status 1.
+  send <at> <dst> <type> <payload> [<vlan>]   the node sends a frame
+  life <at>                                   the node sends a supervision frame
+  arrive <at> A|B <octets>                    octets come to a ring port
+  age <at>                                    the node gives up what is expired
+where <at> is a moment in milliseconds, <dst> an address as 02-00-00-00-00-02, <type> and <vlan>
+(a VLAN tag's control information) four hexadecimal digits, and octets are in hexadecimal, - for none.
+
+The answers: `sent <number>` or `life <number> <count>` with the octets of both copies; `passed` with the
+egresses up, A, B and the frame that went up; `duplicate`, `returned`, `foreign`, `untagged`,
+`malformed <fault>`; `aged`; `refused <reason>` (1 to the node itself, 2 a reserved type, 3 no step is
+left, 4 over 1500 octets of payload). The last line counts what happened. A bad line ends the run with
+status 1.
 
 Example: echo 'send 0 02-00-00-00-00-02 0800 AABB' | hsr_bench node";
 

@@ -3,12 +3,13 @@ ghost use Rattle.std.specs.Prelude.{◌≡◌, ◌<◌, ◌≤◌, IfSome, OnOk,
 ghost use Rattle.hsr_frame.specs.Address.{IsGroup};
 ghost use Rattle.hsr_frame.specs.Lines.{lines_of};
 ghost use Rattle.hsr_danh.specs.Machine.{new_machine};
-ghost use Rattle.hsr_bench.specs.Output.{Ended, output};
+ghost use Rattle.hsr_bench.specs.Output.{Ended, capacity_of, output};
 ghost use Rattle.hsr_bench.specs.Run.{Finished, Ran, Served, Turned};
 
+use crate::answer::answer;
 use crate::chosen::{NodeOptions, Table};
 use crate::fault::{Fault, Status};
-use crate::reply::{answer, put_counters};
+use crate::reply::put_counters;
 use crate::request::read_request;
 use arrayvec::ArrayVec;
 use hsr_danh::Danh;
@@ -32,14 +33,14 @@ fn serve<W: Write, const C: usize>(
     writer: &mut W,
     text: &mut Vec<u8>,
 ) -> Result<(), Fault>
-    ensures { Served danh.old danh.new number line.now (W.contents writer.old) (W.contents writer.new) result }
+    ensures { Served C danh.old danh.new number line.now (W.contents writer.old) (W.contents writer.new) result }
 {
-    let send = match read_request(alloc, line) {
-        Ok(send) => send,
+    let request = match read_request(alloc, line) {
+        Ok(request) => request,
         Err(WordFault::Bad) => return Err(Fault::Line(number)),
         Err(WordFault::Memory) => return Err(Fault::Memory),
     };
-    answer(danh, &send, text)?;
+    answer(danh, &request, text)?;
     match writer.write_all(text.as_slice()) {
         Ok(()) => Ok(()),
         Err(_) => Err(Fault::Write),
@@ -57,7 +58,7 @@ fn turn<R: Read, W: Write, const C: usize>(
     writer: &mut W,
     room: &mut Room,
 ) -> Result<bool, Fault>
-    ensures turned { Turned (R.remaining reader.old) (R.remaining reader.new) (W.contents writer.old) (W.contents writer.new) danh.old danh.new number result }
+    ensures turned { Turned (R.remaining reader.old) (R.remaining reader.new) (W.contents writer.old) (W.contents writer.new) C danh.old danh.new number result }
     ensures fewer { OnOk result (reads.new < reads.old) }
     ensures bounded { reads.new ≤ reads.old }
 {
@@ -109,8 +110,9 @@ fn run<R: Read, W: Write, const C: usize>(
     mac: Mac,
     mode: Mode,
 ) -> Result<(), Fault>
-    requires { ¬ IsGroup mac }
-    ensures { Ran (R.remaining reader.old) (W.contents writer.old) (W.contents writer.new) (new_machine mac mode) result }
+    requires station { ¬ IsGroup mac }
+    requires entries { (1 ≤ C) × (C ≤ 65535) }
+    ensures { Ran (R.remaining reader.old) (W.contents writer.old) (W.contents writer.new) C (new_machine mac mode) result }
 {
     let mut danh = match Danh::<C>::new(alloc, mac, mode) {
         Ok(danh) => danh,
@@ -141,7 +143,7 @@ pub fn node_run<R: Read, W: Write>(
     chosen: &NodeOptions,
 ) -> Status
     ensures { IfSome (R.remaining reader.old) (λ text.
-        Ended (W.contents writer.old) (W.contents writer.new) (output (new_machine chosen.now.mac chosen.now.mode) 1 (lines_of text)) result) }
+        Ended (W.contents writer.old) (W.contents writer.new) (output (capacity_of chosen.now.table) (new_machine chosen.now.mac chosen.now.mode) 1 (lines_of text)) result) }
 {
     let ran = match chosen.table {
         Table::Small => run::<R, W, 4>(alloc, reader, writer, chosen.mac, chosen.mode),

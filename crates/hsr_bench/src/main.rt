@@ -1,6 +1,7 @@
 //! The bench's program: a command and its options, standard input, standard output.
 #![tactic(auto)]
 
+mod answer;
 mod chosen;
 mod command_line;
 mod engine;
@@ -17,6 +18,8 @@ use std::io::{BufReader, BufWriter, Write};
 use std::process::ExitCode;
 use std::{env, io};
 
+#[cfg(test)]
+mod rows;
 #[cfg(test)]
 mod tests;
 

@@ -2,31 +2,20 @@
 ghost use Rattle.std.specs.Prelude.{◌≡◌, ◌≢◌, ◌≤◌, ◌^◌, ◌++◌, length, OnOk};
 ghost use Rattle.std.specs.Fmt.{decimal};
 ghost use Rattle.hsr_frame.specs.Address.{IsGroup};
-ghost use Rattle.hsr_danh.specs.Machine.{AreWithin};
-ghost use Rattle.hsr_bench.specs.Request.{view};
-ghost use Rattle.hsr_bench.specs.Reply.{after, asked, copies_text, counter_line, dropped, refused_text, reply, sent_text};
+ghost use Rattle.hsr_frame.specs.Counters.{AreWithin};
+ghost use Rattle.hsr_bench.specs.Reply.{cause_text, copies_text, counter_line, judged_text, lived_text, refused_text, sent_text, up_text, verdict_text, word_if};
 
-use crate::request::Send;
-use hsr_danh::Danh;
-use hsr_frame::{Counters, Mac, SendFault, copied, put_decimal, put_hex};
-use hsr_tag::Frame;
+use hsr_danh::{Verdict, life_frame};
+use hsr_frame::{Cause, Counters, FrameFault, Life, Mac, SendFault, put_decimal, put_hex};
+use hsr_tag::{Frame, Seen, classify};
 use std::alloc::AllocError;
 
-/// The frame that a send asks for.
-fn frame_of(own: Mac, send: &Send) -> Frame
-    requires station { ¬ IsGroup own }
-    requires no_vlan { send.now.kind ≢ 0x8100 }
-    requires no_tag { send.now.kind ≢ 0x892F }
-    requires fits { length send.now.payload.items ≤ 1500 }
-    ensures { result ≡ asked own (view send.now) }
+/// Puts a name and a number.
+fn put_count(text: &mut Vec<u8>, name: &[u8], n: u64) -> Result<(), AllocError>
+    ensures { OnOk result (text.new.items ≡ text.old.items ++ (name.now ++ decimal n)) }
 {
-    Frame {
-        dst: send.dst,
-        src: own,
-        vlan: send.vlan,
-        kind: send.kind,
-        payload: copied(send.payload.as_slice()),
-    }
+    text.extend_from_slice(name)?;
+    put_decimal(text, n)
 }
 
 /// Puts the two copies of a frame that leave by the ports.
@@ -41,61 +30,91 @@ fn put_copies(text: &mut Vec<u8>, frame: &Frame, seq: u16) -> Result<(), AllocEr
 }
 
 /// Puts the lines of a send that was accepted.
-fn put_sent(text: &mut Vec<u8>, frame: &Frame, seq: u16) -> Result<(), AllocError>
+pub fn put_sent(text: &mut Vec<u8>, frame: &Frame, seq: u16) -> Result<(), AllocError>
     ensures { OnOk result (text.new.items ≡ text.old.items ++ sent_text frame.now seq) }
 {
-    text.extend_from_slice(b"sent ")?;
-    put_decimal(text, u64::from(seq))?;
+    put_count(text, b"sent ", u64::from(seq))?;
     text.extend_from_slice(b"\n")?;
     put_copies(text, frame, seq)
 }
 
-/// Puts the line of a send that was refused.
-fn put_refused(text: &mut Vec<u8>, fault: SendFault) -> Result<(), AllocError>
+/// Puts the line of a send, supervision or arrival that was refused.
+pub fn put_refused(text: &mut Vec<u8>, fault: SendFault) -> Result<(), AllocError>
     ensures { OnOk result (text.new.items ≡ text.old.items ++ refused_text fault) }
 {
-    text.extend_from_slice(b"refused ")?;
-    put_decimal(text, u64::from(fault.number()))?;
+    put_count(text, b"refused ", u64::from(fault.number()))?;
     text.extend_from_slice(b"\n")
 }
 
-/// Makes a text the lines that answer a request.
-pub fn answer<const C: usize>(
-    danh: &mut Danh<C>,
-    send: &Send,
-    text: &mut Vec<u8>,
-) -> Result<(), AllocError>
-    ensures text { OnOk result (text.new.items ≡ reply danh.old (view send.now)) }
-    ensures after { danh.new ≡ after danh.old (view send.now) }
+/// Puts the lines of a supervision that was accepted.
+pub fn put_lived(text: &mut Vec<u8>, own: Mac, life: Life) -> Result<(), AllocError>
+    requires { ¬ IsGroup own }
+    ensures { OnOk result (text.new.items ≡ text.old.items ++ lived_text own life) }
 {
-    text.clear();
-    let own = danh.address();
-    match danh.send(
-        send.at,
-        send.dst,
-        send.vlan,
-        send.kind,
-        send.payload.as_slice(),
-    ) {
-        Ok(sent) => put_sent(text, &frame_of(own, send), sent.seq),
-        Err(fault) => put_refused(text, fault),
+    put_count(text, b"life ", u64::from(life.seq))?;
+    put_count(text, b" ", u64::from(life.life))?;
+    text.extend_from_slice(b"\n")?;
+    put_copies(text, &life_frame(own, life.life), life.seq)
+}
+
+/// Puts a word, if it is said.
+fn put_if(text: &mut Vec<u8>, said: bool, word: &[u8]) -> Result<(), AllocError>
+    ensures { OnOk result (text.new.items ≡ text.old.items ++ word_if said word.now) }
+{
+    if said {
+        return text.extend_from_slice(word);
+    }
+    Ok(())
+}
+
+/// Puts why an arrival went where it did.
+fn put_cause(text: &mut Vec<u8>, cause: Cause) -> Result<(), AllocError>
+    ensures { OnOk result (text.new.items ≡ text.old.items ++ cause_text cause) }
+{
+    match cause {
+        Cause::Passed => text.extend_from_slice(b"passed"),
+        Cause::Duplicate => text.extend_from_slice(b"duplicate"),
+        Cause::Returned => text.extend_from_slice(b"returned"),
+        Cause::Foreign => text.extend_from_slice(b"foreign"),
+        Cause::Local => text.extend_from_slice(b"local"),
+        Cause::Untagged => text.extend_from_slice(b"untagged"),
+        Cause::Tagged => text.extend_from_slice(b"tagged"),
+        Cause::Malformed(fault) => put_count(text, b"malformed ", u64::from(fault.number())),
     }
 }
 
-/// Puts a name and a number.
-fn put_count(text: &mut Vec<u8>, name: &[u8], n: u64) -> Result<(), AllocError>
-    ensures { OnOk result (text.new.items ≡ text.old.items ++ (name.now ++ decimal n)) }
+/// Puts the line of an arrival.
+fn put_verdict(text: &mut Vec<u8>, verdict: Verdict) -> Result<(), AllocError>
+    ensures { OnOk result (text.new.items ≡ text.old.items ++ verdict_text verdict) }
 {
-    text.extend_from_slice(name)?;
-    put_decimal(text, n)
+    put_cause(text, verdict.cause)?;
+    put_if(text, verdict.up, b" up")?;
+    put_if(text, verdict.a, b" A")?;
+    put_if(text, verdict.b, b" B")?;
+    text.extend_from_slice(b"\n")
 }
 
-/// The sum of what is neither passed nor a duplicate nor a node's own frame.
-fn dropped_of(counters: &Counters) -> u64
-    requires { AreWithin counters.now (2 ^ 62) }
-    ensures { result ≡ dropped counters.now }
+/// Puts the line of what goes up.
+fn put_up(text: &mut Vec<u8>, seen: &Result<Seen, FrameFault>) -> Result<(), AllocError>
+    ensures { OnOk result (text.new.items ≡ text.old.items ++ up_text seen.now) }
 {
-    counters.foreign + counters.local + counters.untagged + counters.tagged + counters.malformed
+    if let Ok(Seen::Tagged(frame)) = seen {
+        text.extend_from_slice(b"up ")?;
+        put_hex(text, frame.untag().write().as_slice())?;
+        return text.extend_from_slice(b"\n");
+    }
+    Ok(())
+}
+
+/// Puts the lines of an arrival that was judged.
+pub fn put_judged(text: &mut Vec<u8>, octets: &[u8], verdict: Verdict) -> Result<(), AllocError>
+    ensures { OnOk result (text.new.items ≡ text.old.items ++ judged_text octets.now verdict) }
+{
+    put_verdict(text, verdict)?;
+    if verdict.up {
+        return put_up(text, &classify(octets));
+    }
+    Ok(())
 }
 
 /// Makes a text the line of a node's counters.
@@ -111,6 +130,6 @@ pub fn put_counters(text: &mut Vec<u8>, counters: &Counters) -> Result<(), Alloc
     put_count(text, b" forwarded ", counters.forwarded)?;
     put_count(text, b" duplicate ", counters.duplicate)?;
     put_count(text, b" returned ", counters.returned)?;
-    put_count(text, b" dropped ", dropped_of(counters))?;
+    put_count(text, b" dropped ", counters.dropped())?;
     text.extend_from_slice(b"\n")
 }

@@ -18,7 +18,8 @@ const SENT: &[u8] =
 
 const COUNTED: &[u8] = b"sent 1 life 0 up 0 forwarded 0 duplicate 0 returned 0 dropped 0\n";
 
-fn defaults() -> NodeOptions {
+/// What no words choose.
+pub fn defaults() -> NodeOptions {
     NodeOptions {
         mac: Mac::new([2, 0, 0, 0, 0, 1]),
         mode: Mode::H,
@@ -108,7 +109,12 @@ fn bad_lines(rt: HostRuntime) -> Result<(), Fail> {
         b"send 0 02-00-00-00-00-02 0800 AABB -\n",
         b"send 0 02-00-00-00-00-02 0800 AABB 0005 1\n",
         b"Send 0 02-00-00-00-00-02 0800 AABB\n",
-        b"age 0\n",
+        b"age\n",
+        b"age 0 0\n",
+        b"life\n",
+        b"arrive 0 C -\n",
+        b"arrive 0 A\n",
+        b"arrive 0 A - -\n",
     ];
     for line in lines {
         let (status, text) = run(rt.alloc(), line)?;

@@ -1,11 +1,24 @@
 -- What a contract sees of a DANH: all that it holds.
-use Rattle.std.specs.Prelude.{ℕ, ◌+◌, ◌*◌, ◌≤◌, List}
+use Rattle.std.specs.Prelude.{ℕ, List, ◌≤◌, ◌<◌, ◌^◌}
+use Rattle.hsr_frame.specs.Address.{IsGroup}
+use Rattle.hsr_frame.specs.Counters.{no_counts, AreWithin as CountersWithin}
+use Rattle.hsr_frame.specs.declared.counters.Counters.{Counters}
 use Rattle.hsr_frame.specs.declared.node.Mode.{Mode}
-use Rattle.hsr_frame.specs.declared.node.Counters.{Counters}
+use Rattle.hsr_duptable.specs.Table.{IsWithin, Table, empty_table}
+use Rattle.hsr_tables.specs.Nodes.{Nodes, no_nodes}
+
+-- what each egress remembers
+pub record Notes : Type 0 where
+  pub up : Table
+  pub a : Table
+  pub b : Table
 
 pub record Machine : Type 0 where
   pub own : List ℕ
   pub mode : Mode
+  pub notes : Notes
+  -- the nodes that were heard
+  pub nodes : Nodes
   -- the number of the next frame
   pub next : ℕ
   pub counters : Counters
@@ -14,14 +27,37 @@ pub record Machine : Type 0 where
   -- how many sends, supervisions and arrivals were accepted
   pub accepted : ℕ
 
-abbrev pub no_counts : Counters
-no_counts = record { sent = 0; life = 0; up = 0; forwarded = 0; duplicate = 0; returned = 0; foreign = 0; local = 0; untagged = 0; tagged = 0; malformed = 0; bad_life = 0 }
-
--- a step adds at most three copies, and at most two other counts
-pub record AreWithin (counters : Counters) (accepted : ℕ) : Type 0 where
-  pub copies : counters.up + counters.forwarded ≤ 3 * accepted
-  pub others : counters.sent + counters.life + counters.duplicate + counters.returned + counters.foreign + counters.local
-    + counters.untagged + counters.tagged + counters.malformed + counters.bad_life ≤ 2 * accepted
+abbrev pub no_notes : Notes
+no_notes = record { up = empty_table 400; a = empty_table 400; b = empty_table 400 }
 
 abbrev pub new_machine : List ℕ → Mode → Machine
-new_machine own mode = record { own = own; mode = mode; next = 0; counters = no_counts; moment = 0; accepted = 0 }
+new_machine own mode = record { own = own; mode = mode; notes = no_notes; nodes = no_nodes; next = 0; counters = no_counts; moment = 0; accepted = 0 }
+
+-- no table's time is ahead of the node's, and none noted more than the node accepted
+pub record AreWithin (notes : Notes) (moment accepted : ℕ) : Type 0 where
+  pub up : IsWithin notes.up moment accepted
+  pub a : IsWithin notes.a moment accepted
+  pub b : IsWithin notes.b moment accepted
+
+-- what holds of each DANH
+pub record IsSound (machine : Machine) : Type 0 where
+  pub station : ¬ IsGroup machine.own
+  pub notes : AreWithin machine.notes machine.moment machine.accepted
+  pub nodes : machine.nodes.last ≤ machine.moment
+  pub steps : machine.accepted ≤ 2 ^ 62
+  pub counters : CountersWithin machine.counters machine.accepted
+
+-- a step can be noted at this moment
+pub record AreReady (notes : Notes) (now : ℕ) : Type 0 where
+  pub up : notes.up.last ≤ now
+  pub a : notes.a.last ≤ now
+  pub b : notes.b.last ≤ now
+  pub up_room : notes.up.noted < 2 ^ 62
+  pub a_room : notes.a.noted < 2 ^ 62
+  pub b_room : notes.b.noted < 2 ^ 62
+
+-- ageing can be done at this moment
+pub record AreEarlier (notes : Notes) (now : ℕ) : Type 0 where
+  pub up : notes.up.last ≤ now
+  pub a : notes.a.last ≤ now
+  pub b : notes.b.last ≤ now

@@ -1,14 +1,18 @@
-//! A node with two ring ports and its counters.
-ghost use Rattle.std.specs.Prelude.{◌≡◌, ◌≢◌, ◌≤◌, ◌<◌, ◌^◌, length, IfNone, IfOk, OnOk};
-ghost use Rattle.hsr_danh.specs.Send.{send_refusal};
-ghost use Rattle.hsr_danh.specs.Machine.{no_counts};
+//! A node with two ring ports, its tables and its counters.
+ghost use Rattle.std.specs.Prelude.{◌≡◌, ◌≢◌, ◌≤◌, ◌<◌, ◌^◌, length, map, IfOk, OnOk};
 
-use hsr_frame::{Counters, HSR, Mac, Mode, NoMemory, SendFault, VLAN};
+use crate::tables::Tables;
+use crate::wanted::wants_of;
+use arrayvec::ArrayVec;
+use hsr_duptable::Key;
+use hsr_frame::{
+    Cause, Counters, Exits, FrameFault, Life, Mac, Mode, NoMemory, RingPort, STEPS, SendFault,
+    Spent, Wants, is_supervision, send_fault,
+};
+use hsr_tables::{NodeRow, NodeTable};
+use hsr_tag::{Seen, classify};
 use std::alloc::Global;
 use std::marker::Model;
-
-/// How many sends, supervisions and arrivals a node accepts (this profile's choice).
-pub const STEPS: u64 = 1 << 62;
 
 /// The number of a frame that was sent: it leaves by both ports, with the path 0 on A and 1 on B.
 #[derive(Clone, Copy, Debug, PartialEq, Eq)]
@@ -16,11 +20,24 @@ pub struct Sent {
     pub seq: u16,
 }
 
-/// A doubly attached node (IEC 62439-3 clause 5.3), whose duplicate tables have `C` entries each.
+/// Where an arrival passed, and why.
+#[derive(Clone, Copy, Debug, PartialEq, Eq)]
+pub struct Verdict {
+    pub up: bool,
+    pub a: bool,
+    pub b: bool,
+    pub cause: Cause,
+}
+
+/// A doubly attached node (IEC 62439-3 clause 5.3), whose duplicate tables have `C` entries each, `C` from 1
+/// to 65535. Moments are in milliseconds; one that is earlier than the last is read as the last. Only `new`
+/// takes memory.
 #[derive(Drop)]
 pub struct Danh<const C: usize> {
     own: Mac,
     mode: Mode,
+    tables: Tables<C>,
+    nodes: NodeTable,
     next: u16,
     counters: Counters,
     moment: u64,
@@ -28,41 +45,44 @@ pub struct Danh<const C: usize> {
 }
 
 impl<const C: usize> Model for Danh<C> {
-    ghost use Rattle.std.specs.Prelude.{◌≤◌, ◌^◌};
-    ghost use Rattle.hsr_frame.specs.Address.{IsGroup};
-    ghost use Rattle.hsr_danh.specs.Machine.{AreWithin, Machine};
+    ghost use Rattle.hsr_danh.specs.Machine.{IsSound, Machine};
 
     ghost Value = { Machine };
 
-    ghost view = { λ d. record { own = d.own; mode = d.mode; next = d.next; counters = d.counters; moment = d.moment; accepted = d.accepted } };
+    ghost view = { λ d. record { own = d.own; mode = d.mode; notes = d.tables; nodes = d.nodes; next = d.next; counters = d.counters; moment = d.moment; accepted = d.accepted } };
 
-    ghost invariant = { λ d. (¬ IsGroup d.own) × (d.accepted ≤ 2 ^ 62) × AreWithin d.counters d.accepted };
+    ghost invariant = { λ d. IsSound (record { own = d.own; mode = d.mode; notes = d.tables; nodes = d.nodes; next = d.next; counters = d.counters; moment = d.moment; accepted = d.accepted }) };
 }
 
 impl<const C: usize> Danh<C> {
     ghost use Rattle.hsr_frame.specs.Address.{IsGroup};
-    ghost use Rattle.hsr_danh.specs.Machine.{AreWithin, new_machine};
-    ghost use Rattle.hsr_danh.specs.Send.{send_step};
+    ghost use Rattle.hsr_frame.specs.Counters.{AreWithin};
+    ghost use Rattle.hsr_tables.specs.Known.{known};
+    ghost use Rattle.hsr_danh.specs.Machine.{new_machine};
+    ghost use Rattle.hsr_danh.specs.Step.{age_step, arrive_step, life_step, now_at, send_step};
 
     /// A node that has done nothing. No group has its address.
-    pub fn new(_alloc: Global, own: Mac, mode: Mode) -> Result<Self, NoMemory>
-        requires { ¬ IsGroup own }
+    pub fn new(alloc: Global, own: Mac, mode: Mode) -> Result<Self, NoMemory>
+        requires station { ¬ IsGroup own }
+        requires entries { (1 ≤ C) × (C ≤ 65535) }
         ensures { IfOk result (λ danh. danh ≡ new_machine own mode) }
     {
+        let tables = Tables::new(alloc)?;
         Ok(Danh {
             own,
             mode,
+            tables,
+            nodes: NodeTable::new(),
             next: 0,
-            counters: no_counters(),
+            counters: Counters::new(),
             moment: 0,
             accepted: 0,
         })
     }
 
-    /// Numbers a frame of this node's own, at a moment in milliseconds, and sends it by both ports
-    /// (IEC 62439-3 clause 5.3.1). It refuses a frame to itself, one of the type of a VLAN or HSR tag,
-    /// any frame where `STEPS` steps are spent, and one of more than 1500 octets of payload, in this
-    /// order; a refusal changes nothing.
+    /// Numbers a frame of this node's own and sends it by both ports (IEC 62439-3 clause 5.3). It refuses a
+    /// frame to itself, one of the type of a VLAN or HSR tag, any where `STEPS` steps are spent, and one of over
+    /// 1500 octets of payload, in this order; a refusal changes nothing.
     pub fn send(
         &mut self,
         at: u64,
@@ -71,19 +91,72 @@ impl<const C: usize> Danh<C> {
         kind: u16,
         payload: &[u8],
     ) -> Result<Sent, SendFault>
-        ensures step { (result, self.new) ≡ send_step self.old at dst kind (length payload.now) }
+        ensures step { (result, self.new) ≡ send_step C self.old at dst kind (length payload.now) }
         // What is sent is a frame.
         ensures formed { OnOk result ((kind ≢ 0x8100) × (kind ≢ 0x892F) × (length payload.now ≤ 1500)) }
     {
         if let Some(fault) = send_fault(self.own, self.accepted, dst, kind, payload.len()) {
             return Err(fault);
         }
+        let now = self.moment.max(at);
         let seq = self.next;
-        self.next = self.next.wrapping_add(1);
+        self.tables
+            .mark(both_ports(), Key { src: self.own, seq }, now);
+        self.next = seq.wrapping_add(1);
         self.counters.sent += 1;
-        self.moment = self.moment.max(at);
+        self.moment = now;
         self.accepted += 1;
         Ok(Sent { seq })
+    }
+
+    /// Numbers a supervision frame and sends it by both ports (IEC 62439-3 clause 5.7); `life` counts the
+    /// earlier ones, modulo 65536. Where `STEPS` steps are spent it changes nothing.
+    pub fn supervise(&mut self, at: u64) -> Result<Life, Spent>
+        ensures { (result, self.new) ≡ life_step C self.old at }
+    {
+        if self.accepted == STEPS {
+            return Err(Spent);
+        }
+        let now = self.moment.max(at);
+        let seq = self.next;
+        let life = (self.counters.life % 65536) as u16;
+        self.tables
+            .mark(both_ports(), Key { src: self.own, seq }, now);
+        self.next = seq.wrapping_add(1);
+        self.counters.life += 1;
+        self.moment = now;
+        self.accepted += 1;
+        Ok(Life { seq, life })
+    }
+
+    /// Judges what came to a ring port (IEC 62439-3 clause 5.3): octets that are no frame are counted, plain frames
+    /// dropped, tagged ones passed where they are wanted and not remembered. Where `STEPS` steps are
+    /// spent it changes nothing.
+    pub fn arrive(&mut self, at: u64, port: RingPort, octets: &[u8]) -> Result<Verdict, Spent>
+        ensures { (result, self.new) ≡ arrive_step C self.old at port octets.now }
+    {
+        if self.accepted == STEPS {
+            return Err(Spent);
+        }
+        let now = self.moment.max(at);
+        let seen = classify(octets);
+        let wants = wants_of(self.own, self.mode, port, &seen);
+        let passes = self.tables.judge(wants.exits, &seen, now);
+        let verdict = verdict_on(wants, passes);
+        let readable = hear(&mut self.nodes, self.own, port, &seen, now);
+        count(&mut self.counters, verdict, readable);
+        self.moment = now;
+        self.accepted += 1;
+        Ok(verdict)
+    }
+
+    /// Gives up the notes that are expired.
+    pub fn age(&mut self, at: u64)
+        ensures { self.new ≡ age_step self.old at }
+    {
+        let now = self.moment.max(at);
+        self.tables.age(now);
+        self.moment = now;
     }
 
     /// The node's own address: no group's.
@@ -101,43 +174,68 @@ impl<const C: usize> Danh<C> {
     {
         self.counters
     }
-}
 
-/// Why a send is refused, if it is.
-fn send_fault(own: Mac, accepted: u64, dst: Mac, kind: u16, len: usize) -> Option<SendFault>
-    requires { accepted ≤ 2 ^ 62 }
-    ensures fault { result ≡ send_refusal own accepted dst kind len }
-    ensures room { IfNone result (accepted < 2 ^ 62) }
-    ensures formed { IfNone result ((kind ≢ 0x8100) × (kind ≢ 0x892F) × (len ≤ 1500)) }
-{
-    if dst == own {
-        Some(SendFault::SelfAddressed)
-    } else if kind == HSR || kind == VLAN {
-        Some(SendFault::ReservedType)
-    } else if accepted == STEPS {
-        Some(SendFault::Spent)
-    } else if len > 1500 {
-        Some(SendFault::TooLong)
-    } else {
-        None
+    /// The nodes that were heard less than `NODE_FORGET` milliseconds ago, the latest first.
+    pub fn nodes(&self, at: u64) -> ArrayVec<NodeRow, 64>
+        ensures { result.items ≡ map (λ r. r.0) (known (now_at self.now at) self.now.nodes.rows) }
+    {
+        self.nodes.rows(self.moment.max(at))
     }
 }
 
-fn no_counters() -> Counters
-    ensures { result ≡ no_counts }
+ghost use Rattle.std.specs.Prelude.{[], ◌∷◌};
+ghost use Rattle.hsr_frame.specs.Counters.{AreWithin};
+ghost use Rattle.hsr_frame.specs.Egress.{a, b, exits_of};
+ghost use Rattle.hsr_danh.specs.Step.{counted_with, heard_of, verdict_of};
+
+/// The egresses of a frame of the node's own.
+fn both_ports() -> Exits
+    ensures { result ≡ exits_of (a ∷ b ∷ []) }
 {
-    Counters {
-        sent: 0,
-        life: 0,
-        up: 0,
-        forwarded: 0,
-        duplicate: 0,
-        returned: 0,
-        foreign: 0,
-        local: 0,
-        untagged: 0,
-        tagged: 0,
-        malformed: 0,
-        bad_life: 0,
+    Exits {
+        a: true,
+        b: true,
+        ..Exits::none()
     }
+}
+
+/// The verdict on what these of the egresses that want it pass.
+fn verdict_on(wants: Wants, passes: Exits) -> Verdict
+    ensures { result ≡ verdict_of wants passes }
+{
+    Verdict {
+        up: passes.up,
+        a: passes.a,
+        b: passes.b,
+        cause: wants.cause_of(passes),
+    }
+}
+
+/// Hears a supervision frame of another node, and tells whether what it says could be read.
+fn hear(
+    nodes: &mut NodeTable,
+    own: Mac,
+    port: RingPort,
+    seen: &Result<Seen, FrameFault>,
+    now: u64,
+) -> bool
+    requires { nodes.old.last ≤ now }
+    ensures { (result, nodes.new) ≡ heard_of own nodes.old port seen.now now }
+{
+    match seen {
+        Ok(Seen::Tagged(frame)) if is_supervision(frame.dst, frame.kind) && frame.src != own => {
+            nodes.listen(frame.payload.as_slice(), port, now)
+        }
+        _ => true,
+    }
+}
+
+/// Counts an arrival, and a supervision payload that could not be read.
+fn count(counters: &mut Counters, verdict: Verdict, readable: bool)
+    requires { AreWithin counters.old (2 ^ 62) }
+    ensures { counters.new ≡ counted_with counters.old verdict readable }
+{
+    let copies = u64::from(verdict.a) + u64::from(verdict.b);
+    counters.count(verdict.cause, verdict.up, copies);
+    counters.bad_life += u64::from(!readable);
 }

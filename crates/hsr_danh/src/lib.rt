@@ -2,8 +2,12 @@
 #![tactic(auto)]
 
 mod danh;
+mod life;
+mod tables;
+mod wanted;
 
-pub use danh::{Danh, STEPS, Sent};
+pub use danh::{Danh, Sent, Verdict};
+pub use life::life_frame;
 
 #[cfg(test)]
 mod tests;

@@ -1,2 +1,3 @@
 pub mod RisingNotes
 pub mod LogLaws
+pub mod Within

@@ -1,5 +1,5 @@
 -- What a contract sees of a `DupTable`.
-use Rattle.std.specs.Prelude.{ℕ, ◌≡◌, ◌+◌, ◌≤◌, Bool, List, [], ◌∷◌, ◌++◌}
+use Rattle.std.specs.Prelude.{ℕ, ◌≡◌, ◌+◌, ◌≤◌, if◌then◌else◌, Bool, List, [], ◌∷◌, ◌++◌}
 use Rattle.hsr_duptable.specs.Notes.{has_key, unexpired_notes, last_notes, IsRising}
 use Rattle.hsr_duptable.specs.Key.{Key}
 use Rattle.hsr_duptable.specs.declared.note.Note.{Note}
@@ -28,6 +28,10 @@ after_note capacity table key at =
       noted = table.noted + 1;
     }
 
+-- the table after a frame that passes or doesn't
+abbrev pub after_pass : ℕ → Table → Bool → Key → ℕ → Table
+after_pass capacity table passes key at = if passes then after_note capacity table key at else table
+
 -- the table after ageing: the unexpired notes stay
 abbrev pub after_age : Table → ℕ → Table
 after_age table at =
@@ -44,3 +48,10 @@ pub record IsSound (capacity room : ℕ) (notes : List Note) (last : ℕ) : Type
   pub most : capacity ≤ 65535
   pub exact : room ≡ capacity
   pub rising : IsRising 0 notes last
+
+-- A node's table: it forgets after 400 milliseconds, its time isn't ahead of the node's moment, and no more was
+-- noted than the node accepted.
+pub record IsWithin (table : Table) (moment accepted : ℕ) : Type 0 where
+  pub forget : table.forget ≡ 400
+  pub last : table.last ≤ moment
+  pub noted : table.noted ≤ accepted

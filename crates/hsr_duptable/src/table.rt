@@ -1,5 +1,5 @@
 //! The duplicate table in its plain form: a ring of notes that is searched from its youngest end.
-ghost use Rattle.std.specs.Prelude.{◌≡◌, ℕ, ◌^◌, ◌<◌, ◌≤◌, length, IfOk};
+ghost use Rattle.std.specs.Prelude.{◌≡◌, ◌&&◌, not, ℕ, ◌^◌, ◌<◌, ◌≤◌, length, IfOk};
 ghost use Rattle.circular_buffer.specs.Buffer.{buffer};
 ghost use Rattle.hsr_duptable.specs.Notes.{has_key, unexpired_notes, IsRising};
 ghost use Rattle.hsr_duptable.specs.Log.{AnswersAsLog};
@@ -32,7 +32,7 @@ impl<const C: usize> Model for DupTable<C> {
 }
 
 impl<const C: usize> DupTable<C> {
-    ghost use Rattle.hsr_duptable.specs.Table.{empty_table, remembers, after_note, after_age};
+    ghost use Rattle.hsr_duptable.specs.Table.{empty_table, remembers, after_note, after_pass, after_age};
 
     /// A table that holds nothing, and remembers a frame until `forget` milliseconds have passed;
     /// `NoMemory` where room for `C` notes is refused.
@@ -88,6 +88,30 @@ impl<const C: usize> DupTable<C> {
         self.ring.push_back(Note { key, moment: at });
         self.last = at;
         self.noted += 1;
+    }
+
+    /// Passes a frame at an egress that wants it and doesn't remember it, notes that, and tells whether it passed;
+    /// the moment is in milliseconds (IEC 62439-3 clause 5.3).
+    pub fn pass(&mut self, wanted: bool, key: Key, at: u64) -> bool
+        requires later { self.old.last ≤ at }
+        requires room { self.old.noted < 2 ^ 62 }
+        ensures passes { result ≡ (wanted && not (remembers self.old key at)) }
+        ensures noted { self.new ≡ after_pass C self.old result key at }
+    {
+        let passes = wanted && !self.seen(key, at);
+        self.mark(passes, key, at);
+        passes
+    }
+
+    /// Notes a frame if it passes without a look, at a moment in milliseconds.
+    pub fn mark(&mut self, passes: bool, key: Key, at: u64)
+        requires later { self.old.last ≤ at }
+        requires room { self.old.noted < 2 ^ 62 }
+        ensures { self.new ≡ after_pass C self.old passes key at }
+    {
+        if passes {
+            self.note(key, at);
+        }
     }
 
     /// Gives up the notes that are expired at a moment, in milliseconds.

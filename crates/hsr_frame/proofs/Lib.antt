@@ -4,3 +4,4 @@ pub mod Digits
 pub mod Texts
 pub mod Raws
 pub mod LineCuts
+pub mod Counting

@@ -2,5 +2,8 @@ pub mod Cases
 pub mod Fault
 pub mod Address
 pub mod Grammar
+pub mod Egress
+pub mod Counters
+pub mod Send
 pub mod Words
 pub mod Lines

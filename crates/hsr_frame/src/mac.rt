@@ -105,6 +105,13 @@ impl Mac {
         octets: [0x01, 0x15, 0x4E, 0x00, 0x01, 0x00],
     };
 
+    /// The same group, for clauses, which can't name a constant of this type.
+    pub fn supervision() -> Mac
+        ensures { result ≡ supervision_address }
+    {
+        Mac::SUPERVISION
+    }
+
     pub const fn new(octets: [u8; 6]) -> Mac
         ensures { result ≡ octets }
     {

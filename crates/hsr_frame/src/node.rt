@@ -38,31 +38,12 @@ pub enum Cause {
     Malformed(FrameFault),
 }
 
-/// How often each thing happened at a node.
-#[derive(Clone, Copy, Debug, PartialEq, Eq)]
-pub struct Counters {
-    /// Sends that were accepted.
-    pub sent: u64,
-    /// Supervision frames that were sent.
-    pub life: u64,
-    /// Arrivals that were passed up.
-    pub up: u64,
-    /// Copies of arrivals that were passed to ports.
-    pub forwarded: u64,
-    pub duplicate: u64,
-    pub returned: u64,
-    pub foreign: u64,
-    pub local: u64,
-    pub untagged: u64,
-    pub tagged: u64,
-    pub malformed: u64,
-    /// Supervision frames whose payload could not be read.
-    pub bad_life: u64,
-}
-
 /// The numbers of a supervision frame: that of its tag, and how many the node sent before, modulo 65536.
 #[derive(Clone, Copy, Debug, PartialEq, Eq)]
 pub struct Life {
     pub seq: u16,
     pub life: u16,
 }
+
+/// How many sends, supervisions and arrivals a node accepts (this profile's choice).
+pub const STEPS: u64 = 1 << 62;

@@ -1,11 +1,12 @@
 -- What a contract sees of a `NodeTable`, and what it stands for.
-use Rattle.std.specs.Prelude.{◌≡◌, ℕ, ◌&&◌, Bool, true, false, List, [], ◌∷◌, filter, find, fold, map, reverse, Option, Some, if◌then◌else◌}
+use Rattle.std.specs.Prelude.{◌≡◌, ℕ, ◌&&◌, Bool, true, false, List, [], ◌∷◌, filter, find, fold, map, reverse, Option, Some, Result, Ok, Err, if◌then◌else◌}
 use Rattle.std.specs.List.{list_any}
 use Rattle.std.specs.Option.{option_and_then, option_map}
 use Rattle.hsr_frame.specs.Address.{is_same_address}
 use Rattle.hsr_frame.specs.declared.node.RingPort.{RingPort}
 use Rattle.hsr_frame.specs.declared.node.RingPort.TheVariants.{A, B}
-use Rattle.hsr_supervision.specs.Payload.{Fields}
+use Rattle.hsr_supervision.specs.Payload.{Fields, read_of}
+use Rattle.hsr_supervision.specs.declared.payload.SupFault.{SupFault}
 use Rattle.hsr_tables.specs.declared.nodes.NodeRow.{NodeRow}
 use Rattle.hsr_tables.specs.Known.{is_young, known, latest_64, put_first}
 
@@ -39,6 +40,14 @@ heard table h = record {
   rows = put_first (λ r. r.0.mac) (row_on h.port h (known_row h.at h.said.about table.rows), h.at) table.rows;
   last = h.at;
 }
+
+-- whether a payload could be read, and the table after it
+abbrev pub heard_if : Nodes → RingPort → ℕ → Result Fields SupFault → Bool × Nodes
+heard_if table port at (Ok said) = (true, heard table (record { said = said; port = port; at = at }))
+heard_if table port at (Err fault) = (false, table)
+
+abbrev pub listened : Nodes → List ℕ → RingPort → ℕ → Bool × Nodes
+listened table payload port at = heard_if table port at (read_of payload)
 
 -- ---- what the rows stand for, over hearings that have the latest first
 

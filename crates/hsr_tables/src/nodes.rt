@@ -37,7 +37,7 @@ impl Model for NodeTable {
 }
 
 impl NodeTable {
-    ghost use Rattle.hsr_tables.specs.Nodes.{heard, no_nodes};
+    ghost use Rattle.hsr_tables.specs.Nodes.{heard, listened, no_nodes};
 
     /// A table that has heard nothing.
     pub fn new() -> Self
@@ -69,6 +69,21 @@ impl NodeTable {
         self.rows.truncate(63);
         self.rows.insert(0, (row, at));
         self.last = at;
+    }
+
+    /// Hears what a payload says, if it can be read, on a port at a moment in milliseconds, and tells whether
+    /// it could (IEC 62439-3 clause 5.7).
+    pub fn listen(&mut self, payload: &[u8], port: RingPort, at: u64) -> bool
+        requires { self.old.last ≤ at }
+        ensures { (result, self.new) ≡ listened self.old payload.now port at }
+    {
+        match Supervision::read(payload) {
+            Ok(said) => {
+                self.hear(&said, port, at);
+                true
+            }
+            Err(_) => false,
+        }
     }
 
     /// The nodes that aren't forgotten at this moment, the latest heard first.

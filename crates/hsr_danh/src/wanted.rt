@@ -1,0 +1,39 @@
+//! Which egresses want an arrival.
+ghost use Rattle.std.specs.Prelude.{◌≡◌, Result};
+ghost use Rattle.hsr_frame.specs.Egress.{in_mode};
+ghost use Rattle.hsr_danh.specs.Wanted.{wanted, wanted_tagged};
+
+use hsr_frame::{Cause, Exits, FrameFault, Mac, Mode, RingPort, Wants};
+use hsr_tag::{Seen, Tagged};
+
+/// What is wanted of what came to a ring port.
+pub fn wants_of(own: Mac, mode: Mode, port: RingPort, seen: &Result<Seen, FrameFault>) -> Wants
+    ensures { result ≡ wanted own mode port seen.now }
+{
+    match seen {
+        Err(fault) => Wants::nowhere(Cause::Malformed(*fault)),
+        Ok(Seen::Plain(_)) => Wants::nowhere(Cause::Untagged),
+        Ok(Seen::Tagged(frame)) => tagged_wants(own, mode, port, frame),
+    }
+}
+
+/// What is wanted of a tagged frame.
+fn tagged_wants(own: Mac, mode: Mode, port: RingPort, frame: &Tagged) -> Wants
+    ensures { result ≡ in_mode mode (wanted_tagged own port frame.now) }
+{
+    if frame.src == own {
+        return Wants::nowhere(Cause::Returned);
+    }
+    let goes_up = frame.dst == own || frame.dst.is_group();
+    let goes_on = frame.dst != own && mode == Mode::H;
+    Wants {
+        exits: Exits {
+            up: goes_up,
+            a: goes_on && port == RingPort::B,
+            b: goes_on && port == RingPort::A,
+            c: false,
+            d: false,
+        },
+        cause: Cause::Foreign,
+    }
+}

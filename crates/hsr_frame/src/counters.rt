@@ -1,0 +1,77 @@
+//! What a node counts.
+ghost use Rattle.std.specs.Prelude.{◌≡◌, ◌≤◌, ◌^◌};
+ghost use Rattle.hsr_frame.specs.Counters.{AreWithin, counted, dropped, no_counts};
+
+use crate::node::Cause;
+
+/// How often each thing happened at a node.
+#[derive(Clone, Copy, Debug, PartialEq, Eq)]
+pub struct Counters {
+    /// Sends that were accepted.
+    pub sent: u64,
+    /// Supervision frames that were sent.
+    pub life: u64,
+    /// Arrivals that were passed up.
+    pub up: u64,
+    /// Copies of arrivals that were passed to ports.
+    pub forwarded: u64,
+    pub duplicate: u64,
+    pub returned: u64,
+    pub foreign: u64,
+    pub local: u64,
+    pub untagged: u64,
+    pub tagged: u64,
+    pub malformed: u64,
+    /// Supervision frames whose payload could not be read.
+    pub bad_life: u64,
+}
+
+impl Counters {
+    /// Nothing happened yet.
+    pub fn new() -> Counters
+        ensures { result ≡ no_counts }
+    {
+        Counters {
+            sent: 0,
+            life: 0,
+            up: 0,
+            forwarded: 0,
+            duplicate: 0,
+            returned: 0,
+            foreign: 0,
+            local: 0,
+            untagged: 0,
+            tagged: 0,
+            malformed: 0,
+            bad_life: 0,
+        }
+    }
+
+    /// Counts an arrival by its cause, whether it went up, and the copies that left by ports.
+    pub fn count(&mut self, cause: Cause, up: bool, copies: u64)
+        requires within { AreWithin self.old (2 ^ 62) }
+        requires few { copies ≤ 3 }
+        ensures { self.new ≡ counted self.old cause up copies }
+    {
+        match cause {
+            Cause::Passed => {}
+            Cause::Duplicate => self.duplicate += 1,
+            Cause::Returned => self.returned += 1,
+            Cause::Foreign => self.foreign += 1,
+            Cause::Local => self.local += 1,
+            Cause::Untagged => self.untagged += 1,
+            Cause::Tagged => self.tagged += 1,
+            Cause::Malformed(_) => self.malformed += 1,
+        }
+        self.up += u64::from(up);
+        self.forwarded += copies;
+    }
+
+    /// How often an arrival was neither passed nor a duplicate nor the node's own frame.
+    pub fn dropped(&self) -> u64
+        requires { AreWithin self.now (2 ^ 62) }
+        ensures { result ≡ dropped self.now }
+    {
+        self.foreign + self.local + self.untagged + self.tagged + self.malformed
+    }
+}

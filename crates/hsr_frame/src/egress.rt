@@ -1,0 +1,80 @@
+//! Where a frame can leave a node.
+ghost use Rattle.std.specs.Prelude.{◌≡◌};
+ghost use Rattle.hsr_frame.specs.Egress.{cause_of, is_any, is_supervision, no_exits, nowhere};
+
+use crate::mac::Mac;
+use crate::node::Cause;
+
+/// The type of supervision frames (IEC 62439-3 clause 5.7).
+pub const SUPERVISION_TYPE: u16 = 0x88FB;
+
+/// A set of egresses: up, and ports. `c` is port C of a QuadBox, or a RedBox's interlink.
+#[derive(Clone, Copy, Debug, PartialEq, Eq)]
+pub struct Exits {
+    pub up: bool,
+    pub a: bool,
+    pub b: bool,
+    pub c: bool,
+    pub d: bool,
+}
+
+impl Exits {
+    /// No egress.
+    pub fn none() -> Exits
+        ensures { result ≡ no_exits }
+    {
+        Exits {
+            up: false,
+            a: false,
+            b: false,
+            c: false,
+            d: false,
+        }
+    }
+
+    /// Whether some egress is in the set.
+    pub fn is_any(self) -> bool
+        ensures { result ≡ is_any self }
+    {
+        self.up || self.a || self.b || self.c || self.d
+    }
+}
+
+/// The egresses that want a frame, and the cause where none does.
+#[derive(Clone, Copy, Debug, PartialEq, Eq)]
+pub struct Wants {
+    pub exits: Exits,
+    pub cause: Cause,
+}
+
+impl Wants {
+    /// No egress wants the frame.
+    pub fn nowhere(cause: Cause) -> Wants
+        ensures { result ≡ nowhere cause }
+    {
+        Wants {
+            exits: Exits::none(),
+            cause,
+        }
+    }
+
+    /// Why a frame that these egresses pass went where it did.
+    pub fn cause_of(self, passes: Exits) -> Cause
+        ensures { result ≡ cause_of self passes }
+    {
+        if passes.is_any() {
+            Cause::Passed
+        } else if self.exits.is_any() {
+            Cause::Duplicate
+        } else {
+            self.cause
+        }
+    }
+}
+
+/// Whether a frame of this destination and type is a supervision frame (IEC 62439-3 clause 5.7).
+pub fn is_supervision(dst: Mac, kind: u16) -> bool
+    ensures { result ≡ is_supervision dst kind }
+{
+    dst.is_supervision() && kind == SUPERVISION_TYPE
+}

@@ -1,0 +1,29 @@
+//! Why a node refuses to send.
+ghost use Rattle.std.specs.Prelude.{◌≡◌, ◌≢◌, ◌≤◌, ◌<◌, ◌^◌, IfNone};
+ghost use Rattle.hsr_frame.specs.Send.{send_refusal};
+
+use crate::fault::SendFault;
+use crate::mac::Mac;
+use crate::node::STEPS;
+use crate::octets::{HSR, VLAN};
+
+/// Why a send is refused, if it is: it goes to its own source, its type is that of a VLAN or HSR tag, as
+/// many steps as a node accepts are spent, or its payload has over 1500 octets. The first reason counts.
+pub fn send_fault(src: Mac, accepted: u64, dst: Mac, kind: u16, len: usize) -> Option<SendFault>
+    requires { accepted ≤ 2 ^ 62 }
+    ensures fault { result ≡ send_refusal src accepted dst kind len }
+    ensures room { IfNone result (accepted < 2 ^ 62) }
+    ensures formed { IfNone result ((kind ≢ 0x8100) × (kind ≢ 0x892F) × (len ≤ 1500)) }
+{
+    if dst == src {
+        Some(SendFault::SelfAddressed)
+    } else if kind == HSR || kind == VLAN {
+        Some(SendFault::ReservedType)
+    } else if accepted == STEPS {
+        Some(SendFault::Spent)
+    } else if len > 1500 {
+        Some(SendFault::TooLong)
+    } else {
+        None
+    }
+}
