@@ -1,5 +1,5 @@
 -- What the program does in a step is the step of the definition, and keeps what holds of each DANH.
-use Rattle.std.proofs.Common.{◌≡◌, ℕ, ◌+◌, ◌%◌, ◌<◌, ◌≤◌, ◌^◌, ◌==◌, Bool, true, false, not, ◌&&◌, if◌then◌else◌, List, [], ◌∷◌, Some, None, Result, Ok, Err, ap, sym, refl, arith, ◌∙◌}
+use Rattle.std.proofs.Common.{◌≡◌, ℕ, ◌+◌, ◌%◌, ◌<◌, ◌≤◌, ◌^◌, ◌==◌, Bool, true, false, not, ◌&&◌, if◌then◌else◌, List, [], ◌∷◌, Some, None, Result, Ok, Err, ap, ap₂, sym, arith, ◌∙◌}
 use Rattle.std.proofs.lemmas.Bool.Decides.{nat_tests}
 use Rattle.hsr_frame.specs.Counters.{AreWithin as CountersWithin, bit}
 use Rattle.hsr_frame.proofs.Counting.{AreWithin-counted_bad}
@@ -83,9 +83,9 @@ arrive-accepted capacity machine at x octets seen passes notes readable nodes no
     ) in
     let step : whole (passes, notes) (readable, nodes) ≡ after_arrival capacity machine now x seen
     = ap (λ o. whole o (readable, nodes)) outcome ∙ ap (λ h. whole (judged capacity machine.notes wants.exits seen now) h) hearing in
-    ap (λ (p : Verdict × Machine). (Ok p.0, p.1)) (step ∙ rw (at_now, read) refl) ∙ ap (arrive_or_spent capacity machine (now_at machine at) x octets) (sym (unspent machine.accepted some))
+    ap (λ (p : Verdict × Machine). (Ok p.0, p.1)) (step ∙ ap₂ (λ n s. after_arrival capacity machine n x s) at_now read) ∙ ap (arrive_or_spent capacity machine (now_at machine at) x octets) (sym (unspent machine.accepted some))
 
-notes-passed : (capacity : ℕ) (notes : Notes) (passes : Exits) (key : Key) (moment now accepted : ℕ) → moment ≤ now → AreWithin notes moment accepted → AreWithin (after_passes capacity notes passes key now) now (accepted + 1)
+pub notes-passed : (capacity : ℕ) (notes : Notes) (passes : Exits) (key : Key) (moment now accepted : ℕ) → moment ≤ now → AreWithin notes moment accepted → AreWithin (after_passes capacity notes passes key now) now (accepted + 1)
 notes-passed capacity notes passes key moment now accepted h w = record {
   up = IsWithin-pass capacity notes.up passes.up key moment now accepted h w.up;
   a = IsWithin-pass capacity notes.a passes.a key moment now accepted h w.a;

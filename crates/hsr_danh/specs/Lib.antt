@@ -5,3 +5,4 @@ pub mod Wanted
 pub mod Machine
 pub mod Step
 pub mod Life
+pub mod Past

@@ -239,3 +239,11 @@ fn count(counters: &mut Counters, verdict: Verdict, readable: bool)
     counters.count(verdict.cause, verdict.up, copies);
     counters.bad_life += u64::from(!readable);
 }
+
+ghost use Rattle.hsr_danh.specs.Past.{AnswersAsPast};
+
+/// After any list of calls a node has answered as the machine does that keeps its whole past and filters it, and its
+/// counters and the nodes that it knows are those of that past.
+pub fn answers_as_past<const C: usize>()
+    ensures { AnswersAsPast C }
+{}

@@ -6,7 +6,7 @@ mod life;
 mod tables;
 mod wanted;
 
-pub use danh::{Danh, Sent, Verdict};
+pub use danh::{Danh, Sent, Verdict, answers_as_past};
 pub use life::life_frame;
 
 #[cfg(test)]

@@ -1,0 +1,332 @@
+-- The stepping machine answers as its whole past.
+use Rattle.std.proofs.Common.{◌≡◌, ℕ, ◌+◌, ◌%◌, ◌≤◌, ◌^◌, ◌==◌, ◌&&◌, not, Bool, true, false, if◌then◌else◌, List, [], ◌∷◌, ◌++◌, map, Option, Some, None, Result, Ok, Err, refl, sym, ap, ap₂, subst, ◌∙◌, arith, add-zero}
+use Rattle.std.specs.Prelude.{max, fold, is_err}
+use Rattle.std.proofs.lemmas.List.{append-nil}
+use Rattle.std.proofs.lemmas.List.Sums.{fold-append}
+use Rattle.hsr_frame.specs.Address.{is_same_address}
+use Rattle.hsr_frame.specs.Counters.{bit, counted_cause}
+use Rattle.hsr_frame.specs.Egress.{Egress, up, a, b, exits_of, is_supervision}
+use Rattle.hsr_frame.specs.Send.{send_refusal}
+use Rattle.hsr_frame.specs.declared.counters.Counters.{Counters}
+use Rattle.hsr_frame.specs.declared.egress.Exits.{Exits}
+use Rattle.hsr_frame.specs.declared.egress.Wants.{Wants}
+use Rattle.hsr_frame.specs.declared.fault.FrameFault.{FrameFault}
+use Rattle.hsr_frame.specs.declared.fault.SendFault.{SendFault}
+use Rattle.hsr_frame.specs.declared.node.Cause.{Cause}
+use Rattle.hsr_frame.specs.declared.node.Cause.TheVariants as cause
+use Rattle.hsr_frame.specs.declared.node.Mode.{Mode}
+use Rattle.hsr_frame.specs.declared.node.RingPort.{RingPort}
+use Rattle.hsr_supervision.specs.Payload.{Fields, read_of}
+use Rattle.hsr_supervision.specs.declared.payload.SupFault.{SupFault}
+use Rattle.hsr_tag.specs.Seen.{classified}
+use Rattle.hsr_tag.specs.declared.seen.Seen.{Seen}
+use Rattle.hsr_tag.specs.declared.seen.Seen.TheVariants.{Plain, Tagged}
+use Rattle.hsr_duptable.specs.Key.{Key}
+use Rattle.hsr_duptable.specs.Log.{StandsFor, remembered}
+use Rattle.hsr_duptable.specs.Notes.{has_key}
+use Rattle.hsr_duptable.specs.Table.{Table, after_age, after_pass, remembers}
+use Rattle.hsr_duptable.specs.declared.note.Note.{Note}
+use Rattle.hsr_duptable.proofs.LogLaws.{StandsFor-age, StandsFor-new, StandsFor-note, remembers-StandsFor}
+use Rattle.hsr_duptable.proofs.Within.{IsWithin-age, IsWithin-empty}
+use Rattle.hsr_tables.specs.Known.{known}
+use Rattle.hsr_tables.specs.Nodes.{Hearing, Nodes, heard, heard_if, listened, no_nodes}
+use Rattle.hsr_danh.specs.Machine.{AreWithin, Machine, new_machine}
+use Rattle.hsr_danh.specs.Step.{after_arrival, after_numbered, age_step, arrive_or_spent, arrive_step, counted_with, heard_of, judged, key_of, life_or_spent, life_step, now_at, send_or_refuse, send_step, verdict_of}
+use Rattle.hsr_danh.specs.Wanted.{wanted}
+use Rattle.hsr_danh.specs.Past as deeds
+use Rattle.hsr_danh.specs.Past.{Answer, Call, Deed, Did, count_of, counters_of, done, gave_up, hearings_of, is_step, is_told, is_unreadable, judged_frame, log_of, number_after, moment_of, note_if, passes_from, past_step, remembers_of, sent_frame, sent_life, step, told_by, verdict_from}
+use Rattle.hsr_danh.specs.declared.danh.Verdict.{Verdict}
+use Rattle.hsr_tables.proofs.NodeLaws.{rows_of_latest}
+use Rattle.hsr_danh.proofs.Steps.{AreWithin-judged, notes-passed}
+
+-- what a machine holds is what its past gives
+record IsPastOf (capacity : ℕ) (machine : Machine) (past : List Deed) : Type 0 where
+  on_up : StandsFor capacity machine.notes.up (log_of machine.own up past)
+  on_a : StandsFor capacity machine.notes.a (log_of machine.own a past)
+  on_b : StandsFor capacity machine.notes.b (log_of machine.own b past)
+  within : AreWithin machine.notes machine.moment machine.accepted
+  nodes : machine.nodes ≡ fold heard no_nodes (hearings_of machine.own past)
+  next : machine.next ≡ number_after past
+  counters : machine.counters ≡ counters_of machine.own past
+  moment : machine.moment ≡ moment_of past
+  accepted : machine.accepted ≡ count_of is_step past
+
+-- the answers agree, what is held after is what the past after gives, and the node stays itself
+Kept : ℕ → Machine → Answer × Machine → Answer × List Deed → Type 0
+Kept capacity machine s p = (s.0 ≡ p.0) × IsPastOf capacity s.1 p.1 × (s.1.own ≡ machine.own) × (s.1.mode ≡ machine.mode)
+
+-- ---- logs
+
+StandsFor-pass : (capacity : ℕ) (table : Table) (log : List Note) (passes : Bool) (key : Key) (now : ℕ) → table.last ≤ now → StandsFor capacity table log
+    → StandsFor capacity (after_pass capacity table passes key now) (log ++ note_if passes key now)
+StandsFor-pass capacity table log true key now h s = StandsFor-note capacity table log key now h s
+StandsFor-pass capacity table log false key now h s = rw (append-nil log) s
+
+StandsFor-same : (capacity : ℕ) (table : Table) (log : List Note) → StandsFor capacity table log → StandsFor capacity table (log ++ [])
+StandsFor-same capacity table log s = rw (append-nil log) s
+
+heard-same : (nodes : Nodes) (hearings : List Hearing) → nodes ≡ fold heard no_nodes hearings → nodes ≡ fold heard no_nodes (hearings ++ [])
+heard-same nodes hearings e = rw (append-nil hearings) e
+
+-- ---- frames of the node's own
+
+-- the machine after a numbered frame, and a past that begins with it
+numbered : (capacity : ℕ) (machine : Machine) (past : List Deed) (now : ℕ) (counters : Counters) (did : Did)
+    → machine.moment ≤ now → IsPastOf capacity machine past
+    → ((egress : Egress) → deeds.noted_by machine.own egress now did ≡ note_if (deeds.is_ring egress) (record { src = machine.own; seq = machine.next }) now)
+    → deeds.heard_by machine.own now did ≡ [] → deeds.is_numbered did ≡ true → is_step did ≡ true
+    → counters ≡ counters_of machine.own (record { now = now; did = did } ∷ past)
+    → IsPastOf capacity (after_numbered capacity machine now counters) (record { now = now; did = did } ∷ past)
+numbered capacity machine past now counters did later r noted silent counts steps counted =
+    let key : Key = record { src = machine.own; seq = machine.next } in
+    let log : Egress → List Note = λ egress. log_of machine.own egress past in
+    record {
+      on_up = rw (noted up) (StandsFor-same capacity machine.notes.up (log up) r.on_up);
+      on_a = rw (noted a) (StandsFor-note capacity machine.notes.a (log a) key now (omega (arith, r.within.a.last)) r.on_a);
+      on_b = rw (noted b) (StandsFor-note capacity machine.notes.b (log b) key now (omega (arith, r.within.b.last)) r.on_b);
+      within = notes-passed capacity machine.notes (exits_of (a ∷ b ∷ [])) key machine.moment now machine.accepted later r.within;
+      nodes = rw silent (heard-same machine.nodes (hearings_of machine.own past) r.nodes);
+      next = rw counts (omega (arith, r.next));
+      counters = counted;
+      moment = refl;
+      accepted = rw steps (ap (λ n. n + 1) r.accepted);
+    }
+
+later-max : (m n : ℕ) → m ≤ max m n
+later-max m n = omega arith
+
+send-case : (capacity : ℕ) (machine : Machine) (past : List Deed) (at : ℕ) (refusal : Option SendFault) → IsPastOf capacity machine past
+    → let s = send_or_refuse capacity machine (now_at machine at) refusal in Kept capacity machine (deeds.sent s.0, s.1) (deeds.send_from past at refusal)
+unfolding Kept
+send-case capacity machine past at (Some fault) r = (refl, r, refl, refl)
+send-case capacity machine past at None r =
+    let deed : record { now = now_at machine at; did = sent_frame machine.next } ≡ record { now = max (moment_of past) at; did = sent_frame (number_after past) }
+    = λ i. record { now = max (r.moment i) at; did = sent_frame (r.next i) } in (
+      ap (λ n. deeds.sent (Ok (record { seq = n }))) r.next,
+      subst (λ (d : Deed). IsPastOf capacity (after_numbered capacity machine (now_at machine at) (record machine.counters { sent = machine.counters.sent + 1 })) (d ∷ past)) deed
+          (numbered capacity machine past (now_at machine at) (record machine.counters { sent = machine.counters.sent + 1 }) (sent_frame machine.next) (later-max machine.moment at) r (λ egress. refl) refl refl refl
+          (ap (λ (c : Counters). record c { sent = c.sent + 1 }) r.counters)),
+      refl,
+      refl,
+    )
+
+life-case : (capacity : ℕ) (machine : Machine) (past : List Deed) (at : ℕ) (spent : Bool) → IsPastOf capacity machine past
+    → let s = life_or_spent capacity machine (now_at machine at) spent in Kept capacity machine (deeds.lived s.0, s.1) (deeds.life_from past at spent)
+unfolding Kept
+life-case capacity machine past at true r = (refl, r, refl, refl)
+life-case capacity machine past at false r =
+    let deed : record { now = now_at machine at; did = sent_life machine.next } ≡ record { now = max (moment_of past) at; did = sent_life (number_after past) }
+    = λ i. record { now = max (r.moment i) at; did = sent_life (r.next i) } in (
+      ap₂ (λ n (c : Counters). deeds.lived (Ok (record { seq = n; life = c.life % 65536 }))) r.next r.counters,
+      subst (λ (d : Deed). IsPastOf capacity (after_numbered capacity machine (now_at machine at) (record machine.counters { life = machine.counters.life + 1 })) (d ∷ past)) deed
+          (numbered capacity machine past (now_at machine at) (record machine.counters { life = machine.counters.life + 1 }) (sent_life machine.next) (later-max machine.moment at) r (λ egress. refl) refl refl refl
+          (ap (λ (c : Counters). record c { life = c.life + 1 }) r.counters)),
+      refl,
+      refl,
+    )
+
+-- ---- arrivals
+
+remembers-same : (capacity : ℕ) (machine : Machine) (past : List Deed) (now : ℕ) (key : Key) (table : Table) (egress : Egress) → table.last ≤ now → table.forget ≡ 400
+    → StandsFor capacity table (log_of machine.own egress past) → remembers table key now ≡ remembers_of capacity machine.own past now key egress
+remembers-same capacity machine past now key table egress h forget s =
+    remembers-StandsFor capacity table (log_of machine.own egress past) key now h s
+    ∙ ap (λ n. has_key key (remembered capacity n (log_of machine.own egress past) now)) forget
+
+passes-same : (capacity : ℕ) (machine : Machine) (past : List Deed) (now : ℕ) (exits : Exits) (seen : Result Seen FrameFault) → machine.moment ≤ now → IsPastOf capacity machine past
+    → (judged capacity machine.notes exits seen now).0 ≡ passes_from capacity machine.own past now exits seen
+passes-same capacity machine past now exits (Err fault) h r = refl
+passes-same capacity machine past now exits (Ok (Plain frame)) h r = refl
+passes-same capacity machine past now exits (Ok (Tagged frame)) h r =
+    let key = key_of frame in
+    let on_up = remembers-same capacity machine past now key machine.notes.up up (omega (arith, r.within.up.last)) r.within.up.forget r.on_up in
+    let on_a = remembers-same capacity machine past now key machine.notes.a a (omega (arith, r.within.a.last)) r.within.a.forget r.on_a in
+    let on_b = remembers-same capacity machine past now key machine.notes.b b (omega (arith, r.within.b.last)) r.within.b.forget r.on_b in
+    λ i. record exits { up = exits.up && not (on_up i); a = exits.a && not (on_a i); b = exits.b && not (on_b i) }
+
+-- the log of an egress that passes or doesn't, over any table of it
+logged-up : (capacity : ℕ) (machine : Machine) (past : List Deed) (now : ℕ) (wants : Wants) (x : RingPort) (seen : Result Seen FrameFault) → machine.moment ≤ now → IsPastOf capacity machine past
+    → let outcome = judged capacity machine.notes wants.exits seen now in
+    StandsFor capacity outcome.1.up (log_of machine.own up (record { now = now; did = judged_frame x seen (verdict_of wants outcome.0) } ∷ past))
+logged-up capacity machine past now wants x (Err fault) h r = StandsFor-same capacity machine.notes.up (log_of machine.own up past) r.on_up
+logged-up capacity machine past now wants x (Ok (Plain frame)) h r = StandsFor-same capacity machine.notes.up (log_of machine.own up past) r.on_up
+logged-up capacity machine past now wants x (Ok (Tagged frame)) h r =
+    StandsFor-pass capacity machine.notes.up (log_of machine.own up past) (judged capacity machine.notes wants.exits (Ok (Tagged frame)) now).0.up (key_of frame) now (omega (arith, r.within.up.last)) r.on_up
+
+logged-a : (capacity : ℕ) (machine : Machine) (past : List Deed) (now : ℕ) (wants : Wants) (x : RingPort) (seen : Result Seen FrameFault) → machine.moment ≤ now → IsPastOf capacity machine past
+    → let outcome = judged capacity machine.notes wants.exits seen now in
+    StandsFor capacity outcome.1.a (log_of machine.own a (record { now = now; did = judged_frame x seen (verdict_of wants outcome.0) } ∷ past))
+logged-a capacity machine past now wants x (Err fault) h r = StandsFor-same capacity machine.notes.a (log_of machine.own a past) r.on_a
+logged-a capacity machine past now wants x (Ok (Plain frame)) h r = StandsFor-same capacity machine.notes.a (log_of machine.own a past) r.on_a
+logged-a capacity machine past now wants x (Ok (Tagged frame)) h r =
+    StandsFor-pass capacity machine.notes.a (log_of machine.own a past) (judged capacity machine.notes wants.exits (Ok (Tagged frame)) now).0.a (key_of frame) now (omega (arith, r.within.a.last)) r.on_a
+
+logged-b : (capacity : ℕ) (machine : Machine) (past : List Deed) (now : ℕ) (wants : Wants) (x : RingPort) (seen : Result Seen FrameFault) → machine.moment ≤ now → IsPastOf capacity machine past
+    → let outcome = judged capacity machine.notes wants.exits seen now in
+    StandsFor capacity outcome.1.b (log_of machine.own b (record { now = now; did = judged_frame x seen (verdict_of wants outcome.0) } ∷ past))
+logged-b capacity machine past now wants x (Err fault) h r = StandsFor-same capacity machine.notes.b (log_of machine.own b past) r.on_b
+logged-b capacity machine past now wants x (Ok (Plain frame)) h r = StandsFor-same capacity machine.notes.b (log_of machine.own b past) r.on_b
+logged-b capacity machine past now wants x (Ok (Tagged frame)) h r =
+    StandsFor-pass capacity machine.notes.b (log_of machine.own b past) (judged capacity machine.notes wants.exits (Ok (Tagged frame)) now).0.b (key_of frame) now (omega (arith, r.within.b.last)) r.on_b
+
+-- what is heard, and whether it could be read
+told-same : (told : Bool) (payload : List ℕ) (nodes : Nodes) (x : RingPort) (now : ℕ)
+    → let h = if told then listened nodes payload x now else (true, nodes) in
+    (h.1 ≡ fold heard nodes (if told then deeds.hearing_if x now (read_of payload) else [])) × (not h.0 ≡ (if told then is_err (read_of payload) else false))
+told-same false payload nodes x now = (refl, refl)
+told-same true payload nodes x now = by_read (read_of payload)
+  where
+    by_read : (said : Result Fields SupFault) → ((heard_if nodes x now said).1 ≡ fold heard nodes (deeds.hearing_if x now said)) × (not (heard_if nodes x now said).0 ≡ is_err said)
+    by_read (Ok said) = (refl, refl)
+    by_read (Err fault) = (refl, refl)
+
+heard-told : (own : List ℕ) (nodes : Nodes) (x : RingPort) (seen : Result Seen FrameFault) (verdict : Verdict) (now : ℕ)
+    → ((heard_of own nodes x seen now).1 ≡ fold heard nodes (deeds.heard_by own now (judged_frame x seen verdict))) × (not (heard_of own nodes x seen now).0 ≡ is_unreadable own (judged_frame x seen verdict))
+heard-told own nodes x (Err fault) verdict now = (refl, refl)
+heard-told own nodes x (Ok (Plain frame)) verdict now = (refl, refl)
+heard-told own nodes x (Ok (Tagged frame)) verdict now = told-same (is_supervision frame.dst frame.kind && not (is_same_address frame.src own)) frame.payload nodes x now
+
+one-more : (p : Bool) (n : ℕ) → n + bit p ≡ (if p then n + 1 else n)
+one-more true n = refl
+one-more false n = add-zero n
+
+two_more : (p q : Bool) (m n : ℕ) → m + n + (bit p + bit q) ≡ (if p then m + 1 else m) + (if q then n + 1 else n)
+two_more true true m n = omega arith
+two_more true false m n = omega arith
+two_more false true m n = omega arith
+two_more false false m n = omega arith
+
+counted-same : (own : List ℕ) (past : List Deed) (now : ℕ) (x : RingPort) (seen : Result Seen FrameFault) (verdict : Verdict) (readable : Bool) → not readable ≡ is_unreadable own (judged_frame x seen verdict)
+    → counted_with (counters_of own past) verdict readable ≡ counters_of own (record { now = now; did = judged_frame x seen verdict } ∷ past)
+counted-same own past now x seen verdict readable bad = by_cause verdict.cause
+  where
+    ups : (counters_of own past).up + bit verdict.up ≡ count_of (deeds.has (λ v. v.up)) (record { now = now; did = judged_frame x seen verdict } ∷ past)
+    ups = one-more verdict.up (counters_of own past).up
+
+    forwards : (counters_of own past).forwarded + (bit verdict.a + bit verdict.b) ≡ (counters_of own (record { now = now; did = judged_frame x seen verdict } ∷ past)).forwarded
+    forwards = two_more verdict.a verdict.b (count_of (deeds.has (λ v. v.a)) past) (count_of (deeds.has (λ v. v.b)) past)
+
+    bads : (counters_of own past).bad_life + bit (not readable) ≡ count_of (is_unreadable own) (record { now = now; did = judged_frame x seen verdict } ∷ past)
+    bads = ap (λ p. (counters_of own past).bad_life + bit p) bad ∙ one-more (is_unreadable own (judged_frame x seen verdict)) (counters_of own past).bad_life
+
+    by_cause : (k : Cause) → counted_with (counters_of own past) (record verdict { cause = k }) readable
+        ≡ record (counters_of own (record { now = now; did = judged_frame x seen (record verdict { cause = k }) } ∷ past)) { bad_life = (counters_of own (record { now = now; did = judged_frame x seen verdict } ∷ past)).bad_life }
+    by_cause (cause.Malformed fault) = λ i. record (counted_cause (counters_of own past) (cause.Malformed fault)) { up = ups i; forwarded = forwards i; bad_life = bads i }
+    by_cause cause.Passed = λ i. record (counted_cause (counters_of own past) cause.Passed) { up = ups i; forwarded = forwards i; bad_life = bads i }
+    by_cause cause.Duplicate = λ i. record (counted_cause (counters_of own past) cause.Duplicate) { up = ups i; forwarded = forwards i; bad_life = bads i }
+    by_cause cause.Returned = λ i. record (counted_cause (counters_of own past) cause.Returned) { up = ups i; forwarded = forwards i; bad_life = bads i }
+    by_cause cause.Foreign = λ i. record (counted_cause (counters_of own past) cause.Foreign) { up = ups i; forwarded = forwards i; bad_life = bads i }
+    by_cause cause.Local = λ i. record (counted_cause (counters_of own past) cause.Local) { up = ups i; forwarded = forwards i; bad_life = bads i }
+    by_cause cause.Untagged = λ i. record (counted_cause (counters_of own past) cause.Untagged) { up = ups i; forwarded = forwards i; bad_life = bads i }
+    by_cause cause.Tagged = λ i. record (counted_cause (counters_of own past) cause.Tagged) { up = ups i; forwarded = forwards i; bad_life = bads i }
+
+arrive-case : (capacity : ℕ) (machine : Machine) (past : List Deed) (at : ℕ) (x : RingPort) (octets : List ℕ) (spent : Bool) → IsPastOf capacity machine past
+    → let s = arrive_or_spent capacity machine (now_at machine at) x octets spent in Kept capacity machine (deeds.judged s.0, s.1) (deeds.arrive_from capacity machine.own machine.mode past at x (classified octets) spent)
+unfolding Kept
+arrive-case capacity machine past at x octets true r = (refl, r, refl, refl)
+arrive-case capacity machine past at x octets false r =
+    let now = now_at machine at in
+    let later = later-max machine.moment at in
+    let seen = classified octets in
+    let wants = wanted machine.own machine.mode x seen in
+    let outcome = judged capacity machine.notes wants.exits seen now in
+    let verdict = verdict_of wants outcome.0 in
+    let told = heard-told machine.own machine.nodes x seen verdict now in
+    let same : verdict ≡ verdict_from capacity machine.own machine.mode past (max (moment_of past) at) x seen
+    = ap (λ (passes : Exits). verdict_of wants passes) (passes-same capacity machine past now wants.exits seen later r)
+    ∙ ap (λ n. verdict_from capacity machine.own machine.mode past (max n at) x seen) r.moment in
+    let deed : record { now = now; did = judged_frame x seen verdict } ≡ record { now = max (moment_of past) at; did = judged_frame x seen (verdict_from capacity machine.own machine.mode past (max (moment_of past) at) x seen) }
+    = λ i. record { now = max (r.moment i) at; did = judged_frame x seen (same i) } in (
+      ap (λ (v : Verdict). deeds.judged (Ok v)) same,
+      subst (λ (d : Deed). IsPastOf capacity (after_arrival capacity machine now x seen).1 (d ∷ past)) deed (record {
+        on_up = logged-up capacity machine past now wants x seen later r;
+        on_a = logged-a capacity machine past now wants x seen later r;
+        on_b = logged-b capacity machine past now wants x seen later r;
+        within = AreWithin-judged capacity machine.notes wants.exits seen machine.moment now machine.accepted later r.within;
+        nodes = told.0 ∙ ap (λ (n : Nodes). fold heard n (deeds.heard_by machine.own now (judged_frame x seen verdict))) r.nodes
+            ∙ sym (fold-append heard no_nodes (hearings_of machine.own past) (deeds.heard_by machine.own now (judged_frame x seen verdict)));
+        next = r.next;
+        counters = ap (λ (c : Counters). counted_with c verdict (heard_of machine.own machine.nodes x seen now).0) r.counters
+            ∙ counted-same machine.own past now x seen verdict (heard_of machine.own machine.nodes x seen now).0 told.1;
+        moment = refl;
+        accepted = ap (λ n. n + 1) r.accepted;
+      }),
+      refl,
+      refl,
+    )
+
+-- ---- ageing
+
+age-case : (capacity : ℕ) (machine : Machine) (past : List Deed) (at : ℕ) → IsPastOf capacity machine past → IsPastOf capacity (age_step machine at) (done past at gave_up)
+age-case capacity machine past at r =
+    let now = now_at machine at in
+    let after : IsPastOf capacity (age_step machine at) (record { now = now; did = gave_up } ∷ past) = record {
+      on_up = StandsFor-same capacity (after_age machine.notes.up now) (log_of machine.own up past) (StandsFor-age capacity machine.notes.up (log_of machine.own up past) now (omega (arith, r.within.up.last)) r.on_up);
+      on_a = StandsFor-same capacity (after_age machine.notes.a now) (log_of machine.own a past) (StandsFor-age capacity machine.notes.a (log_of machine.own a past) now (omega (arith, r.within.a.last)) r.on_a);
+      on_b = StandsFor-same capacity (after_age machine.notes.b now) (log_of machine.own b past) (StandsFor-age capacity machine.notes.b (log_of machine.own b past) now (omega (arith, r.within.b.last)) r.on_b);
+      within = record {
+        up = IsWithin-age machine.notes.up machine.moment now machine.accepted r.within.up;
+        a = IsWithin-age machine.notes.a machine.moment now machine.accepted r.within.a;
+        b = IsWithin-age machine.notes.b machine.moment now machine.accepted r.within.b;
+      };
+      nodes = heard-same machine.nodes (hearings_of machine.own past) r.nodes;
+      next = r.next;
+      counters = r.counters;
+      moment = refl;
+      accepted = r.accepted;
+    } in
+    let deed : record { now = now; did = gave_up } ≡ record { now = max (moment_of past) at; did = gave_up } = λ i. record { now = max (r.moment i) at; did = gave_up } in
+    subst (λ (d : Deed). IsPastOf capacity (age_step machine at) (d ∷ past)) deed after
+
+-- ---- a call, and all calls
+
+kept : (capacity : ℕ) (machine : Machine) (past : List Deed) (call : Call) → IsPastOf capacity machine past → Kept capacity machine (step capacity machine call) (past_step capacity machine.own machine.mode past call)
+unfolding Kept send_step life_step arrive_step
+kept capacity machine past (deeds.sending at dst kind len) r =
+    subst (λ n. Kept capacity machine (step capacity machine (deeds.sending at dst kind len)) (deeds.send_from past at (send_refusal machine.own n dst kind len))) r.accepted
+    (send-case capacity machine past at (send_refusal machine.own machine.accepted dst kind len) r)
+kept capacity machine past (deeds.supervising at) r =
+    subst (λ n. Kept capacity machine (step capacity machine (deeds.supervising at)) (deeds.life_from past at (n == 2 ^ 62))) r.accepted
+    (life-case capacity machine past at (machine.accepted == 2 ^ 62) r)
+kept capacity machine past (deeds.arriving at x octets) r =
+    subst (λ n. Kept capacity machine (step capacity machine (deeds.arriving at x octets)) (deeds.arrive_from capacity machine.own machine.mode past at x (classified octets) (n == 2 ^ 62))) r.accepted
+    (arrive-case capacity machine past at x octets (machine.accepted == 2 ^ 62) r)
+kept capacity machine past (deeds.ageing at) r = (refl, age-case capacity machine past at r, refl, refl)
+
+runs : (capacity : ℕ) (own : List ℕ) (mode : Mode) (machine : Machine) (past : List Deed) (calls : List Call) → machine.own ≡ own → machine.mode ≡ mode → IsPastOf capacity machine past
+    → let after = deeds.after_calls capacity machine calls in
+    (deeds.answers capacity machine calls ≡ deeds.past_answers capacity own mode past calls) × IsPastOf capacity after (deeds.past_after capacity own mode past calls) × (after.own ≡ own)
+unfolding Kept
+runs capacity own mode machine past [] is_own is_mode r = (refl, r, is_own)
+runs capacity own mode machine past (call ∷ calls) is_own is_mode r =
+    let one = subst₂ own mode is_own is_mode in
+    let more = runs capacity own mode (step capacity machine call).1 (past_step capacity own mode past call).1 calls (one.2 ∙ is_own) (one.3 ∙ is_mode) one.1 in
+    (ap₂ (λ (x : Answer) xs. x ∷ xs) one.0 more.0, more.1, more.2)
+  where
+    subst₂ : (own : List ℕ) (mode : Mode) → machine.own ≡ own → machine.mode ≡ mode → Kept capacity machine (step capacity machine call) (past_step capacity own mode past call)
+    subst₂ own mode e f = subst (λ o. Kept capacity machine (step capacity machine call) (past_step capacity o mode past call)) e
+        (subst (λ m. Kept capacity machine (step capacity machine call) (past_step capacity machine.own m past call)) f (kept capacity machine past call r))
+
+begins : (capacity : ℕ) (own : List ℕ) (mode : Mode) → IsPastOf capacity (new_machine own mode) []
+begins capacity own mode = record {
+  on_up = StandsFor-new capacity 400;
+  on_a = StandsFor-new capacity 400;
+  on_b = StandsFor-new capacity 400;
+  within = record { up = IsWithin-empty; a = IsWithin-empty; b = IsWithin-empty };
+  nodes = refl;
+  next = refl;
+  counters = refl;
+  moment = refl;
+  accepted = refl;
+}
+
+pub answers_as_past : (capacity : ℕ) → deeds.AnswersAsPast capacity
+answers_as_past capacity own mode calls =
+    let ran = runs capacity own mode (new_machine own mode) [] calls refl refl (begins capacity own mode) in
+    let past = deeds.past_after capacity own mode [] calls in
+    let held = ran.1 in (
+      ran.0,
+      held.counters ∙ ap (λ (o : List ℕ). counters_of o past) ran.2,
+      λ at. ap (λ (n : Nodes). map (λ r. r.0) (known at n.rows)) held.nodes ∙ ap (λ (o : List ℕ). map (λ r. r.0) (known at (fold heard no_nodes (hearings_of o past)).rows)) ran.2
+          ∙ rows_of_latest (hearings_of own past) at,
+    )

@@ -1,0 +1,292 @@
+-- The machine that keeps its whole past, and answers by filtering it.
+use Rattle.std.specs.Prelude.{◌≡◌, ℕ, ◌+◌, ◌%◌, ◌^◌, ◌==◌, ◌&&◌, not, max, Bool, true, false, List, [], ◌∷◌, ◌++◌, filter, map, reverse, Option, Some, None, Result, Ok, Err, if◌then◌else◌, is_err}
+use Rattle.hsr_frame.specs.Address.{is_same_address}
+use Rattle.hsr_frame.specs.Egress.{Egress, up, a, b, c, d, is_supervision}
+use Rattle.hsr_frame.specs.Send.{send_refusal}
+use Rattle.hsr_frame.specs.declared.counters.Counters.{Counters}
+use Rattle.hsr_frame.specs.declared.egress.Exits.{Exits}
+use Rattle.hsr_frame.specs.declared.fault.FrameFault.{FrameFault}
+use Rattle.hsr_frame.specs.declared.fault.SendFault.{SendFault}
+use Rattle.hsr_frame.specs.declared.fault.Spent.{Spent}
+use Rattle.hsr_frame.specs.declared.node.Cause.{Cause}
+use Rattle.hsr_frame.specs.declared.node.Cause.TheVariants as cause
+use Rattle.hsr_frame.specs.declared.node.Life.{Life}
+use Rattle.hsr_frame.specs.declared.node.Mode.{Mode}
+use Rattle.hsr_frame.specs.declared.node.RingPort.{RingPort}
+use Rattle.hsr_supervision.specs.Payload.{Fields, read_of}
+use Rattle.hsr_supervision.specs.declared.payload.SupFault.{SupFault}
+use Rattle.hsr_tag.specs.Seen.{classified}
+use Rattle.hsr_tag.specs.declared.seen.Seen.{Seen}
+use Rattle.hsr_tag.specs.declared.seen.Seen.TheVariants.{Plain, Tagged}
+use Rattle.hsr_duptable.specs.Key.{Key}
+use Rattle.hsr_duptable.specs.Notes.{has_key}
+use Rattle.hsr_duptable.specs.Log.{remembered}
+use Rattle.hsr_duptable.specs.declared.note.Note.{Note}
+use Rattle.hsr_tables.specs.Known.{is_young, known, latest_64}
+use Rattle.hsr_tables.specs.Nodes.{Hearing, row_after}
+use Rattle.hsr_tables.specs.declared.nodes.NodeRow.{NodeRow}
+use Rattle.hsr_danh.specs.Machine.{Machine, new_machine}
+use Rattle.hsr_danh.specs.Step.{age_step, arrive_step, key_of, life_step, send_step, verdict_of}
+use Rattle.hsr_danh.specs.Wanted.{wanted}
+use Rattle.hsr_danh.specs.declared.danh.Sent.{Sent}
+use Rattle.hsr_danh.specs.declared.danh.Verdict.{Verdict}
+
+-- ---- calls and answers
+
+pub data Call : Type 0 where
+  sending : (at : ℕ) → (dst : List ℕ) → (kind len : ℕ) → Call
+  supervising : (at : ℕ) → Call
+  arriving : (at : ℕ) → (x : RingPort) → (octets : List ℕ) → Call
+  ageing : (at : ℕ) → Call
+
+pub data Answer : Type 0 where
+  sent : Result Sent SendFault → Answer
+  lived : Result Life Spent → Answer
+  judged : Result Verdict Spent → Answer
+  aged : Answer
+
+-- the stepping machine
+abbrev pub step : ℕ → Machine → Call → Answer × Machine
+step capacity machine (sending at dst kind len) = let s = send_step capacity machine at dst kind len in (sent s.0, s.1)
+step capacity machine (supervising at) = let s = life_step capacity machine at in (lived s.0, s.1)
+step capacity machine (arriving at x octets) = let s = arrive_step capacity machine at x octets in (judged s.0, s.1)
+step capacity machine (ageing at) = (aged, age_step machine at)
+
+abbrev pub answers : ℕ → Machine → List Call → List Answer
+answers capacity machine [] = []
+answers capacity machine (call ∷ calls) = (step capacity machine call).0 ∷ answers capacity (step capacity machine call).1 calls
+
+abbrev pub after_calls : ℕ → Machine → List Call → Machine
+after_calls capacity machine [] = machine
+after_calls capacity machine (call ∷ calls) = after_calls capacity (step capacity machine call).1 calls
+
+-- ---- the past: all that was done, the latest first, each at its effective moment; a refusal does nothing
+
+pub data Did : Type 0 where
+  sent_frame : (seq : ℕ) → Did
+  sent_life : (seq : ℕ) → Did
+  judged_frame : (x : RingPort) → (seen : Result Seen FrameFault) → (verdict : Verdict) → Did
+  gave_up : Did
+
+pub record Deed : Type 0 where
+  pub now : ℕ
+  pub did : Did
+
+abbrev pub count_of : (Did → Bool) → List Deed → ℕ
+count_of p [] = 0
+count_of p (deed ∷ past) = if p deed.did then count_of p past + 1 else count_of p past
+
+-- the greatest moment so far
+abbrev pub moment_of : List Deed → ℕ
+moment_of [] = 0
+moment_of (deed ∷ past) = deed.now
+
+abbrev pub is_step : Did → Bool
+is_step (sent_frame seq) = true
+is_step (sent_life seq) = true
+is_step (judged_frame x seen verdict) = true
+is_step gave_up = false
+
+abbrev pub is_sent : Did → Bool
+is_sent (sent_frame seq) = true
+is_sent (sent_life seq) = false
+is_sent (judged_frame x seen verdict) = false
+is_sent gave_up = false
+
+abbrev pub is_life : Did → Bool
+is_life (sent_frame seq) = false
+is_life (sent_life seq) = true
+is_life (judged_frame x seen verdict) = false
+is_life gave_up = false
+
+abbrev pub is_numbered : Did → Bool
+is_numbered (sent_frame seq) = true
+is_numbered (sent_life seq) = true
+is_numbered (judged_frame x seen verdict) = false
+is_numbered gave_up = false
+
+-- the number of the next frame
+abbrev pub number_after : List Deed → ℕ
+number_after past = count_of is_numbered past % 65536
+
+-- ---- the log of an egress: a note for each numbered frame that it passed, the oldest first, never shortened
+
+abbrev pub is_ring : Egress → Bool
+is_ring up = false
+is_ring a = true
+is_ring b = true
+is_ring c = false
+is_ring d = false
+
+abbrev pub passed : Verdict → Egress → Bool
+passed verdict up = verdict.up
+passed verdict a = verdict.a
+passed verdict b = verdict.b
+passed verdict c = false
+passed verdict d = false
+
+abbrev pub note_if : Bool → Key → ℕ → List Note
+note_if noted key now = if noted then record { key = key; moment = now } ∷ [] else []
+
+abbrev pub noted_by : List ℕ → Egress → ℕ → Did → List Note
+noted_by own egress now (sent_frame seq) = note_if (is_ring egress) (record { src = own; seq = seq }) now
+noted_by own egress now (sent_life seq) = note_if (is_ring egress) (record { src = own; seq = seq }) now
+noted_by own egress now (judged_frame x (Err fault) verdict) = []
+noted_by own egress now (judged_frame x (Ok (Plain frame)) verdict) = []
+noted_by own egress now (judged_frame x (Ok (Tagged frame)) verdict) = note_if (passed verdict egress) (key_of frame) now
+noted_by own egress now gave_up = []
+
+abbrev pub log_of : List ℕ → Egress → List Deed → List Note
+log_of own egress [] = []
+log_of own egress (deed ∷ past) = log_of own egress past ++ noted_by own egress deed.now deed.did
+
+-- an egress remembers a frame: of its last notes, as many as a table has entries, one is younger than 400 milliseconds and has the key
+abbrev pub remembers_of : ℕ → List ℕ → List Deed → ℕ → Key → Egress → Bool
+remembers_of capacity own past now key egress = has_key key (remembered capacity 400 (log_of own egress past) now)
+
+-- ---- hearings: readable tagged supervision frames of other nodes, the earliest first
+
+abbrev pub is_told : List ℕ → Result Seen FrameFault → Bool
+is_told own (Err fault) = false
+is_told own (Ok (Plain frame)) = false
+is_told own (Ok (Tagged frame)) = is_supervision frame.dst frame.kind && not (is_same_address frame.src own)
+
+abbrev pub told_by : Result Seen FrameFault → Result Fields SupFault
+told_by (Err fault) = read_of []
+told_by (Ok (Plain frame)) = read_of []
+told_by (Ok (Tagged frame)) = read_of frame.payload
+
+abbrev pub hearing_if : RingPort → ℕ → Result Fields SupFault → List Hearing
+hearing_if x now (Ok said) = record { said = said; port = x; at = now } ∷ []
+hearing_if x now (Err fault) = []
+
+abbrev pub heard_by : List ℕ → ℕ → Did → List Hearing
+heard_by own now (sent_frame seq) = []
+heard_by own now (sent_life seq) = []
+heard_by own now (judged_frame x seen verdict) = if is_told own seen then hearing_if x now (told_by seen) else []
+heard_by own now gave_up = []
+
+abbrev pub hearings_of : List ℕ → List Deed → List Hearing
+hearings_of own [] = []
+hearings_of own (deed ∷ past) = hearings_of own past ++ heard_by own deed.now deed.did
+
+abbrev pub is_unreadable : List ℕ → Did → Bool
+is_unreadable own (sent_frame seq) = false
+is_unreadable own (sent_life seq) = false
+is_unreadable own (judged_frame x seen verdict) = if is_told own seen then is_err (told_by seen) else false
+is_unreadable own gave_up = false
+
+-- the rows of the nodes that are known at a moment
+abbrev pub rows_of : List ℕ → List Deed → ℕ → List NodeRow
+rows_of own past at =
+    let latest_first = reverse (hearings_of own past) in
+    map (row_after latest_first) (filter (λ h. is_young at h.at) (latest_64 (λ h. h.said.about) latest_first))
+
+-- ---- counters: how often each thing was done
+
+abbrev pub has : (Verdict → Bool) → Did → Bool
+has p (sent_frame seq) = false
+has p (sent_life seq) = false
+has p (judged_frame x seen verdict) = p verdict
+has p gave_up = false
+
+abbrev pub is_duplicate : Cause → Bool
+is_duplicate cause.Duplicate = true
+is_duplicate _ = false
+
+abbrev pub is_returned : Cause → Bool
+is_returned cause.Returned = true
+is_returned _ = false
+
+abbrev pub is_foreign : Cause → Bool
+is_foreign cause.Foreign = true
+is_foreign _ = false
+
+abbrev pub is_local : Cause → Bool
+is_local cause.Local = true
+is_local _ = false
+
+abbrev pub is_untagged : Cause → Bool
+is_untagged cause.Untagged = true
+is_untagged _ = false
+
+abbrev pub is_tagged : Cause → Bool
+is_tagged cause.Tagged = true
+is_tagged _ = false
+
+abbrev pub is_malformed : Cause → Bool
+is_malformed (cause.Malformed fault) = true
+is_malformed _ = false
+
+abbrev pub counters_of : List ℕ → List Deed → Counters
+counters_of own past = record {
+  sent = count_of is_sent past;
+  life = count_of is_life past;
+  up = count_of (has (λ v. v.up)) past;
+  forwarded = count_of (has (λ v. v.a)) past + count_of (has (λ v. v.b)) past;
+  duplicate = count_of (has (λ v. is_duplicate v.cause)) past;
+  returned = count_of (has (λ v. is_returned v.cause)) past;
+  foreign = count_of (has (λ v. is_foreign v.cause)) past;
+  local = count_of (has (λ v. is_local v.cause)) past;
+  untagged = count_of (has (λ v. is_untagged v.cause)) past;
+  tagged = count_of (has (λ v. is_tagged v.cause)) past;
+  malformed = count_of (has (λ v. is_malformed v.cause)) past;
+  bad_life = count_of (is_unreadable own) past;
+}
+
+-- ---- the answer that a past gives to a call, and the past after it
+
+abbrev pub done : List Deed → ℕ → Did → List Deed
+done past at did = record { now = max (moment_of past) at; did = did } ∷ past
+
+abbrev pub send_from : List Deed → ℕ → Option SendFault → Answer × List Deed
+send_from past at (Some fault) = (sent (Err fault), past)
+send_from past at None = (sent (Ok (record { seq = number_after past })), done past at (sent_frame (number_after past)))
+
+abbrev pub life_from : List Deed → ℕ → Bool → Answer × List Deed
+life_from past at true = (lived (Err (record {})), past)
+life_from past at false =
+    (lived (Ok (record { seq = number_after past; life = count_of is_life past % 65536 })), done past at (sent_life (number_after past)))
+
+-- a tagged frame passes where it is wanted and not remembered
+abbrev pub passes_from : ℕ → List ℕ → List Deed → ℕ → Exits → Result Seen FrameFault → Exits
+passes_from capacity own past now exits (Err fault) = exits
+passes_from capacity own past now exits (Ok (Plain frame)) = exits
+passes_from capacity own past now exits (Ok (Tagged frame)) =
+    let remembers = remembers_of capacity own past now (key_of frame) in
+    record exits { up = exits.up && not (remembers up); a = exits.a && not (remembers a); b = exits.b && not (remembers b) }
+
+abbrev pub verdict_from : ℕ → List ℕ → Mode → List Deed → ℕ → RingPort → Result Seen FrameFault → Verdict
+verdict_from capacity own mode past now x seen =
+    let wants = wanted own mode x seen in verdict_of wants (passes_from capacity own past now wants.exits seen)
+
+abbrev pub arrive_from : ℕ → List ℕ → Mode → List Deed → ℕ → RingPort → Result Seen FrameFault → Bool → Answer × List Deed
+arrive_from capacity own mode past at x seen true = (judged (Err (record {})), past)
+arrive_from capacity own mode past at x seen false =
+    let verdict = verdict_from capacity own mode past (max (moment_of past) at) x seen in
+    (judged (Ok verdict), done past at (judged_frame x seen verdict))
+
+abbrev pub past_step : ℕ → List ℕ → Mode → List Deed → Call → Answer × List Deed
+past_step capacity own mode past (sending at dst kind len) = send_from past at (send_refusal own (count_of is_step past) dst kind len)
+past_step capacity own mode past (supervising at) = life_from past at (count_of is_step past == 2 ^ 62)
+past_step capacity own mode past (arriving at x octets) = arrive_from capacity own mode past at x (classified octets) (count_of is_step past == 2 ^ 62)
+past_step capacity own mode past (ageing at) = (aged, done past at gave_up)
+
+abbrev pub past_answers : ℕ → List ℕ → Mode → List Deed → List Call → List Answer
+past_answers capacity own mode past [] = []
+past_answers capacity own mode past (call ∷ calls) =
+    (past_step capacity own mode past call).0 ∷ past_answers capacity own mode (past_step capacity own mode past call).1 calls
+
+abbrev pub past_after : ℕ → List ℕ → Mode → List Deed → List Call → List Deed
+past_after capacity own mode past [] = past
+past_after capacity own mode past (call ∷ calls) = past_after capacity own mode (past_step capacity own mode past call).1 calls
+
+-- After any calls the node has answered as its whole past does, and its counters and the nodes that it knows are those of its past.
+abbrev pub AnswersAsPast : ℕ → Type 0
+AnswersAsPast capacity =
+    (own : List ℕ) (mode : Mode) (calls : List Call) →
+    let machine = after_calls capacity (new_machine own mode) calls in
+    let past = past_after capacity own mode [] calls in
+    (answers capacity (new_machine own mode) calls ≡ past_answers capacity own mode [] calls)
+    × (machine.counters ≡ counters_of own past)
+    × ((at : ℕ) → map (λ r. r.0) (known at machine.nodes.rows) ≡ rows_of own past at)

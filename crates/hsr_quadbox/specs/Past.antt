@@ -1,0 +1,176 @@
+-- A QuadBox that keeps its whole past, and answers by looking through it.
+use Rattle.std.specs.Prelude.{ℕ, ◌≡◌, ◌^◌, ◌==◌, ◌&&◌, not, max, Bool, true, false, List, [], ◌∷◌, ◌++◌, length, filter, Option, Some, None, Result, Ok, Err, if◌then◌else◌}
+use Rattle.std.specs.List.{sum_by}
+use Rattle.hsr_frame.specs.Counters.{no_counts}
+use Rattle.hsr_frame.specs.declared.counters.Counters.{Counters}
+use Rattle.hsr_frame.specs.declared.egress.Exits.{Exits}
+use Rattle.hsr_frame.specs.declared.fault.FrameFault.{FrameFault}
+use Rattle.hsr_frame.specs.declared.fault.Spent.{Spent}
+use Rattle.hsr_frame.specs.declared.node.Cause.{Cause}
+use Rattle.hsr_frame.specs.declared.node.Cause.TheVariants.{Duplicate, Untagged, Malformed}
+use Rattle.hsr_tag.specs.Seen.{classified}
+use Rattle.hsr_tag.specs.declared.seen.Seen.{Seen}
+use Rattle.hsr_tag.specs.declared.seen.Seen.TheVariants.{Plain, Tagged}
+use Rattle.hsr_duptable.specs.Key.{Key}
+use Rattle.hsr_duptable.specs.Log.{StandsFor, remembered}
+use Rattle.hsr_duptable.specs.Notes.{has_key}
+use Rattle.hsr_duptable.specs.declared.note.Note.{Note}
+use Rattle.hsr_quadbox.specs.Wanted.{wanted}
+use Rattle.hsr_quadbox.specs.Machine.{Machine, Notes, NotesAreWithin, new_machine}
+use Rattle.hsr_quadbox.specs.Step.{age_step, arrive_step, copies_of, key_of, verdict_of}
+use Rattle.hsr_quadbox.specs.declared.quadbox.QuadVerdict.{QuadVerdict}
+use Rattle.hsr_quadbox.specs.declared.wanted.QuadPort.{QuadPort}
+use Rattle.hsr_quadbox.specs.declared.wanted.QuadPort.TheVariants.{A, B, C, D}
+
+-- an arrival that was judged: the moment given, the port, what the octets are, and the ports that passed it
+pub record Judged : Type 0 where
+  pub at : ℕ
+  pub port : QuadPort
+  pub seen : Result Seen FrameFault
+  pub passes : Exits
+
+-- what was done; a past is a list of deeds, the newest first
+pub data Deed : Type 0 where
+  judged : Judged → Deed
+  aged : ℕ → Deed
+
+abbrev pub moment_of : Deed → ℕ
+moment_of (judged j) = j.at
+moment_of (aged at) = at
+
+-- the greatest moment that was given; 0 at first
+abbrev pub greatest : List Deed → ℕ
+greatest [] = 0
+greatest (deed ∷ past) = max (greatest past) (moment_of deed)
+
+abbrev pub passed_by : QuadPort → Exits → Bool
+passed_by A exits = exits.a
+passed_by B exits = exits.b
+passed_by C exits = exits.c
+passed_by D exits = exits.d
+
+-- a tagged frame that passed is noted
+abbrev pub note_of : Result Seen FrameFault → Bool → ℕ → List Note
+note_of (Err fault) passed now = []
+note_of (Ok (Plain frame)) passed now = []
+note_of (Ok (Tagged frame)) passed now = if passed then record { key = key_of frame; moment = now } ∷ [] else []
+
+-- the log of a port: all its notes, each with its effective moment, the oldest first
+abbrev pub log : QuadPort → List Deed → List Note
+log port [] = []
+log port (aged at ∷ past) = log port past
+log port (judged j ∷ past) = log port past ++ note_of j.seen (passed_by port j.passes) (greatest (judged j ∷ past))
+
+-- ---- an arrival
+
+-- no remembered note of the port's log has the key
+abbrev pub is_new : ℕ → List Deed → QuadPort → Key → ℕ → Bool
+is_new capacity past port key now = not (has_key key (remembered capacity 400 (log port past) now))
+
+-- where an arrival passes: of the ports that want it, a tagged one only where it is new
+abbrev pub passes_in : ℕ → List Deed → Exits → Result Seen FrameFault → ℕ → Exits
+passes_in capacity past exits (Err fault) now = exits
+passes_in capacity past exits (Ok (Plain frame)) now = exits
+passes_in capacity past exits (Ok (Tagged frame)) now = record exits {
+  a = exits.a && is_new capacity past A (key_of frame) now;
+  b = exits.b && is_new capacity past B (key_of frame) now;
+  c = exits.c && is_new capacity past C (key_of frame) now;
+  d = exits.d && is_new capacity past D (key_of frame) now;
+}
+
+abbrev pub judgement : ℕ → List Deed → ℕ → QuadPort → Result Seen FrameFault → Judged
+judgement capacity past at x seen = record {
+  at = at;
+  port = x;
+  seen = seen;
+  passes = passes_in capacity past (wanted x seen).exits seen (max (greatest past) at);
+}
+
+abbrev pub verdict_on : Judged → QuadVerdict
+verdict_on j = verdict_of (wanted j.port j.seen) j.passes
+
+-- ---- counts
+
+abbrev pub arrivals : List Deed → List Judged
+arrivals [] = []
+arrivals (aged at ∷ past) = arrivals past
+arrivals (judged j ∷ past) = j ∷ arrivals past
+
+abbrev pub is_duplicate : Cause → Bool
+is_duplicate cause = elim cause as (λ c. Bool) [ Duplicate ↦ true | _ ↦ false ]
+
+abbrev pub is_untagged : Cause → Bool
+is_untagged cause = elim cause as (λ c. Bool) [ Untagged ↦ true | _ ↦ false ]
+
+abbrev pub is_malformed : Cause → Bool
+is_malformed cause = elim cause as (λ c. Bool) [ Malformed fault ↦ true | _ ↦ false ]
+
+-- how many arrivals have such a cause
+abbrev pub how_many : (Cause → Bool) → List Deed → ℕ
+how_many is_such past = length (filter (λ j. is_such (verdict_on j).cause) (arrivals past))
+
+-- each counter is the number of its kind in the past; what a QuadBox never does stays 0
+abbrev pub counts : List Deed → Counters
+counts past = record no_counts {
+  forwarded = sum_by (λ j. copies_of j.passes) (arrivals past);
+  duplicate = how_many is_duplicate past;
+  untagged = how_many is_untagged past;
+  malformed = how_many is_malformed past;
+}
+
+-- ---- the stepping machine beside it
+
+-- each table stands for the log of its port
+pub record StandForLogs (capacity : ℕ) (notes : Notes) (past : List Deed) : Type 0 where
+  pub a : StandsFor capacity notes.a (log A past)
+  pub b : StandsFor capacity notes.b (log B past)
+  pub c : StandsFor capacity notes.c (log C past)
+  pub d : StandsFor capacity notes.d (log D past)
+
+-- What a stepping machine holds is told by the past.
+pub record IsTold (capacity : ℕ) (machine : Machine) (past : List Deed) : Type 0 where
+  pub logs : StandForLogs capacity machine.notes past
+  pub within : NotesAreWithin machine.notes machine.moment machine.accepted
+  pub moment : machine.moment ≡ greatest past
+  pub accepted : machine.accepted ≡ length (arrivals past)
+  pub counters : machine.counters ≡ counts past
+
+-- ---- calls
+
+pub data Call : Type 0 where
+  arriving : ℕ → QuadPort → List ℕ → Call
+  ageing : ℕ → Call
+
+-- what a call answers; ageing answers nothing
+abbrev pub Answer : Type 0
+Answer = Option (Result QuadVerdict Spent)
+
+-- a call to the stepping machine
+abbrev pub machine_call : ℕ → Machine → Call → Answer × Machine
+machine_call capacity machine (arriving at x octets) = let step = arrive_step capacity machine at x octets in (Some step.0, step.1)
+machine_call capacity machine (ageing at) = (None, age_step machine at)
+
+abbrev pub judge_or_spent : ℕ → List Deed → ℕ → QuadPort → Result Seen FrameFault → Bool → Answer × List Deed
+judge_or_spent capacity past at x seen true = (Some (Err (record {})), past)
+judge_or_spent capacity past at x seen false = let j = judgement capacity past at x seen in (Some (Ok (verdict_on j)), judged j ∷ past)
+
+-- a call to one that keeps its past
+abbrev pub past_call : ℕ → List Deed → Call → Answer × List Deed
+past_call capacity past (arriving at x octets) = judge_or_spent capacity past at x (classified octets) (length (arrivals past) == 2 ^ 62)
+past_call capacity past (ageing at) = (None, aged at ∷ past)
+
+-- the answers to some calls, and what is held after them
+abbrev pub answers_of : {S : Type 0} → (S → Call → Answer × S) → S → List Call → List Answer × S
+answers_of call state [] = ([], state)
+answers_of call state (first ∷ calls) =
+    let done = call state first in
+    let rest = answers_of call done.1 calls in
+    (done.0 ∷ rest.0, rest.1)
+
+-- To any calls the stepping machine gives the answers of the one that keeps its past, and then its counters are the counts.
+abbrev pub AnswersAsPast : ℕ → Type 0
+AnswersAsPast capacity =
+    (calls : List Call) →
+    let machine = answers_of (machine_call capacity) new_machine calls in
+    let past = answers_of (past_call capacity) [] calls in
+    (machine.0 ≡ past.0) × (machine.1.counters ≡ counts past.1)

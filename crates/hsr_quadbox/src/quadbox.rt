@@ -1,0 +1,113 @@
+//! A node with two ports in each of two rings.
+ghost use Rattle.std.specs.Prelude.{◌≡◌, ◌≤◌, ◌^◌, IfOk};
+ghost use Rattle.hsr_quadbox.specs.Step.{copies_of, verdict_of};
+
+use crate::tables::PortTables;
+use crate::wanted::{QuadPort, arrival_wants};
+use hsr_frame::{Cause, Counters, Exits, NoMemory, STEPS, Spent, Wants};
+use hsr_tag::classify;
+use std::alloc::Global;
+use std::marker::Model;
+
+/// Which of the ports A, B, C and D an arrival left by, in this order, and why.
+#[derive(Clone, Copy, Debug, PartialEq, Eq)]
+pub struct QuadVerdict {
+    pub out: [bool; 4],
+    pub cause: Cause,
+}
+
+/// A QuadBox (IEC 62439-3 clause 5), which joins two rings. It has no address and sends nothing of its own. Each of
+/// its ports has a duplicate table of `C` entries, `C` from 1 to 65535. Only `new` takes memory.
+#[derive(Drop)]
+pub struct QuadBox<const C: usize> {
+    tables: PortTables<C>,
+    counters: Counters,
+    moment: u64,
+    accepted: u64,
+}
+
+impl<const C: usize> Model for QuadBox<C> {
+    ghost use Rattle.std.specs.Prelude.{◌≤◌, ◌^◌};
+    ghost use Rattle.hsr_frame.specs.Counters.{AreWithin};
+    ghost use Rattle.hsr_quadbox.specs.Machine.{Machine, NotesAreWithin};
+
+    ghost Value = { Machine };
+
+    ghost view = { λ q. record { notes = q.tables; counters = q.counters; moment = q.moment; accepted = q.accepted } };
+
+    ghost invariant = { λ q. NotesAreWithin q.tables q.moment q.accepted × (q.accepted ≤ 2 ^ 62) × AreWithin q.counters q.accepted };
+}
+
+impl<const C: usize> QuadBox<C> {
+    ghost use Rattle.hsr_frame.specs.Counters.{AreWithin};
+    ghost use Rattle.hsr_quadbox.specs.Machine.{new_machine};
+    ghost use Rattle.hsr_quadbox.specs.Step.{arrive_step, age_step};
+
+    /// A QuadBox to which nothing came yet; `NoMemory` where room for its tables is refused.
+    pub fn new(alloc: Global) -> Result<Self, NoMemory>
+        requires { (1 ≤ C) × (C ≤ 65535) }
+        ensures { IfOk result (λ quad. quad ≡ new_machine) }
+    {
+        let tables = PortTables::new(alloc)?;
+        Ok(QuadBox {
+            tables,
+            counters: Counters::new(),
+            moment: 0,
+            accepted: 0,
+        })
+    }
+
+    /// Judges octets that came to a port, at a moment in milliseconds: a tagged frame leaves by each of the other
+    /// ports that doesn't remember it, and is noted there (IEC 62439-3 clause 5.3); what is no tagged frame is counted
+    /// and dropped. `Spent` where `STEPS` arrivals were accepted; that changes nothing.
+    pub fn arrive(&mut self, at: u64, port: QuadPort, octets: &[u8]) -> Result<QuadVerdict, Spent>
+        ensures { (result, self.new) ≡ arrive_step C self.old at port octets.now }
+    {
+        if self.accepted == STEPS {
+            return Err(Spent);
+        }
+        let now = self.moment.max(at);
+        let seen = classify(octets);
+        let wants = arrival_wants(port, &seen);
+        let passes = self.tables.judge(wants.exits, &seen, now);
+        let verdict = verdict_of(wants, passes);
+        self.counters.count(verdict.cause, false, copies_of(passes));
+        self.moment = now;
+        self.accepted += 1;
+        Ok(verdict)
+    }
+
+    /// Gives up what is expired at a moment in milliseconds. That changes no later answer.
+    pub fn age(&mut self, at: u64)
+        ensures { self.new ≡ age_step self.old at }
+    {
+        let now = self.moment.max(at);
+        self.tables.age(now);
+        self.moment = now;
+    }
+
+    /// How often each thing happened here.
+    pub fn counters(&self) -> Counters
+        ensures value { result ≡ self.now.counters }
+        ensures within { AreWithin result (2 ^ 62) }
+    {
+        self.counters
+    }
+}
+
+/// The verdict on an arrival that these ports passed.
+fn verdict_of(wants: Wants, passes: Exits) -> QuadVerdict
+    ensures { result ≡ verdict_of wants passes }
+{
+    QuadVerdict {
+        out: [passes.a, passes.b, passes.c, passes.d],
+        cause: wants.cause_of(passes),
+    }
+}
+
+/// How many ports passed an arrival.
+fn copies_of(passes: Exits) -> u64
+    ensures { result ≡ copies_of passes }
+{
+    u64::from(passes.a) + u64::from(passes.b) + u64::from(passes.c) + u64::from(passes.d)
+}
