@@ -1,11 +1,27 @@
 #!/usr/bin/env bash
-# Measures `hsr_bench node` on 200,000 send lines of 46 octets: processor time and peak memory, three runs.
+# Measures `hsr_bench node` over 200,000 lines: sends of 20 octets of payload, and then mixed lines, of which half are
+# arrivals and a third of those second copies. Three runs each: processor time and peak memory.
 set -eu
 top=$(cd "$(dirname "${BASH_SOURCE[0]}")/.." && pwd)
 lines=${1:-200000}
 "$top/hsr_bench" < /dev/null > /dev/null
-input=$(mktemp); trap 'rm -f "$input"' EXIT
-awk -v n="$lines" 'BEGIN { for (i = 0; i < n; i++) { line = "send " i " 02-00-00-00-00-02 0800 "; while (length(line) < 44) line = line "AB"; print line } }' > "$input"
-for run in 1 2 3; do
-  /usr/bin/time -f "$lines lines: %U s of processor time, %M KB at most" "$top/hsr_bench" node < "$input" > /dev/null
+work=$(mktemp -d); trap 'rm -rf "$work"' EXIT
+payload=ABABABABABABABABABABABABABABABABABABABAB
+awk -v n="$lines" -v p="$payload" 'BEGIN {
+  for (i = 0; i < n; i++) print "send " i " 02-00-00-00-00-02 0800 " p
+}' > "$work/sends"
+awk -v n="$lines" -v p="$payload" 'BEGIN {
+  for (i = 0; i < n; i++) {
+    at = int(i / 100)
+    if (i % 2 == 0) print "send " at " 02-00-00-00-00-02 0800 " p
+    # numbers 0, 1, 1, 2, 3, 3, ..: of three arrivals the third is the second copy of the second
+    else { k = int(i / 2); number = 2 * int(k / 3) + (k % 3 > 0); port = k % 3 == 2 ? "B" : "A"
+      printf "arrive %d %s 020000000001020000000002892F%s01A%04X0800%s\n", at, port, port == "A" ? "0" : "1", number % 65536, p }
+  }
+}' > "$work/mixed"
+for input in sends mixed; do
+  for run in 1 2 3; do
+    /usr/bin/time -f "$lines $input lines: %U s of processor time, %M KB at most" "$top/hsr_bench" node < "$work/$input" > "$work/$input.out"
+  done
+  tail -n 1 "$work/$input.out"
 done

@@ -14,7 +14,7 @@ use crate::command_line::options;
 use crate::engine::node_run;
 use crate::fault::{Fault, Status};
 use std::alloc::{AllocError, Global};
-use std::io::{BufReader, BufWriter, Write};
+use std::io::{BufReader, BufWriter, ErrorKind, Write};
 use std::process::ExitCode;
 use std::{env, io};
 
@@ -55,15 +55,26 @@ fn finish(rt: &HostRuntime, status: Status) -> io::Result<ExitCode> {
     Ok(ExitCode::from(status.code()))
 }
 
-fn main(rt: HostRuntime) -> io::Result<ExitCode> {
-    let args: Vec<String> = env::args(&rt)?.collect(rt.alloc())?;
+/// Does what the words ask for.
+fn run(rt: &HostRuntime) -> io::Result<ExitCode> {
+    let args: Vec<String> = env::args(rt)?.collect(rt.alloc())?;
     let words = words_of(rt.alloc(), &args)?;
     match options(rt.alloc(), words.as_slice()) {
-        Ok(Options::Node(chosen)) => finish(&rt, node(&rt, &chosen)),
+        Ok(Options::Node(chosen)) => finish(rt, node(rt, &chosen)),
         Err(OptionFault::Usage { text }) => {
             eprintln!(rt; "{text}")?;
             Ok(ExitCode::from(3))
         }
-        Err(OptionFault::Memory) => finish(&rt, Status::Fault(Fault::Memory)),
+        Err(OptionFault::Memory) => finish(rt, Status::Fault(Fault::Memory)),
+    }
+}
+
+fn main(rt: HostRuntime) -> io::Result<ExitCode> {
+    match run(&rt) {
+        // the words themselves take memory
+        Err(error) if error.kind() == ErrorKind::OutOfMemory => {
+            finish(&rt, Status::Fault(Fault::Memory))
+        }
+        ended => ended,
     }
 }

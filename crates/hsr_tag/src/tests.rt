@@ -37,3 +37,69 @@ fn largest_and_smallest_tags(rt: HostRuntime) {
         1524
     );
 }
+
+/// The first copy of a send of AABB from 02-00-00-00-00-01 to 02-00-00-00-00-02, number 0.
+const COPY: [u8; 22] = [
+    2, 0, 0, 0, 0, 2, 2, 0, 0, 0, 0, 1, 0x89, 0x2F, 0x00, 0x08, 0x00, 0x00, 0x08, 0x00, 0xAA, 0xBB,
+];
+
+/// What octets are.
+#[derive(Clone, Copy, PartialEq, Eq)]
+enum Kind {
+    Plain,
+    Tagged,
+    /// Read, and not written back to the same octets.
+    Other,
+}
+
+/// How octets are read, once they were written back.
+fn kind_of(octets: &[u8]) -> Result<Kind, FrameFault> {
+    let (kind, written) = match classify(octets)? {
+        Seen::Plain(frame) => (Kind::Plain, frame.write()),
+        Seen::Tagged(frame) => (Kind::Tagged, frame.write()),
+    };
+    Ok(if written.as_slice() == octets {
+        kind
+    } else {
+        Kind::Other
+    })
+}
+
+/// How the copy is read by the grammar, once the octet at a place has this value.
+fn changed_kind(place: usize, value: u8) -> Result<Kind, FrameFault> {
+    match place {
+        // the lowest bit of the source's first octet
+        6 if value % 2 == 1 => Err(FrameFault::GroupSource),
+        // another type than 892F: neither is 8100
+        12 if value != 0x89 => Ok(Kind::Plain),
+        13 if value != 0x2F => Ok(Kind::Plain),
+        // the own type 8100; 892F needs two octets
+        18 if value == 0x81 => Err(FrameFault::DoubleVlan),
+        _ => Ok(Kind::Tagged),
+    }
+}
+
+#[test]
+fn every_prefix_of_a_copy(rt: HostRuntime) {
+    for size in 0..COPY.len() {
+        let expected = if size < 14 {
+            Err(FrameFault::Short)
+        } else if size < 20 {
+            Err(FrameFault::ShortTag)
+        } else {
+            Ok(Kind::Tagged)
+        };
+        assert!(rt; kind_of(&COPY[..size]) == expected);
+    }
+}
+
+#[test]
+fn every_change_of_one_octet(rt: HostRuntime) {
+    for place in 0..COPY.len() {
+        for value in 0..=255 {
+            let mut octets = COPY;
+            octets[place] = value;
+            assert!(rt; kind_of(&octets) == changed_kind(place, value));
+        }
+    }
+}

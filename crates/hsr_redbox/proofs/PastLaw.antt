@@ -1,0 +1,445 @@
+-- The stepping machine answers as its whole past.
+use Rattle.std.proofs.Common.{◌≡◌, ℕ, ◌+◌, ◌%◌, ◌≤◌, ◌^◌, ◌==◌, ◌&&◌, not, Bool, true, false, if◌then◌else◌, List, [], ◌∷◌, ◌++◌, map, Option, Some, None, Result, Ok, Err, refl, sym, ap, ap₂, subst, ◌∙◌, arith, add-zero}
+use Rattle.std.specs.Prelude.{max, fold, is_err, is_some}
+use Rattle.std.specs.List.{list_any}
+use Rattle.std.proofs.lemmas.List.{append-nil}
+use Rattle.std.proofs.lemmas.List.Sums.{fold-append}
+use Rattle.hsr_frame.specs.Address.{is_same_address}
+use Rattle.hsr_frame.specs.Counters.{bit, counted_cause}
+use Rattle.hsr_frame.specs.Egress.{Egress, up, a, b, exits_of, is_supervision, with_exit}
+use Rattle.hsr_frame.specs.Send.{send_refusal}
+use Rattle.hsr_frame.specs.declared.counters.Counters.{Counters}
+use Rattle.hsr_frame.specs.declared.egress.Exits.{Exits}
+use Rattle.hsr_frame.specs.declared.egress.Wants.{Wants}
+use Rattle.hsr_frame.specs.declared.fault.FrameFault.{FrameFault}
+use Rattle.hsr_frame.specs.declared.fault.SendFault.{SendFault}
+use Rattle.hsr_frame.specs.declared.node.Cause.{Cause}
+use Rattle.hsr_frame.specs.declared.node.Cause.TheVariants as cause
+use Rattle.hsr_frame.specs.declared.node.Mode.{Mode}
+use Rattle.hsr_frame.specs.declared.node.RingPort.{RingPort}
+use Rattle.hsr_frame.specs.declared.node.RingPort.TheVariants as ring
+use Rattle.hsr_supervision.specs.Payload.{Fields, read_of}
+use Rattle.hsr_supervision.specs.declared.payload.SupFault.{SupFault}
+use Rattle.hsr_tag.specs.Seen.{classified}
+use Rattle.hsr_tag.specs.declared.seen.Seen.{Seen}
+use Rattle.hsr_tag.specs.declared.seen.Seen.TheVariants.{Plain, Tagged}
+use Rattle.hsr_duptable.specs.Key.{Key}
+use Rattle.hsr_duptable.specs.Log.{StandsFor, remembered}
+use Rattle.hsr_duptable.specs.Notes.{has_key}
+use Rattle.hsr_duptable.specs.Table.{Table, after_pass, remembers}
+use Rattle.hsr_duptable.specs.declared.note.Note.{Note}
+use Rattle.hsr_duptable.proofs.LogLaws.{StandsFor-age, StandsFor-new, StandsFor-note, remembers-StandsFor}
+use Rattle.hsr_duptable.proofs.Within.{IsWithin-age, IsWithin-empty}
+use Rattle.hsr_tables.specs.Known.{known}
+use Rattle.hsr_tables.specs.Nodes.{Hearing, Nodes, heard, heard_if, listened, no_nodes}
+use Rattle.hsr_tables.specs.Proxies.{Proxies, is_known, learned, no_proxies}
+use Rattle.hsr_tables.proofs.NodeLaws.{rows_of_latest}
+use Rattle.hsr_tables.proofs.ProxyLaws.{knows_latest}
+use Rattle.hsr_redbox.specs.Machine.{AreWithin, Machine, Notes, new_machine}
+use Rattle.hsr_redbox.specs.Step.{after_arrival, after_frame, after_interlink, after_marks, after_ring, age_step, aged, arrive_or_spent, arrive_step, counted_with, heard_from, heard_of, judged, key_of, life_or_refuse, life_refusal, life_step, now_at, send_or_refuse, send_step, sent_of, verdict_of}
+use Rattle.hsr_redbox.specs.Wanted.{handling_interlink, handling_send, interlink, wanted}
+use Rattle.hsr_redbox.specs.Past as deeds
+use Rattle.hsr_redbox.specs.Past.{Answer, Call, Deed, Did, count_of, counters_of, done, gave_up, has_exit, hearings_of, is_step, is_unreadable, judged_interlink, judged_ring, knows_among, known_among, linked, log_of, mark_if, moment_of, note_if, noted_by, now_after, number_after, passes_from, past_step, ports_of, remembers_of, sent_frame, sent_life, source_in, sources_of, step}
+use Rattle.hsr_redbox.specs.declared.wanted.Handling.{Handling}
+use Rattle.hsr_redbox.specs.declared.call.BoxPort.{BoxPort}
+use Rattle.hsr_redbox.specs.declared.call.BoxPort.TheVariants.{A, B, I}
+use Rattle.hsr_redbox.specs.declared.call.BoxVerdict.{BoxVerdict}
+use Rattle.hsr_redbox.specs.declared.call.LifeFault.{LifeFault}
+use Rattle.hsr_redbox.proofs.Steps.{notes-judged, notes-marked}
+
+-- each table stands for the log of its egress
+record LogsOf (capacity : ℕ) (notes : Notes) (log : Egress → List Note) : Type 0 where
+  on_up : StandsFor capacity notes.up (log up)
+  on_a : StandsFor capacity notes.a (log a)
+  on_b : StandsFor capacity notes.b (log b)
+  on_interlink : StandsFor capacity notes.interlink (log interlink)
+
+-- what a machine holds is what its past gives
+record IsPastOf (capacity : ℕ) (machine : Machine) (past : List Deed) : Type 0 where
+  logs : LogsOf capacity machine.notes (λ egress. log_of machine.own egress past)
+  within : AreWithin machine.notes machine.moment machine.accepted
+  nodes : machine.nodes ≡ fold heard no_nodes (hearings_of machine.own past)
+  proxies : machine.proxies ≡ fold learned no_proxies (sources_of machine.own past)
+  next : machine.next ≡ number_after past
+  counters : machine.counters ≡ counters_of machine.own past
+  moment : machine.moment ≡ moment_of past
+  accepted : machine.accepted ≡ count_of is_step past
+
+-- the answers agree, and what is held after is what the past after gives; address and mode stay
+Kept : {X : Type 0} → ℕ → Machine → X × Machine → X × List Deed → Type 0
+Kept capacity machine s p = (s.0 ≡ p.0) × IsPastOf capacity s.1 p.1 × (s.1.own ≡ machine.own) × (s.1.mode ≡ machine.mode)
+
+-- ---- logs
+
+StandsFor-pass : (capacity : ℕ) (table : Table) (log : List Note) (passes : Bool) (key : Key) (now : ℕ) → table.last ≤ now → StandsFor capacity table log
+    → StandsFor capacity (after_pass capacity table passes key now) (log ++ note_if passes key now)
+StandsFor-pass capacity table log true key now h s = StandsFor-note capacity table log key now h s
+StandsFor-pass capacity table log false key now h s = rw (append-nil log) s
+
+StandsFor-same : (capacity : ℕ) (table : Table) (log : List Note) → StandsFor capacity table log → StandsFor capacity table (log ++ [])
+StandsFor-same capacity table log s = rw (append-nil log) s
+
+logs-same : (capacity : ℕ) (notes : Notes) (log : Egress → List Note) → LogsOf capacity notes log → LogsOf capacity notes (λ egress. log egress ++ [])
+logs-same capacity notes log l = record {
+  on_up = StandsFor-same capacity notes.up (log up) l.on_up;
+  on_a = StandsFor-same capacity notes.a (log a) l.on_a;
+  on_b = StandsFor-same capacity notes.b (log b) l.on_b;
+  on_interlink = StandsFor-same capacity notes.interlink (log interlink) l.on_interlink;
+}
+
+logs-marked : (capacity : ℕ) (notes : Notes) (log : Egress → List Note) (exits : Exits) (source : Option (List ℕ)) (seq moment now accepted : ℕ) → moment ≤ now → AreWithin notes moment accepted → LogsOf capacity notes log
+    → LogsOf capacity (after_marks capacity notes exits source seq now) (λ egress. log egress ++ mark_if source seq (has_exit exits egress) now)
+logs-marked capacity notes log exits None seq moment now accepted h w l = logs-same capacity notes log l
+logs-marked capacity notes log exits (Some src) seq moment now accepted h w l =
+    let key : Key = record { src = src; seq = seq } in
+    record {
+      on_up = StandsFor-pass capacity notes.up (log up) exits.up key now (omega (arith, w.up.last)) l.on_up;
+      on_a = StandsFor-pass capacity notes.a (log a) exits.a key now (omega (arith, w.a.last)) l.on_a;
+      on_b = StandsFor-pass capacity notes.b (log b) exits.b key now (omega (arith, w.b.last)) l.on_b;
+      on_interlink = StandsFor-pass capacity notes.interlink (log interlink) exits.c key now (omega (arith, w.interlink.last)) l.on_interlink;
+    }
+
+logs-judged : (capacity : ℕ) (own : List ℕ) (notes : Notes) (log : Egress → List Note) (wants : Wants) (x : RingPort) (seen : Result Seen FrameFault) (moment now accepted : ℕ) → moment ≤ now → AreWithin notes moment accepted → LogsOf capacity notes log
+    → let outcome = judged capacity notes wants.exits seen now in
+    LogsOf capacity outcome.1 (λ egress. log egress ++ noted_by own egress now (judged_ring x seen (verdict_of wants outcome.0 None)))
+logs-judged capacity own notes log wants x (Err fault) moment now accepted h w l = logs-same capacity notes log l
+logs-judged capacity own notes log wants x (Ok (Plain frame)) moment now accepted h w l = logs-same capacity notes log l
+logs-judged capacity own notes log wants x (Ok (Tagged frame)) moment now accepted h w l =
+    let key = key_of frame in
+    let passes = (judged capacity notes wants.exits (Ok (Tagged frame)) now).0 in
+    record {
+      on_up = StandsFor-pass capacity notes.up (log up) passes.up key now (omega (arith, w.up.last)) l.on_up;
+      on_a = StandsFor-pass capacity notes.a (log a) passes.a key now (omega (arith, w.a.last)) l.on_a;
+      on_b = StandsFor-pass capacity notes.b (log b) passes.b key now (omega (arith, w.b.last)) l.on_b;
+      on_interlink = StandsFor-pass capacity notes.interlink (log interlink) passes.c key now (omega (arith, w.interlink.last)) l.on_interlink;
+    }
+
+-- ---- numbers and counters
+
+numbered-same : (source : Option (List ℕ)) (next count : ℕ) → next ≡ count % 65536 → (next + bit (is_some source)) % 65536 ≡ (if is_some source then count + 1 else count) % 65536
+numbered-same None next count e = omega (arith, e)
+numbered-same (Some src) next count e = omega (arith, e)
+
+one-more : (p : Bool) (n : ℕ) → n + bit p ≡ (if p then n + 1 else n)
+one-more true n = refl
+one-more false n = add-zero n
+
+-- nothing more was forwarded
+still : (n : ℕ) → n ≡ n + 0
+still n = sym (add-zero n)
+
+-- the counts after one more verdict, by what it says
+abbrev counts_plus : Counters → BoxVerdict → Bool → Counters
+counts_plus k verdict bad = record {
+  sent = k.sent;
+  life = k.life;
+  up = if verdict.up then k.up + 1 else k.up;
+  forwarded = k.forwarded + ports_of verdict;
+  duplicate = if deeds.is_duplicate verdict.cause then k.duplicate + 1 else k.duplicate;
+  returned = if deeds.is_returned verdict.cause then k.returned + 1 else k.returned;
+  foreign = if deeds.is_foreign verdict.cause then k.foreign + 1 else k.foreign;
+  local = if deeds.is_local verdict.cause then k.local + 1 else k.local;
+  untagged = if deeds.is_untagged verdict.cause then k.untagged + 1 else k.untagged;
+  tagged = if deeds.is_tagged verdict.cause then k.tagged + 1 else k.tagged;
+  malformed = if deeds.is_malformed verdict.cause then k.malformed + 1 else k.malformed;
+  bad_life = if bad then k.bad_life + 1 else k.bad_life;
+}
+
+counted-plus : (k : Counters) (verdict : BoxVerdict) (readable bad : Bool) → not readable ≡ bad → counted_with k verdict readable ≡ counts_plus k verdict bad
+counted-plus k verdict readable bad e = by_cause verdict.cause
+  where
+    ups : k.up + bit verdict.up ≡ (if verdict.up then k.up + 1 else k.up)
+    ups = one-more verdict.up k.up
+
+    bads : k.bad_life + bit (not readable) ≡ (if bad then k.bad_life + 1 else k.bad_life)
+    bads = ap (λ p. k.bad_life + bit p) e ∙ one-more bad k.bad_life
+
+    by_cause : (why : Cause) → counted_with k (record verdict { cause = why }) readable ≡ counts_plus k (record verdict { cause = why }) bad
+    by_cause (cause.Malformed fault) = λ i. record (counted_cause k (cause.Malformed fault)) { up = ups i; forwarded = k.forwarded + ports_of verdict; bad_life = bads i }
+    by_cause cause.Passed = λ i. record (counted_cause k cause.Passed) { up = ups i; forwarded = k.forwarded + ports_of verdict; bad_life = bads i }
+    by_cause cause.Duplicate = λ i. record (counted_cause k cause.Duplicate) { up = ups i; forwarded = k.forwarded + ports_of verdict; bad_life = bads i }
+    by_cause cause.Returned = λ i. record (counted_cause k cause.Returned) { up = ups i; forwarded = k.forwarded + ports_of verdict; bad_life = bads i }
+    by_cause cause.Foreign = λ i. record (counted_cause k cause.Foreign) { up = ups i; forwarded = k.forwarded + ports_of verdict; bad_life = bads i }
+    by_cause cause.Local = λ i. record (counted_cause k cause.Local) { up = ups i; forwarded = k.forwarded + ports_of verdict; bad_life = bads i }
+    by_cause cause.Untagged = λ i. record (counted_cause k cause.Untagged) { up = ups i; forwarded = k.forwarded + ports_of verdict; bad_life = bads i }
+    by_cause cause.Tagged = λ i. record (counted_cause k cause.Tagged) { up = ups i; forwarded = k.forwarded + ports_of verdict; bad_life = bads i }
+
+-- ---- what is known on the interlink
+
+knows-latest : (table : Proxies) (sources : List (List ℕ × ℕ)) (now : ℕ) → table ≡ fold learned no_proxies sources → is_known now table.heard ≡ knows_among sources now
+knows-latest table sources now e =
+    ap {B = List ℕ → Bool} (λ (rows : List (List ℕ × ℕ)) mac. list_any (λ h. is_same_address h.0 mac) rows) (ap (λ (p : Proxies). known now p.heard) e ∙ knows_latest sources now)
+
+-- the hearing of a frame of the interlink
+source-same : (own : List ℕ) (table : Proxies) (seen : Result Seen FrameFault) (now : ℕ) → heard_from own table seen now ≡ fold learned table (source_in own now seen)
+source-same own table (Err fault) now = refl
+source-same own table (Ok (Tagged frame)) now = refl
+source-same own table (Ok (Plain frame)) now =
+    elim (is_same_address frame.src own) as (λ t. (if t then table else learned table (frame.src, now)) ≡ fold learned table (if t then [] else (frame.src, now) ∷ [])) [ true ↦ refl | false ↦ refl ]
+
+sources-same : (own : List ℕ) (table : Proxies) (sources : List (List ℕ × ℕ)) (seen : Result Seen FrameFault) (now : ℕ) → table ≡ fold learned no_proxies sources
+    → heard_from own table seen now ≡ fold learned no_proxies (sources ++ source_in own now seen)
+sources-same own table sources seen now e =
+    source-same own table seen now
+    ∙ ap (λ (t : Proxies). fold learned t (source_in own now seen)) e
+    ∙ sym (fold-append learned no_proxies sources (source_in own now seen))
+
+heard-same : (nodes : Nodes) (hearings : List Hearing) → nodes ≡ fold heard no_nodes hearings → nodes ≡ fold heard no_nodes (hearings ++ [])
+heard-same nodes hearings e = rw (append-nil hearings) e
+
+learned-same : (table : Proxies) (sources : List (List ℕ × ℕ)) → table ≡ fold learned no_proxies sources → table ≡ fold learned no_proxies (sources ++ [])
+learned-same table sources e = rw (append-nil sources) e
+
+-- ---- frames that pass without a look
+
+-- the machine after such a frame, and a past that begins with it
+marked : (capacity : ℕ) (machine : Machine) (past : List Deed) (now : ℕ) (proxies : Proxies) (exits : Exits) (source : Option (List ℕ)) (counters : Counters) (did : Did)
+    → machine.moment ≤ now → IsPastOf capacity machine past
+    → ((egress : Egress) → noted_by machine.own egress now did ≡ mark_if source machine.next (has_exit exits egress) now)
+    → deeds.heard_by machine.own now did ≡ [] → deeds.is_numbered did ≡ is_some source → is_step did ≡ true
+    → proxies ≡ fold learned no_proxies (sources_of machine.own (record { now = now; did = did } ∷ past))
+    → counters ≡ counters_of machine.own (record { now = now; did = did } ∷ past)
+    → IsPastOf capacity (after_frame capacity (record machine { proxies = proxies }) now exits source counters) (record { now = now; did = did } ∷ past)
+marked capacity machine past now proxies exits source counters did later r noted silent counts steps learnt counted =
+    let logs = logs-marked capacity machine.notes (λ egress. log_of machine.own egress past) exits source machine.next machine.moment now machine.accepted later r.within r.logs in
+    record {
+      logs = record { on_up = rw (noted up) logs.on_up; on_a = rw (noted a) logs.on_a; on_b = rw (noted b) logs.on_b; on_interlink = rw (noted interlink) logs.on_interlink };
+      within = notes-marked capacity machine.notes exits source machine.next machine.moment now machine.accepted later r.within;
+      nodes = rw silent (heard-same machine.nodes (hearings_of machine.own past) r.nodes);
+      proxies = learnt;
+      next = rw counts (numbered-same source machine.next (count_of deeds.is_numbered past) r.next);
+      counters = counted;
+      moment = refl;
+      accepted = rw steps (ap (λ n. n + 1) r.accepted);
+    }
+
+send-case : (capacity : ℕ) (machine : Machine) (past : List Deed) (now : ℕ) (h : Handling) (refusal : Option SendFault) → machine.moment ≤ now → IsPastOf capacity machine past
+    → let s = send_or_refuse capacity machine now h refusal in Kept capacity machine (deeds.sent s.0, s.1) (deeds.send_from past now h refusal)
+unfolding Kept
+send-case capacity machine past now h (Some fault) later r = (refl, r, refl, refl)
+send-case capacity machine past now h None later r =
+    let counters : Counters = record machine.counters { sent = machine.counters.sent + 1 } in
+    let k : Counters = counters_of machine.own past in
+    let after = after_frame capacity machine now h.wants.exits h.source counters in (
+      ap (λ n. deeds.sent (Ok (sent_of h n))) r.next,
+      subst (λ n. IsPastOf capacity after (record { now = now; did = sent_frame h n } ∷ past)) r.next
+          (marked capacity machine past now machine.proxies h.wants.exits h.source counters (sent_frame h machine.next) later r (λ egress. refl) refl refl refl
+          (learned-same machine.proxies (sources_of machine.own past) r.proxies) (ap (λ (k : Counters). record k { sent = k.sent + 1 }) r.counters ∙ (λ i. record k { sent = k.sent + 1; forwarded = still k.forwarded i }))),
+      refl,
+      refl,
+    )
+
+life-case : (capacity : ℕ) (machine : Machine) (past : List Deed) (now : ℕ) (refusal : Option LifeFault) → machine.moment ≤ now → IsPastOf capacity machine past
+    → let s = life_or_refuse capacity machine now refusal in Kept capacity machine (deeds.lived s.0, s.1) (deeds.life_from past now refusal)
+unfolding Kept
+life-case capacity machine past now (Some fault) later r = (refl, r, refl, refl)
+life-case capacity machine past now None later r =
+    let counters : Counters = record machine.counters { life = machine.counters.life + 1 } in
+    let k : Counters = counters_of machine.own past in
+    let after = after_frame capacity machine now (exits_of (a ∷ b ∷ [])) (Some machine.own) counters in (
+      ap₂ (λ n (k : Counters). deeds.lived (Ok (record { seq = n; life = k.life % 65536 }))) r.next r.counters,
+      subst (λ n. IsPastOf capacity after (record { now = now; did = sent_life n } ∷ past)) r.next
+          (marked capacity machine past now machine.proxies (exits_of (a ∷ b ∷ [])) (Some machine.own) counters (sent_life machine.next) later r (λ egress. refl) refl refl refl
+          (learned-same machine.proxies (sources_of machine.own past) r.proxies) (ap (λ (k : Counters). record k { life = k.life + 1 }) r.counters ∙ (λ i. record k { life = k.life + 1; forwarded = still k.forwarded i }))),
+      refl,
+      refl,
+    )
+
+interlink-case : (capacity : ℕ) (machine : Machine) (past : List Deed) (now : ℕ) (seen : Result Seen FrameFault) → machine.moment ≤ now → IsPastOf capacity machine past
+    → Kept capacity machine (after_interlink capacity machine now seen) (deeds.interlink_from machine.own past now seen)
+unfolding Kept
+interlink-case capacity machine past now seen later r =
+    let sources = sources_of machine.own past ++ source_in machine.own now seen in
+    let proxies = heard_from machine.own machine.proxies seen now in
+    let learnt = sources-same machine.own machine.proxies (sources_of machine.own past) seen now r.proxies in
+    let after = after_interlink capacity machine now seen in
+    let by : (List ℕ → Bool) → ℕ → BoxVerdict × List Deed = λ knows n. (linked (handling_interlink machine.own knows seen) n, done past now (judged_interlink seen (handling_interlink machine.own knows seen) n)) in
+    let h = handling_interlink machine.own (is_known now proxies.heard) seen in
+    let counters : Counters = counted_with machine.counters (linked h machine.next) true in
+    let counted : counters ≡ counters_of machine.own (done past now (judged_interlink seen h machine.next)) =
+    ap (λ (k : Counters). counted_with k (linked h machine.next) true) r.counters ∙ counted-plus (counters_of machine.own past) (linked h machine.next) true false refl in
+    subst (λ knows. Kept capacity machine after (by knows (number_after past))) (knows-latest proxies sources now learnt)
+    (subst (λ n. Kept capacity machine after (by (is_known now proxies.heard) n)) r.next (
+      refl,
+      marked capacity machine past now proxies (with_exit interlink h.wants.exits) h.source counters (judged_interlink seen h machine.next) later r (λ egress. refl) refl refl refl learnt counted,
+      refl,
+      refl,
+    ))
+
+-- ---- arrivals at a ring port
+
+remembers-same : (capacity : ℕ) (machine : Machine) (past : List Deed) (now : ℕ) (key : Key) (table : Table) (egress : Egress) → table.last ≤ now → table.forget ≡ 400
+    → StandsFor capacity table (log_of machine.own egress past) → remembers table key now ≡ remembers_of capacity machine.own past now key egress
+remembers-same capacity machine past now key table egress h forget s =
+    remembers-StandsFor capacity table (log_of machine.own egress past) key now h s
+    ∙ ap (λ n. has_key key (remembered capacity n (log_of machine.own egress past) now)) forget
+
+passes-same : (capacity : ℕ) (machine : Machine) (past : List Deed) (now : ℕ) (exits : Exits) (seen : Result Seen FrameFault) → machine.moment ≤ now → IsPastOf capacity machine past
+    → (judged capacity machine.notes exits seen now).0 ≡ passes_from capacity machine.own past now exits seen
+passes-same capacity machine past now exits (Err fault) h r = refl
+passes-same capacity machine past now exits (Ok (Plain frame)) h r = refl
+passes-same capacity machine past now exits (Ok (Tagged frame)) h r =
+    let same = remembers-same capacity machine past now (key_of frame) in
+    let on_up = same machine.notes.up up (omega (arith, r.within.up.last)) r.within.up.forget r.logs.on_up in
+    let on_a = same machine.notes.a a (omega (arith, r.within.a.last)) r.within.a.forget r.logs.on_a in
+    let on_b = same machine.notes.b b (omega (arith, r.within.b.last)) r.within.b.forget r.logs.on_b in
+    let on_interlink = same machine.notes.interlink interlink (omega (arith, r.within.interlink.last)) r.within.interlink.forget r.logs.on_interlink in
+    λ i. record exits { up = exits.up && not (on_up i); a = exits.a && not (on_a i); b = exits.b && not (on_b i); c = exits.c && not (on_interlink i) }
+
+-- what is heard, and whether it could be read
+told-same : (told : Bool) (payload : List ℕ) (nodes : Nodes) (x : RingPort) (now : ℕ)
+    → let h = if told then listened nodes payload x now else (true, nodes) in
+    (h.1 ≡ fold heard nodes (if told then deeds.hearing_if x now (read_of payload) else [])) × (not h.0 ≡ (if told then is_err (read_of payload) else false))
+told-same false payload nodes x now = (refl, refl)
+told-same true payload nodes x now = by_read (read_of payload)
+  where
+    by_read : (said : Result Fields SupFault) → ((heard_if nodes x now said).1 ≡ fold heard nodes (deeds.hearing_if x now said)) × (not (heard_if nodes x now said).0 ≡ is_err said)
+    by_read (Ok said) = (refl, refl)
+    by_read (Err fault) = (refl, refl)
+
+heard-told : (own : List ℕ) (nodes : Nodes) (x : RingPort) (seen : Result Seen FrameFault) (verdict : BoxVerdict) (now : ℕ)
+    → ((heard_of own nodes x seen now).1 ≡ fold heard nodes (deeds.heard_by own now (judged_ring x seen verdict))) × (not (heard_of own nodes x seen now).0 ≡ is_unreadable own (judged_ring x seen verdict))
+heard-told own nodes x (Err fault) verdict now = (refl, refl)
+heard-told own nodes x (Ok (Plain frame)) verdict now = (refl, refl)
+heard-told own nodes x (Ok (Tagged frame)) verdict now = told-same (is_supervision frame.dst frame.kind && not (is_same_address frame.src own)) frame.payload nodes x now
+
+ring-case : (capacity : ℕ) (machine : Machine) (past : List Deed) (now : ℕ) (x : RingPort) (seen : Result Seen FrameFault) → machine.moment ≤ now → IsPastOf capacity machine past
+    → Kept capacity machine (after_ring capacity machine now x seen) (deeds.ring_from capacity machine.own machine.mode past now x seen)
+unfolding Kept
+ring-case capacity machine past now x seen later r =
+    let after = after_ring capacity machine now x seen in
+    let wants = wanted machine.own machine.mode (is_known now machine.proxies.heard) x seen in
+    let by : Wants → Exits → BoxVerdict × List Deed = λ w passes. (verdict_of w passes None, done past now (judged_ring x seen (verdict_of w passes None))) in
+    let outcome = judged capacity machine.notes wants.exits seen now in
+    let verdict = verdict_of wants outcome.0 None in
+    let hearing = heard_of machine.own machine.nodes x seen now in
+    let told = heard-told machine.own machine.nodes x seen verdict now in
+    let more = deeds.heard_by machine.own now (judged_ring x seen verdict) in
+    subst (λ knows. let w = wanted machine.own machine.mode knows x seen in Kept capacity machine after (by w (passes_from capacity machine.own past now w.exits seen)))
+    (knows-latest machine.proxies (sources_of machine.own past) now r.proxies)
+    (subst (λ passes. Kept capacity machine after (by wants passes)) (passes-same capacity machine past now wants.exits seen later r) (
+      refl,
+      record {
+        logs = logs-judged capacity machine.own machine.notes (λ egress. log_of machine.own egress past) wants x seen machine.moment now machine.accepted later r.within r.logs;
+        within = notes-judged capacity machine.notes wants.exits seen machine.moment now machine.accepted later r.within;
+        nodes = told.0 ∙ ap (λ (n : Nodes). fold heard n more) r.nodes ∙ sym (fold-append heard no_nodes (hearings_of machine.own past) more);
+        proxies = learned-same machine.proxies (sources_of machine.own past) r.proxies;
+        next = r.next;
+        counters = ap (λ (k : Counters). counted_with k verdict hearing.0) r.counters
+            ∙ counted-plus (counters_of machine.own past) verdict hearing.0 (is_unreadable machine.own (judged_ring x seen verdict)) told.1;
+        moment = refl;
+        accepted = ap (λ n. n + 1) r.accepted;
+      },
+      refl,
+      refl,
+    ))
+
+arrive-case : (capacity : ℕ) (machine : Machine) (past : List Deed) (now : ℕ) (port : BoxPort) (octets : List ℕ) (spent : Bool) → machine.moment ≤ now → IsPastOf capacity machine past
+    → let s = arrive_or_spent capacity machine now port octets spent in
+    Kept capacity machine (deeds.judged s.0, s.1) (deeds.arrive_from capacity machine.own machine.mode past now port (classified octets) spent)
+unfolding Kept
+arrive-case capacity machine past now port octets true later r = (refl, r, refl, refl)
+arrive-case capacity machine past now port octets false later r = let k = by_port port in (ap (λ (v : BoxVerdict). deeds.judged (Ok v)) k.0, k.1, k.2, k.3)
+  where
+    by_port : (p : BoxPort) → Kept capacity machine (after_arrival capacity machine now p (classified octets)) (deeds.port_from capacity machine.own machine.mode past now p (classified octets))
+    by_port A = ring-case capacity machine past now ring.A (classified octets) later r
+    by_port B = ring-case capacity machine past now ring.B (classified octets) later r
+    by_port I = interlink-case capacity machine past now (classified octets) later r
+
+-- ---- ageing
+
+age-case : (capacity : ℕ) (machine : Machine) (past : List Deed) (now : ℕ) → machine.moment ≤ now → IsPastOf capacity machine past
+    → IsPastOf capacity (record machine { notes = aged machine.notes now; moment = now }) (done past now gave_up)
+age-case capacity machine past now later r =
+    let log : Egress → List Note = λ egress. log_of machine.own egress past in
+    let k : Counters = counters_of machine.own past in
+    record {
+      logs = logs-same capacity (aged machine.notes now) log (record {
+        on_up = StandsFor-age capacity machine.notes.up (log up) now (omega (arith, r.within.up.last)) r.logs.on_up;
+        on_a = StandsFor-age capacity machine.notes.a (log a) now (omega (arith, r.within.a.last)) r.logs.on_a;
+        on_b = StandsFor-age capacity machine.notes.b (log b) now (omega (arith, r.within.b.last)) r.logs.on_b;
+        on_interlink = StandsFor-age capacity machine.notes.interlink (log interlink) now (omega (arith, r.within.interlink.last)) r.logs.on_interlink;
+      });
+      within = record {
+        up = IsWithin-age machine.notes.up machine.moment now machine.accepted r.within.up;
+        a = IsWithin-age machine.notes.a machine.moment now machine.accepted r.within.a;
+        b = IsWithin-age machine.notes.b machine.moment now machine.accepted r.within.b;
+        interlink = IsWithin-age machine.notes.interlink machine.moment now machine.accepted r.within.interlink;
+      };
+      nodes = heard-same machine.nodes (hearings_of machine.own past) r.nodes;
+      proxies = learned-same machine.proxies (sources_of machine.own past) r.proxies;
+      next = r.next;
+      counters = r.counters ∙ (λ i. record k { forwarded = still k.forwarded i });
+      moment = refl;
+      accepted = r.accepted;
+    }
+
+-- ---- a call, and all calls
+
+later-max : (m n : ℕ) → m ≤ max m n
+later-max m n = omega arith
+
+kept : (capacity : ℕ) (machine : Machine) (past : List Deed) (call : Call) → IsPastOf capacity machine past → Kept capacity machine (step capacity machine call) (past_step capacity machine.own machine.mode past call)
+unfolding Kept send_step life_step arrive_step
+kept capacity machine past (deeds.sending at dst kind len) r =
+    let now = now_at machine at in
+    let knows = knows-latest machine.proxies (sources_of machine.own past) now r.proxies in
+    let after = step capacity machine (deeds.sending at dst kind len) in
+    subst (λ m. Kept capacity machine after (deeds.send_from past (max m at) (handling_send machine.own (knows_among (sources_of machine.own past) (max m at)) dst kind) (send_refusal machine.own (count_of is_step past) dst kind len))) r.moment
+    (subst (λ n. Kept capacity machine after (deeds.send_from past now (handling_send machine.own (knows_among (sources_of machine.own past) now) dst kind) (send_refusal machine.own n dst kind len))) r.accepted
+    (subst (λ k. Kept capacity machine after (deeds.send_from past now (handling_send machine.own k dst kind) (send_refusal machine.own machine.accepted dst kind len))) knows
+    (send-case capacity machine past now (handling_send machine.own (is_known now machine.proxies.heard) dst kind) (send_refusal machine.own machine.accepted dst kind len) (later-max machine.moment at) r)))
+kept capacity machine past (deeds.supervising at about) r =
+    let now = now_at machine at in
+    let knows = knows-latest machine.proxies (sources_of machine.own past) now r.proxies in
+    let after = step capacity machine (deeds.supervising at about) in
+    subst (λ m. Kept capacity machine after (deeds.life_from past (max m at) (life_refusal (knows_among (sources_of machine.own past) (max m at)) (count_of is_step past) about))) r.moment
+    (subst (λ n. Kept capacity machine after (deeds.life_from past now (life_refusal (knows_among (sources_of machine.own past) now) n about))) r.accepted
+    (subst (λ k. Kept capacity machine after (deeds.life_from past now (life_refusal k machine.accepted about))) knows
+    (life-case capacity machine past now (life_refusal (is_known now machine.proxies.heard) machine.accepted about) (later-max machine.moment at) r)))
+kept capacity machine past (deeds.arriving at port octets) r =
+    let after = step capacity machine (deeds.arriving at port octets) in
+    subst (λ m. Kept capacity machine after (deeds.arrive_from capacity machine.own machine.mode past (max m at) port (classified octets) (count_of is_step past == 2 ^ 62))) r.moment
+    (subst (λ n. Kept capacity machine after (deeds.arrive_from capacity machine.own machine.mode past (now_at machine at) port (classified octets) (n == 2 ^ 62))) r.accepted
+    (arrive-case capacity machine past (now_at machine at) port octets (machine.accepted == 2 ^ 62) (later-max machine.moment at) r))
+kept capacity machine past (deeds.ageing at) r =
+    (refl, subst (λ m. IsPastOf capacity (age_step machine at) (done past (max m at) gave_up)) r.moment (age-case capacity machine past (now_at machine at) (later-max machine.moment at) r), refl, refl)
+
+runs : (capacity : ℕ) (own : List ℕ) (mode : Mode) (machine : Machine) (past : List Deed) (calls : List Call) → machine.own ≡ own → machine.mode ≡ mode → IsPastOf capacity machine past
+    → let after = deeds.after_calls capacity machine calls in
+    (deeds.answers capacity machine calls ≡ deeds.past_answers capacity own mode past calls) × IsPastOf capacity after (deeds.past_after capacity own mode past calls) × (after.own ≡ own)
+unfolding Kept
+runs capacity own mode machine past [] is_own is_mode r = (refl, r, is_own)
+runs capacity own mode machine past (call ∷ calls) is_own is_mode r =
+    let one = with_own own mode is_own is_mode in
+    let more = runs capacity own mode (step capacity machine call).1 (past_step capacity own mode past call).1 calls (one.2 ∙ is_own) (one.3 ∙ is_mode) one.1 in
+    (ap₂ (λ (x : Answer) xs. x ∷ xs) one.0 more.0, more.1, more.2)
+  where
+    with_own : (own : List ℕ) (mode : Mode) → machine.own ≡ own → machine.mode ≡ mode → Kept capacity machine (step capacity machine call) (past_step capacity own mode past call)
+    with_own own mode e f = subst (λ o. Kept capacity machine (step capacity machine call) (past_step capacity o mode past call)) e
+        (subst (λ m. Kept capacity machine (step capacity machine call) (past_step capacity machine.own m past call)) f (kept capacity machine past call r))
+
+begins : (capacity : ℕ) (own : List ℕ) (mode : Mode) → IsPastOf capacity (new_machine own mode) []
+begins capacity own mode = record {
+  logs = let new = StandsFor-new capacity 400 in record { on_up = new; on_a = new; on_b = new; on_interlink = new };
+  within = record { up = IsWithin-empty; a = IsWithin-empty; b = IsWithin-empty; interlink = IsWithin-empty };
+  nodes = refl;
+  proxies = refl;
+  next = refl;
+  counters = refl;
+  moment = refl;
+  accepted = refl;
+}
+
+pub answers_as_past : (capacity : ℕ) → deeds.AnswersAsPast capacity
+answers_as_past capacity own mode calls =
+    let ran = runs capacity own mode (new_machine own mode) [] calls refl refl (begins capacity own mode) in
+    let past = deeds.past_after capacity own mode [] calls in
+    let held = ran.1 in (
+      ran.0,
+      held.counters ∙ ap (λ (o : List ℕ). counters_of o past) ran.2,
+      (λ at. ap (λ (n : Nodes). map (λ r. r.0) (known at n.rows)) held.nodes ∙ ap (λ (o : List ℕ). map (λ r. r.0) (known at (fold heard no_nodes (hearings_of o past)).rows)) ran.2
+          ∙ rows_of_latest (hearings_of own past) at),
+      (λ at. ap (λ (p : Proxies). known at p.heard) held.proxies ∙ ap (λ (o : List ℕ). known at (fold learned no_proxies (sources_of o past)).heard) ran.2
+          ∙ knows_latest (sources_of own past) at),
+    )

@@ -1,0 +1,220 @@
+-- One step of a RedBox: the answer to a call, and what the node holds after it.
+use Rattle.std.specs.Prelude.{ℕ, ◌+◌, ◌%◌, ◌^◌, ◌==◌, ◌&&◌, not, max, Bool, true, false, List, [], ◌∷◌, Option, Some, None, option_map, is_some, Result, Ok, Err, if◌then◌else◌}
+use Rattle.hsr_frame.specs.Address.{is_same_address}
+use Rattle.hsr_frame.specs.Cases.{first_of}
+use Rattle.hsr_frame.specs.Counters.{bit, counted}
+use Rattle.hsr_frame.specs.Egress.{a, b, cause_of, exits_of, is_supervision, with_exit}
+use Rattle.hsr_frame.specs.Send.{send_refusal}
+use Rattle.hsr_frame.specs.declared.counters.Counters.{Counters}
+use Rattle.hsr_frame.specs.declared.egress.Exits.{Exits}
+use Rattle.hsr_frame.specs.declared.egress.Wants.{Wants}
+use Rattle.hsr_frame.specs.declared.fault.FrameFault.{FrameFault}
+use Rattle.hsr_frame.specs.declared.fault.SendFault.{SendFault}
+use Rattle.hsr_frame.specs.declared.fault.Spent.{Spent}
+use Rattle.hsr_frame.specs.declared.node.Life.{Life}
+use Rattle.hsr_frame.specs.declared.node.RingPort.{RingPort}
+use Rattle.hsr_frame.specs.declared.node.RingPort.TheVariants as ring
+use Rattle.hsr_tag.specs.Tag.{TaggedFields}
+use Rattle.hsr_tag.specs.Seen.{classified}
+use Rattle.hsr_tag.specs.declared.seen.Seen.{Seen}
+use Rattle.hsr_tag.specs.declared.seen.Seen.TheVariants.{Plain, Tagged}
+use Rattle.hsr_duptable.specs.Key.{Key}
+use Rattle.hsr_duptable.specs.Table.{after_age, after_pass, remembers}
+use Rattle.hsr_tables.specs.Nodes.{Nodes, listened}
+use Rattle.hsr_tables.specs.Proxies.{Proxies, is_known, learned}
+use Rattle.hsr_redbox.specs.Wanted.{handling_interlink, handling_send, interlink, wanted}
+use Rattle.hsr_redbox.specs.Machine.{Machine, Notes}
+use Rattle.hsr_redbox.specs.declared.wanted.Handling.{Handling}
+use Rattle.hsr_redbox.specs.declared.call.About.{About}
+use Rattle.hsr_redbox.specs.declared.call.About.TheVariants.{Own, Proxied}
+use Rattle.hsr_redbox.specs.declared.call.BoxPort.{BoxPort}
+use Rattle.hsr_redbox.specs.declared.call.BoxPort.TheVariants.{A, B, I}
+use Rattle.hsr_redbox.specs.declared.call.BoxSent.{BoxSent}
+use Rattle.hsr_redbox.specs.declared.call.BoxVerdict.{BoxVerdict}
+use Rattle.hsr_redbox.specs.declared.call.LifeFault.{LifeFault}
+use Rattle.hsr_redbox.specs.declared.call.LifeFault.TheVariants as refused
+
+-- the effective moment: one that is earlier than the last is read as the last
+abbrev pub now_at : Machine → ℕ → ℕ
+now_at machine at = max machine.moment at
+
+-- the tables after a frame with this key left by these egresses
+abbrev pub after_passes : ℕ → Notes → Exits → Key → ℕ → Notes
+after_passes capacity notes passes key now = record {
+  up = after_pass capacity notes.up passes.up key now;
+  a = after_pass capacity notes.a passes.a key now;
+  b = after_pass capacity notes.b passes.b key now;
+  interlink = after_pass capacity notes.interlink passes.c key now;
+}
+
+-- ---- a frame with a number or none, by the source for which it gets the number
+
+abbrev pub number_of : Option (List ℕ) → ℕ → Option ℕ
+number_of source next = option_map (λ src. next) source
+
+abbrev pub after_number : Option (List ℕ) → ℕ → ℕ
+after_number source next = (next + bit (is_some source)) % 65536
+
+-- a frame with a number is noted at these egresses, without a look
+abbrev pub after_marks : ℕ → Notes → Exits → Option (List ℕ) → ℕ → ℕ → Notes
+after_marks capacity notes exits None seq now = notes
+after_marks capacity notes exits (Some src) seq now = after_passes capacity notes exits (record { src = src; seq = seq }) now
+
+-- the machine after one more step, in which a frame was marked and numbered or not
+abbrev pub after_frame : ℕ → Machine → ℕ → Exits → Option (List ℕ) → Counters → Machine
+after_frame capacity machine now exits source counters = record machine {
+  notes = after_marks capacity machine.notes exits source machine.next now;
+  next = after_number source machine.next;
+  counters = counters;
+  moment = now;
+  accepted = machine.accepted + 1;
+}
+
+-- ---- a frame of the RedBox's own
+
+abbrev pub sent_of : Handling → ℕ → BoxSent
+sent_of handling next = record { seq = number_of handling.source next; a = handling.wants.exits.a; b = handling.wants.exits.b; interlink = handling.wants.exits.c }
+
+abbrev pub after_send : ℕ → Machine → ℕ → Handling → BoxSent × Machine
+after_send capacity machine now handling =
+    (sent_of handling machine.next, after_frame capacity machine now handling.wants.exits handling.source (record machine.counters { sent = machine.counters.sent + 1 }))
+
+abbrev pub send_or_refuse : ℕ → Machine → ℕ → Handling → Option SendFault → Result BoxSent SendFault × Machine
+send_or_refuse capacity machine now handling (Some fault) = (Err fault, machine)
+send_or_refuse capacity machine now handling None = let after = after_send capacity machine now handling in (Ok after.0, after.1)
+
+-- a send, by its destination, type and length
+unfoldable pub send_step : ℕ → Machine → ℕ → List ℕ → ℕ → ℕ → Result BoxSent SendFault × Machine
+send_step capacity machine at dst kind len =
+    let now = now_at machine at in
+    send_or_refuse capacity machine now (handling_send machine.own (is_known now machine.proxies.heard) dst kind) (send_refusal machine.own machine.accepted dst kind len)
+
+-- ---- a supervision frame
+
+-- a RedBox speaks for itself and for the addresses that it knows
+abbrev pub speaks_for : (List ℕ → Bool) → About → Bool
+speaks_for knows Own = true
+speaks_for knows (Proxied mac) = knows mac
+
+-- why a supervision is refused, the first reason that applies
+abbrev pub life_refusal : (List ℕ → Bool) → ℕ → About → Option LifeFault
+life_refusal knows accepted about = first_of
+    ((not (speaks_for knows about), Some refused.NotProxied)
+    ∷ (accepted == 2 ^ 62, Some refused.Spent)
+    ∷ [])
+    None
+
+abbrev pub life_or_refuse : ℕ → Machine → ℕ → Option LifeFault → Result Life LifeFault × Machine
+life_or_refuse capacity machine now (Some fault) = (Err fault, machine)
+life_or_refuse capacity machine now None = (
+  Ok (record { seq = machine.next; life = machine.counters.life % 65536 }),
+  after_frame capacity machine now (exits_of (a ∷ b ∷ [])) (Some machine.own) (record machine.counters { life = machine.counters.life + 1 }),
+)
+
+unfoldable pub life_step : ℕ → Machine → ℕ → About → Result Life LifeFault × Machine
+life_step capacity machine at about =
+    let now = now_at machine at in
+    life_or_refuse capacity machine now (life_refusal (is_known now machine.proxies.heard) machine.accepted about)
+
+-- ---- an arrival
+
+abbrev pub verdict_of : Wants → Exits → Option ℕ → BoxVerdict
+verdict_of wants passes seq = record { up = passes.up; a = passes.a; b = passes.b; interlink = passes.c; seq = seq; cause = cause_of wants passes }
+
+-- the counters after a verdict, and after a supervision payload that could be read or not
+abbrev pub counted_with : Counters → BoxVerdict → Bool → Counters
+counted_with counters verdict readable =
+    let arrived = counted counters verdict.cause verdict.up (bit verdict.a + bit verdict.b + bit verdict.interlink) in
+    record arrived { bad_life = arrived.bad_life + bit (not readable) }
+
+-- ---- an arrival at a ring port
+
+abbrev pub key_of : TaggedFields → Key
+key_of frame = record { src = frame.src; seq = frame.seq }
+
+-- a wanted frame passes where it isn't remembered
+abbrev pub passes_of : Notes → Exits → Key → ℕ → Exits
+passes_of notes exits key now = record exits {
+  up = exits.up && not (remembers notes.up key now);
+  a = exits.a && not (remembers notes.a key now);
+  b = exits.b && not (remembers notes.b key now);
+  c = exits.c && not (remembers notes.interlink key now);
+}
+
+-- where an arrival passes, and the tables after that: only a tagged one is looked for and noted
+abbrev pub judged : ℕ → Notes → Exits → Result Seen FrameFault → ℕ → Exits × Notes
+judged capacity notes exits (Err fault) now = (exits, notes)
+judged capacity notes exits (Ok (Plain frame)) now = (exits, notes)
+judged capacity notes exits (Ok (Tagged frame)) now =
+    let passes = passes_of notes exits (key_of frame) now in (passes, after_passes capacity notes passes (key_of frame) now)
+
+-- a tagged supervision frame of another node is heard, duplicates too; whether it could be read, and the nodes after it
+abbrev pub heard_of : List ℕ → Nodes → RingPort → Result Seen FrameFault → ℕ → Bool × Nodes
+heard_of own nodes x (Err fault) now = (true, nodes)
+heard_of own nodes x (Ok (Plain frame)) now = (true, nodes)
+heard_of own nodes x (Ok (Tagged frame)) now =
+    if is_supervision frame.dst frame.kind && not (is_same_address frame.src own) then listened nodes frame.payload x now else (true, nodes)
+
+-- what came to ring port x, at the effective moment
+abbrev pub after_ring : ℕ → Machine → ℕ → RingPort → Result Seen FrameFault → BoxVerdict × Machine
+after_ring capacity machine now x seen =
+    let wants = wanted machine.own machine.mode (is_known now machine.proxies.heard) x seen in
+    let outcome = judged capacity machine.notes wants.exits seen now in
+    let hearing = heard_of machine.own machine.nodes x seen now in
+    let verdict = verdict_of wants outcome.0 None in (
+      verdict,
+      record machine {
+        notes = outcome.1;
+        nodes = hearing.1;
+        counters = counted_with machine.counters verdict hearing.0;
+        moment = now;
+        accepted = machine.accepted + 1;
+      },
+    )
+
+-- ---- an arrival at the interlink
+
+-- the source of a plain frame is heard, but for the own address
+abbrev pub heard_from : List ℕ → Proxies → Result Seen FrameFault → ℕ → Proxies
+heard_from own proxies (Err fault) now = proxies
+heard_from own proxies (Ok (Tagged frame)) now = proxies
+heard_from own proxies (Ok (Plain frame)) now = if is_same_address frame.src own then proxies else learned proxies (frame.src, now)
+
+-- a frame that is handled so passes wherever it is wanted; one with a number is noted on the interlink too, so that no copy of it is given back
+abbrev pub after_handling : ℕ → Machine → ℕ → Handling → BoxVerdict × Machine
+after_handling capacity machine now handling =
+    let verdict = verdict_of handling.wants handling.wants.exits (number_of handling.source machine.next) in
+    (verdict, after_frame capacity machine now (with_exit interlink handling.wants.exits) handling.source (counted_with machine.counters verdict true))
+
+-- what came to the interlink, at the effective moment: its source is heard before it is decided
+abbrev pub after_interlink : ℕ → Machine → ℕ → Result Seen FrameFault → BoxVerdict × Machine
+after_interlink capacity machine now seen =
+    let heard = record machine { proxies = heard_from machine.own machine.proxies seen now } in
+    after_handling capacity heard now (handling_interlink heard.own (is_known now heard.proxies.heard) seen)
+
+-- ---- an arrival, by its port
+
+abbrev pub after_arrival : ℕ → Machine → ℕ → BoxPort → Result Seen FrameFault → BoxVerdict × Machine
+after_arrival capacity machine now A seen = after_ring capacity machine now ring.A seen
+after_arrival capacity machine now B seen = after_ring capacity machine now ring.B seen
+after_arrival capacity machine now I seen = after_interlink capacity machine now seen
+
+abbrev pub arrive_or_spent : ℕ → Machine → ℕ → BoxPort → List ℕ → Bool → Result BoxVerdict Spent × Machine
+arrive_or_spent capacity machine now port octets true = (Err (record {}), machine)
+arrive_or_spent capacity machine now port octets false = let after = after_arrival capacity machine now port (classified octets) in (Ok after.0, after.1)
+
+unfoldable pub arrive_step : ℕ → Machine → ℕ → BoxPort → List ℕ → Result BoxVerdict Spent × Machine
+arrive_step capacity machine at port octets = arrive_or_spent capacity machine (now_at machine at) port octets (machine.accepted == 2 ^ 62)
+
+-- ---- ageing, which isn't counted as a step
+
+abbrev pub aged : Notes → ℕ → Notes
+aged notes now = record {
+  up = after_age notes.up now;
+  a = after_age notes.a now;
+  b = after_age notes.b now;
+  interlink = after_age notes.interlink now;
+}
+
+abbrev pub age_step : Machine → ℕ → Machine
+age_step machine at = record machine { notes = aged machine.notes (now_at machine at); moment = now_at machine at }

@@ -1,0 +1,342 @@
+//! A node with two ring ports and an interlink, its tables and its counters.
+ghost use Rattle.std.specs.Prelude.{◌≡◌, ◌≢◌, ◌+◌, ◌-◌, ◌≤◌, ◌<◌, ◌^◌, length, map, true, IfOk, OnOk, IfNone, Option, Result};
+
+use crate::call::{About, BoxPort, BoxSent, BoxVerdict, LifeFault};
+use crate::tables::Tables;
+use crate::wanted::{both_ports, interlink_handling, ring_wants, send_handling};
+use arrayvec::ArrayVec;
+use hsr_frame::{
+    Counters, Exits, FrameFault, Life, Mac, Mode, NoMemory, RingPort, STEPS, SendFault, Spent,
+    Wants, is_supervision, send_fault,
+};
+use hsr_tables::{NodeRow, NodeTable, ProxyTable};
+use hsr_tag::{Seen, classify};
+use std::alloc::Global;
+use std::marker::Model;
+
+/// A node between a ring and the stations of its interlink (IEC 62439-3 clause 5.3), whose duplicate tables have
+/// `C` entries each, `C` from 1 to 65535. Moments are in milliseconds; one that is earlier than the last is read
+/// as the last. Only `new` takes memory.
+#[derive(Drop)]
+pub struct RedBox<const C: usize> {
+    own: Mac,
+    mode: Mode,
+    tables: Tables<C>,
+    proxies: ProxyTable,
+    nodes: NodeTable,
+    next: u16,
+    counters: Counters,
+    moment: u64,
+    accepted: u64,
+}
+
+impl<const C: usize> Model for RedBox<C> {
+    ghost use Rattle.hsr_redbox.specs.Machine.{IsSound, Machine};
+
+    ghost Value = { Machine };
+
+    ghost view = { λ d. record { own = d.own; mode = d.mode; notes = d.tables; proxies = d.proxies; nodes = d.nodes; next = d.next; counters = d.counters; moment = d.moment; accepted = d.accepted } };
+
+    ghost invariant = { λ d. IsSound (record { own = d.own; mode = d.mode; notes = d.tables; proxies = d.proxies; nodes = d.nodes; next = d.next; counters = d.counters; moment = d.moment; accepted = d.accepted }) };
+}
+
+impl<const C: usize> RedBox<C> {
+    ghost use Rattle.hsr_frame.specs.Address.{IsGroup};
+    ghost use Rattle.hsr_frame.specs.Counters.{AreWithin};
+    ghost use Rattle.hsr_tables.specs.Known.{known};
+    ghost use Rattle.hsr_redbox.specs.Machine.{new_machine};
+    ghost use Rattle.hsr_redbox.specs.Step.{after_frame, after_interlink, after_ring, age_step, arrive_step, life_step, now_at, send_step};
+
+    /// A node that has done nothing. No group has its address.
+    pub fn new(alloc: Global, own: Mac, mode: Mode) -> Result<Self, NoMemory>
+        requires station { ¬ IsGroup own }
+        requires entries { (1 ≤ C) × (C ≤ 65535) }
+        ensures { IfOk result (λ redbox. redbox ≡ new_machine own mode) }
+    {
+        let tables = Tables::new(alloc)?;
+        Ok(RedBox {
+            own,
+            mode,
+            tables,
+            proxies: ProxyTable::new(),
+            nodes: NodeTable::new(),
+            next: 0,
+            counters: Counters::new(),
+            moment: 0,
+            accepted: 0,
+        })
+    }
+
+    /// Sends a frame of this node's own (IEC 62439-3 clause 5.3): to a station of the interlink with no number and
+    /// by the interlink alone; any other with the next number by both ring ports, and one to a group by the interlink
+    /// too unless it is a supervision frame. It refuses a frame to itself, one of the type of a VLAN or HSR tag, any
+    /// where `STEPS` steps are spent, and one of over 1500 octets of payload, in this order; a refusal changes
+    /// nothing.
+    pub fn send(
+        &mut self,
+        at: u64,
+        dst: Mac,
+        _vlan: Option<u16>,
+        kind: u16,
+        payload: &[u8],
+    ) -> Result<BoxSent, SendFault>
+        ensures step { (result, self.new) ≡ send_step C self.old at dst kind (length payload.now) }
+        // What is sent is a frame.
+        ensures formed { OnOk result ((kind ≢ 0x8100) × (kind ≢ 0x892F) × (length payload.now ≤ 1500)) }
+    {
+        if let Some(fault) = send_fault(self.own, self.accepted, dst, kind, payload.len()) {
+            return Err(fault);
+        }
+        let now = self.moment.max(at);
+        let handling = send_handling(self.own, &self.proxies, dst, kind, now);
+        let exits = handling.wants.exits;
+        let sent = BoxSent {
+            seq: number_of(handling.source, self.next),
+            a: exits.a,
+            b: exits.b,
+            interlink: exits.c,
+        };
+        let counters = Counters {
+            sent: self.counters.sent + 1,
+            ..self.counters
+        };
+        self.leave(exits, handling.source, counters, now);
+        Ok(sent)
+    }
+
+    /// Numbers a supervision frame about this node or a station of its interlink, and sends it by both ring ports
+    /// under its own address (IEC 62439-3 clause 5.7); `life` counts the earlier ones, modulo 65536. It refuses one
+    /// about an address that isn't known at this moment, and any where `STEPS` steps are spent, in this order; a
+    /// refusal changes nothing.
+    pub fn supervise(&mut self, at: u64, about: About) -> Result<Life, LifeFault>
+        ensures { (result, self.new) ≡ life_step C self.old at about }
+    {
+        let now = self.moment.max(at);
+        if let Some(fault) = life_fault(&self.proxies, self.accepted, about, now) {
+            return Err(fault);
+        }
+        let life = Life {
+            seq: self.next,
+            life: (self.counters.life % 65536) as u16,
+        };
+        let counters = Counters {
+            life: self.counters.life + 1,
+            ..self.counters
+        };
+        let own = self.own;
+        self.leave(both_ports(), Some(own), counters, now);
+        Ok(life)
+    }
+
+    /// Judges what came to a port (IEC 62439-3 clause 5.3). Octets that are no frame are counted. Of a ring port plain
+    /// frames are dropped, and tagged ones pass where they are wanted and not remembered. Of the interlink
+    /// tagged frames are dropped; the source of a plain one is heard, and it passes wherever it is wanted: to the
+    /// ring with the next number. Where `STEPS` steps are spent it changes nothing.
+    pub fn arrive(&mut self, at: u64, port: BoxPort, octets: &[u8]) -> Result<BoxVerdict, Spent>
+        ensures { (result, self.new) ≡ arrive_step C self.old at port octets.now }
+    {
+        if self.accepted == STEPS {
+            return Err(Spent);
+        }
+        let now = self.moment.max(at);
+        let seen = classify(octets);
+        match port {
+            BoxPort::A => Ok(self.from_ring(RingPort::A, &seen, now)),
+            BoxPort::B => Ok(self.from_ring(RingPort::B, &seen, now)),
+            BoxPort::I => Ok(self.from_interlink(&seen, now)),
+        }
+    }
+
+    /// Judges what came to a ring port, at the effective moment.
+    fn from_ring(&mut self, x: RingPort, seen: &Result<Seen, FrameFault>, now: u64) -> BoxVerdict
+        requires steps { self.old.accepted < 2 ^ 62 }
+        requires later { self.old.moment ≤ now }
+        ensures { (result, self.new) ≡ after_ring C self.old now x seen.now }
+    {
+        let wants = ring_wants(self.own, self.mode, &self.proxies, x, seen, now);
+        let passes = self.tables.judge(wants.exits, seen, now);
+        let readable = hear(&mut self.nodes, self.own, x, seen, now);
+        let verdict = verdict_on(wants, passes, None);
+        count(&mut self.counters, verdict, readable);
+        self.moment = now;
+        self.accepted += 1;
+        verdict
+    }
+
+    /// Judges what came to the interlink, at the effective moment.
+    fn from_interlink(&mut self, seen: &Result<Seen, FrameFault>, now: u64) -> BoxVerdict
+        requires steps { self.old.accepted < 2 ^ 62 }
+        requires later { self.old.moment ≤ now }
+        ensures { (result, self.new) ≡ after_interlink C self.old now seen.now }
+    {
+        learn(&mut self.proxies, self.own, seen, now);
+        self.moment = now;
+        let handling = interlink_handling(self.own, &self.proxies, seen, now);
+        let exits = handling.wants.exits;
+        let seq = number_of(handling.source, self.next);
+        let verdict = verdict_on(handling.wants, exits, seq);
+        let mut counters = self.counters;
+        count(&mut counters, verdict, true);
+        // noted on the interlink too, so that no copy that comes back is given back
+        self.leave(Exits { c: true, ..exits }, handling.source, counters, now);
+        verdict
+    }
+
+    /// Takes one more step, in which a frame leaves by these egresses: one with a number is noted there.
+    fn leave(&mut self, exits: Exits, source: Option<Mac>, counters: Counters, now: u64)
+        requires steps { self.old.accepted < 2 ^ 62 }
+        requires later { self.old.moment ≤ now }
+        requires within { AreWithin counters (self.old.accepted + 1) }
+        ensures { self.new ≡ after_frame C self.old now exits source counters }
+    {
+        self.tables.mark(exits, source, self.next, now);
+        self.next = self.next.wrapping_add(u16::from(source.is_some()));
+        self.counters = counters;
+        self.moment = now;
+        self.accepted += 1;
+    }
+
+    /// Gives up the notes that are expired.
+    pub fn age(&mut self, at: u64)
+        ensures { self.new ≡ age_step self.old at }
+    {
+        let now = self.moment.max(at);
+        self.tables.age(now);
+        self.moment = now;
+    }
+
+    /// The node's own address: no group's.
+    pub fn address(&self) -> Mac
+        ensures own { result ≡ self.now.own }
+        ensures station { ¬ IsGroup result }
+    {
+        self.own
+    }
+
+    /// How often each thing happened here.
+    pub fn counters(&self) -> Counters
+        ensures value { result ≡ self.now.counters }
+        ensures within { AreWithin result (2 ^ 62) }
+    {
+        self.counters
+    }
+
+    /// The nodes that were heard on the ring less than `NODE_FORGET` milliseconds ago, the latest first.
+    pub fn nodes(&self, at: u64) -> ArrayVec<NodeRow, 64>
+        ensures { result.items ≡ map (λ r. r.0) (known (now_at self.now at) self.now.nodes.rows) }
+    {
+        self.nodes.rows(self.moment.max(at))
+    }
+
+    /// The addresses that were heard on the interlink less than `NODE_FORGET` milliseconds ago, each with the
+    /// moment when it was heard last, the latest first.
+    pub fn proxies(&self, at: u64) -> ArrayVec<(Mac, u64), 64>
+        ensures { result.items ≡ known (now_at self.now at) self.now.proxies.heard }
+    {
+        self.proxies.list(self.moment.max(at))
+    }
+}
+
+ghost use Rattle.hsr_frame.specs.Counters.{AreWithin};
+ghost use Rattle.hsr_tables.specs.Proxies.{is_known};
+ghost use Rattle.hsr_redbox.specs.Step.{counted_with, heard_from, heard_of, life_refusal, number_of, speaks_for, verdict_of};
+
+/// The number that a frame gets, if it has a source to get it for.
+fn number_of(source: Option<Mac>, next: u16) -> Option<u16>
+    ensures { result ≡ number_of source next }
+{
+    match source {
+        Some(_) => Some(next),
+        None => None,
+    }
+}
+
+/// Whether a supervision frame may be about this.
+fn speaks_for(proxies: &ProxyTable, about: About, now: u64) -> bool
+    requires { proxies.now.last ≤ now }
+    ensures { result ≡ speaks_for (is_known now proxies.now.heard) about }
+{
+    match about {
+        About::Own => true,
+        About::Proxied(mac) => proxies.knows(mac, now),
+    }
+}
+
+/// Why a supervision is refused, if it is.
+fn life_fault(proxies: &ProxyTable, accepted: u64, about: About, now: u64) -> Option<LifeFault>
+    requires later { proxies.now.last ≤ now }
+    requires steps { accepted ≤ 2 ^ 62 }
+    ensures fault { result ≡ life_refusal (is_known now proxies.now.heard) accepted about }
+    ensures room { IfNone result (accepted < 2 ^ 62) }
+{
+    if !speaks_for(proxies, about, now) {
+        Some(LifeFault::NotProxied)
+    } else if accepted == STEPS {
+        Some(LifeFault::Spent)
+    } else {
+        None
+    }
+}
+
+/// The verdict on what these of the egresses that want it pass.
+fn verdict_on(wants: Wants, passes: Exits, seq: Option<u16>) -> BoxVerdict
+    ensures { result ≡ verdict_of wants passes seq }
+{
+    BoxVerdict {
+        up: passes.up,
+        a: passes.a,
+        b: passes.b,
+        interlink: passes.c,
+        seq,
+        cause: wants.cause_of(passes),
+    }
+}
+
+/// Hears a supervision frame of another node, and tells whether what it says could be read.
+fn hear(
+    nodes: &mut NodeTable,
+    own: Mac,
+    x: RingPort,
+    seen: &Result<Seen, FrameFault>,
+    now: u64,
+) -> bool
+    requires { nodes.old.last ≤ now }
+    ensures { (result, nodes.new) ≡ heard_of own nodes.old x seen.now now }
+{
+    match seen {
+        Ok(Seen::Tagged(frame)) if is_supervision(frame.dst, frame.kind) && frame.src != own => {
+            nodes.listen(frame.payload.as_slice(), x, now)
+        }
+        _ => true,
+    }
+}
+
+/// Hears the source of a plain frame, but for the own address.
+fn learn(proxies: &mut ProxyTable, own: Mac, seen: &Result<Seen, FrameFault>, now: u64)
+    requires { proxies.old.last ≤ now }
+    ensures heard { proxies.new ≡ heard_from own proxies.old seen.now now }
+    ensures later { proxies.new.last ≤ now }
+{
+    match seen {
+        Ok(Seen::Plain(frame)) if frame.src != own => proxies.learn(frame.src, now),
+        _ => {}
+    }
+}
+
+/// Counts an arrival, and a supervision payload that could not be read.
+fn count(counters: &mut Counters, verdict: BoxVerdict, readable: bool)
+    requires { AreWithin counters.old (2 ^ 62) }
+    ensures { counters.new ≡ counted_with counters.old verdict readable }
+{
+    let copies = u64::from(verdict.a) + u64::from(verdict.b) + u64::from(verdict.interlink);
+    counters.count(verdict.cause, verdict.up, copies);
+    counters.bad_life += u64::from(!readable);
+}
+
+ghost use Rattle.hsr_redbox.specs.Past.{AnswersAsPast};
+
+/// After any list of calls a RedBox has answered as the machine does that keeps its whole past and filters it, and its
+/// counters, and the nodes and addresses that it knows, are those of that past.
+pub fn answers_as_past<const C: usize>()
+    ensures { AnswersAsPast C }
+{}
