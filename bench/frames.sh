@@ -3,9 +3,9 @@
 set -eu
 top=$(cd "$(dirname "${BASH_SOURCE[0]}")/.." && pwd)
 work=$(mktemp -d); trap 'rm -rf "$work"' EXIT
-mkdir "$work/crates"
+mkdir -p "$work/crates/frames/src"
 cp -r "$top/crates/hsr_frame" "$top/crates/hsr_tag" "$work/crates"
-cp -r "$top/bench/frames" "$work/crates"
+cp "$top/bench/frames.rt.txt" "$work/crates/frames/src/main.rt" # the gate takes sources of crates alone
 { grep -E '^hsr_(frame|tag):' "$top/crates.txt"; echo "frames: hsr_frame hsr_tag"; } > "$work/crates.txt"
 cp "$top/HANDLES" "$work"
 cd "$work/crates/frames"
