@@ -1,14 +1,14 @@
 #!/usr/bin/env bash
-# Measures `hsr_bench node` over 200,000 lines: sends of 20 octets of payload, and then mixed lines, of which half are
-# arrivals and a third of those second copies. Three runs each: processor time and peak memory.
+# Measures `hsr_bench node` over 200,000 lines: sends of about 46 octets a line, and then mixed lines with 20 octets of
+# payload, of which half are arrivals and a third of those second copies. Three runs each: processor time, peak memory.
 set -eu
 top=$(cd "$(dirname "${BASH_SOURCE[0]}")/.." && pwd)
 lines=${1:-200000}
 "$top/hsr_bench" < /dev/null > /dev/null
 work=$(mktemp -d); trap 'rm -rf "$work"' EXIT
 payload=ABABABABABABABABABABABABABABABABABABABAB
-awk -v n="$lines" -v p="$payload" 'BEGIN {
-  for (i = 0; i < n; i++) print "send " i " 02-00-00-00-00-02 0800 " p
+awk -v n="$lines" 'BEGIN {
+  for (i = 0; i < n; i++) { line = "send " i " 02-00-00-00-00-02 0800 "; while (length(line) < 44) line = line "AB"; print line }
 }' > "$work/sends"
 awk -v n="$lines" -v p="$payload" 'BEGIN {
   for (i = 0; i < n; i++) {
