@@ -19,7 +19,7 @@ pub use lines::{Front, MOST_READS, ReadFault, next_line};
 pub use mac::Mac;
 pub use node::{Cause, Life, Mode, RingPort, STEPS};
 pub use octets::{HSR, VLAN, copied, put, put_head, put_pair, u16_at};
-pub use raw::Raw;
+pub use raw::{Head, Raw};
 pub use send::send_fault;
 pub use words::{WordFault, decimal, hex_octets, hex_pair, put_decimal, put_hex, word};
 

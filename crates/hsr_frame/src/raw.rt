@@ -31,6 +31,29 @@ impl Model for Raw {
     ghost invariant = { λ r. (¬ IsGroup r.src) × (r.kind ≢ 0x8100) };
 }
 
+/// A frame, before any HSR tag is looked for, whose rest stands in the octets that were read: as `Raw`, with
+/// no copy.
+#[derive(Drop)]
+pub struct Head<'a> {
+    pub dst: Mac,
+    pub src: Mac,
+    pub vlan: Option<u16>,
+    pub kind: u16,
+    pub rest: &'a [u8],
+}
+
+impl<'a> Model for Head<'a> {
+    ghost use Rattle.std.specs.Prelude.{◌≢◌, ◌≤◌, length};
+    ghost use Rattle.hsr_frame.specs.Address.{IsGroup};
+    ghost use Rattle.hsr_frame.specs.Grammar.{Fields};
+
+    ghost Value = { Fields };
+
+    ghost view = { λ h. record { dst = h.dst; src = h.src; vlan = h.vlan; kind = h.kind; rest = h.rest.now } };
+
+    ghost invariant = { λ h. (¬ IsGroup h.src) × (h.kind ≢ 0x8100) × (length h.rest.now ≤ 1506) };
+}
+
 /// The address at a place.
 fn mac_at(octets: &[u8], at: usize) -> Mac
     requires { at + 5 < length octets.now }
@@ -41,7 +64,7 @@ fn mac_at(octets: &[u8], at: usize) -> Mac
 }
 
 /// The frame by its places, or the first of the faults.
-fn read(octets: &[u8]) -> Result<Raw, FrameFault>
+fn read(octets: &[u8]) -> Result<Head<'_>, FrameFault>
     ensures found { IfOk result (λ r. (raw_fault octets.now ≡ None) × (r ≡ fields_of octets.now)) }
     ensures fault { IfErr result (λ e. raw_fault octets.now ≡ Some e) }
 {
@@ -71,19 +94,19 @@ fn read(octets: &[u8]) -> Result<Raw, FrameFault>
     if kind == VLAN {
         return Err(FrameFault::DoubleVlan);
     }
-    Ok(Raw {
+    Ok(Head {
         dst: mac_at(octets, 0),
         src,
         vlan,
         kind,
-        rest: copied(rest),
+        rest,
     })
 }
 
-impl Raw {
+impl<'a> Head<'a> {
     /// The frame that the octets spell, or the first of the faults: too short, too long, from a group,
     /// with two VLAN tags.
-    pub fn parse(octets: &[u8]) -> Result<Raw, FrameFault>
+    pub fn parse(octets: &'a [u8]) -> Result<Head<'a>, FrameFault>
         ensures exact { result ≡ raw_of octets.now }
         // What is read is spelled so.
         ensures found { IfOk result (λ r. IsRaw r × (octets.now ≡ spelling r)) }
@@ -91,6 +114,26 @@ impl Raw {
         ensures only { (f : Fields) → IsRaw f → octets.now ≡ spelling f → result ≡ Ok f }
     {
         read(octets)
+    }
+}
+
+impl Raw {
+    /// As `Head::parse`, with a copy of the rest.
+    pub fn parse(octets: &[u8]) -> Result<Raw, FrameFault>
+        ensures exact { result ≡ raw_of octets.now }
+        // What is read is spelled so.
+        ensures found { IfOk result (λ r. IsRaw r × (octets.now ≡ spelling r)) }
+        // What is spelled so is read.
+        ensures only { (f : Fields) → IsRaw f → octets.now ≡ spelling f → result ≡ Ok f }
+    {
+        let head = Head::parse(octets)?;
+        Ok(Raw {
+            dst: head.dst,
+            src: head.src,
+            vlan: head.vlan,
+            kind: head.kind,
+            rest: copied(head.rest),
+        })
     }
 
     /// The octets of the frame: at most 1524.

@@ -4,7 +4,7 @@ ghost use Rattle.hsr_frame.specs.Grammar.{Fields, spelling, IsRaw};
 ghost use Rattle.hsr_tag.specs.Tag.{TaggedFields, IsPlain, IsTagged, tagged_spelling};
 
 use crate::frame::{Frame, Tagged};
-use hsr_frame::{FrameFault, HSR, Raw, VLAN, copied, u16_at};
+use hsr_frame::{FrameFault, HSR, Head, VLAN, copied, u16_at};
 
 /// A frame that was read.
 #[derive(Drop)]
@@ -15,23 +15,23 @@ pub enum Seen {
 
 ghost use Rattle.hsr_tag.specs.Seen.{IsReadOneWay, Sees, Spells, classified, seen_in, tag_fault};
 
-/// What a frame is from its type on.
-fn seen_of(raw: &Raw) -> Result<Seen, FrameFault>
-    requires { IsRaw raw.now }
-    ensures sees { IfOk result (λ s. Sees raw.now s) }
-    ensures found { IfOk result (λ s. (tag_fault raw.now ≡ None) × (s ≡ seen_in raw.now)) }
-    ensures fault { IfErr result (λ e. tag_fault raw.now ≡ Some e) }
+/// What a frame is from its type on; its rest is given by itself, so that its octets are known to be octets.
+fn seen_of(head: &Head<'_>, rest: &[u8]) -> Result<Seen, FrameFault>
+    requires raw { IsRaw head.now }
+    requires same { head.now.rest ≡ rest.now }
+    ensures sees { IfOk result (λ s. Sees head.now s) }
+    ensures found { IfOk result (λ s. (tag_fault head.now ≡ None) × (s ≡ seen_in head.now)) }
+    ensures fault { IfErr result (λ e. tag_fault head.now ≡ Some e) }
 {
-    let rest = raw.rest.as_slice();
-    if raw.kind != HSR {
+    if head.kind != HSR {
         if rest.len() > 1500 {
             return Err(FrameFault::Long);
         }
         return Ok(Seen::Plain(Frame {
-            dst: raw.dst,
-            src: raw.src,
-            vlan: raw.vlan,
-            kind: raw.kind,
+            dst: head.dst,
+            src: head.src,
+            vlan: head.vlan,
+            kind: head.kind,
             payload: copied(rest),
         }));
     }
@@ -47,9 +47,9 @@ fn seen_of(raw: &Raw) -> Result<Seen, FrameFault>
         return Err(FrameFault::DoubleVlan);
     }
     Ok(Seen::Tagged(Tagged {
-        dst: raw.dst,
-        src: raw.src,
-        vlan: raw.vlan,
+        dst: head.dst,
+        src: head.src,
+        vlan: head.vlan,
         path: (first / 4096) as u8,
         size: first % 4096,
         seq: u16_at(rest, 2),
@@ -65,11 +65,11 @@ fn read(octets: &[u8]) -> Result<Seen, FrameFault>
     ensures only_plain { (f : Fields) → IsPlain f → octets.now ≡ spelling f → result ≡ Ok (Seen.Plain f) }
     ensures only_tagged { (t : TaggedFields) → IsTagged t → octets.now ≡ tagged_spelling t → result ≡ Ok (Seen.Tagged t) }
 {
-    let raw = Raw::parse(octets)?;
-    seen_of(&raw)
+    let head = Head::parse(octets)?;
+    seen_of(&head, head.rest)
 }
 
-/// The frame that the octets spell, or the first of the faults: those of `Raw::parse`, and then a tag that
+/// The frame that the octets spell, or the first of the faults: those of `Head::parse`, and then a tag that
 /// is too short, a tag or VLAN tag behind it, a plain frame that is too long (IEC 62439-3 clause 5.6).
 pub fn classify(octets: &[u8]) -> Result<Seen, FrameFault>
     ensures exact { result ≡ classified octets.now }

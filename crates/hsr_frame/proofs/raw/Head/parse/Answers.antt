@@ -1,5 +1,5 @@
 use Rattle.hsr_frame.proofs.Raws.{only_frame}
-use Rattle.hsr_frame.proofs.raw.Raw.parse.Goals as goal
+use Rattle.hsr_frame.proofs.raw.Head.parse.Goals as goal
 
 pub returns-clause-only : goal.returns-clause-only
 returns-clause-only c = only_frame c.args.octets.now c.read.result c.read.ensures.found c.read.ensures.fault
