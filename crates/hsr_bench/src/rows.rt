@@ -107,3 +107,14 @@ fn malformed_arrivals(rt: HostRuntime) -> Result<(), Fail> {
     assert!(rt; writes(&rt, &defaults(), input.as_slice(), output.as_slice()));
     Ok(())
 }
+
+#[test]
+fn payload_too_long(rt: HostRuntime) -> Result<(), Fail> {
+    let mut input = Vec::new(rt.alloc());
+    input.extend_from_slice(b"send 0 02-00-00-00-00-02 0800 ")?;
+    input.extend_from_slice(&[b'0'; 3002])?;
+    input.extend_from_slice(b"\n")?;
+    let output = b"refused 4\nsent 0 life 0 up 0 forwarded 0 duplicate 0 returned 0 dropped 0\n";
+    assert!(rt; writes(&rt, &defaults(), input.as_slice(), output.as_slice()));
+    Ok(())
+}
