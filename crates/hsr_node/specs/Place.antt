@@ -1,0 +1,11 @@
+-- What a place may be.
+use Rattle.hsr_frame.specs.Address.{IsGroup}
+use Rattle.hsr_node.specs.declared.place.Place.{Place}
+use Rattle.hsr_node.specs.declared.place.Place.TheVariants.{Danh, RedBox, QuadBox, Station}
+
+-- no group has the address of a node on a ring
+abbrev pub HasOwnAddress : Place → Type 0
+HasOwnAddress (Danh mac mode) = ¬ IsGroup mac
+HasOwnAddress (RedBox mac mode) = ¬ IsGroup mac
+HasOwnAddress QuadBox = Unit {0}
+HasOwnAddress (Station macs) = Unit {0}

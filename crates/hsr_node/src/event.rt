@@ -1,0 +1,107 @@
+//! What happens to a node, and what it answers.
+ghost use Rattle.std.specs.Prelude.{◌≡◌, IfOk};
+ghost use Rattle.hsr_node.specs.Event.{view};
+
+use hsr_frame::{Cause, Mac, NoMemory, SendFault};
+use hsr_redbox::About;
+use std::marker::Model;
+
+/// Names the entry of a send: the number of its node, and its place in that node's record.
+#[derive(Clone, Copy, Debug, PartialEq, Eq)]
+pub struct Probe {
+    pub node: usize,
+    pub place: usize,
+}
+
+/// A copy on its way. No verdict depends on the probe.
+#[derive(Clone, Drop)]
+pub struct Carried {
+    pub probe: Option<Probe>,
+    pub octets: Vec<u8>,
+}
+
+impl Model for Carried {
+    ghost use Rattle.hsr_node.specs.Carried.{Copy};
+
+    ghost Value = { Copy };
+
+    ghost view = { λ c. record { probe = c.probe; octets = c.octets.items } };
+}
+
+/// What happens to a node.
+#[derive(Clone, Drop)]
+pub enum Event {
+    /// It sends a frame of its own; `from` is the place of the source among a Station's addresses, else 0.
+    Send {
+        from: u8,
+        dst: Mac,
+        vlan: Option<u16>,
+        kind: u16,
+        payload: Vec<u8>,
+    },
+    /// It sends a supervision frame.
+    Supervise(About),
+    /// A copy comes to a port.
+    Arrive {
+        port: u8,
+        carried: Carried,
+    },
+    /// It gives up what is expired.
+    Age,
+}
+
+/// What a node answers; `ports` are those by which a frame leaves, in the order of their numbers.
+#[derive(Clone, Copy, Debug, PartialEq, Eq)]
+pub enum Outcome {
+    /// A frame was sent, with this number if it got one.
+    Sent {
+        seq: Option<u16>,
+        ports: [bool; 4],
+    },
+    /// A supervision frame was sent; `life` counts the earlier ones, modulo 65536.
+    Life {
+        seq: u16,
+        life: u16,
+        ports: [bool; 4],
+    },
+    /// An arrival was judged; `seq` is the number that the node gave it, if it did.
+    Judged {
+        up: bool,
+        ports: [bool; 4],
+        seq: Option<u16>,
+        cause: Cause,
+    },
+    /// What is expired was given up.
+    Aged,
+}
+
+/// Why a node refuses an event, in the order in which the reasons are tried.
+#[derive(Clone, Copy, Debug, PartialEq, Eq)]
+pub enum StepFault {
+    /// The event doesn't fit the kind of node, its ports or its addresses.
+    WrongEvent,
+    /// The frame can't be sent.
+    Send(SendFault),
+    /// A supervision is about an address that isn't known on the interlink.
+    NotProxied,
+    /// The node has accepted as many steps as it may: `STEPS`.
+    Spent,
+}
+
+impl Carried {
+    /// An equal copy; `NoMemory` where room for it is refused.
+    pub fn copy(&self) -> Result<Carried, NoMemory>
+        ensures { IfOk result (λ carried. carried ≡ self.now) }
+    {
+        Ok(self.clone()?)
+    }
+}
+
+impl Event {
+    /// An equal event; `NoMemory` where room for it is refused.
+    pub fn copy(&self) -> Result<Event, NoMemory>
+        ensures { IfOk result (λ event. view event ≡ view self.now) }
+    {
+        Ok(self.clone()?)
+    }
+}

@@ -1,0 +1,17 @@
+//! What kind of node stands at a place.
+use arrayvec::ArrayVec;
+use hsr_frame::{Mac, Mode};
+
+/// A kind of node, with its addresses (IEC 62439-3 clause 5). The ports have numbers: A is 0 and B is 1; a RedBox has
+/// its interlink 2, a QuadBox has C 2 and D 3, and a Station has the one port 0.
+#[derive(Drop)]
+pub enum Place {
+    /// A doubly attached node.
+    Danh { mac: Mac, mode: Mode },
+    /// A node between a ring and an interlink.
+    RedBox { mac: Mac, mode: Mode },
+    /// A node between two rings, which has no address.
+    QuadBox,
+    /// A node with one port, which knows no HSR.
+    Station { macs: ArrayVec<Mac, 16> },
+}

@@ -1,0 +1,125 @@
+//! The events of a RedBox.
+ghost use Rattle.std.specs.Prelude.{◌≡◌, length, Option};
+ghost use Rattle.hsr_node.specs.Event.{view};
+ghost use Rattle.hsr_node.specs.Step.{box_port, life_fault, redbox_arrive, redbox_send, redbox_step, redbox_supervise};
+
+use crate::event::{Event, Outcome, StepFault};
+use hsr_frame::Mac;
+use hsr_redbox::{About, BoxPort, LifeFault, RedBox};
+
+/// The port of a RedBox with this number.
+fn box_port(number: u8) -> Option<BoxPort>
+    ensures { result ≡ box_port number }
+{
+    match number {
+        0 => Some(BoxPort::A),
+        1 => Some(BoxPort::B),
+        2 => Some(BoxPort::I),
+        _ => None,
+    }
+}
+
+/// Why a node refuses what its RedBox refuses.
+fn step_fault(fault: LifeFault) -> StepFault
+    ensures { result ≡ life_fault fault }
+{
+    match fault {
+        LifeFault::NotProxied => StepFault::NotProxied,
+        LifeFault::Spent => StepFault::Spent,
+    }
+}
+
+/// Sends a frame of the node's own.
+fn send<const C: usize>(
+    redbox: &mut RedBox<C>,
+    at: u64,
+    dst: Mac,
+    vlan: Option<u16>,
+    kind: u16,
+    payload: &[u8],
+) -> Result<Outcome, StepFault>
+    ensures { (result, redbox.new) ≡ redbox_send C redbox.old at dst kind (length payload.now) }
+{
+    match redbox.send(at, dst, vlan, kind, payload) {
+        Ok(sent) => Ok(Outcome::Sent {
+            seq: sent.seq,
+            ports: [sent.a, sent.b, sent.interlink, false],
+        }),
+        Err(fault) => Err(StepFault::Send(fault)),
+    }
+}
+
+/// Sends a supervision frame about the node itself or a station of its interlink.
+fn supervise<const C: usize>(
+    redbox: &mut RedBox<C>,
+    at: u64,
+    about: About,
+) -> Result<Outcome, StepFault>
+    ensures { (result, redbox.new) ≡ redbox_supervise C redbox.old at about }
+{
+    match redbox.supervise(at, about) {
+        Ok(sent) => Ok(Outcome::Life {
+            seq: sent.seq,
+            life: sent.life,
+            ports: [true, true, false, false],
+        }),
+        Err(fault) => Err(step_fault(fault)),
+    }
+}
+
+/// Judges what came to a port, if the node has it.
+fn arrive<const C: usize>(
+    redbox: &mut RedBox<C>,
+    at: u64,
+    port: Option<BoxPort>,
+    octets: &[u8],
+) -> Result<Outcome, StepFault>
+    ensures { (result, redbox.new) ≡ redbox_arrive C redbox.old at port octets.now }
+{
+    let Some(port) = port else {
+        return Err(StepFault::WrongEvent);
+    };
+    match redbox.arrive(at, port, octets) {
+        Ok(verdict) => Ok(Outcome::Judged {
+            up: verdict.up,
+            ports: [verdict.a, verdict.b, verdict.interlink, false],
+            seq: verdict.seq,
+            cause: verdict.cause,
+        }),
+        Err(_) => Err(StepFault::Spent),
+    }
+}
+
+/// Lets an event happen to a RedBox (IEC 62439-3 clause 5.3).
+#[tactic(auto, unfolding(crate::specs::Step::redbox_step))]
+pub(crate) fn apply_redbox<const C: usize>(
+    redbox: &mut RedBox<C>,
+    at: u64,
+    event: &Event,
+) -> Result<Outcome, StepFault>
+    ensures { (result, redbox.new) ≡ redbox_step C redbox.old at (view event.now) }
+{
+    match event {
+        Event::Send {
+            from,
+            dst,
+            vlan,
+            kind,
+            payload,
+        } => {
+            if *from == 0 {
+                send(redbox, at, *dst, *vlan, *kind, payload.as_slice())
+            } else {
+                Err(StepFault::WrongEvent)
+            }
+        }
+        Event::Supervise(about) => supervise(redbox, at, *about),
+        Event::Arrive { port, carried } => {
+            arrive(redbox, at, box_port(*port), carried.octets.as_slice())
+        }
+        Event::Age => {
+            redbox.age(at);
+            Ok(Outcome::Aged)
+        }
+    }
+}
