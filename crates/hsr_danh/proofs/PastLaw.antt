@@ -40,19 +40,19 @@ use Rattle.hsr_tables.proofs.NodeLaws.{rows_of_latest}
 use Rattle.hsr_danh.proofs.Steps.{AreWithin-judged, notes-passed}
 
 -- what a machine holds is what its past gives
-record IsPastOf (capacity : ℕ) (machine : Machine) (past : List Deed) : Type 0 where
-  on_up : StandsFor capacity machine.notes.up (log_of machine.own up past)
-  on_a : StandsFor capacity machine.notes.a (log_of machine.own a past)
-  on_b : StandsFor capacity machine.notes.b (log_of machine.own b past)
-  within : AreWithin machine.notes machine.moment machine.accepted
-  nodes : machine.nodes ≡ fold heard no_nodes (hearings_of machine.own past)
-  next : machine.next ≡ number_after past
-  counters : machine.counters ≡ counters_of machine.own past
-  moment : machine.moment ≡ moment_of past
-  accepted : machine.accepted ≡ count_of is_step past
+pub record IsPastOf (capacity : ℕ) (machine : Machine) (past : List Deed) : Type 0 where
+  pub on_up : StandsFor capacity machine.notes.up (log_of machine.own up past)
+  pub on_a : StandsFor capacity machine.notes.a (log_of machine.own a past)
+  pub on_b : StandsFor capacity machine.notes.b (log_of machine.own b past)
+  pub within : AreWithin machine.notes machine.moment machine.accepted
+  pub nodes : machine.nodes ≡ fold heard no_nodes (hearings_of machine.own past)
+  pub next : machine.next ≡ number_after past
+  pub counters : machine.counters ≡ counters_of machine.own past
+  pub moment : machine.moment ≡ moment_of past
+  pub accepted : machine.accepted ≡ count_of is_step past
 
 -- the answers agree, what is held after is what the past after gives, and the node stays itself
-Kept : ℕ → Machine → Answer × Machine → Answer × List Deed → Type 0
+abbrev pub Kept : ℕ → Machine → Answer × Machine → Answer × List Deed → Type 0
 Kept capacity machine s p = (s.0 ≡ p.0) × IsPastOf capacity s.1 p.1 × (s.1.own ≡ machine.own) × (s.1.mode ≡ machine.mode)
 
 -- ---- logs
@@ -97,7 +97,6 @@ later-max m n = omega arith
 
 send-case : (capacity : ℕ) (machine : Machine) (past : List Deed) (at : ℕ) (refusal : Option SendFault) → IsPastOf capacity machine past
     → let s = send_or_refuse capacity machine (now_at machine at) refusal in Kept capacity machine (deeds.sent s.0, s.1) (deeds.send_from past at refusal)
-unfolding Kept
 send-case capacity machine past at (Some fault) r = (refl, r, refl, refl)
 send-case capacity machine past at None r =
     let deed : record { now = now_at machine at; did = sent_frame machine.next } ≡ record { now = max (moment_of past) at; did = sent_frame (number_after past) }
@@ -112,7 +111,6 @@ send-case capacity machine past at None r =
 
 life-case : (capacity : ℕ) (machine : Machine) (past : List Deed) (at : ℕ) (spent : Bool) → IsPastOf capacity machine past
     → let s = life_or_spent capacity machine (now_at machine at) spent in Kept capacity machine (deeds.lived s.0, s.1) (deeds.life_from past at spent)
-unfolding Kept
 life-case capacity machine past at true r = (refl, r, refl, refl)
 life-case capacity machine past at false r =
     let deed : record { now = now_at machine at; did = sent_life machine.next } ≡ record { now = max (moment_of past) at; did = sent_life (number_after past) }
@@ -222,7 +220,6 @@ counted-same own past now x seen verdict readable bad = by_cause verdict.cause
 
 arrive-case : (capacity : ℕ) (machine : Machine) (past : List Deed) (at : ℕ) (x : RingPort) (octets : List ℕ) (spent : Bool) → IsPastOf capacity machine past
     → let s = arrive_or_spent capacity machine (now_at machine at) x octets spent in Kept capacity machine (deeds.judged s.0, s.1) (deeds.arrive_from capacity machine.own machine.mode past at x (classified octets) spent)
-unfolding Kept
 arrive-case capacity machine past at x octets true r = (refl, r, refl, refl)
 arrive-case capacity machine past at x octets false r =
     let now = now_at machine at in
@@ -280,8 +277,8 @@ age-case capacity machine past at r =
 
 -- ---- a call, and all calls
 
-kept : (capacity : ℕ) (machine : Machine) (past : List Deed) (call : Call) → IsPastOf capacity machine past → Kept capacity machine (step capacity machine call) (past_step capacity machine.own machine.mode past call)
-unfolding Kept send_step life_step arrive_step
+pub kept : (capacity : ℕ) (machine : Machine) (past : List Deed) (call : Call) → IsPastOf capacity machine past → Kept capacity machine (step capacity machine call) (past_step capacity machine.own machine.mode past call)
+unfolding send_step life_step arrive_step
 kept capacity machine past (deeds.sending at dst kind len) r =
     subst (λ n. Kept capacity machine (step capacity machine (deeds.sending at dst kind len)) (deeds.send_from past at (send_refusal machine.own n dst kind len))) r.accepted
     (send-case capacity machine past at (send_refusal machine.own machine.accepted dst kind len) r)
@@ -296,7 +293,6 @@ kept capacity machine past (deeds.ageing at) r = (refl, age-case capacity machin
 runs : (capacity : ℕ) (own : List ℕ) (mode : Mode) (machine : Machine) (past : List Deed) (calls : List Call) → machine.own ≡ own → machine.mode ≡ mode → IsPastOf capacity machine past
     → let after = deeds.after_calls capacity machine calls in
     (deeds.answers capacity machine calls ≡ deeds.past_answers capacity own mode past calls) × IsPastOf capacity after (deeds.past_after capacity own mode past calls) × (after.own ≡ own)
-unfolding Kept
 runs capacity own mode machine past [] is_own is_mode r = (refl, r, is_own)
 runs capacity own mode machine past (call ∷ calls) is_own is_mode r =
     let one = subst₂ own mode is_own is_mode in
@@ -307,7 +303,7 @@ runs capacity own mode machine past (call ∷ calls) is_own is_mode r =
     subst₂ own mode e f = subst (λ o. Kept capacity machine (step capacity machine call) (past_step capacity o mode past call)) e
         (subst (λ m. Kept capacity machine (step capacity machine call) (past_step capacity machine.own m past call)) f (kept capacity machine past call r))
 
-begins : (capacity : ℕ) (own : List ℕ) (mode : Mode) → IsPastOf capacity (new_machine own mode) []
+pub begins : (capacity : ℕ) (own : List ℕ) (mode : Mode) → IsPastOf capacity (new_machine own mode) []
 begins capacity own mode = record {
   on_up = StandsFor-new capacity 400;
   on_a = StandsFor-new capacity 400;

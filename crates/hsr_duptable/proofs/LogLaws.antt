@@ -13,7 +13,7 @@ use Rattle.hsr_duptable.proofs.RisingNotes.{unexpired_notes-all, unexpired_notes
 
 -- ---- the last notes
 
-last_notes-append : (n m : ℕ) (xs ys : List Note) → m ≡ n + length ys → last_notes m (xs ++ ys) ≡ last_notes n xs ++ ys
+pub last_notes-append : (n m : ℕ) (xs ys : List Note) → m ≡ n + length ys → last_notes m (xs ++ ys) ≡ last_notes n xs ++ ys
 last_notes-append n m xs ys h =
     let cut : length (xs ++ ys) - m ≡ length xs - n = omega (arith, length-append xs ys) in
     rw cut (drop-append-le (length xs - n) xs ys (omega arith))
@@ -25,7 +25,7 @@ last_notes-fewer n m xs h =
     let sum : length xs - n ≡ (length xs - m) + d = omega arith in
     (d, ap (λ (k : ℕ). drop k xs) sum ∙ sym (drop-drop d (length xs - m) xs))
 
-last_notes-none : (n : ℕ) (xs : List Note) → n ≡ 0 → last_notes n xs ≡ []
+pub last_notes-none : (n : ℕ) (xs : List Note) → n ≡ 0 → last_notes n xs ≡ []
 last_notes-none n xs h = drop_of_length-le xs (omega arith)
 
 -- where none is unexpired, none is from a later place on

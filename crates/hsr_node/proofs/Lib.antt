@@ -1,0 +1,8 @@
+pub mod Remembering
+pub mod Told
+pub mod OfDanh
+pub mod OfRedBox
+pub mod OfQuadBox
+pub mod OfStation
+pub mod Refused
+pub mod Replayed

@@ -13,7 +13,8 @@ use Rattle.hsr_tag.specs.declared.seen.Seen.{Seen}
 use Rattle.hsr_tag.specs.declared.seen.Seen.TheVariants.{Plain, Tagged}
 use Rattle.hsr_redbox.specs.declared.call.About.{About}
 use Rattle.hsr_redbox.specs.declared.call.About.TheVariants.{Own, Proxied}
-use Rattle.hsr_node.specs.Event.{Happening, Sending, send, supervise, arrive, age}
+use Rattle.hsr_node.specs.declared.event.Event.{Event}
+use Rattle.hsr_node.specs.declared.event.Event.TheVariants.{Send, Supervise, Arrive, Age}
 use Rattle.hsr_node.specs.declared.event.Outcome.{Outcome}
 use Rattle.hsr_node.specs.declared.event.Outcome.TheVariants.{Sent, Life, Judged, Aged}
 use Rattle.hsr_node.specs.declared.place.Place.{Place}
@@ -67,9 +68,9 @@ address_at QuadBox from = None
 address_at (Station macs) from = slice_get macs.items from
 
 -- the frame that a send asks for, by its source
-abbrev pub asked_frame : Option (List ℕ) → Sending → Option Fields
-asked_frame None s = None
-asked_frame (Some src) s = frame_of (record { dst = s.dst; src = src; vlan = s.vlan; kind = s.kind; rest = s.payload })
+abbrev pub asked_frame : Option (List ℕ) → List ℕ → Option ℕ → ℕ → List ℕ → Option Fields
+asked_frame None dst vlan kind payload = None
+asked_frame (Some src) dst vlan kind payload = frame_of (record { dst = dst; src = src; vlan = vlan; kind = kind; rest = payload })
 
 -- what a supervision frame says: a RedBox names itself where it speaks for a station
 abbrev pub life_said : List ℕ → About → ℕ → payload.Fields
@@ -120,9 +121,9 @@ ports_of (Life seq life ports) = ports
 ports_of (Judged up ports seq cause) = ports
 ports_of Aged = []
 
-abbrev pub sent_octets : Place → Sending → Outcome → ℕ → Option (List ℕ)
-sent_octets place s (Sent seq ports) port = written (side_of place port) seq (asked_frame (address_at place s.from) s)
-sent_octets place s _ port = None
+abbrev pub sent_octets : Place → Option Fields → Outcome → ℕ → Option (List ℕ)
+sent_octets place frame (Sent seq ports) port = written (side_of place port) seq frame
+sent_octets place frame _ port = None
 
 abbrev pub life_octets : Place → About → Outcome → ℕ → Option (List ℕ)
 life_octets place about (Life seq life ports) port = written (side_of place port) (Some seq) (life_frame (ring_address place) about life)
@@ -132,14 +133,14 @@ abbrev pub arrived_octets : Place → ℕ → List ℕ → Outcome → ℕ → O
 arrived_octets place x octets (Judged up ports seq cause) port = forwarded (side_of place x) (side_of place port) seq octets
 arrived_octets place x octets _ port = None
 
-unfoldable pub passed_octets : Place → Happening → Outcome → ℕ → Option (List ℕ)
-passed_octets place (send s) outcome port = sent_octets place s outcome port
-passed_octets place (supervise about) outcome port = life_octets place about outcome port
-passed_octets place (arrive x copy) outcome port = arrived_octets place x copy.octets outcome port
-passed_octets place age outcome port = None
+unfoldable pub passed_octets : Place → Event → Outcome → ℕ → Option (List ℕ)
+passed_octets place (Send from dst vlan kind payload) outcome port = sent_octets place (asked_frame (address_at place from) dst vlan kind payload) outcome port
+passed_octets place (Supervise about) outcome port = life_octets place about outcome port
+passed_octets place (Arrive x copy) outcome port = arrived_octets place x copy.octets outcome port
+passed_octets place Age outcome port = None
 
 -- the octets that leave by a port, if something does
-unfoldable pub copy_octets : Place → Happening → Outcome → ℕ → Option (List ℕ)
+unfoldable pub copy_octets : Place → Event → Outcome → ℕ → Option (List ℕ)
 copy_octets place event outcome port =
     if unwrap_or (slice_get (ports_of outcome) port) false then passed_octets place event outcome port else None
 
@@ -148,8 +149,8 @@ abbrev pub raised : List ℕ → Outcome → Option (List ℕ)
 raised octets (Judged up ports seq cause) = if up then option_map spelling (plain_in (classified octets)) else None
 raised octets _ = None
 
-unfoldable pub up_octets : Happening → Outcome → Option (List ℕ)
-up_octets (send s) outcome = None
-up_octets (supervise about) outcome = None
-up_octets (arrive x copy) outcome = raised copy.octets outcome
-up_octets age outcome = None
+unfoldable pub up_octets : Event → Outcome → Option (List ℕ)
+up_octets (Send from dst vlan kind payload) outcome = None
+up_octets (Supervise about) outcome = None
+up_octets (Arrive x copy) outcome = raised copy.octets outcome
+up_octets Age outcome = None

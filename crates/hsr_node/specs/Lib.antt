@@ -1,6 +1,7 @@
-pub mod Carried
 pub mod Place
-pub mod Event
 pub mod Station
 pub mod Step
 pub mod Copies
+pub mod Record
+pub mod Flow
+pub mod Kept

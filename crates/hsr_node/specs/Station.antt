@@ -15,7 +15,8 @@ use Rattle.hsr_frame.specs.declared.node.Cause.TheVariants as cause
 use Rattle.hsr_tag.specs.Seen.{classified}
 use Rattle.hsr_tag.specs.declared.seen.Seen.{Seen}
 use Rattle.hsr_tag.specs.declared.seen.Seen.TheVariants.{Plain, Tagged}
-use Rattle.hsr_node.specs.Event.{Happening, send, supervise, arrive, age}
+use Rattle.hsr_node.specs.declared.event.Event.{Event}
+use Rattle.hsr_node.specs.declared.event.Event.TheVariants.{Send, Supervise, Arrive, Age}
 use Rattle.hsr_node.specs.declared.event.Outcome.{Outcome}
 use Rattle.hsr_node.specs.declared.event.Outcome.TheVariants.{Sent, Judged, Aged}
 use Rattle.hsr_node.specs.declared.event.StepFault.{StepFault}
@@ -89,8 +90,8 @@ after_arrival machine at octets = arrive_or_spent machine at octets (machine.acc
 abbrev pub after_age : Machine → ℕ → Machine
 after_age machine at = record machine { moment = max machine.moment at }
 
-abbrev pub station_step : Machine → ℕ → Happening → Result Outcome StepFault × Machine
-station_step machine at (send s) = after_send machine at s.from s.dst s.kind (length s.payload)
-station_step machine at (supervise about) = (Err WrongEvent, machine)
-station_step machine at (arrive port copy) = if port == 0 then after_arrival machine at copy.octets else (Err WrongEvent, machine)
-station_step machine at age = (Ok Aged, after_age machine at)
+abbrev pub station_step : Machine → ℕ → Event → Result Outcome StepFault × Machine
+station_step machine at (Send from dst vlan kind payload) = after_send machine at from dst kind (length payload)
+station_step machine at (Supervise about) = (Err WrongEvent, machine)
+station_step machine at (Arrive port copy) = if port == 0 then after_arrival machine at copy.octets else (Err WrongEvent, machine)
+station_step machine at Age = (Ok Aged, after_age machine at)

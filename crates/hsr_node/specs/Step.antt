@@ -25,7 +25,8 @@ use Rattle.hsr_quadbox.specs.Step as of_quadbox
 use Rattle.hsr_quadbox.specs.declared.quadbox.QuadVerdict.{QuadVerdict}
 use Rattle.hsr_quadbox.specs.declared.wanted.QuadPort.{QuadPort}
 use Rattle.hsr_quadbox.specs.declared.wanted.QuadPort.TheVariants as quad
-use Rattle.hsr_node.specs.Event.{Happening, send, supervise, arrive, age}
+use Rattle.hsr_node.specs.declared.event.Event.{Event}
+use Rattle.hsr_node.specs.declared.event.Event.TheVariants.{Send, Supervise, Arrive, Age}
 use Rattle.hsr_node.specs.Station as station
 use Rattle.hsr_node.specs.declared.event.Outcome.{Outcome}
 use Rattle.hsr_node.specs.declared.event.Outcome.TheVariants as outcome
@@ -83,11 +84,11 @@ abbrev pub danh_supervise : ℕ → danh.Machine → ℕ → About → Result Ou
 danh_supervise capacity machine at Own = danh_life capacity machine at
 danh_supervise capacity machine at (Proxied mac) = wrong machine
 
-unfoldable pub danh_step : ℕ → danh.Machine → ℕ → Happening → Result Outcome StepFault × danh.Machine
-danh_step capacity machine at (send s) = if s.from == 0 then danh_send capacity machine at s.dst s.kind (length s.payload) else wrong machine
-danh_step capacity machine at (supervise about) = danh_supervise capacity machine at about
-danh_step capacity machine at (arrive port copy) = danh_arrive capacity machine at (ring_port port) copy.octets
-danh_step capacity machine at age = (Ok outcome.Aged, of_danh.age_step machine at)
+unfoldable pub danh_step : ℕ → danh.Machine → ℕ → Event → Result Outcome StepFault × danh.Machine
+danh_step capacity machine at (Send from dst vlan kind payload) = if from == 0 then danh_send capacity machine at dst kind (length payload) else wrong machine
+danh_step capacity machine at (Supervise about) = danh_supervise capacity machine at about
+danh_step capacity machine at (Arrive port copy) = danh_arrive capacity machine at (ring_port port) copy.octets
+danh_step capacity machine at Age = (Ok outcome.Aged, of_danh.age_step machine at)
 
 -- ---- a RedBox: one address, the ports A and B, and the interlink
 
@@ -114,11 +115,11 @@ abbrev pub redbox_arrive : ℕ → redbox.Machine → ℕ → Option BoxPort →
 redbox_arrive capacity machine at None octets = wrong machine
 redbox_arrive capacity machine at (Some x) octets = told_with box_judged spent (of_redbox.arrive_step capacity machine at x octets)
 
-unfoldable pub redbox_step : ℕ → redbox.Machine → ℕ → Happening → Result Outcome StepFault × redbox.Machine
-redbox_step capacity machine at (send s) = if s.from == 0 then redbox_send capacity machine at s.dst s.kind (length s.payload) else wrong machine
-redbox_step capacity machine at (supervise about) = redbox_supervise capacity machine at about
-redbox_step capacity machine at (arrive port copy) = redbox_arrive capacity machine at (box_port port) copy.octets
-redbox_step capacity machine at age = (Ok outcome.Aged, of_redbox.age_step machine at)
+unfoldable pub redbox_step : ℕ → redbox.Machine → ℕ → Event → Result Outcome StepFault × redbox.Machine
+redbox_step capacity machine at (Send from dst vlan kind payload) = if from == 0 then redbox_send capacity machine at dst kind (length payload) else wrong machine
+redbox_step capacity machine at (Supervise about) = redbox_supervise capacity machine at about
+redbox_step capacity machine at (Arrive port copy) = redbox_arrive capacity machine at (box_port port) copy.octets
+redbox_step capacity machine at Age = (Ok outcome.Aged, of_redbox.age_step machine at)
 
 -- ---- a QuadBox: no address, and the ports A, B, C and D
 
@@ -132,11 +133,11 @@ abbrev pub quadbox_arrive : ℕ → quadbox.Machine → ℕ → Option QuadPort 
 quadbox_arrive capacity machine at None octets = wrong machine
 quadbox_arrive capacity machine at (Some x) octets = told_with quad_judged spent (of_quadbox.arrive_step capacity machine at x octets)
 
-unfoldable pub quadbox_step : ℕ → quadbox.Machine → ℕ → Happening → Result Outcome StepFault × quadbox.Machine
-quadbox_step capacity machine at (send s) = wrong machine
-quadbox_step capacity machine at (supervise about) = wrong machine
-quadbox_step capacity machine at (arrive port copy) = quadbox_arrive capacity machine at (quad_port port) copy.octets
-quadbox_step capacity machine at age = (Ok outcome.Aged, of_quadbox.age_step machine at)
+unfoldable pub quadbox_step : ℕ → quadbox.Machine → ℕ → Event → Result Outcome StepFault × quadbox.Machine
+quadbox_step capacity machine at (Send from dst vlan kind payload) = wrong machine
+quadbox_step capacity machine at (Supervise about) = wrong machine
+quadbox_step capacity machine at (Arrive port copy) = quadbox_arrive capacity machine at (quad_port port) copy.octets
+quadbox_step capacity machine at Age = (Ok outcome.Aged, of_quadbox.age_step machine at)
 
 -- ---- any node
 
@@ -150,7 +151,7 @@ new_node capacity (place.Station macs) = Station (station.new_machine macs.items
 abbrev pub within : {M N : Type 0} → (M → N) → Result Outcome StepFault × M → Result Outcome StepFault × N
 within node after = (after.0, node after.1)
 
-abbrev pub node_step : (capacity : ℕ) → Node capacity → ℕ → Happening → Result Outcome StepFault × Node capacity
+abbrev pub node_step : (capacity : ℕ) → Node capacity → ℕ → Event → Result Outcome StepFault × Node capacity
 node_step capacity (Danh machine) at event = within Danh (danh_step capacity machine at event)
 node_step capacity (RedBox machine) at event = within RedBox (redbox_step capacity machine at event)
 node_step capacity (QuadBox machine) at event = within QuadBox (quadbox_step capacity machine at event)

@@ -1,6 +1,5 @@
 //! What leaves a node by a port, and what goes up.
 ghost use Rattle.std.specs.Prelude.{◌≡◌, Option, Result, option_map};
-ghost use Rattle.hsr_node.specs.Event.{view};
 ghost use Rattle.hsr_node.specs.Copies.{address_at, arrived_octets, as_came, asked_frame, copy_octets, forwarded, frame_of, life_frame, life_octets, life_said, octets_at, passed_octets, plain_in, ports_of, raised, ring_address, sent_octets, up_octets, written};
 
 use crate::event::{Event, Outcome};
@@ -174,7 +173,7 @@ ghost use Rattle.std.specs.Prelude.{slice_get, unwrap_or, false};
 /// What leaves by a port by which something does.
 #[tactic(auto, unfolding(crate::specs::Copies::passed_octets))]
 fn passed(place: &Place, event: &Event, outcome: &Outcome, port: u8) -> Option<Octets>
-    ensures { option_map (λ o. o.items) result ≡ passed_octets place.now (view event.now) outcome.now port }
+    ensures { option_map (λ o. o.items) result ≡ passed_octets place.now event.now outcome.now port }
 {
     let side = side_of(place, port);
     match event {
@@ -223,7 +222,7 @@ pub fn copy_out(
     outcome: &Outcome,
     port: u8,
 ) -> Option<ArrayVec<u8, 1524>>
-    ensures { option_map (λ o. o.items) result ≡ copy_octets place.now (view event.now) outcome.now port }
+    ensures { option_map (λ o. o.items) result ≡ copy_octets place.now event.now outcome.now port }
 {
     if is_left_by(outcome, port) {
         passed(place, event, outcome, port)
@@ -235,7 +234,7 @@ pub fn copy_out(
 /// The octets of the plain frame that goes up after an event with this outcome, if one does.
 #[tactic(auto, unfolding(crate::specs::Copies::up_octets))]
 pub fn up_out(event: &Event, outcome: &Outcome) -> Option<ArrayVec<u8, 1524>>
-    ensures { option_map (λ o. o.items) result ≡ up_octets (view event.now) outcome.now }
+    ensures { option_map (λ o. o.items) result ≡ up_octets event.now outcome.now }
 {
     let Event::Arrive { port: _, carried } = event else {
         return None;

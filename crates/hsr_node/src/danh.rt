@@ -1,6 +1,5 @@
 //! The events of a DANH.
 ghost use Rattle.std.specs.Prelude.{◌≡◌, length, Option};
-ghost use Rattle.hsr_node.specs.Event.{view};
 ghost use Rattle.hsr_node.specs.Step.{danh_arrive, danh_life, danh_send, danh_step, ring_port};
 
 use crate::event::{Event, Outcome, StepFault};
@@ -83,7 +82,7 @@ pub(crate) fn apply_danh<const C: usize>(
     at: u64,
     event: &Event,
 ) -> Result<Outcome, StepFault>
-    ensures { (result, danh.new) ≡ danh_step C danh.old at (view event.now) }
+    ensures { (result, danh.new) ≡ danh_step C danh.old at event.now }
 {
     match event {
         Event::Send {

@@ -1,10 +1,9 @@
 //! What happens to a node, and what it answers.
 ghost use Rattle.std.specs.Prelude.{◌≡◌, IfOk};
-ghost use Rattle.hsr_node.specs.Event.{view};
 
+use crate::octets::Octets;
 use hsr_frame::{Cause, Mac, NoMemory, SendFault};
 use hsr_redbox::About;
-use std::marker::Model;
 
 /// Names the entry of a send: the number of its node, and its place in that node's record.
 #[derive(Clone, Copy, Debug, PartialEq, Eq)]
@@ -14,22 +13,14 @@ pub struct Probe {
 }
 
 /// A copy on its way. No verdict depends on the probe.
-#[derive(Clone, Drop)]
+#[derive(Clone, Debug, Drop, PartialEq, Eq)]
 pub struct Carried {
     pub probe: Option<Probe>,
-    pub octets: Vec<u8>,
-}
-
-impl Model for Carried {
-    ghost use Rattle.hsr_node.specs.Carried.{Copy};
-
-    ghost Value = { Copy };
-
-    ghost view = { λ c. record { probe = c.probe; octets = c.octets.items } };
+    pub octets: Octets,
 }
 
 /// What happens to a node.
-#[derive(Clone, Drop)]
+#[derive(Clone, Debug, Drop, PartialEq, Eq)]
 pub enum Event {
     /// It sends a frame of its own; `from` is the place of the source among a Station's addresses, else 0.
     Send {
@@ -37,7 +28,7 @@ pub enum Event {
         dst: Mac,
         vlan: Option<u16>,
         kind: u16,
-        payload: Vec<u8>,
+        payload: Octets,
     },
     /// It sends a supervision frame.
     Supervise(About),
@@ -86,6 +77,8 @@ pub enum StepFault {
     NotProxied,
     /// The node has accepted as many steps as it may: `STEPS`.
     Spent,
+    /// Room for the entry or its copy was refused; a node that keeps no record never answers this.
+    NoMemory,
 }
 
 impl Carried {
@@ -100,7 +93,7 @@ impl Carried {
 impl Event {
     /// An equal event; `NoMemory` where room for it is refused.
     pub fn copy(&self) -> Result<Event, NoMemory>
-        ensures { IfOk result (λ event. view event ≡ view self.now) }
+        ensures { IfOk result (λ event. event ≡ self.now) }
     {
         Ok(self.clone()?)
     }

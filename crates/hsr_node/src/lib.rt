@@ -3,8 +3,12 @@
 
 mod copies;
 mod danh;
+mod entry;
 mod event;
+mod kept;
 mod node;
+mod octets;
+mod pass;
 mod place;
 mod quadbox;
 mod redbox;
@@ -12,8 +16,12 @@ mod side;
 mod station;
 
 pub use copies::{copy_out, up_out};
+pub use entry::{Entry, Receipt};
 pub use event::{Carried, Event, Outcome, Probe, StepFault};
+pub use kept::Kept;
 pub use node::Node;
+pub use octets::Octets;
+pub use pass::Pass;
 pub use place::Place;
 pub use station::Station;
 

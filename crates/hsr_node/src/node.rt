@@ -24,7 +24,6 @@ pub enum Node<const C: usize> {
 }
 
 impl<const C: usize> Node<C> {
-    ghost use Rattle.hsr_node.specs.Event.{view};
     ghost use Rattle.hsr_node.specs.Place.{HasOwnAddress};
     ghost use Rattle.hsr_node.specs.Step.{counters_of, new_node, node_step};
 
@@ -46,7 +45,7 @@ impl<const C: usize> Node<C> {
     /// ports or its addresses: a QuadBox or Station has no supervision, a QuadBox sends nothing, a DANH speaks for no
     /// other. A refusal changes nothing.
     pub fn apply(&mut self, at: u64, event: &Event) -> Result<Outcome, StepFault>
-        ensures { (result, self.new) ≡ node_step C self.old at (view event.now) }
+        ensures { (result, self.new) ≡ node_step C self.old at event.now }
     {
         match self {
             Node::Danh(danh) => apply_danh(danh, at, event),

@@ -1,10 +1,12 @@
 //! What kind of node stands at a place.
+ghost use Rattle.std.specs.Prelude.{◌≡◌, IfOk};
+
 use arrayvec::ArrayVec;
-use hsr_frame::{Mac, Mode};
+use hsr_frame::{Mac, Mode, NoMemory};
 
 /// A kind of node, with its addresses (IEC 62439-3 clause 5). The ports have numbers: A is 0 and B is 1; a RedBox has
 /// its interlink 2, a QuadBox has C 2 and D 3, and a Station has the one port 0.
-#[derive(Drop)]
+#[derive(Clone, Debug, Drop, PartialEq, Eq)]
 pub enum Place {
     /// A doubly attached node.
     Danh { mac: Mac, mode: Mode },
@@ -14,4 +16,13 @@ pub enum Place {
     QuadBox,
     /// A node with one port, which knows no HSR.
     Station { macs: ArrayVec<Mac, 16> },
+}
+
+impl Place {
+    /// An equal place; `NoMemory` where room for it is refused.
+    pub fn copy(&self) -> Result<Place, NoMemory>
+        ensures { IfOk result (λ place. place ≡ self.now) }
+    {
+        Ok(self.clone()?)
+    }
 }

@@ -1,6 +1,5 @@
 //! The events of a QuadBox.
 ghost use Rattle.std.specs.Prelude.{◌≡◌, Option};
-ghost use Rattle.hsr_node.specs.Event.{view};
 ghost use Rattle.hsr_node.specs.Step.{quad_port, quadbox_arrive, quadbox_step};
 
 use crate::event::{Event, Outcome, StepFault};
@@ -52,7 +51,7 @@ pub(crate) fn apply_quadbox<const C: usize>(
     at: u64,
     event: &Event,
 ) -> Result<Outcome, StepFault>
-    ensures { (result, quadbox.new) ≡ quadbox_step C quadbox.old at (view event.now) }
+    ensures { (result, quadbox.new) ≡ quadbox_step C quadbox.old at event.now }
 {
     match event {
         Event::Send { .. } | Event::Supervise(_) => Err(StepFault::WrongEvent),

@@ -1,6 +1,5 @@
 //! The events of a RedBox.
 ghost use Rattle.std.specs.Prelude.{◌≡◌, length, Option};
-ghost use Rattle.hsr_node.specs.Event.{view};
 ghost use Rattle.hsr_node.specs.Step.{box_port, life_fault, redbox_arrive, redbox_send, redbox_step, redbox_supervise};
 
 use crate::event::{Event, Outcome, StepFault};
@@ -97,7 +96,7 @@ pub(crate) fn apply_redbox<const C: usize>(
     at: u64,
     event: &Event,
 ) -> Result<Outcome, StepFault>
-    ensures { (result, redbox.new) ≡ redbox_step C redbox.old at (view event.now) }
+    ensures { (result, redbox.new) ≡ redbox_step C redbox.old at event.now }
 {
     match event {
         Event::Send {

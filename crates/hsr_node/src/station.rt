@@ -2,7 +2,6 @@
 ghost use Rattle.std.specs.Prelude.{◌≡◌, ◌≤◌, ◌^◌, IfSome};
 ghost use Rattle.std.specs.List.{list_any};
 ghost use Rattle.hsr_frame.specs.Address.{is_same_address};
-ghost use Rattle.hsr_node.specs.Event.{view};
 ghost use Rattle.hsr_node.specs.Station.{is_among, judged_plain, judged_seen};
 
 use crate::event::{Event, Outcome, StepFault};
@@ -110,7 +109,7 @@ impl Station {
 
     /// Lets an event happen. A station has no supervision frames, and only the port 0.
     pub fn apply(&mut self, at: u64, event: &Event) -> Result<Outcome, StepFault>
-        ensures { (result, self.new) ≡ station_step self.old at (view event.now) }
+        ensures { (result, self.new) ≡ station_step self.old at event.now }
     {
         match event {
             Event::Send {
@@ -119,7 +118,7 @@ impl Station {
                 vlan: _,
                 kind,
                 payload,
-            } => self.send(at, *from, *dst, *kind, payload.len()),
+            } => self.send(at, *from, *dst, *kind, payload.as_slice().len()),
             Event::Supervise(_) => Err(StepFault::WrongEvent),
             Event::Arrive { port, carried } => {
                 if *port == 0 {

@@ -2,7 +2,8 @@ ghost use Rattle.hsr_node.specs.Place.{HasOwnAddress};
 
 use super::*;
 use arrayvec::ArrayVec;
-use hsr_frame::{Mac, Mode, hex_octets};
+use hsr_frame::{Cause, Mac, Mode, NoMemory, SendFault, hex_octets};
+use hsr_redbox::About;
 use std::test::Fail;
 
 /// The node of the ring that the tests speak of, and the node next to it.
@@ -11,6 +12,9 @@ const NODE: [u8; 6] = [2, 0, 0, 0, 0, 1];
 const OTHER: [u8; 6] = [2, 0, 0, 0, 0, 2];
 /// The addresses of a station.
 const FIRST: [u8; 6] = [2, 0, 0, 0, 0, 10];
+
+/// The address of a RedBox.
+const BOX: [u8; 6] = [2, 0, 0, 0, 0, 9];
 
 const SECOND: [u8; 6] = [2, 0, 0, 0, 0, 11];
 
@@ -39,12 +43,11 @@ fn node(rt: &HostRuntime, place: &Place) -> Result<Node<512>, Fail>
     Ok(Node::new(rt.alloc(), place)?)
 }
 
-fn octets(rt: &HostRuntime, text: &str) -> Result<Vec<u8>, Fail> {
-    Ok(
-        hex_octets(rt.alloc(), text.as_bytes())
-            .ok()
-            .ok_or("octets")?,
-    )
+fn octets(rt: &HostRuntime, text: &str) -> Result<Octets, Fail> {
+    let bytes = hex_octets(rt.alloc(), text.as_bytes())
+        .ok()
+        .ok_or("octets")?;
+    Ok(Octets::new(bytes))
 }
 
 /// A send from the address at a place.
@@ -157,5 +160,178 @@ fn forwarded_as_it_came(rt: HostRuntime) -> Result<(), Fail> {
     let event = arrive(&rt, 0, octets)?;
     assert!(rt; leaves(&rt, &danh(), &event, 1, octets)?);
     assert!(rt; leaves(&rt, &Place::QuadBox, &event, 3, octets)?);
+    Ok(())
+}
+
+/// A node of number 0 that keeps its record.
+fn kept(rt: &HostRuntime, place: Place) -> Result<Kept<512>, Fail>
+    requires { HasOwnAddress place }
+{
+    Ok(Kept::new(rt.alloc(), 0, place)?)
+}
+
+#[test]
+fn kept_send(rt: HostRuntime) -> Result<(), Fail> {
+    let mut kept = kept(&rt, danh())?;
+    let event = send(&rt, 0, OTHER, "AABB")?;
+    let Ok(receipt) = kept.step(0, 0, event) else {
+        return Err("refused".into());
+    };
+    assert!(rt; receipt.place == 0);
+    let ports = [true, true, false, false];
+    assert!(rt; receipt.entry.outcome == Outcome::Sent { seq: Some(0), ports });
+    Ok(())
+}
+
+/// Whether a node refuses an event as one that doesn't fit it, hands it back, and keeps one entry as before.
+fn hands_back(rt: &HostRuntime, kept: &mut Kept<512>, event: Event) -> Result<bool, Fail> {
+    let copy = event.copy()?;
+    let Err((back, fault)) = kept.step(0, 0, event) else {
+        return Ok(false);
+    };
+    Ok(fault == StepFault::WrongEvent && back == copy && kept.entries().len() == 1)
+}
+
+#[test]
+fn refused_event_comes_back(rt: HostRuntime) -> Result<(), Fail> {
+    let mut kept = kept(&rt, danh())?;
+    let sent = kept.step(0, 0, send(&rt, 0, OTHER, "AABB")?);
+    assert!(rt; sent.is_ok());
+    let event = send(&rt, 1, OTHER, "AABB")?;
+    assert!(rt; hands_back(&rt, &mut kept, event)?);
+    let event = arrive(&rt, 2, "00")?;
+    assert!(rt; hands_back(&rt, &mut kept, event)?);
+    Ok(())
+}
+
+#[test]
+fn receipts_of_a_worker(rt: HostRuntime) -> Result<(), Fail> {
+    let mut kept = kept(&rt, danh())?;
+    let event = send(&rt, 0, OTHER, "AABB")?;
+    let Ok(receipt) = kept.step(0, 0, event) else {
+        return Err("refused".into());
+    };
+    let mut pass = Pass::new(rt.alloc(), 3);
+    assert!(rt; pass.keep(receipt).is_ok());
+    assert!(rt; pass.worker() == 3);
+    let [kept] = pass.receipts() else {
+        return Err("receipts".into());
+    };
+    assert!(rt; kept.node == 0 && kept.place == 0);
+    Ok(())
+}
+
+/// What a new station answers to a send.
+fn station_sends(rt: &HostRuntime, dst: [u8; 6]) -> Result<Result<Outcome, StepFault>, Fail> {
+    let event = send(rt, 0, dst, "AABB")?;
+    let mut node = node(rt, &station())?;
+    Ok(node.apply(0, &event))
+}
+
+#[test]
+fn station_to_its_own_addresses(rt: HostRuntime) -> Result<(), Fail> {
+    let fault = StepFault::Send(SendFault::SelfAddressed);
+    assert!(rt; station_sends(&rt, FIRST)? == Err(fault));
+    let ports = [true, false, false, false];
+    assert!(rt; station_sends(&rt, SECOND)? == Ok(Outcome::Sent { seq: None, ports }));
+    Ok(())
+}
+
+/// Whether a new station judges what comes to its port to go up or not, for this cause.
+fn station_judges(rt: &HostRuntime, text: &str, up: bool, cause: Cause) -> Result<bool, Fail> {
+    let event = arrive(rt, 0, text)?;
+    let mut node = node(rt, &station())?;
+    let ports = [false, false, false, false];
+    let judged = Outcome::Judged {
+        up,
+        ports,
+        seq: None,
+        cause,
+    };
+    Ok(node.apply(0, &event) == Ok(judged))
+}
+
+#[test]
+fn arrivals_at_a_station(rt: HostRuntime) -> Result<(), Fail> {
+    assert!(rt; station_judges(&rt, "02000000000A0200000000010800", true, Cause::Passed)?);
+    assert!(rt; station_judges(&rt, "02000000000A02000000000B0800", false, Cause::Returned)?);
+    assert!(rt; station_judges(&rt, "0200000000020200000000010800", false, Cause::Foreign)?);
+    Ok(())
+}
+
+/// A RedBox whose interlink heard the first station.
+fn redbox(rt: &HostRuntime) -> Result<Kept<512>, Fail> {
+    let place = Place::RedBox {
+        mac: Mac::new(BOX),
+        mode: Mode::H,
+    };
+    let mut kept = Kept::new(rt.alloc(), 0, place)?;
+    let heard = kept.step(1, 0, arrive(rt, 2, "02000000000902000000000A0800")?);
+    if heard.is_err() {
+        return Err("not heard".into());
+    }
+    Ok(kept)
+}
+
+#[test]
+fn proxied_supervision(rt: HostRuntime) -> Result<(), Fail> {
+    let mut kept = redbox(&rt)?;
+    let event = Event::Supervise(About::Proxied(Mac::new(FIRST)));
+    let Ok(receipt) = kept.step(0, 0, event) else {
+        return Err("refused".into());
+    };
+    let entry = receipt.entry;
+    let Some(left) = copy_out(kept.place(), &entry.event, &entry.outcome, 0) else {
+        return Err("nothing left".into());
+    };
+    let head = octets(&rt, "01154E000100020000000009892F0034000088FB00010000170602000000000A1E0602000000000900000000")?;
+    assert!(rt; left.as_slice().starts_with(head.as_slice()));
+    assert!(rt; left.len() == 66);
+    Ok(())
+}
+
+#[test]
+fn supervision_for_a_stranger(rt: HostRuntime) -> Result<(), Fail> {
+    let mut kept = redbox(&rt)?;
+    let event = Event::Supervise(About::Proxied(Mac::new(SECOND)));
+    let refused = kept.step(0, 0, event);
+    assert!(rt; refused.is_err_and(|e| e.1 == StepFault::NotProxied));
+    Ok(())
+}
+
+/// With room refused at any growth of a step (`rt try --test --fail-alloc`): the event comes back, nothing is added, and
+/// the same step again gives what it gives with room.
+#[test]
+fn step_refused_for_memory(rt: HostRuntime) -> Result<(), Fail> {
+    let mut kept = kept(&rt, danh())?;
+    let event = send(&rt, 0, OTHER, "AABB")?;
+    let answer = match kept.step(0, 0, event) {
+        Ok(receipt) => Ok(receipt),
+        Err((event, StepFault::NoMemory)) => {
+            assert!(rt; kept.entries().is_empty());
+            kept.step(0, 0, event)
+        }
+        Err(refused) => Err(refused),
+    };
+    assert!(rt; answer.is_ok_and(|receipt| receipt.place == 0));
+    Ok(())
+}
+
+/// The same of a pass.
+#[test]
+fn receipt_refused_for_memory(rt: HostRuntime) -> Result<(), Fail> {
+    let mut kept = kept(&rt, danh())?;
+    let Ok(receipt) = kept.step(0, 0, Event::Age) else {
+        return Err("refused".into());
+    };
+    let mut pass = Pass::new(rt.alloc(), 0);
+    let answer = match pass.keep(receipt) {
+        Ok(()) => Ok(()),
+        Err((receipt, NoMemory)) => {
+            assert!(rt; pass.receipts().is_empty());
+            pass.keep(receipt)
+        }
+    };
+    assert!(rt; answer.is_ok());
     Ok(())
 }

@@ -113,7 +113,7 @@ counts-one_more j ds us ms f n duplicate = same_counts (omega arith) (omega arit
 counts-one_more j ds us ms f n untagged = same_counts (omega arith) refl (omega arith) refl
 counts-one_more j ds us ms f n (malformed fault) = same_counts (omega arith) refl refl (omega arith)
 
-counts-judged : (past : List Deed) (j : Judged) → counted (counts past) (cause_of (wanted j.port j.seen) j.passes) false (copies_of j.passes) ≡ counts (judged j ∷ past)
+pub counts-judged : (past : List Deed) (j : Judged) → counted (counts past) (cause_of (wanted j.port j.seen) j.passes) false (copies_of j.passes) ≡ counts (judged j ∷ past)
 counts-judged past j =
     let such : (Cause → Bool) → List Judged = λ is_such. filter (λ (o : Judged). is_such (verdict_on o).cause) (arrivals past) in
     let copies : Judged → ℕ = λ o. copies_of o.passes in

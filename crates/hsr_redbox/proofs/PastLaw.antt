@@ -48,25 +48,25 @@ use Rattle.hsr_redbox.specs.declared.call.LifeFault.{LifeFault}
 use Rattle.hsr_redbox.proofs.Steps.{notes-judged, notes-marked}
 
 -- each table stands for the log of its egress
-record LogsOf (capacity : ℕ) (notes : Notes) (log : Egress → List Note) : Type 0 where
-  on_up : StandsFor capacity notes.up (log up)
-  on_a : StandsFor capacity notes.a (log a)
-  on_b : StandsFor capacity notes.b (log b)
-  on_interlink : StandsFor capacity notes.interlink (log interlink)
+pub record LogsOf (capacity : ℕ) (notes : Notes) (log : Egress → List Note) : Type 0 where
+  pub on_up : StandsFor capacity notes.up (log up)
+  pub on_a : StandsFor capacity notes.a (log a)
+  pub on_b : StandsFor capacity notes.b (log b)
+  pub on_interlink : StandsFor capacity notes.interlink (log interlink)
 
 -- what a machine holds is what its past gives
-record IsPastOf (capacity : ℕ) (machine : Machine) (past : List Deed) : Type 0 where
-  logs : LogsOf capacity machine.notes (λ egress. log_of machine.own egress past)
-  within : AreWithin machine.notes machine.moment machine.accepted
-  nodes : machine.nodes ≡ fold heard no_nodes (hearings_of machine.own past)
-  proxies : machine.proxies ≡ fold learned no_proxies (sources_of machine.own past)
-  next : machine.next ≡ number_after past
-  counters : machine.counters ≡ counters_of machine.own past
-  moment : machine.moment ≡ moment_of past
-  accepted : machine.accepted ≡ count_of is_step past
+pub record IsPastOf (capacity : ℕ) (machine : Machine) (past : List Deed) : Type 0 where
+  pub logs : LogsOf capacity machine.notes (λ egress. log_of machine.own egress past)
+  pub within : AreWithin machine.notes machine.moment machine.accepted
+  pub nodes : machine.nodes ≡ fold heard no_nodes (hearings_of machine.own past)
+  pub proxies : machine.proxies ≡ fold learned no_proxies (sources_of machine.own past)
+  pub next : machine.next ≡ number_after past
+  pub counters : machine.counters ≡ counters_of machine.own past
+  pub moment : machine.moment ≡ moment_of past
+  pub accepted : machine.accepted ≡ count_of is_step past
 
 -- the answers agree, and what is held after is what the past after gives; address and mode stay
-Kept : {X : Type 0} → ℕ → Machine → X × Machine → X × List Deed → Type 0
+abbrev pub Kept : {X : Type 0} → ℕ → Machine → X × Machine → X × List Deed → Type 0
 Kept capacity machine s p = (s.0 ≡ p.0) × IsPastOf capacity s.1 p.1 × (s.1.own ≡ machine.own) × (s.1.mode ≡ machine.mode)
 
 -- ---- logs
@@ -215,7 +215,6 @@ marked capacity machine past now proxies exits source counters did later r noted
 
 send-case : (capacity : ℕ) (machine : Machine) (past : List Deed) (now : ℕ) (h : Handling) (refusal : Option SendFault) → machine.moment ≤ now → IsPastOf capacity machine past
     → let s = send_or_refuse capacity machine now h refusal in Kept capacity machine (deeds.sent s.0, s.1) (deeds.send_from past now h refusal)
-unfolding Kept
 send-case capacity machine past now h (Some fault) later r = (refl, r, refl, refl)
 send-case capacity machine past now h None later r =
     let counters : Counters = record machine.counters { sent = machine.counters.sent + 1 } in
@@ -231,7 +230,6 @@ send-case capacity machine past now h None later r =
 
 life-case : (capacity : ℕ) (machine : Machine) (past : List Deed) (now : ℕ) (refusal : Option LifeFault) → machine.moment ≤ now → IsPastOf capacity machine past
     → let s = life_or_refuse capacity machine now refusal in Kept capacity machine (deeds.lived s.0, s.1) (deeds.life_from past now refusal)
-unfolding Kept
 life-case capacity machine past now (Some fault) later r = (refl, r, refl, refl)
 life-case capacity machine past now None later r =
     let counters : Counters = record machine.counters { life = machine.counters.life + 1 } in
@@ -247,7 +245,6 @@ life-case capacity machine past now None later r =
 
 interlink-case : (capacity : ℕ) (machine : Machine) (past : List Deed) (now : ℕ) (seen : Result Seen FrameFault) → machine.moment ≤ now → IsPastOf capacity machine past
     → Kept capacity machine (after_interlink capacity machine now seen) (deeds.interlink_from machine.own past now seen)
-unfolding Kept
 interlink-case capacity machine past now seen later r =
     let sources = sources_of machine.own past ++ source_in machine.own now seen in
     let proxies = heard_from machine.own machine.proxies seen now in
@@ -305,7 +302,6 @@ heard-told own nodes x (Ok (Tagged frame)) verdict now = told-same (is_supervisi
 
 ring-case : (capacity : ℕ) (machine : Machine) (past : List Deed) (now : ℕ) (x : RingPort) (seen : Result Seen FrameFault) → machine.moment ≤ now → IsPastOf capacity machine past
     → Kept capacity machine (after_ring capacity machine now x seen) (deeds.ring_from capacity machine.own machine.mode past now x seen)
-unfolding Kept
 ring-case capacity machine past now x seen later r =
     let after = after_ring capacity machine now x seen in
     let wants = wanted machine.own machine.mode (is_known now machine.proxies.heard) x seen in
@@ -337,7 +333,6 @@ ring-case capacity machine past now x seen later r =
 arrive-case : (capacity : ℕ) (machine : Machine) (past : List Deed) (now : ℕ) (port : BoxPort) (octets : List ℕ) (spent : Bool) → machine.moment ≤ now → IsPastOf capacity machine past
     → let s = arrive_or_spent capacity machine now port octets spent in
     Kept capacity machine (deeds.judged s.0, s.1) (deeds.arrive_from capacity machine.own machine.mode past now port (classified octets) spent)
-unfolding Kept
 arrive-case capacity machine past now port octets true later r = (refl, r, refl, refl)
 arrive-case capacity machine past now port octets false later r = let k = by_port port in (ap (λ (v : BoxVerdict). deeds.judged (Ok v)) k.0, k.1, k.2, k.3)
   where
@@ -379,8 +374,8 @@ age-case capacity machine past now later r =
 later-max : (m n : ℕ) → m ≤ max m n
 later-max m n = omega arith
 
-kept : (capacity : ℕ) (machine : Machine) (past : List Deed) (call : Call) → IsPastOf capacity machine past → Kept capacity machine (step capacity machine call) (past_step capacity machine.own machine.mode past call)
-unfolding Kept send_step life_step arrive_step
+pub kept : (capacity : ℕ) (machine : Machine) (past : List Deed) (call : Call) → IsPastOf capacity machine past → Kept capacity machine (step capacity machine call) (past_step capacity machine.own machine.mode past call)
+unfolding send_step life_step arrive_step
 kept capacity machine past (deeds.sending at dst kind len) r =
     let now = now_at machine at in
     let knows = knows-latest machine.proxies (sources_of machine.own past) now r.proxies in
@@ -408,7 +403,6 @@ kept capacity machine past (deeds.ageing at) r =
 runs : (capacity : ℕ) (own : List ℕ) (mode : Mode) (machine : Machine) (past : List Deed) (calls : List Call) → machine.own ≡ own → machine.mode ≡ mode → IsPastOf capacity machine past
     → let after = deeds.after_calls capacity machine calls in
     (deeds.answers capacity machine calls ≡ deeds.past_answers capacity own mode past calls) × IsPastOf capacity after (deeds.past_after capacity own mode past calls) × (after.own ≡ own)
-unfolding Kept
 runs capacity own mode machine past [] is_own is_mode r = (refl, r, is_own)
 runs capacity own mode machine past (call ∷ calls) is_own is_mode r =
     let one = with_own own mode is_own is_mode in
@@ -419,7 +413,7 @@ runs capacity own mode machine past (call ∷ calls) is_own is_mode r =
     with_own own mode e f = subst (λ o. Kept capacity machine (step capacity machine call) (past_step capacity o mode past call)) e
         (subst (λ m. Kept capacity machine (step capacity machine call) (past_step capacity machine.own m past call)) f (kept capacity machine past call r))
 
-begins : (capacity : ℕ) (own : List ℕ) (mode : Mode) → IsPastOf capacity (new_machine own mode) []
+pub begins : (capacity : ℕ) (own : List ℕ) (mode : Mode) → IsPastOf capacity (new_machine own mode) []
 begins capacity own mode = record {
   logs = let new = StandsFor-new capacity 400 in record { on_up = new; on_a = new; on_b = new; on_interlink = new };
   within = record { up = IsWithin-empty; a = IsWithin-empty; b = IsWithin-empty; interlink = IsWithin-empty };

@@ -1,0 +1,425 @@
+-- A DANH answers as its record does.
+use Rattle.std.proofs.Common.{◌≡◌, ℕ, ◌+◌, ◌%◌, ◌^◌, ◌==◌, ◌&&◌, not, Bool, true, false, if◌then◌else◌, List, [], ◌∷◌, ◌++◌, length, Option, Some, None, Result, Ok, Err, refl, sym, ap, ap₂, subst, ◌∙◌, arith, add-zero}
+use Rattle.std.specs.Prelude.{max, is_some, option_map}
+use Rattle.std.specs.List.{cons_option}
+use Rattle.hsr_frame.specs.Address.{is_group, is_same_address}
+use Rattle.hsr_frame.specs.Counters.{bit}
+use Rattle.hsr_frame.specs.Egress.{Egress, up, a, b, c, d, beyond, cause_of, nowhere, to}
+use Rattle.hsr_frame.specs.Send.{send_refusal}
+use Rattle.hsr_frame.specs.declared.counters.Counters.{Counters}
+use Rattle.hsr_frame.specs.declared.egress.Exits.{Exits}
+use Rattle.hsr_frame.specs.declared.egress.Wants.{Wants}
+use Rattle.hsr_frame.specs.declared.fault.FrameFault.{FrameFault}
+use Rattle.hsr_frame.specs.declared.fault.SendFault.{SendFault}
+use Rattle.hsr_frame.specs.declared.fault.SendFault.TheVariants.{Spent}
+use Rattle.hsr_frame.specs.declared.node.Cause.TheVariants.{Returned}
+use Rattle.hsr_frame.specs.declared.fault.Spent.{Spent as IsSpent}
+use Rattle.hsr_frame.specs.declared.node.Life.{Life}
+use Rattle.hsr_frame.specs.declared.node.Mode.{Mode}
+use Rattle.hsr_frame.specs.declared.node.Mode.TheVariants.{H, N}
+use Rattle.hsr_frame.specs.declared.node.RingPort.{RingPort}
+use Rattle.hsr_frame.specs.declared.node.RingPort.TheVariants as ring
+use Rattle.hsr_tag.specs.Seen.{classified}
+use Rattle.hsr_tag.specs.Tag.{TaggedFields}
+use Rattle.hsr_tag.specs.declared.seen.Seen.{Seen}
+use Rattle.hsr_tag.specs.declared.seen.Seen.TheVariants.{Plain, Tagged}
+use Rattle.hsr_duptable.specs.Key.{Key}
+use Rattle.hsr_duptable.specs.Log.{remembered}
+use Rattle.hsr_duptable.specs.Notes.{has_key}
+use Rattle.hsr_danh.specs.Machine.{Machine, new_machine}
+use Rattle.hsr_danh.specs.Past as deeds
+use Rattle.hsr_danh.specs.Past.{Answer, Deed, Did, done, gave_up, judged_frame, sent_frame, sent_life}
+use Rattle.hsr_danh.specs.Step.{arrive_step, key_of, life_step, send_step}
+use Rattle.hsr_danh.specs.Wanted.{wanted}
+use Rattle.hsr_danh.specs.declared.danh.Sent.{Sent as DanhSent}
+use Rattle.hsr_danh.specs.declared.danh.Verdict.{Verdict}
+use Rattle.hsr_danh.proofs.PastLaw.{IsPastOf, begins}
+use Rattle.hsr_danh.proofs.PastLaw as law
+use Rattle.hsr_redbox.specs.Wanted.{unnumbered}
+use Rattle.hsr_redbox.specs.declared.call.About.{About}
+use Rattle.hsr_redbox.specs.declared.call.About.TheVariants.{Own, Proxied}
+use Rattle.hsr_node.specs.Record.{Owner, arrive_answer, copies, counters, count_of, hears_at, is_noted, is_unreadable_for, judged_as, key_in, note_if, lived_or_refused, lives, next_number, notes, now, number_in, passing, remembers, sent_or_refused, send_answer, steps, sum_of}
+use Rattle.hsr_node.specs.Step.{danh_arrive, danh_judged, danh_send, danh_sent, danh_step, lived, ring_port, spent, told, wrong}
+use Rattle.hsr_node.specs.declared.entry.Entry.{Entry}
+use Rattle.hsr_node.specs.declared.event.Carried.{Carried}
+use Rattle.hsr_node.specs.declared.event.Event.{Event}
+use Rattle.hsr_node.specs.declared.event.Event.TheVariants.{Send, Supervise, Arrive, Age}
+use Rattle.hsr_node.specs.declared.event.Outcome.{Outcome}
+use Rattle.hsr_node.specs.declared.event.Outcome.TheVariants as outcome
+use Rattle.hsr_node.specs.declared.event.StepFault.TheVariants as refused
+use Rattle.hsr_node.specs.declared.place.Place.TheVariants as place
+use Rattle.hsr_node.proofs.Remembering.{oldest_first, remembers-oldest}
+use Rattle.hsr_node.proofs.Told.{Call, Keeps, Stays, logged, unlogged}
+
+abbrev owner_of : ℕ → List ℕ → Mode → Owner
+owner_of number mac mode = record { number = number; place = place.Danh mac mode }
+
+-- deeds and a record tell the same
+pub record Tells (number : ℕ) (mac : List ℕ) (mode : Mode) (did : List Deed) (past : List Entry) : Type 0 where
+  pub moment : deeds.moment_of did ≡ now past
+  pub steps : deeds.count_of deeds.is_step did ≡ steps past
+  pub numbered : deeds.count_of deeds.is_numbered did ≡ count_of (λ x. is_some (number_in x.outcome)) past
+  pub log : (e : Egress) → deeds.log_of mac e did ≡ oldest_first (notes (owner_of number mac mode) e past)
+  pub counters : deeds.counters_of mac did ≡ counters (place.Danh mac mode) past
+
+-- what a machine holds is told by a record
+pub record Held (capacity number : ℕ) (mac : List ℕ) (mode : Mode) (machine : Machine) (past : List Entry) : Type 0 where
+  pub did : List Deed
+  pub of_past : IsPastOf capacity machine did
+  pub own : machine.own ≡ mac
+  pub mode_is : machine.mode ≡ mode
+  pub tells : Tells number mac mode did past
+
+-- ---- a frame of the node's own
+
+-- one that leaves by both ports with the next number
+sent-tells : (number : ℕ) (mac : List ℕ) (mode : Mode) (did : List Deed) (past : List Entry) (worker at from seq : ℕ) (dst : List ℕ) (vlan : Option ℕ) (kind : ℕ) (payload : List ℕ)
+    → Tells number mac mode did past
+    → Tells number mac mode (done did at (sent_frame seq))
+    (record { worker = worker; at = at; event = Send from dst vlan kind payload; outcome = outcome.Sent (Some seq) (true ∷ true ∷ false ∷ false ∷ []) } ∷ past)
+sent-tells number mac mode did past worker at from seq dst vlan kind payload t = record {
+  moment = ap (λ m. max m at) t.moment;
+  steps = ap (λ n. n + 1) t.steps;
+  numbered = ap (λ n. n + 1) t.numbered;
+  log = by_egress;
+  counters = λ i. let k : Counters = t.counters i in record k { sent = k.sent + 1; forwarded = forwards i };
+}
+  where
+    key : Key
+    key = record { src = mac; seq = seq }
+
+    by_egress : (e : Egress) → deeds.log_of mac e (done did at (sent_frame seq))
+        ≡ oldest_first (notes (owner_of number mac mode) e (record { worker = worker; at = at; event = Send from dst vlan kind payload; outcome = outcome.Sent (Some seq) (true ∷ true ∷ false ∷ false ∷ []) } ∷ past))
+    by_egress up = unlogged (deeds.log_of mac up did) (notes (owner_of number mac mode) up past) (t.log up)
+    by_egress a = logged true key (max (deeds.moment_of did) at) (max (now past) at) (Some (record { node = number; place = length past })) (deeds.log_of mac a did) (notes (owner_of number mac mode) a past) (ap (λ m. max m at) t.moment) (t.log a)
+    by_egress b = logged true key (max (deeds.moment_of did) at) (max (now past) at) (Some (record { node = number; place = length past })) (deeds.log_of mac b did) (notes (owner_of number mac mode) b past) (ap (λ m. max m at) t.moment) (t.log b)
+    by_egress c = unlogged (deeds.log_of mac c did) (notes (owner_of number mac mode) c past) (t.log c)
+    by_egress d = unlogged (deeds.log_of mac d did) (notes (owner_of number mac mode) d past) (t.log d)
+
+    forwards : (deeds.counters_of mac did).forwarded ≡ sum_of (λ x. copies x.outcome) past + 0
+    forwards = ap (λ (k : Counters). k.forwarded) t.counters ∙ sym (add-zero (sum_of (λ x. copies x.outcome) past))
+
+life-tells : (number : ℕ) (mac : List ℕ) (mode : Mode) (did : List Deed) (past : List Entry) (worker at seq life : ℕ) (about : About)
+    → Tells number mac mode did past
+    → Tells number mac mode (done did at (sent_life seq))
+    (record { worker = worker; at = at; event = Supervise about; outcome = outcome.Life seq life (true ∷ true ∷ false ∷ false ∷ []) } ∷ past)
+life-tells number mac mode did past worker at seq life about t = record {
+  moment = ap (λ m. max m at) t.moment;
+  steps = ap (λ n. n + 1) t.steps;
+  numbered = ap (λ n. n + 1) t.numbered;
+  log = by_egress;
+  counters = λ i. let k : Counters = t.counters i in record k { life = k.life + 1; forwarded = forwards i };
+}
+  where
+    key : Key
+    key = record { src = mac; seq = seq }
+
+    by_egress : (e : Egress) → deeds.log_of mac e (done did at (sent_life seq))
+        ≡ oldest_first (notes (owner_of number mac mode) e (record { worker = worker; at = at; event = Supervise about; outcome = outcome.Life seq life (true ∷ true ∷ false ∷ false ∷ []) } ∷ past))
+    by_egress up = unlogged (deeds.log_of mac up did) (notes (owner_of number mac mode) up past) (t.log up)
+    by_egress a = logged true key (max (deeds.moment_of did) at) (max (now past) at) (Some (record { node = number; place = length past })) (deeds.log_of mac a did) (notes (owner_of number mac mode) a past) (ap (λ m. max m at) t.moment) (t.log a)
+    by_egress b = logged true key (max (deeds.moment_of did) at) (max (now past) at) (Some (record { node = number; place = length past })) (deeds.log_of mac b did) (notes (owner_of number mac mode) b past) (ap (λ m. max m at) t.moment) (t.log b)
+    by_egress c = unlogged (deeds.log_of mac c did) (notes (owner_of number mac mode) c past) (t.log c)
+    by_egress d = unlogged (deeds.log_of mac d did) (notes (owner_of number mac mode) d past) (t.log d)
+
+    forwards : (deeds.counters_of mac did).forwarded ≡ sum_of (λ x. copies x.outcome) past + 0
+    forwards = ap (λ (k : Counters). k.forwarded) t.counters ∙ sym (add-zero (sum_of (λ x. copies x.outcome) past))
+
+aged-tells : (number : ℕ) (mac : List ℕ) (mode : Mode) (did : List Deed) (past : List Entry) (worker at : ℕ)
+    → Tells number mac mode did past
+    → Tells number mac mode (done did at gave_up) (record { worker = worker; at = at; event = Age; outcome = outcome.Aged } ∷ past)
+aged-tells number mac mode did past worker at t = record {
+  moment = ap (λ m. max m at) t.moment;
+  steps = t.steps;
+  numbered = t.numbered;
+  log = λ e. unlogged (deeds.log_of mac e did) (notes (owner_of number mac mode) e past) (t.log e);
+  counters = λ i. let k : Counters = t.counters i in record k { forwarded = forwards i };
+}
+  where
+    forwards : (deeds.counters_of mac did).forwarded ≡ sum_of (λ x. copies x.outcome) past + 0
+    forwards = ap (λ (k : Counters). k.forwarded) t.counters ∙ sym (add-zero (sum_of (λ x. copies x.outcome) past))
+
+-- ---- an arrival
+
+forwards-two : (p q : Bool) (m n s : ℕ) → m + n ≡ s → (if p then m + 1 else m) + (if q then n + 1 else n) ≡ s + (bit p + bit q + bit false + bit false)
+forwards-two true true m n s e = omega arith
+forwards-two true false m n s e = omega arith
+forwards-two false true m n s e = omega arith
+forwards-two false false m n s e = omega arith
+
+abbrev arrival : ℕ → ℕ → ℕ → Carried → Verdict → Entry
+arrival worker at port copy v = record { worker = worker; at = at; event = Arrive port copy; outcome = danh_judged v }
+
+judged-tells : (number : ℕ) (mac : List ℕ) (mode : Mode) (did : List Deed) (past : List Entry) (worker at port : ℕ) (x : RingPort) (copy : Carried) (v : Verdict)
+    → ring_port port ≡ Some x → Tells number mac mode did past
+    → Tells number mac mode (done did at (judged_frame x (classified copy.octets) v)) (arrival worker at port copy v ∷ past)
+judged-tells number mac mode did past worker at port x copy v is_x t = record {
+  moment = ap (λ m. max m at) t.moment;
+  steps = ap (λ n. n + 1) t.steps;
+  numbered = t.numbered;
+  log = λ e. by_seen e (classified copy.octets);
+  counters = λ i. let k : Counters = t.counters i in record {
+    sent = k.sent;
+    life = k.life;
+    up = if v.up then k.up + 1 else k.up;
+    forwarded = forwards i;
+    duplicate = if deeds.is_duplicate v.cause then k.duplicate + 1 else k.duplicate;
+    returned = if deeds.is_returned v.cause then k.returned + 1 else k.returned;
+    foreign = if deeds.is_foreign v.cause then k.foreign + 1 else k.foreign;
+    local = if deeds.is_local v.cause then k.local + 1 else k.local;
+    untagged = if deeds.is_untagged v.cause then k.untagged + 1 else k.untagged;
+    tagged = if deeds.is_tagged v.cause then k.tagged + 1 else k.tagged;
+    malformed = if deeds.is_malformed v.cause then k.malformed + 1 else k.malformed;
+    bad_life = if unreadable i then k.bad_life + 1 else k.bad_life;
+  };
+}
+  where
+    forwards : (deeds.counters_of mac (done did at (judged_frame x (classified copy.octets) v))).forwarded ≡ sum_of (λ x. copies x.outcome) (arrival worker at port copy v ∷ past)
+    forwards = forwards-two v.a v.b (deeds.count_of (deeds.has (λ v. v.a)) did) (deeds.count_of (deeds.has (λ v. v.b)) did) (sum_of (λ x. copies x.outcome) past) (ap (λ (k : Counters). k.forwarded) t.counters)
+
+    unreadable : deeds.is_unreadable mac (judged_frame x (classified copy.octets) v) ≡ is_unreadable_for (hears_at (place.Danh mac mode) port) (classified copy.octets)
+    unreadable = λ i. is_unreadable_for (option_map (λ (x : RingPort). mac) (sym is_x i)) (classified copy.octets)
+
+    by_seen : (e : Egress) (seen : Result Seen FrameFault)
+        → deeds.log_of mac e did ++ deeds.noted_by mac e (max (deeds.moment_of did) at) (judged_frame x seen v)
+        ≡ oldest_first (cons_option (note_if (is_noted (danh_judged v) e) (key_in seen None) (max (now past) at) copy.probe) (notes (owner_of number mac mode) e past))
+    by_seen e (Err fault) = unlogged (deeds.log_of mac e did) (notes (owner_of number mac mode) e past) (t.log e)
+    by_seen e (Ok (Plain frame)) = unlogged (deeds.log_of mac e did) (notes (owner_of number mac mode) e past) (t.log e)
+    by_seen e (Ok (Tagged frame)) = by_egress e
+      where
+        one : (e : Egress) (passed : Bool) → deeds.log_of mac e did ++ deeds.note_if passed (key_of frame) (max (deeds.moment_of did) at)
+            ≡ oldest_first (cons_option (note_if passed (Some (key_of frame)) (max (now past) at) copy.probe) (notes (owner_of number mac mode) e past))
+        one e passed = logged passed (key_of frame) (max (deeds.moment_of did) at) (max (now past) at) copy.probe (deeds.log_of mac e did) (notes (owner_of number mac mode) e past) (ap (λ m. max m at) t.moment) (t.log e)
+
+        by_egress : (e : Egress) → deeds.log_of mac e did ++ deeds.note_if (deeds.passed v e) (key_of frame) (max (deeds.moment_of did) at)
+            ≡ oldest_first (cons_option (note_if (is_noted (danh_judged v) e) (Some (key_of frame)) (max (now past) at) copy.probe) (notes (owner_of number mac mode) e past))
+        by_egress up = one up v.up
+        by_egress a = one a v.a
+        by_egress b = one b v.b
+        by_egress c = one c false
+        by_egress d = one d false
+
+-- ---- the verdict
+
+-- only up and the ring ports want an arrival
+only-two : (x : RingPort) (p q r : Bool) (e : Egress)
+    → let wants : Wants = if p then nowhere Returned else (if q then to (up ∷ []) else (if r then to (up ∷ beyond x ∷ []) else to (beyond x ∷ []))) in
+    (wants.exits.c ≡ false) × (wants.exits.d ≡ false)
+only-two x true q r e = (refl, refl)
+only-two x false true r e = (refl, refl)
+only-two ring.A false false true e = (refl, refl)
+only-two ring.B false false true e = (refl, refl)
+only-two ring.A false false false e = (refl, refl)
+only-two ring.B false false false e = (refl, refl)
+
+no-others : (mac : List ℕ) (mode : Mode) (x : RingPort) (frame : TaggedFields)
+    → let wants : Wants = wanted mac mode x (Ok (Tagged frame)) in (wants.exits.c ≡ false) × (wants.exits.d ≡ false)
+no-others mac H x frame = only-two x (is_same_address frame.src mac) (is_same_address frame.dst mac) (is_group frame.dst) up
+no-others mac N x frame = only-two x (is_same_address frame.src mac) (is_same_address frame.dst mac) (is_group frame.dst) up
+
+remembers-same : (capacity number : ℕ) (mac : List ℕ) (mode : Mode) (did : List Deed) (past : List Entry) (at : ℕ) (key : Key) (e : Egress) → Tells number mac mode did past
+    → deeds.remembers_of capacity mac did at key e ≡ remembers capacity (owner_of number mac mode) past at key e
+remembers-same capacity number mac mode did past at key e t =
+    ap (λ log. has_key key (remembered capacity 400 log at)) (t.log e) ∙ remembers-oldest capacity at key (notes (owner_of number mac mode) e past)
+
+verdict-same : (capacity number : ℕ) (mac : List ℕ) (mode : Mode) (did : List Deed) (past : List Entry) (at next : ℕ) (x : RingPort) (seen : Result Seen FrameFault) → Tells number mac mode did past
+    → judged_as (unnumbered (wanted mac mode x seen)) (passing (remembers capacity (owner_of number mac mode) past at) (wanted mac mode x seen).exits seen) next
+    ≡ danh_judged (deeds.verdict_from capacity mac mode did at x seen)
+verdict-same capacity number mac mode did past at next x (Err fault) t = refl
+verdict-same capacity number mac mode did past at next x (Ok (Plain frame)) t = refl
+verdict-same capacity number mac mode did past at next x (Ok (Tagged frame)) t =
+    let wants : Wants = wanted mac mode x (Ok (Tagged frame)) in
+    let exits : Exits = wants.exits in
+    let none = no-others mac mode x frame in
+    let held : (e : Egress) → Bool = λ e. remembers capacity (owner_of number mac mode) past at (key_of frame) e in
+    let same = λ (e : Egress). remembers-same capacity number mac mode did past at (key_of frame) e t in
+    let passes : record {
+      up = exits.up && not (held up);
+      a = exits.a && not (held a);
+      b = exits.b && not (held b);
+      c = exits.c && not (held c);
+      d = exits.d && not (held d);
+    } ≡ deeds.passes_from capacity mac did at exits (Ok (Tagged frame))
+    = λ i. record {
+      up = exits.up && not (sym (same up) i);
+      a = exits.a && not (sym (same a) i);
+      b = exits.b && not (sym (same b) i);
+      c = off exits.c (held c) none.0 i;
+      d = off exits.d (held d) none.1 i;
+    } in
+    ap (λ (p : Exits). judged_as (unnumbered wants) p next) passes
+    ∙ λ i. outcome.Judged (deeds.passes_from capacity mac did at exits (Ok (Tagged frame))).up
+    ((deeds.passes_from capacity mac did at exits (Ok (Tagged frame))).a ∷ (deeds.passes_from capacity mac did at exits (Ok (Tagged frame))).b ∷ none.0 i ∷ none.1 i ∷ []) None
+    (cause_of wants (deeds.passes_from capacity mac did at exits (Ok (Tagged frame))))
+  where
+    off : (p q : Bool) → p ≡ false → p && not q ≡ p
+    off true q e = absurd (cc)
+    off false q e = refl
+
+-- ---- one event
+
+abbrev sent_in : Answer → Result DanhSent SendFault
+sent_in (deeds.sent r) = r
+sent_in _ = Err Spent
+
+abbrev lived_in : Answer → Result Life IsSpent
+lived_in (deeds.lived r) = r
+lived_in _ = Err (record {})
+
+abbrev judged_in : Answer → Result Verdict IsSpent
+judged_in (deeds.judged r) = r
+judged_in _ = Err (record {})
+
+abbrev HeldBy : ℕ → ℕ → Machine → Machine → List Entry → Type 0
+HeldBy capacity number machine = Held capacity number machine.own machine.mode
+
+send-case : (capacity number worker at from : ℕ) (machine : Machine) (did : List Deed) (past : List Entry) (dst : List ℕ) (vlan : Option ℕ) (kind : ℕ) (payload : List ℕ)
+    (s : Result DanhSent SendFault × Machine) (refusal : Option SendFault) → Tells number machine.own machine.mode did past
+    → law.Kept capacity machine (deeds.sent s.0, s.1) (deeds.send_from did at refusal)
+    → (sent_or_refused refusal (outcome.Sent (Some (next_number past)) (true ∷ true ∷ false ∷ false ∷ [])) ≡ told danh_sent refused.Send s.0)
+    × Stays (HeldBy capacity number machine) past (record { worker = worker; at = at; event = Send from dst vlan kind payload }) (told danh_sent refused.Send s.0) s.1
+send-case capacity number worker at from machine did past dst vlan kind payload s (Some fault) t k =
+    let call : Call = record { worker = worker; at = at; event = Send from dst vlan kind payload } in
+    subst (λ (r : Result DanhSent SendFault). (Err (refused.Send fault) ≡ told danh_sent refused.Send r) × Stays (HeldBy capacity number machine) past call (told danh_sent refused.Send r) s.1)
+    (sym (ap sent_in k.0))
+    (refl, record { did = did; of_past = k.1; own = k.2; mode_is = k.3; tells = t })
+send-case capacity number worker at from machine did past dst vlan kind payload s None t k =
+    let call : Call = record { worker = worker; at = at; event = Send from dst vlan kind payload } in
+    let n : deeds.number_after did ≡ next_number past = ap (λ m. m % 65536) t.numbered in
+    subst (λ (r : Result DanhSent SendFault). (Ok (outcome.Sent (Some (next_number past)) (true ∷ true ∷ false ∷ false ∷ [])) ≡ told danh_sent refused.Send r) × Stays (HeldBy capacity number machine) past call (told danh_sent refused.Send r) s.1)
+    (sym (ap sent_in k.0)) (
+      ap (λ m. Ok (outcome.Sent (Some m) (true ∷ true ∷ false ∷ false ∷ []))) (sym n),
+      record {
+        did = done did at (sent_frame (deeds.number_after did));
+        of_past = k.1;
+        own = k.2;
+        mode_is = k.3;
+        tells = sent-tells number machine.own machine.mode did past worker at from (deeds.number_after did) dst vlan kind payload t;
+      },
+    )
+
+life-case : (capacity number worker at : ℕ) (machine : Machine) (did : List Deed) (past : List Entry) (s : Result Life IsSpent × Machine) (is_spent : Bool) → Tells number machine.own machine.mode did past
+    → law.Kept capacity machine (deeds.lived s.0, s.1) (deeds.life_from did at is_spent)
+    → ((if is_spent then Err refused.Spent else lived_or_refused past None) ≡ told lived spent s.0)
+    × Stays (HeldBy capacity number machine) past (record { worker = worker; at = at; event = Supervise Own }) (told lived spent s.0) s.1
+life-case capacity number worker at machine did past s true t k =
+    let call : Call = record { worker = worker; at = at; event = Supervise Own } in
+    subst (λ (r : Result Life IsSpent). (Err refused.Spent ≡ told lived spent r) × Stays (HeldBy capacity number machine) past call (told lived spent r) s.1)
+    (sym (ap lived_in k.0))
+    (refl, record { did = did; of_past = k.1; own = k.2; mode_is = k.3; tells = t })
+life-case capacity number worker at machine did past s false t k =
+    let call : Call = record { worker = worker; at = at; event = Supervise Own } in
+    let n : deeds.number_after did ≡ next_number past = ap (λ m. m % 65536) t.numbered in
+    let l : deeds.count_of deeds.is_life did % 65536 ≡ lives past % 65536 = ap (λ (k : Counters). k.life % 65536) t.counters in
+    subst (λ (r : Result Life IsSpent). (lived_or_refused past None ≡ told lived spent r) × Stays (HeldBy capacity number machine) past call (told lived spent r) s.1)
+    (sym (ap lived_in k.0)) (
+      ap₂ (λ m k. Ok (outcome.Life m k (true ∷ true ∷ false ∷ false ∷ []))) (sym n) (sym l),
+      record {
+        did = done did at (sent_life (deeds.number_after did));
+        of_past = k.1;
+        own = k.2;
+        mode_is = k.3;
+        tells = life-tells number machine.own machine.mode did past worker at (deeds.number_after did) (deeds.count_of deeds.is_life did % 65536) Own t;
+      },
+    )
+
+arrive-case : (capacity number worker at port : ℕ) (x : RingPort) (copy : Carried) (machine : Machine) (did : List Deed) (past : List Entry) (s : Result Verdict IsSpent × Machine) (is_spent : Bool)
+    → ring_port port ≡ Some x → Tells number machine.own machine.mode did past
+    → law.Kept capacity machine (deeds.judged s.0, s.1) (deeds.arrive_from capacity machine.own machine.mode did at x (classified copy.octets) is_spent)
+    → let h = unnumbered (wanted machine.own machine.mode x (classified copy.octets)) in
+    ((if is_spent then Err refused.Spent
+    else Ok (judged_as h (passing (remembers capacity (owner_of number machine.own machine.mode) past (max (now past) at)) h.wants.exits (classified copy.octets)) (next_number past)))
+    ≡ told danh_judged spent s.0)
+    × Stays (HeldBy capacity number machine) past (record { worker = worker; at = at; event = Arrive port copy }) (told danh_judged spent s.0) s.1
+arrive-case capacity number worker at port x copy machine did past s true is_x t k =
+    let call : Call = record { worker = worker; at = at; event = Arrive port copy } in
+    subst (λ (r : Result Verdict IsSpent). (Err refused.Spent ≡ told danh_judged spent r) × Stays (HeldBy capacity number machine) past call (told danh_judged spent r) s.1)
+    (sym (ap judged_in k.0))
+    (refl, record { did = did; of_past = k.1; own = k.2; mode_is = k.3; tells = t })
+arrive-case capacity number worker at port x copy machine did past s false is_x t k =
+    let call : Call = record { worker = worker; at = at; event = Arrive port copy } in
+    let seen = classified copy.octets in
+    let h = unnumbered (wanted machine.own machine.mode x seen) in
+    let v : Verdict = deeds.verdict_from capacity machine.own machine.mode did (max (deeds.moment_of did) at) x seen in
+    let m : max (deeds.moment_of did) at ≡ max (now past) at = ap (λ m. max m at) t.moment in
+    let same = verdict-same capacity number machine.own machine.mode did past (max (now past) at) (next_number past) x seen t
+    ∙ ap (λ n. danh_judged (deeds.verdict_from capacity machine.own machine.mode did n x seen)) (sym m) in
+    subst (λ (r : Result Verdict IsSpent).
+    (Ok (judged_as h (passing (remembers capacity (owner_of number machine.own machine.mode) past (max (now past) at)) h.wants.exits seen) (next_number past)) ≡ told danh_judged spent r)
+    × Stays (HeldBy capacity number machine) past call (told danh_judged spent r) s.1)
+    (sym (ap judged_in k.0)) (
+      ap (λ (o : Outcome). Ok o) same,
+      record {
+        did = done did at (judged_frame x seen v);
+        of_past = k.1;
+        own = k.2;
+        mode_is = k.3;
+        tells = judged-tells number machine.own machine.mode did past worker at port x copy v is_x t;
+      },
+    )
+
+pub danh-keeps : (capacity number : ℕ) (machine : Machine) (did : List Deed) (past : List Entry) (worker at : ℕ) (event : Event)
+    → IsPastOf capacity machine did → Tells number machine.own machine.mode did past
+    → Keeps capacity (owner_of number machine.own machine.mode) (HeldBy capacity number machine) past (record { worker = worker; at = at; event = event }) (danh_step capacity machine at event)
+unfolding danh_step
+danh-keeps capacity number machine did past worker at (Send from dst vlan kind payload) r t = by_source (from == 0)
+  where
+    stays : Held capacity number machine.own machine.mode machine past
+    stays = record { did = did; of_past = r; own = refl; mode_is = refl; tells = t }
+
+    by_source : (is_own : Bool)
+        → (send_answer capacity (owner_of number machine.own machine.mode) past (max (now past) at) (if is_own then Some machine.own else None) dst kind (length payload)
+        ≡ (if is_own then danh_send capacity machine at dst kind (length payload) else wrong machine).0)
+        × Stays (HeldBy capacity number machine) past (record { worker = worker; at = at; event = Send from dst vlan kind payload })
+        (if is_own then danh_send capacity machine at dst kind (length payload) else wrong machine).0
+        (if is_own then danh_send capacity machine at dst kind (length payload) else wrong machine).1
+    by_source true =
+        send-case capacity number worker at from machine did past dst vlan kind payload (send_step capacity machine at dst kind (length payload)) (send_refusal machine.own (steps past) dst kind (length payload)) t
+        (subst (λ n. law.Kept capacity machine (deeds.sent (send_step capacity machine at dst kind (length payload)).0, (send_step capacity machine at dst kind (length payload)).1) (deeds.send_from did at (send_refusal machine.own n dst kind (length payload)))) t.steps
+        (law.kept capacity machine did (deeds.sending at dst kind (length payload)) r))
+    by_source false = (refl, stays)
+danh-keeps capacity number machine did past worker at (Supervise Own) r t =
+    life-case capacity number worker at machine did past (life_step capacity machine at) (steps past == 2 ^ 62) t
+    (subst (λ n. law.Kept capacity machine (deeds.lived (life_step capacity machine at).0, (life_step capacity machine at).1) (deeds.life_from did at (n == 2 ^ 62))) t.steps
+    (law.kept capacity machine did (deeds.supervising at) r))
+danh-keeps capacity number machine did past worker at (Supervise (Proxied mac)) r t =
+    (refl, record { did = did; of_past = r; own = refl; mode_is = refl; tells = t })
+danh-keeps capacity number machine did past worker at (Arrive port copy) r t = by_port (ring_port port) refl
+  where
+    by_port : (found : Option RingPort) → ring_port port ≡ found
+        → (arrive_answer capacity (owner_of number machine.own machine.mode) past (max (now past) at) (option_map (λ x. unnumbered (wanted machine.own machine.mode x (classified copy.octets))) found) (classified copy.octets)
+        ≡ (danh_arrive capacity machine at found copy.octets).0)
+        × Stays (HeldBy capacity number machine) past (record { worker = worker; at = at; event = Arrive port copy }) (danh_arrive capacity machine at found copy.octets).0 (danh_arrive capacity machine at found copy.octets).1
+    by_port None e = (refl, record { did = did; of_past = r; own = refl; mode_is = refl; tells = t })
+    by_port (Some x) e =
+        arrive-case capacity number worker at port x copy machine did past (arrive_step capacity machine at x copy.octets) (steps past == 2 ^ 62) e t
+        (subst (λ n. law.Kept capacity machine (deeds.judged (arrive_step capacity machine at x copy.octets).0, (arrive_step capacity machine at x copy.octets).1)
+        (deeds.arrive_from capacity machine.own machine.mode did at x (classified copy.octets) (n == 2 ^ 62))) t.steps
+        (law.kept capacity machine did (deeds.arriving at x copy.octets) r))
+danh-keeps capacity number machine did past worker at Age r t =
+    let k = law.kept capacity machine did (deeds.ageing at) r in
+    (refl, record { did = done did at gave_up; of_past = k.1; own = k.2; mode_is = k.3; tells = aged-tells number machine.own machine.mode did past worker at t })
+
+-- ---- any DANH
+
+pub begins-held : (capacity number : ℕ) (mac : List ℕ) (mode : Mode) → Held capacity number mac mode (new_machine mac mode) []
+begins-held capacity number mac mode = record {
+  did = [];
+  of_past = begins capacity mac mode;
+  own = refl;
+  mode_is = refl;
+  tells = record { moment = refl; steps = refl; numbered = refl; log = λ e. refl; counters = refl };
+}
+
+pub counters-held : (capacity number : ℕ) (mac : List ℕ) (mode : Mode) (machine : Machine) (past : List Entry) → Held capacity number mac mode machine past
+    → machine.counters ≡ counters (place.Danh mac mode) past
+counters-held capacity number mac mode machine past h =
+    h.of_past.counters ∙ ap (λ (own : List ℕ). deeds.counters_of own h.did) h.own ∙ h.tells.counters
+
+pub keeps-held : (capacity number : ℕ) (mac : List ℕ) (mode : Mode) (machine : Machine) (past : List Entry) (worker at : ℕ) (event : Event) → Held capacity number mac mode machine past
+    → Keeps capacity (owner_of number mac mode) (Held capacity number mac mode) past (record { worker = worker; at = at; event = event }) (danh_step capacity machine at event)
+keeps-held capacity number mac mode machine past worker at event h =
+    subst (λ (m : List ℕ). Keeps capacity (owner_of number m mode) (Held capacity number m mode) past (record { worker = worker; at = at; event = event }) (danh_step capacity machine at event)) h.own
+    (subst (λ (n : Mode). Keeps capacity (owner_of number machine.own n) (Held capacity number machine.own n) past (record { worker = worker; at = at; event = event }) (danh_step capacity machine at event)) h.mode_is
+    (danh-keeps capacity number machine h.did past worker at event h.of_past
+    (subst (λ (m : List ℕ). Tells number m machine.mode h.did past) (sym h.own) (subst (λ (n : Mode). Tells number mac n h.did past) (sym h.mode_is) h.tells))))

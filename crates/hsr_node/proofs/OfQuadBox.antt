@@ -1,0 +1,278 @@
+-- A QuadBox answers as its record does.
+use Rattle.std.proofs.Common.{◌≡◌, ℕ, ◌+◌, ◌==◌, ◌^◌, ◌&&◌, not, Bool, true, false, if◌then◌else◌, List, [], ◌∷◌, ◌++◌, length, Option, Some, None, Result, Ok, Err, refl, sym, ap, subst, ◌∙◌, arith, add-zero}
+use Rattle.std.specs.Prelude.{max, option_map}
+use Rattle.std.specs.List.{cons_option}
+use Rattle.hsr_frame.specs.Counters.{counted}
+use Rattle.hsr_frame.specs.Egress.{Egress, up, a, b, c, d, cause_of}
+use Rattle.hsr_frame.specs.declared.counters.Counters.{Counters}
+use Rattle.hsr_frame.specs.declared.egress.Exits.{Exits}
+use Rattle.hsr_frame.specs.declared.egress.Wants.{Wants}
+use Rattle.hsr_frame.specs.declared.fault.FrameFault.{FrameFault}
+use Rattle.hsr_frame.specs.declared.fault.Spent.{Spent as IsSpent}
+use Rattle.hsr_frame.specs.declared.node.Cause.{Cause}
+use Rattle.hsr_frame.specs.declared.node.Cause.TheVariants as cause
+use Rattle.hsr_tag.specs.Seen.{classified}
+use Rattle.hsr_tag.specs.Tag.{TaggedFields}
+use Rattle.hsr_tag.specs.declared.seen.Seen.{Seen}
+use Rattle.hsr_tag.specs.declared.seen.Seen.TheVariants.{Plain, Tagged}
+use Rattle.hsr_duptable.specs.Key.{Key}
+use Rattle.hsr_duptable.specs.Log.{remembered}
+use Rattle.hsr_duptable.specs.Notes.{has_key}
+use Rattle.hsr_danh.specs.Past as kinds
+use Rattle.hsr_redbox.specs.Wanted.{unnumbered}
+use Rattle.hsr_quadbox.specs.Machine.{Machine, new_machine}
+use Rattle.hsr_quadbox.specs.Past as deeds
+use Rattle.hsr_quadbox.specs.Past.{Answer, Deed, IsTold, Judged, aged, judged, judgement, verdict_on}
+use Rattle.hsr_quadbox.specs.Step.{arrive_step, copies_of, key_of}
+use Rattle.hsr_quadbox.specs.Wanted.{wanted}
+use Rattle.hsr_quadbox.specs.declared.quadbox.QuadVerdict.{QuadVerdict}
+use Rattle.hsr_quadbox.specs.declared.wanted.QuadPort.{QuadPort}
+use Rattle.hsr_quadbox.specs.declared.wanted.QuadPort.TheVariants as quad
+use Rattle.hsr_quadbox.proofs.PastLaws as law
+use Rattle.hsr_node.specs.Record.{Noted, Owner, arrive_answer, counters, is_noted, judged_as, key_in, next_number, note_if, notes, now, passing, remembers, steps}
+use Rattle.hsr_node.specs.Step.{quad_judged, quad_port, quadbox_arrive, quadbox_step, spent, told}
+use Rattle.hsr_node.specs.declared.entry.Entry.{Entry}
+use Rattle.hsr_node.specs.declared.event.Carried.{Carried}
+use Rattle.hsr_node.specs.declared.event.Event.{Event}
+use Rattle.hsr_node.specs.declared.event.Event.TheVariants.{Send, Supervise, Arrive, Age}
+use Rattle.hsr_node.specs.declared.event.Outcome.{Outcome}
+use Rattle.hsr_node.specs.declared.event.Outcome.TheVariants as outcome
+use Rattle.hsr_node.specs.declared.event.StepFault.TheVariants as refused
+use Rattle.hsr_node.specs.declared.place.Place.TheVariants as place
+use Rattle.hsr_node.proofs.Remembering.{oldest_first, remembers-oldest}
+use Rattle.hsr_node.proofs.Told.{Call, Keeps, Stays, logged, one-more, unlogged}
+
+abbrev owner_of : ℕ → Owner
+owner_of number = record { number = number; place = place.QuadBox }
+
+-- where a port lets frames out
+abbrev egress_of : QuadPort → Egress
+egress_of quad.A = a
+egress_of quad.B = b
+egress_of quad.C = c
+egress_of quad.D = d
+
+-- deeds and a record tell the same
+pub record Tells (number : ℕ) (did : List Deed) (past : List Entry) : Type 0 where
+  pub moment : deeds.greatest did ≡ now past
+  pub steps : length (deeds.arrivals did) ≡ steps past
+  pub log : (port : QuadPort) → deeds.log port did ≡ oldest_first (notes (owner_of number) (egress_of port) past)
+  pub counters : deeds.counts did ≡ counters place.QuadBox past
+
+-- what a machine holds is told by a record
+pub record Held (capacity number : ℕ) (machine : Machine) (past : List Entry) : Type 0 where
+  pub did : List Deed
+  pub is_told : IsTold capacity machine did
+  pub tells : Tells number did past
+
+-- ---- ageing
+
+aged-tells : (number : ℕ) (did : List Deed) (past : List Entry) (worker at : ℕ) → Tells number did past
+    → Tells number (aged at ∷ did) (record { worker = worker; at = at; event = Age; outcome = outcome.Aged } ∷ past)
+aged-tells number did past worker at t = record {
+  moment = ap (λ m. max m at) t.moment;
+  steps = t.steps;
+  log = t.log;
+  counters = t.counters ∙ λ i. let k : Counters = counters place.QuadBox past in record k { forwarded = sym (add-zero k.forwarded) i };
+}
+
+-- ---- an arrival
+
+-- an arrival is counted as an entry of a record is
+pub counted-entry : (k : Counters) (cause : Cause) (up_too : Bool) (n : ℕ) → counted k cause up_too n ≡ record {
+  sent = k.sent;
+  life = k.life;
+  up = if up_too then k.up + 1 else k.up;
+  forwarded = k.forwarded + n;
+  duplicate = if kinds.is_duplicate cause then k.duplicate + 1 else k.duplicate;
+  returned = if kinds.is_returned cause then k.returned + 1 else k.returned;
+  foreign = if kinds.is_foreign cause then k.foreign + 1 else k.foreign;
+  local = if kinds.is_local cause then k.local + 1 else k.local;
+  untagged = if kinds.is_untagged cause then k.untagged + 1 else k.untagged;
+  tagged = if kinds.is_tagged cause then k.tagged + 1 else k.tagged;
+  malformed = if kinds.is_malformed cause then k.malformed + 1 else k.malformed;
+  bad_life = k.bad_life;
+}
+counted-entry k cause.Passed up_too n = λ i. record (counted k cause.Passed up_too n) { up = sym (one-more up_too k.up) i }
+counted-entry k cause.Duplicate up_too n = λ i. record (counted k cause.Duplicate up_too n) { up = sym (one-more up_too k.up) i }
+counted-entry k cause.Returned up_too n = λ i. record (counted k cause.Returned up_too n) { up = sym (one-more up_too k.up) i }
+counted-entry k cause.Foreign up_too n = λ i. record (counted k cause.Foreign up_too n) { up = sym (one-more up_too k.up) i }
+counted-entry k cause.Local up_too n = λ i. record (counted k cause.Local up_too n) { up = sym (one-more up_too k.up) i }
+counted-entry k cause.Untagged up_too n = λ i. record (counted k cause.Untagged up_too n) { up = sym (one-more up_too k.up) i }
+counted-entry k cause.Tagged up_too n = λ i. record (counted k cause.Tagged up_too n) { up = sym (one-more up_too k.up) i }
+counted-entry k (cause.Malformed fault) up_too n = λ i. record (counted k (cause.Malformed fault) up_too n) { up = sym (one-more up_too k.up) i }
+
+abbrev arrival : ℕ → ℕ → ℕ → Carried → QuadVerdict → Entry
+arrival worker at port copy v = record { worker = worker; at = at; event = Arrive port copy; outcome = quad_judged v }
+
+judged-tells : (number : ℕ) (did : List Deed) (past : List Entry) (worker at port : ℕ) (x : QuadPort) (copy : Carried) (passes : Exits) → Tells number did past
+    → let j : Judged = record { at = at; port = x; seen = classified copy.octets; passes = passes } in
+    Tells number (judged j ∷ did) (arrival worker at port copy (verdict_on j) ∷ past)
+judged-tells number did past worker at port x copy passes t = record {
+  moment = m;
+  steps = omega (arith, t.steps);
+  log = λ q. by_seen q (classified copy.octets);
+  counters = sym (law.counts-judged did j)
+      ∙ ap (λ (k : Counters). counted k kind false (copies_of passes)) t.counters
+      ∙ counted-entry (counters place.QuadBox past) kind false (copies_of passes);
+}
+  where
+    j : Judged
+    j = record { at = at; port = x; seen = classified copy.octets; passes = passes }
+
+    kind : Cause
+    kind = cause_of (wanted x (classified copy.octets)) passes
+
+    m : max (deeds.greatest did) at ≡ max (now past) at
+    m = ap (λ m. max m at) t.moment
+
+    noted : QuadPort → List Noted
+    noted q = notes (owner_of number) (egress_of q) past
+
+    is_passed : QuadPort → Bool
+    is_passed q = is_noted (quad_judged (verdict_on j)) (egress_of q)
+
+    by_seen : (q : QuadPort) (seen : Result Seen FrameFault)
+        → deeds.log q did ++ deeds.note_of seen (deeds.passed_by q passes) (max (deeds.greatest did) at)
+        ≡ oldest_first (cons_option (note_if (is_passed q) (key_in seen None) (max (now past) at) copy.probe) (noted q))
+    by_seen q (Err fault) = unlogged (deeds.log q did) (noted q) (t.log q)
+    by_seen q (Ok (Plain frame)) = unlogged (deeds.log q did) (noted q) (t.log q)
+    by_seen q (Ok (Tagged frame)) = by_port q
+      where
+        one : (q : QuadPort) (passed : Bool) → deeds.log q did ++ deeds.note_of (Ok (Tagged frame)) passed (max (deeds.greatest did) at)
+            ≡ oldest_first (cons_option (note_if passed (Some (key_of frame)) (max (now past) at) copy.probe) (noted q))
+        one q passed = logged passed (key_of frame) (max (deeds.greatest did) at) (max (now past) at) copy.probe (deeds.log q did) (noted q) m (t.log q)
+
+        by_port : (q : QuadPort) → deeds.log q did ++ deeds.note_of (Ok (Tagged frame)) (deeds.passed_by q passes) (max (deeds.greatest did) at)
+            ≡ oldest_first (cons_option (note_if (is_passed q) (Some (key_of frame)) (max (now past) at) copy.probe) (noted q))
+        by_port quad.A = one quad.A passes.a
+        by_port quad.B = one quad.B passes.b
+        by_port quad.C = one quad.C passes.c
+        by_port quad.D = one quad.D passes.d
+
+-- ---- the verdict
+
+-- nothing is wanted up
+never-up : (x : QuadPort) (frame : TaggedFields) → (wanted x (Ok (Tagged frame))).exits.up ≡ false
+never-up quad.A frame = refl
+never-up quad.B frame = refl
+never-up quad.C frame = refl
+never-up quad.D frame = refl
+
+remembers-same : (capacity number : ℕ) (did : List Deed) (past : List Entry) (at : ℕ) (key : Key) (port : QuadPort) → Tells number did past
+    → has_key key (remembered capacity 400 (deeds.log port did) at) ≡ remembers capacity (owner_of number) past at key (egress_of port)
+remembers-same capacity number did past at key port t =
+    ap (λ log. has_key key (remembered capacity 400 log at)) (t.log port) ∙ remembers-oldest capacity at key (notes (owner_of number) (egress_of port) past)
+
+verdict-same : (capacity number : ℕ) (did : List Deed) (past : List Entry) (at next : ℕ) (x : QuadPort) (seen : Result Seen FrameFault) → Tells number did past
+    → judged_as (unnumbered (wanted x seen)) (passing (remembers capacity (owner_of number) past (max (now past) at)) (wanted x seen).exits seen) next
+    ≡ quad_judged (verdict_on (judgement capacity did at x seen))
+verdict-same capacity number did past at next x (Err fault) t = refl
+verdict-same capacity number did past at next x (Ok (Plain frame)) t = refl
+verdict-same capacity number did past at next x (Ok (Tagged frame)) t =
+    let wants : Wants = wanted x (Ok (Tagged frame)) in
+    let exits : Exits = wants.exits in
+    let none = never-up x frame in
+    let held : (e : Egress) → Bool = λ e. remembers capacity (owner_of number) past (max (now past) at) (key_of frame) e in
+    let moment : max (deeds.greatest did) at ≡ max (now past) at = ap (λ m. max m at) t.moment in
+    let same : (port : QuadPort) → held (egress_of port) ≡ has_key (key_of frame) (remembered capacity 400 (deeds.log port did) (max (deeds.greatest did) at)) = λ port.
+    sym (ap (λ m. has_key (key_of frame) (remembered capacity 400 (deeds.log port did) m)) moment ∙ remembers-same capacity number did past (max (now past) at) (key_of frame) port t) in
+    let passed : Exits = deeds.passes_in capacity did exits (Ok (Tagged frame)) (max (deeds.greatest did) at) in
+    let passes : record {
+      up = exits.up && not (held up);
+      a = exits.a && not (held a);
+      b = exits.b && not (held b);
+      c = exits.c && not (held c);
+      d = exits.d && not (held d);
+    } ≡ passed
+    = λ i. record {
+      up = off exits.up (held up) none i;
+      a = exits.a && not (same quad.A i);
+      b = exits.b && not (same quad.B i);
+      c = exits.c && not (same quad.C i);
+      d = exits.d && not (same quad.D i);
+    } in
+    ap (λ (p : Exits). judged_as (unnumbered wants) p next) passes
+    ∙ λ i. outcome.Judged (none i) (passed.a ∷ passed.b ∷ passed.c ∷ passed.d ∷ []) None (cause_of wants passed)
+  where
+    off : (p q : Bool) → p ≡ false → p && not q ≡ p
+    off true q e = absurd (cc)
+    off false q e = refl
+
+-- ---- one event
+
+abbrev judged_in : Answer → Result QuadVerdict IsSpent
+judged_in (Some r) = r
+judged_in None = Err (record {})
+
+arrive-case : (capacity number worker at port : ℕ) (x : QuadPort) (copy : Carried) (did : List Deed) (past : List Entry) (s : Result QuadVerdict IsSpent × Machine) (is_spent : Bool)
+    → Tells number did past → law.IsSame capacity (Some s.0, s.1) (deeds.judge_or_spent capacity did at x (classified copy.octets) is_spent)
+    → let h = unnumbered (wanted x (classified copy.octets)) in
+    ((if is_spent then Err refused.Spent
+    else Ok (judged_as h (passing (remembers capacity (owner_of number) past (max (now past) at)) h.wants.exits (classified copy.octets)) (next_number past)))
+    ≡ told quad_judged spent s.0)
+    × Stays (Held capacity number) past (record { worker = worker; at = at; event = Arrive port copy }) (told quad_judged spent s.0) s.1
+arrive-case capacity number worker at port x copy did past s true t k =
+    let call : Call = record { worker = worker; at = at; event = Arrive port copy } in
+    subst (λ (r : Result QuadVerdict IsSpent). (Err refused.Spent ≡ told quad_judged spent r) × Stays (Held capacity number) past call (told quad_judged spent r) s.1)
+    (sym (ap judged_in k.0))
+    (refl, record { did = did; is_told = k.1; tells = t })
+arrive-case capacity number worker at port x copy did past s false t k =
+    let call : Call = record { worker = worker; at = at; event = Arrive port copy } in
+    let seen = classified copy.octets in
+    let h = unnumbered (wanted x seen) in
+    let j : Judged = judgement capacity did at x seen in
+    subst (λ (r : Result QuadVerdict IsSpent).
+    (Ok (judged_as h (passing (remembers capacity (owner_of number) past (max (now past) at)) h.wants.exits seen) (next_number past)) ≡ told quad_judged spent r)
+    × Stays (Held capacity number) past call (told quad_judged spent r) s.1)
+    (sym (ap judged_in k.0)) (
+      ap (λ (o : Outcome). Ok o) (verdict-same capacity number did past at (next_number past) x seen t),
+      record {
+        did = judged j ∷ did;
+        is_told = k.1;
+        tells = judged-tells number did past worker at port x copy j.passes t;
+      },
+    )
+
+-- ---- any QuadBox
+
+pub begins-held : (capacity number : ℕ) → Held capacity number new_machine []
+begins-held capacity number = record {
+  did = [];
+  is_told = law.told-new capacity;
+  tells = record { moment = refl; steps = refl; log = λ port. refl; counters = refl };
+}
+
+pub counters-held : (capacity number : ℕ) (machine : Machine) (past : List Entry) → Held capacity number machine past → machine.counters ≡ counters place.QuadBox past
+counters-held capacity number machine past h = h.is_told.counters ∙ h.tells.counters
+
+pub keeps-held : (capacity number : ℕ) (machine : Machine) (past : List Entry) (worker at : ℕ) (event : Event) → Held capacity number machine past
+    → Keeps capacity (owner_of number) (Held capacity number) past (record { worker = worker; at = at; event = event }) (quadbox_step capacity machine at event)
+unfolding quadbox_step
+keeps-held capacity number machine past worker at (Send from dst vlan kind payload) h = (refl, h)
+keeps-held capacity number machine past worker at (Supervise about) h = (refl, h)
+keeps-held capacity number machine past worker at (Arrive port copy) h = by_port (quad_port port)
+  where
+    call : Call
+    call = record { worker = worker; at = at; event = Arrive port copy }
+
+    seen : Result Seen FrameFault
+    seen = classified copy.octets
+
+    by_port : (found : Option QuadPort)
+        → (arrive_answer capacity (owner_of number) past (max (now past) at) (option_map (λ x. unnumbered (wanted x seen)) found) seen ≡ (quadbox_arrive capacity machine at found copy.octets).0)
+        × Stays (Held capacity number) past call (quadbox_arrive capacity machine at found copy.octets).0 (quadbox_arrive capacity machine at found copy.octets).1
+    by_port None = (refl, h)
+    by_port (Some x) =
+        arrive-case capacity number worker at port x copy h.did past (arrive_step capacity machine at x copy.octets) (steps past == 2 ^ 62) h.tells
+        (subst (λ n. law.IsSame capacity (Some (arrive_step capacity machine at x copy.octets).0, (arrive_step capacity machine at x copy.octets).1)
+        (deeds.judge_or_spent capacity h.did at x seen (n == 2 ^ 62))) h.tells.steps
+        (law.told-call capacity machine h.did (deeds.arriving at x copy.octets) h.is_told))
+keeps-held capacity number machine past worker at Age h = (
+  refl,
+  record {
+    did = aged at ∷ h.did;
+    is_told = (law.told-call capacity machine h.did (deeds.ageing at) h.is_told).1;
+    tells = aged-tells number h.did past worker at h.tells;
+  },
+)

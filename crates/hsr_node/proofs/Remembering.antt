@@ -1,0 +1,63 @@
+-- What a table remembers of its notes is what a record remembers of its own.
+use Rattle.std.proofs.Common.{◌≡◌, ℕ, zero, suc, ◌-◌, ◌||◌, nat_lt, Bool, true, false, cond, List, [], ◌∷◌, ◌++◌, take, filter, Some, None, refl, ap, sym, ◌∙◌, arith, append-nil}
+use Rattle.std.proofs.Math.ListN.{drop_of_length-le}
+use Rattle.std.specs.List.{cons_option}
+use Rattle.std.proofs.lemmas.List.Elements.{filter-append}
+use Rattle.std.proofs.lemmas.List.Folds.{list_any-append}
+use Rattle.hsr_duptable.specs.Key.{Key, is_same_key}
+use Rattle.hsr_duptable.specs.Log as log
+use Rattle.hsr_duptable.specs.Notes as table
+use Rattle.hsr_duptable.specs.declared.note.Note.{Note}
+use Rattle.hsr_duptable.proofs.LogLaws.{last_notes-append, last_notes-none}
+use Rattle.hsr_node.specs.Record.{Noted, has_key, remembered}
+
+-- notes as a table has them, the oldest first
+abbrev pub oldest_first : List Noted → List Note
+oldest_first [] = []
+oldest_first (n ∷ ns) = oldest_first ns ++ record { key = n.key; moment = n.moment } ∷ []
+
+pub oldest_first-cons : (noted : Bool) (n : Noted) (ns : List Noted)
+    → oldest_first (cons_option (cond noted (Some n) None) ns) ≡ oldest_first ns ++ cond noted (record { key = n.key; moment = n.moment } ∷ []) []
+oldest_first-cons true n ns = refl
+oldest_first-cons false n ns = sym (append-nil (oldest_first ns))
+
+last-oldest : (capacity : ℕ) (ns : List Noted) → table.last_notes capacity (oldest_first ns) ≡ oldest_first (take capacity ns)
+last-oldest zero ns = last_notes-none zero (oldest_first ns) refl
+last-oldest (suc capacity) [] = drop_of_length-le {A = Note} [] (omega arith)
+last-oldest (suc capacity) (n ∷ ns) =
+    last_notes-append capacity (suc capacity) (oldest_first ns) (record { key = n.key; moment = n.moment } ∷ []) (omega arith)
+    ∙ ap (λ xs. xs ++ record { key = n.key; moment = n.moment } ∷ []) (last-oldest capacity ns)
+
+young-oldest : (key : Key) (at : ℕ) (ns : List Noted)
+    → table.has_key key (table.unexpired_notes 400 at (oldest_first ns)) ≡ has_key key (filter (λ n. nat_lt (at - n.moment) 400) ns)
+young-oldest key at [] = refl
+young-oldest key at (n ∷ ns) =
+    let note : Note = record { key = n.key; moment = n.moment } in
+    ap (table.has_key key) (filter-append (table.is_unexpired 400 at) (oldest_first ns) (note ∷ []))
+    ∙ list_any-append (λ (m : Note). is_same_key m.key key) (table.unexpired_notes 400 at (oldest_first ns)) (table.unexpired_notes 400 at (note ∷ []))
+    ∙ ap (λ p. p || table.has_key key (table.unexpired_notes 400 at (note ∷ []))) (young-oldest key at ns)
+    ∙ one (nat_lt (at - n.moment) 400)
+  where
+    young : List Noted
+    young = filter (λ n. nat_lt (at - n.moment) 400) ns
+
+    last : (p q : Bool) → p || (q || false) ≡ q || p
+    last true true = refl
+    last true false = refl
+    last false true = refl
+    last false false = refl
+
+    none : (p : Bool) → p || false ≡ p
+    none true = refl
+    none false = refl
+
+    one : (is_young : Bool) → has_key key young || table.has_key key (cond is_young (record { key = n.key; moment = n.moment } ∷ []) [])
+        ≡ has_key key (cond is_young (n ∷ young) young)
+    one true = last (has_key key young) (is_same_key n.key key)
+    one false = none (has_key key young)
+
+-- a log remembers a key where the record that it is of does
+pub remembers-oldest : (capacity at : ℕ) (key : Key) (ns : List Noted)
+    → table.has_key key (log.remembered capacity 400 (oldest_first ns) at) ≡ has_key key (remembered capacity at ns)
+remembers-oldest capacity at key ns =
+    ap (λ xs. table.has_key key (table.unexpired_notes 400 at xs)) (last-oldest capacity ns) ∙ young-oldest key at (take capacity ns)

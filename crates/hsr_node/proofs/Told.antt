@@ -1,0 +1,46 @@
+-- What is shown of each kind of node: it answers as its record does, and goes on to be told by it.
+use Rattle.std.proofs.Common.{◌≡◌, ℕ, ◌+◌, Bool, true, false, cond, List, [], ◌∷◌, ◌++◌, max, Option, Some, None, Result, Ok, Err, refl, ap₂, sym, ◌∙◌, arith, append-nil}
+use Rattle.std.specs.List.{cons_option}
+use Rattle.hsr_frame.specs.Counters.{bit}
+use Rattle.hsr_duptable.specs.Key.{Key}
+use Rattle.hsr_duptable.specs.declared.note.Note.{Note}
+use Rattle.hsr_node.specs.Record.{Noted, Owner, answer, now}
+use Rattle.hsr_node.specs.declared.entry.Entry.{Entry}
+use Rattle.hsr_node.specs.declared.event.Event.{Event}
+use Rattle.hsr_node.specs.declared.event.Outcome.{Outcome}
+use Rattle.hsr_node.specs.declared.event.Probe.{Probe}
+use Rattle.hsr_node.specs.declared.event.StepFault.{StepFault}
+use Rattle.hsr_node.proofs.Remembering.{oldest_first, oldest_first-cons}
+
+-- a call to a node: who brought it, the moment as it was given, and the event
+pub record Call : Type 0 where
+  pub worker : ℕ
+  pub at : ℕ
+  pub event : Event
+
+abbrev pub entry_of : Call → Outcome → Entry
+entry_of call outcome = record { worker = call.worker; at = call.at; event = call.event; outcome = outcome }
+
+-- after an answer the record has one more entry, after a refusal it is as it was
+abbrev pub Stays : {M : Type 0} → (M → List Entry → Type 0) → List Entry → Call → Result Outcome StepFault → M → Type 0
+Stays Held past call (Ok outcome) machine = Held machine (entry_of call outcome ∷ past)
+Stays Held past call (Err fault) machine = Held machine past
+
+abbrev pub Keeps : {M : Type 0} → ℕ → Owner → (M → List Entry → Type 0) → List Entry → Call → Result Outcome StepFault × M → Type 0
+Keeps capacity owner Held past call s =
+    (answer capacity owner past (max (now past) call.at) call.event ≡ s.0) × Stays Held past call s.0 s.1
+
+-- a note more, or none
+pub logged : (noted : Bool) (key : Key) (moment effective : ℕ) (probe : Option Probe) (log : List Note) (ns : List Noted) → moment ≡ effective → log ≡ oldest_first ns
+    → log ++ cond noted (record { key = key; moment = moment } ∷ []) []
+    ≡ oldest_first (cons_option (cond noted (Some (record { key = key; moment = effective; probe = probe })) None) ns)
+logged noted key moment effective probe log ns m l =
+    ap₂ (λ (xs : List Note) n. xs ++ cond noted (record { key = key; moment = n } ∷ []) []) l m
+    ∙ sym (oldest_first-cons noted (record { key = key; moment = effective; probe = probe }) ns)
+
+pub unlogged : (log : List Note) (ns : List Noted) → log ≡ oldest_first ns → log ++ [] ≡ oldest_first ns
+unlogged log ns l = append-nil log ∙ l
+
+pub one-more : (p : Bool) (n : ℕ) → cond p (n + 1) n ≡ n + bit p
+one-more true n = refl
+one-more false n = omega arith

@@ -1,0 +1,128 @@
+//! A node with the record of all that happened to it.
+ghost use Rattle.std.specs.Prelude.{◌≡◌, ◌≤◌, [], ◌∷◌, ◌++◌, length, reverse, IfErr, IfOk};
+
+use crate::entry::{Entry, Receipt};
+use crate::event::{Event, StepFault};
+use crate::node::Node;
+use crate::place::Place;
+use hsr_frame::{Counters, NoMemory};
+use std::alloc::Global;
+use std::marker::Model;
+
+/// A node that keeps a record of all its events and answers, the oldest first. Its duplicate tables have `C` entries
+/// each, `C` from 1 to 65535 (IEC 62439-3 clause 5).
+#[derive(Drop)]
+pub struct Kept<const C: usize> {
+    number: usize,
+    place: Place,
+    node: Node<C>,
+    entries: Vec<Entry>,
+}
+
+impl<const C: usize> Model for Kept<C> {
+    ghost use Rattle.std.specs.Prelude.{reverse};
+    ghost use Rattle.hsr_node.specs.Kept.{Record, Replays};
+
+    ghost Value = { Record };
+
+    ghost view = { λ k. record { number = k.number; place = k.place; entries = k.entries.items } };
+
+    ghost invariant = { λ k. Replays C k.place (reverse k.entries.items) k.node };
+}
+
+impl<const C: usize> Kept<C> {
+    ghost use Rattle.hsr_node.specs.Kept.{IsAnswered, owner_of, past_of};
+    ghost use Rattle.hsr_node.specs.Place.{HasOwnAddress};
+    ghost use Rattle.hsr_node.specs.Record.{IsLegal, counters};
+
+    /// A node of this number at this place that has done nothing. No group has the address of a DANH or RedBox.
+    pub fn new(alloc: Global, number: usize, place: Place) -> Result<Kept<C>, NoMemory>
+        requires station { HasOwnAddress place }
+        requires entries { (1 ≤ C) × (C ≤ 65535) }
+        ensures { IfOk result (λ kept. kept ≡ record { number = number; place = place; entries = [] }) }
+    {
+        let node = Node::new(alloc, &place)?;
+        Ok(Kept {
+            number,
+            place,
+            node,
+            entries: Vec::new(alloc),
+        })
+    }
+
+    /// Lets an event happen that a worker brings, at a moment in milliseconds, and keeps one more entry: the worker, the
+    /// moment and the event as they are given, and what the machine answers that remembers, of its whole record, the
+    /// youngest unexpired passed frames up to `C`. The receipt is that entry, and names its place. A refusal hands the
+    /// event back and changes nothing: `NoMemory`, or what that machine refuses it for.
+    pub fn step(
+        &mut self,
+        worker: u16,
+        at: u64,
+        event: Event,
+    ) -> Result<Receipt, (Event, StepFault)>
+        ensures kept { IfOk result (λ r. self.new ≡ record self.old { entries = self.old.entries ++ r.entry ∷ [] }) }
+        ensures receipt { IfOk result (λ r. (r.node ≡ self.old.number) × (r.place ≡ length self.old.entries)) }
+        ensures call { IfOk result (λ r. (r.entry.worker ≡ worker) × (r.entry.at ≡ at) × (r.entry.event ≡ event)) }
+        ensures answered { IsAnswered C self.old at event result }
+        ensures refused { IfErr result (λ e. (self.new ≡ self.old) × (e.0 ≡ event)) }
+    {
+        if self.entries.reserve(1).is_err() {
+            return Err((event, StepFault::NoMemory));
+        }
+        let Ok(copy) = event.copy() else {
+            return Err((event, StepFault::NoMemory));
+        };
+        let outcome = match self.node.apply(at, &event) {
+            Ok(outcome) => outcome,
+            Err(fault) => return Err((event, fault)),
+        };
+        let place = self.entries.len();
+        let Ok(()) = self.entries.push(Entry {
+            worker,
+            at,
+            event,
+            outcome,
+        })
+        else {
+            unreachable!()
+        };
+        Ok(Receipt {
+            node: self.number,
+            place,
+            entry: Entry {
+                worker,
+                at,
+                event: copy,
+                outcome,
+            },
+        })
+    }
+
+    /// The record, the oldest entry first. Each outcome in it is what the past below it answers.
+    pub fn entries(&self) -> &[Entry]
+        ensures entries { result.now ≡ self.now.entries }
+        ensures legal { IsLegal C (owner_of self.now) (past_of self.now) }
+    {
+        self.entries.as_slice()
+    }
+
+    /// How often each thing happened, counted over the record.
+    pub fn counters(&self) -> Counters
+        ensures { result ≡ counters self.now.place (past_of self.now) }
+    {
+        self.node.counters()
+    }
+
+    /// The number of the node.
+    pub fn node(&self) -> usize
+        ensures { result ≡ self.now.number }
+    {
+        self.number
+    }
+
+    pub fn place(&self) -> &Place
+        ensures { result.now ≡ self.now.place }
+    {
+        &self.place
+    }
+}
