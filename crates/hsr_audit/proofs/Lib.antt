@@ -1,0 +1,6 @@
+pub mod Addresses
+pub mod Joins
+pub mod Wired
+pub mod Faults
+pub mod Lookup
+pub mod Back

@@ -1,0 +1,16 @@
+//! Which nodes there are, how their ports are joined, and what a finished run shows.
+#![tactic(auto)]
+
+mod end;
+mod fault;
+mod links;
+mod nodes;
+mod topology;
+
+pub use end::End;
+pub use fault::TopologyFault;
+pub use nodes::ports;
+pub use topology::Topology;
+
+#[cfg(test)]
+mod tests;

@@ -1,0 +1,4 @@
+pub mod Waiting
+pub mod Lost
+pub mod Sound
+pub mod Order

@@ -1,0 +1,4 @@
+pub mod Rows
+pub mod Queue
+pub mod Link
+pub mod Calls

@@ -1,0 +1,12 @@
+//! Links: two queues of copies, and what became of each copy that was put on them.
+#![tactic(auto)]
+
+mod link;
+mod queue;
+mod row;
+
+pub use link::{Link, takes_in_order};
+pub use row::{Dir, Fate, Row};
+
+#[cfg(test)]
+mod tests;

@@ -1,0 +1,157 @@
+//! A link: two queues, and a row for each copy that was put on them.
+ghost use Rattle.std.specs.Prelude.{◌≡◌, ◌≤◌, IfOk, IfErr};
+ghost use Rattle.hsr_link.specs.Calls.{TakesInOrder};
+
+use crate::queue::{Waiting, enter, lose_both, put_fate, turn_first};
+use crate::row::{Dir, Fate, Row};
+use circular_buffer::HeapCircularBuffer;
+use hsr_frame::NoMemory;
+use hsr_node::Carried;
+use std::alloc::Global;
+use std::marker::Model;
+
+/// A link between two ports. In each direction a bounded number of copies may wait, and each copy has a row.
+///
+/// A clause sees its rows, whether it is cut, and its capacity.
+#[derive(Debug, Drop)]
+pub struct Link {
+    capacity: usize,
+    is_cut: bool,
+    forth: HeapCircularBuffer<Waiting>,
+    back: HeapCircularBuffer<Waiting>,
+    rows: Vec<Row>,
+}
+
+impl Model for Link {
+    ghost use Rattle.hsr_link.specs.Link.{Link};
+    ghost use Rattle.hsr_link.specs.Queue.{IsSound};
+
+    ghost Value = { Link };
+
+    ghost view = { λ l. record { rows = l.rows.items; is_cut = l.is_cut; capacity = l.capacity } };
+
+    ghost invariant = { λ l. IsSound l.capacity l.rows.items l.forth l.back };
+}
+
+impl Link {
+    ghost use Rattle.hsr_link.specs.Link.{new_link, put_step, inject_step, add_step, take_step, cut_step, mended};
+
+    /// A link that is not cut, on which `capacity` copies may wait in each direction; `NoMemory` where room for them
+    /// is refused.
+    pub fn new(alloc: Global, capacity: usize) -> Result<Link, NoMemory>
+        requires { (1 ≤ capacity) × (capacity ≤ 4096) }
+        ensures { IfOk result (λ link. link ≡ new_link capacity) }
+    {
+        let forth = HeapCircularBuffer::with_capacity(alloc, capacity)?;
+        let back = HeapCircularBuffer::with_capacity(alloc, capacity)?;
+        Ok(Link {
+            capacity,
+            is_cut: false,
+            forth,
+            back,
+            rows: Vec::new(alloc),
+        })
+    }
+
+    /// Puts a copy, and tells what became of it: Queued, LostDown on a cut link, or LostOverrun where its queue is
+    /// full. `NoMemory` where room is refused: then nothing changes, and the copy comes back.
+    pub fn put(&mut self, dir: Dir, carried: Carried) -> Result<Fate, (Carried, NoMemory)>
+        ensures ok { IfOk result (λ fate. (fate, self.new) ≡ put_step self.old dir carried) }
+        ensures err { IfErr result (λ e. (self.new ≡ self.old) × (e.0 ≡ carried)) }
+    {
+        self.add(dir, carried, false)
+    }
+
+    /// Puts a copy that no port sent: as `put`, but its row says that it was injected.
+    pub fn inject(&mut self, dir: Dir, carried: Carried) -> Result<Fate, (Carried, NoMemory)>
+        ensures ok { IfOk result (λ fate. (fate, self.new) ≡ inject_step self.old dir carried) }
+        ensures err { IfErr result (λ e. (self.new ≡ self.old) × (e.0 ≡ carried)) }
+    {
+        self.add(dir, carried, true)
+    }
+
+    fn add(
+        &mut self,
+        dir: Dir,
+        carried: Carried,
+        injected: bool,
+    ) -> Result<Fate, (Carried, NoMemory)>
+        ensures ok { IfOk result (λ fate. (fate, self.new) ≡ add_step self.old dir carried injected) }
+        ensures err { IfErr result (λ e. (self.new ≡ self.old) × (e.0 ≡ carried)) }
+    {
+        match dir {
+            Dir::Forth => {
+                let fate = put_fate(self.is_cut, &self.forth);
+                let row = Row {
+                    dir,
+                    carried,
+                    injected,
+                    fate,
+                };
+                enter(&mut self.forth, &mut self.rows, row)
+            }
+            Dir::Back => {
+                let fate = put_fate(self.is_cut, &self.back);
+                let row = Row {
+                    dir,
+                    carried,
+                    injected,
+                    fate,
+                };
+                enter(&mut self.back, &mut self.rows, row)
+            }
+        }
+    }
+
+    /// Takes the oldest copy that waits in a direction, if one does. Needs no memory.
+    pub fn take(&mut self, dir: Dir) -> Option<Carried>
+        ensures { (result, self.new) ≡ take_step self.old dir }
+    {
+        match dir {
+            Dir::Forth => turn_first(&mut self.forth, self.rows.as_mut_slice(), dir, Fate::Taken),
+            Dir::Back => turn_first(&mut self.back, self.rows.as_mut_slice(), dir, Fate::Taken),
+        }
+    }
+
+    /// Cuts the link: all copies that wait are lost, and it tells how many. Needs no memory.
+    pub fn cut(&mut self) -> usize
+        ensures { (result, self.new) ≡ cut_step self.old }
+    {
+        self.is_cut = true;
+        lose_both(&mut self.forth, &mut self.back, self.rows.as_mut_slice())
+    }
+
+    /// Mends the link; what was lost stays so.
+    pub fn mend(&mut self)
+        ensures { self.new ≡ mended self.old }
+    {
+        self.is_cut = false;
+    }
+
+    /// The row of each copy, in the order in which they were put.
+    pub fn rows(&self) -> &[Row]
+        ensures { result.now ≡ self.now.rows }
+    {
+        self.rows.as_slice()
+    }
+
+    /// The rows.
+    pub fn into_rows(self) -> Vec<Row>
+        ensures { result.items ≡ self.rows }
+    {
+        let Link {
+            capacity: _,
+            is_cut: _,
+            forth: _,
+            back: _,
+            rows,
+        } = self;
+        rows
+    }
+}
+
+/// Whatever is done to a new link, the copies taken in a direction are those of its Taken rows, in the order in which they
+/// were put.
+pub fn takes_in_order()
+    ensures { TakesInOrder }
+{}
