@@ -6,3 +6,4 @@ pub mod OfQuadBox
 pub mod OfStation
 pub mod Refused
 pub mod Replayed
+pub mod Holding

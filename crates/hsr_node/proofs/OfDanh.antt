@@ -1,7 +1,8 @@
 -- A DANH answers as its record does.
-use Rattle.std.proofs.Common.{◌≡◌, ℕ, ◌+◌, ◌%◌, ◌^◌, ◌==◌, ◌&&◌, not, Bool, true, false, if◌then◌else◌, List, [], ◌∷◌, ◌++◌, length, Option, Some, None, Result, Ok, Err, refl, sym, ap, ap₂, subst, ◌∙◌, arith, add-zero}
+use Rattle.std.proofs.Common.{◌≡◌, ℕ, ◌+◌, ◌%◌, ◌^◌, ◌==◌, ◌&&◌, not, Bool, true, false, if◌then◌else◌, List, [], ◌∷◌, ◌++◌, length, reverse, Option, Some, None, Result, Ok, Err, refl, sym, ap, ap₂, subst, ◌∙◌, arith, add-zero}
 use Rattle.std.specs.Prelude.{max, is_some, option_map}
 use Rattle.std.specs.List.{cons_option}
+use Rattle.std.proofs.lemmas.List.{reverse-append}
 use Rattle.hsr_frame.specs.Address.{is_group, is_same_address}
 use Rattle.hsr_frame.specs.Counters.{bit}
 use Rattle.hsr_frame.specs.Egress.{Egress, up, a, b, c, d, beyond, cause_of, nowhere, to}
@@ -26,6 +27,9 @@ use Rattle.hsr_tag.specs.declared.seen.Seen.TheVariants.{Plain, Tagged}
 use Rattle.hsr_duptable.specs.Key.{Key}
 use Rattle.hsr_duptable.specs.Log.{remembered}
 use Rattle.hsr_duptable.specs.Notes.{has_key}
+use Rattle.hsr_supervision.specs.Payload.{Fields as Said}
+use Rattle.hsr_supervision.specs.declared.payload.SupFault.{SupFault}
+use Rattle.hsr_tables.specs.Nodes.{Hearing}
 use Rattle.hsr_danh.specs.Machine.{Machine, new_machine}
 use Rattle.hsr_danh.specs.Past as deeds
 use Rattle.hsr_danh.specs.Past.{Answer, Deed, Did, done, gave_up, judged_frame, sent_frame, sent_life}
@@ -38,7 +42,7 @@ use Rattle.hsr_danh.proofs.PastLaw as law
 use Rattle.hsr_redbox.specs.Wanted.{unnumbered}
 use Rattle.hsr_redbox.specs.declared.call.About.{About}
 use Rattle.hsr_redbox.specs.declared.call.About.TheVariants.{Own, Proxied}
-use Rattle.hsr_node.specs.Record.{Owner, arrive_answer, copies, counters, count_of, hears_at, is_noted, is_unreadable_for, judged_as, key_in, note_if, lived_or_refused, lives, next_number, notes, now, number_in, passing, remembers, sent_or_refused, send_answer, steps, sum_of}
+use Rattle.hsr_node.specs.Record.{Owner, arrive_answer, copies, count_of, counters, hearing_by, hearings, hears_at, is_noted, is_unreadable_for, judged_as, key_in, lived_or_refused, lives, next_number, note_if, notes, now, number_in, oldest_first, passing, remembers, send_answer, sent_or_refused, steps, sum_of}
 use Rattle.hsr_node.specs.Step.{danh_arrive, danh_judged, danh_send, danh_sent, danh_step, lived, ring_port, spent, told, wrong}
 use Rattle.hsr_node.specs.declared.entry.Entry.{Entry}
 use Rattle.hsr_node.specs.declared.event.Carried.{Carried}
@@ -48,7 +52,7 @@ use Rattle.hsr_node.specs.declared.event.Outcome.{Outcome}
 use Rattle.hsr_node.specs.declared.event.Outcome.TheVariants as outcome
 use Rattle.hsr_node.specs.declared.event.StepFault.TheVariants as refused
 use Rattle.hsr_node.specs.declared.place.Place.TheVariants as place
-use Rattle.hsr_node.proofs.Remembering.{oldest_first, remembers-oldest}
+use Rattle.hsr_node.proofs.Remembering.{remembers-oldest}
 use Rattle.hsr_node.proofs.Told.{Call, Keeps, Stays, logged, unlogged}
 
 abbrev owner_of : ℕ → List ℕ → Mode → Owner
@@ -60,6 +64,7 @@ pub record Tells (number : ℕ) (mac : List ℕ) (mode : Mode) (did : List Deed)
   pub steps : deeds.count_of deeds.is_step did ≡ steps past
   pub numbered : deeds.count_of deeds.is_numbered did ≡ count_of (λ x. is_some (number_in x.outcome)) past
   pub log : (e : Egress) → deeds.log_of mac e did ≡ oldest_first (notes (owner_of number mac mode) e past)
+  pub heard : reverse (deeds.hearings_of mac did) ≡ hearings (place.Danh mac mode) past
   pub counters : deeds.counters_of mac did ≡ counters (place.Danh mac mode) past
 
 -- what a machine holds is told by a record
@@ -69,6 +74,18 @@ pub record Held (capacity number : ℕ) (mac : List ℕ) (mode : Mode) (machine 
   pub own : machine.own ≡ mac
   pub mode_is : machine.mode ≡ mode
   pub tells : Tells number mac mode did past
+
+-- ---- hearings
+
+silent : (xs : List Hearing) → reverse (xs ++ []) ≡ reverse xs
+silent xs = reverse-append xs []
+
+-- one hearing, or none
+heard-same : (x : RingPort) (moment effective : ℕ) (is_told : Bool) (said : Result Said SupFault) → moment ≡ effective
+    → reverse {A = Hearing} (if is_told then deeds.hearing_if x moment said else []) ≡ (if is_told then deeds.hearing_if x effective said else [])
+heard-same x moment effective false said m = refl
+heard-same x moment effective true (Err fault) m = refl
+heard-same x moment effective true (Ok said) m = ap (λ (n : ℕ). record { said = said; port = x; at = n } ∷ []) m
 
 -- ---- a frame of the node's own
 
@@ -82,6 +99,7 @@ sent-tells number mac mode did past worker at from seq dst vlan kind payload t =
   steps = ap (λ n. n + 1) t.steps;
   numbered = ap (λ n. n + 1) t.numbered;
   log = by_egress;
+  heard = silent (deeds.hearings_of mac did) ∙ t.heard;
   counters = λ i. let k : Counters = t.counters i in record k { sent = k.sent + 1; forwarded = forwards i };
 }
   where
@@ -108,6 +126,7 @@ life-tells number mac mode did past worker at seq life about t = record {
   steps = ap (λ n. n + 1) t.steps;
   numbered = ap (λ n. n + 1) t.numbered;
   log = by_egress;
+  heard = silent (deeds.hearings_of mac did) ∙ t.heard;
   counters = λ i. let k : Counters = t.counters i in record k { life = k.life + 1; forwarded = forwards i };
 }
   where
@@ -133,6 +152,7 @@ aged-tells number mac mode did past worker at t = record {
   steps = t.steps;
   numbered = t.numbered;
   log = λ e. unlogged (deeds.log_of mac e did) (notes (owner_of number mac mode) e past) (t.log e);
+  heard = silent (deeds.hearings_of mac did) ∙ t.heard;
   counters = λ i. let k : Counters = t.counters i in record k { forwarded = forwards i };
 }
   where
@@ -158,6 +178,10 @@ judged-tells number mac mode did past worker at port x copy v is_x t = record {
   steps = ap (λ n. n + 1) t.steps;
   numbered = t.numbered;
   log = λ e. by_seen e (classified copy.octets);
+  heard = reverse-append (deeds.hearings_of mac did) (deeds.heard_by mac (max (deeds.moment_of did) at) (judged_frame x (classified copy.octets) v))
+      ∙ ap₂ (λ (xs ys : List Hearing). xs ++ ys)
+      (heard-same x (max (deeds.moment_of did) at) (max (now past) at) (deeds.is_told mac (classified copy.octets)) (deeds.told_by (classified copy.octets)) (ap (λ m. max m at) t.moment)) t.heard
+      ∙ ap (λ (found : Option RingPort). hearing_by (Some mac) found (max (now past) at) (classified copy.octets) ++ hearings (place.Danh mac mode) past) (sym is_x);
   counters = λ i. let k : Counters = t.counters i in record {
     sent = k.sent;
     life = k.life;
@@ -408,7 +432,7 @@ begins-held capacity number mac mode = record {
   of_past = begins capacity mac mode;
   own = refl;
   mode_is = refl;
-  tells = record { moment = refl; steps = refl; numbered = refl; log = λ e. refl; counters = refl };
+  tells = record { moment = refl; steps = refl; numbered = refl; log = λ e. refl; heard = refl; counters = refl };
 }
 
 pub counters-held : (capacity number : ℕ) (mac : List ℕ) (mode : Mode) (machine : Machine) (past : List Entry) → Held capacity number mac mode machine past

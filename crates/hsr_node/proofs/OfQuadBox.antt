@@ -29,7 +29,7 @@ use Rattle.hsr_quadbox.specs.declared.quadbox.QuadVerdict.{QuadVerdict}
 use Rattle.hsr_quadbox.specs.declared.wanted.QuadPort.{QuadPort}
 use Rattle.hsr_quadbox.specs.declared.wanted.QuadPort.TheVariants as quad
 use Rattle.hsr_quadbox.proofs.PastLaws as law
-use Rattle.hsr_node.specs.Record.{Noted, Owner, arrive_answer, counters, is_noted, judged_as, key_in, next_number, note_if, notes, now, passing, remembers, steps}
+use Rattle.hsr_node.specs.Record.{Noted, Owner, arrive_answer, counters, is_noted, judged_as, key_in, next_number, note_if, notes, now, oldest_first, passing, remembers, steps}
 use Rattle.hsr_node.specs.Step.{quad_judged, quad_port, quadbox_arrive, quadbox_step, spent, told}
 use Rattle.hsr_node.specs.declared.entry.Entry.{Entry}
 use Rattle.hsr_node.specs.declared.event.Carried.{Carried}
@@ -39,7 +39,7 @@ use Rattle.hsr_node.specs.declared.event.Outcome.{Outcome}
 use Rattle.hsr_node.specs.declared.event.Outcome.TheVariants as outcome
 use Rattle.hsr_node.specs.declared.event.StepFault.TheVariants as refused
 use Rattle.hsr_node.specs.declared.place.Place.TheVariants as place
-use Rattle.hsr_node.proofs.Remembering.{oldest_first, remembers-oldest}
+use Rattle.hsr_node.proofs.Remembering.{remembers-oldest}
 use Rattle.hsr_node.proofs.Told.{Call, Keeps, Stays, logged, one-more, unlogged}
 
 abbrev owner_of : ℕ → Owner

@@ -29,7 +29,10 @@ use Rattle.hsr_tag.specs.declared.seen.Seen.TheVariants.{Plain, Tagged}
 use Rattle.hsr_duptable.specs.Key.{Key}
 use Rattle.hsr_duptable.specs.Log.{remembered}
 use Rattle.hsr_duptable.specs.Notes.{has_key}
+use Rattle.hsr_supervision.specs.Payload.{Fields as Said, read_of}
+use Rattle.hsr_supervision.specs.declared.payload.SupFault.{SupFault}
 use Rattle.hsr_tables.specs.Known.{known, latest_64}
+use Rattle.hsr_tables.specs.Nodes.{Hearing}
 use Rattle.hsr_danh.specs.Past as of_danh
 use Rattle.hsr_redbox.specs.Machine.{Machine, new_machine}
 use Rattle.hsr_redbox.specs.Past as deeds
@@ -46,7 +49,7 @@ use Rattle.hsr_redbox.specs.declared.call.LifeFault.TheVariants as refused_life
 use Rattle.hsr_redbox.specs.declared.wanted.Handling.{Handling}
 use Rattle.hsr_redbox.proofs.PastLaw.{IsPastOf, begins}
 use Rattle.hsr_redbox.proofs.PastLaw as law
-use Rattle.hsr_node.specs.Record.{Owner, arrive_answer, box_handling, counters, count_of, heard, hears_at, is_noted, is_some_ring, is_unreadable_for, judged_as, key_in, knows, lived_or_refused, lives, next_number, note_if, notes, now, number_in, own_key, passing, remembers, send_answer, sent_as, sent_or_refused, source_at, source_in, steps}
+use Rattle.hsr_node.specs.Record.{Owner, arrive_answer, box_handling, count_of, counters, heard, hearing_by, hearings, hears_at, is_noted, is_some_ring, is_unreadable_for, judged_as, key_in, knows, lived_or_refused, lives, next_number, note_if, notes, now, number_in, oldest_first, own_key, passing, remembers, ring_of, send_answer, sent_as, sent_or_refused, source_at, source_in, steps}
 use Rattle.hsr_node.specs.Step.{box_judged, box_port, box_sent, life_fault, lived, redbox_arrive, redbox_send, redbox_step, spent, told, wrong}
 use Rattle.hsr_node.specs.declared.entry.Entry.{Entry}
 use Rattle.hsr_node.specs.declared.event.Carried.{Carried}
@@ -57,7 +60,7 @@ use Rattle.hsr_node.specs.declared.event.Outcome.TheVariants as outcome
 use Rattle.hsr_node.specs.declared.event.Probe.{Probe}
 use Rattle.hsr_node.specs.declared.event.StepFault.TheVariants as refused
 use Rattle.hsr_node.specs.declared.place.Place.TheVariants as place
-use Rattle.hsr_node.proofs.Remembering.{oldest_first, remembers-oldest}
+use Rattle.hsr_node.proofs.Remembering.{remembers-oldest}
 use Rattle.hsr_node.proofs.Told.{Call, Keeps, Stays, logged, unlogged}
 
 abbrev owner_of : ℕ → List ℕ → Mode → Owner
@@ -70,6 +73,7 @@ pub record Tells (number : ℕ) (mac : List ℕ) (mode : Mode) (did : List Deed)
   pub numbered : deeds.count_of deeds.is_numbered did ≡ count_of (λ x. is_some (number_in x.outcome)) past
   pub log : (e : Egress) → deeds.log_of mac e did ≡ oldest_first (notes (owner_of number mac mode) e past)
   pub sources : reverse (deeds.sources_of mac did) ≡ heard (place.RedBox mac mode) past
+  pub hearing : reverse (deeds.hearings_of mac did) ≡ hearings (place.RedBox mac mode) past
   pub counters : deeds.counters_of mac did ≡ counters (place.RedBox mac mode) past
 
 -- what a machine holds is told by a record
@@ -84,6 +88,24 @@ pub record Held (capacity number : ℕ) (mac : List ℕ) (mode : Mode) (machine 
 
 silent : (xs : List (List ℕ × ℕ)) → reverse (xs ++ []) ≡ reverse xs
 silent xs = reverse-append xs []
+
+-- ---- hearings
+
+unheard-more : (xs : List Hearing) → reverse (xs ++ []) ≡ reverse xs
+unheard-more xs = reverse-append xs []
+
+-- one hearing, or none
+told-same : (mac : List ℕ) (x : RingPort) (moment effective : ℕ) (seen : Result Seen FrameFault) → moment ≡ effective
+    → reverse {A = Hearing} (if deeds.is_told mac seen then deeds.hearing_if x moment (deeds.told_by seen) else []) ≡ hearing_by (Some mac) (Some x) effective seen
+told-same mac x moment effective (Err fault) m = refl
+told-same mac x moment effective (Ok (Plain frame)) m = refl
+told-same mac x moment effective (Ok (Tagged frame)) m = by_case (is_supervision frame.dst frame.kind && not (is_same_address frame.src mac)) (read_of frame.payload)
+  where
+    by_case : (is_told : Bool) (said : Result Said SupFault)
+        → reverse {A = Hearing} (if is_told then deeds.hearing_if x moment said else []) ≡ (if is_told then of_danh.hearing_if x effective said else [])
+    by_case false said = refl
+    by_case true (Err fault) = refl
+    by_case true (Ok said) = ap (λ (n : ℕ). record { said = said; port = x; at = n } ∷ []) m
 
 -- ---- a frame of the node's own
 
@@ -121,6 +143,7 @@ sent-tells number mac mode did past worker at from seq h dst vlan kind payload o
   numbered = ap₂ (λ p n. if p then n + 1 else n) (is-numbered h.source seq) t.numbered;
   log = by_egress;
   sources = silent (deeds.sources_of mac did) ∙ t.sources;
+  hearing = unheard-more (deeds.hearings_of mac did) ∙ t.hearing;
   counters = λ i. let k : Counters = t.counters i in record k { sent = k.sent + 1; forwarded = k.forwarded + 0 };
 }
   where
@@ -157,6 +180,7 @@ life-tells number mac mode did past worker at seq life about t = record {
   numbered = ap (λ n. n + 1) t.numbered;
   log = by_egress;
   sources = silent (deeds.sources_of mac did) ∙ t.sources;
+  hearing = unheard-more (deeds.hearings_of mac did) ∙ t.hearing;
   counters = λ i. let k : Counters = t.counters i in record k { life = k.life + 1; forwarded = k.forwarded + 0 };
 }
   where
@@ -181,6 +205,7 @@ aged-tells number mac mode did past worker at t = record {
   numbered = t.numbered;
   log = λ e. unlogged (deeds.log_of mac e did) (notes (owner_of number mac mode) e past) (t.log e);
   sources = silent (deeds.sources_of mac did) ∙ t.sources;
+  hearing = unheard-more (deeds.hearings_of mac did) ∙ t.hearing;
   counters = λ i. let k : Counters = t.counters i in record k { forwarded = k.forwarded + 0 };
 }
 
@@ -240,11 +265,11 @@ counted-same mac mode past worker at port copy v unreadable bad = let same = cau
 }
 
 ring-tells : (number : ℕ) (mac : List ℕ) (mode : Mode) (did : List Deed) (past : List Entry) (worker at port : ℕ) (y : BoxPort) (x : RingPort) (copy : Carried) (wants : Wants) (passes : Exits)
-    → box_port port ≡ Some y → is_some_ring (Some y) ≡ true → Tells number mac mode did past
+    → box_port port ≡ Some y → is_some_ring (Some y) ≡ true → ring_of (Some y) ≡ Some x → Tells number mac mode did past
     → let v : BoxVerdict = verdict_of wants passes None in
     Tells number mac mode (done did (at_least did at) (judged_ring x (classified copy.octets) v))
     (record { worker = worker; at = at; event = Arrive port copy; outcome = box_judged v } ∷ past)
-ring-tells number mac mode did past worker at port y x copy wants passes is_y is_ring t =
+ring-tells number mac mode did past worker at port y x copy wants passes is_y is_ring is_x t =
     let v : BoxVerdict = verdict_of wants passes None in
     record {
       moment = ap (λ m. max m at) t.moment;
@@ -252,6 +277,9 @@ ring-tells number mac mode did past worker at port y x copy wants passes is_y is
       numbered = t.numbered;
       log = λ e. by_seen e (classified copy.octets);
       sources = silent (deeds.sources_of mac did) ∙ t.sources ∙ ap (λ xs. xs ++ heard (place.RedBox mac mode) past) (sym unheard);
+      hearing = reverse-append (deeds.hearings_of mac did) (deeds.heard_by mac (at_least did at) (judged_ring x (classified copy.octets) v))
+          ∙ ap₂ (λ (xs ys : List Hearing). xs ++ ys) (told-same mac x (at_least did at) (max (now past) at) (classified copy.octets) (ap (λ m. max m at) t.moment)) t.hearing
+          ∙ ap (λ (found : Option RingPort). hearing_by (Some mac) found (max (now past) at) (classified copy.octets) ++ hearings (place.RedBox mac mode) past) (sym (ap ring_of is_y ∙ is_x));
       counters = ap (λ (k : Counters). counted_on k v (deeds.is_unreadable mac (judged_ring x (classified copy.octets) v))) t.counters
           ∙ counted-same mac mode past worker at port copy v (deeds.is_unreadable mac (judged_ring x (classified copy.octets) v)) unreadable;
     }
@@ -322,6 +350,8 @@ interlink-tells number mac mode did past worker at port seq copy known is_i t =
       sources = reverse-append (deeds.sources_of mac did) (deeds.source_in mac (at_least did at) (classified copy.octets))
           ∙ ap₂ (λ (xs ys : List (List ℕ × ℕ)). xs ++ ys) (heard-same (classified copy.octets)) t.sources
           ∙ ap (λ (found : Option BoxPort). source_at found mac (max (now past) at) (classified copy.octets) ++ heard (place.RedBox mac mode) past) (sym is_i);
+      hearing = unheard-more (deeds.hearings_of mac did) ∙ t.hearing
+          ∙ ap (λ (found : Option BoxPort). hearing_by (Some mac) (ring_of found) (max (now past) at) (classified copy.octets) ++ hearings (place.RedBox mac mode) past) (sym is_i);
       counters = ap (λ (k : Counters). counted_on k (linked h seq) false) t.counters ∙ counted-same mac mode past worker at port copy (linked h seq) false unreadable;
     }
   where
@@ -561,13 +591,13 @@ knows-interlink number mac mode did past at port copy is_i t =
         by_own false = refl
 
 ring-case : (capacity number worker at port : ℕ) (y : BoxPort) (x : RingPort) (copy : Carried) (machine : Machine) (did : List Deed) (past : List Entry) (s : Result BoxVerdict IsSpent × Machine)
-    → box_port port ≡ Some y → is_some_ring (Some y) ≡ true → Tells number machine.own machine.mode did past
+    → box_port port ≡ Some y → is_some_ring (Some y) ≡ true → ring_of (Some y) ≡ Some x → Tells number machine.own machine.mode did past
     → let v = ring_verdict capacity machine.own machine.mode did (at_least did at) (deeds.knows_among (deeds.sources_of machine.own did) (at_least did at)) x (classified copy.octets) in
     law.Kept capacity machine (deeds.judged s.0, s.1) (deeds.judged (Ok v), done did (at_least did at) (judged_ring x (classified copy.octets) v))
     → let h = unnumbered (wanted machine.own machine.mode (knows (place.RedBox machine.own machine.mode) past (max (now past) at) (Arrive port copy)) x (classified copy.octets)) in
     (Ok (judged_as h (passing (remembers capacity (owner_of number machine.own machine.mode) past (max (now past) at)) h.wants.exits (classified copy.octets)) (next_number past)) ≡ told box_judged spent s.0)
     × Stays (HeldBy capacity number machine) past (record { worker = worker; at = at; event = Arrive port copy }) (told box_judged spent s.0) s.1
-ring-case capacity number worker at port y x copy machine did past s is_y is_ring t k =
+ring-case capacity number worker at port y x copy machine did past s is_y is_ring is_x t k =
     let call : Call = record { worker = worker; at = at; event = Arrive port copy } in
     let mac = machine.own in
     let mode = machine.mode in
@@ -592,7 +622,7 @@ ring-case capacity number worker at port y x copy machine did past s is_y is_rin
         of_past = k.1;
         own = k.2;
         mode_is = k.3;
-        tells = ring-tells number mac mode did past worker at port y x copy wants (deeds.passes_from capacity mac did old wants.exits seen) is_y is_ring t;
+        tells = ring-tells number mac mode did past worker at port y x copy wants (deeds.passes_from capacity mac did old wants.exits seen) is_y is_ring is_x t;
       },
     )
 
@@ -645,8 +675,8 @@ arrive-case capacity number worker at port y copy machine did past s true is_y t
     subst (λ (r : Result BoxVerdict IsSpent). (Err refused.Spent ≡ told box_judged spent r) × Stays (HeldBy capacity number machine) past call (told box_judged spent r) s.1)
     (sym (ap judged_in k.0))
     (refl, record { did = did; of_past = k.1; own = k.2; mode_is = k.3; tells = t })
-arrive-case capacity number worker at port A copy machine did past s false is_y t k = ring-case capacity number worker at port A ring.A copy machine did past s is_y refl t k
-arrive-case capacity number worker at port B copy machine did past s false is_y t k = ring-case capacity number worker at port B ring.B copy machine did past s is_y refl t k
+arrive-case capacity number worker at port A copy machine did past s false is_y t k = ring-case capacity number worker at port A ring.A copy machine did past s is_y refl refl t k
+arrive-case capacity number worker at port B copy machine did past s false is_y t k = ring-case capacity number worker at port B ring.B copy machine did past s is_y refl refl t k
 arrive-case capacity number worker at port I copy machine did past s false is_y t k = interlink-case capacity number worker at port copy machine did past s is_y t k
 
 pub redbox-keeps : (capacity number : ℕ) (machine : Machine) (did : List Deed) (past : List Entry) (worker at : ℕ) (event : Event)
@@ -708,7 +738,7 @@ begins-held capacity number mac mode = record {
   of_past = begins capacity mac mode;
   own = refl;
   mode_is = refl;
-  tells = record { moment = refl; steps = refl; numbered = refl; log = λ e. refl; sources = refl; counters = refl };
+  tells = record { moment = refl; steps = refl; numbered = refl; log = λ e. refl; sources = refl; hearing = refl; counters = refl };
 }
 
 pub counters-held : (capacity number : ℕ) (mac : List ℕ) (mode : Mode) (machine : Machine) (past : List Entry) → Held capacity number mac mode machine past

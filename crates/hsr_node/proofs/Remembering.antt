@@ -9,12 +9,7 @@ use Rattle.hsr_duptable.specs.Log as log
 use Rattle.hsr_duptable.specs.Notes as table
 use Rattle.hsr_duptable.specs.declared.note.Note.{Note}
 use Rattle.hsr_duptable.proofs.LogLaws.{last_notes-append, last_notes-none}
-use Rattle.hsr_node.specs.Record.{Noted, has_key, remembered}
-
--- notes as a table has them, the oldest first
-abbrev pub oldest_first : List Noted → List Note
-oldest_first [] = []
-oldest_first (n ∷ ns) = oldest_first ns ++ record { key = n.key; moment = n.moment } ∷ []
+use Rattle.hsr_node.specs.Record.{Noted, has_key, oldest_first, remembered}
 
 pub oldest_first-cons : (noted : Bool) (n : Noted) (ns : List Noted)
     → oldest_first (cons_option (cond noted (Some n) None) ns) ≡ oldest_first ns ++ cond noted (record { key = n.key; moment = n.moment } ∷ []) []
@@ -55,6 +50,24 @@ young-oldest key at (n ∷ ns) =
         ≡ has_key key (cond is_young (n ∷ young) young)
     one true = last (has_key key young) (is_same_key n.key key)
     one false = none (has_key key young)
+
+unexpired-oldest : (at : ℕ) (ns : List Noted) → table.unexpired_notes 400 at (oldest_first ns) ≡ oldest_first (filter (λ n. nat_lt (at - n.moment) 400) ns)
+unexpired-oldest at [] = refl
+unexpired-oldest at (n ∷ ns) =
+    filter-append (table.is_unexpired 400 at) (oldest_first ns) (record { key = n.key; moment = n.moment } ∷ [])
+    ∙ ap (λ xs. xs ++ table.unexpired_notes 400 at (record { key = n.key; moment = n.moment } ∷ [])) (unexpired-oldest at ns)
+    ∙ one (nat_lt (at - n.moment) 400)
+  where
+    young : List Noted
+    young = filter (λ n. nat_lt (at - n.moment) 400) ns
+
+    one : (is_young : Bool) → oldest_first young ++ cond is_young (record { key = n.key; moment = n.moment } ∷ []) [] ≡ oldest_first (cond is_young (n ∷ young) young)
+    one true = refl
+    one false = append-nil (oldest_first young)
+
+-- a log remembers what the record does that it is of
+pub remembered-oldest : (capacity at : ℕ) (ns : List Noted) → log.remembered capacity 400 (oldest_first ns) at ≡ oldest_first (remembered capacity at ns)
+remembered-oldest capacity at ns = ap (table.unexpired_notes 400 at) (last-oldest capacity ns) ∙ unexpired-oldest at (take capacity ns)
 
 -- a log remembers a key where the record that it is of does
 pub remembers-oldest : (capacity at : ℕ) (key : Key) (ns : List Noted)

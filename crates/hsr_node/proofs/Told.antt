@@ -4,13 +4,13 @@ use Rattle.std.specs.List.{cons_option}
 use Rattle.hsr_frame.specs.Counters.{bit}
 use Rattle.hsr_duptable.specs.Key.{Key}
 use Rattle.hsr_duptable.specs.declared.note.Note.{Note}
-use Rattle.hsr_node.specs.Record.{Noted, Owner, answer, now}
+use Rattle.hsr_node.specs.Record.{Noted, Owner, answer, now, oldest_first}
 use Rattle.hsr_node.specs.declared.entry.Entry.{Entry}
 use Rattle.hsr_node.specs.declared.event.Event.{Event}
 use Rattle.hsr_node.specs.declared.event.Outcome.{Outcome}
 use Rattle.hsr_node.specs.declared.event.Probe.{Probe}
 use Rattle.hsr_node.specs.declared.event.StepFault.{StepFault}
-use Rattle.hsr_node.proofs.Remembering.{oldest_first, oldest_first-cons}
+use Rattle.hsr_node.proofs.Remembering.{oldest_first-cons}
 
 -- a call to a node: who brought it, the moment as it was given, and the event
 pub record Call : Type 0 where

@@ -5,3 +5,4 @@ pub mod Copies
 pub mod Record
 pub mod Flow
 pub mod Kept
+pub mod Holds

@@ -5,7 +5,7 @@
 --     IsLegal      each outcome is what the past below it answers
 --     notes        what was noted at one egress, never shortened
 --     remembered   what is remembered of that
-use Rattle.std.specs.Prelude.{ℕ, ◌+◌, ◌-◌, ◌%◌, ◌^◌, ◌≡◌, ◌==◌, ◌&&◌, ◌||◌, not, max, nat_lt, Bool, true, false, if◌then◌else◌, List, [], ◌∷◌, ◌++◌, length, take, filter, slice_get, unwrap_or, Option, Some, None, option_map, is_some, is_err, Result, Ok, Err}
+use Rattle.std.specs.Prelude.{ℕ, ◌+◌, ◌-◌, ◌%◌, ◌^◌, ◌≡◌, ◌==◌, ◌&&◌, ◌||◌, not, max, nat_lt, Bool, true, false, if◌then◌else◌, List, [], ◌∷◌, ◌++◌, length, map, take, filter, slice_get, unwrap_or, Option, Some, None, option_map, is_some, is_err, Result, Ok, Err}
 use Rattle.std.specs.List.{list_any, cons_option}
 use Rattle.hsr_frame.specs.Address.{is_group, is_same_address}
 use Rattle.hsr_frame.specs.Cases.{first_of}
@@ -22,12 +22,16 @@ use Rattle.hsr_frame.specs.declared.node.Cause.{Cause}
 use Rattle.hsr_frame.specs.declared.node.Cause.TheVariants as cause
 use Rattle.hsr_frame.specs.declared.node.Mode.{Mode}
 use Rattle.hsr_frame.specs.declared.node.RingPort.{RingPort}
+use Rattle.hsr_frame.specs.declared.node.RingPort.TheVariants as ring
 use Rattle.hsr_tag.specs.Seen.{classified}
 use Rattle.hsr_tag.specs.declared.seen.Seen.{Seen}
 use Rattle.hsr_tag.specs.declared.seen.Seen.TheVariants.{Plain, Tagged}
 use Rattle.hsr_duptable.specs.Key.{Key, is_same_key}
-use Rattle.hsr_tables.specs.Known.{known, latest_64}
-use Rattle.hsr_danh.specs.Past.{is_told, told_by}
+use Rattle.hsr_duptable.specs.declared.note.Note.{Note}
+use Rattle.hsr_tables.specs.Known.{is_young, known, latest_64}
+use Rattle.hsr_tables.specs.Nodes.{Hearing, row_after}
+use Rattle.hsr_tables.specs.declared.nodes.NodeRow.{NodeRow}
+use Rattle.hsr_danh.specs.Past.{hearing_if, is_told, told_by}
 use Rattle.hsr_danh.specs.Step.{key_of}
 use Rattle.hsr_danh.specs.Wanted as of_danh
 use Rattle.hsr_redbox.specs.Step.{life_refusal, number_of}
@@ -179,6 +183,11 @@ abbrev pub notes : Owner → Egress → List Entry → List Noted
 notes owner e [] = []
 notes owner e (x ∷ past) = cons_option (note_of owner e x past) (notes owner e past)
 
+-- notes as a table has them, the oldest first
+abbrev pub oldest_first : List Noted → List Note
+oldest_first [] = []
+oldest_first (n ∷ ns) = oldest_first ns ++ record { key = n.key; moment = n.moment } ∷ []
+
 -- of all notes the youngest, as many as a table has entries, and of these the ones younger than 400 milliseconds
 abbrev pub remembered : ℕ → ℕ → List Noted → List Noted
 remembered capacity at noted = filter (λ n. nat_lt (at - n.moment) 400) (take capacity noted)
@@ -215,6 +224,39 @@ abbrev pub knows : Place → List Entry → ℕ → Event → List ℕ → Bool
 knows place past at event mac =
     list_any (λ h. is_same_address h.0 mac) (known at (latest_64 (λ h. h.0) (heard_from place at event ++ heard place past)))
 
+-- ---- the nodes that were heard on the ring
+
+abbrev pub ring_of : Option BoxPort → Option RingPort
+ring_of (Some box.A) = Some ring.A
+ring_of (Some box.B) = Some ring.B
+ring_of _ = None
+
+-- the ring port that a port is, of a node that hears supervision frames
+abbrev pub hears_on : Place → ℕ → Option RingPort
+hears_on (Danh mac mode) port = ring_port port
+hears_on (RedBox mac mode) port = ring_of (box_port port)
+hears_on _ port = None
+
+abbrev pub hearing_by : Option (List ℕ) → Option RingPort → ℕ → Result Seen FrameFault → List Hearing
+hearing_by (Some own) (Some x) at seen = if is_told own seen then hearing_if x at (told_by seen) else []
+hearing_by own x at seen = []
+
+-- a node hears each readable tagged supervision frame of another on a ring port
+abbrev pub hearings_from : Place → ℕ → Event → List Hearing
+hearings_from place at (Arrive port copy) = hearing_by (ring_address place) (hears_on place port) at (classified copy.octets)
+hearings_from place at event = []
+
+-- all that was heard, the latest first
+abbrev pub hearings : Place → List Entry → List Hearing
+hearings place [] = []
+hearings place (x ∷ past) = hearings_from place (now (x ∷ past)) x.event ++ hearings place past
+
+-- the rows of the nodes that are known at a moment
+abbrev pub rows : Place → List Entry → ℕ → List NodeRow
+rows place past at =
+    let latest_first = hearings place past in
+    map (row_after latest_first) (filter (λ h. is_young at h.at) (latest_64 (λ h. h.said.about) latest_first))
+
 -- ---- what is wanted
 
 -- a station takes each plain frame for one of its addresses or for a group, but none of its own
@@ -232,8 +274,8 @@ station_wanted macs (Ok (Tagged frame)) = nowhere cause.Tagged
 
 -- what comes to a port of a RedBox
 abbrev pub box_handling : List ℕ → Mode → (List ℕ → Bool) → BoxPort → Result Seen FrameFault → Handling
-box_handling mac mode known box.A seen = unnumbered (of_redbox.wanted mac mode known Rattle.hsr_frame.specs.declared.node.RingPort.TheVariants.A seen)
-box_handling mac mode known box.B seen = unnumbered (of_redbox.wanted mac mode known Rattle.hsr_frame.specs.declared.node.RingPort.TheVariants.B seen)
+box_handling mac mode known box.A seen = unnumbered (of_redbox.wanted mac mode known ring.A seen)
+box_handling mac mode known box.B seen = unnumbered (of_redbox.wanted mac mode known ring.B seen)
 box_handling mac mode known box.I seen = of_redbox.handling_interlink mac known seen
 
 -- where what comes to a port is wanted, and for whom it gets a number; nothing where there is no such port

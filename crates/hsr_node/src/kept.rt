@@ -126,3 +126,11 @@ impl<const C: usize> Kept<C> {
         &self.place
     }
 }
+
+ghost use Rattle.hsr_node.specs.Holds.{HoldsWhatIsTold};
+
+/// A node to which a record replays holds what the record tells: at each egress the youngest unexpired passed frames up to
+/// `C`, the nodes and stations that are known, the next number, the moment and the counters.
+pub fn holds_what_is_told<const C: usize>()
+    ensures { HoldsWhatIsTold C }
+{}

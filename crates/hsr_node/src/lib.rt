@@ -18,7 +18,7 @@ mod station;
 pub use copies::{copy_out, up_out};
 pub use entry::{Entry, Receipt};
 pub use event::{Carried, Event, Outcome, Probe, StepFault};
-pub use kept::Kept;
+pub use kept::{Kept, holds_what_is_told};
 pub use node::Node;
 pub use octets::Octets;
 pub use pass::Pass;

@@ -179,7 +179,13 @@ fn kept_send(rt: HostRuntime) -> Result<(), Fail> {
     };
     assert!(rt; receipt.place == 0);
     let ports = [true, true, false, false];
-    assert!(rt; receipt.entry.outcome == Outcome::Sent { seq: Some(0), ports });
+    assert!(rt;
+        receipt.entry.outcome
+            == Outcome::Sent {
+                seq: Some(0),
+                ports
+            }
+    );
     Ok(())
 }
 
@@ -284,7 +290,10 @@ fn proxied_supervision(rt: HostRuntime) -> Result<(), Fail> {
     let Some(left) = copy_out(kept.place(), &entry.event, &entry.outcome, 0) else {
         return Err("nothing left".into());
     };
-    let head = octets(&rt, "01154E000100020000000009892F0034000088FB00010000170602000000000A1E0602000000000900000000")?;
+    let head = octets(
+        &rt,
+        "01154E000100020000000009892F0034000088FB00010000170602000000000A1E0602000000000900000000",
+    )?;
     assert!(rt; left.as_slice().starts_with(head.as_slice()));
     assert!(rt; left.len() == 66);
     Ok(())

@@ -1,6 +1,9 @@
-use Rattle.std.proofs.Common.{◌≡◌, List, reverse, Ok, Err, subst, sym, ap, ◌∙◌, inr}
+use Rattle.std.proofs.Common.{◌≡◌, List, reverse, Result, Ok, Err, subst, sym, ap, ◌∙◌, inr}
 use Rattle.hsr_node.specs.Kept.{Record, Replays, answer_to}
+use Rattle.hsr_node.specs.Step.{node_step}
 use Rattle.hsr_node.specs.declared.entry.Entry.{Entry}
+use Rattle.hsr_node.specs.declared.event.Outcome.{Outcome}
+use Rattle.hsr_node.specs.declared.event.StepFault.{StepFault}
 use Rattle.hsr_node.specs.declared.node.Node.{Node}
 use Rattle.hsr_node.proofs.Refused.{refused-leaves}
 use Rattle.hsr_node.proofs.Replayed.{answers}
@@ -10,9 +13,9 @@ use Rattle.hsr_node.proofs.kept.Kept.step.Goals as goal
 pub invariant_of-self-in-Err : goal.invariant_of-self-in-Err
 invariant_of-self-in-Err g c =
     let kept = c.self.inside in
-    let is_refused = sym (ap (λ s. s.0) c.apply.ensures) ∙ c.in-Err.is in
-    let same = ap (λ s. s.1) c.apply.ensures ∙ refused-leaves g.row.C kept.node c.args.at c.args.event c.in-Err.fault is_refused in
-    subst (λ (n : Node g.row.C). Replays g.row.C kept.place (reverse c.reserve.new.self.items) n) (sym same)
+    let is_refused : (node_step g.row.C kept.node c.args.at c.args.event).0 ≡ Err c.in-Err.fault = sym {A = Result Outcome StepFault} (ap (λ s. s.0) c.apply.ensures) ∙ c.in-Err.is in
+    let same : c.apply.new.self ≡ kept.node = ap (λ s. s.1) c.apply.ensures ∙ refused-leaves g.row.C kept.node c.args.at c.args.event c.in-Err.fault is_refused in
+    subst (λ (n : Node g.row.C). Replays g.row.C kept.place (reverse c.reserve.new.self.items) n) (sym {A = Node g.row.C} same)
     (subst (λ (es : List Entry). Replays g.row.C kept.place (reverse es) kept.node) (sym c.reserve.ensures.items) c.self.invariant)
 
 -- a node refuses what its record refuses
