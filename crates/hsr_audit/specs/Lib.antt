@@ -3,3 +3,8 @@ pub mod Nodes
 pub mod Links
 pub mod Topology
 pub mod Wired
+pub mod Run
+pub mod Closed
+pub mod Premises
+pub mod Once
+pub mod Budget

@@ -3,12 +3,14 @@
 
 mod end;
 mod fault;
+mod law;
 mod links;
 mod nodes;
 mod topology;
 
 pub use end::End;
 pub use fault::TopologyFault;
+pub use law::{boxless, budget_keeps, budget_tells, exactly_once, no_storm, once_in_budget};
 pub use nodes::ports;
 pub use topology::Topology;
 
