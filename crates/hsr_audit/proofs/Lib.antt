@@ -34,3 +34,6 @@ pub mod Numbers
 pub mod SentNumbers
 pub mod Tells
 pub mod WithoutBoxes
+pub mod Often
+pub mod Worked
+pub mod WorkedBox

@@ -8,3 +8,4 @@ pub mod Closed
 pub mod Premises
 pub mod Once
 pub mod Budget
+pub mod Often

@@ -308,12 +308,31 @@ fn supervision_for_a_stranger(rt: HostRuntime) -> Result<(), Fail> {
     Ok(())
 }
 
+/// A send, and a node to send it; where room is refused, it is asked for again.
+fn asked_again(rt: &HostRuntime) -> Result<(Event, Kept<512>), Fail> {
+    let payload = match Octets::from_slice(rt.alloc(), &[0xAA, 0xBB]) {
+        Ok(payload) => payload,
+        Err(_refused) => Octets::from_slice(rt.alloc(), &[0xAA, 0xBB])?,
+    };
+    let node = match Kept::new(rt.alloc(), 0, danh()) {
+        Ok(node) => node,
+        Err(_refused) => Kept::new(rt.alloc(), 0, danh())?,
+    };
+    let event = Event::Send {
+        from: 0,
+        dst: Mac::new(OTHER),
+        vlan: None,
+        kind: 0x0800,
+        payload,
+    };
+    Ok((event, node))
+}
+
 /// With room refused at any growth of a step (`rt try --test --fail-alloc`): the event comes back, nothing is added, and
 /// the same step again gives what it gives with room.
 #[test]
 fn step_refused_for_memory(rt: HostRuntime) -> Result<(), Fail> {
-    let mut kept = kept(&rt, danh())?;
-    let event = send(&rt, 0, OTHER, "AABB")?;
+    let (event, mut kept) = asked_again(&rt)?;
     let answer = match kept.step(0, 0, event) {
         Ok(receipt) => Ok(receipt),
         Err((event, StepFault::NoMemory)) => {
@@ -329,9 +348,15 @@ fn step_refused_for_memory(rt: HostRuntime) -> Result<(), Fail> {
 /// The same of a pass.
 #[test]
 fn receipt_refused_for_memory(rt: HostRuntime) -> Result<(), Fail> {
-    let mut kept = kept(&rt, danh())?;
-    let Ok(receipt) = kept.step(0, 0, Event::Age) else {
-        return Err("refused".into());
+    let (event, mut kept) = asked_again(&rt)?;
+    let receipt = match kept.step(0, 0, event) {
+        Ok(receipt) => receipt,
+        Err((event, _refused)) => {
+            let Ok(receipt) = kept.step(0, 0, event) else {
+                return Err("refused".into());
+            };
+            receipt
+        }
     };
     let mut pass = Pass::new(rt.alloc(), 0);
     let answer = match pass.keep(receipt) {
