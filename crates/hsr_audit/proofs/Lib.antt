@@ -37,3 +37,5 @@ pub mod WithoutBoxes
 pub mod Often
 pub mod Worked
 pub mod WorkedBox
+pub mod WorkedRing
+pub mod WorkedLosses

@@ -40,26 +40,26 @@ use Rattle.hsr_node.specs.declared.event.Probe.{Probe}
 abbrev pub mac : ℕ → List ℕ
 mac n = 2 ∷ 0 ∷ 0 ∷ 0 ∷ 0 ∷ n ∷ []
 
-abbrev group : List ℕ
+abbrev pub group : List ℕ
 group = 1 ∷ 0 ∷ 0x5E ∷ 0 ∷ 0 ∷ 1 ∷ []
 
-abbrev frame : Fields
+abbrev pub frame : Fields
 frame = record { dst = group; src = mac 1; vlan = None; kind = 0x0800; rest = 0xAA ∷ 0xBB ∷ [] }
 
 -- the copy of a path
-abbrev copy : ℕ → Carried
+abbrev pub copy : ℕ → Carried
 copy path = record { probe = Some (record { node = 0; place = 0 }); octets = tagged_spelling (tag_of frame path 0) }
 
-abbrev entry : Event → Outcome → Entry
+abbrev pub entry : Event → Outcome → Entry
 entry event outcome = record { worker = 0; at = 0; event = event; outcome = outcome }
 
-abbrev judged : Bool → Bool → Bool → Cause → Outcome
+abbrev pub judged : Bool → Bool → Bool → Cause → Outcome
 judged up_too by_a by_b why = Judged up_too (by_a ∷ by_b ∷ false ∷ false ∷ []) None why
 
-abbrev row : Dir → ℕ → Row
+abbrev pub row : Dir → ℕ → Row
 row dir path = record { dir = dir; carried = copy path; injected = false; fate = Taken }
 
-abbrev join : ℕ → ℕ → List End
+abbrev pub join : ℕ → ℕ → List End
 join k next = (let end : End = record { node = k; port = 1 } in end) ∷ record { node = next; port = 0 } ∷ []
 
 abbrev ring2 : Run
@@ -73,7 +73,7 @@ ring2 = record {
   rows = (row Forth 1 ∷ row Back 0 ∷ []) ∷ (row Forth 1 ∷ row Back 0 ∷ []) ∷ [];
 }
 
-abbrev macs : List (List ℕ)
+abbrev pub macs : List (List ℕ)
 macs = mac 1 ∷ mac 2 ∷ []
 
 -- ---- it is closed
@@ -84,7 +84,7 @@ legal_at zero h = (refl, (refl, (refl, tt)))
 legal_at (suc zero) h = (refl, (refl, tt))
 legal_at (suc (suc k)) h = absurd (omega arith)
 
-tagged_copy : (path : ℕ) → path < 2 → classified (copy path).octets ≡ Ok (Tagged (tag_of frame path 0))
+pub tagged_copy : (path : ℕ) → path < 2 → classified (copy path).octets ≡ Ok (Tagged (tag_of frame path 0))
 unfolding classified
 tagged_copy zero h = refl
 tagged_copy (suc zero) h = refl
@@ -125,7 +125,7 @@ taken_at (suc zero) Forth h = IsPermutation-refl (copy 1 ∷ [])
 taken_at (suc zero) Back h = IsPermutation-refl (copy 0 ∷ [])
 taken_at (suc (suc l)) dir h = absurd (omega arith)
 
-nothing_far : (p q : Bool) (x y : Carried) → p ≡ false → q ≡ false → cons_option (if p then Some x else None) (cons_option (if q then Some y else None) []) ≡ []
+pub nothing_far : (p q : Bool) (x y : Carried) → p ≡ false → q ≡ false → cons_option (if p then Some x else None) (cons_option (if q then Some y else None) []) ≡ []
 nothing_far false false x y e f = refl
 nothing_far true q x y e f = absurd (false≢true (sym e))
 nothing_far false true x y e f = absurd (false≢true (sym f))
