@@ -1,0 +1,145 @@
+-- How often a copy is among rows, passes and hands.
+use Rattle.std.proofs.Common.{◌≡◌, ◌+◌, ◌==◌, Bool, true, false, cond, List, [], ◌∷◌, ◌++◌, map, count_by, option_map, option_to_list, Option, Some, None, refl, sym, ap, ◌∙◌, arith}
+use Rattle.std.specs.Prelude.{◌&&◌, if◌then◌else◌, slice_get}
+use Rattle.std.specs.List.{cons_option}
+use Rattle.std.proofs.lemmas.List.Sums.{sum_by-append}
+use Rattle.std.proofs.lemmas.Bool.{false≢true}
+use Rattle.hsr_frame.specs.Cases.{first_of}
+use Rattle.hsr_link.specs.Link.{Link, fate_of}
+use Rattle.hsr_link.specs.Rows.{first_copy, is_queued, is_same_dir, is_taken, lost, queued, turned, waits, with_fate}
+use Rattle.hsr_link.specs.declared.row.Dir.{Dir}
+use Rattle.hsr_link.specs.declared.row.Dir.TheVariants.{Forth, Back}
+use Rattle.hsr_link.specs.declared.row.Fate.{Fate}
+use Rattle.hsr_link.specs.declared.row.Fate.TheVariants.{Queued, Taken, LostDown, LostCut, LostOverrun}
+use Rattle.hsr_link.specs.declared.row.Row.{Row}
+use Rattle.hsr_node.specs.declared.event.Carried.{Carried}
+use Rattle.hsr_ring.specs.Lines.{put_copies, put_copy, taken_copies, taken_copy}
+
+pub count_append : {X : Type 0} (p : X → Bool) (xs ys : List X) → count_by p (xs ++ ys) ≡ count_by p xs + count_by p ys
+count_append p xs ys = sum_by-append (λ x. cond (p x) 1 0) xs ys
+
+pub count_cons : {X : Type 0} (p : X → Bool) (x : X) (xs : List X) → count_by p (x ∷ xs) ≡ count_by p (x ∷ []) + count_by p xs
+count_cons p x xs = count_append p (x ∷ []) xs
+
+pub count_option : {X : Type 0} (p : X → Bool) (o : Option X) (xs : List X) → count_by p (cons_option o xs) ≡ count_by p (option_to_list o) + count_by p xs
+count_option p None xs = count_append p [] xs
+count_option p (Some x) xs = count_cons p x xs
+
+pub put_more : (p : Carried → Bool) (dir : Dir) (rows : List Row) (r : Row) → count_by p (put_copies dir (rows ++ r ∷ [])) ≡ count_by p (put_copies dir rows) + count_by p (option_to_list (put_copy dir r))
+put_more p dir [] r = let a = count_option p (put_copy dir r) [] in omega (arith, a)
+put_more p dir (x ∷ rows) r =
+    let a = count_option p (put_copy dir x) (put_copies dir (rows ++ r ∷ [])) in
+    let b = count_option p (put_copy dir x) (put_copies dir rows) in
+    let c = put_more p dir rows r in
+    omega (arith, a, b, c)
+
+pub taken_more : (p : Carried → Bool) (dir : Dir) (rows : List Row) (r : Row) → count_by p (taken_copies dir (rows ++ r ∷ [])) ≡ count_by p (taken_copies dir rows) + count_by p (option_to_list (taken_copy dir r))
+taken_more p dir [] r = let a = count_option p (taken_copy dir r) [] in omega (arith, a)
+taken_more p dir (x ∷ rows) r =
+    let a = count_option p (taken_copy dir x) (taken_copies dir (rows ++ r ∷ [])) in
+    let b = count_option p (taken_copy dir x) (taken_copies dir rows) in
+    let c = taken_more p dir rows r in
+    omega (arith, a, b, c)
+
+pub put_taken : (dir other : Dir) (rows : List Row) → put_copies dir (turned Taken other rows) ≡ put_copies dir rows
+put_taken dir other [] = refl
+put_taken dir other (r ∷ rows) =
+    elim (waits other r) as (λ b. put_copies dir (if b then record r { fate = Taken } ∷ rows else r ∷ turned Taken other rows) ≡ put_copies dir (r ∷ rows))
+    [ true ↦ refl | false ↦ ap (λ (ys : List Carried). cons_option (put_copy dir r) ys) (put_taken dir other rows) ]
+
+-- a cut changes neither what was put nor what was taken
+put_lost : (dir : Dir) (r : Row) → put_copy dir (lost r) ≡ put_copy dir r
+put_lost dir r =
+    elim (is_queued r.fate) as (λ b. put_copy dir (if b then with_fate LostCut r else r) ≡ put_copy dir r) [ true ↦ refl | false ↦ refl ]
+
+taken_lost : (dir : Dir) (r : Row) → taken_copy dir (lost r) ≡ taken_copy dir r
+taken_lost dir r = by_fate r.dir r.carried r.injected r.fate
+  where
+    by_fate : (way : Dir) (carried : Carried) (injected : Bool) (fate : Fate) →
+        taken_copy dir (lost (record { dir = way; carried = carried; injected = injected; fate = fate })) ≡ taken_copy dir (record { dir = way; carried = carried; injected = injected; fate = fate })
+    by_fate way carried injected Queued = refl
+    by_fate way carried injected Taken = refl
+    by_fate way carried injected LostDown = refl
+    by_fate way carried injected LostCut = refl
+    by_fate way carried injected LostOverrun = refl
+
+pub put_cut : (dir : Dir) (rows : List Row) → put_copies dir (map lost rows) ≡ put_copies dir rows
+put_cut dir [] = refl
+put_cut dir (r ∷ rows) =
+    ap (λ (o : Option Carried). cons_option o (put_copies dir (map lost rows))) (put_lost dir r)
+    ∙ ap (λ (ys : List Carried). cons_option (put_copy dir r) ys) (put_cut dir rows)
+
+pub taken_cut : (dir : Dir) (rows : List Row) → taken_copies dir (map lost rows) ≡ taken_copies dir rows
+taken_cut dir [] = refl
+taken_cut dir (r ∷ rows) =
+    ap (λ (o : Option Carried). cons_option o (taken_copies dir (map lost rows))) (taken_lost dir r)
+    ∙ ap (λ (ys : List Carried). cons_option (taken_copy dir r) ys) (taken_cut dir rows)
+
+-- what a row of this direction and fate adds to those taken, before and after it is taken
+pub now_taken : (p : Carried → Bool) (dir : Dir) (r : Row) → waits dir r ≡ true →
+    count_by p (option_to_list (taken_copy dir (record r { fate = Taken }))) ≡ count_by p (option_to_list (taken_copy dir r)) + count_by p (r.carried ∷ [])
+now_taken p dir r h = by_parts (is_same_dir dir r.dir) r.fate h
+  where
+    by_parts : (b : Bool) (f : Fate) → (b && is_queued f) ≡ true →
+        count_by p (option_to_list (if b && true then Some r.carried else None)) ≡ count_by p (option_to_list (if b && is_taken f then Some r.carried else None)) + count_by p (r.carried ∷ [])
+    by_parts false f h = absurd (false≢true h)
+    by_parts true Queued h = omega arith
+    by_parts true Taken h = absurd (false≢true h)
+    by_parts true LostDown h = absurd (false≢true h)
+    by_parts true LostCut h = absurd (false≢true h)
+    by_parts true LostOverrun h = absurd (false≢true h)
+
+pub oldest_taken : (p : Carried → Bool) (dir : Dir) (rows : List Row) (c : Carried) → first_copy dir rows ≡ Some c →
+    count_by p (taken_copies dir (turned Taken dir rows)) ≡ count_by p (taken_copies dir rows) + count_by p (c ∷ [])
+oldest_taken p dir [] c h = absurd (none_some h)
+  where
+    none_some : {X : Type 0} {x : X} → None ≡ Some x → ⊥
+    none_some e = cc
+oldest_taken p dir (r ∷ rows) c h = by_case (λ e. oldest_taken p dir rows c e) (waits dir r) refl h
+  where
+    same : {X : Type 0} (x y : X) → Some x ≡ Some y → x ≡ y
+    same x y e = cc
+
+    by_case : (first_copy dir rows ≡ Some c → count_by p (taken_copies dir (turned Taken dir rows)) ≡ count_by p (taken_copies dir rows) + count_by p (c ∷ [])) →
+        (b : Bool) → waits dir r ≡ b → option_map (λ (row : Row). row.carried) (slice_get (cond b (r ∷ queued dir rows) (queued dir rows)) 0) ≡ Some c →
+        count_by p (taken_copies dir (if b then record r { fate = Taken } ∷ rows else r ∷ turned Taken dir rows)) ≡ count_by p (taken_copies dir (r ∷ rows)) + count_by p (c ∷ [])
+    by_case below true e h =
+        let a = count_option p (taken_copy dir (record r { fate = Taken })) (taken_copies dir rows) in
+        let b = count_option p (taken_copy dir r) (taken_copies dir rows) in
+        let t = now_taken p dir r e in
+        let s = ap (λ (z : Carried). count_by p (z ∷ [])) (same r.carried c h) in
+        omega (arith, a, b, t, s)
+    by_case below false e h =
+        let a = count_option p (taken_copy dir r) (taken_copies dir (turned Taken dir rows)) in
+        let b = count_option p (taken_copy dir r) (taken_copies dir rows) in
+        let i = below h in
+        omega (arith, a, b, i)
+
+-- the other direction's rows taken are as they were
+pub other_taken : (dir other : Dir) (rows : List Row) → is_same_dir dir other ≡ false → taken_copies dir (turned Taken other rows) ≡ taken_copies dir rows
+other_taken dir other [] d = refl
+other_taken dir other (r ∷ rows) d = by_case (other_taken dir other rows d) (waits other r) refl
+  where
+    apart : (x y z : Dir) (f : Fate) → is_same_dir x y ≡ false → (is_same_dir y z && is_queued f) ≡ true → is_same_dir x z ≡ false
+    apart Forth Forth z f d h = absurd (false≢true (sym d))
+    apart Back Back z f d h = absurd (false≢true (sym d))
+    apart Forth Back Forth f d h = absurd (false≢true h)
+    apart Forth Back Back f d h = refl
+    apart Back Forth Forth f d h = refl
+    apart Back Forth Back f d h = absurd (false≢true h)
+
+    by_case : taken_copies dir (turned Taken other rows) ≡ taken_copies dir rows → (b : Bool) → waits other r ≡ b → taken_copies dir (if b then record r { fate = Taken } ∷ rows else r ∷ turned Taken other rows) ≡ taken_copies dir (r ∷ rows)
+    by_case below true e =
+        let away = apart dir other r.dir r.fate d e in
+        ap (λ b. cons_option (if b && true then Some r.carried else None) (taken_copies dir rows)) away
+        ∙ sym (ap (λ b. cons_option (if b && is_taken r.fate then Some r.carried else None) (taken_copies dir rows)) away)
+    by_case below false e = ap (λ (ys : List Carried). cons_option (taken_copy dir r) ys) below
+
+-- what is put waits or is lost
+pub not_taken : (link : Link) (dir : Dir) → is_taken (fate_of link dir) ≡ false
+not_taken link dir = by_case link.is_cut (count_by (waits dir) link.rows == link.capacity)
+  where
+    by_case : (a b : Bool) → is_taken (first_of ((a, LostDown) ∷ (b, LostOverrun) ∷ []) Queued) ≡ false
+    by_case true b = refl
+    by_case false true = refl
+    by_case false false = refl

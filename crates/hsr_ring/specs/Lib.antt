@@ -1,0 +1,4 @@
+pub mod Lines
+pub mod World
+pub mod Law
+pub mod Origin
