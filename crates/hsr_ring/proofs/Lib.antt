@@ -3,3 +3,9 @@ pub mod Lanes
 pub mod Keeps
 pub mod First
 pub mod Origin
+pub mod Places
+pub mod Loops
+pub mod Tried
+pub mod Entered
+pub mod Started
+pub mod Reached

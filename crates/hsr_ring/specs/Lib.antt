@@ -2,3 +2,8 @@ pub mod Lines
 pub mod World
 pub mod Law
 pub mod Origin
+pub mod Views
+pub mod Giving
+pub mod Entering
+pub mod Starting
+pub mod Reached

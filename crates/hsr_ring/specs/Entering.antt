@@ -1,0 +1,58 @@
+-- What an event that a worker brings to a node makes of the nodes and of the lines.
+use Rattle.std.specs.Prelude.{ℕ, ◌≡◌, List, [], ◌∷◌, ◌++◌, length, map, max, set, Result, Ok, Err}
+use Rattle.hsr_node.specs.Kept.{Record, past_of}
+use Rattle.hsr_node.specs.Record.{answer, now}
+use Rattle.hsr_node.specs.declared.entry.Entry.{Entry}
+use Rattle.hsr_node.specs.declared.entry.Receipt.{Receipt}
+use Rattle.hsr_node.specs.declared.event.Event.{Event}
+use Rattle.hsr_node.specs.declared.event.Outcome.{Outcome}
+use Rattle.hsr_node.specs.declared.event.StepFault.{StepFault}
+use Rattle.hsr_node.specs.declared.event.StepFault.TheVariants as refused
+use Rattle.hsr_node.specs.declared.place.Place.{Place}
+use Rattle.hsr_ring.specs.Lines.{Line}
+use Rattle.hsr_ring.specs.Views.{world_of}
+use Rattle.hsr_ring.specs.World.{World, entered, owner_in, record_in}
+use Rattle.hsr_ring.specs.declared.step.Planned.{Planned}
+use Rattle.hsr_ring.specs.declared.step.WorldFault.{WorldFault}
+use Rattle.hsr_ring.specs.declared.step.WorldFault.TheVariants.{Node, NoMemory}
+
+abbrev pub places_of : List Record → List Place
+places_of nodes = map (λ (r : Record). r.place) nodes
+
+abbrev pub past_in : List Record → ℕ → List Entry
+past_in nodes n = record_in (map past_of nodes) n
+
+-- what a node answers to an event, at a moment that is given
+abbrev pub answer_in : ℕ → List Record → ℕ → ℕ → Event → Result Outcome StepFault
+answer_in capacity nodes n at event = answer capacity (owner_in (places_of nodes) n) (past_in nodes n) (max (now (past_in nodes n)) at) event
+
+abbrev pub world_fault : StepFault → WorldFault
+world_fault refused.NoMemory = NoMemory
+world_fault refused.WrongEvent = Node refused.WrongEvent
+world_fault (refused.Send fault) = Node (refused.Send fault)
+world_fault refused.NotProxied = Node refused.NotProxied
+world_fault refused.Spent = Node refused.Spent
+
+-- a node did this, and keeps it
+pub record IsStepped (capacity : ℕ) (worker n at : ℕ) (event : Event) (old new : List Record) (receipt : Receipt) : Type 0 where
+  pub told : receipt ≡ record { node = n; place = length (past_in old n); entry = record { worker = worker; at = at; event = event; outcome = receipt.entry.outcome } }
+  pub answered : answer_in capacity old n at event ≡ Ok receipt.entry.outcome
+  pub places : places_of new ≡ places_of old
+  pub records : map past_of new ≡ set (map past_of old) n (receipt.entry ∷ past_in old n)
+
+-- it refuses the event for this
+abbrev pub IsRefusal : ℕ → List Record → ℕ → ℕ → Event → WorldFault → Type 0
+IsRefusal capacity nodes n at event f = (fault : StepFault) × (answer_in capacity nodes n at event ≡ Err fault) × (f ≡ Node fault)
+
+-- whatever is planned: it is entered
+abbrev pub IsEntered : ℕ → ℕ → ℕ → ℕ → Event → List Record → List Record → List Line → List Line → Type 0
+IsEntered capacity worker n at event nodes nodes_after lines lines_after =
+    (plan : List Planned) → entered capacity (world_of at nodes lines plan) worker n event ≡ Ok (world_of at nodes_after lines_after plan)
+
+abbrev pub IsNotEntered : ℕ → ℕ → ℕ → ℕ → Event → List Record → List Line → WorldFault → Type 0
+IsNotEntered capacity worker n at event nodes lines fault =
+    (plan : List Planned) → entered capacity (world_of at nodes lines plan) worker n event ≡ Err fault
+
+-- what was planned last is planned no more
+abbrev pub IsUnplanned : World → World → Type 0
+IsUnplanned old new = (plan : List Planned) (last : Planned) → old.plan ≡ plan ++ last ∷ [] → new ≡ record old { plan = plan }

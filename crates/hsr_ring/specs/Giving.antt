@@ -1,0 +1,44 @@
+-- What a new entry gives to the ways of the code, and the room that it needs.
+use Rattle.std.specs.Prelude.{ℕ, ◌==◌, ◌≡◌, ◌<◌, ◌≤◌, true, List, [], ◌++◌, if◌then◌else◌, option_map, option_to_list, vec_capacity}
+use Rattle.std.specs.VecDeque.{deque_len, deque_capacity}
+use Rattle.hsr_audit.specs.declared.end.End.{End}
+use Rattle.hsr_node.specs.Copies.{copy_octets}
+use Rattle.hsr_node.specs.Record.{probe_handled}
+use Rattle.hsr_node.specs.declared.entry.Receipt.{Receipt}
+use Rattle.hsr_node.specs.declared.event.Carried.{Carried}
+use Rattle.hsr_node.specs.declared.place.Place.{Place}
+use Rattle.hsr_ring.specs.Lines.{Lane, Line, emptied, on_lanes}
+use Rattle.hsr_ring.specs.Views.{line_view}
+use Rattle.hsr_ring.specs.declared.line.Line as code
+use Rattle.hsr_ring.specs.declared.way.Way.{Way}
+
+-- the copy of an entry that joins the outbox of a lane
+abbrev pub given : Place → Receipt → Lane → List Carried
+given place receipt lane =
+    if lane.from.node == receipt.node
+    then option_to_list (option_map (λ octets. record { probe = probe_handled (record { node = receipt.node; place = receipt.place }) receipt.entry.event; octets = octets })
+    (copy_octets place receipt.entry.event receipt.entry.outcome lane.from.port))
+    else []
+
+abbrev pub given_lane : Place → Receipt → Lane → Lane
+given_lane place receipt lane = record lane { outbox = lane.outbox ++ given place receipt lane }
+
+abbrev pub given_line : Place → Receipt → code.Line → Line
+given_line place receipt line = on_lanes (given_lane place receipt) (line_view line)
+
+-- room for one more copy in an outbox, and for the octets of the longest
+pub record HasRoom (way : Way) : Type 0 where
+  pub outbox : deque_len way.outbox < deque_capacity way.outbox
+  pub octets : 1524 ≤ vec_capacity way.room
+
+-- a node has room where it sends
+abbrev pub IsReady : ℕ → Way → Type 0
+IsReady node way = (way.from.node == node) ≡ true → HasRoom way
+
+pub record IsLineReady (node : ℕ) (line : code.Line) : Type 0 where
+  pub forth : IsReady node line.forth
+  pub back : IsReady node line.back
+
+-- what a port holds leaves its hand
+abbrev pub emptied_line : End → code.Line → Line
+emptied_line end line = on_lanes (emptied end) (line_view line)

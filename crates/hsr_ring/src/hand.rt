@@ -1,0 +1,59 @@
+//! What a receiving port holds.
+ghost use Rattle.std.specs.Prelude.{◌≡◌, IfOk, map};
+ghost use Rattle.hsr_ring.specs.Giving.{emptied_line};
+ghost use Rattle.hsr_ring.specs.Lines.{emptied, held_in, lanes_of, on_lanes};
+ghost use Rattle.hsr_ring.specs.Views.{lane_view, line_view};
+
+use crate::line::Line;
+use crate::way::Way;
+use hsr_audit::End;
+use hsr_frame::NoMemory;
+use hsr_node::Carried;
+
+fn copy_of(hand: &Option<Carried>) -> Result<Option<Carried>, NoMemory>
+    ensures { IfOk result (λ copy. copy ≡ hand.now) }
+{
+    match hand {
+        Some(carried) => Ok(Some(carried.copy()?)),
+        None => Ok(None),
+    }
+}
+
+/// What the port at an end holds.
+pub(crate) fn held(lines: &[Line], end: End) -> Result<Option<Carried>, NoMemory>
+    ensures { IfOk result (λ copy. copy ≡ held_in end (lanes_of (map line_view lines.now))) }
+{
+    for line in lines.iter() {
+        if line.forth.to == end {
+            return copy_of(&line.forth.hand);
+        }
+        if line.back.to == end {
+            return copy_of(&line.back.hand);
+        }
+    }
+    Ok(None)
+}
+
+fn clear_way(way: &mut Way, end: End)
+    ensures { lane_view way.new ≡ emptied end (lane_view way.old) }
+{
+    if way.to == end {
+        way.hand = None;
+    }
+}
+
+fn clear_line(line: &mut Line, end: End)
+    ensures { line_view line.new ≡ emptied_line end line.old }
+{
+    clear_way(&mut line.forth, end);
+    clear_way(&mut line.back, end);
+}
+
+/// What the port at an end holds leaves its hand.
+pub(crate) fn clear(lines: &mut [Line], end: End)
+    ensures { map line_view lines.new ≡ map (on_lanes (emptied end)) (map line_view lines.old) }
+{
+    for line in lines.iter_mut() {
+        clear_line(line, end);
+    }
+}

@@ -1,0 +1,359 @@
+//! A world in code, and its steps.
+ghost use Rattle.std.specs.Prelude.{◌≡◌, ◌⊎◌, ◌<◌, ◌≤◌, Ok, Err, OnOk, IfErr, IfNone, IfOk, map, length};
+ghost use Rattle.hsr_ring.specs.Views.{in_world, port_fault, put_at_end};
+ghost use Rattle.hsr_ring.specs.Entering.{IsUnplanned};
+ghost use Rattle.hsr_node.specs.Kept.{Record};
+ghost use Rattle.hsr_ring.specs.World.{port_worker};
+
+use crate::entering::enter;
+use crate::hand::{clear, held};
+use crate::line::{Line, cut_at, inject_at, mend_at, take_at};
+use crate::spot::put_at_end;
+use crate::starting::{new_lines, new_nodes};
+use crate::step::{Planned, Step, WorldFault};
+use hsr_audit::{End, Topology, ports};
+use hsr_frame::Mac;
+use hsr_link::Dir;
+use hsr_node::{Carried, Event, Kept, Octets};
+use hsr_redbox::About;
+use std::alloc::Global;
+use std::marker::Model;
+
+/// Nodes and the links between them.
+#[derive(Drop)]
+pub(crate) struct Running<const C: usize> {
+    alloc: Global,
+    moment: u64,
+    nodes: Vec<Kept<C>>,
+    lines: Vec<Line>,
+    plan: Vec<Planned>,
+}
+
+impl<const C: usize> Model for Running<C> {
+    ghost use Rattle.std.specs.Prelude.{map};
+    ghost use Rattle.hsr_ring.specs.Views.{AreNumbered, line_view, world_of};
+    ghost use Rattle.hsr_ring.specs.World.{World};
+
+    ghost Value = { World };
+
+    ghost view = { λ r. world_of r.moment r.nodes.items (map line_view r.lines.items) r.plan.items };
+
+    ghost invariant = { λ r. AreNumbered r.nodes.items };
+}
+
+/// The first reason why there is no such port.
+fn port_fault<const C: usize>(nodes: &[Kept<C>], node: usize, port: u8) -> Option<WorldFault>
+    ensures { result ≡ port_fault (map (λ (r : Record). r.place) nodes.now) node port }
+{
+    match nodes.get(node) {
+        Some(kept) => {
+            if port < ports(kept.place()) {
+                None
+            } else {
+                Some(WorldFault::NoSuchPort)
+            }
+        }
+        None => Some(WorldFault::NoSuchNode),
+    }
+}
+
+/// The number of the worker of a port.
+fn port_worker(end: End) -> u16
+    requires { end.node < 64 }
+    ensures { result ≡ port_worker end }
+{
+    (1 + 8 * end.node) as u16 + u16::from(end.port)
+}
+
+impl<const C: usize> Running<C> {
+    ghost use Rattle.hsr_ring.specs.World.{new_world};
+
+    /// The world of a topology in which nothing was done; on each link `capacity` copies may wait in each direction.
+    pub(crate) fn new(
+        alloc: Global,
+        topology: &Topology,
+        capacity: usize,
+    ) -> Result<Running<C>, hsr_frame::NoMemory>
+        requires entries { (1 ≤ C) × (C ≤ 65535) }
+        requires room { (1 ≤ capacity) × (capacity ≤ 4096) }
+        ensures { IfOk result (λ running. running ≡ new_world capacity topology.now.places topology.now.links) }
+    {
+        let nodes = new_nodes(alloc, topology.places())?;
+        let lines = new_lines(alloc, capacity, topology.links())?;
+        Ok(Running {
+            alloc,
+            moment: 0,
+            nodes,
+            lines,
+            plan: Vec::new(alloc),
+        })
+    }
+}
+
+impl<const C: usize> Running<C> {
+    ghost use Rattle.hsr_ring.specs.Lines.{held_in, lanes_of};
+    ghost use Rattle.hsr_ring.specs.World.{by_main, cleared, entered, planned, tried};
+    ghost use Rattle.hsr_ring.specs.declared.step.Step.TheVariants.{Age, Clock, Cut, Inject, Judge, Mend, Put, Send, Supervise, Take};
+    ghost use Rattle.hsr_ring.specs.declared.step.WorldFault.TheVariants.{NoMemory};
+
+    #[tactic(auto, unfolding(crate::specs::World::tried))]
+    fn clock(&mut self, at: u64)
+        ensures { tried C self.old (Clock at) ≡ Ok self.new }
+    {
+        self.moment = at;
+    }
+
+    #[tactic(auto, unfolding(crate::specs::World::tried))]
+    fn mend(&mut self, link: usize) -> Result<(), WorldFault>
+        ensures ok { OnOk result (tried C self.old (Mend link) ≡ Ok self.new) }
+        ensures err { IfErr result (λ f. (self.new ≡ self.old) × (tried C self.old (Mend link) ≡ Err f)) }
+    {
+        if link >= self.lines.len() {
+            return Err(WorldFault::NoSuchLink);
+        }
+        mend_at(&mut self.lines, link);
+        Ok(())
+    }
+
+    #[tactic(auto, unfolding(crate::specs::World::tried))]
+    fn cut(&mut self, link: usize) -> Result<(), WorldFault>
+        ensures ok { OnOk result (tried C self.old (Cut link) ≡ Ok self.new) }
+        ensures err { IfErr result (λ f. (self.new ≡ self.old) × (tried C self.old (Cut link) ≡ Err f)) }
+    {
+        if link >= self.lines.len() {
+            return Err(WorldFault::NoSuchLink);
+        }
+        cut_at(&mut self.lines, link);
+        Ok(())
+    }
+
+    #[tactic(auto, unfolding(crate::specs::World::tried))]
+    fn inject(&mut self, link: usize, dir: Dir, octets: &Octets) -> Result<(), WorldFault>
+        ensures ok { OnOk result (tried C self.old (Inject link dir octets.now) ≡ Ok self.new) }
+        ensures err { IfErr result (λ f. (self.new ≡ self.old) × ((f ≡ NoMemory) ⊎ (tried C self.old (Inject link dir octets.now) ≡ Err f))) }
+    {
+        if link >= self.lines.len() {
+            return Err(WorldFault::NoSuchLink);
+        }
+        if octets.as_slice().len() > 2048 {
+            return Err(WorldFault::TooLong);
+        }
+        match inject_at(self.alloc, &mut self.lines, link, dir, octets) {
+            Ok(()) => Ok(()),
+            Err(fault) => Err(fault),
+        }
+    }
+
+    #[tactic(auto, unfolding(crate::specs::World::tried))]
+    fn take(&mut self, link: usize, dir: Dir) -> Result<(), WorldFault>
+        ensures ok { OnOk result (tried C self.old (Take link dir) ≡ Ok self.new) }
+        ensures err { IfErr result (λ f. (self.new ≡ self.old) × (tried C self.old (Take link dir) ≡ Err f)) }
+    {
+        if link >= self.lines.len() {
+            return Err(WorldFault::NoSuchLink);
+        }
+        match take_at(&mut self.lines, link, dir) {
+            Ok(()) => Ok(()),
+            Err(fault) => Err(fault),
+        }
+    }
+
+    /// The first reason why there is no such port.
+    fn fault_of_port(&self, node: usize, port: u8) -> Option<WorldFault>
+        ensures exact { result ≡ port_fault self.now.places node port }
+        ensures there { IfNone result ((node < length self.now.places) × (node < 64)) }
+    {
+        port_fault(&self.nodes, node, port)
+    }
+
+    fn put_out(&mut self, end: End) -> Result<(), WorldFault>
+        ensures ok { OnOk result (in_world self.old (put_at_end self.old.lines end) ≡ Ok self.new) }
+        ensures err { IfErr result (λ f. (self.new ≡ self.old) × ((f ≡ NoMemory) ⊎ (in_world self.old (put_at_end self.old.lines end) ≡ Err f))) }
+    {
+        match put_at_end(&mut self.lines, end) {
+            Ok(()) => Ok(()),
+            Err(fault) => Err(fault),
+        }
+    }
+
+    fn put(&mut self, node: usize, port: u8) -> Result<(), WorldFault>
+        ensures ok { OnOk result (tried C self.old (Put node port) ≡ Ok self.new) }
+        ensures err { IfErr result (λ f. (self.new ≡ self.old) × ((f ≡ NoMemory) ⊎ (tried C self.old (Put node port) ≡ Err f))) }
+    {
+        if let Some(fault) = self.fault_of_port(node, port) {
+            return Err(fault);
+        }
+        self.put_out(End { node, port })
+    }
+
+    fn enter_at(&mut self, node: usize, worker: u16, event: Event) -> Result<(), WorldFault>
+        requires { node < length self.old.places }
+        ensures ok { OnOk result (entered C self.old worker node event ≡ Ok self.new) }
+        ensures err { IfErr result (λ f. (self.new ≡ self.old) × ((f ≡ NoMemory) ⊎ (entered C self.old worker node event ≡ Err f))) }
+    {
+        let at = self.moment;
+        match enter(
+            self.alloc,
+            &mut self.nodes,
+            &mut self.lines,
+            node,
+            worker,
+            at,
+            event,
+        ) {
+            Ok(()) => Ok(()),
+            Err(fault) => Err(fault),
+        }
+    }
+
+    fn plan_for(&mut self, node: usize, event: &Event) -> Result<(), WorldFault>
+        ensures ok { OnOk result (self.new ≡ planned self.old node event.now) }
+        ensures err { IfErr result (λ f. (self.new ≡ self.old) × (f ≡ NoMemory)) }
+    {
+        let Ok(event) = event.copy() else {
+            return Err(WorldFault::NoMemory);
+        };
+        let at = self.moment;
+        match self.plan.push(Planned { node, at, event }) {
+            Ok(()) => Ok(()),
+            Err(_refused) => Err(WorldFault::NoMemory),
+        }
+    }
+
+    fn plan_no_more(&mut self)
+        ensures { IsUnplanned self.old self.new }
+    {
+        let _last = self.plan.pop();
+    }
+
+    fn by_main(&mut self, node: usize, event: Event) -> Result<(), WorldFault>
+        ensures ok { OnOk result (by_main C self.old node event ≡ Ok self.new) }
+        ensures err { IfErr result (λ f. (self.new ≡ self.old) × ((f ≡ NoMemory) ⊎ (by_main C self.old node event ≡ Err f))) }
+    {
+        if node >= self.nodes.len() {
+            return Err(WorldFault::NoSuchNode);
+        }
+        match self.plan_for(node, &event) {
+            Ok(()) => {}
+            Err(fault) => return Err(fault),
+        }
+        match self.enter_at(node, 0, event) {
+            Ok(()) => Ok(()),
+            Err(fault) => {
+                self.plan_no_more();
+                Err(fault)
+            }
+        }
+    }
+
+    fn held_at(&self, end: End) -> Result<Option<Carried>, WorldFault>
+        ensures ok { IfOk result (λ copy. copy ≡ held_in end (lanes_of self.now.lines)) }
+        ensures err { IfErr result (λ f. f ≡ NoMemory) }
+    {
+        match held(&self.lines, end) {
+            Ok(copy) => Ok(copy),
+            Err(_refused) => Err(WorldFault::NoMemory),
+        }
+    }
+
+    fn clear_at(&mut self, end: End)
+        ensures { self.new ≡ cleared self.old end }
+    {
+        clear(&mut self.lines, end);
+    }
+
+    fn judge(&mut self, node: usize, port: u8) -> Result<(), WorldFault>
+        ensures ok { OnOk result (tried C self.old (Judge node port) ≡ Ok self.new) }
+        ensures err { IfErr result (λ f. (self.new ≡ self.old) × ((f ≡ NoMemory) ⊎ (tried C self.old (Judge node port) ≡ Err f))) }
+    {
+        if let Some(fault) = self.fault_of_port(node, port) {
+            return Err(fault);
+        }
+        let end = End { node, port };
+        let carried = match self.held_at(end) {
+            Ok(Some(carried)) => carried,
+            Ok(None) => return Err(WorldFault::Nothing),
+            Err(fault) => return Err(fault),
+        };
+        match self.enter_at(node, port_worker(end), Event::Arrive { port, carried }) {
+            Ok(()) => {
+                self.clear_at(end);
+                Ok(())
+            }
+            Err(fault) => Err(fault),
+        }
+    }
+
+    #[tactic(auto, unfolding(crate::specs::World::tried))]
+    fn age(&mut self, node: usize) -> Result<(), WorldFault>
+        ensures ok { OnOk result (tried C self.old (Age node) ≡ Ok self.new) }
+        ensures err { IfErr result (λ f. (self.new ≡ self.old) × ((f ≡ NoMemory) ⊎ (tried C self.old (Age node) ≡ Err f))) }
+    {
+        self.by_main(node, Event::Age)
+    }
+
+    #[tactic(auto, unfolding(crate::specs::World::tried))]
+    fn supervise(&mut self, node: usize, about: About) -> Result<(), WorldFault>
+        ensures ok { OnOk result (tried C self.old (Supervise node about) ≡ Ok self.new) }
+        ensures err { IfErr result (λ f. (self.new ≡ self.old) × ((f ≡ NoMemory) ⊎ (tried C self.old (Supervise node about) ≡ Err f))) }
+    {
+        self.by_main(node, Event::Supervise(about))
+    }
+
+    #[tactic(auto, unfolding(crate::specs::World::tried))]
+    fn send(
+        &mut self,
+        node: usize,
+        from: u8,
+        dst: Mac,
+        vlan: Option<u16>,
+        kind: u16,
+        payload: &Octets,
+    ) -> Result<(), WorldFault>
+        ensures ok { OnOk result (tried C self.old (Send node from dst vlan kind payload.now) ≡ Ok self.new) }
+        ensures err { IfErr result (λ f. (self.new ≡ self.old) × ((f ≡ NoMemory) ⊎ (tried C self.old (Send node from dst vlan kind payload.now) ≡ Err f))) }
+    {
+        let Ok(payload) = Octets::from_slice(self.alloc, payload.as_slice()) else {
+            return Err(WorldFault::NoMemory);
+        };
+        self.by_main(
+            node,
+            Event::Send {
+                from,
+                dst,
+                vlan,
+                kind,
+                payload,
+            },
+        )
+    }
+
+    /// Does a step, exactly as `tried` says; a refusal changes nothing.
+    pub(crate) fn step(&mut self, step: &Step) -> Result<(), WorldFault>
+        ensures ok { OnOk result (tried C self.old step.now ≡ Ok self.new) }
+        ensures err { IfErr result (λ f. (self.new ≡ self.old) × ((f ≡ NoMemory) ⊎ (tried C self.old step.now ≡ Err f))) }
+    {
+        match step {
+            Step::Clock { at } => {
+                self.clock(*at);
+                Ok(())
+            }
+            Step::Send {
+                node,
+                from,
+                dst,
+                vlan,
+                kind,
+                payload,
+            } => self.send(*node, *from, *dst, *vlan, *kind, payload),
+            Step::Supervise { node, about } => self.supervise(*node, *about),
+            Step::Age { node } => self.age(*node),
+            Step::Put { node, port } => self.put(*node, *port),
+            Step::Take { link, dir } => self.take(*link, *dir),
+            Step::Judge { node, port } => self.judge(*node, *port),
+            Step::Cut { link } => self.cut(*link),
+            Step::Mend { link } => self.mend(*link),
+            Step::Inject { link, dir, octets } => self.inject(*link, *dir, octets),
+        }
+    }
+}

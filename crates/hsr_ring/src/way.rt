@@ -1,0 +1,87 @@
+//! One direction of a link, with what its ports keep.
+ghost use Rattle.std.specs.Prelude.{◌≡◌, ◌≤◌, length, vec_capacity, OnOk};
+ghost use Rattle.hsr_node.specs.Record.{probe_handled};
+ghost use Rattle.hsr_ring.specs.Giving.{IsReady, given_lane};
+ghost use Rattle.hsr_ring.specs.Views.{lane_view};
+
+use hsr_audit::End;
+use hsr_frame::NoMemory;
+use hsr_node::{Carried, Event, Octets, Place, Probe, Receipt, copy_out};
+use std::alloc::Global;
+use std::collections::VecDeque;
+use std::mem;
+
+/// The most octets that a copy has.
+const MOST_OCTETS: usize = 1524;
+
+/// From which port to which; what the first has still to put, the oldest first, and what the second holds. Room for the
+/// octets of one more copy is no part of what a clause sees.
+#[derive(Drop)]
+pub(crate) struct Way {
+    pub(crate) from: End,
+    pub(crate) to: End,
+    pub(crate) outbox: VecDeque<Carried>,
+    pub(crate) hand: Option<Carried>,
+    pub(crate) room: Vec<u8>,
+}
+
+/// Makes room for one more copy, if this node sends here.
+pub(crate) fn prepare_way(way: &mut Way, node: usize) -> Result<(), NoMemory>
+    ensures view { lane_view way.new ≡ lane_view way.old }
+    ensures ready { OnOk result (IsReady node way.new) }
+{
+    if way.from.node == node {
+        way.outbox.reserve(1)?;
+        way.room.reserve(MOST_OCTETS)?;
+    }
+    Ok(())
+}
+
+/// The send that the frame of an entry is of.
+fn probe_of(receipt: &Receipt) -> Option<Probe>
+    ensures { result ≡ probe_handled (record { node = receipt.now.node; place = receipt.now.place }) receipt.now.entry.event }
+{
+    match &receipt.entry.event {
+        Event::Arrive { port: _, carried } => carried.probe,
+        _ => Some(Probe {
+            node: receipt.node,
+            place: receipt.place,
+        }),
+    }
+}
+
+/// These octets, in the room that was made.
+fn filled(room: Vec<u8>, octets: &[u8]) -> Octets
+    requires { length octets.now ≤ vec_capacity room }
+    ensures { result ≡ octets.now }
+{
+    let mut room = room;
+    room.clear();
+    let Ok(()) = room.extend_from_slice(octets) else {
+        unreachable!()
+    };
+    room.shrink_to_fit();
+    Octets::new(room)
+}
+
+/// The copy that leaves by a way joins its outbox.
+pub(crate) fn commit_way(alloc: Global, way: &mut Way, place: &Place, receipt: &Receipt)
+    requires { IsReady receipt.now.node way.old }
+    ensures { lane_view way.new ≡ given_lane place.now receipt.now (lane_view way.old) }
+{
+    if way.from.node != receipt.node {
+        return;
+    }
+    let entry = &receipt.entry;
+    let Some(copy) = copy_out(place, &entry.event, &entry.outcome, way.from.port) else {
+        return;
+    };
+    let room = mem::replace(&mut way.room, Vec::new(alloc));
+    let carried = Carried {
+        probe: probe_of(receipt),
+        octets: filled(room, copy.as_slice()),
+    };
+    let Ok(()) = way.outbox.push_back(carried) else {
+        unreachable!()
+    };
+}
