@@ -9,3 +9,5 @@ pub mod Tried
 pub mod Entered
 pub mod Started
 pub mod Reached
+pub mod Ends
+pub mod Stopped

@@ -7,3 +7,4 @@ pub mod Giving
 pub mod Entering
 pub mod Starting
 pub mod Reached
+pub mod Stopping

@@ -198,12 +198,12 @@ abbrev pub is_empty : List Carried → Bool
 is_empty [] = true
 is_empty (copy ∷ copies) = false
 
-abbrev pub waits_at : World → Option Spot → Bool
-waits_at w None = false
-waits_at w (Some spot) = not (is_empty (lane_of spot.dir (line_at w spot.link)).outbox)
+abbrev pub waits_in : List Line → Option Spot → Bool
+waits_in lines None = false
+waits_in lines (Some spot) = not (is_empty (lane_of spot.dir (line_in lines spot.link)).outbox)
 
 abbrev pub is_waiting : World → End → Bool
-is_waiting w end = waits_at w (spot_from end 0 w.lines)
+is_waiting w end = waits_in w.lines (spot_from end 0 w.lines)
 
 abbrev pub take_from : ℕ → List Line → Option Step
 take_from l [] = None

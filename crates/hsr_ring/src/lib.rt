@@ -10,6 +10,7 @@ mod running;
 mod spot;
 mod starting;
 mod step;
+mod waiting;
 mod way;
 mod world;
 

@@ -1,5 +1,5 @@
 //! A world in code, and its steps.
-ghost use Rattle.std.specs.Prelude.{◌≡◌, ◌⊎◌, ◌<◌, ◌≤◌, Ok, Err, OnOk, IfErr, IfNone, IfOk, map, length};
+ghost use Rattle.std.specs.Prelude.{◌≡◌, ◌⊎◌, ◌<◌, ◌≤◌, Ok, Err, OnOk, IfErr, IfNone, IfOk, map, length, reverse};
 ghost use Rattle.hsr_ring.specs.Views.{in_world, port_fault, put_at_end};
 ghost use Rattle.hsr_ring.specs.Entering.{IsUnplanned};
 ghost use Rattle.hsr_node.specs.Kept.{Record};
@@ -11,10 +11,11 @@ use crate::line::{Line, cut_at, inject_at, mend_at, take_at};
 use crate::spot::put_at_end;
 use crate::starting::{new_lines, new_nodes};
 use crate::step::{Planned, Step, WorldFault};
+use crate::waiting::{held_end, next_take, waiting_end};
 use hsr_audit::{End, Topology, ports};
-use hsr_frame::Mac;
-use hsr_link::Dir;
-use hsr_node::{Carried, Event, Kept, Octets};
+use hsr_frame::{Counters, Mac};
+use hsr_link::{Dir, Row};
+use hsr_node::{Carried, Entry, Event, Kept, Octets};
 use hsr_redbox::About;
 use std::alloc::Global;
 use std::marker::Model;
@@ -355,5 +356,67 @@ impl<const C: usize> Running<C> {
             Step::Mend { link } => self.mend(*link),
             Step::Inject { link, dir, octets } => self.inject(*link, *dir, octets),
         }
+    }
+}
+
+impl<const C: usize> Running<C> {
+    ghost use Rattle.hsr_node.specs.Record.{counters};
+    ghost use Rattle.hsr_ring.specs.World.{line_at, next_step, owner_at, record_at};
+
+    /// How many nodes there are.
+    pub(crate) fn node_count(&self) -> usize
+        ensures { result ≡ length self.now.places }
+    {
+        self.nodes.len()
+    }
+
+    /// How many links there are.
+    pub(crate) fn link_count(&self) -> usize
+        ensures { result ≡ length self.now.lines }
+    {
+        self.lines.len()
+    }
+
+    /// The record of a node, the oldest entry first.
+    pub(crate) fn entries(&self, node: usize) -> &[Entry]
+        requires { node < length self.now.places }
+        ensures { reverse result.now ≡ record_at self.now node }
+    {
+        self.nodes[node].entries()
+    }
+
+    /// How often each thing happened at a node.
+    pub(crate) fn counters(&self, node: usize) -> Counters
+        requires { node < length self.now.places }
+        ensures { result ≡ counters (owner_at self.now node).place (record_at self.now node) }
+    {
+        self.nodes[node].counters()
+    }
+
+    /// The row of each copy that was put on a link, in order.
+    pub(crate) fn rows(&self, link: usize) -> &[Row]
+        requires { link < length self.now.lines }
+        ensures { result.now ≡ (line_at self.now link).link.rows }
+    {
+        self.lines[link].link.rows()
+    }
+
+    /// What a drain does next.
+    pub(crate) fn next(&self) -> Option<Step>
+        ensures { result ≡ next_step self.now }
+    {
+        if let Some(end) = held_end(&self.nodes, &self.lines) {
+            return Some(Step::Judge {
+                node: end.node,
+                port: end.port,
+            });
+        }
+        if let Some(end) = waiting_end(&self.nodes, &self.lines) {
+            return Some(Step::Put {
+                node: end.node,
+                port: end.port,
+            });
+        }
+        next_take(&self.lines)
     }
 }

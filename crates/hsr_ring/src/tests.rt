@@ -113,3 +113,38 @@ fn links_and_time(rt: HostRuntime) -> Result<(), Fail> {
     assert!(rt; world.step(&inject) == Ok(()));
     Ok(())
 }
+
+#[test]
+fn group_round_a_ring(rt: HostRuntime) -> Result<(), Fail> {
+    let mut world = ring(&rt)?;
+    assert!(rt; world.step(&send(&rt)?) == Ok(()));
+    assert!(rt; world.drain(18) == Ok(18));
+    assert!(rt; world.node_count() == 3);
+    let sender = world.counters(0);
+    assert!(rt; sender.sent == 1);
+    assert!(rt; sender.returned == 2);
+    let next = world.counters(1);
+    assert!(rt; next.up == 1);
+    assert!(rt; next.forwarded == 2);
+    Ok(())
+}
+
+#[test]
+fn a_drain_that_is_too_short(rt: HostRuntime) -> Result<(), Fail> {
+    let mut world = ring(&rt)?;
+    assert!(rt; world.step(&send(&rt)?) == Ok(()));
+    assert!(rt; world.drain(17) == Err(DrainFault::Unsettled));
+    Ok(())
+}
+
+#[test]
+fn a_run_that_stops(rt: HostRuntime) -> Result<(), Fail> {
+    let mut world = ring(&rt)?;
+    let steps = [
+        Step::Clock { at: 5 },
+        Step::Age { node: 1 },
+        Step::Cut { link: 3 },
+    ];
+    assert!(rt; world.run(&steps) == Err((2, WorldFault::NoSuchLink)));
+    Ok(())
+}

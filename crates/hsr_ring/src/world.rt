@@ -1,11 +1,13 @@
 //! Nodes and links in one world, and what is done with them, step by step.
-ghost use Rattle.std.specs.Prelude.{◌≡◌, ◌≤◌, ◌⊎◌, Ok, Err, OnOk, IfErr, IfOk};
+ghost use Rattle.std.specs.Prelude.{◌≡◌, ◌≤◌, ◌<◌, ◌⊎◌, Ok, Err, None, OnOk, IfErr, IfOk, length, reverse};
 ghost use Rattle.hsr_ring.specs.declared.step.WorldFault.TheVariants.{NoMemory as NoRoom};
 
 use crate::running::Running;
-use crate::step::{Step, WorldFault};
+use crate::step::{DrainFault, Step, WorldFault};
 use hsr_audit::Topology;
-use hsr_frame::NoMemory;
+use hsr_frame::{Counters, NoMemory};
+use hsr_link::Row;
+use hsr_node::Entry;
 use std::alloc::Global;
 use std::marker::Model;
 
@@ -30,7 +32,9 @@ impl<const C: usize> Model for World<C> {
 
 impl<const C: usize> World<C> {
     ghost use Rattle.hsr_ring.specs.Reached.{IsLawful};
-    ghost use Rattle.hsr_ring.specs.World.{new_world, tried};
+    ghost use Rattle.hsr_ring.specs.Stopping.{IsDrainFault, Runs, Stops};
+    ghost use Rattle.hsr_ring.specs.World.{Drains, line_at, new_world, next_step, owner_at, record_at, tried};
+    ghost use Rattle.hsr_node.specs.Record.{counters};
 
     /// A world at moment 0 in which nothing was done, with room for `capacity` copies, 1 to 4096, in each direction of a link.
     pub fn new(alloc: Global, topology: Topology, capacity: usize) -> Result<World<C>, NoMemory>
@@ -51,6 +55,86 @@ impl<const C: usize> World<C> {
             Ok(()) => Ok(()),
             Err(fault) => Err(fault),
         }
+    }
+
+    /// Does steps, up to the first that is refused, of which the place is told.
+    pub fn run(&mut self, steps: &[Step]) -> Result<(), (usize, WorldFault)>
+        ensures ok { OnOk result (Runs C steps.now self.old self.new) }
+        ensures err { IfErr result (λ e. Stops C steps.now e.0 self.old self.new e.1) }
+    {
+        for (place, step) in steps.iter().enumerate() {
+            match self.step(step) {
+                Ok(()) => {}
+                Err(fault) => return Err((place, fault)),
+            }
+        }
+        Ok(())
+    }
+
+    /// What a drain does next.
+    fn next(&self) -> Option<Step>
+        ensures { result ≡ next_step self.now }
+    {
+        self.running.next()
+    }
+
+    /// Does what is left to do, until nothing is, in at most `limit` steps: copies in hands are judged, those in outboxes put
+    /// and those on links taken, in this order, by the lowest node and port, or link. The answer is how many steps.
+    pub fn drain(&mut self, limit: u64) -> Result<u64, DrainFault>
+        ensures ok { IfOk result (λ n. (n ≤ limit) × (next_step self.new ≡ None) × Drains C n self.old self.new) }
+        ensures err { IfErr result (λ f. IsDrainFault C self.old self.new limit f) }
+    {
+        for done in 0..limit {
+            let Some(step) = self.next() else {
+                return Ok(done);
+            };
+            match self.step(&step) {
+                Ok(()) => {}
+                Err(fault) => return Err(DrainFault::World(fault)),
+            }
+        }
+        let Some(_) = self.next() else {
+            return Ok(limit);
+        };
+        Err(DrainFault::Unsettled)
+    }
+
+    /// How many nodes there are.
+    pub fn node_count(&self) -> usize
+        ensures { result ≡ length self.now.places }
+    {
+        self.running.node_count()
+    }
+
+    /// How many links there are.
+    pub fn link_count(&self) -> usize
+        ensures { result ≡ length self.now.lines }
+    {
+        self.running.link_count()
+    }
+
+    /// The record of a node, the oldest entry first.
+    pub fn entries(&self, node: usize) -> &[Entry]
+        requires { node < length self.now.places }
+        ensures { reverse result.now ≡ record_at self.now node }
+    {
+        self.running.entries(node)
+    }
+
+    /// How often each thing happened at a node, counted over its record.
+    pub fn counters(&self, node: usize) -> Counters
+        requires { node < length self.now.places }
+        ensures { result ≡ counters (owner_at self.now node).place (record_at self.now node) }
+    {
+        self.running.counters(node)
+    }
+
+    /// The row of each copy that was put on a link, in order.
+    pub fn rows(&self, link: usize) -> &[Row]
+        requires { link < length self.now.lines }
+        ensures { result.now ≡ (line_at self.now link).link.rows }
+    {
+        self.running.rows(link)
     }
 
     /// Whatever was done: each record is legal, links and records agree, each copy as often, and where nothing was
