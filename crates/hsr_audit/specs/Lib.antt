@@ -9,3 +9,4 @@ pub mod Premises
 pub mod Once
 pub mod Budget
 pub mod Often
+pub mod Finished

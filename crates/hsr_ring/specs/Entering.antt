@@ -12,7 +12,7 @@ use Rattle.hsr_node.specs.declared.place.Place.{Place}
 use Rattle.hsr_ring.specs.Lines.{Line}
 use Rattle.hsr_ring.specs.Views.{world_of}
 use Rattle.hsr_ring.specs.World.{World, entered, owner_in, record_in}
-use Rattle.hsr_ring.specs.declared.step.Planned.{Planned}
+use Rattle.hsr_audit.specs.declared.planned.Planned.{Planned}
 use Rattle.hsr_ring.specs.declared.step.WorldFault.{WorldFault}
 use Rattle.hsr_ring.specs.declared.step.WorldFault.TheVariants.{Node, NoMemory}
 

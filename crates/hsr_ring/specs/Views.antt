@@ -12,7 +12,7 @@ use Rattle.hsr_ring.specs.Lines.{Lane, Line, Spot, lane_of, spot_from, with_lane
 use Rattle.hsr_ring.specs.World.{World, line_in}
 use Rattle.hsr_ring.specs.declared.line.Line as code
 use Rattle.hsr_ring.specs.declared.spot.Spot as code-spot
-use Rattle.hsr_ring.specs.declared.step.Planned.{Planned}
+use Rattle.hsr_audit.specs.declared.planned.Planned.{Planned}
 use Rattle.hsr_ring.specs.declared.step.WorldFault.{WorldFault}
 use Rattle.hsr_ring.specs.declared.step.WorldFault.TheVariants.{Busy, NoSuchNode, NoSuchPort, Nothing}
 use Rattle.hsr_ring.specs.declared.way.Way.{Way}

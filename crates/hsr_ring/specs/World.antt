@@ -18,7 +18,7 @@ use Rattle.hsr_node.specs.declared.event.StepFault.{StepFault}
 use Rattle.hsr_node.specs.declared.place.Place.{Place}
 use Rattle.hsr_node.specs.declared.place.Place.TheVariants.{QuadBox}
 use Rattle.hsr_ring.specs.Lines.{Lane, Line, Spot, emptied, held_in, lane_of, lanes_of, on_lanes, spot_from, spread, with_lane, with_link}
-use Rattle.hsr_ring.specs.declared.step.Planned.{Planned}
+use Rattle.hsr_audit.specs.declared.planned.Planned.{Planned}
 use Rattle.hsr_ring.specs.declared.step.Step.{Step}
 use Rattle.hsr_ring.specs.declared.step.Step.TheVariants.{Clock, Send, Supervise, Age, Put, Take, Judge, Cut, Mend, Inject}
 use Rattle.hsr_ring.specs.declared.step.WorldFault.{WorldFault}

@@ -15,7 +15,7 @@ mod way;
 mod world;
 
 pub use law::{always_origins, always_sent, always_sound, first_sound};
-pub use step::{DrainFault, Planned, Step, WorldFault};
+pub use step::{DrainFault, Step, WorldFault};
 pub use world::World;
 
 #[cfg(test)]

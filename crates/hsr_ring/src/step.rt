@@ -1,7 +1,7 @@
 //! What may happen in a world, and why it doesn't.
 use hsr_frame::Mac;
 use hsr_link::Dir;
-use hsr_node::{Event, Octets, StepFault};
+use hsr_node::{Octets, StepFault};
 use hsr_redbox::About;
 
 /// What may happen in a world.
@@ -75,14 +75,6 @@ pub enum WorldFault {
     /// The node refuses the event.
     Node(StepFault),
     NoMemory,
-}
-
-/// What the main worker brought about: a send, a supervision or an age of a node, at a moment.
-#[derive(Clone, Debug, Drop, PartialEq, Eq)]
-pub struct Planned {
-    pub node: usize,
-    pub at: u64,
-    pub event: Event,
 }
 
 /// Why a drain ends early.

@@ -1,0 +1,81 @@
+//! A run that is finished, and agrees with itself.
+ghost use Rattle.std.specs.Prelude.{◌≡◌, ◌<◌, length};
+ghost use Rattle.hsr_audit.specs.Finished.{IsFinished};
+ghost use Rattle.hsr_audit.specs.Run.{past_of, place_of, record_of, rows_of};
+
+use crate::planned::Planned;
+use crate::topology::Topology;
+use hsr_frame::Counters;
+use hsr_link::Row;
+use hsr_node::{Entry, Kept};
+use std::marker::Model;
+
+/// A finished run: its nodes with their records, its links with their rows, and its plan. Each outcome is what the past
+/// of its node answers, links and records agree, each copy is of a send, nothing was injected and nothing waits.
+/// Duplicate tables have `C` entries each, `C` from 1 to 65535 (IEC 62439-3 clause 5).
+#[derive(Drop)]
+pub struct Closed<const C: usize> {
+    topology: Topology,
+    kept: Vec<Kept<C>>,
+    rows: Vec<Vec<Row>>,
+    plan: Vec<Planned>,
+}
+
+impl<const C: usize> Model for Closed<C> {
+    ghost use Rattle.std.specs.Prelude.{◌≡◌, map};
+    ghost use Rattle.hsr_audit.specs.Finished.{Finished, IsFinished, run_of};
+    ghost use Rattle.hsr_node.specs.Kept.{Record};
+
+    ghost Value = { Finished };
+
+    ghost view = { λ c. record { run = run_of C c.topology c.kept.items c.rows.items; plan = c.plan.items } };
+
+    ghost invariant = { λ c.
+        (map (λ (r : Record). r.place) c.kept.items ≡ c.topology.places)
+        × IsFinished (record { run = run_of C c.topology c.kept.items c.rows.items; plan = c.plan.items }) };
+}
+
+impl<const C: usize> Closed<C> {
+    ghost use Rattle.hsr_node.specs.Record.{counters};
+
+    /// The nodes and links of the run.
+    pub fn topology(&self) -> &Topology
+        ensures places { result.now.places ≡ self.now.run.places }
+        ensures links { result.now.links ≡ self.now.run.links }
+        ensures capacity { self.now.run.capacity ≡ C }
+        ensures finished { IsFinished self.now }
+    {
+        &self.topology
+    }
+
+    /// The record of a node, the oldest entry first.
+    pub fn entries(&self, node: usize) -> &[Entry]
+        requires { node < length self.now.run.places }
+        ensures { result.now ≡ record_of self.now.run node }
+    {
+        self.kept[node].entries()
+    }
+
+    /// How often each thing happened at a node, counted over its record.
+    pub fn counters(&self, node: usize) -> Counters
+        requires { node < length self.now.run.places }
+        ensures { result ≡ counters (place_of self.now.run node) (past_of self.now.run node) }
+    {
+        self.kept[node].counters()
+    }
+
+    /// The row of each copy that was put on a link, in order.
+    pub fn rows(&self, link: usize) -> &[Row]
+        requires { link < length self.now.run.links }
+        ensures { result.now ≡ rows_of self.now.run link }
+    {
+        self.rows[link].as_slice()
+    }
+
+    /// What the main worker brought about, in order.
+    pub fn plan(&self) -> &[Planned]
+        ensures { result.now ≡ self.now.plan }
+    {
+        self.plan.as_slice()
+    }
+}
