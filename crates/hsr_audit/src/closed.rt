@@ -1,5 +1,6 @@
 //! A run that is finished, and agrees with itself.
-ghost use Rattle.std.specs.Prelude.{◌≡◌, ◌<◌, length};
+ghost use Rattle.std.specs.Prelude.{◌≡◌, ◌<◌, ◌^◌, length};
+ghost use Rattle.hsr_frame.specs.Counters.{AreWithin};
 ghost use Rattle.hsr_audit.specs.Finished.{IsFinished};
 ghost use Rattle.hsr_audit.specs.Run.{past_of, place_of, record_of, rows_of};
 
@@ -59,7 +60,8 @@ impl<const C: usize> Closed<C> {
     /// How often each thing happened at a node, counted over its record.
     pub fn counters(&self, node: usize) -> Counters
         requires { node < length self.now.run.places }
-        ensures { result ≡ counters (place_of self.now.run node) (past_of self.now.run node) }
+        ensures value { result ≡ counters (place_of self.now.run node) (past_of self.now.run node) }
+        ensures within { AreWithin result (2 ^ 62) }
     {
         self.kept[node].counters()
     }

@@ -1,5 +1,6 @@
 //! A node with the record of all that happened to it.
-ghost use Rattle.std.specs.Prelude.{◌≡◌, ◌≤◌, [], ◌∷◌, ◌++◌, length, reverse, IfErr, IfOk};
+ghost use Rattle.std.specs.Prelude.{◌≡◌, ◌≤◌, ◌^◌, [], ◌∷◌, ◌++◌, length, reverse, IfErr, IfOk};
+ghost use Rattle.hsr_frame.specs.Counters.{AreWithin};
 
 use crate::entry::{Entry, Receipt};
 use crate::event::{Event, StepFault};
@@ -108,7 +109,8 @@ impl<const C: usize> Kept<C> {
 
     /// How often each thing happened, counted over the record.
     pub fn counters(&self) -> Counters
-        ensures { result ≡ counters self.now.place (past_of self.now) }
+        ensures value { result ≡ counters self.now.place (past_of self.now) }
+        ensures within { AreWithin result (2 ^ 62) }
     {
         self.node.counters()
     }

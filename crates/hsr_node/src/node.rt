@@ -1,5 +1,6 @@
 //! A node of any kind.
-ghost use Rattle.std.specs.Prelude.{◌≡◌, ◌≤◌, IfOk};
+ghost use Rattle.std.specs.Prelude.{◌≡◌, ◌≤◌, ◌^◌, IfOk};
+ghost use Rattle.hsr_frame.specs.Counters.{AreWithin};
 
 use crate::danh::apply_danh;
 use crate::event::{Event, Outcome, StepFault};
@@ -57,7 +58,8 @@ impl<const C: usize> Node<C> {
 
     /// How often each thing happened here.
     pub fn counters(&self) -> Counters
-        ensures { result ≡ counters_of C self.now }
+        ensures value { result ≡ counters_of C self.now }
+        ensures within { AreWithin result (2 ^ 62) }
     {
         match self {
             Node::Danh(danh) => danh.counters(),

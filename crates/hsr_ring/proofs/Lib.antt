@@ -9,5 +9,16 @@ pub mod Tried
 pub mod Entered
 pub mod Started
 pub mod Reached
+pub mod Lawful
 pub mod Ends
 pub mod Stopped
+pub mod Spelled
+pub mod Passing
+pub mod Wires
+pub mod Single
+pub mod Numbering
+pub mod OfSends
+pub mod Linked
+pub mod Closed
+pub mod FitFrames
+pub mod Plans

@@ -39,15 +39,15 @@ use Rattle.hsr_ring.proofs.Keeps.{all_mapped, all_replaced, entry_of, keeps, nod
 
 -- ---- lists
 
-all_implied : {X : Type 0} (P Q : X → Type 0) → ((x : X) → P x → Q x) → (xs : List X) → AllByRecursion P xs → AllByRecursion Q xs
+pub all_implied : {X : Type 0} (P Q : X → Type 0) → ((x : X) → P x → Q x) → (xs : List X) → AllByRecursion P xs → AllByRecursion Q xs
 all_implied P Q f [] all = tt
 all_implied P Q f (x ∷ xs) all = (f x all.0, all_implied P Q f xs all.1)
 
-all_appended : {X : Type 0} (P : X → Type 0) (xs ys : List X) → AllByRecursion P xs → AllByRecursion P ys → AllByRecursion P (xs ++ ys)
+pub all_appended : {X : Type 0} (P : X → Type 0) (xs ys : List X) → AllByRecursion P xs → AllByRecursion P ys → AllByRecursion P (xs ++ ys)
 all_appended P [] ys a b = b
 all_appended P (x ∷ xs) ys a b = (a.0, all_appended P xs ys a.1 b)
 
-all_cons_option : {X : Type 0} (P : X → Type 0) (o : Option X) (xs : List X) → AllByRecursion P (option_to_list o) → AllByRecursion P xs → AllByRecursion P (cons_option o xs)
+pub all_cons_option : {X : Type 0} (P : X → Type 0) (o : Option X) (xs : List X) → AllByRecursion P (option_to_list o) → AllByRecursion P xs → AllByRecursion P (cons_option o xs)
 all_cons_option P None xs a b = b
 all_cons_option P (Some x) xs a b = (a.0, b)
 
@@ -64,7 +64,7 @@ or_right false b h = h
 lane_implied : (P Q : Carried → Type 0) → ((c : Carried) → P c → Q c) → (lane : Lane) → InLane P lane → InLane Q lane
 lane_implied P Q f lane h = record { outbox = all_implied P Q f lane.outbox h.outbox; hand = all_implied P Q f (option_to_list lane.hand) h.hand }
 
-line_implied : (P Q : Carried → Type 0) → ((c : Carried) → P c → Q c) → (line : Line) → InLine P line → InLine Q line
+pub line_implied : (P Q : Carried → Type 0) → ((c : Carried) → P c → Q c) → (line : Line) → InLine P line → InLine Q line
 line_implied P Q f line h = record {
   rows = all_implied (λ (row : Row). P row.carried) (λ (row : Row). Q row.carried) (λ row p. f row.carried p) line.link.rows h.rows;
   forth = lane_implied P Q f line.forth h.forth;
@@ -105,7 +105,7 @@ first_is P dir (r ∷ rows) c h all = by_case (λ e. first_is P dir rows c e all
     by_case below true h = subst P (same r.carried c h) all.0
     by_case below false h = below h
 
-in_put : (P : Carried → Type 0) (line : Line) (dir : Dir) (c : Carried) (cs : List Carried) → (lane_of dir line).outbox ≡ c ∷ cs → InLine P line →
+pub in_put : (P : Carried → Type 0) (line : Line) (dir : Dir) (c : Carried) (cs : List Carried) → (lane_of dir line).outbox ≡ c ∷ cs → InLine P line →
     InLine P (with_link (put_step line.link dir c).1 (with_lane dir (record (lane_of dir line) { outbox = cs }) line))
 in_put P line Forth c cs box h =
     let all : AllByRecursion P (c ∷ cs) = subst (AllByRecursion P) box h.forth.outbox in
@@ -114,25 +114,25 @@ in_put P line Back c cs box h =
     let all : AllByRecursion P (c ∷ cs) = subst (AllByRecursion P) box h.back.outbox in
     record { rows = rows_more P line.link.rows _ h.rows all.0; forth = h.forth; back = record { outbox = all.1; hand = h.back.hand } }
 
-in_taken : (P : Carried → Type 0) (line : Line) (dir : Dir) (c : Carried) → first_copy dir line.link.rows ≡ Some c → InLine P line →
+pub in_taken : (P : Carried → Type 0) (line : Line) (dir : Dir) (c : Carried) → first_copy dir line.link.rows ≡ Some c → InLine P line →
     InLine P (with_link (take_step line.link dir).1 (with_lane dir (record (lane_of dir line) { hand = Some c }) line))
 in_taken P line Forth c first h =
     record { rows = rows_turned P Taken Forth line.link.rows h.rows; forth = record { outbox = h.forth.outbox; hand = (first_is P Forth line.link.rows c first h.rows, tt) }; back = h.back }
 in_taken P line Back c first h =
     record { rows = rows_turned P Taken Back line.link.rows h.rows; forth = h.forth; back = record { outbox = h.back.outbox; hand = (first_is P Back line.link.rows c first h.rows, tt) } }
 
-in_cut : (P : Carried → Type 0) (line : Line) → InLine P line → InLine P (with_link (cut_step line.link).1 line)
+pub in_cut : (P : Carried → Type 0) (line : Line) → InLine P line → InLine P (with_link (cut_step line.link).1 line)
 in_cut P line h = record { rows = rows_lost P line.link.rows h.rows; forth = h.forth; back = h.back }
 
-in_mended : (P : Carried → Type 0) (line : Line) → InLine P line → InLine P (with_link (mended line.link) line)
+pub in_mended : (P : Carried → Type 0) (line : Line) → InLine P line → InLine P (with_link (mended line.link) line)
 in_mended P line h = record { rows = h.rows; forth = h.forth; back = h.back }
 
-in_injected : (P : Carried → Type 0) (line : Line) (dir : Dir) (c : Carried) → P c → InLine P line → InLine P (with_link (inject_step line.link dir c).1 line)
+pub in_injected : (P : Carried → Type 0) (line : Line) (dir : Dir) (c : Carried) → P c → InLine P line → InLine P (with_link (inject_step line.link dir c).1 line)
 in_injected P line dir c p h = record { rows = rows_more P line.link.rows _ h.rows p; forth = h.forth; back = h.back }
 
 -- ---- what was injected stays so
 
-injected_more : (rows : List Row) (r : Row) → list_any (λ (row : Row). row.injected) rows ≡ true → list_any (λ (row : Row). row.injected) (rows ++ r ∷ []) ≡ true
+pub injected_more : (rows : List Row) (r : Row) → list_any (λ (row : Row). row.injected) rows ≡ true → list_any (λ (row : Row). row.injected) (rows ++ r ∷ []) ≡ true
 injected_more [] r h = absurd (false≢true h)
 injected_more (x ∷ rows) r h = by_case x.injected h (λ e. injected_more rows r e)
   where
@@ -141,11 +141,11 @@ injected_more (x ∷ rows) r h = by_case x.injected h (λ e. injected_more rows 
     by_case true h below = refl
     by_case false h below = below h
 
-injected_last : (rows : List Row) (r : Row) → r.injected ≡ true → list_any (λ (row : Row). row.injected) (rows ++ r ∷ []) ≡ true
+pub injected_last : (rows : List Row) (r : Row) → r.injected ≡ true → list_any (λ (row : Row). row.injected) (rows ++ r ∷ []) ≡ true
 injected_last [] r h = or_left r.injected false h
 injected_last (x ∷ rows) r h = or_right x.injected _ (injected_last rows r h)
 
-injected_turned : (fate : Fate) (dir : Dir) (rows : List Row) → list_any (λ (row : Row). row.injected) (turned fate dir rows) ≡ list_any (λ (row : Row). row.injected) rows
+pub injected_turned : (fate : Fate) (dir : Dir) (rows : List Row) → list_any (λ (row : Row). row.injected) (turned fate dir rows) ≡ list_any (λ (row : Row). row.injected) rows
 injected_turned fate dir [] = refl
 injected_turned fate dir (r ∷ rows) = by_case (waits dir r) (injected_turned fate dir rows)
   where
@@ -154,7 +154,7 @@ injected_turned fate dir (r ∷ rows) = by_case (waits dir r) (injected_turned f
     by_case true rest = refl
     by_case false rest = ap (λ b. r.injected || b) rest
 
-injected_lost : (rows : List Row) → list_any (λ (row : Row). row.injected) (map lost rows) ≡ list_any (λ (row : Row). row.injected) rows
+pub injected_lost : (rows : List Row) → list_any (λ (row : Row). row.injected) (map lost rows) ≡ list_any (λ (row : Row). row.injected) rows
 injected_lost [] = refl
 injected_lost (r ∷ rows) = ap (λ b. b || list_any (λ (row : Row). row.injected) (map lost rows)) (by_case (is_queued r.fate)) ∙ ap (λ b. r.injected || b) (injected_lost rows)
   where
@@ -162,7 +162,7 @@ injected_lost (r ∷ rows) = ap (λ b. b || list_any (λ (row : Row). row.inject
     by_case true = refl
     by_case false = refl
 
-injected_set : (lines : List Line) (l : ℕ) (d line : Line) → (has_injected (get_or lines l d) ≡ true → has_injected line ≡ true) → is_injected lines ≡ true → is_injected (set lines l line) ≡ true
+pub injected_set : (lines : List Line) (l : ℕ) (d line : Line) → (has_injected (get_or lines l d) ≡ true → has_injected line ≡ true) → is_injected lines ≡ true → is_injected (set lines l line) ≡ true
 injected_set [] l d line f h = h
 injected_set (x ∷ lines) zero d line f h = by_case (has_injected x) (has_injected line) f h
   where
@@ -175,18 +175,18 @@ injected_set (x ∷ lines) (suc l) d line f h = by_case (has_injected x) h (λ e
     by_case true h below = refl
     by_case false h below = below h
 
-injected_here : (lines : List Line) (l : ℕ) (line : Line) → l < length lines → has_injected line ≡ true → is_injected (set lines l line) ≡ true
+pub injected_here : (lines : List Line) (l : ℕ) (line : Line) → l < length lines → has_injected line ≡ true → is_injected (set lines l line) ≡ true
 injected_here [] l line below h = absurd (omega (arith, below))
 injected_here (x ∷ lines) zero line below h = or_left (has_injected line) _ h
 injected_here (x ∷ lines) (suc l) line below h = or_right (has_injected x) _ (injected_here lines l line (omega (arith, below)) h)
 
-injected_mapped : (f : Lane → Lane) (lines : List Line) → is_injected (map (on_lanes f) lines) ≡ is_injected lines
+pub injected_mapped : (f : Lane → Lane) (lines : List Line) → is_injected (map (on_lanes f) lines) ≡ is_injected lines
 injected_mapped f [] = refl
 injected_mapped f (x ∷ lines) = ap (λ b. has_injected x || b) (injected_mapped f lines)
 
 -- ---- a record grows
 
-send_below : (place : Place) (k : ℕ) (past : List Entry) (s : Sending) → send_at place k past ≡ Some s → k < length past
+pub send_below : (place : Place) (k : ℕ) (past : List Entry) (s : Sending) → send_at place k past ≡ Some s → k < length past
 send_below place k [] s h = absurd (none_some h)
   where
     none_some : None ≡ Some s → ⊥
@@ -197,7 +197,7 @@ send_below place k (x ∷ past) s h = by_case (k == length past) refl h (λ e. s
     by_case true e h below = let same = eqb-true k (length past) e in omega (arith, same)
     by_case false e h below = let rest = below h in omega (arith, rest)
 
-send_kept : (place : Place) (k : ℕ) (x : Entry) (past : List Entry) (s : Sending) → send_at place k past ≡ Some s → send_at place k (x ∷ past) ≡ Some s
+pub send_kept : (place : Place) (k : ℕ) (x : Entry) (past : List Entry) (s : Sending) → send_at place k past ≡ Some s → send_at place k (x ∷ past) ≡ Some s
 send_kept place k x past s h =
     let below = send_below place k past s h in
     by_case (k == length past) refl (λ e. let same = eqb-true k (length past) e in omega (arith, same, below))
@@ -206,7 +206,7 @@ send_kept place k x past s h =
     by_case true e away = absurd (away e)
     by_case false e away = h
 
-names_kept : (places : List Place) (records : List (List Entry)) (n : ℕ) (x : Entry) (c : Carried) → n < length records → NamesSend places records c → NamesSend places (set records n (x ∷ record_in records n)) c
+pub names_kept : (places : List Place) (records : List (List Entry)) (n : ℕ) (x : Entry) (c : Carried) → n < length records → NamesSend places records c → NamesSend places (set records n (x ∷ record_in records n)) c
 names_kept places records n x c below h = record {
   probe = h.probe;
   sending = h.sending;
@@ -225,7 +225,7 @@ names_kept places records n x c below h = record {
 no_octets : {octets : List ℕ} → None ≡ Some octets → ⊥
 no_octets e = cc
 
-written_none : (place : Place) (port : ℕ) (seq : Option ℕ) → written (side_of place port) seq None ≡ None
+pub written_none : (place : Place) (port : ℕ) (seq : Option ℕ) → written (side_of place port) seq None ≡ None
 written_none place port seq = elim (side_of place port) as (λ side. written side seq None ≡ None) [ None ↦ refl | Some side ↦ refl ]
 
 -- what is written is a send's frame
@@ -249,7 +249,7 @@ own_sent place (event.Arrive x copy) o port octets away h = absurd (away x copy 
 own_sent place event.Age o port octets away h = absurd (no_octets h)
 
 -- the octets of a copy that leaves
-copy_passed : (place : Place) (e : Event) (o : Outcome) (port : ℕ) (octets : List ℕ) → copy_octets place e o port ≡ Some octets → passed_octets place e o port ≡ Some octets
+pub copy_passed : (place : Place) (e : Event) (o : Outcome) (port : ℕ) (octets : List ℕ) → copy_octets place e o port ≡ Some octets → passed_octets place e o port ≡ Some octets
 unfolding copy_octets
 copy_passed place e o port octets h = by_case (unwrap_or (slice_get (ports_of o) port) false) h
   where
@@ -258,12 +258,12 @@ copy_passed place e o port octets h = by_case (unwrap_or (slice_get (ports_of o)
     by_case false h = absurd (no_octets h)
 
 -- A copy that leaves with an entry has the probe of what came, or names the entry, which is a send.
-abbrev Named : Owner → Entry → List Entry → Option Probe → Type 0
+abbrev pub Named : Owner → Entry → List Entry → Option Probe → Type 0
 Named owner x past probe =
     ((port : ℕ) × (copy : Carried) × (x.event ≡ event.Arrive port copy) × (probe ≡ copy.probe))
     ⊎ ((s : Sending) × (probe ≡ Some (record { node = owner.number; place = length past })) × (sent_by owner.place x.event x.outcome ≡ Some s))
 
-pass_named : (owner : Owner) (port : ℕ) (x : Entry) (past : List Entry) (c : Carried) → pass_of owner port x past ≡ Some c → Named owner x past c.probe
+pub pass_named : (owner : Owner) (port : ℕ) (x : Entry) (past : List Entry) (c : Carried) → pass_of owner port x past ≡ Some c → Named owner x past c.probe
 pass_named owner port x past c h = by_octets (copy_octets owner.place x.event x.outcome port) refl h
   where
     here : Probe
@@ -319,7 +319,7 @@ origins_line w l line more within h =
 
 -- ---- an entry is added
 
-all_came : (P : Carried → Type 0) (e : Event) → ((x : ℕ) (copy : Carried) → e ≡ event.Arrive x copy → P copy) → (port : ℕ) → AllByRecursion P (option_to_list (copy_at port e))
+pub all_came : (P : Carried → Type 0) (e : Event) → ((x : ℕ) (copy : Carried) → e ≡ event.Arrive x copy → P copy) → (port : ℕ) → AllByRecursion P (option_to_list (copy_at port e))
 all_came P (event.Send from dst vlan kind payload) f port = tt
 all_came P (event.Supervise about) f port = tt
 all_came P event.Age f port = tt
@@ -390,11 +390,11 @@ origins_own capacity w n e below away h = origins_entered capacity w (planned w 
 
 -- ---- a hand is judged
 
-in_lanes : (P : Carried → Type 0) (lines : List Line) → AllByRecursion (InLine P) lines → AllByRecursion (InLane P) (lanes_of lines)
+pub in_lanes : (P : Carried → Type 0) (lines : List Line) → AllByRecursion (InLine P) lines → AllByRecursion (InLane P) (lanes_of lines)
 in_lanes P [] all = tt
 in_lanes P (line ∷ lines) all = (all.0.forth, (all.0.back, in_lanes P lines all.1))
 
-held_is : (P : Carried → Type 0) (end : End) (lanes : List Lane) (c : Carried) → held_in end lanes ≡ Some c → AllByRecursion (InLane P) lanes → P c
+pub held_is : (P : Carried → Type 0) (end : End) (lanes : List Lane) (c : Carried) → held_in end lanes ≡ Some c → AllByRecursion (InLane P) lanes → P c
 held_is P end [] c h all = absurd (none_some h)
   where
     none_some : None ≡ Some c → ⊥
@@ -405,7 +405,7 @@ held_is P end (lane ∷ lanes) c h all = by_case (is_same_end lane.to end) h (λ
     by_case true h below = (subst (λ (o : Option Carried). AllByRecursion P (option_to_list o)) h all.0.hand).0
     by_case false h below = below h
 
-in_emptied : (P : Carried → Type 0) (end : End) (line : Line) → InLine P line → InLine P (on_lanes (emptied end) line)
+pub in_emptied : (P : Carried → Type 0) (end : End) (line : Line) → InLine P line → InLine P (on_lanes (emptied end) line)
 in_emptied P end line h = record {
   rows = h.rows;
   forth = record { outbox = h.forth.outbox; hand = by_case (is_same_end line.forth.to end) line.forth.hand h.forth.hand };
@@ -504,7 +504,7 @@ met_or : (w : World) (b : Bool) (r : Result World WorldFault) (f : WorldFault) �
 met_or w true r f h met = met refl
 met_or w false r f h met = h
 
-link_below : (a b : ℕ) → nat_lt a b ≡ true → a < b
+pub link_below : (a b : ℕ) → nat_lt a b ≡ true → a < b
 link_below a b h = grind arith
 
 origins_keep : (capacity : ℕ) (w : World) (step : Step) → IsSound capacity w → HaveOrigins w → HaveOrigins (or_same w (tried capacity w step))
@@ -530,7 +530,7 @@ always_origins capacity (step ∷ steps) w s h = always_origins capacity steps (
 
 -- ---- from the first world on
 
-no_copies : (P : Carried → Type 0) (room : ℕ) (links : List (List End)) → AllByRecursion (InLine P) (map (new_line room) links)
+pub no_copies : (P : Carried → Type 0) (room : ℕ) (links : List (List End)) → AllByRecursion (InLine P) (map (new_line room) links)
 no_copies P room [] = tt
 no_copies P room (link ∷ links) = (on_link link, no_copies P room links)
   where

@@ -1,45 +1,39 @@
 -- A world that was reached goes on to be one, and is lawful.
 use Rattle.std.specs.Prelude.{IfErr, OnOk}
 use Rattle.std.proofs.Common.{◌≡◌, ℕ, List, [], ◌∷◌, ◌++◌, Result, Ok, Err, refl, ap, sym, subst, ◌∙◌}
-use Rattle.hsr_audit.specs.Wired.{IsWired}
 use Rattle.hsr_audit.specs.declared.end.End.{End}
 use Rattle.hsr_node.specs.declared.place.Place.{Place}
-use Rattle.hsr_ring.specs.Law.{IsSound}
-use Rattle.hsr_ring.specs.Reached.{IsLawful, IsReached}
+use Rattle.std.specs.List.{All}
+use Rattle.hsr_ring.specs.Fit.{FitsPlace, FitsStep}
+use Rattle.hsr_ring.specs.Reached.{IsReached}
 use Rattle.hsr_ring.specs.World.{World, new_world, or_same, run, tried}
 use Rattle.hsr_ring.specs.declared.step.Step.{Step}
 use Rattle.hsr_ring.specs.declared.step.WorldFault.{WorldFault}
-use Rattle.hsr_ring.proofs.First.{first_sound}
-use Rattle.hsr_ring.proofs.Keeps.{always_sound}
-use Rattle.hsr_ring.proofs.Origin.{always_sent}
+use Rattle.hsr_ring.proofs.FitFrames.{fit_last}
 
 run-last : (capacity : ℕ) (steps : List Step) (w : World) (step : Step)
     → run capacity (steps ++ step ∷ []) w ≡ or_same (run capacity steps w) (tried capacity (run capacity steps w) step)
 run-last capacity [] w step = refl
 run-last capacity (first ∷ steps) w step = run-last capacity steps (or_same w (tried capacity w first)) step
 
-pub reached-new : (capacity room : ℕ) (places : List Place) (links : List (List End)) → IsReached capacity places links (new_world room places links)
-reached-new capacity room places links = record { room = room; steps = []; is = refl }
+pub reached-new : (capacity room : ℕ) (places : List Place) (links : List (List End)) → All FitsPlace places → IsReached capacity places links (new_world room places links)
+reached-new capacity room places links fit = record { room = room; steps = []; is = refl; fit_places = fit; fit_steps = tt }
 
 pub reached-step : (capacity : ℕ) (places : List Place) (links : List (List End)) (w after : World) (step : Step) → tried capacity w step ≡ Ok after
-    → IsReached capacity places links w → IsReached capacity places links after
-reached-step capacity places links w after step done r = record {
+    → FitsStep step → IsReached capacity places links w → IsReached capacity places links after
+reached-step capacity places links w after step done fit r = record {
   room = r.room;
   steps = r.steps ++ step ∷ [];
   is = run-last capacity r.steps (new_world r.room places links) step
       ∙ ap (λ (v : World). or_same v (tried capacity v step)) r.is
       ∙ ap (λ (result : Result World WorldFault). or_same w result) done;
-}
-
-pub lawful : (capacity : ℕ) (places : List Place) (links : List (List End)) (w : World) → IsWired places links → IsReached capacity places links w → IsLawful capacity w
-lawful capacity places links w wired r = record {
-  sound = subst (IsSound capacity) r.is (always_sound capacity r.steps (new_world r.room places links) (first_sound capacity r.room places links wired));
-  sent = always_sent capacity r.room places links r.steps wired w r.is;
+  fit_places = r.fit_places;
+  fit_steps = fit_last r.steps step r.fit_steps fit;
 }
 
 -- a step that was done or refused
 pub reached-or : {U : Type 0} (capacity : ℕ) (places : List Place) (links : List (List End)) (w after : World) (step : Step) (why : WorldFault → Type 0) (result : Result U WorldFault)
     → OnOk result (tried capacity w step ≡ Ok after) → IfErr result (λ f. (after ≡ w) × why f)
-    → IsReached capacity places links w → IsReached capacity places links after
-reached-or capacity places links w after step why (Ok u) done kept r = reached-step capacity places links w after step done r
-reached-or capacity places links w after step why (Err fault) done kept r = subst (IsReached capacity places links) (sym kept.0) r
+    → FitsStep step → IsReached capacity places links w → IsReached capacity places links after
+reached-or capacity places links w after step why (Ok u) done kept fit r = reached-step capacity places links w after step done fit r
+reached-or capacity places links w after step why (Err fault) done kept fit r = subst (IsReached capacity places links) (sym kept.0) r

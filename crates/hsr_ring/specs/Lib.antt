@@ -8,3 +8,7 @@ pub mod Entering
 pub mod Starting
 pub mod Reached
 pub mod Stopping
+pub mod Closing
+pub mod Lawful
+pub mod Fit
+pub mod Fitting

@@ -14,7 +14,11 @@ mod waiting;
 mod way;
 mod world;
 
-pub use law::{always_origins, always_sent, always_sound, first_sound};
+pub use law::{
+    always_closes, always_finishes, always_frames, always_numbered_first, always_of_send,
+    always_origins, always_placed, always_planned, always_sent, always_sound, first_sound,
+    fit_frames, only_quiet_closes, step_placed,
+};
 pub use step::{DrainFault, Step, WorldFault};
 pub use world::World;
 

@@ -2,6 +2,7 @@
 ghost use Rattle.std.specs.Prelude.{◌≡◌, ◌≤◌, ◌<◌, ◌⊎◌, Ok, Err, None, OnOk, IfErr, IfOk, length, reverse};
 ghost use Rattle.hsr_ring.specs.declared.step.WorldFault.TheVariants.{NoMemory as NoRoom};
 
+use crate::law::{places_fit, step_fits};
 use crate::running::Running;
 use crate::step::{DrainFault, Step, WorldFault};
 use hsr_audit::Topology;
@@ -31,7 +32,7 @@ impl<const C: usize> Model for World<C> {
 }
 
 impl<const C: usize> World<C> {
-    ghost use Rattle.hsr_ring.specs.Reached.{IsLawful};
+    ghost use Rattle.hsr_ring.specs.Lawful.{IsLawful};
     ghost use Rattle.hsr_ring.specs.Stopping.{IsDrainFault, Runs, Stops};
     ghost use Rattle.hsr_ring.specs.World.{Drains, line_at, new_world, next_step, owner_at, record_at, tried};
     ghost use Rattle.hsr_node.specs.Record.{counters};
@@ -42,6 +43,7 @@ impl<const C: usize> World<C> {
         requires room { (1 ≤ capacity) × (capacity ≤ 4096) }
         ensures { IfOk result (λ world. world ≡ new_world capacity topology.places topology.links) }
     {
+        places_fit(topology.places());
         let running = Running::new(alloc, &topology, capacity)?;
         Ok(World { topology, running })
     }
@@ -51,6 +53,7 @@ impl<const C: usize> World<C> {
         ensures ok { OnOk result (tried C self.old step.now ≡ Ok self.new) }
         ensures err { IfErr result (λ f. (self.new ≡ self.old) × ((f ≡ NoRoom) ⊎ (tried C self.old step.now ≡ Err f))) }
     {
+        step_fits(step);
         match self.running.step(step) {
             Ok(()) => Ok(()),
             Err(fault) => Err(fault),
@@ -137,8 +140,9 @@ impl<const C: usize> World<C> {
         self.running.rows(link)
     }
 
-    /// Whatever was done: each record is legal, links and records agree, each copy as often, and where nothing was
-    /// injected each copy names a send.
+    /// Whatever was done: each record is legal, links and records agree, each copy as often, and the plan is what the
+    /// records tell of the main worker. Where nothing was injected each copy is of a send, with its frame and its
+    /// number, and a RedBox numbers a frame of its Station before anything tagged of it comes, and once.
     pub fn is_lawful(&self)
         ensures { IsLawful C self.now }
     {

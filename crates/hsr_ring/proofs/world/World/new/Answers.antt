@@ -1,4 +1,7 @@
-use Rattle.std.proofs.Common.{subst, sym}
+use Rattle.std.proofs.Common.{List, subst, sym}
+use Rattle.std.specs.List.{All}
+use Rattle.hsr_node.specs.declared.place.Place.{Place}
+use Rattle.hsr_ring.specs.Fit.{FitsPlace}
 use Rattle.hsr_ring.specs.Reached.{IsReached}
 use Rattle.hsr_ring.specs.World.{World}
 use Rattle.hsr_ring.proofs.Reached.{reached-new}
@@ -6,5 +9,6 @@ use Rattle.hsr_ring.proofs.world.World.new.Goals as goal
 
 pub invariant_of-result : goal.invariant_of-result
 invariant_of-result g c =
+    let fit = subst (λ (places : List Place). All FitsPlace places) c.places.ensures.value c.places_fit.ensures in
     subst (λ (w : World). IsReached g.row.C c.args.topology.places c.args.topology.links w) (sym c.in_ok-running.ensures)
-    (reached-new g.row.C c.args.capacity c.args.topology.places c.args.topology.links)
+    (reached-new g.row.C c.args.capacity c.args.topology.places c.args.topology.links fit)

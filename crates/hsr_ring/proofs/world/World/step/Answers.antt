@@ -8,4 +8,4 @@ use Rattle.hsr_ring.proofs.world.World.step.Goals as goal
 pub invariant_of-self : goal.invariant_of-self
 invariant_of-self g c =
     reached-or g.row.C c.self.inside.topology.places c.self.inside.topology.links c.self.inside.running c.step.new.self c.args.step.now
-    (λ f. (f ≡ NoMemory) ⊎ (tried g.row.C c.self.inside.running c.args.step.now ≡ Err f)) c.step.result c.step.ensures.ok c.step.ensures.err c.self.invariant
+    (λ f. (f ≡ NoMemory) ⊎ (tried g.row.C c.self.inside.running c.args.step.now ≡ Err f)) c.step.result c.step.ensures.ok c.step.ensures.err c.step_fits.ensures c.self.invariant
