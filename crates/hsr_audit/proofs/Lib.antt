@@ -39,3 +39,9 @@ pub mod Worked
 pub mod WorkedBox
 pub mod WorkedRing
 pub mod WorkedLosses
+pub mod Logging
+pub mod Doubting
+pub mod Certifying
+pub mod Judging
+pub mod Premised
+pub mod Clearing

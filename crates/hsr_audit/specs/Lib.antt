@@ -10,3 +10,8 @@ pub mod Once
 pub mod Budget
 pub mod Often
 pub mod Finished
+pub mod Doubts
+pub mod Logged
+pub mod Round
+pub mod Certificate
+pub mod Listed

@@ -1,0 +1,236 @@
+-- What is asked of nodes and links, and of all places of all records, and what it is to be a ring without a doubt.
+use Rattle.std.proofs.Common.{◌≡◌, ℕ, ◌+◌, ◌%◌, ◌<◌, ◌==◌, ◌&&◌, Bool, true, false, List, [], ◌∷◌, length, map, filter_map, take, slice_index_or, refl, sym, ap, ◌∙◌, subst, arith, zero, suc, inl, inr, ⊎_elim, eqb-true, eq-eqb}
+use Rattle.std.specs.List.{list_all}
+use Rattle.std.proofs.lemmas.Bool.{and_from, and_parts, cases_Bool, cases_lt, false≢true, or_cases, or_left, or_right}
+use Rattle.hsr_frame.specs.declared.node.Mode.TheVariants.{H, N}
+use Rattle.hsr_link.specs.declared.row.Dir.TheVariants.{Forth, Back}
+use Rattle.hsr_node.specs.declared.place.Place.{Place}
+use Rattle.hsr_node.specs.declared.place.Place.TheVariants.{Danh, RedBox, QuadBox, Station}
+use Rattle.hsr_audit.specs.Doubts.{AreInModeH, HaveOwnAddresses, IsDanhRing, is_danh, is_in_mode_h, mac_of, macs_of}
+use Rattle.hsr_audit.specs.Links.{is_same_end}
+use Rattle.hsr_audit.specs.Premises.{IsRing, Joins, mac_at}
+use Rattle.hsr_audit.specs.Round.{DifferBelow, IsRound, address_of, is_again, is_joint, is_joint_of}
+use Rattle.hsr_audit.specs.Run.{Run, ends_of, from_end, place_of}
+use Rattle.hsr_audit.specs.declared.end.End.{End}
+use Rattle.std.proofs.lemmas.List.{length-map}
+use Rattle.std.proofs.lemmas.List.Elements.{All-get_or}
+use Rattle.std.specs.Prelude.{slice_index}
+use Rattle.hsr_frame.specs.Address.{IsGroup, is_group, is_same_address}
+use Rattle.hsr_node.specs.Place.{HasOwnAddress}
+use Rattle.hsr_audit.specs.Wired.{IsWired}
+use Rattle.hsr_audit.proofs.Same.{address_same, same_address}
+
+-- ---- lists
+
+all_at : {X : Type 0} (p : X → Bool) (xs : List X) (k : ℕ) (d : X) → list_all p xs ≡ true → k < length xs → p (slice_index_or xs k d) ≡ true
+all_at p [] k d h below = absurd (omega (arith, below))
+all_at p (x ∷ xs) zero d h below = (and_parts (p x) (list_all p xs) h).0
+all_at p (x ∷ xs) (suc k) d h below = all_at p xs k d (and_parts (p x) (list_all p xs) h).1 (omega (arith, below))
+
+at_all : {X : Type 0} (p : X → Bool) (xs : List X) (d : X) → ((k : ℕ) → k < length xs → p (slice_index_or xs k d) ≡ true) → list_all p xs ≡ true
+at_all p [] d h = refl
+at_all p (x ∷ xs) d h = and_from (p x) (list_all p xs) (h zero (omega arith)) (at_all p xs d (λ k below. h (suc k) (omega (arith, below))))
+
+map_at : {X Y : Type 0} (f : X → Y) (xs : List X) (k : ℕ) (d : X) → slice_index_or (map f xs) k (f d) ≡ f (slice_index_or xs k d)
+map_at f [] k d = refl
+map_at f (x ∷ xs) zero d = refl
+map_at f (x ∷ xs) (suc k) d = map_at f xs k d
+
+pub mac_is : (run : Run) (k : ℕ) → mac_at (macs_of run.places) k ≡ mac_of (place_of run k)
+mac_is run k = map_at mac_of run.places k QuadBox
+
+-- ---- nodes
+
+place_is : (place : Place) → is_danh place ≡ true → is_in_mode_h place ≡ true → place ≡ Danh (mac_of place) H
+place_is (Danh mac H) danh h = refl
+place_is (Danh mac N) danh h = absurd (false≢true h)
+place_is (RedBox mac mode) danh h = absurd (false≢true danh)
+place_is QuadBox danh h = absurd (false≢true danh)
+place_is (Station macs) danh h = absurd (false≢true danh)
+
+places_are : (places : List Place) → list_all is_danh places ≡ true → list_all is_in_mode_h places ≡ true → places ≡ map (λ mac. Danh mac H) (macs_of places)
+places_are [] danhs modes = refl
+places_are (p ∷ ps) danhs modes =
+    let danh = and_parts (is_danh p) (list_all is_danh ps) danhs in
+    let mode = and_parts (is_in_mode_h p) (list_all is_in_mode_h ps) modes in
+    ap (λ q. q ∷ ps) (place_is p danh.0 mode.0) ∙ ap (λ qs. Danh (mac_of p) H ∷ qs) (places_are ps danh.1 mode.1)
+
+-- the addresses of DANHs are all their addresses
+pub addresses_are : (places : List Place) → list_all is_danh places ≡ true → filter_map address_of places ≡ macs_of places
+addresses_are [] h = refl
+addresses_are (Danh mac mode ∷ ps) h = ap (λ macs. mac ∷ macs) (addresses_are ps h)
+addresses_are (RedBox mac mode ∷ ps) h = absurd (false≢true h)
+addresses_are (QuadBox ∷ ps) h = absurd (false≢true h)
+addresses_are (Station macs ∷ ps) h = absurd (false≢true h)
+
+-- ---- links
+
+same_end : (a b : End) → is_same_end a b ≡ true → a ≡ b
+same_end a b h = let parts = and_parts (a.node == b.node) (a.port == b.port) h in
+    let node = eqb-true a.node b.node parts.0 in
+    let port = eqb-true a.port b.port parts.1 in
+    λ i. record { node = node i; port = port i }
+
+end_same : (a b : End) → a ≡ b → is_same_end a b ≡ true
+end_same a b e = and_from (a.node == b.node) (a.port == b.port) (eq-eqb a.node b.node (ap (λ (x : End). x.node) e)) (eq-eqb a.port b.port (ap (λ (x : End). x.port) e))
+
+end_at : ℕ → ℕ → End
+end_at node port = record { node = node; port = port }
+
+joins_so : (ends : List End) (k next : ℕ) → is_joint ends k next ≡ true → Joins ends k next
+joins_so ends k next h =
+    ⊎_elim
+    (λ forth. let parts = and_parts _ _ forth in inl (same_end (from_end Forth ends) (record { node = k; port = 1 }) parts.0, same_end (from_end Back ends) (record { node = next; port = 0 }) parts.1))
+    (λ back. let parts = and_parts _ _ back in inr (same_end (from_end Forth ends) (record { node = next; port = 0 }) parts.0, same_end (from_end Back ends) (record { node = k; port = 1 }) parts.1))
+    (or_cases (is_same_end (from_end Forth ends) (record { node = k; port = 1 }) && is_same_end (from_end Back ends) (record { node = next; port = 0 }))
+    (is_same_end (from_end Forth ends) (record { node = next; port = 0 }) && is_same_end (from_end Back ends) (record { node = k; port = 1 })) h)
+
+so_joins : (ends : List End) (k next : ℕ) → Joins ends k next → is_joint ends k next ≡ true
+so_joins ends k next (inl both) = or_left _ _ (and_from _ _ (end_same (from_end Forth ends) (record { node = k; port = 1 }) both.0) (end_same (from_end Back ends) (record { node = next; port = 0 }) both.1))
+so_joins ends k next (inr both) = or_right _ _ (and_from _ _ (end_same (from_end Forth ends) (record { node = next; port = 0 }) both.0) (end_same (from_end Back ends) (record { node = k; port = 1 }) both.1))
+
+-- ---- a ring of DANHs
+
+pub ring_of_round : (run : Run) → IsRound run.places run.links → IsDanhRing run
+unfolding is_joint_of
+ring_of_round run round =
+    let count = round.count in
+    record {
+      two = round.two;
+      count = round.count;
+      danhs = λ k below. all_at is_danh run.places k QuadBox round.danhs below;
+      joined = λ k below.
+          let P : ℕ → Type 0 = λ n. Joins (ends_of run k) k ((k + 1) % n) in
+          subst P round.count (joins_so (ends_of run k) k ((k + 1) % length run.links) (round.joined k [] (omega (arith, below, count))));
+    }
+
+index_any : {X : Type 0} (xs : List X) (k : ℕ) (d e : X) → k < length xs → slice_index_or xs k d ≡ slice_index_or xs k e
+index_any [] k d e below = absurd (omega (arith, below))
+index_any (x ∷ xs) zero d e below = refl
+index_any (x ∷ xs) (suc k) d e below = index_any xs k d e (omega (arith, below))
+
+pub round_of_ring : (run : Run) → IsDanhRing run → IsRound run.places run.links
+unfolding is_joint_of
+round_of_ring run ring =
+    let count = ring.count in
+    record {
+      two = ring.two;
+      count = ring.count;
+      danhs = at_all is_danh run.places QuadBox ring.danhs;
+      joined = λ k d below.
+          let P : ℕ → Type 0 = λ n. Joins (ends_of run k) k ((k + 1) % n) in
+          let here = so_joins (ends_of run k) k ((k + 1) % length run.links) (subst P (sym ring.count) (ring.joined k (omega (arith, below, count)))) in
+          ap (λ ends. is_joint ends k ((k + 1) % length run.links)) (index_any run.links k d [] below) ∙ here;
+    }
+
+pub modes_all : (run : Run) → list_all is_in_mode_h run.places ≡ true → AreInModeH run
+modes_all run h = λ k below. all_at is_in_mode_h run.places k QuadBox h below
+
+pub all_modes : (run : Run) → AreInModeH run → list_all is_in_mode_h run.places ≡ true
+all_modes run h = at_all is_in_mode_h run.places QuadBox h
+
+-- ---- addresses
+
+any_before : (macs : List (List ℕ)) (n j : ℕ) (mac : List ℕ) → j < n → j < length macs → slice_index_or macs j [] ≡ mac → is_again mac (take n macs) ≡ true
+unfolding is_again
+any_before [] n j mac low below e = absurd (omega (arith, below))
+any_before (m ∷ macs) zero j mac low below e = absurd (omega (arith, low))
+any_before (m ∷ macs) (suc n) zero mac low below e = or_left _ _ (address_same m mac e)
+any_before (m ∷ macs) (suc n) (suc j) mac low below e = or_right _ _ (any_before macs n j mac (omega (arith, low)) (omega (arith, below)) e)
+
+before_any : (macs : List (List ℕ)) (n : ℕ) (mac : List ℕ) → is_again mac (take n macs) ≡ true → (j : ℕ) × (j < n) × (j < length macs) × (slice_index_or macs j [] ≡ mac)
+unfolding is_again
+before_any macs zero mac h = absurd (false≢true h)
+before_any [] (suc n) mac h = absurd (false≢true h)
+before_any (m ∷ macs) (suc n) mac h =
+    ⊎_elim (λ here. (zero, omega arith, omega arith, same_address m mac here))
+    (λ later. let at = before_any macs n mac later in let low = at.1 in let below = at.2 in (suc at.0, omega (arith, low), omega (arith, below), at.3))
+    (or_cases (is_same_address m mac) (is_again mac (take n macs)) h)
+
+-- no address stands twice where the nodes' addresses are their own
+pub own_of_differ : (run : Run) → DifferBelow (macs_of run.places) (length (macs_of run.places)) → HaveOwnAddresses run
+own_of_differ run differ i j low high same =
+    ⊎_elim (λ lower. absurd (clash i j lower low high same)) (λ at_least. ⊎_elim (λ lower. absurd (clash j i lower high low (sym same))) (λ at_most. omega (arith, at_least, at_most)) (cases_lt j i)) (cases_lt i j)
+  where
+    clash : (i j : ℕ) → i < j → i < length run.places → j < length run.places → mac_of (place_of run i) ≡ mac_of (place_of run j) → ⊥
+    clash i j lower low high same =
+        let many = length-map run.places mac_of in
+        let e : slice_index_or (macs_of run.places) i [] ≡ slice_index_or (macs_of run.places) j [] = mac_is run i ∙ (same ∙ sym (mac_is run j)) in
+        false≢true (sym (differ j [] (omega (arith, high, many))) ∙ any_before (macs_of run.places) j i (slice_index_or (macs_of run.places) j []) lower (omega (arith, low, many)) e)
+
+pub differ_of_own : (run : Run) → HaveOwnAddresses run → DifferBelow (macs_of run.places) (length (macs_of run.places))
+differ_of_own run own k d below = ⊎_elim (λ again. absurd (clash again)) (λ no. no) (cases_Bool (is_again (slice_index_or (macs_of run.places) k d) (take k (macs_of run.places))))
+  where
+    clash : is_again (slice_index_or (macs_of run.places) k d) (take k (macs_of run.places)) ≡ true → ⊥
+    clash again =
+        let many = length-map run.places mac_of in
+        let at = before_any (macs_of run.places) k (slice_index_or (macs_of run.places) k d) again in
+        let low = at.1 in
+        let under = at.2 in
+        let e : mac_of (place_of run at.0) ≡ mac_of (place_of run k) = sym (mac_is run at.0) ∙ (at.3 ∙ (index_any (macs_of run.places) k d [] below ∙ mac_is run k)) in
+        let same = own at.0 k (omega (arith, under, many)) (omega (arith, below, many)) e in
+        omega (arith, low, same)
+
+-- ---- a ring, and a ring of DANHs in mode H with addresses of their own
+
+no_group : (mac : List ℕ) → ¬ IsGroup mac → is_group mac ≡ false
+no_group mac h = ⊎_elim (λ yes. absurd (h (eqb-true (slice_index mac 0 % 2) 1 yes))) (λ no. no) (cases_Bool (is_group mac))
+
+pub danh_at : (run : Run) → IsDanhRing run → AreInModeH run → (k : ℕ) → k < length run.places → place_of run k ≡ Danh (mac_at (macs_of run.places) k) H
+danh_at run ring modes k below = place_is (place_of run k) (ring.danhs k below) (modes k below) ∙ ap (λ mac. Danh mac H) (sym (mac_is run k))
+
+pub ring_of_own : (run : Run) → IsWired run.places run.links → IsDanhRing run → AreInModeH run → HaveOwnAddresses run → IsRing run (macs_of run.places)
+ring_of_own run wired ring modes own =
+    let many = length-map run.places mac_of in
+    let two = ring.two in
+    record {
+      two = omega (arith, many, two);
+      nodes = places_are run.places (at_all is_danh run.places QuadBox ring.danhs) (all_modes run modes);
+      single = λ k below.
+          let under : k < length run.places = omega (arith, many, below) in
+          no_group (mac_at (macs_of run.places) k)
+          (subst HasOwnAddress (danh_at run ring modes k under) (All-get_or HasOwnAddress run.places k QuadBox under wired.own));
+      differ = λ i j low high same.
+          own i j (omega (arith, many, low)) (omega (arith, many, high)) (sym (mac_is run i) ∙ (same ∙ mac_is run j));
+      count = ring.count ∙ sym many;
+      joined = λ k below.
+          let P : ℕ → Type 0 = λ n. Joins (ends_of run k) k ((k + 1) % n) in
+          subst P (sym many) (ring.joined k (omega (arith, many, below)));
+    }
+
+-- the nodes of a ring
+pub node_is : (run : Run) (macs : List (List ℕ)) → IsRing run macs → (k : ℕ) → k < length run.places → place_of run k ≡ Danh (mac_at macs k) H
+node_is run macs ring k below =
+    let many = ap length ring.nodes ∙ length-map macs (λ mac. Danh mac H) in
+    let under : k < length macs = omega (arith, many, below) in
+    ap (λ places. slice_index_or places k QuadBox) ring.nodes ∙ danh_of macs k under
+  where
+    danh_of : (macs : List (List ℕ)) (k : ℕ) → k < length macs → slice_index_or (map (λ mac. Danh mac H) macs) k QuadBox ≡ Danh (slice_index_or macs k []) H
+    danh_of [] k below = absurd (omega (arith, below))
+    danh_of (mac ∷ macs) zero below = refl
+    danh_of (mac ∷ macs) (suc k) below = danh_of macs k (omega (arith, below))
+
+ring_many : (run : Run) (macs : List (List ℕ)) → IsRing run macs → length run.places ≡ length macs
+ring_many run macs ring = ap length ring.nodes ∙ length-map macs (λ mac. Danh mac H)
+
+pub danhs_of_ring : (run : Run) (macs : List (List ℕ)) → IsRing run macs → IsDanhRing run
+danhs_of_ring run macs ring =
+    let many = ring_many run macs ring in
+    let two = ring.two in
+    record {
+      two = omega (arith, many, two);
+      count = ring.count ∙ sym many;
+      danhs = λ k below. ap is_danh (node_is run macs ring k below);
+      joined = λ k below.
+          let P : ℕ → Type 0 = λ n. Joins (ends_of run k) k ((k + 1) % n) in
+          subst P (sym many) (ring.joined k (omega (arith, many, below)));
+    }
+
+pub modes_of_ring : (run : Run) (macs : List (List ℕ)) → IsRing run macs → AreInModeH run
+modes_of_ring run macs ring = λ k below. ap is_in_mode_h (node_is run macs ring k below)
+
+pub own_of_ring : (run : Run) (macs : List (List ℕ)) → IsRing run macs → HaveOwnAddresses run
+own_of_ring run macs ring = λ i j low high same.
+    let many = ring_many run macs ring in
+    ring.differ i j (omega (arith, many, low)) (omega (arith, many, high))
+    (sym (ap mac_of (node_is run macs ring i low)) ∙ (same ∙ ap mac_of (node_is run macs ring j high)))

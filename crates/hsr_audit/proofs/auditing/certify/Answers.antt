@@ -1,0 +1,15 @@
+use Rattle.std.proofs.Common.{rules, ◌≡◌, length}
+use Rattle.hsr_audit.specs.Listed.{listed_below}
+use Rattle.hsr_audit.specs.Round.{IsClear}
+use Rattle.hsr_audit.specs.Run.{Run}
+use Rattle.hsr_audit.proofs.Clearing.{certified_is}
+use Rattle.hsr_audit.proofs.auditing.certify.Goals as goal
+
+pub returns-in-Ok-clause-certified : goal.returns-in-Ok-clause-certified
+returns-in-Ok-clause-certified g c =
+    let run : Run = c.args.closed.now.run in
+    let macs = c.in_ok-macs.macs.items in
+    let clear : IsClear run macs = search rules in
+    let listed : c.in-Ok.sends.items ≡ listed_below run macs (length macs) = search rules in
+    let finished = c.clear_macs.ensures.finished in
+    certified_is run macs c.in-Ok.sends.items (finished.wired, finished.closed) c.exactly_once.ensures clear listed

@@ -1,0 +1,113 @@
+-- Why a run can't be certified: the doubts in their order, and which is the first.
+--     IsPremised      a ring, and all that exactly once rests on
+--     IsFirstDoubt    the doubt holds, and none before it
+use Rattle.std.specs.Prelude.{ℕ, ◌+◌, ◌%◌, ◌<◌, ◌≤◌, ◌≡◌, Bool, true, false, List, [], ◌∷◌, length, map, reverse, take, slice_index_or}
+use Rattle.hsr_frame.specs.declared.node.Mode.{Mode}
+use Rattle.hsr_frame.specs.declared.node.Mode.TheVariants.{H, N}
+use Rattle.hsr_node.specs.Record.{now}
+use Rattle.hsr_node.specs.declared.entry.Entry.{Entry}
+use Rattle.hsr_node.specs.declared.place.Place.{Place}
+use Rattle.hsr_node.specs.declared.place.Place.TheVariants.{Danh, RedBox, QuadBox, Station}
+use Rattle.hsr_audit.specs.Premises.{IsRing, Joins, KnowsOwn, NothingForgotten, NothingMistaken, OneLossyLink, Remembers}
+use Rattle.hsr_audit.specs.Run.{Run, ends_of, owner_of, place_of, record_of}
+use Rattle.hsr_audit.specs.declared.doubt.AuditFault.{AuditFault}
+use Rattle.hsr_audit.specs.declared.doubt.AuditFault.TheVariants.{Doubt, NoMemory}
+use Rattle.hsr_audit.specs.declared.doubt.Doubt as doubts
+use Rattle.hsr_audit.specs.declared.doubt.Doubt.TheVariants as doubt
+
+-- ---- the ring
+
+abbrev pub is_danh : Place → Bool
+is_danh (Danh mac mode) = true
+is_danh (RedBox mac mode) = false
+is_danh QuadBox = false
+is_danh (Station macs) = false
+
+abbrev pub is_h : Mode → Bool
+is_h H = true
+is_h N = false
+
+abbrev pub is_in_mode_h : Place → Bool
+is_in_mode_h (Danh mac mode) = is_h mode
+is_in_mode_h (RedBox mac mode) = is_h mode
+is_in_mode_h QuadBox = false
+is_in_mode_h (Station macs) = false
+
+-- the address of a DANH
+abbrev pub mac_of : Place → List ℕ
+mac_of (Danh mac mode) = mac
+mac_of (RedBox mac mode) = []
+mac_of QuadBox = []
+mac_of (Station macs) = []
+
+-- the addresses round a ring of DANHs
+abbrev pub macs_of : List Place → List (List ℕ)
+macs_of places = map mac_of places
+
+-- There are two DANHs or more, and as many links: each joins B of its node with A of the next one round the ring.
+pub record IsDanhRing (run : Run) : Type 0 where
+  pub two : 2 ≤ length run.places
+  pub count : length run.links ≡ length run.places
+  pub danhs : (k : ℕ) → k < length run.places → is_danh (place_of run k) ≡ true
+  pub joined : (k : ℕ) → k < length run.places → Joins (ends_of run k) k ((k + 1) % length run.places)
+
+abbrev pub AreInModeH : Run → Type 0
+AreInModeH run = (k : ℕ) → k < length run.places → is_in_mode_h (place_of run k) ≡ true
+
+-- no two nodes have one address
+abbrev pub HaveOwnAddresses : Run → Type 0
+HaveOwnAddresses run = (i j : ℕ) → i < length run.places → j < length run.places → mac_of (place_of run i) ≡ mac_of (place_of run j) → i ≡ j
+
+-- ---- entries
+
+-- P of the entry at a place of a record, and of its past
+abbrev pub HoldsAt : (Entry → List Entry → Type 0) → List Entry → ℕ → Type 0
+HoldsAt P xs i = (d : Entry) → P (slice_index_or xs i d) (reverse (take i xs))
+
+-- nothing that the arrival at a place of a node's record needs is forgotten
+abbrev pub RemembersAt : Run → ℕ → ℕ → Type 0
+RemembersAt run k = HoldsAt (λ x past. Remembers run.capacity (owner_of run k) past (now (x ∷ past)) x.event) (record_of run k)
+
+-- nothing that the arrival at a place of a node's record finds is mistaken
+abbrev pub KnowsOwnAt : Run → ℕ → ℕ → Type 0
+KnowsOwnAt run k = HoldsAt (λ x past. KnowsOwn run.capacity (owner_of run k) past (now (x ∷ past)) x.event) (record_of run k)
+
+-- of all places of all records the first where P fails: the lowest node, and its lowest place
+pub record IsFirstNot (run : Run) (P : ℕ → ℕ → Type 0) (k i : ℕ) : Type 0 where
+  pub node : k < length run.places
+  pub place : i < length (record_of run k)
+  pub fails : ¬ P k i
+  pub before : (j : ℕ) → j < i → P k j
+  pub nodes : (l j : ℕ) → l < k → j < length (record_of run l) → P l j
+
+-- ---- doubts
+
+-- the doubt holds, and none of those before it
+abbrev pub IsFirstDoubt : Run → doubts.Doubt → Type 0
+IsFirstDoubt run doubt.NotRing = ¬ IsDanhRing run
+IsFirstDoubt run doubt.Mode = IsDanhRing run × ¬ AreInModeH run
+IsFirstDoubt run doubt.SameAddress = IsDanhRing run × AreInModeH run × ¬ HaveOwnAddresses run
+IsFirstDoubt run doubt.TwoLinks = IsDanhRing run × AreInModeH run × HaveOwnAddresses run × ¬ OneLossyLink run
+IsFirstDoubt run (doubt.Forgot k i) =
+    IsDanhRing run × AreInModeH run × HaveOwnAddresses run × OneLossyLink run × IsFirstNot run (RemembersAt run) k i
+IsFirstDoubt run (doubt.Mistaken k i) =
+    IsDanhRing run × AreInModeH run × HaveOwnAddresses run × OneLossyLink run × NothingForgotten run × IsFirstNot run (KnowsOwnAt run) k i
+
+-- a ring, with losses on one link alone, nothing forgotten and nothing mistaken
+pub record IsPremised (run : Run) (macs : List (List ℕ)) : Type 0 where
+  pub ring : IsRing run macs
+  pub losses : OneLossyLink run
+  pub forgotten : NothingForgotten run
+  pub mistaken : NothingMistaken run
+
+-- ---- answers
+
+-- a doubt is the first one; no memory says nothing of the run
+abbrev pub IsFirstFault : Run → AuditFault → Type 0
+IsFirstFault run (Doubt d) = IsFirstDoubt run d
+IsFirstFault run NoMemory = Unit {0}
+
+-- where there is a doubt, the run isn't that of a ring with all that exactly once rests on
+abbrev pub IsRefused : Run → AuditFault → Type 0
+IsRefused run (Doubt d) = ¬ ((macs : List (List ℕ)) × IsPremised run macs)
+IsRefused run NoMemory = Unit {0}

@@ -1,0 +1,79 @@
+-- What the audit asks of nodes and links, as tests of lists.
+use Rattle.std.specs.Prelude.{ℕ, ◌+◌, ◌%◌, ◌<◌, ◌≤◌, ◌≡◌, ◌&&◌, ◌||◌, Bool, true, false, List, length, take, slice_index_or, Option, Some, None}
+use Rattle.std.specs.List.{list_all, list_any}
+use Rattle.hsr_frame.specs.Address.{is_same_address}
+use Rattle.hsr_link.specs.declared.row.Dir.TheVariants.{Forth, Back}
+use Rattle.hsr_node.specs.declared.place.Place.{Place}
+use Rattle.hsr_node.specs.declared.place.Place.TheVariants.{Danh, RedBox, QuadBox, Station}
+use Rattle.hsr_audit.specs.Doubts.{AreInModeH, HaveOwnAddresses, IsDanhRing, is_danh, macs_of}
+use Rattle.hsr_audit.specs.Links.{is_same_end}
+use Rattle.hsr_audit.specs.Premises.{NothingForgotten, NothingMistaken, OneLossyLink, any_lost}
+use Rattle.hsr_audit.specs.Run.{Run, from_end, rows_of}
+use Rattle.hsr_audit.specs.declared.end.End.{End}
+
+-- ---- nodes and links
+
+-- a link joins B of a node with A of the next
+abbrev pub is_joint : List End → ℕ → ℕ → Bool
+is_joint ends k next =
+    (is_same_end (from_end Forth ends) (record { node = k; port = 1 }) && is_same_end (from_end Back ends) (record { node = next; port = 0 }))
+    || (is_same_end (from_end Forth ends) (record { node = next; port = 0 }) && is_same_end (from_end Back ends) (record { node = k; port = 1 }))
+
+-- link k of n round a ring
+unfoldable pub is_joint_of : List End → ℕ → ℕ → Bool
+is_joint_of ends k n = is_joint ends k ((k + 1) % n)
+
+abbrev pub JoinedBelow : List (List End) → ℕ → Type 0
+JoinedBelow links n = (k : ℕ) (d : List End) → k < n → is_joint_of (slice_index_or links k d) k (length links) ≡ true
+
+pub record IsRound (places : List Place) (links : List (List End)) : Type 0 where
+  pub two : 2 ≤ length places
+  pub count : length links ≡ length places
+  pub danhs : list_all is_danh places ≡ true
+  pub joined : JoinedBelow links (length links)
+
+-- ---- addresses
+
+-- the address of a DANH
+abbrev pub address_of : Place → Option (List ℕ)
+address_of (Danh mac mode) = Some mac
+address_of (RedBox mac mode) = None
+address_of QuadBox = None
+address_of (Station macs) = None
+
+-- an address stands among those before it
+unfoldable pub is_again : List ℕ → List (List ℕ) → Bool
+is_again mac before = list_any (λ other. is_same_address other mac) before
+
+abbrev pub DifferBelow : List (List ℕ) → ℕ → Type 0
+DifferBelow macs n = (k : ℕ) (d : List ℕ) → k < n → is_again (slice_index_or macs k d) (take k macs) ≡ false
+
+-- ---- losses
+
+abbrev pub loses : Run → ℕ → Bool
+loses run l = any_lost (rows_of run l)
+
+abbrev pub NoLossBelow : Run → ℕ → Type 0
+NoLossBelow run n = (l : ℕ) → l < n → loses run l ≡ false
+
+-- of the links below n this one alone lost copies
+pub record IsOnlyLoss (run : Run) (n l : ℕ) : Type 0 where
+  pub below : l < n
+  pub here : loses run l ≡ true
+  pub only : (j : ℕ) → j < n → loses run j ≡ true → j ≡ l
+
+-- ---- what is found out in turn
+
+-- what is known of a ring whose addresses these are
+pub record IsOwnRing (run : Run) (macs : List (List ℕ)) : Type 0 where
+  pub ring : IsDanhRing run
+  pub modes : AreInModeH run
+  pub own : HaveOwnAddresses run
+  pub macs_is : macs ≡ macs_of run.places
+
+-- what is known of a run without a doubt
+pub record IsClear (run : Run) (macs : List (List ℕ)) : Type 0 where
+  pub ring : IsOwnRing run macs
+  pub losses : OneLossyLink run
+  pub forgotten : NothingForgotten run
+  pub mistaken : NothingMistaken run

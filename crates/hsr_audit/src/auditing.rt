@@ -1,0 +1,98 @@
+//! The audit of a finished run.
+ghost use Rattle.std.specs.Prelude.{◌≡◌, length, IfErr, IfOk};
+ghost use Rattle.hsr_audit.specs.Certificate.{IsCertified};
+ghost use Rattle.hsr_audit.specs.Doubts.{IsFirstFault, IsRefused};
+ghost use Rattle.hsr_audit.specs.Finished.{IsFinished};
+ghost use Rattle.hsr_audit.specs.Listed.{listed_below};
+ghost use Rattle.hsr_audit.specs.Round.{IsClear, IsOwnRing};
+
+use crate::certificate::{Certificate, Certified, list_record};
+use crate::closed::Closed;
+use crate::doubt::{AuditFault, Doubt};
+use crate::doubted::record_doubt;
+use crate::law::exactly_once;
+use crate::round::{addresses, are_different, are_in_mode_h, is_round, loses_on_one};
+use hsr_frame::{Mac, NoMemory};
+use std::alloc::Global;
+
+/// The addresses round the ring, or the first doubt that the nodes and links give.
+fn ring_macs<const C: usize>(alloc: Global, closed: &Closed<C>) -> Result<Vec<Mac>, AuditFault>
+    ensures capacity { closed.now.run.capacity ≡ C }
+    ensures finished { IsFinished closed.now }
+    ensures ring { IfOk result (λ macs. IsOwnRing closed.now.run macs.items) }
+    ensures fault { IfErr result (IsFirstFault closed.now.run) }
+{
+    let topology = closed.topology();
+    if !is_round(topology.places(), topology.links()) {
+        return Err(AuditFault::Doubt(Doubt::NotRing));
+    }
+    if !are_in_mode_h(topology.places()) {
+        return Err(AuditFault::Doubt(Doubt::Mode));
+    }
+    let Ok(macs) = addresses(alloc, topology.places()) else {
+        return Err(AuditFault::NoMemory);
+    };
+    if !are_different(&macs) {
+        return Err(AuditFault::Doubt(Doubt::SameAddress));
+    }
+    Ok(macs)
+}
+
+/// The addresses round the ring of a run without a doubt, or the first doubt.
+fn clear_macs<const C: usize>(alloc: Global, closed: &Closed<C>) -> Result<Vec<Mac>, AuditFault>
+    ensures finished { IsFinished closed.now }
+    ensures clear { IfOk result (λ macs. IsClear closed.now.run macs.items) }
+    ensures fault { IfErr result (IsFirstFault closed.now.run) }
+{
+    let macs = ring_macs(alloc, closed)?;
+    if !loses_on_one(closed) {
+        return Err(AuditFault::Doubt(Doubt::TwoLinks));
+    }
+    match record_doubt(alloc, closed, &macs) {
+        Ok(None) => Ok(macs),
+        Ok(Some(doubt)) => Err(AuditFault::Doubt(doubt)),
+        Err(_) => Err(AuditFault::NoMemory),
+    }
+}
+
+/// The sends of a ring of DANHs with these addresses, and the nodes that each is for.
+#[tactic(auto, using(crate::proofs::Certifying::listed_below_more, crate::proofs::Certifying::listed_whole))]
+fn list_sends<const C: usize>(
+    alloc: Global,
+    closed: &Closed<C>,
+    macs: &[Mac],
+) -> Result<Vec<Certified>, NoMemory>
+    requires { length macs.now ≡ length closed.now.run.places }
+    ensures { IfOk result (λ sends. sends.items ≡ listed_below closed.now.run macs.now (length macs.now)) }
+{
+    let mut sends = Vec::new(alloc);
+    for (node, mac) in macs.iter().enumerate() {
+        list_record(alloc, &mut sends, macs, node, *mac, closed.entries(node))?;
+    }
+    Ok(sends)
+}
+
+/// The certificate of a run, or the first doubt.
+fn certify<const C: usize>(alloc: Global, closed: &Closed<C>) -> Result<Certificate, AuditFault>
+    ensures certified { IfOk result (λ c. IsCertified closed.now.run c.sends.items) }
+    ensures fault { IfErr result (IsFirstFault closed.now.run) }
+{
+    let macs = clear_macs(alloc, closed)?;
+    exactly_once();
+    match list_sends(alloc, closed, &macs) {
+        Ok(sends) => Ok(Certificate { sends }),
+        Err(_) => Err(AuditFault::NoMemory),
+    }
+}
+
+/// The certificate of a finished run: each of its sends, with the nodes that it is for, each of which took its frame up
+/// just once (IEC 62439-3 clause 5.3). There is one exactly where the nodes and links are a ring of DANHs in mode H with
+/// addresses of their own, copies were lost on one link alone, and nothing was forgotten that was needed and nothing
+/// mistaken; else the first doubt is named. `NoMemory` where room is refused.
+pub fn audit<const C: usize>(alloc: Global, closed: &Closed<C>) -> Result<Certificate, AuditFault>
+    ensures certified { IfOk result (λ c. IsCertified closed.now.run c.sends.items) }
+    ensures first { IfErr result (IsFirstFault closed.now.run) }
+    ensures refused { IfErr result (IsRefused closed.now.run) }
+{
+    certify(alloc, closed)
+}

@@ -1,0 +1,159 @@
+//! Whether nodes and links are a ring, and whether copies were lost on one link alone.
+ghost use Rattle.std.specs.Prelude.{◌≡◌, ◌↔◌, ◌<◌, [], ◌++◌, filter_map, length, IfOk, IsTrue, OnOk};
+ghost use Rattle.std.specs.List.{cons_option, list_all};
+ghost use Rattle.hsr_link.specs.Rows.{is_lost};
+ghost use Rattle.hsr_audit.specs.Doubts.{is_danh, is_in_mode_h};
+ghost use Rattle.hsr_audit.specs.Premises.{OneLossyLink, any_lost};
+ghost use Rattle.hsr_audit.specs.Round.{DifferBelow, IsRound, JoinedBelow, address_of, is_again, is_joint, is_joint_of};
+
+use crate::closed::Closed;
+use crate::end::{End, is_same_end};
+use hsr_frame::{Mac, Mode, NoMemory};
+use hsr_link::{Fate, Row};
+use hsr_node::Place;
+use std::alloc::Global;
+
+fn is_danh(place: &Place) -> bool
+    ensures { result ≡ is_danh place.now }
+{
+    matches!(place, Place::Danh { .. })
+}
+
+fn is_in_mode_h(place: &Place) -> bool
+    ensures { result ≡ is_in_mode_h place.now }
+{
+    match place {
+        Place::Danh { mode, .. } | Place::RedBox { mode, .. } => *mode == Mode::H,
+        Place::QuadBox | Place::Station { .. } => false,
+    }
+}
+
+fn are_danhs(places: &[Place]) -> bool
+    ensures { result ≡ list_all is_danh places.now }
+{
+    places.iter().all(|place| is_danh(place))
+}
+
+/// Whether all nodes are in mode H.
+pub(crate) fn are_in_mode_h(places: &[Place]) -> bool
+    ensures { result ≡ list_all is_in_mode_h places.now }
+{
+    places.iter().all(|place| is_in_mode_h(place))
+}
+
+/// Whether a link joins B of a node with A of the next.
+fn is_joint(link: [End; 2], node: usize, next: usize) -> bool
+    ensures { result ≡ is_joint link node next }
+{
+    let [a, b] = link;
+    let (out, into) = (
+        End { node, port: 1 },
+        End {
+            node: next,
+            port: 0,
+        },
+    );
+    (is_same_end(a, out) && is_same_end(b, into)) || (is_same_end(a, into) && is_same_end(b, out))
+}
+
+/// Whether a link is the one of its number round a ring of so many.
+#[tactic(auto, unfolding(crate::specs::Round::is_joint_of))]
+fn is_joint_of(link: [End; 2], number: usize, count: usize) -> bool
+    requires { number < count }
+    ensures { result ≡ is_joint_of link number count }
+{
+    is_joint(link, number, (number + 1) % count)
+}
+
+fn are_joined(links: &[[End; 2]]) -> bool
+    ensures { IsTrue result ↔ JoinedBelow links.now (length links.now) }
+{
+    for (k, link) in links.iter().enumerate() {
+        if !is_joint_of(*link, k, links.len()) {
+            return false;
+        }
+    }
+    true
+}
+
+/// Whether these are two DANHs or more and as many links, each of which joins B of its node with A of the next one.
+pub(crate) fn is_round(places: &[Place], links: &[[End; 2]]) -> bool
+    ensures { IsTrue result ↔ IsRound places.now links.now }
+{
+    places.len() >= 2 && links.len() == places.len() && are_danhs(places) && are_joined(links)
+}
+
+/// Adds the address of a DANH to others.
+fn push_address(macs: &mut Vec<Mac>, place: &Place) -> Result<(), NoMemory>
+    ensures { OnOk result (macs.new.items ≡ macs.old.items ++ cons_option (address_of place.now) []) }
+{
+    if let Place::Danh { mac, .. } = place {
+        if macs.push(*mac).is_err() {
+            return Err(NoMemory);
+        }
+    }
+    Ok(())
+}
+
+/// The addresses of DANHs.
+#[tactic(auto, using(crate::proofs::Logging::append_option))]
+pub(crate) fn addresses(alloc: Global, places: &[Place]) -> Result<Vec<Mac>, NoMemory>
+    ensures { IfOk result (λ macs. macs.items ≡ filter_map address_of places.now) }
+{
+    let mut macs = Vec::new(alloc);
+    for place in places {
+        push_address(&mut macs, place)?;
+    }
+    Ok(macs)
+}
+
+/// Whether an address stands among those before it.
+#[tactic(auto, unfolding(crate::specs::Round::is_again))]
+fn is_again(mac: Mac, before: &[Mac]) -> bool
+    ensures { result ≡ is_again mac before.now }
+{
+    before.iter().any(|other| *other == mac)
+}
+
+/// Whether no address stands twice.
+pub(crate) fn are_different(macs: &[Mac]) -> bool
+    ensures { IsTrue result ↔ DifferBelow macs.now (length macs.now) }
+{
+    for (k, mac) in macs.iter().enumerate() {
+        if is_again(*mac, &macs[..k]) {
+            return false;
+        }
+    }
+    true
+}
+
+fn is_lost(fate: Fate) -> bool
+    ensures { result ≡ is_lost fate }
+{
+    match fate {
+        Fate::Queued | Fate::Taken => false,
+        Fate::LostDown | Fate::LostCut | Fate::LostOverrun => true,
+    }
+}
+
+fn any_lost(rows: &[Row]) -> bool
+    ensures { result ≡ any_lost rows.now }
+{
+    rows.iter().any(|row| is_lost(row.fate))
+}
+
+/// Whether all copies that were lost were lost on one link.
+pub(crate) fn loses_on_one<const C: usize>(closed: &Closed<C>) -> bool
+    ensures { IsTrue result ↔ OneLossyLink closed.now.run }
+{
+    let mut lossy: Option<usize> = None;
+    for l in 0..closed.topology().links().len() {
+        if any_lost(closed.rows(l)) {
+            if lossy.is_some() {
+                return false;
+            }
+            lossy = Some(l);
+        }
+    }
+    true
+}
