@@ -1,8 +1,9 @@
 -- What waits in a direction: after one row more, and after the first row that waits was turned.
-use Rattle.std.proofs.Common.{◌≡◌, ℕ, zero, suc, ◌+◌, ◌<◌, ◌≤◌, true, false, cond, ◌&&◌, List, [], ◌∷◌, ◌++◌, length, drop, refl, ap, Option, Some, None, option_map, arith, slice_set, slice_index_or}
-use Rattle.std.specs.Prelude.{slice_get}
+use Rattle.std.proofs.Common.{◌≡◌, ℕ, zero, suc, ◌+◌, ◌<◌, ◌≤◌, true, false, cond, ◌&&◌, List, [], ◌∷◌, ◌++◌, length, drop, refl, ap, ◌∙◌, Bool, Option, Some, None, option_map, arith, slice_set, slice_index_or}
+use Rattle.std.specs.Prelude.{is_some, slice_get}
 use Rattle.std.specs.List.{count_by}
 use Rattle.std.proofs.lemmas.Grind.{common_steps}
+use Rattle.circular_buffer.specs.Buffer.{Buffer, buffer}
 use Rattle.hsr_link.specs.Queue.{waiting}
 use Rattle.hsr_link.specs.Rows.{first_copy, goes, is_queued, is_same_dir, turned, waits, with_fate}
 use Rattle.hsr_link.specs.declared.queue.Waiting.{Waiting}
@@ -53,6 +54,17 @@ copy_of_first dir first [] = refl
 copy_of_first dir first (x ∷ rows) =
     let rest = copy_of_first dir (first + 1) rows in
     grind (arith, common_steps)
+
+-- one is there where a row waits
+pub first_waits : (dir : Dir) (first : ℕ) (rows : List Row) → is_some (slice_get (waiting dir first rows) 0) ≡ is_some (first_copy dir rows)
+first_waits dir first [] = refl
+first_waits dir first (x ∷ rows) =
+    let rest = first_waits dir (first + 1) rows in
+    grind (arith, common_steps)
+
+pub waits_at_front : (dir : Dir) (rows : List Row) (queue : Buffer Waiting) (capacity : ℕ) (front : Bool) → front ≡ is_some (slice_get queue.items 0) → queue ≡ buffer (waiting dir 0 rows) capacity → front ≡ is_some (first_copy dir rows)
+waits_at_front dir rows queue capacity front is holds =
+    is ∙ ap (λ (queue : Buffer Waiting). is_some (slice_get queue.items 0)) holds ∙ first_waits dir 0 rows
 
 -- in what waits, as a queue that is at hand
 pub copy_at_front : (dir : Dir) (rows : List Row) (queue : List Waiting) (spot : Option Waiting) → queue ≡ waiting dir 0 rows → spot ≡ slice_get queue 0 → option_map (λ (w : Waiting). w.carried) spot ≡ first_copy dir rows

@@ -1,8 +1,8 @@
 //! A link: two queues, and a row for each copy that was put on them.
-ghost use Rattle.std.specs.Prelude.{◌≡◌, ◌≤◌, IfOk, IfErr};
+ghost use Rattle.std.specs.Prelude.{◌≡◌, ◌≤◌, IfOk, IfErr, is_some};
 ghost use Rattle.hsr_link.specs.Calls.{TakesInOrder};
 
-use crate::queue::{Waiting, enter, lose_both, put_fate, turn_first};
+use crate::queue::{Waiting, enter, has_first, lose_both, put_fate, turn_first};
 use crate::row::{Dir, Fate, Row};
 use circular_buffer::HeapCircularBuffer;
 use hsr_frame::NoMemory;
@@ -35,6 +35,7 @@ impl Model for Link {
 
 impl Link {
     ghost use Rattle.hsr_link.specs.Link.{new_link, put_step, inject_step, add_step, take_step, cut_step, mended};
+    ghost use Rattle.hsr_link.specs.Rows.{first_copy};
 
     /// A link that is not cut, on which `capacity` copies may wait in each direction; `NoMemory` where room for them
     /// is refused.
@@ -110,6 +111,16 @@ impl Link {
         match dir {
             Dir::Forth => turn_first(&mut self.forth, self.rows.as_mut_slice(), dir, Fate::Taken),
             Dir::Back => turn_first(&mut self.back, self.rows.as_mut_slice(), dir, Fate::Taken),
+        }
+    }
+
+    /// Whether a copy waits in a direction: whether `take` would give one. It asks the queue, however many rows there are.
+    pub fn waits(&self, dir: Dir) -> bool
+        ensures { result ≡ is_some (first_copy dir self.now.rows) }
+    {
+        match dir {
+            Dir::Forth => has_first(&self.forth),
+            Dir::Back => has_first(&self.back),
         }
     }
 

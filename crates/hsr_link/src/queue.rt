@@ -1,5 +1,5 @@
 //! The copies that wait in one direction of a link, each beside the place of its row.
-ghost use Rattle.std.specs.Prelude.{◌≡◌, ◌<◌, true, false, [], ◌∷◌, ◌++◌, length, map, OnOk, OnErr, IfOk, IfErr};
+ghost use Rattle.std.specs.Prelude.{◌≡◌, ◌<◌, true, false, [], ◌∷◌, ◌++◌, length, map, is_some, slice_get, OnOk, OnErr, IfOk, IfErr};
 ghost use Rattle.std.specs.List.{count_by};
 ghost use Rattle.circular_buffer.specs.Buffer.{buffer};
 ghost use Rattle.hsr_link.specs.Rows.{first_copy, is_queued, lost, lost_of, put_fate, turned};
@@ -73,6 +73,13 @@ pub(crate) fn enter(
         unreachable!()
     };
     Ok(fate)
+}
+
+/// Whether a copy waits.
+pub(crate) fn has_first(queue: &HeapCircularBuffer<Waiting>) -> bool
+    ensures { result ≡ is_some (slice_get queue.now.items 0) }
+{
+    !queue.is_empty()
 }
 
 /// Gives the first copy that waits, and turns its row to another fate.

@@ -10,6 +10,7 @@ pub mod Entered
 pub mod Started
 pub mod Reached
 pub mod Lawful
+pub mod Ports
 pub mod Ends
 pub mod Stopped
 pub mod Spelled

@@ -1,6 +1,5 @@
 -- A world that was reached goes on to be one, and is lawful.
-use Rattle.std.specs.Prelude.{IfErr, OnOk}
-use Rattle.std.proofs.Common.{◌≡◌, ℕ, List, [], ◌∷◌, ◌++◌, Result, Ok, Err, refl, ap, sym, subst, ◌∙◌}
+use Rattle.std.proofs.Common.{◌≡◌, ℕ, List, [], ◌∷◌, ◌++◌, Result, Ok, refl, ap, ◌∙◌}
 use Rattle.hsr_audit.specs.declared.end.End.{End}
 use Rattle.hsr_node.specs.declared.place.Place.{Place}
 use Rattle.std.specs.List.{All}
@@ -30,10 +29,3 @@ reached-step capacity places links w after step done fit r = record {
   fit_places = r.fit_places;
   fit_steps = fit_last r.steps step r.fit_steps fit;
 }
-
--- a step that was done or refused
-pub reached-or : {U : Type 0} (capacity : ℕ) (places : List Place) (links : List (List End)) (w after : World) (step : Step) (why : WorldFault → Type 0) (result : Result U WorldFault)
-    → OnOk result (tried capacity w step ≡ Ok after) → IfErr result (λ f. (after ≡ w) × why f)
-    → FitsStep step → IsReached capacity places links w → IsReached capacity places links after
-reached-or capacity places links w after step why (Ok u) done kept fit r = reached-step capacity places links w after step done fit r
-reached-or capacity places links w after step why (Err fault) done kept fit r = subst (IsReached capacity places links) (sym kept.0) r

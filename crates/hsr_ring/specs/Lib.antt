@@ -12,3 +12,4 @@ pub mod Closing
 pub mod Lawful
 pub mod Fit
 pub mod Fitting
+pub mod Ports

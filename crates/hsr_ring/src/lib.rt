@@ -6,6 +6,7 @@ mod giving;
 mod hand;
 mod law;
 mod line;
+mod port;
 mod running;
 mod spot;
 mod starting;
@@ -22,5 +23,7 @@ pub use law::{
 pub use step::{DrainFault, Step, WorldFault};
 pub use world::World;
 
+#[cfg(test)]
+mod rows;
 #[cfg(test)]
 mod tests;

@@ -8,10 +8,11 @@ ghost use Rattle.hsr_ring.specs.World.{port_worker};
 use crate::entering::enter;
 use crate::hand::{clear, held};
 use crate::line::{Line, cut_at, inject_at, mend_at, take_at};
+use crate::port::{Port, new_ports};
 use crate::spot::put_at_end;
 use crate::starting::{new_lines, new_nodes};
 use crate::step::{Step, WorldFault};
-use crate::waiting::{held_end, next_take, waiting_end};
+use crate::waiting::next_step;
 use hsr_audit::{End, Planned, Topology, ports};
 use hsr_frame::{Counters, Mac};
 use hsr_link::{Dir, Row};
@@ -361,6 +362,7 @@ impl<const C: usize> Running<C> {
 
 impl<const C: usize> Running<C> {
     ghost use Rattle.hsr_node.specs.Record.{counters};
+    ghost use Rattle.hsr_ring.specs.Ports.{ports_in};
     ghost use Rattle.hsr_ring.specs.World.{line_at, next_step, owner_at, record_at};
 
     /// How many nodes there are.
@@ -401,22 +403,18 @@ impl<const C: usize> Running<C> {
         self.lines[link].link.rows()
     }
 
+    /// All ports, by node and port.
+    pub(crate) fn ports(&self) -> Result<Vec<Port>, hsr_frame::NoMemory>
+        ensures { IfOk result (λ ports. ports.items ≡ ports_in self.now.places self.now.lines) }
+    {
+        new_ports(self.alloc, &self.nodes, &self.lines)
+    }
+
     /// What a drain does next.
-    pub(crate) fn next(&self) -> Option<Step>
+    pub(crate) fn next(&self, ports: &[Port]) -> Option<Step>
+        requires { ports.now ≡ ports_in self.now.places self.now.lines }
         ensures { result ≡ next_step self.now }
     {
-        if let Some(end) = held_end(&self.nodes, &self.lines) {
-            return Some(Step::Judge {
-                node: end.node,
-                port: end.port,
-            });
-        }
-        if let Some(end) = waiting_end(&self.nodes, &self.lines) {
-            return Some(Step::Put {
-                node: end.node,
-                port: end.port,
-            });
-        }
-        next_take(&self.lines)
+        next_step(ports, &self.lines)
     }
 }

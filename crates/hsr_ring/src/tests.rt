@@ -1,13 +1,14 @@
 use super::*;
 use hsr_audit::{End, Topology};
-use hsr_frame::{Mac, Mode};
+use hsr_frame::{Mac, Mode, SendFault};
 use hsr_link::Dir;
-use hsr_node::{Octets, Place};
+use hsr_node::{Octets, Place, StepFault};
+use hsr_redbox::About;
 use std::test::Fail;
 
-const GROUP: [u8; 6] = [1, 0, 0x5E, 0, 0, 1];
+pub(crate) const GROUP: [u8; 6] = [1, 0, 0x5E, 0, 0, 1];
 
-fn danh(number: u8) -> Place {
+pub(crate) fn danh(number: u8) -> Place {
     Place::Danh {
         mac: Mac::new([2, 0, 0, 0, 0, number]),
         mode: Mode::H,
@@ -26,7 +27,7 @@ fn link(node: usize, next: usize) -> [End; 2] {
 }
 
 /// Three DANHs in a ring.
-fn ring(rt: &HostRuntime) -> Result<World<512>, Fail> {
+pub(crate) fn ring(rt: &HostRuntime) -> Result<World<512>, Fail> {
     let mut places = Vec::new(rt.alloc());
     let mut links = Vec::new(rt.alloc());
     for node in 0..3 {
@@ -41,10 +42,15 @@ fn ring(rt: &HostRuntime) -> Result<World<512>, Fail> {
 
 /// Node 0 sends to the group.
 fn send(rt: &HostRuntime) -> Result<Step, Fail> {
+    send_to(rt, GROUP)
+}
+
+/// Node 0 sends to this address.
+fn send_to(rt: &HostRuntime, dst: [u8; 6]) -> Result<Step, Fail> {
     Ok(Step::Send {
         node: 0,
         from: 0,
-        dst: Mac::new(GROUP),
+        dst: Mac::new(dst),
         vlan: None,
         kind: 0x0800,
         payload: Octets::from_slice(rt.alloc(), &[0xAA, 0xBB])?,
@@ -146,5 +152,46 @@ fn a_run_that_stops(rt: HostRuntime) -> Result<(), Fail> {
         Step::Cut { link: 3 },
     ];
     assert!(rt; world.run(&steps) == Err((2, WorldFault::NoSuchLink)));
+    Ok(())
+}
+
+#[test]
+fn a_run_of_refused_steps(rt: HostRuntime) -> Result<(), Fail> {
+    let mut world = ring(&rt)?;
+    let steps = [
+        Step::Put { node: 3, port: 0 },
+        Step::Cut { link: 3 },
+        Step::Put { node: 0, port: 2 },
+    ];
+    assert!(rt; world.run(&steps) == Err((0, WorldFault::NoSuchNode)));
+    Ok(())
+}
+
+/// Injects these octets on link 0.
+fn inject(rt: &HostRuntime, octets: &[u8]) -> Result<Step, Fail> {
+    Ok(Step::Inject {
+        link: 0,
+        dir: Dir::Forth,
+        octets: Octets::from_slice(rt.alloc(), octets)?,
+    })
+}
+
+#[test]
+fn injected_at_most(rt: HostRuntime) -> Result<(), Fail> {
+    let mut world = ring(&rt)?;
+    assert!(rt; world.step(&inject(&rt, &[0; 2049])?) == Err(WorldFault::TooLong));
+    assert!(rt; world.step(&inject(&rt, &[0; 2048])?) == Ok(()));
+    Ok(())
+}
+
+#[test]
+fn what_a_node_refuses(rt: HostRuntime) -> Result<(), Fail> {
+    let mut world = ring(&rt)?;
+    let own = send_to(&rt, [2, 0, 0, 0, 0, 1])?;
+    let fault = StepFault::Send(SendFault::SelfAddressed);
+    assert!(rt; world.step(&own) == Err(WorldFault::Node(fault)));
+    let about = About::Proxied(Mac::new([2, 0, 0, 0, 0, 9]));
+    let proxied = Step::Supervise { node: 0, about };
+    assert!(rt; world.step(&proxied) == Err(WorldFault::Node(StepFault::WrongEvent)));
     Ok(())
 }

@@ -1,70 +1,24 @@
 //! What a drain does next.
-ghost use Rattle.std.specs.Prelude.{◌≡◌, ◌<◌, find, is_some, length, map, not};
-ghost use Rattle.hsr_link.specs.Rows.{first_copy};
-ghost use Rattle.hsr_ring.specs.Entering.{places_of};
-ghost use Rattle.hsr_ring.specs.Lines.{held_in, lane_of, lanes_of, spot_from};
-ghost use Rattle.hsr_ring.specs.Views.{line_view};
-ghost use Rattle.hsr_ring.specs.World.{is_empty, ports_from, ports_of, take_from, waits_in};
+ghost use Rattle.std.specs.Prelude.{◌≡◌, is_some, map, not, option_map};
+ghost use Rattle.hsr_ring.specs.Lines.{lane_of};
+ghost use Rattle.hsr_ring.specs.Ports.{held_at, held_by, next_by, waiting_by};
+ghost use Rattle.hsr_ring.specs.Views.{line_view, spot_view};
+ghost use Rattle.hsr_ring.specs.World.{is_empty, take_from, waits_in};
 
 use crate::line::Line;
-use crate::spot::find_spot;
+use crate::port::Port;
+use crate::spot::Spot;
 use crate::step::Step;
-use hsr_audit::{End, ports};
-use hsr_link::{Dir, Fate, Row};
-use hsr_node::Kept;
+use hsr_link::Dir;
 
-/// Whether a copy waits in a direction.
-fn waits(rows: &[Row], dir: Dir) -> bool
-    ensures { result ≡ is_some (first_copy dir rows.now) }
+/// Whether a copy is in the hand of a direction.
+fn is_taken(line: &Line, dir: Dir) -> bool
+    ensures { result ≡ is_some (lane_of dir (line_view line.now)).hand }
 {
-    for row in rows.iter() {
-        if row.dir == dir && row.fate == Fate::Queued {
-            return true;
-        }
+    match dir {
+        Dir::Forth => line.forth.hand.is_some(),
+        Dir::Back => line.back.hand.is_some(),
     }
-    false
-}
-
-/// Whether the port at an end holds a copy.
-pub(crate) fn is_held(lines: &[Line], end: End) -> bool
-    ensures { result ≡ is_some (held_in end (lanes_of (map line_view lines.now))) }
-{
-    for line in lines.iter() {
-        if line.forth.to == end {
-            return line.forth.hand.is_some();
-        }
-        if line.back.to == end {
-            return line.back.hand.is_some();
-        }
-    }
-    false
-}
-
-/// The first port of a node that holds a copy.
-#[tactic(auto, using(crate::proofs::Ends::ports_step))]
-pub(crate) fn held_port(lines: &[Line], node: usize, count: u8) -> Option<End>
-    ensures { result ≡ find (λ end. is_some (held_in end (lanes_of (map line_view lines.now)))) (ports_of node 0 count) }
-{
-    for port in 0..count {
-        let end = End { node, port };
-        if is_held(lines, end) {
-            return Some(end);
-        }
-    }
-    None
-}
-
-/// The first port that holds a copy, by node and port.
-#[tactic(auto, using(crate::proofs::Ends::find_append))]
-pub(crate) fn held_end<const C: usize>(nodes: &[Kept<C>], lines: &[Line]) -> Option<End>
-    ensures { result ≡ find (λ end. is_some (held_in end (lanes_of (map line_view lines.now)))) (ports_from 0 (places_of nodes.now)) }
-{
-    for (node, kept) in nodes.iter().enumerate() {
-        if let Some(end) = held_port(lines, node, ports(kept.place())) {
-            return Some(end);
-        }
-    }
-    None
 }
 
 /// Whether a copy is in the outbox of a direction.
@@ -77,56 +31,70 @@ fn is_full(line: &Line, dir: Dir) -> bool
     }
 }
 
-/// Whether the port at an end has a copy to put.
+/// Whether a port that receives there holds a copy.
 #[tactic(auto, using(crate::proofs::Places::line_seen))]
-pub(crate) fn is_waiting(lines: &[Line], end: End) -> bool
-    ensures { result ≡ waits_in (map line_view lines.now) (spot_from end 0 (map line_view lines.now)) }
+fn is_held(lines: &[Line], spot: Option<Spot>) -> bool
+    ensures { result ≡ held_at (map line_view lines.now) (option_map spot_view spot) }
 {
-    let Some(spot) = find_spot(lines, end) else {
+    let Some(spot) = spot else {
         return false;
     };
-    is_full(&lines[spot.link], spot.dir)
+    match lines.get(spot.link) {
+        Some(line) => is_taken(line, spot.dir),
+        None => false,
+    }
 }
 
-/// The first port of a node that has a copy to put.
-#[tactic(auto, using(crate::proofs::Ends::ports_step))]
-pub(crate) fn waiting_port(lines: &[Line], node: usize, count: u8) -> Option<End>
-    ensures { result ≡ find (λ end. waits_in (map line_view lines.now) (spot_from end 0 (map line_view lines.now))) (ports_of node 0 count) }
+/// Whether a port that sends there has a copy to put.
+#[tactic(auto, using(crate::proofs::Places::line_seen))]
+fn is_waiting(lines: &[Line], spot: Option<Spot>) -> bool
+    ensures { result ≡ waits_in (map line_view lines.now) (option_map spot_view spot) }
 {
-    for port in 0..count {
-        let end = End { node, port };
-        if is_waiting(lines, end) {
-            return Some(end);
+    let Some(spot) = spot else {
+        return false;
+    };
+    match lines.get(spot.link) {
+        Some(line) => is_full(line, spot.dir),
+        None => false,
+    }
+}
+
+/// The first port that holds a copy.
+fn held_port(ports: &[Port], lines: &[Line]) -> Option<Port>
+    ensures { result ≡ held_by (map line_view lines.now) ports.now }
+{
+    for port in ports.iter() {
+        if is_held(lines, port.into) {
+            return Some(*port);
         }
     }
     None
 }
 
-/// The first port that has a copy to put, by node and port.
-#[tactic(auto, using(crate::proofs::Ends::find_append))]
-pub(crate) fn waiting_end<const C: usize>(nodes: &[Kept<C>], lines: &[Line]) -> Option<End>
-    ensures { result ≡ find (λ end. waits_in (map line_view lines.now) (spot_from end 0 (map line_view lines.now))) (ports_from 0 (places_of nodes.now)) }
+/// The first port that has a copy to put.
+fn waiting_port(ports: &[Port], lines: &[Line]) -> Option<Port>
+    ensures { result ≡ waiting_by (map line_view lines.now) ports.now }
 {
-    for (node, kept) in nodes.iter().enumerate() {
-        if let Some(end) = waiting_port(lines, node, ports(kept.place())) {
-            return Some(end);
+    for port in ports.iter() {
+        if is_waiting(lines, port.out) {
+            return Some(*port);
         }
     }
     None
 }
 
 /// The first link on which a copy waits, Forth before Back.
-pub(crate) fn next_take(lines: &[Line]) -> Option<Step>
+fn next_take(lines: &[Line]) -> Option<Step>
     ensures { result ≡ take_from 0 (map line_view lines.now) }
 {
     for (link, line) in lines.iter().enumerate() {
-        if waits(line.link.rows(), Dir::Forth) {
+        if line.link.waits(Dir::Forth) {
             return Some(Step::Take {
                 link,
                 dir: Dir::Forth,
             });
         }
-        if waits(line.link.rows(), Dir::Back) {
+        if line.link.waits(Dir::Back) {
             return Some(Step::Take {
                 link,
                 dir: Dir::Back,
@@ -134,4 +102,23 @@ pub(crate) fn next_take(lines: &[Line]) -> Option<Step>
         }
     }
     None
+}
+
+/// What a drain does next, by a walk over the ports and one over the links.
+pub(crate) fn next_step(ports: &[Port], lines: &[Line]) -> Option<Step>
+    ensures { result ≡ next_by (map line_view lines.now) ports.now }
+{
+    if let Some(port) = held_port(ports, lines) {
+        return Some(Step::Judge {
+            node: port.end.node,
+            port: port.end.port,
+        });
+    }
+    if let Some(port) = waiting_port(ports, lines) {
+        return Some(Step::Put {
+            node: port.end.node,
+            port: port.end.port,
+        });
+    }
+    next_take(lines)
 }

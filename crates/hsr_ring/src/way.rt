@@ -64,24 +64,45 @@ fn filled(room: Vec<u8>, octets: &[u8]) -> Octets
     Octets::new(room)
 }
 
-/// The copy that leaves by a way joins its outbox.
-pub(crate) fn commit_way(alloc: Global, way: &mut Way, place: &Place, receipt: &Receipt)
-    requires { IsReady receipt.now.node way.old }
+/// These octets, in room of their own size; where that is refused, in the room that was made. So the latter is seldom used up,
+/// and the short copies don't lie apart in long rooms.
+fn fitted(alloc: Global, room: &mut Vec<u8>, octets: &[u8]) -> Octets
+    requires { length octets.now ≤ vec_capacity room.old }
+    ensures { result ≡ octets.now }
+{
+    match Octets::from_slice(alloc, octets) {
+        Ok(fit) => fit,
+        Err(_refused) => filled(mem::replace(room, Vec::new(alloc)), octets),
+    }
+}
+
+/// The copy that leaves its node by a way joins its outbox. It begins by clearing room for the longest copy, and so stands
+/// apart from what is done for each way.
+#[inline(never)]
+fn add_copy(alloc: Global, way: &mut Way, place: &Place, receipt: &Receipt)
+    requires node { way.old.from.node ≡ receipt.now.node }
+    requires ready { IsReady receipt.now.node way.old }
     ensures { lane_view way.new ≡ given_lane place.now receipt.now (lane_view way.old) }
 {
-    if way.from.node != receipt.node {
-        return;
-    }
     let entry = &receipt.entry;
     let Some(copy) = copy_out(place, &entry.event, &entry.outcome, way.from.port) else {
         return;
     };
-    let room = mem::replace(&mut way.room, Vec::new(alloc));
     let carried = Carried {
         probe: probe_of(receipt),
-        octets: filled(room, copy.as_slice()),
+        octets: fitted(alloc, &mut way.room, copy.as_slice()),
     };
     let Ok(()) = way.outbox.push_back(carried) else {
         unreachable!()
     };
+}
+
+/// The copy that leaves by a way joins its outbox, if the way is one of its node.
+pub(crate) fn commit_way(alloc: Global, way: &mut Way, place: &Place, receipt: &Receipt)
+    requires { IsReady receipt.now.node way.old }
+    ensures { lane_view way.new ≡ given_lane place.now receipt.now (lane_view way.old) }
+{
+    if way.from.node == receipt.node {
+        add_copy(alloc, way, place, receipt);
+    }
 }

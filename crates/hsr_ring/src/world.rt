@@ -3,6 +3,7 @@ ghost use Rattle.std.specs.Prelude.{◌≡◌, ◌≤◌, ◌<◌, ◌⊎◌, Ok
 ghost use Rattle.hsr_ring.specs.declared.step.WorldFault.TheVariants.{NoMemory as NoRoom};
 
 use crate::law::{places_fit, step_fits};
+use crate::port::Port;
 use crate::running::Running;
 use crate::step::{DrainFault, Step, WorldFault};
 use hsr_audit::Topology;
@@ -18,17 +19,18 @@ use std::marker::Model;
 pub struct World<const C: usize> {
     topology: Topology,
     running: Running<C>,
+    ports: Vec<Port>,
 }
 
 impl<const C: usize> Model for World<C> {
-    ghost use Rattle.hsr_ring.specs.Reached.{IsReached};
+    ghost use Rattle.hsr_ring.specs.Ports.{IsKept};
     ghost use Rattle.hsr_ring.specs.World.{World};
 
     ghost Value = { World };
 
     ghost view = { λ w. w.running };
 
-    ghost invariant = { λ w. IsReached C w.topology.places w.topology.links w.running };
+    ghost invariant = { λ w. IsKept C w.topology.places w.topology.links w.ports.items w.running };
 }
 
 impl<const C: usize> World<C> {
@@ -45,7 +47,12 @@ impl<const C: usize> World<C> {
     {
         places_fit(topology.places());
         let running = Running::new(alloc, &topology, capacity)?;
-        Ok(World { topology, running })
+        let ports = running.ports()?;
+        Ok(World {
+            topology,
+            running,
+            ports,
+        })
     }
 
     /// Does a step, or refuses it for the first reason that applies; a refusal changes nothing.
@@ -78,7 +85,7 @@ impl<const C: usize> World<C> {
     fn next(&self) -> Option<Step>
         ensures { result ≡ next_step self.now }
     {
-        self.running.next()
+        self.running.next(&self.ports)
     }
 
     /// Does what is left to do, until nothing is, in at most `limit` steps: copies in hands are judged, those in outboxes put

@@ -1,0 +1,61 @@
+-- The ports of a world, each with the directions of a link in which it receives and sends.
+use Rattle.std.specs.Prelude.{ℕ, ◌+◌, ◌≡◌, Bool, false, if◌then◌else◌, List, [], ◌∷◌, map, is_some, Option, Some, None, option_map}
+use Rattle.std.specs.Option.{option_or}
+use Rattle.std.specs.List.{find}
+use Rattle.hsr_audit.specs.Links.{is_same_end}
+use Rattle.hsr_audit.specs.declared.end.End.{End}
+use Rattle.hsr_link.specs.declared.row.Dir.TheVariants.{Forth, Back}
+use Rattle.hsr_node.specs.declared.place.Place.{Place}
+use Rattle.hsr_ring.specs.Lines.{Line, Spot, lane_of, spot_from}
+use Rattle.hsr_ring.specs.Reached.{IsReached}
+use Rattle.hsr_ring.specs.Views.{spot_view}
+use Rattle.hsr_ring.specs.World.{World, line_in, ports_from, take_from, waits_in}
+use Rattle.hsr_ring.specs.declared.port.Port.{Port}
+use Rattle.hsr_ring.specs.declared.spot.Spot as code-spot
+use Rattle.hsr_ring.specs.declared.step.Step.{Step}
+use Rattle.hsr_ring.specs.declared.step.Step.TheVariants.{Judge, Put}
+
+-- the direction in which the port at an end receives, among the lines from the k-th on
+abbrev pub spot_to : End → ℕ → List Line → Option Spot
+spot_to end k [] = None
+spot_to end k (line ∷ lines) =
+    if is_same_end line.forth.to end then Some (record { link = k; dir = Forth })
+    else (if is_same_end line.back.to end then Some (record { link = k; dir = Back }) else spot_to end (k + 1) lines)
+
+abbrev pub spot_code : Spot → code-spot.Spot
+spot_code spot = record { link = spot.link; dir = spot.dir }
+
+-- the port at an end
+abbrev pub port_at : List Line → End → Port
+port_at lines end = record { end = end; into = option_map spot_code (spot_to end 0 lines); out = option_map spot_code (spot_from end 0 lines) }
+
+-- all ports, by node and port
+abbrev pub ports_in : List Place → List Line → List Port
+ports_in places lines = map (port_at lines) (ports_from 0 places)
+
+-- whether a copy is in the hand of a direction
+abbrev pub held_at : List Line → Option Spot → Bool
+held_at lines None = false
+held_at lines (Some spot) = is_some (lane_of spot.dir (line_in lines spot.link)).hand
+
+-- the first port that holds a copy, and the first that has one to put
+abbrev pub held_by : List Line → List Port → Option Port
+held_by lines ports = find (λ (port : Port). held_at lines (option_map spot_view port.into)) ports
+
+abbrev pub waiting_by : List Line → List Port → Option Port
+waiting_by lines ports = find (λ (port : Port). waits_in lines (option_map spot_view port.out)) ports
+
+abbrev pub judge_of : Port → Step
+judge_of port = Judge port.end.node port.end.port
+
+abbrev pub put_of : Port → Step
+put_of port = Put port.end.node port.end.port
+
+-- what a drain does next, as the ports tell it
+abbrev pub next_by : List Line → List Port → Option Step
+next_by lines ports = option_or (option_map judge_of (held_by lines ports)) (option_or (option_map put_of (waiting_by lines ports)) (take_from 0 lines))
+
+-- a world that was reached, and its ports
+pub record IsKept (capacity : ℕ) (places : List Place) (links : List (List End)) (ports : List Port) (w : World) : Type 0 where
+  pub reached : IsReached capacity places links w
+  pub told : ports ≡ ports_in w.places w.lines
