@@ -1,0 +1,73 @@
+-- What a document says, or its first fault.
+use Rattle.std.specs.Prelude.{ℕ, ◌^◌, nat_le, List, [], ◌∷◌, length, map, Option, Some, None, Result, Ok, Err, if◌then◌else◌}
+use Rattle.toml.specs.Data.{Members}
+use Rattle.toml.specs.Parse.{parse_document}
+use Rattle.hsr_audit.specs.Topology.{Topology, made}
+use Rattle.hsr_audit.specs.declared.end.End.{End}
+use Rattle.hsr_audit.specs.declared.fault.TopologyFault.{TopologyFault}
+use Rattle.hsr_scenario.specs.Told.{◌>>=◌, at_spot, each}
+use Rattle.hsr_scenario.specs.Tables.{between, only, optional, tables}
+use Rattle.hsr_scenario.specs.Nodes.{node_in}
+use Rattle.hsr_scenario.specs.Links.{link_in}
+use Rattle.hsr_scenario.specs.Steps.{order_in}
+use Rattle.hsr_scenario.specs.declared.fault.Key.TheVariants as key
+use Rattle.hsr_scenario.specs.declared.fault.Spot.TheVariants as spot
+use Rattle.hsr_scenario.specs.declared.fault.What.{What}
+use Rattle.hsr_scenario.specs.declared.fault.What.TheVariants.{Text, Topology as NoTopology}
+use Rattle.hsr_scenario.specs.declared.fault.ScenarioFault.{ScenarioFault}
+use Rattle.hsr_scenario.specs.declared.nodes.Named.{Named}
+use Rattle.hsr_scenario.specs.declared.scenario.Scenario.{Scenario}
+use Rattle.hsr_scenario.specs.declared.steps.Order.{Order}
+
+pub record Meant : Type 0 where
+  pub topology : Topology
+  pub capacity : ℕ
+  pub steps : List Order
+
+abbrev pub scenario_view : Scenario → Meant
+scenario_view s = record { topology = s.topology; capacity = s.capacity; steps = s.steps.items }
+
+-- why there is no topology, as a fault of the document
+abbrev pub wired : Result Topology TopologyFault → Result Topology What
+wired (Ok topology) = Ok topology
+wired (Err fault) = Err (NoTopology fault)
+
+abbrev pub topology_of : List Named → List (List End) → Result Topology What
+topology_of nodes links = wired (made (map (λ node. node.place) nodes) links)
+
+-- where there are this topology and these nodes and links: the steps
+unfoldable pub with_steps : ℕ → Topology → List Named → ℕ → List Members → Result Meant ScenarioFault
+with_steps capacity topology nodes links step_tables = do
+  steps ← each spot.Step (λ _. order_in nodes links) [] step_tables
+  Ok (record { topology = topology; capacity = capacity; steps = steps })
+
+-- where there are these nodes: links, the topology, then steps
+unfoldable pub joined : ℕ → List Named → List Members → List Members → Result Meant ScenarioFault
+joined capacity nodes link_tables step_tables = do
+  links ← each spot.Link (λ _. link_in nodes) [] link_tables
+  topology ← at_spot spot.Top (topology_of nodes links)
+  with_steps capacity topology nodes (length links) step_tables
+
+-- nodes, links, the topology, then steps
+unfoldable pub content : ℕ → List Members → List Members → List Members → Result Meant ScenarioFault
+content capacity node_tables link_tables step_tables = do
+  nodes ← each spot.Node node_in [] node_tables
+  joined capacity nodes link_tables step_tables
+
+-- what the tables of a document say
+unfoldable pub document : Members → Result Meant ScenarioFault
+document ms = do
+  _ ← at_spot spot.Top (only (key.Capacity ∷ key.Node ∷ key.Link ∷ key.Step ∷ []) ms)
+  capacity ← at_spot spot.Top (optional key.Capacity 64 (between 1 4096) ms)
+  node_tables ← at_spot spot.Top (optional key.Node [] tables ms)
+  link_tables ← at_spot spot.Top (optional key.Link [] tables ms)
+  step_tables ← at_spot spot.Top (optional key.Step [] tables ms)
+  content capacity node_tables link_tables step_tables
+
+abbrev pub document_if : Option Members → Result Meant ScenarioFault
+document_if None = Err (record { spot = spot.Top; what = Text })
+document_if (Some ms) = document ms
+
+-- a text of at most 16 MiB that is a document of TOML
+abbrev pub meaning : List ℕ → Result Meant ScenarioFault
+meaning text = document_if (if nat_le (length text) (2 ^ 24) then parse_document text else None)

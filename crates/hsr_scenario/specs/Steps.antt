@@ -1,0 +1,123 @@
+-- What the table of a step says.
+use Rattle.std.specs.Prelude.{ℕ, ℤ, pos, negsuc, nat_lt, List, [], ◌∷◌, Option, Some, None, Result, Ok, ok_or, if◌then◌else◌}
+use Rattle.toml.specs.Data.{Data, Members}
+use Rattle.hsr_redbox.specs.declared.call.About.{About}
+use Rattle.hsr_redbox.specs.declared.call.About.TheVariants.{Own, Proxied}
+use Rattle.hsr_ring.specs.declared.step.Step.{Step}
+use Rattle.hsr_ring.specs.declared.step.Step.TheVariants.{Clock, Send, Supervise, Age, Put, Take, Judge, Cut, Mend, Inject}
+use Rattle.hsr_scenario.specs.Told.{◌>>=◌}
+use Rattle.hsr_scenario.specs.Tables.{between, integer, moment, needed, only, optional, word}
+use Rattle.hsr_scenario.specs.Words.{deed_of, dir_of, mac_of, octets_of}
+use Rattle.hsr_scenario.specs.Links.{used_end, used_name}
+use Rattle.hsr_scenario.specs.declared.fault.Key.{Key}
+use Rattle.hsr_scenario.specs.declared.fault.Key.TheVariants as key
+use Rattle.hsr_scenario.specs.declared.fault.What.{What}
+use Rattle.hsr_scenario.specs.declared.fault.What.TheVariants.{NoSuchName}
+use Rattle.hsr_scenario.specs.declared.nodes.Named.{Named}
+use Rattle.hsr_scenario.specs.declared.steps.Order.{Order}
+use Rattle.hsr_scenario.specs.declared.steps.Order.TheVariants.{Step as OfStep, Drain}
+use Rattle.hsr_scenario.specs.declared.words.Deed.{Deed}
+use Rattle.hsr_scenario.specs.declared.words.Deed.TheVariants as deed
+
+-- the number of one of so many links
+abbrev pub link_numbered : ℕ → ℤ → Option ℕ
+link_numbered links (pos n) = if nat_lt n links then Some n else None
+link_numbered links (negsuc n) = None
+
+abbrev pub used_link : ℕ → Key → Data → Result ℕ What
+used_link links key d = integer key d >>= λ z. ok_or (link_numbered links z) NoSuchName
+
+-- a value that may be left out, and nothing stands for it
+abbrev pub perhaps : {A : Type 0} → (Key → Data → Result A What) → Key → Data → Result (Option A) What
+perhaps read key d = read key d >>= λ x. Ok (Some x)
+
+-- who a supervision frame is about
+abbrev pub about_of : Option (List ℕ) → About
+about_of None = Own
+about_of (Some mac) = Proxied mac
+
+unfoldable pub clock : Members → Result Step What
+clock ms = do
+  _ ← only (key.Do ∷ key.At ∷ []) ms
+  at ← needed key.At moment ms
+  Ok (Clock at)
+
+unfoldable pub send : List Named → Members → Result Step What
+send nodes ms = do
+  _ ← only (key.Do ∷ key.Node ∷ key.To ∷ key.Kind ∷ key.Payload ∷ key.Vlan ∷ key.From ∷ []) ms
+  node ← needed key.Node (used_name nodes) ms
+  dst ← needed key.To (word mac_of) ms
+  kind ← needed key.Kind (between 0 65535) ms
+  payload ← optional key.Payload [] (word octets_of) ms
+  vlan ← optional key.Vlan None (perhaps (between 0 65535)) ms
+  from ← optional key.From 0 (between 0 15) ms
+  Ok (Send node from dst vlan kind payload)
+
+unfoldable pub life : List Named → Members → Result Step What
+life nodes ms = do
+  _ ← only (key.Do ∷ key.Node ∷ key.About ∷ []) ms
+  node ← needed key.Node (used_name nodes) ms
+  about ← optional key.About None (perhaps (word mac_of)) ms
+  Ok (Supervise node (about_of about))
+
+unfoldable pub age : List Named → Members → Result Step What
+age nodes ms = do
+  _ ← only (key.Do ∷ key.Node ∷ []) ms
+  node ← needed key.Node (used_name nodes) ms
+  Ok (Age node)
+
+-- `put` and `judge`
+unfoldable pub at_port : (ℕ → ℕ → Step) → List Named → Members → Result Step What
+at_port step nodes ms = do
+  _ ← only (key.Do ∷ key.Port ∷ []) ms
+  end ← needed key.Port (used_end nodes) ms
+  Ok (step end.node end.port)
+
+unfoldable pub take : ℕ → Members → Result Step What
+take links ms = do
+  _ ← only (key.Do ∷ key.Link ∷ key.Dir ∷ []) ms
+  link ← needed key.Link (used_link links) ms
+  dir ← needed key.Dir (word dir_of) ms
+  Ok (Take link dir)
+
+-- `cut` and `mend`
+unfoldable pub at_link : (ℕ → Step) → ℕ → Members → Result Step What
+at_link step links ms = do
+  _ ← only (key.Do ∷ key.Link ∷ []) ms
+  link ← needed key.Link (used_link links) ms
+  Ok (step link)
+
+unfoldable pub inject : ℕ → Members → Result Step What
+inject links ms = do
+  _ ← only (key.Do ∷ key.Link ∷ key.Dir ∷ key.Octets ∷ []) ms
+  link ← needed key.Link (used_link links) ms
+  dir ← needed key.Dir (word dir_of) ms
+  octets ← needed key.Octets (word octets_of) ms
+  Ok (Inject link dir octets)
+
+abbrev pub stepped : Result Step What → Result Order What
+stepped r = r >>= λ step. Ok (OfStep step)
+
+unfoldable pub drain : Members → Result Order What
+drain ms = do
+  _ ← only (key.Do ∷ []) ms
+  Ok Drain
+
+abbrev pub order_of : Deed → List Named → ℕ → Members → Result Order What
+order_of deed.Clock nodes links ms = stepped (clock ms)
+order_of deed.Send nodes links ms = stepped (send nodes ms)
+order_of deed.Life nodes links ms = stepped (life nodes ms)
+order_of deed.Age nodes links ms = stepped (age nodes ms)
+order_of deed.Put nodes links ms = stepped (at_port Put nodes ms)
+order_of deed.Judge nodes links ms = stepped (at_port Judge nodes ms)
+order_of deed.Take nodes links ms = stepped (take links ms)
+order_of deed.Cut nodes links ms = stepped (at_link Cut links ms)
+order_of deed.Mend nodes links ms = stepped (at_link Mend links ms)
+order_of deed.Inject nodes links ms = stepped (inject links ms)
+order_of deed.Drain nodes links ms = drain ms
+
+-- the step of a table, where there are these nodes and so many links
+unfoldable pub order_in : List Named → ℕ → Members → Result Order What
+order_in nodes links ms = do
+  deed ← needed key.Do (word deed_of) ms
+  order_of deed nodes links ms

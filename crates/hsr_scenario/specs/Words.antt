@@ -1,0 +1,70 @@
+-- The words that texts of a scenario spell.
+use Rattle.std.specs.Prelude.{ℕ, ◌==◌, ◌&&◌, ◌||◌, nat_lt, nat_le, Bool, List, [], ◌∷◌, length, codes, Option, Some, None, if◌then◌else◌}
+use Rattle.std.specs.List.{list_all}
+use Rattle.std.specs.Result.{result_ok}
+use Rattle.std.specs.Str.{bytes_eq}
+use Rattle.hex.specs.Hex.{decode_of}
+use Rattle.hsr_frame.specs.Address.{address_of}
+use Rattle.hsr_frame.specs.Words.{cut}
+use Rattle.hsr_frame.specs.declared.node.Mode.{Mode}
+use Rattle.hsr_frame.specs.declared.node.Mode.TheVariants.{H, N}
+use Rattle.hsr_link.specs.declared.row.Dir.{Dir}
+use Rattle.hsr_link.specs.declared.row.Dir.TheVariants.{Forth, Back}
+use Rattle.hsr_scenario.specs.declared.words.Deed.{Deed}
+use Rattle.hsr_scenario.specs.declared.words.Deed.TheVariants as deed
+use Rattle.hsr_scenario.specs.declared.words.Role.{Role}
+use Rattle.hsr_scenario.specs.declared.words.Role.TheVariants as role
+
+-- ---- names
+
+-- a small letter, a digit or a hyphen
+abbrev pub is_name_octet : ℕ → Bool
+is_name_octet b = (nat_le 97 b && nat_le b 122) || ((nat_le 48 b && nat_le b 57) || b == 45)
+
+abbrev pub is_name : List ℕ → Bool
+is_name s = list_all is_name_octet s && (nat_lt 0 (length s) && nat_le (length s) 32)
+
+abbrev pub name_of : List ℕ → Option (List ℕ)
+name_of s = if is_name s then Some s else None
+
+-- the letter of a port of some role: A, B, C, D, I, P
+abbrev pub is_port_letter : ℕ → Bool
+is_port_letter c = (nat_le 65 c && nat_le c 68) || (c == 73 || c == 80)
+
+abbrev pub end_if : List ℕ → Option (List ℕ) → Option (List ℕ × ℕ)
+end_if name (Some (letter ∷ [])) = if is_name name && is_port_letter letter then Some (name, letter) else None
+end_if name _ = None
+
+-- a name and a letter with a dot between them
+abbrev pub end_of : List ℕ → Option (List ℕ × ℕ)
+end_of s = end_if (cut 46 s).0 (cut 46 s).1
+
+-- ---- words of a list
+
+abbrev pub spelled : {A : Type 0} → List (List ℕ × A) → List ℕ → Option A
+spelled [] s = None
+spelled (row ∷ rows) s = if bytes_eq s row.0 then Some row.1 else spelled rows s
+
+abbrev pub role_of : List ℕ → Option Role
+role_of s = spelled (
+    (codes "danh", role.Danh) ∷ (codes "redbox", role.RedBox) ∷ (codes "quadbox", role.QuadBox) ∷ (codes "station", role.Station) ∷ []) s
+
+abbrev pub mode_of : List ℕ → Option Mode
+mode_of s = spelled ((codes "H", H) ∷ (codes "N", N) ∷ []) s
+
+abbrev pub dir_of : List ℕ → Option Dir
+dir_of s = spelled ((codes "forth", Forth) ∷ (codes "back", Back) ∷ []) s
+
+abbrev pub deed_of : List ℕ → Option Deed
+deed_of s = spelled (
+    (codes "clock", deed.Clock) ∷ (codes "send", deed.Send) ∷ (codes "life", deed.Life) ∷ (codes "age", deed.Age)
+    ∷ (codes "put", deed.Put) ∷ (codes "judge", deed.Judge) ∷ (codes "take", deed.Take) ∷ (codes "cut", deed.Cut)
+    ∷ (codes "mend", deed.Mend) ∷ (codes "inject", deed.Inject) ∷ (codes "drain", deed.Drain) ∷ []) s
+
+-- ---- addresses and octets
+
+abbrev pub mac_of : List ℕ → Option (List ℕ)
+mac_of s = result_ok (address_of s)
+
+abbrev pub octets_of : List ℕ → Option (List ℕ)
+octets_of s = result_ok (decode_of s)

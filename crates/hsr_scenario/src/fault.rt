@@ -1,0 +1,167 @@
+//! Why a text is no scenario.
+ghost use Rattle.std.specs.Prelude.{◌≡◌, Some};
+ghost use Rattle.hsr_scenario.specs.Fault.{key_text};
+
+use hsr_audit::TopologyFault;
+use std::error::Error;
+use std::fmt;
+
+/// A key of a scenario's tables.
+#[derive(Clone, Copy, Debug, PartialEq, Eq)]
+pub enum Key {
+    Capacity,
+    Node,
+    Link,
+    Step,
+    Name,
+    Role,
+    Mac,
+    Mode,
+    Macs,
+    Ends,
+    Do,
+    At,
+    To,
+    /// Written `type`.
+    Kind,
+    Payload,
+    Vlan,
+    From,
+    About,
+    Port,
+    Dir,
+    Octets,
+}
+
+impl Key {
+    /// The key as it is written.
+    pub fn text(self) -> &'static str
+        ensures { result.now ≡ key_text self }
+    {
+        match self {
+            Key::Capacity => "capacity",
+            Key::Node => "node",
+            Key::Link => "link",
+            Key::Step => "step",
+            Key::Name => "name",
+            Key::Role => "role",
+            Key::Mac => "mac",
+            Key::Mode => "mode",
+            Key::Macs => "macs",
+            Key::Ends => "ends",
+            Key::Do => "do",
+            Key::At => "at",
+            Key::To => "to",
+            Key::Kind => "type",
+            Key::Payload => "payload",
+            Key::Vlan => "vlan",
+            Key::From => "from",
+            Key::About => "about",
+            Key::Port => "port",
+            Key::Dir => "dir",
+            Key::Octets => "octets",
+        }
+    }
+}
+
+/// Where a fault is.
+#[derive(Clone, Copy, Debug, PartialEq, Eq)]
+pub enum Spot {
+    /// In the document itself.
+    Top,
+    /// In a node, a link or a step, each counted from 0.
+    Node(usize),
+    Link(usize),
+    Step(usize),
+}
+
+/// What a fault is, in the order in which faults are tried at one key.
+#[derive(Clone, Copy, Debug, PartialEq, Eq)]
+pub enum What {
+    /// The text has over 16 MiB, or is no TOML.
+    Text,
+    /// A key that has to be there isn't.
+    Missing(Key),
+    /// A key is there that the table doesn't have.
+    Unknown,
+    /// The value of a key has another type.
+    WrongKind(Key),
+    /// The value of a key isn't one of those that it may have.
+    BadValue(Key),
+    /// An earlier node has the name.
+    NameTwice,
+    /// No node has the name, or its role hasn't the port, or there is no link of that number.
+    NoSuchName,
+    /// The nodes and links are no topology.
+    Topology(TopologyFault),
+    /// A growth was refused.
+    NoMemory,
+}
+
+/// The first fault of a text.
+#[derive(Clone, Copy, Debug, PartialEq, Eq)]
+pub struct ScenarioFault {
+    pub spot: Spot,
+    pub what: What,
+}
+
+impl fmt::Display for Key {
+    ghost output = { λ k. Some (key_text k) };
+
+    fn fmt<W: fmt::Write>(&self, f: &mut fmt::Formatter<W>) -> fmt::Result {
+        let text = self.text();
+        write!(f, "{text}")
+    }
+}
+
+impl fmt::Display for Spot {
+    ghost use Rattle.hsr_scenario.specs.Fault.{spot_text};
+
+    ghost output = { λ s. Some (spot_text s) };
+
+    fn fmt<W: fmt::Write>(&self, f: &mut fmt::Formatter<W>) -> fmt::Result {
+        match self {
+            Spot::Top => write!(f, "top"),
+            Spot::Node(i) => write!(f, "node {i}"),
+            Spot::Link(i) => write!(f, "link {i}"),
+            Spot::Step(i) => write!(f, "step {i}"),
+        }
+    }
+}
+
+impl fmt::Display for What {
+    ghost use Rattle.hsr_scenario.specs.Fault.{what_text};
+
+    ghost output = { λ w. Some (what_text w) };
+
+    fn fmt<W: fmt::Write>(&self, f: &mut fmt::Formatter<W>) -> fmt::Result {
+        match self {
+            What::Text => write!(f, "text"),
+            What::Missing(key) => write!(f, "missing {key}"),
+            What::Unknown => write!(f, "unknown"),
+            What::WrongKind(key) => write!(f, "wrong-kind {key}"),
+            What::BadValue(key) => write!(f, "bad-value {key}"),
+            What::NameTwice => write!(f, "name-twice"),
+            What::NoSuchName => write!(f, "no-such-name"),
+            What::Topology(fault) => {
+                let code = fault.code();
+                write!(f, "topology-{code}")
+            }
+            What::NoMemory => write!(f, "no-memory"),
+        }
+    }
+}
+
+impl fmt::Display for ScenarioFault {
+    ghost use Rattle.hsr_scenario.specs.Fault.{fault_text};
+
+    ghost output = { λ e. Some (fault_text e) };
+
+    fn fmt<W: fmt::Write>(&self, f: &mut fmt::Formatter<W>) -> fmt::Result {
+        let spot = self.spot;
+        let what = self.what;
+        write!(f, "{spot} {what}")
+    }
+}
+
+impl Error for ScenarioFault {}

@@ -1,0 +1,20 @@
+//! Scenarios: the nodes and links of a bench and the steps that it takes, written in TOML.
+#![tactic(auto)]
+
+mod fault;
+mod links;
+mod name;
+mod nodes;
+mod reading;
+mod scenario;
+mod steps;
+mod table;
+mod words;
+
+pub use fault::{Key, ScenarioFault, Spot, What};
+pub use reading::read;
+pub use scenario::Scenario;
+pub use steps::Order;
+
+#[cfg(test)]
+mod tests;

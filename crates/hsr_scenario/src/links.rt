@@ -1,0 +1,143 @@
+//! The links of a scenario, and the names of nodes and ends that are used.
+ghost use Rattle.std.specs.Prelude.{◌≡◌, ◌∷◌, []};
+ghost use Rattle.toml.specs.View.{view, table_view};
+ghost use Rattle.hsr_scenario.specs.Told.{Gives};
+ghost use Rattle.hsr_scenario.specs.Tables.{needed};
+ghost use Rattle.hsr_scenario.specs.Links.{end_named, ends, ends_of, link_in, node_named, port_of, ring_port, used_end, used_name};
+ghost use Rattle.hsr_scenario.specs.declared.fault.Key.TheVariants as key;
+
+use crate::fault::{Key, What};
+use crate::nodes::Named;
+use crate::table::{needed, only, text, texts};
+use crate::words::{end_of, is_name};
+use hsr_audit::End;
+use hsr_node::Place;
+use std::alloc::Global;
+use toml::{Table, Value};
+
+/// The number of the node that has the name.
+fn node_named(nodes: &[Named], name: &[u8]) -> Option<usize>
+    ensures { result ≡ node_named nodes.now name.now }
+{
+    nodes.iter().position(|node| node.name.as_bytes() == name)
+}
+
+/// The number of a port on the ring.
+fn ring_port(letter: u8) -> Option<u8>
+    ensures { result ≡ ring_port letter }
+{
+    match letter {
+        b'A' => Some(0),
+        b'B' => Some(1),
+        _ => None,
+    }
+}
+
+/// The number of the port that has the letter, of a node of that kind.
+fn port_of(place: &Place, letter: u8) -> Option<u8>
+    ensures { result ≡ port_of place.now letter }
+{
+    match (place, letter) {
+        (Place::Danh { .. }, _) => ring_port(letter),
+        (Place::RedBox { .. }, b'I') => Some(2),
+        (Place::RedBox { .. }, _) => ring_port(letter),
+        (Place::QuadBox, b'C') => Some(2),
+        (Place::QuadBox, b'D') => Some(3),
+        (Place::QuadBox, _) => ring_port(letter),
+        (Place::Station { .. }, b'P') => Some(0),
+        (Place::Station { .. }, _) => None,
+    }
+}
+
+/// The port of that letter, of the node that has the name.
+fn end_named(nodes: &[Named], name: &[u8], letter: u8) -> Option<End>
+    ensures { result ≡ end_named nodes.now (name.now, letter) }
+{
+    match node_named(nodes, name) {
+        Some(node) => match nodes.get(node) {
+            Some(named) => match port_of(&named.place, letter) {
+                Some(port) => Some(End { node, port }),
+                None => None,
+            },
+            None => None,
+        },
+        None => None,
+    }
+}
+
+/// The number of the node whose name a value is.
+fn used_name(nodes: &[Named], key: Key, value: &Value) -> Result<usize, What>
+    ensures { Gives (λ n. n) result (used_name nodes.now key (view value.now)) }
+{
+    let name = text(key, value)?.as_bytes();
+    if !is_name(name) {
+        return Err(What::BadValue(key));
+    }
+    match node_named(nodes, name) {
+        Some(node) => Ok(node),
+        None => Err(What::NoSuchName),
+    }
+}
+
+/// The number of the node that a step names.
+pub(crate) fn used_node(nodes: &[Named], table: &Table) -> Result<usize, What>
+    ensures { Gives (λ n. n) result (needed key.Node (used_name nodes.now) (table_view table.now)) }
+{
+    used_name(nodes, Key::Node, needed(table, Key::Node)?)
+}
+
+/// The end that a value spells.
+fn used_end(nodes: &[Named], key: Key, value: &Value) -> Result<End, What>
+    ensures { Gives (λ e. e) result (used_end nodes.now key (view value.now)) }
+{
+    match end_of(text(key, value)?.as_bytes()) {
+        Some((name, letter)) => match end_named(nodes, name, letter) {
+            Some(end) => Ok(end),
+            None => Err(What::NoSuchName),
+        },
+        None => Err(What::BadValue(key)),
+    }
+}
+
+/// The end that a step names.
+pub(crate) fn used_port(nodes: &[Named], table: &Table) -> Result<End, What>
+    ensures { Gives (λ e. e) result (needed key.Port (used_end nodes.now) (table_view table.now)) }
+{
+    used_end(nodes, Key::Port, needed(table, Key::Port)?)
+}
+
+/// The ends that two texts spell; the form of both is tried first.
+fn ends_of(nodes: &[Named], key: Key, first: &str, second: &str) -> Result<[End; 2], What>
+    ensures { Gives (λ l. l) result (ends_of nodes.now key (first.now ∷ second.now ∷ [])) }
+{
+    let (Some((first, p)), Some((second, q))) = (
+        end_of(first.as_bytes()),
+        end_of(second.as_bytes()),
+    ) else {
+        return Err(What::BadValue(key));
+    };
+    match (end_named(nodes, first, p), end_named(nodes, second, q)) {
+        (Some(first), Some(second)) => Ok([first, second]),
+        _ => Err(What::NoSuchName),
+    }
+}
+
+/// The two ends of a value.
+fn ends(alloc: Global, nodes: &[Named], key: Key, value: &Value) -> Result<[End; 2], What>
+    ensures { Gives (λ l. l) result (ends nodes.now key (view value.now)) }
+{
+    let texts = texts(alloc, key, value)?;
+    match texts.as_slice() {
+        [first, second] => ends_of(nodes, key, first, second),
+        _ => Err(What::BadValue(key)),
+    }
+}
+
+/// The link of a table.
+#[tactic(auto, unfolding(crate::specs::Links::link_in))]
+pub(crate) fn link(alloc: Global, nodes: &[Named], table: &Table) -> Result<[End; 2], What>
+    ensures { Gives (λ l. l) result (link_in nodes.now (table_view table.now)) }
+{
+    only(table, &[Key::Ends])?;
+    ends(alloc, nodes, Key::Ends, needed(table, Key::Ends)?)
+}

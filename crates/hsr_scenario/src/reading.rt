@@ -1,0 +1,320 @@
+//! How a text is read as a scenario.
+ghost use Rattle.std.specs.Prelude.{◌≡◌, ◌≤◌, [], map, length, IfOk, Ok};
+ghost use Rattle.toml.specs.View.{table_view};
+ghost use Rattle.hsr_scenario.specs.Told.{Gives, GivesAt, at_spot, each};
+ghost use Rattle.hsr_scenario.specs.Tables.{between, optional, tables};
+ghost use Rattle.hsr_scenario.specs.Nodes.{node_in};
+ghost use Rattle.hsr_scenario.specs.Links.{link_in};
+ghost use Rattle.hsr_scenario.specs.Steps.{order_in};
+ghost use Rattle.hsr_scenario.specs.Meaning.{content, document, joined, meaning, scenario_view, topology_of, with_steps};
+ghost use Rattle.hsr_scenario.specs.declared.fault.Key.TheVariants as key;
+ghost use Rattle.hsr_scenario.specs.declared.fault.Spot.TheVariants as spot;
+
+use crate::fault::{Key, ScenarioFault, Spot, What};
+use crate::links::link;
+use crate::nodes::{Named, node};
+use crate::scenario::Scenario;
+use crate::steps::{Order, order_in};
+use crate::table::{between, only, tables, value};
+use hsr_audit::{End, Topology};
+use hsr_node::Place;
+use std::alloc::Global;
+use toml::Table;
+
+/// The most octets of a text: 16 MiB.
+const MOST_OCTETS: usize = 1 << 24;
+
+/// How many copies wait in each direction of a link, where a text doesn't say.
+const CAPACITY: usize = 64;
+
+/// A fault with its place.
+fn at_spot<T>(spot: Spot, told: Result<T, What>) -> Result<T, ScenarioFault>
+    ensures { result ≡ at_spot spot told }
+{
+    match told {
+        Ok(value) => Ok(value),
+        Err(what) => Err(ScenarioFault { spot, what }),
+    }
+}
+
+// ---- each table of a list
+
+/// The node of a table that follows others.
+#[tactic(auto, using(crate::proofs::Lists::spotted))]
+fn node_at(alloc: Global, nodes: &[Named], table: &Table) -> Result<Named, ScenarioFault>
+    ensures { GivesAt (λ n. n) result (at_spot (spot.Node (length nodes.now)) (node_in nodes.now (table_view table.now))) }
+{
+    at_spot(Spot::Node(nodes.len()), node(alloc, nodes, table))
+}
+
+/// The nodes of tables.
+#[tactic(auto, using(crate::proofs::Lists::nodes_step, crate::proofs::Lists::nodes_fail))]
+fn nodes_of(alloc: Global, tables: &[&Table]) -> Result<Vec<Named>, ScenarioFault>
+    ensures { GivesAt (λ v. v.items) result (each spot.Node node_in [] (map (λ t. table_view t.now) tables.now)) }
+{
+    let mut nodes = Vec::new(alloc);
+    for table in tables.iter() {
+        match node_at(alloc, nodes.as_slice(), table) {
+            Ok(node) => {
+                let spot = Spot::Node(nodes.len());
+                if nodes.push(node).is_err() {
+                    return Err(ScenarioFault {
+                        spot,
+                        what: What::NoMemory,
+                    });
+                }
+            }
+            Err(fault) => return Err(fault),
+        }
+    }
+    Ok(nodes)
+}
+
+/// The link of the table of that number.
+#[tactic(auto, using(crate::proofs::Lists::spotted))]
+fn link_at(
+    alloc: Global,
+    nodes: &[Named],
+    number: usize,
+    table: &Table,
+) -> Result<[End; 2], ScenarioFault>
+    ensures { GivesAt (λ l. l) result (at_spot (spot.Link number) (link_in nodes.now (table_view table.now))) }
+{
+    at_spot(Spot::Link(number), link(alloc, nodes, table))
+}
+
+/// The links of tables.
+#[tactic(auto, using(crate::proofs::Lists::links_step, crate::proofs::Lists::links_fail))]
+fn links_of(
+    alloc: Global,
+    nodes: &[Named],
+    tables: &[&Table],
+) -> Result<Vec<[End; 2]>, ScenarioFault>
+    ensures { GivesAt (λ v. v.items) result (each spot.Link (λ _. link_in nodes.now) [] (map (λ t. table_view t.now) tables.now)) }
+{
+    let mut links = Vec::new(alloc);
+    for table in tables.iter() {
+        match link_at(alloc, nodes, links.len(), table) {
+            Ok(link) => {
+                let spot = Spot::Link(links.len());
+                if links.push(link).is_err() {
+                    return Err(ScenarioFault {
+                        spot,
+                        what: What::NoMemory,
+                    });
+                }
+            }
+            Err(fault) => return Err(fault),
+        }
+    }
+    Ok(links)
+}
+
+/// What the step of the table of that number says.
+#[tactic(auto, using(crate::proofs::Lists::spotted))]
+fn order_at(
+    alloc: Global,
+    nodes: &[Named],
+    links: usize,
+    number: usize,
+    table: &Table,
+) -> Result<Order, ScenarioFault>
+    ensures { GivesAt (λ o. o) result (at_spot (spot.Step number) (order_in nodes.now links (table_view table.now))) }
+{
+    at_spot(Spot::Step(number), order_in(alloc, nodes, links, table))
+}
+
+/// The steps of tables.
+#[tactic(auto, using(crate::proofs::Lists::orders_step, crate::proofs::Lists::orders_fail))]
+fn orders_of(
+    alloc: Global,
+    nodes: &[Named],
+    links: usize,
+    tables: &[&Table],
+) -> Result<Vec<Order>, ScenarioFault>
+    ensures { GivesAt (λ v. v.items) result (each spot.Step (λ _. order_in nodes.now links) [] (map (λ t. table_view t.now) tables.now)) }
+{
+    let mut orders = Vec::new(alloc);
+    for table in tables.iter() {
+        match order_at(alloc, nodes, links, orders.len(), table) {
+            Ok(order) => {
+                let spot = Spot::Step(orders.len());
+                if orders.push(order).is_err() {
+                    return Err(ScenarioFault {
+                        spot,
+                        what: What::NoMemory,
+                    });
+                }
+            }
+            Err(fault) => return Err(fault),
+        }
+    }
+    Ok(orders)
+}
+
+// ---- the document
+
+/// What kinds of node there are.
+fn places_of(alloc: Global, nodes: &[Named]) -> Result<Vec<Place>, What>
+    ensures { Gives (λ v. v.items) result (Ok (map (λ node. node.place) nodes.now)) }
+{
+    let mut places = Vec::new(alloc);
+    for node in nodes.iter() {
+        let Ok(place) = node.place.copy() else {
+            return Err(What::NoMemory);
+        };
+        if places.push(place).is_err() {
+            return Err(What::NoMemory);
+        }
+    }
+    Ok(places)
+}
+
+/// The topology of nodes and links.
+fn topology_of(alloc: Global, nodes: &[Named], links: Vec<[End; 2]>) -> Result<Topology, What>
+    ensures { Gives (λ t. t) result (topology_of nodes.now links.items) }
+{
+    let places = places_of(alloc, nodes)?;
+    match Topology::new(places, links) {
+        Ok(topology) => Ok(topology),
+        Err(fault) => Err(What::Topology(fault)),
+    }
+}
+
+/// What the tables of steps say, where there are this topology and these nodes and links.
+#[tactic(auto, unfolding(crate::specs::Meaning::with_steps))]
+fn with_steps(
+    alloc: Global,
+    capacity: usize,
+    topology: Topology,
+    nodes: &[Named],
+    links: usize,
+    step_tables: &[&Table],
+) -> Result<Scenario, ScenarioFault>
+    requires some { 1 ≤ capacity }
+    requires most { capacity ≤ 4096 }
+    ensures { GivesAt scenario_view result (with_steps capacity topology nodes.now links (map (λ t. table_view t.now) step_tables.now)) }
+{
+    let steps = orders_of(alloc, nodes, links, step_tables)?;
+    Ok(Scenario {
+        topology,
+        capacity,
+        steps,
+    })
+}
+
+/// What the tables of links and steps say, where there are these nodes.
+#[tactic(auto, unfolding(crate::specs::Meaning::joined), using(crate::proofs::Lists::spotted))]
+fn joined(
+    alloc: Global,
+    capacity: usize,
+    nodes: &[Named],
+    link_tables: &[&Table],
+    step_tables: &[&Table],
+) -> Result<Scenario, ScenarioFault>
+    requires some { 1 ≤ capacity }
+    requires most { capacity ≤ 4096 }
+    ensures { GivesAt scenario_view result (joined capacity nodes.now (map (λ t. table_view t.now) link_tables.now) (map (λ t. table_view t.now) step_tables.now)) }
+{
+    let links = links_of(alloc, nodes, link_tables)?;
+    let count = links.len();
+    let topology = at_spot(Spot::Top, topology_of(alloc, nodes, links))?;
+    with_steps(alloc, capacity, topology, nodes, count, step_tables)
+}
+
+/// What the tables of nodes, links and steps say.
+#[tactic(auto, unfolding(crate::specs::Meaning::content))]
+fn content(
+    alloc: Global,
+    capacity: usize,
+    node_tables: &[&Table],
+    link_tables: &[&Table],
+    step_tables: &[&Table],
+) -> Result<Scenario, ScenarioFault>
+    requires some { 1 ≤ capacity }
+    requires most { capacity ≤ 4096 }
+    ensures { GivesAt scenario_view result (content capacity (map (λ t. table_view t.now) node_tables.now) (map (λ t. table_view t.now) link_tables.now) (map (λ t. table_view t.now) step_tables.now)) }
+{
+    let nodes = nodes_of(alloc, node_tables)?;
+    joined(alloc, capacity, nodes.as_slice(), link_tables, step_tables)
+}
+
+/// The capacity of a document.
+fn capacity(table: &Table) -> Result<usize, What>
+    ensures value { Gives (λ n. n) result (optional key.Capacity 64 (between 1 4096) (table_view table.now)) }
+    ensures some { IfOk result (λ n. 1 ≤ n) }
+    ensures most { IfOk result (λ n. n ≤ 4096) }
+{
+    match value(table, Key::Capacity) {
+        None => Ok(CAPACITY),
+        Some(value) => {
+            let capacity = between(1, 4096, Key::Capacity, value)?;
+            Ok(capacity as usize)
+        }
+    }
+}
+
+/// The tables of an array that may be missing.
+fn tables_at<'a>(alloc: Global, table: &'a Table, key: Key) -> Result<Vec<&'a Table>, What>
+    ensures { Gives (λ v. map (λ t. table_view t.now) v.items) result (optional key [] tables (table_view table.now)) }
+{
+    match value(table, key) {
+        None => Ok(Vec::new(alloc)),
+        Some(value) => tables(alloc, key, value),
+    }
+}
+
+/// What a document says.
+#[tactic(auto, unfolding(crate::specs::Meaning::document), using(crate::proofs::Lists::spotted))]
+fn document(alloc: Global, table: &Table) -> Result<Scenario, ScenarioFault>
+    ensures { GivesAt scenario_view result (document (table_view table.now)) }
+{
+    at_spot(
+        Spot::Top,
+        only(table, &[Key::Capacity, Key::Node, Key::Link, Key::Step]),
+    )?;
+    let capacity = at_spot(Spot::Top, capacity(table))?;
+    let nodes = at_spot(Spot::Top, tables_at(alloc, table, Key::Node))?;
+    let links = at_spot(Spot::Top, tables_at(alloc, table, Key::Link))?;
+    let steps = at_spot(Spot::Top, tables_at(alloc, table, Key::Step))?;
+    content(
+        alloc,
+        capacity,
+        nodes.as_slice(),
+        links.as_slice(),
+        steps.as_slice(),
+    )
+}
+
+/// A fault of the text itself.
+fn text_fault(what: What) -> Result<Scenario, ScenarioFault>
+    ensures { result ≡ at_spot spot.Top (Err what) }
+{
+    Err(ScenarioFault {
+        spot: Spot::Top,
+        what,
+    })
+}
+
+/// The scenario that a text is: a document of TOML, of at most 16 MiB, with the keys `capacity` (1 to 4096, 64 where it is
+/// missing), and `node`, `link` and `step`, arrays of tables. A fault is the first in this order: the text itself; the keys
+/// of the document; nodes, links and steps by number, the topology before the steps. Within a table come `role` or `do`,
+/// then a key that it doesn't have, and then key by key what is missing, of another type, out of its values, doubled or
+/// not there. `NoMemory` comes where a growth was refused, in place of any other answer.
+pub fn read(alloc: Global, text: &str) -> Result<Scenario, ScenarioFault>
+    ensures { GivesAt scenario_view result (meaning text.now) }
+{
+    if text.len() > MOST_OCTETS {
+        return text_fault(What::Text);
+    }
+    match toml::table_from_str(alloc, text) {
+        Ok(table) => document(alloc, &table),
+        Err(error) => {
+            if error.is_memory() {
+                text_fault(What::NoMemory)
+            } else {
+                text_fault(What::Text)
+            }
+        }
+    }
+}

@@ -1,0 +1,367 @@
+//! The steps of a scenario.
+ghost use Rattle.std.specs.Prelude.{◌≡◌, ◌≤◌, [], IfOk, None, option_map};
+ghost use Rattle.toml.specs.View.{view, table_view};
+ghost use Rattle.hsr_scenario.specs.Told.{Gives};
+ghost use Rattle.hsr_scenario.specs.Tables.{between, moment, natural, needed, optional, word};
+ghost use Rattle.hsr_scenario.specs.Words.{deed_of, dir_of, mac_of, octets_of};
+ghost use Rattle.hsr_scenario.specs.Steps.{age, at_link, at_port, clock, drain, inject, life, link_numbered, order_in, order_of, perhaps, send, stepped, take, used_link};
+ghost use Rattle.hsr_scenario.specs.declared.fault.Key.TheVariants as key;
+ghost use Rattle.hsr_ring.specs.declared.step.Step.TheVariants as step;
+
+use crate::fault::{Key, What};
+use crate::links::{used_node, used_port};
+use crate::nodes::{Named, mac};
+use crate::table::{between, integer, needed, only, text, value};
+use crate::words::{Deed, deed_of, dir_of};
+use hex::FromHexError;
+use hsr_frame::Mac;
+use hsr_link::Dir;
+use hsr_node::Octets;
+use hsr_redbox::About;
+use hsr_ring::Step;
+use std::alloc::Global;
+use toml::{Table, Value};
+
+/// What a scenario does next.
+#[derive(Clone, Debug, Drop, PartialEq, Eq)]
+pub enum Order {
+    /// A step of the world.
+    Step(Step),
+    /// Whatever is on its way is brought to its end.
+    Drain,
+}
+
+// ---- values
+
+/// The moment of a step, in milliseconds.
+fn moment(table: &Table) -> Result<u64, What>
+    ensures { Gives (λ n. n) result (needed key.At moment (table_view table.now)) }
+{
+    let at = integer(Key::At, needed(table, Key::At)?)?;
+    if at < 0 {
+        return Err(What::BadValue(Key::At));
+    }
+    Ok(at as u64)
+}
+
+/// The link of a number.
+fn link_numbered(links: usize, number: i64) -> Option<usize>
+    ensures { result ≡ link_numbered links number }
+{
+    if number < 0 {
+        return None;
+    }
+    let link = number as usize;
+    if link < links { Some(link) } else { None }
+}
+
+/// The link that a step names.
+fn used_link(links: usize, table: &Table) -> Result<usize, What>
+    ensures { Gives (λ n. n) result (needed key.Link (used_link links) (table_view table.now)) }
+{
+    match link_numbered(links, integer(Key::Link, needed(table, Key::Link)?)?) {
+        Some(link) => Ok(link),
+        None => Err(What::NoSuchName),
+    }
+}
+
+/// The direction of a step.
+fn dir(table: &Table) -> Result<Dir, What>
+    ensures { Gives (λ d. d) result (needed key.Dir (word dir_of) (table_view table.now)) }
+{
+    match dir_of(text(Key::Dir, needed(table, Key::Dir)?)?) {
+        Some(dir) => Ok(dir),
+        None => Err(What::BadValue(Key::Dir)),
+    }
+}
+
+/// The octets that a value spells in hexadecimal digits.
+fn octets(alloc: Global, key: Key, value: &Value) -> Result<Octets, What>
+    ensures { Gives (λ o. o) result (word octets_of key (view value.now)) }
+{
+    match hex::decode(alloc, text(key, value)?) {
+        Ok(octets) => Ok(Octets::new(octets)),
+        Err(FromHexError::OutOfMemory) => Err(What::NoMemory),
+        Err(_) => Err(What::BadValue(key)),
+    }
+}
+
+/// The octets of an inject.
+fn injected(alloc: Global, table: &Table) -> Result<Octets, What>
+    ensures { Gives (λ o. o) result (needed key.Octets (word octets_of) (table_view table.now)) }
+{
+    octets(alloc, Key::Octets, needed(table, Key::Octets)?)
+}
+
+/// The destination of a send.
+fn destination(table: &Table) -> Result<Mac, What>
+    ensures { Gives (λ m. m) result (needed key.To (word mac_of) (table_view table.now)) }
+{
+    mac(Key::To, needed(table, Key::To)?)
+}
+
+/// A number of 16 bits.
+fn pair(key: Key, value: &Value) -> Result<u16, What>
+    ensures { Gives (λ n. n) result (between 0 65535 key (view value.now)) }
+{
+    let number = between(0, 65535, key, value)?;
+    Ok(number as u16)
+}
+
+/// The type of a send.
+fn kind(table: &Table) -> Result<u16, What>
+    ensures { Gives (λ n. n) result (needed key.Kind (between 0 65535) (table_view table.now)) }
+{
+    pair(Key::Kind, needed(table, Key::Kind)?)
+}
+
+/// The payload of a send.
+fn payload(alloc: Global, table: &Table) -> Result<Octets, What>
+    ensures { Gives (λ o. o) result (optional key.Payload [] (word octets_of) (table_view table.now)) }
+{
+    match value(table, Key::Payload) {
+        None => Ok(Octets::new(Vec::new(alloc))),
+        Some(value) => octets(alloc, Key::Payload, value),
+    }
+}
+
+/// The control information of a send's VLAN tag, if it has one.
+fn vlan(table: &Table) -> Result<Option<u16>, What>
+    ensures { Gives (λ v. v) result (optional key.Vlan None (perhaps (between 0 65535)) (table_view table.now)) }
+{
+    match value(table, Key::Vlan) {
+        None => Ok(None),
+        Some(value) => {
+            let vlan = pair(Key::Vlan, value)?;
+            Ok(Some(vlan))
+        }
+    }
+}
+
+/// The place of a send's source among the addresses of its node.
+fn from(table: &Table) -> Result<u8, What>
+    ensures { Gives (λ n. n) result (optional key.From 0 (between 0 15) (table_view table.now)) }
+{
+    match value(table, Key::From) {
+        None => Ok(0),
+        Some(value) => {
+            let from = between(0, 15, Key::From, value)?;
+            Ok(from as u8)
+        }
+    }
+}
+
+/// The address that a supervision frame is about, if it isn't the node itself.
+fn about(table: &Table) -> Result<Option<Mac>, What>
+    ensures { Gives (λ m. m) result (optional key.About None (perhaps (word mac_of)) (table_view table.now)) }
+{
+    match value(table, Key::About) {
+        None => Ok(None),
+        Some(value) => {
+            let mac = mac(Key::About, value)?;
+            Ok(Some(mac))
+        }
+    }
+}
+
+// ---- steps
+
+#[tactic(auto, unfolding(crate::specs::Steps::clock))]
+fn clock(table: &Table) -> Result<Step, What>
+    ensures { Gives (λ s. s) result (clock (table_view table.now)) }
+{
+    only(table, &[Key::Do, Key::At])?;
+    let at = moment(table)?;
+    Ok(Step::Clock { at })
+}
+
+/// The keys of a send.
+const SEND_KEYS: [Key; 7] = [
+    Key::Do,
+    Key::Node,
+    Key::To,
+    Key::Kind,
+    Key::Payload,
+    Key::Vlan,
+    Key::From,
+];
+
+#[tactic(auto, unfolding(crate::specs::Steps::send))]
+fn send(alloc: Global, nodes: &[Named], table: &Table) -> Result<Step, What>
+    ensures { Gives (λ s. s) result (send nodes.now (table_view table.now)) }
+{
+    only(table, &SEND_KEYS)?;
+    let node = used_node(nodes, table)?;
+    let dst = destination(table)?;
+    let kind = kind(table)?;
+    let payload = payload(alloc, table)?;
+    let vlan = vlan(table)?;
+    let from = from(table)?;
+    Ok(Step::Send {
+        node,
+        from,
+        dst,
+        vlan,
+        kind,
+        payload,
+    })
+}
+
+#[tactic(auto, unfolding(crate::specs::Steps::life))]
+fn life(nodes: &[Named], table: &Table) -> Result<Step, What>
+    ensures { Gives (λ s. s) result (life nodes.now (table_view table.now)) }
+{
+    only(table, &[Key::Do, Key::Node, Key::About])?;
+    let node = used_node(nodes, table)?;
+    match about(table)? {
+        None => Ok(Step::Supervise {
+            node,
+            about: About::Own,
+        }),
+        Some(mac) => Ok(Step::Supervise {
+            node,
+            about: About::Proxied(mac),
+        }),
+    }
+}
+
+#[tactic(auto, unfolding(crate::specs::Steps::age))]
+fn age(nodes: &[Named], table: &Table) -> Result<Step, What>
+    ensures { Gives (λ s. s) result (age nodes.now (table_view table.now)) }
+{
+    only(table, &[Key::Do, Key::Node])?;
+    let node = used_node(nodes, table)?;
+    Ok(Step::Age { node })
+}
+
+#[tactic(auto, unfolding(crate::specs::Steps::at_port))]
+fn put(nodes: &[Named], table: &Table) -> Result<Step, What>
+    ensures { Gives (λ s. s) result (at_port step.Put nodes.now (table_view table.now)) }
+{
+    only(table, &[Key::Do, Key::Port])?;
+    let end = used_port(nodes, table)?;
+    Ok(Step::Put {
+        node: end.node,
+        port: end.port,
+    })
+}
+
+#[tactic(auto, unfolding(crate::specs::Steps::at_port))]
+fn judge(nodes: &[Named], table: &Table) -> Result<Step, What>
+    ensures { Gives (λ s. s) result (at_port step.Judge nodes.now (table_view table.now)) }
+{
+    only(table, &[Key::Do, Key::Port])?;
+    let end = used_port(nodes, table)?;
+    Ok(Step::Judge {
+        node: end.node,
+        port: end.port,
+    })
+}
+
+#[tactic(auto, unfolding(crate::specs::Steps::take))]
+fn take(links: usize, table: &Table) -> Result<Step, What>
+    ensures { Gives (λ s. s) result (take links (table_view table.now)) }
+{
+    only(table, &[Key::Do, Key::Link, Key::Dir])?;
+    let link = used_link(links, table)?;
+    let dir = dir(table)?;
+    Ok(Step::Take { link, dir })
+}
+
+#[tactic(auto, unfolding(crate::specs::Steps::at_link))]
+fn cut(links: usize, table: &Table) -> Result<Step, What>
+    ensures { Gives (λ s. s) result (at_link step.Cut links (table_view table.now)) }
+{
+    only(table, &[Key::Do, Key::Link])?;
+    let link = used_link(links, table)?;
+    Ok(Step::Cut { link })
+}
+
+#[tactic(auto, unfolding(crate::specs::Steps::at_link))]
+fn mend(links: usize, table: &Table) -> Result<Step, What>
+    ensures { Gives (λ s. s) result (at_link step.Mend links (table_view table.now)) }
+{
+    only(table, &[Key::Do, Key::Link])?;
+    let link = used_link(links, table)?;
+    Ok(Step::Mend { link })
+}
+
+#[tactic(auto, unfolding(crate::specs::Steps::inject))]
+fn inject(alloc: Global, links: usize, table: &Table) -> Result<Step, What>
+    ensures { Gives (λ s. s) result (inject links (table_view table.now)) }
+{
+    only(table, &[Key::Do, Key::Link, Key::Dir, Key::Octets])?;
+    let link = used_link(links, table)?;
+    let dir = dir(table)?;
+    let octets = injected(alloc, table)?;
+    Ok(Step::Inject { link, dir, octets })
+}
+
+#[tactic(auto, unfolding(crate::specs::Steps::drain))]
+fn drain(table: &Table) -> Result<Order, What>
+    ensures { Gives (λ o. o) result (drain (table_view table.now)) }
+{
+    only(table, &[Key::Do])?;
+    Ok(Order::Drain)
+}
+
+// ---- the table of a step
+
+/// What a step does.
+fn deed(table: &Table) -> Result<Deed, What>
+    ensures { Gives (λ d. d) result (needed key.Do (word deed_of) (table_view table.now)) }
+{
+    match deed_of(text(Key::Do, needed(table, Key::Do)?)?) {
+        Some(deed) => Ok(deed),
+        None => Err(What::BadValue(Key::Do)),
+    }
+}
+
+/// A step of the world as what a scenario does.
+fn stepped(step: Result<Step, What>) -> Result<Order, What>
+    ensures { result ≡ stepped step }
+{
+    match step {
+        Ok(step) => Ok(Order::Step(step)),
+        Err(what) => Err(what),
+    }
+}
+
+/// What the table of a step of that kind says.
+fn order_of(
+    deed: Deed,
+    alloc: Global,
+    nodes: &[Named],
+    links: usize,
+    table: &Table,
+) -> Result<Order, What>
+    ensures { Gives (λ o. o) result (order_of deed nodes.now links (table_view table.now)) }
+{
+    match deed {
+        Deed::Clock => stepped(clock(table)),
+        Deed::Send => stepped(send(alloc, nodes, table)),
+        Deed::Life => stepped(life(nodes, table)),
+        Deed::Age => stepped(age(nodes, table)),
+        Deed::Put => stepped(put(nodes, table)),
+        Deed::Judge => stepped(judge(nodes, table)),
+        Deed::Take => stepped(take(links, table)),
+        Deed::Cut => stepped(cut(links, table)),
+        Deed::Mend => stepped(mend(links, table)),
+        Deed::Inject => stepped(inject(alloc, links, table)),
+        Deed::Drain => drain(table),
+    }
+}
+
+/// What the table of a step says, where there are these nodes and so many links.
+#[tactic(auto, unfolding(crate::specs::Steps::order_in))]
+pub(crate) fn order_in(
+    alloc: Global,
+    nodes: &[Named],
+    links: usize,
+    table: &Table,
+) -> Result<Order, What>
+    ensures { Gives (λ o. o) result (order_in nodes.now links (table_view table.now)) }
+{
+    let deed = deed(table)?;
+    order_of(deed, alloc, nodes, links, table)
+}
