@@ -45,3 +45,15 @@ pub mod Certifying
 pub mod Judging
 pub mod Premised
 pub mod Clearing
+pub mod AsOften
+pub mod Decided
+pub mod Forwards
+pub mod Shaped
+pub mod Closing
+pub mod Known
+pub mod Idle
+pub mod Plan
+pub mod Agreed
+pub mod Receiving
+pub mod Keeping
+pub mod MainPass

@@ -15,3 +15,11 @@ pub mod Logged
 pub mod Round
 pub mod Certificate
 pub mod Listed
+pub mod Shape
+pub mod Receipts
+pub mod Checked
+pub mod InOrder
+pub mod Disagree
+pub mod Origin
+pub mod Workers
+pub mod Passes

@@ -1,14 +1,18 @@
 //! A run that is finished, and agrees with itself.
-ghost use Rattle.std.specs.Prelude.{◌≡◌, ◌<◌, ◌^◌, length};
+ghost use Rattle.std.specs.Prelude.{◌≡◌, ◌<◌, ◌^◌, length, IfErr, IfOk};
 ghost use Rattle.hsr_frame.specs.Counters.{AreWithin};
 ghost use Rattle.hsr_audit.specs.Finished.{IsFinished};
 ghost use Rattle.hsr_audit.specs.Run.{past_of, place_of, record_of, rows_of};
 
+use crate::check::fault_of;
+use crate::disagree::CheckFault;
+use crate::parts::Parts;
 use crate::planned::Planned;
 use crate::topology::Topology;
 use hsr_frame::Counters;
 use hsr_link::Row;
-use hsr_node::{Entry, Kept};
+use hsr_node::{Entry, Kept, Pass};
+use std::alloc::Global;
 use std::marker::Model;
 
 /// A finished run: its nodes with their records, its links with their rows, and its plan. Each outcome is what the past
@@ -38,6 +42,54 @@ impl<const C: usize> Model for Closed<C> {
 
 impl<const C: usize> Closed<C> {
     ghost use Rattle.hsr_node.specs.Record.{counters};
+    ghost use Rattle.hsr_audit.specs.Checked.{Agrees, HasNoStorm, IfDisagree, IsFirst};
+    ghost use Rattle.hsr_audit.specs.Finished.{run_of};
+
+    /// The run of these parts, if they agree: if records, rows and receipts tell the same, and nothing is under way. Else
+    /// the parts come back as they were, with the first cause, which is there exactly where they don't agree; or with
+    /// `NoMemory` where room for the check was refused.
+    #[tactic(auto, using(crate::proofs::Agreed::calm, crate::proofs::Agreed::refused))]
+    pub fn check(
+        alloc: Global,
+        topology: Topology,
+        plan: Vec<Planned>,
+        kept: Vec<Kept<C>>,
+        rows: Vec<Vec<Row>>,
+        passes: Vec<Pass>,
+    ) -> Result<Closed<C>, (Parts<C>, CheckFault)>
+        ensures closed { IfOk result (λ closed. closed ≡ record { run = run_of C topology kept.entry.items rows.items; plan = plan.items }) }
+        ensures agrees { IfOk result (λ closed. Agrees C topology kept.entry.items rows.items passes.items plan.items) }
+        ensures first { IfErr result (λ e. IfDisagree e.1 (IsFirst C topology kept.entry.items rows.items passes.items plan.items)) }
+        ensures refused { IfErr result (λ e. IfDisagree e.1 (λ d. ¬ Agrees C topology kept.entry.items rows.items passes.items plan.items)) }
+        ensures whole { IfErr result (λ e. e.0 ≡ record { topology = topology; plan = plan; kept = kept.entry; rows = rows; passes = passes }) }
+        ensures no_storm { IfOk result (λ closed. HasNoStorm closed.run) }
+    {
+        match fault_of(
+            alloc,
+            &topology,
+            kept.as_slice(),
+            rows.as_slice(),
+            passes.as_slice(),
+            plan.as_slice(),
+        ) {
+            Some(fault) => Err((
+                Parts {
+                    topology,
+                    plan,
+                    kept,
+                    rows,
+                    passes,
+                },
+                fault,
+            )),
+            None => Ok(Closed {
+                topology,
+                kept,
+                rows,
+                plan,
+            }),
+        }
+    }
 
     /// The nodes and links of the run.
     pub fn topology(&self) -> &Topology

@@ -15,7 +15,7 @@ fn is_end_of(end: End, link: [End; 2]) -> bool
 }
 
 /// Whether one of the links has this end.
-fn is_used(links: &[[End; 2]], end: End) -> bool
+pub(crate) fn is_used(links: &[[End; 2]], end: End) -> bool
     ensures { result ≡ is_used links.now end }
 {
     links.iter().any(|link| is_end_of(end, *link))

@@ -1,0 +1,25 @@
+use Rattle.std.proofs.Common.{◌≡◌, ◌+◌, ◌++◌, [], ◌∷◌, List, get_or, set, sym, subst, ap, ◌∙◌}
+use Rattle.std.proofs.lemmas.List.{get_or_read_under}
+use Rattle.hsr_node.specs.declared.entry.Receipt.{Receipt}
+use Rattle.hsr_node.specs.declared.entry.Entry.{Entry}
+use Rattle.hsr_node.specs.Kept.{Receipts}
+use Rattle.hsr_audit.specs.Passes.{IsKeptNext, IsNext}
+use Rattle.hsr_audit.proofs.Keeping.{keeps}
+use Rattle.hsr_audit.proofs.passes.keep_next.Goals as goal
+
+pub returns-clause-kept : goal.returns-clause-kept
+returns-clause-kept g c is =
+    let node = c.args.planned.now.node in
+    let before = c.args.pass.now.receipts in
+    let e = c.index-kept-node.result in
+    let x = c.index-entries-place.result in
+    let place = c.in-Some.place in
+    let entries_are : c.entries-entries.result.now ≡ e.entries = c.entries-entries.ensures.entries in
+    let N : List Entry → Type 0 = λ xs. IsNext xs c.index.result.now place in
+    let S : List Entry → Type 0 = λ xs. x ≡ get_or xs place x in
+    let made = c.in_ok-receipt_of.ensures in
+    let put = ap (λ (p : Receipts). p.receipts) c.in_ok-add_receipt.ensures in
+    let P : List Receipt → Type 0 = λ after. IsKeptNext c.args.kept.now c.args.planned.now c.args.next.now.items (set c.args.next.now.items node (place + 1)) before after in
+    subst P (ap (λ (r : Receipt). before ++ r ∷ []) (sym made) ∙ sym put)
+    (keeps c.args.kept.now c.args.next.now.items c.args.planned.now e c.index.result.now c.requires c.if-node-kept.false c.index-kept-node.is (get_or_read_under c.args.next.now.items node _ c.index.result.now 0 c.index.ensures c.if-node-kept.false (sym c.requires))
+    place x before (subst N entries_are c.in-Some.ensures) (subst S entries_are c.index-entries-place.is))

@@ -1,0 +1,189 @@
+//! The passes that records and a plan tell of.
+ghost use Rattle.std.specs.Prelude.{◌≡◌, ◌≤◌, ◌<◌, ◌+◌, ◌++◌, [], ◌∷◌, ◌==◌, if◌then◌else◌, ℕ, length, map, IfOk, MatchOption, OnOk};
+ghost use Rattle.hsr_audit.specs.Passes.{AreMain, IsAhead, IsKeptNext, IsLeft, IsNext, IsOver, IsToldBy, other_in, others_in, others_of, receipts_of};
+ghost use Rattle.hsr_audit.specs.Receipts.{HasReceipts};
+
+use crate::planned::Planned;
+use hsr_frame::NoMemory;
+use hsr_node::{Entry, Kept, Pass, Receipt};
+use std::alloc::Global;
+
+/// The receipt of an entry that stands at a place of a node.
+fn receipt_of(node: usize, place: usize, entry: &Entry) -> Result<Receipt, NoMemory>
+    ensures { IfOk result (λ receipt. receipt ≡ record { node = node; place = place; entry = entry.now }) }
+{
+    let entry = Entry {
+        worker: entry.worker,
+        at: entry.at,
+        event: entry.event.copy()?,
+        outcome: entry.outcome,
+    };
+    Ok(Receipt { node, place, entry })
+}
+
+fn add_pass(passes: &mut Vec<Pass>, pass: Pass) -> Result<(), NoMemory>
+    ensures { OnOk result (passes.new.items ≡ passes.old.items ++ pass ∷ []) }
+{
+    match passes.push(pass) {
+        Ok(()) => Ok(()),
+        Err(_) => Err(NoMemory),
+    }
+}
+
+fn add_receipt(pass: &mut Pass, receipt: Receipt) -> Result<(), NoMemory>
+    ensures { OnOk result (pass.new ≡ record pass.old { receipts = pass.old.receipts ++ receipt ∷ [] }) }
+{
+    match pass.keep(receipt) {
+        Ok(()) => Ok(()),
+        Err(_) => Err(NoMemory),
+    }
+}
+
+/// Puts the receipt of an entry last, if another than the main worker brought it.
+#[tactic(auto, using(crate::proofs::Receiving::one_more))]
+fn add_other(
+    alloc: Global,
+    passes: &mut Vec<Pass>,
+    node: usize,
+    place: usize,
+    entry: &Entry,
+) -> Result<(), NoMemory>
+    ensures { OnOk result ((w : ℕ) → receipts_of w passes.new.items ≡ receipts_of w passes.old.items ++ other_in w node place entry.now) }
+{
+    if entry.worker == 0 {
+        return Ok(());
+    }
+    let mut pass = Pass::new(alloc, entry.worker);
+    add_receipt(&mut pass, receipt_of(node, place, entry)?)?;
+    add_pass(passes, pass)
+}
+
+/// Puts those of a record last.
+fn add_others_in(
+    alloc: Global,
+    passes: &mut Vec<Pass>,
+    node: usize,
+    entries: &[Entry],
+) -> Result<(), NoMemory>
+    ensures { OnOk result ((w : ℕ) → receipts_of w passes.new.items ≡ receipts_of w passes.old.items ++ others_in w node 0 entries.now) }
+{
+    for (place, entry) in entries.iter().enumerate() {
+        add_other(alloc, passes, node, place, entry)?;
+    }
+    Ok(())
+}
+
+/// Puts those of all records last, in node and place order.
+fn add_others<const C: usize>(
+    alloc: Global,
+    passes: &mut Vec<Pass>,
+    kept: &[Kept<C>],
+) -> Result<(), NoMemory>
+    ensures { OnOk result ((w : ℕ) → receipts_of w passes.new.items ≡ receipts_of w passes.old.items ++ others_of w 0 kept.now) }
+{
+    for (node, record) in kept.iter().enumerate() {
+        add_others_in(alloc, passes, node, record.entries())?;
+    }
+    Ok(())
+}
+
+/// The first place from one on at which an entry of the main worker stands.
+fn next_place(entries: &[Entry], from: usize) -> Option<usize>
+    ensures { MatchOption result (IsOver entries.now from) (λ place. IsNext entries.now from place) }
+{
+    for place in from..entries.len() {
+        if entries[place].worker == 0 {
+            return Some(place);
+        }
+    }
+    None
+}
+
+/// Puts the receipt of the main worker's next entry of a node last, where there is one: of the node for which something is
+/// planned, from its next place on.
+fn keep_next<const C: usize>(
+    kept: &[Kept<C>],
+    next: &mut Vec<usize>,
+    pass: &mut Pass,
+    planned: &Planned,
+) -> Result<bool, NoMemory>
+    requires { length next.old.items ≡ length kept.now }
+    ensures worker { OnOk result (pass.new.worker ≡ pass.old.worker) }
+    ensures long { OnOk result (length next.new.items ≡ length kept.now) }
+    ensures kept { IfOk result (λ is. is ≡ true → IsKeptNext kept.now planned.now next.old.items next.new.items pass.old.receipts pass.new.receipts) }
+    ensures stops { IfOk result (λ is. is ≡ false → planned.now.node < length kept.now → (rest : List Planned) → IsLeft kept.now next.old.items (planned.now ∷ rest) → ⊥) }
+{
+    let node = planned.node;
+    if node >= kept.len() {
+        return Ok(false);
+    }
+    let entries = kept[node].entries();
+    let Some(place) = next_place(entries, next[node]) else {
+        return Ok(false);
+    };
+    add_receipt(pass, receipt_of(node, place, &entries[place])?)?;
+    next[node] = place + 1;
+    Ok(true)
+}
+
+ghost use Rattle.std.specs.Prelude.{List, true, false};
+ghost use Rattle.hsr_audit.specs.declared.planned.Planned.{Planned};
+
+fn add_place(next: &mut Vec<usize>) -> Result<(), NoMemory>
+    ensures { OnOk result (next.new.items ≡ next.old.items ++ 0 ∷ []) }
+{
+    match next.push(0) {
+        Ok(()) => Ok(()),
+        Err(_) => Err(NoMemory),
+    }
+}
+
+/// A first place for each node.
+#[tactic(auto, using(crate::proofs::MainPass::first_more))]
+fn first_places(alloc: Global, count: usize) -> Result<Vec<usize>, NoMemory>
+    ensures { IfOk result (λ next. AreFirst count next.items) }
+{
+    let mut next = Vec::new(alloc);
+    for node in 0..count {
+        add_place(&mut next)?;
+    }
+    Ok(next)
+}
+
+ghost use Rattle.hsr_audit.specs.Passes.{AreFirst};
+
+/// The main worker's receipts of what is planned, in that order; up to the first that no entry is left for.
+#[tactic(auto, using(crate::proofs::MainPass::never_stops, crate::proofs::MainPass::up_to_all, crate::proofs::MainPass::up_to_more, crate::proofs::MainPass::up_to_none))]
+fn main_pass<const C: usize>(
+    alloc: Global,
+    kept: &[Kept<C>],
+    plan: &[Planned],
+) -> Result<Pass, NoMemory>
+    ensures worker { IfOk result (λ pass. pass.worker ≡ 0) }
+    ensures main { IfOk result (λ pass. IsToldBy kept.now plan.now → AreMain kept.now plan.now pass.receipts) }
+{
+    let mut next = first_places(alloc, kept.len())?;
+    let mut pass = Pass::new(alloc, 0);
+    for (i, planned) in plan.iter().enumerate() {
+        if !keep_next(kept, &mut next, &mut pass, planned)? {
+            return Ok(pass);
+        }
+    }
+    Ok(pass)
+}
+
+/// Passes of these records, in which the main worker did what is planned, in that order, and each other worker what the
+/// records tell, in node and place order. They are right where the records tell of the plan.
+#[tactic(auto, using(crate::proofs::Receiving::has_receipts))]
+pub fn passes_of<const C: usize>(
+    alloc: Global,
+    kept: &[Kept<C>],
+    plan: &[Planned],
+) -> Result<Vec<Pass>, NoMemory>
+    ensures { IfOk result (λ passes. IsToldBy kept.now plan.now → HasReceipts kept.now passes.items plan.now) }
+{
+    let mut passes = Vec::new(alloc);
+    add_pass(&mut passes, main_pass(alloc, kept, plan)?)?;
+    add_others(alloc, &mut passes, kept)?;
+    Ok(passes)
+}
