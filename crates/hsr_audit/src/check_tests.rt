@@ -1,3 +1,4 @@
+ghost use Rattle.std.specs.Prelude.{◌≤◌};
 ghost use Rattle.hsr_node.specs.Place.{HasOwnAddress};
 
 use super::*;
@@ -69,7 +70,9 @@ struct Making {
 }
 
 /// So many nodes, and as many links, on which nothing was done.
-fn begun(rt: &HostRuntime, count: usize) -> Result<Making, Fail> {
+fn begun(rt: &HostRuntime, count: usize) -> Result<Making, Fail>
+    requires { count ≤ 3 }
+{
     let mut kept = Vec::new(rt.alloc());
     let mut rows = Vec::new(rt.alloc());
     for number in 0..count {
