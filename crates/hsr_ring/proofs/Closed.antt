@@ -296,10 +296,10 @@ module _ (capacity : ℕ) (places : List Place) (links : List (List End)) (w : W
   sound : IsSound capacity w
   sound = subst (IsSound capacity) r.is (always_sound capacity r.steps (new_world r.room places links) (first_sound capacity r.room places links wired))
 
-  wires : map wire w.lines ≡ map wire_of links
+  pub wires : map wire w.lines ≡ map wire_of links
   wires = subst (λ (v : World). map wire v.lines ≡ map wire_of links) r.is ((run_keeps capacity r.steps (new_world r.room places links)).wires ∙ first_wires r.room links)
 
-  lines_counted : length w.lines ≡ length links
+  pub lines_counted : length w.lines ≡ length links
   lines_counted = sym (length-map w.lines wire) ∙ (ap length wires ∙ length-map links wire_of)
 
   ends : ℕ → List End
@@ -321,7 +321,7 @@ module _ (capacity : ℕ) (places : List Place) (links : List (List End)) (w : W
       line_of places (slice_index_or links l []) (line_in w.lines l) (wired.joined l [] below)
       (sym (get_or-map wire w.lines l _ nowhere (omega (arith, below, lines_counted))) ∙ (ap (λ ws. get_or ws l nowhere) wires ∙ get_or-map wire_of links l [] nowhere below))
 
-  linked : IsLinked (map wire w.lines) w.records
+  pub linked : IsLinked (map wire w.lines) w.records
   linked =
       subst (λ (v : World). IsLinked (map wire v.lines) v.records) r.is
       (linked_run capacity r.steps (new_world r.room places links) (first_sound capacity r.room places links wired) (λ n port. inr (ap (arrivals port) (no_entries places n))))

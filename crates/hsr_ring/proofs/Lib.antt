@@ -23,3 +23,4 @@ pub mod Linked
 pub mod Closed
 pub mod FitFrames
 pub mod Plans
+pub mod Ending

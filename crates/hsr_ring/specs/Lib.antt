@@ -13,3 +13,4 @@ pub mod Lawful
 pub mod Fit
 pub mod Fitting
 pub mod Ports
+pub mod Ending

@@ -1,6 +1,7 @@
 //! A ring of nodes in one world: what a step makes of it, and what holds of it after any steps.
 #![tactic(auto)]
 
+mod closing;
 mod entering;
 mod giving;
 mod hand;
@@ -23,6 +24,8 @@ pub use law::{
 pub use step::{DrainFault, Step, WorldFault};
 pub use world::World;
 
+#[cfg(test)]
+mod closing_tests;
 #[cfg(test)]
 mod rows;
 #[cfg(test)]

@@ -5,6 +5,7 @@ ghost use Rattle.hsr_ring.specs.Entering.{IsUnplanned};
 ghost use Rattle.hsr_node.specs.Kept.{Record};
 ghost use Rattle.hsr_ring.specs.World.{port_worker};
 
+use crate::closing::{Rest, closed_of};
 use crate::entering::enter;
 use crate::hand::{clear, held};
 use crate::line::{Line, cut_at, inject_at, mend_at, take_at};
@@ -13,7 +14,7 @@ use crate::spot::put_at_end;
 use crate::starting::{new_lines, new_nodes};
 use crate::step::{Step, WorldFault};
 use crate::waiting::next_step;
-use hsr_audit::{End, Planned, Topology, ports};
+use hsr_audit::{CheckFault, Closed, End, Planned, Topology, ports};
 use hsr_frame::{Counters, Mac};
 use hsr_link::{Dir, Row};
 use hsr_node::{Carried, Entry, Event, Kept, Octets};
@@ -416,5 +417,58 @@ impl<const C: usize> Running<C> {
         ensures { result ≡ next_step self.now }
     {
         next_step(ports, &self.lines)
+    }
+}
+
+impl<const C: usize> Running<C> {
+    ghost use Rattle.hsr_audit.specs.Checked.{IfDisagree};
+    ghost use Rattle.hsr_ring.specs.Ending.{IsCalm, IsOpen};
+    ghost use Rattle.hsr_ring.specs.Lawful.{IsEnded, finished_of};
+    ghost use Rattle.hsr_ring.specs.Reached.{IsReached};
+
+    /// The finished run that a world of this topology is. Else all comes back as it was, with the first cause.
+    pub(crate) fn close(
+        self,
+        topology: Topology,
+    ) -> Result<Closed<C>, (Topology, Running<C>, CheckFault)>
+        requires { IsReached C topology.places topology.links self }
+        ensures closed { IfOk result (λ closed. closed ≡ finished_of C self.entry) }
+        ensures ended { IfOk result (λ closed. IsEnded self.entry) }
+        ensures no_storm { IfOk result (λ closed. IsCalm closed.run) }
+        ensures whole { IfErr result (λ e. (e.0 ≡ topology) × (e.1 ≡ self.entry)) }
+        ensures refused { IfErr result (λ e. IfDisagree e.2 (λ d. ¬ IsEnded self.entry)) }
+        ensures first { IfErr result (λ e. IfDisagree e.2 (λ d. IsOpen (finished_of C self.entry).run d)) }
+    {
+        let _ = topology.places();
+        let Running {
+            alloc,
+            moment,
+            nodes,
+            lines,
+            plan,
+        } = self;
+        let rest = Rest {
+            topology,
+            nodes,
+            plan,
+        };
+        match closed_of(alloc, rest, lines.as_slice()) {
+            Ok(closed) => Ok(closed),
+            Err((rest, fault)) => {
+                let Rest {
+                    topology,
+                    nodes,
+                    plan,
+                } = rest;
+                let running = Running {
+                    alloc,
+                    moment,
+                    nodes,
+                    lines,
+                    plan,
+                };
+                Err((topology, running, fault))
+            }
+        }
     }
 }

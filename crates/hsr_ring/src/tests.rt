@@ -41,7 +41,7 @@ pub(crate) fn ring(rt: &HostRuntime) -> Result<World<512>, Fail> {
 }
 
 /// Node 0 sends to the group.
-fn send(rt: &HostRuntime) -> Result<Step, Fail> {
+pub(crate) fn send(rt: &HostRuntime) -> Result<Step, Fail> {
     send_to(rt, GROUP)
 }
 

@@ -6,7 +6,7 @@ use crate::law::{places_fit, step_fits};
 use crate::port::Port;
 use crate::running::Running;
 use crate::step::{DrainFault, Step, WorldFault};
-use hsr_audit::Topology;
+use hsr_audit::{CheckFault, Closed, Topology};
 use hsr_frame::{Counters, NoMemory};
 use hsr_link::Row;
 use hsr_node::Entry;
@@ -34,7 +34,9 @@ impl<const C: usize> Model for World<C> {
 }
 
 impl<const C: usize> World<C> {
-    ghost use Rattle.hsr_ring.specs.Lawful.{IsLawful};
+    ghost use Rattle.hsr_audit.specs.Checked.{IfDisagree};
+    ghost use Rattle.hsr_ring.specs.Ending.{IsCalm, IsOpen};
+    ghost use Rattle.hsr_ring.specs.Lawful.{IsEnded, IsLawful, finished_of};
     ghost use Rattle.hsr_ring.specs.Stopping.{IsDrainFault, Runs, Stops};
     ghost use Rattle.hsr_ring.specs.World.{Drains, line_at, new_world, next_step, owner_at, record_at, tried};
     ghost use Rattle.hsr_node.specs.Record.{counters};
@@ -154,5 +156,34 @@ impl<const C: usize> World<C> {
         ensures { IsLawful C self.now }
     {
         let _ = self.topology.places();
+    }
+
+    /// Closes the world: a finished run exactly where nothing waits in an outbox, in a hand or on a link and nothing was
+    /// injected. Else the world comes back as it was, with the first cause; or with `NoMemory` where room for copies or
+    /// the check was refused.
+    pub fn close(self) -> Result<Closed<C>, (World<C>, CheckFault)>
+        ensures closed { IfOk result (λ closed. closed ≡ finished_of C self.entry) }
+        ensures ended { IfOk result (λ closed. IsEnded self.entry) }
+        ensures no_storm { IfOk result (λ closed. IsCalm closed.run) }
+        ensures whole { IfErr result (λ e. e.0 ≡ self.entry) }
+        ensures refused { IfErr result (λ e. IfDisagree e.1 (λ d. ¬ IsEnded self.entry)) }
+        ensures first { IfErr result (λ e. IfDisagree e.1 (λ d. IsOpen (finished_of C self.entry).run d)) }
+    {
+        let World {
+            topology,
+            running,
+            ports,
+        } = self;
+        match running.close(topology) {
+            Ok(closed) => Ok(closed),
+            Err((topology, running, fault)) => Err((
+                World {
+                    topology,
+                    running,
+                    ports,
+                },
+                fault,
+            )),
+        }
     }
 }

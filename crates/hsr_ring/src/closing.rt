@@ -1,0 +1,107 @@
+//! What a world hands over where it is closed.
+ghost use Rattle.std.specs.Prelude.{◌≡◌, IfErr, IfOk, map};
+ghost use Rattle.hsr_audit.specs.Checked.{IfDisagree};
+ghost use Rattle.hsr_audit.specs.Finished.{items_of};
+ghost use Rattle.hsr_ring.specs.Ending.{AreTold, IsToldClosed, IsToldOpen, rows_in};
+ghost use Rattle.hsr_ring.specs.Views.{line_view};
+
+use crate::line::Line;
+use hsr_audit::{CheckFault, Closed, Parts, Planned, Topology, passes_of};
+use hsr_frame::NoMemory;
+use hsr_link::Row;
+use hsr_node::{Kept, Pass};
+use std::alloc::Global;
+
+/// What a world is made of, but its links.
+#[derive(Drop)]
+pub(crate) struct Rest<const C: usize> {
+    pub(crate) topology: Topology,
+    pub(crate) nodes: Vec<Kept<C>>,
+    pub(crate) plan: Vec<Planned>,
+}
+
+/// The rows of its links, and what its workers were answered.
+#[derive(Drop)]
+struct Told {
+    rows: Vec<Vec<Row>>,
+    passes: Vec<Pass>,
+}
+
+fn copies_of(alloc: Global, rows: &[Row]) -> Result<Vec<Row>, NoMemory>
+    ensures { IfOk result (λ copies. copies.items ≡ rows.now) }
+{
+    let mut copies = Vec::new(alloc);
+    for row in rows.iter() {
+        let copy = row.copy()?;
+        if copies.push(copy).is_err() {
+            return Err(NoMemory);
+        }
+    }
+    Ok(copies)
+}
+
+/// A copy of the rows of each link.
+fn rows_of(alloc: Global, lines: &[Line]) -> Result<Vec<Vec<Row>>, NoMemory>
+    ensures { IfOk result (λ rows. map items_of rows.items ≡ map rows_in (map line_view lines.now)) }
+{
+    let mut rows = Vec::new(alloc);
+    for line in lines.iter() {
+        let copies = copies_of(alloc, line.link.rows())?;
+        if rows.push(copies).is_err() {
+            return Err(NoMemory);
+        }
+    }
+    Ok(rows)
+}
+
+fn told_of<const C: usize>(
+    alloc: Global,
+    nodes: &[Kept<C>],
+    plan: &[Planned],
+    lines: &[Line],
+) -> Result<Told, NoMemory>
+    ensures { IfOk result (λ told. AreTold nodes.now plan.now (map line_view lines.now) told.rows.items told.passes.items) }
+{
+    let rows = rows_of(alloc, lines)?;
+    let passes = passes_of(alloc, nodes, plan)?;
+    Ok(Told { rows, passes })
+}
+
+/// The finished run of a world, or what was handed in, with the first cause why it is none.
+pub(crate) fn closed_of<const C: usize>(
+    alloc: Global,
+    rest: Rest<C>,
+    lines: &[Line],
+) -> Result<Closed<C>, (Rest<C>, CheckFault)>
+    ensures closed { IfOk result (λ closed. IsToldClosed C rest.entry.topology rest.entry.nodes.items rest.entry.plan.items (map line_view lines.now) closed) }
+    ensures open { IfErr result (λ e. IfDisagree e.1 (IsToldOpen C rest.entry.topology rest.entry.nodes.items rest.entry.plan.items (map line_view lines.now))) }
+    ensures whole { IfErr result (λ e. e.0 ≡ rest.entry) }
+{
+    let Ok(told) = told_of(alloc, rest.nodes.as_slice(), rest.plan.as_slice(), lines) else {
+        return Err((rest, CheckFault::NoMemory));
+    };
+    let Rest {
+        topology,
+        nodes,
+        plan,
+    } = rest;
+    match Closed::check(alloc, topology, plan, nodes, told.rows, told.passes) {
+        Ok(closed) => Ok(closed),
+        Err((parts, fault)) => {
+            let Parts {
+                topology,
+                plan,
+                kept,
+                ..
+            } = parts;
+            Err((
+                Rest {
+                    topology,
+                    nodes: kept,
+                    plan,
+                },
+                fault,
+            ))
+        }
+    }
+}
