@@ -2,7 +2,10 @@
 use Rattle.std.specs.Prelude.{ℕ, List, ◌++◌, codes}
 use Rattle.std.specs.Fmt.{decimal}
 use Rattle.hsr_bench.specs.declared.fault.Fault.{Fault}
-use Rattle.hsr_bench.specs.declared.fault.Fault.TheVariants.{Line, Read, Write, Memory}
+use Rattle.hsr_audit.specs.Disagree.{disagree_code}
+use Rattle.hsr_scenario.specs.Fault.{fault_text}
+use Rattle.hsr_bench.specs.Refusal.{drain_word}
+use Rattle.hsr_bench.specs.declared.fault.Fault.TheVariants.{Line, Scenario, Step, Check, Read, Write, Memory}
 use Rattle.hsr_bench.specs.declared.fault.Status.{Status}
 use Rattle.hsr_bench.specs.declared.fault.Status.TheVariants.{Certified, Fault as Stopped, Doubt}
 
@@ -13,6 +16,9 @@ code_of Doubt = 2
 
 abbrev pub fault_line : Fault → List ℕ
 fault_line (Line n) = codes "fault: line " ++ decimal n
+fault_line (Scenario fault) = codes "fault: scenario " ++ fault_text fault
+fault_line (Step step fault) = codes "fault: step " ++ (decimal step ++ (codes " " ++ drain_word fault))
+fault_line (Check disagree) = codes "fault: check " ++ decimal (disagree_code disagree)
 fault_line Read = codes "fault: read"
 fault_line Write = codes "fault: write"
 fault_line Memory = codes "fault: memory"

@@ -1,6 +1,11 @@
 pub mod Fault
 pub mod Request
 pub mod Reply
+pub mod Report
 pub mod Output
 pub mod Run
 pub mod Options
+pub mod Playing
+pub mod Text
+pub mod Refusal
+pub mod Told

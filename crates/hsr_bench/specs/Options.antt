@@ -10,7 +10,7 @@ use Rattle.hsr_bench.specs.declared.chosen.Table.{Table}
 use Rattle.hsr_bench.specs.declared.chosen.Table.TheVariants.{Small, Large}
 use Rattle.hsr_bench.specs.declared.chosen.NodeOptions.{NodeOptions}
 use Rattle.hsr_bench.specs.declared.chosen.Options.{Options}
-use Rattle.hsr_bench.specs.declared.chosen.Options.TheVariants.{Node}
+use Rattle.hsr_bench.specs.declared.chosen.Options.TheVariants.{Node, Run}
 
 -- ---- the command line
 
@@ -33,11 +33,14 @@ table_rule tables = record (new_rule (codes "table")) { long = Some (codes "tabl
 abbrev pub node_app : Listed → Listed → App
 node_app modes tables = with_rule (with_rule (with_rule (new_app (codes "node")) mac_rule) (mode_rule modes)) (table_rule tables)
 
+abbrev pub run_app : Listed → App
+run_app tables = with_rule (new_app (codes "run")) (table_rule tables)
+
 abbrev pub top_app : App
 top_app = record { top = record (new_app (codes "hsr_bench")).top { no_binary_name = true; subcommand_required = true }; subs = [] }
 
 abbrev pub bench_app : Listed → Listed → App
-bench_app modes tables = with_subcommand top_app (node_app modes tables).top
+bench_app modes tables = with_subcommand (with_subcommand top_app (node_app modes tables).top) (run_app tables).top
 
 -- ---- what is chosen
 
@@ -57,6 +60,7 @@ IsNode found node = ((t : Text) × (found (codes "mac") ≡ Some t) × (address_
 -- the options are the values of a subcommand, by its name and what it found
 abbrev pub Chosen : Text → (Text → Option Text) → Options → Type 0
 Chosen name found (Node node) = (name ≡ codes "node") × IsNode found node
+Chosen name found (Run table) = (name ≡ codes "run") × (found (codes "table") ≡ Some (table_text table))
 
 abbrev pub ChosenIn : Option (Text × List Row) → Options → Type 0
 ChosenIn None o = ⊥
@@ -65,5 +69,6 @@ ChosenIn (Some found) o = Chosen found.0 (λ id. first_of id found.1) o
 -- words say these options: none say `node` with its defaults, others what the command finds in them
 abbrev pub Says : List Text → Options → Type 0
 Says [] (Node node) = (node.mac ≡ 2 ∷ 0 ∷ 0 ∷ 0 ∷ 0 ∷ 1 ∷ []) × (node.mode ≡ H) × (node.table ≡ Large)
+Says [] o = ⊥
 Says (w ∷ ws) o = (modes : Listed) × (tables : Listed) × (map (λ s. s.now) modes.now ≡ codes "H" ∷ codes "N" ∷ [])
     × (map (λ s. s.now) tables.now ≡ codes "small" ∷ codes "large" ∷ []) × ChosenIn (subcommand_of (bench_app modes tables) (w ∷ ws)) o

@@ -6,7 +6,7 @@ use Rattle.hsr_bench.specs.Request.{Asked, request_of}
 use Rattle.hsr_bench.specs.Reply.{after, counter_line, reply}
 use Rattle.hsr_bench.specs.declared.chosen.Table.{Table}
 use Rattle.hsr_bench.specs.declared.chosen.Table.TheVariants.{Small, Large}
-use Rattle.hsr_bench.specs.declared.fault.Fault.TheVariants.{Line, Write}
+use Rattle.hsr_bench.specs.declared.fault.Fault.TheVariants.{Line, Read, Write, Memory}
 use Rattle.hsr_bench.specs.declared.fault.Status.{Status}
 use Rattle.hsr_bench.specs.declared.fault.Status.TheVariants.{Certified, Fault as Stopped, Doubt}
 
@@ -37,11 +37,17 @@ abbrev pub output : ℕ → Machine → ℕ → List (List ℕ) → Output
 output capacity machine n [] = record { text = counter_line machine.counters; bad_line = None }
 output capacity machine n (line ∷ lines) = with_line capacity machine n (request_in line) (λ next. output capacity next (n + 1) lines)
 
+-- a front of a text was written
+abbrev pub IsFront : Option (List ℕ) → Option (List ℕ) → List ℕ → Type 0
+IsFront held holds text = (front : List ℕ) × (rest : List ℕ) × (text ≡ front ++ rest) × Appends held holds front
+
 -- How a run ended, and what stands on the writer: all of the output, and its bad line if it has one; a front
 -- of it where reading or memory failed. After a failed write nothing is said.
 abbrev pub Ended : Option (List ℕ) → Option (List ℕ) → Output → Status → Type 0
 Ended held holds output Certified = (output.bad_line ≡ None) × Appends held holds output.text
 Ended held holds output (Stopped (Line n)) = (output.bad_line ≡ Some n) × Appends held holds output.text
 Ended held holds output (Stopped Write) = Unit {0}
-Ended held holds output (Stopped _) = (front : List ℕ) × (rest : List ℕ) × (output.text ≡ front ++ rest) × Appends held holds front
+Ended held holds output (Stopped Read) = IsFront held holds output.text
+Ended held holds output (Stopped Memory) = IsFront held holds output.text
+Ended held holds output (Stopped _) = ⊥
 Ended held holds output Doubt = ⊥

@@ -102,9 +102,16 @@ after capacity machine (life at) = (life_step capacity machine at).1
 after capacity machine (arrive at port octets) = (arrive_step capacity machine at port octets).1
 after capacity machine (age at) = age_step machine at
 
+-- how often a node sent, and what of what came it passed
+abbrev pub passed_text : Counters → List ℕ
+passed_text c =
+    codes "sent " ++ decimal c.sent ++ codes " life " ++ decimal c.life ++ codes " up " ++ decimal c.up ++ codes " forwarded " ++ decimal c.forwarded
+
+-- what of what came a node didn't pass
+abbrev pub stopped_text : Counters → List ℕ
+stopped_text c =
+    codes " duplicate " ++ decimal c.duplicate ++ codes " returned " ++ decimal c.returned ++ codes " dropped " ++ decimal (dropped c) ++ codes "\n"
+
 -- the last line
 unfoldable pub counter_line : Counters → List ℕ
-counter_line c =
-    codes "sent " ++ decimal c.sent ++ codes " life " ++ decimal c.life ++ codes " up " ++ decimal c.up
-    ++ codes " forwarded " ++ decimal c.forwarded ++ codes " duplicate " ++ decimal c.duplicate
-    ++ codes " returned " ++ decimal c.returned ++ codes " dropped " ++ decimal (dropped c) ++ codes "\n"
+counter_line c = passed_text c ++ stopped_text c

@@ -7,7 +7,7 @@ use Rattle.hsr_bench.specs.Request.{Asked, request_of}
 use Rattle.hsr_bench.specs.Reply.{after, counter_line, reply}
 use Rattle.hsr_bench.specs.Output.{Ended, Output, output, put}
 use Rattle.hsr_bench.specs.declared.fault.Fault.{Fault}
-use Rattle.hsr_bench.specs.declared.fault.Fault.TheVariants.{Line, Read, Write, Memory}
+use Rattle.hsr_bench.specs.declared.fault.Fault.TheVariants.{Line, Write, Memory}
 use Rattle.hsr_bench.specs.declared.fault.Status.TheVariants.{Certified, Fault as Stopped}
 
 -- what is known of a run that goes on: the whole output is what was written, and then the output for what is left
@@ -21,7 +21,7 @@ Served capacity old new n line held holds (Ok _) = (r : Asked) × (request_of li
 Served capacity old new n line held holds (Err (Line k)) = (k ≡ n) × (request_of line ≡ None) × Keeps held holds
 Served capacity old new n line held holds (Err Write) = Unit {0}
 Served capacity old new n line held holds (Err Memory) = Keeps held holds
-Served capacity old new n line held holds (Err Read) = ⊥
+Served capacity old new n line held holds (Err _) = ⊥
 
 -- what one turn did, from the output for what was left to that for what is left now; `false` is the last turn
 abbrev pub Turned : Option (List ℕ) → Option (List ℕ) → Option (List ℕ) → Option (List ℕ) → ℕ → Machine → Machine → ℕ → Result Bool Fault → Type 0

@@ -22,7 +22,10 @@ pub struct NodeOptions {
 /// What to do.
 #[derive(Clone, Copy, Debug, PartialEq, Eq)]
 pub enum Options {
+    /// Answer lines as one node.
     Node(NodeOptions),
+    /// Run a scenario, and write its report.
+    Run { table: Table },
 }
 
 /// Why words are refused.

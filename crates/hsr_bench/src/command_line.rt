@@ -3,7 +3,7 @@ ghost use Rattle.std.specs.Prelude.{◌≡◌, IfOk, IfSome, Some, Ok, codes, fa
 ghost use Rattle.hsr_frame.specs.Address.{IsGroup, address_of};
 ghost use Rattle.clap.specs.Words.{Text, app_of, first_value, found_of, rule_of, subcommand_rows_of};
 ghost use Rattle.clap.specs.declared.builder.Command.TheViews.{out-Command as fields_of};
-ghost use Rattle.hsr_bench.specs.Options.{Chosen, ChosenIn, IsNode, Says, bench_app, mac_rule, mode_rule, mode_text, node_app, table_rule, table_text, top_app};
+ghost use Rattle.hsr_bench.specs.Options.{Chosen, ChosenIn, IsNode, Says, bench_app, mac_rule, mode_rule, mode_text, node_app, run_app, table_rule, table_text, top_app};
 
 use crate::chosen::{NodeOptions, OptionFault, Options, Table};
 use clap::error::ErrorKind;
@@ -31,6 +31,10 @@ left, 4 over 1500 octets of payload). The last line counts what happened. A bad 
 status 1.
 
 Example: echo 'send 0 02-00-00-00-00-02 0800 AABB' | hsr_bench node";
+
+const RUN_ENDS: &str = "\
+Status 0: every frame came exactly once to each node that it was for. Status 2: the run gives reason to
+doubt that, named in the last line. Status 1: the run stopped, and one line on standard error says why.";
 
 impl From<AllocError> for OptionFault {
     fn from(_e: AllocError) -> OptionFault {
@@ -86,6 +90,16 @@ fn node_command<'a>(
         .arg(table_arg(alloc, tables))
 }
 
+fn run_command<'a>(alloc: Global, tables: &'a [&'a str]) -> Result<Command<'a>, AllocError>
+    ensures app { IfOk result (λ c. app_of c ≡ run_app tables.entry) }
+    ensures own { IfOk result (λ c. (fields_of c).has_globals ≡ false) }
+{
+    Command::new(alloc, "run")
+        .about("Runs the scenario on standard input, and reports whether it certifies delivery")
+        .after_help(RUN_ENDS)
+        .arg(table_arg(alloc, tables))
+}
+
 fn top_command<'a>(alloc: Global) -> Command<'a>
     ensures { app_of result ≡ top_app }
 {
@@ -103,8 +117,10 @@ fn bench_command<'a>(
     ensures { IfOk result (λ c. app_of c ≡ bench_app modes.entry tables.entry) }
 {
     let node = node_command(alloc, modes, tables)?;
-    let bench = top_command(alloc).subcommand(node)?;
-    Ok(bench)
+    let run = run_command(alloc, tables)?;
+    let one = top_command(alloc).subcommand(node)?;
+    let two = one.subcommand(run)?;
+    Ok(two)
 }
 
 /// The text of a refusal.
@@ -172,6 +188,10 @@ fn options_of(name: &str, matches: &ArgMatches<'_>) -> Option<Options>
 {
     match name {
         "node" => Some(Options::Node(node_options(matches)?)),
+        "run" => {
+            let table = table_of(matches)?;
+            Some(Options::Run { table })
+        }
         _ => None,
     }
 }

@@ -90,6 +90,7 @@ fn finish<W: Write, const C: usize>(
 ) -> Result<(), Fault>
     ensures { Finished danh.now (W.contents writer.old) (W.contents writer.new) result }
 {
+    text.clear();
     put_counters(text, &danh.counters())?;
     match writer.write_all(text.as_slice()) {
         Ok(()) => {}

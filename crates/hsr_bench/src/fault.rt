@@ -3,7 +3,11 @@ ghost use Rattle.std.specs.Prelude.{◌≡◌, Some};
 ghost use Rattle.hsr_bench.specs.Fault.{code_of, fault_line};
 ghost use Rattle.hsr_bench.specs.declared.fault.Fault.TheVariants.{Memory, Read as ReadFailed};
 
+use crate::refusal::drain_word;
+use hsr_audit::Disagree;
 use hsr_frame::ReadFault;
+use hsr_ring::DrainFault;
+use hsr_scenario::ScenarioFault;
 use std::alloc::AllocError;
 use std::fmt;
 
@@ -23,6 +27,12 @@ pub enum Status {
 pub enum Fault {
     /// A line, counted from 1, that is bad or too long.
     Line(u64),
+    /// A text that is no scenario.
+    Scenario(ScenarioFault),
+    /// A step of a scenario, counted from 0, that was refused, or a drain that didn't end.
+    Step { step: usize, fault: DrainFault },
+    /// Records, links and receipts disagree at the end.
+    Check(Disagree),
     /// The reader failed.
     Read,
     /// The writer failed.
@@ -51,6 +61,15 @@ impl fmt::Display for Fault {
     fn fmt<W: fmt::Write>(&self, f: &mut fmt::Formatter<W>) -> fmt::Result {
         match self {
             Fault::Line(n) => write!(f, "fault: line {n}"),
+            Fault::Scenario(fault) => write!(f, "fault: scenario {fault}"),
+            Fault::Step { step, fault } => {
+                let word = drain_word(*fault);
+                write!(f, "fault: step {step} {word}")
+            }
+            Fault::Check(disagree) => {
+                let code = disagree.code();
+                write!(f, "fault: check {code}")
+            }
             Fault::Read => write!(f, "fault: read"),
             Fault::Write => write!(f, "fault: write"),
             Fault::Memory => write!(f, "fault: memory"),

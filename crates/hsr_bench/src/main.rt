@@ -6,13 +6,20 @@ mod chosen;
 mod command_line;
 mod engine;
 mod fault;
+mod playing;
+mod refusal;
 mod reply;
+mod report;
 mod request;
+mod scenario;
+mod text;
+mod verdict;
 
-use crate::chosen::{NodeOptions, OptionFault, Options};
+use crate::chosen::{NodeOptions, OptionFault, Options, Table};
 use crate::command_line::options;
 use crate::engine::node_run;
 use crate::fault::{Fault, Status};
+use crate::scenario::scenario_run;
 use std::alloc::{AllocError, Global};
 use std::io::{BufReader, BufWriter, ErrorKind, Write};
 use std::process::ExitCode;
@@ -47,6 +54,19 @@ fn node(rt: &HostRuntime, chosen: &NodeOptions) -> Status {
     }
 }
 
+/// Runs a scenario over the standard streams.
+fn run_scenario(rt: &HostRuntime, table: Table) -> Status {
+    let mut reader = rt.reader();
+    let Ok(mut writer) = BufWriter::new(rt.alloc(), io::writer(rt)) else {
+        return Status::Fault(Fault::Memory);
+    };
+    let status = scenario_run(rt.alloc(), &mut reader, &mut writer, table);
+    match writer.flush() {
+        Ok(()) => status,
+        Err(_) => Status::Fault(Fault::Write),
+    }
+}
+
 /// Writes a fault's line on standard error, and gives the status of the process.
 fn finish(rt: &HostRuntime, status: Status) -> io::Result<ExitCode> {
     if let Status::Fault(fault) = status {
@@ -61,6 +81,7 @@ fn run(rt: &HostRuntime) -> io::Result<ExitCode> {
     let words = words_of(rt.alloc(), &args)?;
     match options(rt.alloc(), words.as_slice()) {
         Ok(Options::Node(chosen)) => finish(rt, node(rt, &chosen)),
+        Ok(Options::Run { table }) => finish(rt, run_scenario(rt, table)),
         Err(OptionFault::Usage { text }) => {
             eprintln!(rt; "{text}")?;
             Ok(ExitCode::from(3))

@@ -3,7 +3,7 @@ ghost use Rattle.std.specs.Prelude.{◌≡◌, ◌≢◌, ◌≤◌, ◌^◌, �
 ghost use Rattle.std.specs.Fmt.{decimal};
 ghost use Rattle.hsr_frame.specs.Address.{IsGroup};
 ghost use Rattle.hsr_frame.specs.Counters.{AreWithin};
-ghost use Rattle.hsr_bench.specs.Reply.{cause_text, copies_text, counter_line, judged_text, lived_text, refused_text, sent_text, up_text, verdict_text, word_if};
+ghost use Rattle.hsr_bench.specs.Reply.{cause_text, copies_text, counter_line, judged_text, lived_text, passed_text, refused_text, sent_text, stopped_text, up_text, verdict_text, word_if};
 
 use hsr_danh::{Verdict, life_frame};
 use hsr_frame::{Cause, Counters, FrameFault, Life, Mac, SendFault, put_decimal, put_hex};
@@ -11,7 +11,7 @@ use hsr_tag::{Frame, Seen, classify};
 use std::alloc::AllocError;
 
 /// Puts a name and a number.
-fn put_count(text: &mut Vec<u8>, name: &[u8], n: u64) -> Result<(), AllocError>
+pub fn put_count(text: &mut Vec<u8>, name: &[u8], n: u64) -> Result<(), AllocError>
     ensures { OnOk result (text.new.items ≡ text.old.items ++ (name.now ++ decimal n)) }
 {
     text.extend_from_slice(name)?;
@@ -117,19 +117,33 @@ pub fn put_judged(text: &mut Vec<u8>, octets: &[u8], verdict: Verdict) -> Result
     Ok(())
 }
 
-/// Makes a text the line of a node's counters.
-#[tactic(auto, unfolding(crate::specs::Reply::counter_line))]
-pub fn put_counters(text: &mut Vec<u8>, counters: &Counters) -> Result<(), AllocError>
-    requires { AreWithin counters.now (2 ^ 62) }
-    ensures { OnOk result (text.new.items ≡ counter_line counters.now) }
+/// Puts how often a node sent, and what of what came it passed.
+fn put_passed(text: &mut Vec<u8>, counters: &Counters) -> Result<(), AllocError>
+    ensures { OnOk result (text.new.items ≡ text.old.items ++ passed_text counters.now) }
 {
-    text.clear();
     put_count(text, b"sent ", counters.sent)?;
     put_count(text, b" life ", counters.life)?;
     put_count(text, b" up ", counters.up)?;
-    put_count(text, b" forwarded ", counters.forwarded)?;
+    put_count(text, b" forwarded ", counters.forwarded)
+}
+
+/// Puts what of what came a node didn't pass.
+fn put_stopped(text: &mut Vec<u8>, counters: &Counters) -> Result<(), AllocError>
+    requires { AreWithin counters.now (2 ^ 62) }
+    ensures { OnOk result (text.new.items ≡ text.old.items ++ stopped_text counters.now) }
+{
     put_count(text, b" duplicate ", counters.duplicate)?;
     put_count(text, b" returned ", counters.returned)?;
     put_count(text, b" dropped ", counters.dropped())?;
     text.extend_from_slice(b"\n")
+}
+
+/// Puts the line of a node's counters.
+#[tactic(auto, unfolding(crate::specs::Reply::counter_line))]
+pub fn put_counters(text: &mut Vec<u8>, counters: &Counters) -> Result<(), AllocError>
+    requires { AreWithin counters.now (2 ^ 62) }
+    ensures { OnOk result (text.new.items ≡ text.old.items ++ counter_line counters.now) }
+{
+    put_passed(text, counters)?;
+    put_stopped(text, counters)
 }

@@ -3,4 +3,6 @@ use Rattle.clap.specs.Words.{App, with_subcommand}
 use Rattle.hsr_bench.proofs.command_line.bench_command.Goals as goal
 
 pub returns : goal.returns
-returns c = c.in_ok-bench.ensures.shape c.in_ok-node.ensures.own ∙ ap₂ with_subcommand c.top_command.ensures (ap (λ (a : App). a.top) c.in_ok-node.ensures.app)
+returns c =
+    let one = c.in_ok-one.ensures.shape c.in_ok-node.ensures.own ∙ ap₂ with_subcommand c.top_command.ensures (ap (λ (a : App). a.top) c.in_ok-node.ensures.app) in
+    c.in_ok-two.ensures.shape c.in_ok-run.ensures.own ∙ ap₂ with_subcommand one (ap (λ (a : App). a.top) c.in_ok-run.ensures.app)
