@@ -28,6 +28,8 @@ use std::{env, io};
 #[cfg(test)]
 mod rows;
 #[cfg(test)]
+mod scenario_tests;
+#[cfg(test)]
 mod tests;
 
 /// The words after the program's name.

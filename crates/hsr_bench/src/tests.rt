@@ -37,9 +37,9 @@ fn run(alloc: Global, input: &[u8]) -> Result<(Status, Vec<u8>), AllocError> {
 
 /// Gives its bytes, and fails at the read after the last that it grants.
 #[derive(Drop)]
-struct FailingReader<'a> {
-    bytes: &'a [u8],
-    reads_left: u32,
+pub struct FailingReader<'a> {
+    pub bytes: &'a [u8],
+    pub reads_left: u32,
 }
 
 impl Read for FailingReader<'_> {
@@ -56,9 +56,9 @@ impl Read for FailingReader<'_> {
 
 /// Holds what it is given, and fails at the write after the last that it grants.
 #[derive(Drop)]
-struct FailingWriter {
-    held: Vec<u8>,
-    writes_left: u32,
+pub struct FailingWriter {
+    pub held: Vec<u8>,
+    pub writes_left: u32,
 }
 
 impl Write for FailingWriter {
@@ -182,6 +182,10 @@ fn words_choose(rt: HostRuntime) -> Result<(), Fail> {
         options(rt.alloc(), &["node", "--table", "small"]).ok() == Some(Options::Node(small))
     );
     assert!(rt; options(rt.alloc(), &["node", "--mode=N", "--"]).is_ok());
+    let run = Options::Run {
+        table: Table::Small,
+    };
+    assert!(rt; options(rt.alloc(), &["run", "--table", "small"]).ok() == Some(run));
     assert!(rt; options(rt.alloc(), &[]).ok() == Some(Options::Node(defaults())));
     for mac in ["", "02-00", "01-00-5E-00-00-01"] {
         match options(rt.alloc(), &["node", "--mac", mac]) {
@@ -202,7 +206,8 @@ fn words_that_clap_refuses(rt: HostRuntime) -> Result<(), Fail> {
         &["help"],
         &["node", "-V"],
         &["node", "--mac", "02-00", "x"],
-        &["run"],
+        &["run", "--table", "medium"],
+        &["run", "--transcript"],
         &["threads"],
         &["audit"],
     ];

@@ -1,0 +1,136 @@
+//! What `run` writes of scenarios, and how it ends.
+use crate::chosen::Table;
+use crate::fault::{Fault, Status};
+use crate::scenario::scenario_run;
+use crate::tests::{FailingReader, FailingWriter};
+use hsr_audit::Disagree;
+use hsr_ring::{DrainFault, WorldFault};
+use hsr_scenario::{ScenarioFault, Spot, What};
+use std::alloc::{AllocError, Global};
+use std::test::Fail;
+
+const RING: &[u8] = b"node = [
+  {name=\"n0\", role=\"danh\", mac=\"02-00-00-00-00-01\"},
+  {name=\"n1\", role=\"danh\", mac=\"02-00-00-00-00-02\"},
+  {name=\"n2\", role=\"danh\", mac=\"02-00-00-00-00-03\"},
+]
+link = [{ends=[\"n0.B\",\"n1.A\"]}, {ends=[\"n1.B\",\"n2.A\"]}, {ends=[\"n2.B\",\"n0.A\"]}]
+";
+
+const PAIR: &[u8] = b"node = [
+  {name=\"n0\", role=\"danh\", mac=\"02-00-00-00-00-01\"},
+  {name=\"n1\", role=\"danh\", mac=\"02-00-00-00-00-02\"},
+]
+link = [{ends=[\"n0.B\",\"n1.A\"]}, {ends=[\"n1.B\",\"n0.A\"]}]
+";
+
+/// What a run of nodes and links with these steps writes, and how it ends.
+fn run(alloc: Global, nodes: &[u8], steps: &[u8]) -> Result<(Status, Vec<u8>), AllocError> {
+    let mut text = Vec::new(alloc);
+    text.extend_from_slice(nodes)?;
+    text.extend_from_slice(b"step = [\n")?;
+    text.extend_from_slice(steps)?;
+    text.extend_from_slice(b"]\n")?;
+    let mut reader = text.as_slice();
+    let mut writer = Vec::new(alloc);
+    let status = scenario_run(alloc, &mut reader, &mut writer, Table::Large);
+    Ok((status, writer))
+}
+
+const GROUP_SEND: &[u8] =
+    b"{do=\"send\", node=\"n0\", to=\"01-00-5E-00-00-01\", type=0x0800, payload=\"AABB\"}, {do=\"drain\"},\n";
+
+#[test]
+fn group_round_a_ring(rt: HostRuntime) -> Result<(), Fail> {
+    let (status, text) = run(rt.alloc(), RING, GROUP_SEND)?;
+    let expected = b"bench 1 table 512 nodes 3 links 3
+node 0 danh sent 1 life 0 up 0 forwarded 0 duplicate 0 returned 2 dropped 0
+node 1 danh sent 0 life 0 up 1 forwarded 2 duplicate 0 returned 0 dropped 0
+node 2 danh sent 0 life 0 up 1 forwarded 2 duplicate 0 returned 0 dropped 0
+link 0 put 2 taken 2 lost 0
+link 1 put 2 taken 2 lost 0
+link 2 put 2 taken 2 lost 0
+certified 1
+";
+    assert_eq!(rt; status, Status::Certified);
+    assert!(rt; text.as_slice() == expected.as_slice());
+    Ok(())
+}
+
+#[test]
+fn two_links_lost(rt: HostRuntime) -> Result<(), Fail> {
+    let steps = b"{do=\"cut\", link=0},
+{do=\"send\", node=\"n0\", to=\"02-00-00-00-00-02\", type=0x0800, payload=\"AABB\"}, {do=\"drain\"},
+{do=\"mend\", link=0}, {do=\"cut\", link=1},
+{do=\"send\", node=\"n0\", to=\"02-00-00-00-00-02\", type=0x0800, payload=\"AABB\"}, {do=\"drain\"},
+";
+    let (status, text) = run(rt.alloc(), PAIR, steps)?;
+    let expected = b"bench 1 table 512 nodes 2 links 2
+node 0 danh sent 2 life 0 up 0 forwarded 0 duplicate 0 returned 0 dropped 0
+node 1 danh sent 0 life 0 up 2 forwarded 0 duplicate 0 returned 0 dropped 0
+link 0 put 2 taken 1 lost 1
+link 1 put 2 taken 1 lost 1
+doubt two-links
+";
+    assert_eq!(rt; status, Status::Doubt);
+    assert!(rt; text.as_slice() == expected.as_slice());
+    Ok(())
+}
+
+#[test]
+fn injected_copy(rt: HostRuntime) -> Result<(), Fail> {
+    let steps =
+        b"{do=\"inject\", link=0, dir=\"forth\", octets=\"01005E000001020000000007892F000600000800\"}, {do=\"drain\"},\n";
+    let (status, text) = run(rt.alloc(), RING, steps)?;
+    let stranger = Disagree::Stranger { link: 0, row: 0 };
+    assert_eq!(rt; status, Status::Fault(Fault::Check(stranger)));
+    assert!(rt; text.is_empty());
+    Ok(())
+}
+
+#[test]
+fn refused_step(rt: HostRuntime) -> Result<(), Fail> {
+    let (status, text) = run(rt.alloc(), RING, b"{do=\"put\", port=\"n0.A\"},\n")?;
+    let fault = DrainFault::World(WorldFault::Nothing);
+    assert_eq!(rt; status, Status::Fault(Fault::Step { step: 0, fault }));
+    assert!(rt; text.is_empty());
+    Ok(())
+}
+
+#[test]
+fn no_scenario(rt: HostRuntime) -> Result<(), Fail> {
+    let (status, text) = run(rt.alloc(), RING, b"{do=\"age\", node=\"nx\"},\n")?;
+    let fault = ScenarioFault {
+        spot: Spot::Step(0),
+        what: What::NoSuchName,
+    };
+    assert_eq!(rt; status, Status::Fault(Fault::Scenario(fault)));
+    assert!(rt; text.is_empty());
+    Ok(())
+}
+
+#[test]
+fn scenario_that_cannot_be_read(rt: HostRuntime) -> Result<(), Fail> {
+    let mut reader = FailingReader {
+        bytes: RING,
+        reads_left: 0,
+    };
+    let mut writer = Vec::new(rt.alloc());
+    let status = scenario_run(rt.alloc(), &mut reader, &mut writer, Table::Large);
+    assert_eq!(rt; status, Status::Fault(Fault::Read));
+    assert!(rt; writer.is_empty());
+    Ok(())
+}
+
+#[test]
+fn report_that_cannot_be_written(rt: HostRuntime) -> Result<(), Fail> {
+    let mut reader = RING;
+    let mut writer = FailingWriter {
+        held: Vec::new(rt.alloc()),
+        writes_left: 0,
+    };
+    let status = scenario_run(rt.alloc(), &mut reader, &mut writer, Table::Small);
+    assert_eq!(rt; status, Status::Fault(Fault::Write));
+    assert!(rt; writer.held.is_empty());
+    Ok(())
+}
