@@ -1,0 +1,13 @@
+pub mod Grown
+pub mod Parts
+pub mod Macs
+pub mod Eaches
+pub mod Replays
+pub mod Orders
+pub mod ReplayAll
+pub mod CutWords
+pub mod OfKind
+pub mod Cuts
+pub mod Readers
+pub mod Texts
+pub mod Again

@@ -1,0 +1,7 @@
+use Rattle.std.proofs.Common.{◌≡◌, ◌++◌, drop}
+use Rattle.hsr_transcript.specs.Lines.{lines_by, one, text_of}
+use Rattle.hsr_transcript.proofs.lines.put_section.Given as goal
+
+abbrev pub invariant-loop-value : goal.invariant-loop-value
+invariant-loop-value g l =
+    l.text.items ++ text_of (lines_by (one (g.K.LineKind.spelled l.kind)) (drop l.value-index l.values)) ≡ l.initial.text.items ++ text_of (lines_by (one (g.K.LineKind.spelled l.kind)) l.values)

@@ -1,0 +1,12 @@
+use Rattle.std.proofs.Common.{codes}
+use Rattle.hsr_transcript.specs.Lines.{lines_each}
+use Rattle.hsr_transcript.specs.Transcript.{carried_lines, record_lines, said_front, said_lines, said_of}
+use Rattle.hsr_transcript.proofs.Grown.{whole_text}
+use Rattle.hsr_transcript.proofs.writing.whole_text.Goals as goal
+
+pub returns : goal.returns
+unfolding said_lines
+returns g c =
+    let f = c.args.closed.now in
+    whole_text _ _ _ _ _ (codes "end") (said_front f.run.capacity (said_of f)) (lines_each record_lines f.run.places f.run.records) (lines_each (λ _. carried_lines) f.run.links f.run.rows)
+    c.new-text.ensures.items c.in_ok-put_front.ensures c.in_ok-put_records.ensures c.in_ok-put_carried.ensures c.in_ok-extend_from_slice.ensures.items

@@ -1,0 +1,53 @@
+//! Judges what a text says that is in form: topology, order, and each entry.
+ghost use Rattle.std.specs.Prelude.{◌≡◌, ◌≤◌};
+ghost use Rattle.hsr_transcript.specs.Told.{seen};
+ghost use Rattle.hsr_transcript.specs.Judged.{Judged};
+ghost use Rattle.hsr_transcript.specs.Plain.{plain_view};
+ghost use Rattle.hsr_transcript.specs.Ready.{ready_view};
+
+use crate::fault::ReadFault;
+use crate::order::plan_of;
+use crate::plain::Plain;
+use crate::ready::Ready;
+use crate::replay::replay_all;
+use hsr_audit::Topology;
+use std::alloc::Global;
+
+/// The topology, plan, nodes and rows that a text stands for. `BadLine` of the last line of the links where the topology is
+/// refused, else of the line `main` where the order doesn't fit, else of the first entry whose event is refused or whose
+/// outcome is another one.
+pub(crate) fn judge<const C: usize>(alloc: Global, plain: Plain) -> Result<Ready<C>, ReadFault>
+    requires { (1 ≤ C) × (C ≤ 65535) }
+    ensures { Judged C (plain_view plain) (seen (ready_view C) result) }
+{
+    let Plain {
+        nodes,
+        links,
+        main,
+        records,
+        carried,
+    } = plain;
+    let links_end = 4 + nodes.len() as u64 + links.len() as u64;
+    let Ok(topology) = Topology::new(nodes, links) else {
+        return Err(ReadFault::BadLine { number: links_end });
+    };
+    let plan = match plan_of(alloc, main.as_slice(), records.as_slice()) {
+        Ok(Some(plan)) => plan,
+        Ok(None) => {
+            return Err(ReadFault::BadLine {
+                number: links_end + 1,
+            });
+        }
+        Err(_) => return Err(ReadFault::NoMemory),
+    };
+    let first = links_end + 2 + main.len() as u64;
+    match replay_all::<C>(alloc, topology.places(), records.as_slice(), first) {
+        Ok(kept) => Ok(Ready {
+            topology,
+            plan,
+            kept,
+            rows: carried,
+        }),
+        Err(fault) => Err(fault),
+    }
+}

@@ -1,0 +1,27 @@
+//! A closed run as text, written and read.
+#![tactic(auto)]
+
+mod fault;
+mod form;
+mod judge;
+mod law;
+mod lines;
+mod order;
+mod places;
+mod plain;
+mod ready;
+mod records;
+mod replay;
+mod rows;
+mod said;
+mod same;
+mod sections;
+mod words;
+mod writing;
+
+pub use fault::WriteFault;
+pub use law::{lines_are_read, one_text};
+pub use writing::write;
+
+#[cfg(test)]
+mod tests;

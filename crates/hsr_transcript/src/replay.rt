@@ -1,0 +1,94 @@
+//! Records that are replayed, entry by entry.
+ghost use Rattle.std.specs.Prelude.{◌≡◌, ◌+◌, ◌≤◌, ◌<◌, ◌^◌, IfOk, length, map};
+ghost use Rattle.std.specs.List.{All};
+ghost use Rattle.hsr_transcript.specs.Told.{seen};
+ghost use Rattle.hsr_node.specs.Place.{HasOwnAddress};
+ghost use Rattle.hsr_transcript.specs.Items.{entry_items};
+ghost use Rattle.hsr_transcript.specs.Lines.{line_count};
+ghost use Rattle.hsr_transcript.specs.Replay.{Again, Replayed, ReplayedAll};
+
+use crate::fault::ReadFault;
+use crate::same::is_same_outcome;
+use hsr_frame::NoMemory;
+use hsr_node::{Entry, Kept, Place, StepFault};
+use std::alloc::Global;
+
+/// Lets the event of an entry happen again, and tells whether the outcome is the entry's.
+#[tactic(auto, using(crate::proofs::Replays::again_told, crate::proofs::Replays::again_refused))]
+fn again<const C: usize>(kept: &mut Kept<C>, entry: &Entry) -> Result<bool, NoMemory>
+    ensures { IfOk result (Again C kept.old kept.new entry.now) }
+{
+    // Its clause says that the record is legal.
+    let _legal = kept.entries();
+    let event = entry.event.copy()?;
+    match kept.step(entry.worker, entry.at, event) {
+        Ok(receipt) => Ok(is_same_outcome(&receipt.entry.outcome, &entry.outcome)),
+        Err((_, StepFault::NoMemory)) => Err(NoMemory),
+        Err((_, _)) => Ok(false),
+    }
+}
+
+/// Replays a record whose first entry stands on line `first`.
+pub(crate) fn replay<const C: usize>(
+    alloc: Global,
+    node: usize,
+    place: Place,
+    entries: &[Entry],
+    first: u64,
+) -> Result<Kept<C>, ReadFault>
+    requires station { HasOwnAddress place }
+    requires capacity { (1 ≤ C) × (C ≤ 65535) }
+    requires lines { first + length entries.now < 2 ^ 64 }
+    ensures { Replayed C node place entries.now first result }
+{
+    let Ok(mut kept) = Kept::<C>::new(alloc, node, place) else {
+        return Err(ReadFault::NoMemory);
+    };
+    for i in 0..entries.len() {
+        match again(&mut kept, &entries[i]) {
+            Ok(true) => {}
+            Ok(false) => {
+                return Err(ReadFault::BadLine {
+                    number: first + i as u64,
+                });
+            }
+            Err(NoMemory) => return Err(ReadFault::NoMemory),
+        }
+    }
+    // Its clause says that the record is legal.
+    let _legal = kept.entries();
+    Ok(kept)
+}
+
+/// Replays the records of all nodes; the first begins with its count on line `first`.
+pub(crate) fn replay_all<const C: usize>(
+    alloc: Global,
+    places: &[Place],
+    records: &[Vec<Entry>],
+    first: u64,
+) -> Result<Vec<Kept<C>>, ReadFault>
+    requires stations { All HasOwnAddress places.now }
+    requires paired { length records.now ≡ length places.now }
+    requires capacity { (1 ≤ C) × (C ≤ 65535) }
+    requires lines { first + line_count (map entry_items records.now) < 2 ^ 64 }
+    ensures { ReplayedAll C places.now (map entry_items records.now) first (seen (λ v. v.items) result) }
+{
+    let mut kept = Vec::new(alloc);
+    let mut line = first;
+    for i in 0..places.len() {
+        let Ok(place) = places[i].copy() else {
+            return Err(ReadFault::NoMemory);
+        };
+        let entries = records[i].as_slice();
+        match replay::<C>(alloc, i, place, entries, line + 1) {
+            Ok(node) => {
+                if kept.push(node).is_err() {
+                    return Err(ReadFault::NoMemory);
+                }
+                line += 1 + entries.len() as u64;
+            }
+            Err(fault) => return Err(fault),
+        }
+    }
+    Ok(kept)
+}
