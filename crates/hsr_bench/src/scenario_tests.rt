@@ -134,3 +134,96 @@ fn report_that_cannot_be_written(rt: HostRuntime) -> Result<(), Fail> {
     assert!(rt; writer.held.is_empty());
     Ok(())
 }
+
+const QUAD: &[u8] = b"node = [
+  {name=\"n0\", role=\"danh\", mac=\"02-00-00-00-00-01\"}, {name=\"n1\", role=\"danh\", mac=\"02-00-00-00-00-02\"},
+  {name=\"q0\", role=\"quadbox\"}, {name=\"q1\", role=\"quadbox\"},
+]
+link = [
+  {ends=[\"n0.B\",\"q0.A\"]}, {ends=[\"q0.B\",\"q1.A\"]}, {ends=[\"q1.B\",\"n0.A\"]},
+  {ends=[\"n1.B\",\"q0.C\"]}, {ends=[\"q0.D\",\"q1.C\"]}, {ends=[\"q1.D\",\"n1.A\"]},
+]
+";
+
+const RED: &[u8] = b"node = [
+  {name=\"n0\", role=\"danh\", mac=\"02-00-00-00-00-01\"}, {name=\"r\", role=\"redbox\", mac=\"02-00-00-00-00-09\"},
+  {name=\"s\", role=\"station\", macs=[\"02-00-00-00-00-0A\", \"02-00-00-00-00-0B\"]},
+]
+link = [{ends=[\"n0.B\",\"r.A\"]}, {ends=[\"r.B\",\"n0.A\"]}, {ends=[\"r.I\",\"s.P\"]}]
+";
+
+/// Whether a run ends so, with this last line.
+fn ends(
+    rt: &HostRuntime,
+    nodes: &[u8],
+    steps: &[u8],
+    ended: Status,
+    last: &[u8],
+) -> Result<bool, Fail> {
+    let (status, text) = run(rt.alloc(), nodes, steps)?;
+    Ok(status == ended && text.as_slice().ends_with(last))
+}
+
+#[test]
+fn cut_on_the_way(rt: HostRuntime) -> Result<(), Fail> {
+    let steps =
+        b"{do=\"send\", node=\"n0\", to=\"01-00-5E-00-00-01\", type=0x0800, payload=\"AABB\"},
+{do=\"put\", port=\"n0.B\"}, {do=\"put\", port=\"n0.A\"},
+{do=\"take\", link=0, dir=\"forth\"}, {do=\"judge\", port=\"n1.A\"}, {do=\"put\", port=\"n1.B\"},
+{do=\"take\", link=2, dir=\"back\"}, {do=\"judge\", port=\"n2.B\"}, {do=\"put\", port=\"n2.A\"},
+{do=\"cut\", link=1}, {do=\"mend\", link=1},
+{do=\"send\", node=\"n0\", to=\"02-00-00-00-00-02\", type=0x0800, payload=\"AABB\"}, {do=\"drain\"},
+";
+    assert!(rt; ends(&rt, RING, steps, Status::Certified, b"\ncertified 2\n")?);
+    Ok(())
+}
+
+#[test]
+fn overrun(rt: HostRuntime) -> Result<(), Fail> {
+    let mut narrow = Vec::new(rt.alloc());
+    narrow.extend_from_slice(b"capacity = 1\n")?;
+    narrow.extend_from_slice(RING)?;
+    let steps =
+        b"{do=\"send\", node=\"n0\", to=\"01-00-5E-00-00-01\", type=0x0800, payload=\"AABB\"}, {do=\"put\", port=\"n0.B\"},
+{do=\"send\", node=\"n0\", to=\"01-00-5E-00-00-01\", type=0x0800, payload=\"AABB\"}, {do=\"put\", port=\"n0.B\"},
+{do=\"put\", port=\"n0.A\"}, {do=\"take\", link=2, dir=\"back\"}, {do=\"judge\", port=\"n2.B\"}, {do=\"drain\"},
+";
+    assert!(rt;
+        ends(
+            &rt,
+            narrow.as_slice(),
+            steps,
+            Status::Certified,
+            b"\ncertified 2\n"
+        )?
+    );
+    Ok(())
+}
+
+#[test]
+fn quad(rt: HostRuntime) -> Result<(), Fail> {
+    assert!(rt; ends(&rt, QUAD, GROUP_SEND, Status::Doubt, b"\ndoubt not-ring\n")?);
+    Ok(())
+}
+
+#[test]
+fn red_to_and_from(rt: HostRuntime) -> Result<(), Fail> {
+    let steps =
+        b"{do=\"send\", node=\"s\", to=\"02-00-00-00-00-01\", type=0x0800, payload=\"AABB\"}, {do=\"drain\"}, {do=\"clock\", at=10},
+{do=\"send\", node=\"n0\", to=\"02-00-00-00-00-0A\", type=0x0800, payload=\"02\"}, {do=\"drain\"}, {do=\"clock\", at=60000},
+{do=\"send\", node=\"n0\", to=\"02-00-00-00-00-0A\", type=0x0800, payload=\"02\"}, {do=\"drain\"},
+";
+    assert!(rt; ends(&rt, RED, steps, Status::Doubt, b"\ndoubt not-ring\n")?);
+    Ok(())
+}
+
+#[test]
+fn red_group_and_local(rt: HostRuntime) -> Result<(), Fail> {
+    let steps =
+        b"{do=\"send\", node=\"s\", to=\"01-00-5E-00-00-01\", type=0x0800, payload=\"AABB\"}, {do=\"drain\"},
+{do=\"send\", node=\"s\", from=1, to=\"02-00-00-00-00-0A\", type=0x0800, payload=\"AABB\"}, {do=\"drain\"},
+{do=\"send\", node=\"s\", to=\"02-00-00-00-00-01\", type=0x0800, payload=\"01\"}, {do=\"drain\"},
+";
+    assert!(rt; ends(&rt, RED, steps, Status::Doubt, b"\ndoubt not-ring\n")?);
+    Ok(())
+}
