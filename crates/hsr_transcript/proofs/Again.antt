@@ -31,7 +31,7 @@ abbrev read_on : ℕ → List ℕ → ℕ
 read_on n [] = n
 read_on n (c ∷ cs) = read_on (10 * n + (c - 48)) cs
 
-own : IsNumeralModel (λ ds. all_ascii_digits ds ≡ true) (read_on 0)
+pub own : IsNumeralModel (λ ds. all_ascii_digits ds ≡ true) (read_on 0)
 own = numerals_by_fold _ (search rules) read_on (search rules)
 
 grows : (n : ℕ) (ds : List ℕ) → n ≤ read_on n ds
@@ -119,7 +119,7 @@ fate_again LostOverrun h = (refl, (refl, (refl, (refl, (refl, (refl, (refl, (ref
 probe_lacks : (p : Probe) → p.node < 2 ^ 64 → p.place < 2 ^ 64 → Lacks 32 (probe_text (Some p))
 probe_lacks p h k = lacks_more 32 _ _ (lacks_decimal 32 p.node h (inl (omega arith))) (refl, lacks_decimal 32 p.place k (inl (omega arith)))
 
-probe_again : (p : Probe) → p.node < 2 ^ 64 → p.place < 2 ^ 64 → probe_said (probe_text (Some p)) ≡ Some p
+pub probe_again : (p : Probe) → p.node < 2 ^ 64 → p.place < 2 ^ 64 → probe_said (probe_text (Some p)) ≡ Some p
 probe_again p h k =
     let c : cut 58 (decimal p.node ++ 58 ∷ decimal p.place) ≡ (decimal p.node, Some (decimal p.place)) = cut_word 58 (decimal p.node) (decimal p.place) (lacks_decimal 58 p.node h (inr (omega arith))) in
     rw (c, number_again p.node h, number_again p.place k) refl
@@ -139,7 +139,7 @@ row_again d p octets f node place bytes gone =
     rw (cut_dir, dir.0, cut_probe, probe_again p node place, cut_octets, octets_again octets bytes, cut_fate, fate.0) refl
 
 -- what is spelled is read exactly where it is read freely
-exactly_again : {Y : Type 0} (spelled : Y → List ℕ) (said : List ℕ → Option Y) (y : Y) → said (spelled y) ≡ Some y → exactly spelled said (spelled y) ≡ Some y
+pub exactly_again : {Y : Type 0} (spelled : Y → List ℕ) (said : List ℕ → Option Y) (y : Y) → said (spelled y) ≡ Some y → exactly spelled said (spelled y) ≡ Some y
 exactly_again spelled said y e = ap (checked spelled (spelled y)) e ∙ ap (λ t. cond t (Some y) None) ((bytes_eq-Decides (spelled y) (spelled y)).1 refl)
 
 pub row_read : (r : Row) → IsFinishedRow r → row_of (row_text r) ≡ Some r

@@ -9,7 +9,7 @@ use Rattle.hsr_transcript.specs.Form.{as_version, form_of, only, only_at, said_a
 use Rattle.hsr_transcript.specs.Told.{Told, Gives, Ends, Says, ToldWhole, ends_at}
 use Rattle.hsr_transcript.specs.Transcript.{Said, first_line}
 use Rattle.hsr_transcript.specs.declared.fault.ReadFault.{ReadFault}
-use Rattle.hsr_transcript.specs.declared.fault.ReadFault.TheVariants.{Version, BadLine, End, Read, NoMemory}
+use Rattle.hsr_transcript.specs.declared.fault.ReadFault.TheVariants.{Version, BadLine, End, Disagrees, Read, NoMemory}
 
 line_is : (fault : ℕ → ReadFault) (a : At) (line : List ℕ) (left : Option (List ℕ)) → cut 10 a.text ≡ (line, left) → length line ≤ 8192 → line_at fault a ≡ behind a.number line left
 line_is fault a line left e h =
@@ -42,6 +42,7 @@ pub passed_at : {X Y Z W : Type 0} (view : X → Y) (see : Z → W) (new : Optio
 passed_at view see new n Version r w on g = on g
 passed_at view see new n (BadLine k) r w on g = on g
 passed_at view see new n End r w on g = on g
+passed_at view see new n (Disagrees cause) r w on g = on g
 passed_at view see new n Read r w on g = tt
 passed_at view see new n NoMemory r w on g = tt
 
@@ -167,6 +168,7 @@ version_fails None new m n e g = tt
 version_fails (Some text) new m n Version g = version_line (only first_line) (record { number = m; text = text }) ∙ ap versioned g
 version_fails (Some text) new m n (BadLine k) g = version_line (only first_line) (record { number = m; text = text }) ∙ ap versioned g
 version_fails (Some text) new m n End g = version_line (only first_line) (record { number = m; text = text }) ∙ ap versioned g
+version_fails (Some text) new m n (Disagrees cause) g = version_line (only first_line) (record { number = m; text = text }) ∙ ap versioned g
 version_fails (Some text) new m n Read g = tt
 version_fails (Some text) new m n NoMemory g = tt
 
@@ -200,6 +202,7 @@ form_more {X} {Z} view see capacity (Some text) mid n x e g h = go e h
     go Version h = on Version h
     go (BadLine k) h = on (BadLine k) h
     go End h = on End h
+    go (Disagrees cause) h = on (Disagrees cause) h
     go Read h = tt
     go NoMemory h = tt
 
@@ -209,5 +212,6 @@ form_fails view see capacity None mid n e g = tt
 form_fails view see capacity (Some text) mid n Version g = ap closes g
 form_fails view see capacity (Some text) mid n (BadLine k) g = ap closes g
 form_fails view see capacity (Some text) mid n End g = ap closes g
+form_fails view see capacity (Some text) mid n (Disagrees cause) g = ap closes g
 form_fails view see capacity (Some text) mid n Read g = tt
 form_fails view see capacity (Some text) mid n NoMemory g = tt

@@ -9,7 +9,7 @@ use Rattle.hsr_node.specs.declared.place.Place.{Place}
 use Rattle.hsr_transcript.specs.Lines.{line_count}
 use Rattle.hsr_transcript.specs.Replay.{AreLegal, IsUnlike, Replayed, ReplayedAll, records_from}
 use Rattle.hsr_transcript.specs.declared.fault.ReadFault.{ReadFault}
-use Rattle.hsr_transcript.specs.declared.fault.ReadFault.TheVariants.{Version, BadLine, End, Read, NoMemory}
+use Rattle.hsr_transcript.specs.declared.fault.ReadFault.TheVariants.{Version, BadLine, End, Disagrees, Read, NoMemory}
 use Rattle.hsr_transcript.proofs.Grown.{line_count_push}
 
 -- the front with one more element
@@ -65,6 +65,7 @@ unlike_first capacity places records kept first line i place entries (BadLine k)
 }
 unlike_first capacity places records kept first line i place entries Version h p e legal same l u = u
 unlike_first capacity places records kept first line i place entries End h p e legal same l u = u
+unlike_first capacity places records kept first line i place entries (Disagrees cause) h p e legal same l u = u
 unlike_first capacity places records kept first line i place entries Read h p e legal same l u = u
 unlike_first capacity places records kept first line i place entries NoMemory h p e legal same l u = tt
 

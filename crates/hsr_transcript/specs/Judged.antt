@@ -1,9 +1,10 @@
 -- A text that is in form is judged: the topology, then the order of the main worker, then each entry.
 --     IsRefused     the line that is named where one of them is refused
 --     Stands        what a text that is accepted so far stands for
-use Rattle.std.specs.Prelude.{ℕ, ◌≡◌, ◌+◌, ◌⊎◌, List, length, None, IsSome, Result, Ok, Err}
+use Rattle.std.specs.Prelude.{ℕ, ◌≡◌, ◌+◌, ◌⊎◌, List, length, Result, Ok, Err}
 use Rattle.hsr_node.specs.Kept.{Record}
-use Rattle.hsr_audit.specs.Topology.{Topology, topology_fault}
+use Rattle.hsr_audit.specs.Topology.{Topology}
+use Rattle.hsr_audit.specs.Wired.{IsWired}
 use Rattle.hsr_audit.specs.declared.planned.Planned.{Planned}
 use Rattle.hsr_link.specs.declared.row.Row.{Row}
 use Rattle.hsr_transcript.specs.Order.{IsOrder}
@@ -26,9 +27,9 @@ records_line t = main_line t + 1 + length t.main
 -- the topology is refused; it stands, and no plan has the order; or both stand, and an entry is refused
 abbrev pub IsRefused : ℕ → Said → ℕ → Type 0
 IsRefused capacity t line =
-    (IsSome (topology_fault t.nodes t.links) × (line ≡ links_end t))
-    ⊎ ((topology_fault t.nodes t.links ≡ None) × ((plan : List Planned) → ¬ IsOrder t.main t.records plan) × (line ≡ main_line t))
-    ⊎ ((topology_fault t.nodes t.links ≡ None) × ((plan : List Planned) × IsOrder t.main t.records plan)
+    ((¬ IsWired t.nodes t.links) × (line ≡ links_end t))
+    ⊎ (IsWired t.nodes t.links × ((plan : List Planned) → ¬ IsOrder t.main t.records plan) × (line ≡ main_line t))
+    ⊎ (IsWired t.nodes t.links × ((plan : List Planned) × IsOrder t.main t.records plan)
     × IsFirstUnlike capacity t.nodes t.records (records_line t) line)
 
 pub record Standing : Type 0 where

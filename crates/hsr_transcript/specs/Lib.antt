@@ -13,3 +13,6 @@ pub mod Replay
 pub mod Judged
 pub mod Ready
 pub mod Readable
+pub mod Fits
+pub mod Roles
+pub mod Answers

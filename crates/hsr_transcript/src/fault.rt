@@ -1,4 +1,5 @@
 //! Why a run isn't written, and why a text isn't read.
+use hsr_audit::Disagree;
 
 /// Why a run isn't written.
 #[derive(Clone, Copy, Debug, PartialEq, Eq)]
@@ -19,6 +20,8 @@ pub enum ReadFault {
     BadLine { number: u64 },
     /// The text ends before its last line does.
     End,
+    /// What the text stands for is no closed run, for this cause.
+    Disagrees(Disagree),
     /// The reader failed, or took more than 2^40 reads.
     Read,
     /// Room for what is read was refused.

@@ -9,6 +9,7 @@ mod lines;
 mod order;
 mod places;
 mod plain;
+mod reading;
 mod ready;
 mod records;
 mod replay;
@@ -19,8 +20,9 @@ mod sections;
 mod words;
 mod writing;
 
-pub use fault::WriteFault;
+pub use fault::{ReadFault, WriteFault};
 pub use law::{lines_are_read, one_text};
+pub use reading::read;
 pub use writing::write;
 
 #[cfg(test)]

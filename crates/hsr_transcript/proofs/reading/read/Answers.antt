@@ -1,0 +1,25 @@
+use Rattle.std.proofs.Common.{arith, refl}
+use Rattle.hsr_transcript.specs.Plain.{plain_view}
+use Rattle.hsr_transcript.specs.Ready.{ready_view}
+use Rattle.hsr_transcript.proofs.Answered.{closes_again, closes_answers, form_again, form_fault, judged_again}
+use Rattle.hsr_transcript.proofs.reading.read.Goals as goal
+
+-- src/reading.rt:52:23
+pub returns-in-Err-clause-exact : goal.returns-in-Err-clause-exact
+returns-in-Err-clause-exact g c = form_fault plain_view g.row.C _ c.in-Err.fault c.in-Err.ensures
+
+-- src/reading.rt:52:23
+pub returns-in-Err-clause-again : goal.returns-in-Err-clause-again
+returns-in-Err-clause-again g c = form_again plain_view g.row.C _ c.in-Err.fault (omega (arith, c.requires.entries)) c.in-Err.ensures
+
+-- src/reading.rt:45:1
+pub returns-in-Ok-judge-clause-exact : goal.returns-in-Ok-judge-clause-exact
+returns-in-Ok-judge-clause-exact g c = closes_answers g.row.C _ (plain_view c.in-Ok.plain) (ready_view g.row.C c.in-Ok-judge.ready) _ _ c.in-Ok.ensures c.in-Ok-judge.ensures refl c.close.ensures
+
+-- src/reading.rt:45:1
+pub returns-in-Ok-judge-clause-again : goal.returns-in-Ok-judge-clause-again
+returns-in-Ok-judge-clause-again g c = closes_again g.row.C _ (plain_view c.in-Ok.plain) (ready_view g.row.C c.in-Ok-judge.ready) _ _ (omega (arith, c.requires.entries)) c.in-Ok.ensures c.in-Ok-judge.ensures refl c.close.ensures
+
+-- src/reading.rt:45:1
+pub returns-in-Err-judge-clause-again : goal.returns-in-Err-judge-clause-again
+returns-in-Err-judge-clause-again g c = judged_again g.row.C _ (plain_view c.in-Ok.plain) _ (omega (arith, c.requires.entries)) c.in-Ok.ensures c.in-Err-judge.ensures

@@ -1,0 +1,58 @@
+//! The closed run whose text a text is.
+ghost use Rattle.std.specs.Prelude.{◌≡◌, ◌≤◌, IfSome};
+ghost use Rattle.hsr_audit.specs.Finished.{Finished, IsFinished};
+ghost use Rattle.hsr_transcript.specs.Answers.{Answers, Closes, IsReadAs, IsTextOf};
+ghost use Rattle.hsr_transcript.specs.Fits.{Fits};
+ghost use Rattle.hsr_transcript.specs.Ready.{ready_view};
+ghost use Rattle.hsr_transcript.specs.Told.{seen};
+
+use crate::fault::ReadFault;
+use crate::form::form;
+use crate::judge::judge;
+use crate::ready::Ready;
+use hsr_audit::{CheckFault, Closed, passes_of};
+use std::alloc::Global;
+use std::io::Read;
+
+/// The closed run that a topology, replayed nodes, rows and a plan are, if they agree.
+fn close<const C: usize>(alloc: Global, ready: Ready<C>) -> Result<Closed<C>, ReadFault>
+    ensures { Closes C (ready_view C ready.entry) ready.entry.rows.items (seen (λ c. c) result) }
+{
+    let Ready {
+        topology,
+        plan,
+        kept,
+        rows,
+    } = ready;
+    let Ok(passes) = passes_of(alloc, kept.as_slice(), plan.as_slice()) else {
+        return Err(ReadFault::NoMemory);
+    };
+    match Closed::check(alloc, topology, plan, kept, rows, passes) {
+        Ok(closed) => Ok(closed),
+        Err((_parts, fault)) => match fault {
+            CheckFault::Disagree(cause) => Err(ReadFault::Disagrees(cause)),
+            CheckFault::NoMemory => Err(ReadFault::NoMemory),
+        },
+    }
+}
+
+/// Reads the text of a closed run with tables of `C` entries, `C` from 1 to 65535, whose lines have at most 8192 octets: the
+/// run that it is the one text of. Each entry is replayed, and the run is checked as one that is closed. `Version` where the
+/// first line is another one; `BadLine` with the number of the line, from 1, that is out of form, or else of the last line of
+/// the links where the topology is refused, of the line `main` where the order doesn't fit, or of the first entry whose event
+/// is refused or whose outcome is another one; `End` where the text ends early; `Disagrees` with the first cause where all of
+/// this stands, but is no closed run; `Read` where the reader fails or takes over 2^40 reads; `NoMemory` where room is refused.
+pub fn read<const C: usize, R: Read>(alloc: Global, reader: &mut R) -> Result<Closed<C>, ReadFault>
+    requires entries { (1 ≤ C) × (C ≤ 65535) }
+    ensures exact { IfSome (R.remaining reader.old) (Answers C (seen (λ c. c) result)) }
+    ensures again { IfSome (R.remaining reader.old) (λ text. (f : Finished) → IsFinished f → Fits f → IsTextOf C f text → IsReadAs f (seen (λ c. c) result)) }
+{
+    let plain = match form(C, alloc, reader) {
+        Ok(plain) => plain,
+        Err(fault) => return Err(fault),
+    };
+    match judge::<C>(alloc, plain) {
+        Ok(ready) => close(alloc, ready),
+        Err(fault) => Err(fault),
+    }
+}
