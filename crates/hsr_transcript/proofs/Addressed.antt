@@ -1,15 +1,20 @@
 -- The text of an address is read as that address.
-use Rattle.std.proofs.Common.{◌≡◌, ℕ, ◌/◌, ◌%◌, ◌<◌, nat_lt, Some, List, [], ◌∷◌, ◌++◌, ◌∙◌, refl, ap, ap₂, slice_index, arith, true, false}
+use Rattle.std.proofs.Common.{◌≡◌, ℕ, zero, suc, ◌≤◌, length, map, None, ◌/◌, ◌%◌, ◌<◌, nat_lt, Some, Ok, List, [], ◌∷◌, ◌++◌, ◌∙◌, refl, ap, ap₂, slice_index, arith, true, false}
 use Rattle.std.proofs.lemmas.Bool.{and_from, and_right}
 use Rattle.std.proofs.lemmas.Bool.Decides.{nat_tests}
 use Rattle.std.proofs.lemmas.List.{map-append}
 use Rattle.std.specs.Prelude.{codes}
+use Rattle.std.specs.List.{AllByRecursion}
 use Rattle.std.specs.Result.{result_ok}
 use Rattle.std.specs.Str.{bytes_eq}
 use Rattle.hsr_frame.specs.Address.{IsAddress, address_of, address_text, hex_digit, hex_digits, upper_digit, upper_text}
 use Rattle.hsr_frame.proofs.Texts.{address_of-printed}
-use Rattle.hsr_transcript.specs.Spelled.{mac_text}
-use Rattle.hsr_transcript.proofs.WordTexts.{is_word, word_more}
+use Rattle.hsr_frame.specs.Words.{cut}
+use Rattle.hsr_transcript.specs.Parsed.{macs_said}
+use Rattle.hsr_transcript.specs.Readable.{Lacks}
+use Rattle.hsr_transcript.specs.Spelled.{mac_text, spaced}
+use Rattle.hsr_transcript.proofs.CutWords.{cut_end, cut_word}
+use Rattle.hsr_transcript.proofs.WordTexts.{is_word, lacks_word, word_more}
 
 -- ---- its letters are upper case
 
@@ -30,9 +35,12 @@ text_upper mac a =
     (upper_on (slice_index mac 3) _ (a.each 3)
     (upper_on (slice_index mac 4) _ (a.each 4) (pair_upper (slice_index mac 5) (a.each 5))))))
 
-pub mac_again : (mac : List ℕ) → IsAddress mac → result_ok (address_of (mac_text mac)) ≡ Some mac
+pub mac_again : (mac : List ℕ) → IsAddress mac → address_of (mac_text mac) ≡ Ok mac
 unfolding mac_text
-mac_again mac a = ap result_ok (address_of-printed (address_text mac) mac a (text_upper mac a))
+mac_again mac a = address_of-printed (address_text mac) mac a (text_upper mac a)
+
+pub mac_said : (mac : List ℕ) → IsAddress mac → result_ok (address_of (mac_text mac)) ≡ Some mac
+mac_said mac a = ap result_ok (mac_again mac a)
 
 -- ---- it is a word
 
@@ -56,7 +64,23 @@ word_mac mac =
     let from_1 = hex_digits (octet 1) ++ 45 ∷ from_2 in
     word_on (octet 0) from_1 (word_on (octet 1) from_2 (word_on (octet 2) from_3 (word_on (octet 3) from_4 (word_on (octet 4) from_5 (pair_word (octet 5))))))
 
+pub mac_lacks : (s : ℕ) (mac : List ℕ) → s < 45 → Lacks s (mac_text mac)
+mac_lacks s mac h = lacks_word s (mac_text mac) h (word_mac mac)
+
 -- its third octet is a hyphen
 pub not_own : (mac : List ℕ) → bytes_eq (mac_text mac) (codes "own") ≡ false
 unfolding mac_text
 not_own mac = and_right _ _ (and_right _ _ refl)
+
+-- addresses, one after another
+pub macs_again : (n : ℕ) (mac : List ℕ) (macs : List (List ℕ)) → AllByRecursion IsAddress (mac ∷ macs) → length (mac ∷ macs) ≤ n
+    → macs_said n (Some (spaced (mac_text mac) (map mac_text macs))) ≡ Some (mac ∷ macs)
+unfolding macs_said
+macs_again zero mac macs a h = absurd (omega arith)
+macs_again (suc n) mac [] a h =
+    let word : cut 32 (mac_text mac) ≡ (mac_text mac, None) = cut_end 32 (mac_text mac) (mac_lacks 32 mac (omega arith)) in
+    rw (word, mac_again mac a.0) refl
+macs_again (suc n) mac (next ∷ macs) a h =
+    let rest = spaced (mac_text next) (map mac_text macs) in
+    let word : cut 32 (spaced (mac_text mac) (map mac_text (next ∷ macs))) ≡ (mac_text mac, Some rest) = cut_word 32 (mac_text mac) rest (mac_lacks 32 mac (omega arith)) in
+    rw (word, mac_again mac a.0, macs_again n next macs a.1 (omega arith)) refl

@@ -18,7 +18,7 @@ use Rattle.hsr_transcript.specs.Parsed.{arrive_said, below, event_said, port_sai
 use Rattle.hsr_transcript.specs.Readable.{Lacks}
 use Rattle.hsr_transcript.specs.Roles.{IsEventOf, IsPortOf}
 use Rattle.hsr_transcript.specs.Spelled.{about_text, event_text, letter, mac_text, octets_text, probe_text, spaced, vlan_text}
-use Rattle.hsr_transcript.proofs.Addressed.{mac_again, word_mac}
+use Rattle.hsr_transcript.proofs.Addressed.{mac_said, word_mac}
 use Rattle.hsr_transcript.proofs.Again.{octets_again, probe_again}
 use Rattle.hsr_transcript.proofs.CutWords.{cut_word}
 use Rattle.hsr_transcript.proofs.WordTexts.{is_word, lacks_word, line_end, line_more, word_decimal, word_octets}
@@ -55,7 +55,7 @@ unfolding event_said event_text
 send_again place from dst vlan kind payload rest f =
     send_words (decimal from) (mac_text dst) (vlan_text vlan) (encode_upper (pair kind)) (octets_text payload) rest from dst vlan kind payload
     (word_decimal from (let h = f.source in omega arith)) (word_mac dst) (word_vlan vlan) (word_pair kind) (word_octets payload f.octets)
-    (below_again 256 from f.source (let h = f.source in omega arith)) (mac_again dst f.address) (vlan_again vlan f.tag) (hex_pair_again kind f.type) (octets_again payload f.octets)
+    (below_again 256 from f.source (let h = f.source in omega arith)) (mac_said dst f.address) (vlan_again vlan f.tag) (hex_pair_again kind f.type) (octets_again payload f.octets)
 
 life_again : (place : Place) (about : About) (rest : List ℕ) → IsEventFit (Supervise about)
     → event_said place (Some (event_text place (Supervise about) ++ 32 ∷ rest)) ≡ Some (Supervise about, Some rest)

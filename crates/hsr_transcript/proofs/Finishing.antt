@@ -12,7 +12,7 @@ use Rattle.hsr_transcript.specs.Answers.{AreShort, IsTextOf}
 use Rattle.hsr_transcript.specs.Fits.{AreEntriesFit, AreRowsFit, Fits, IsEntryFit, IsPlaceFit}
 use Rattle.hsr_transcript.specs.Form.{form_of}
 use Rattle.hsr_transcript.specs.Parsed.{entry_of, link_of, place_of, row_of, turn_of}
-use Rattle.hsr_transcript.specs.Readable.{FitAll, FitEach, IsFinishedRow, IsSpelled, Lacks}
+use Rattle.hsr_transcript.specs.Readable.{FitEach, IsFinishedRow, IsSpelled, Lacks}
 use Rattle.hsr_transcript.specs.Roles.{IsEntryOf}
 use Rattle.hsr_transcript.specs.Spelled.{entry_text, link_text, place_text, row_text}
 use Rattle.hsr_transcript.specs.Transcript.{run_text, said_lines, said_of}
@@ -24,11 +24,11 @@ use Rattle.hsr_transcript.proofs.Texts.{form_again}
 
 -- ---- all of a list
 
-all_two : {A : Type 0} (P Q R : A → Type 0) → ((x : A) → P x → Q x → R x) → (xs : List A) → AllByRecursion P xs → AllByRecursion Q xs → FitAll R xs
+all_two : {A : Type 0} (P Q R : A → Type 0) → ((x : A) → P x → Q x → R x) → (xs : List A) → AllByRecursion P xs → AllByRecursion Q xs → AllByRecursion R xs
 all_two P Q R on [] p q = tt
 all_two P Q R on (x ∷ xs) p q = (on x p.0 q.0, all_two P Q R on xs p.1 q.1)
 
-all_one : {A : Type 0} (P R : A → Type 0) → ((x : A) → P x → R x) → (xs : List A) → FitAll P xs → FitAll R xs
+all_one : {A : Type 0} (P R : A → Type 0) → ((x : A) → P x → R x) → (xs : List A) → AllByRecursion P xs → AllByRecursion R xs
 all_one P R on [] p = tt
 all_one P R on (x ∷ xs) p = (on x p.0, all_one P R on xs p.1)
 
@@ -45,11 +45,11 @@ IsName name = Lacks 32 name × Lacks 10 name
 
 -- ---- nodes and links
 
-place_all : (places : List Place) → AllByRecursion IsPlaceFit places → All HasAddresses places → FitAll (IsSpelled place_of place_text) places
+place_all : (places : List Place) → AllByRecursion IsPlaceFit places → All HasAddresses places → AllByRecursion (IsSpelled place_of place_text) places
 place_all [] fit has = tt
 place_all (place ∷ places) fit has = (place_spelled place fit.0 (has 0 place (omega arith)), place_all places fit.1 (λ k d below. has (suc k) d (omega (arith, below))))
 
-link_all : (places : List Place) (links : List (List End)) → length places ≤ 64 → All (IsJoin places) links → FitAll (IsSpelled (link_of places) (link_text places)) links
+link_all : (places : List Place) (links : List (List End)) → length places ≤ 64 → All (IsJoin places) links → AllByRecursion (IsSpelled (link_of places) (link_text places)) links
 link_all places [] few joined = tt
 link_all places (ends ∷ links) few joined =
     (link_spelled places ends few (joined 0 ends (omega arith)), link_all places links few (λ k d below. joined (suc k) d (omega (arith, below))))
@@ -57,7 +57,7 @@ link_all places (ends ∷ links) few joined =
 -- ---- the order of the main worker
 
 turn_all : (most : ℕ) (plan : List Planned) → most < 2 ^ 64 → ((i : ℕ) (d : Planned) → i < length plan → (slice_index_or plan i d).node < most)
-    → FitAll (IsSpelled turn_of decimal) (map (λ p. p.node) plan)
+    → AllByRecursion (IsSpelled turn_of decimal) (map (λ p. p.node) plan)
 turn_all most [] few below = tt
 turn_all most (p ∷ plan) few below =
     let here : p.node < most = below 0 p (omega arith) in
@@ -69,7 +69,7 @@ length_map f (x ∷ xs) = ap suc (length_map f xs)
 
 -- ---- all lines
 
-section_of : {Y : Type 0} (name : List ℕ) (of : List ℕ → Option Y) (spelled : Y → List ℕ) (ys : List Y) → IsName name → length ys < 2 ^ 64 → FitAll (IsSpelled of spelled) ys → IsSpelledSection name of spelled ys
+section_of : {Y : Type 0} (name : List ℕ) (of : List ℕ → Option Y) (spelled : Y → List ℕ) (ys : List Y) → IsName name → length ys < 2 ^ 64 → AllByRecursion (IsSpelled of spelled) ys → IsSpelledSection name of spelled ys
 section_of name of spelled ys is few all = record { count = count_spelled name (length ys) is.0 is.1 few; lines = all }
 
 small : (n : ℕ) → n ≤ 128 → n < 2 ^ 64

@@ -12,7 +12,6 @@ pub mod Readers
 pub mod Texts
 pub mod Again
 pub mod Shorts
-pub mod SpelledMacs
 pub mod Spells
 pub mod WordTexts
 pub mod Addressed
@@ -30,4 +29,5 @@ pub mod OfRole
 pub mod OfFinished
 pub mod Finishing
 pub mod Formal
+pub mod Fitting
 pub mod Answered

@@ -24,7 +24,7 @@ use Rattle.hsr_audit.specs.declared.end.End.{End}
 use Rattle.hsr_audit.proofs.Lists.{all_permutation}
 use Rattle.hsr_audit.proofs.Records.{Answered, OfArrival, each_from_ports, legal_each}
 use Rattle.hsr_transcript.specs.Fits.{Fits, IsProbeFit, IsRowFit}
-use Rattle.hsr_transcript.specs.Readable.{FitAll, IsFinishedRow, IsGone}
+use Rattle.hsr_transcript.specs.Readable.{IsFinishedRow, IsGone}
 use Rattle.hsr_transcript.specs.Roles.{IsEntryOf, IsEventOf, IsNamed}
 use Rattle.hsr_transcript.proofs.OfRole.{outcome_of, port_of}
 
@@ -104,10 +104,10 @@ row_of_send run row settled fit =
     let numbers : IsProbeFit settled.origin.send = subst P named fit.probe in
     record { probe = settled.origin.send; named = named; node = numbers.0; place = numbers.1; octets = fit.octets; put = settled.put; gone = gone_of row.fate settled.gone }
 
-rows_of_sends : (run : Run) (rows : List Row) → AllByRecursion (IsSettled run) rows → AllByRecursion IsRowFit rows → FitAll IsFinishedRow rows
+rows_of_sends : (run : Run) (rows : List Row) → AllByRecursion (IsSettled run) rows → AllByRecursion IsRowFit rows → AllByRecursion IsFinishedRow rows
 rows_of_sends run [] settled fit = tt
 rows_of_sends run (row ∷ rows) settled fit = (row_of_send run row settled.0 fit.0, rows_of_sends run rows settled.1 fit.1)
 
 -- the rows of a link are finished ones
-pub rows_finished : (f : Finished) → IsFinished f → Fits f → (l : ℕ) → l < length f.run.links → FitAll IsFinishedRow (rows_of f.run l)
+pub rows_finished : (f : Finished) → IsFinished f → Fits f → (l : ℕ) → l < length f.run.links → AllByRecursion IsFinishedRow (rows_of f.run l)
 rows_finished f finished fits l below = rows_of_sends f.run (rows_of f.run l) (finished.closed.settled l below) (fits.rows l below).1

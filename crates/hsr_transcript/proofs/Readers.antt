@@ -1,9 +1,10 @@
 -- Readers in a row read what their writers write, and only that.
 use Rattle.std.proofs.Common.{◌≡◌, ℕ, zero, suc, ◌+◌, ◌≤◌, List, [], ◌∷◌, ◌++◌, ◌∙◌, length, Option, Some, None, Result, Ok, Err, refl, sym, ap, subst, arith, append_assoc, length-append}
+use Rattle.std.specs.List.{AllByRecursion}
 use Rattle.std.proofs.lemmas.List.{append-nil}
 use Rattle.hsr_transcript.specs.Reading.{At, Reader, on_with, gives, ◌>>=◌, line_at, taken, line_or, line_of, many, each, counted, whole, closes}
 use Rattle.hsr_transcript.specs.Lines.{lines_by, lines_counted, lines_each, text_of}
-use Rattle.hsr_transcript.specs.Readable.{FitAll, FitEach, IsLineOf}
+use Rattle.hsr_transcript.specs.Readable.{FitEach, IsLineOf}
 use Rattle.hsr_transcript.proofs.OfKind.{Both, Kind}
 use Rattle.hsr_transcript.specs.declared.fault.ReadFault.{ReadFault}
 use Rattle.hsr_transcript.specs.declared.fault.ReadFault.TheVariants.{BadLine}
@@ -150,35 +151,35 @@ cons_both {Y} p q s t F G one more = record {
 
 -- k values
 pub many_both : {Y : Type 0} (p : Reader Y) (s : Y → List (List ℕ)) (F : Y → Type 0) → Both p s F
-    → (k : ℕ) → Both (many p k) (lines_by s) (λ ys. (length ys ≡ k) × FitAll F ys)
+    → (k : ℕ) → Both (many p k) (lines_by s) (λ ys. (length ys ≡ k) × AllByRecursion F ys)
 many_both {Y} p s F law zero =
-    both_by (gives []) (λ _. []) (lines_by s) (λ ys. [] ≡ ys) (λ ys. (length ys ≡ 0) × FitAll F ys)
-    (λ ys e. subst (λ ys. (length ys ≡ 0) × FitAll F ys) e (refl, tt))
+    both_by (gives []) (λ _. []) (lines_by s) (λ ys. [] ≡ ys) (λ ys. (length ys ≡ 0) × AllByRecursion F ys)
+    (λ ys e. subst (λ ys. (length ys ≡ 0) × AllByRecursion F ys) e (refl, tt))
     none
     same
     (gives_both [] (λ ys. [] ≡ ys) refl (λ ys e. e))
   where
-    none : (ys : List Y) → (length ys ≡ 0) × FitAll F ys → [] ≡ ys
+    none : (ys : List Y) → (length ys ≡ 0) × AllByRecursion F ys → [] ≡ ys
     none [] h = refl
     none (y ∷ ys) h = absurd (omega (arith, h.0))
 
-    same : (ys : List Y) → (length ys ≡ 0) × FitAll F ys → lines_by s ys ≡ []
+    same : (ys : List Y) → (length ys ≡ 0) × AllByRecursion F ys → lines_by s ys ≡ []
     same [] h = refl
     same (y ∷ ys) h = absurd (omega (arith, h.0))
 many_both {Y} p s F law (suc k) =
-    both_by (many p (suc k)) (on_cons s (lines_by s)) (lines_by s) (OnCons F (λ ys. (length ys ≡ k) × FitAll F ys)) (λ ys. (length ys ≡ suc k) × FitAll F ys)
+    both_by (many p (suc k)) (on_cons s (lines_by s)) (lines_by s) (OnCons F (λ ys. (length ys ≡ k) × AllByRecursion F ys)) (λ ys. (length ys ≡ suc k) × AllByRecursion F ys)
     to from same
-    (cons_both p (many p k) s (lines_by s) F (λ ys. (length ys ≡ k) × FitAll F ys) law (many_both p s F law k))
+    (cons_both p (many p k) s (lines_by s) F (λ ys. (length ys ≡ k) × AllByRecursion F ys) law (many_both p s F law k))
   where
-    to : (ys : List Y) → OnCons F (λ ys. (length ys ≡ k) × FitAll F ys) ys → (length ys ≡ suc k) × FitAll F ys
+    to : (ys : List Y) → OnCons F (λ ys. (length ys ≡ k) × AllByRecursion F ys) ys → (length ys ≡ suc k) × AllByRecursion F ys
     to [] h = absurd h
     to (y ∷ ys) h = (omega (arith, h.1.0), (h.0, h.1.1))
 
-    from : (ys : List Y) → (length ys ≡ suc k) × FitAll F ys → OnCons F (λ ys. (length ys ≡ k) × FitAll F ys) ys
+    from : (ys : List Y) → (length ys ≡ suc k) × AllByRecursion F ys → OnCons F (λ ys. (length ys ≡ k) × AllByRecursion F ys) ys
     from [] h = omega (arith, h.0)
     from (y ∷ ys) h = (h.1.0, (omega (arith, h.0), h.1.1))
 
-    same : (ys : List Y) → (length ys ≡ suc k) × FitAll F ys → lines_by s ys ≡ on_cons s (lines_by s) ys
+    same : (ys : List Y) → (length ys ≡ suc k) × AllByRecursion F ys → lines_by s ys ≡ on_cons s (lines_by s) ys
     same [] h = refl
     same (y ∷ ys) h = refl
 
@@ -213,13 +214,13 @@ each_both {X} {Y} p s F law (x ∷ xs) =
 -- a line that says how many, and as many
 pub counted_both : {Y : Type 0} (count : List ℕ → Option ℕ) (head : ℕ → List ℕ) (p : Reader Y) (s : Y → List (List ℕ)) (F : Y → Type 0)
     → Kind count head → Both p s F
-    → Both (counted count p) (lines_counted head s) (λ ys. IsLineOf count head (length ys) × FitAll F ys)
+    → Both (counted count p) (lines_counted head s) (λ ys. IsLineOf count head (length ys) × AllByRecursion F ys)
 counted_both {Y} count head p s F kind law =
-    bind_both (line_of count) (λ k. head k ∷ []) (IsLineOf count head) (λ k. many p k) (λ k. lines_by s) (λ ys. IsLineOf count head (length ys) × FitAll F ys) length
+    bind_both (line_of count) (λ k. head k ∷ []) (IsLineOf count head) (λ k. many p k) (λ k. lines_by s) (λ ys. IsLineOf count head (length ys) × AllByRecursion F ys) length
     (line_both BadLine count head kind)
     (λ ys h. h.0)
     (λ k h.
-    both_by (many p k) (lines_by s) (lines_by s) (λ ys. (length ys ≡ k) × FitAll F ys) (λ ys. (IsLineOf count head (length ys) × FitAll F ys) × (length ys ≡ k))
+    both_by (many p k) (lines_by s) (lines_by s) (λ ys. (length ys ≡ k) × AllByRecursion F ys) (λ ys. (IsLineOf count head (length ys) × AllByRecursion F ys) × (length ys ≡ k))
     (λ ys f. ((subst (IsLineOf count head) (sym f.0) h, f.1), f.0)) (λ ys f. (f.1, f.0.1)) (λ ys f. refl)
     (many_both p s F law k))
 

@@ -1,18 +1,19 @@
 -- Texts whose lines are spelled, and are not too long.
 use Rattle.std.proofs.Common.{ℕ, List, [], ◌∷◌, ◌++◌, Option, length, codes}
+use Rattle.std.specs.List.{AllByRecursion}
 use Rattle.std.specs.Fmt.{decimal}
 use Rattle.hsr_transcript.specs.Answers.{AreShort}
 use Rattle.hsr_transcript.specs.Form.{only}
 use Rattle.hsr_transcript.specs.Lines.{head, lines_by, lines_each, one, section}
 use Rattle.hsr_transcript.specs.Parsed.{count_of, entry_of, link_of, place_of, row_of, turn_of}
-use Rattle.hsr_transcript.specs.Readable.{AreLines, FitAll, FitEach, IsLineOf, IsReadable, IsSection, IsSpelled}
+use Rattle.hsr_transcript.specs.Readable.{AreLines, FitEach, IsLineOf, IsReadable, IsSection, IsSpelled}
 use Rattle.hsr_transcript.specs.Spelled.{entry_text, link_text, place_text, row_text}
 use Rattle.hsr_transcript.specs.Transcript.{Said, carried_lines, first_line, record_lines, said_front, said_lines}
 
 -- a section whose count and lines are spelled
 pub record IsSpelledSection {Y : Type 0} (name : List ℕ) (of : List ℕ → Option Y) (spelled : Y → List ℕ) (ys : List Y) : Type 0 where
   pub count : IsSpelled (count_of name) (head name) (length ys)
-  pub lines : FitAll (IsSpelled of spelled) ys
+  pub lines : AllByRecursion (IsSpelled of spelled) ys
 
 -- a text all of whose lines are spelled, of tables with so many entries
 pub record AreSpelled (capacity : ℕ) (t : Said) : Type 0 where
@@ -37,12 +38,12 @@ short_both (line ∷ lines) b h k = (h.0, short_both lines b h.1 k)
 
 -- ---- the lines of a section
 
-lines_fit : {Y : Type 0} (of : List ℕ → Option Y) (spelled : Y → List ℕ) (ys : List Y) → FitAll (IsSpelled of spelled) ys → AreShort (lines_by (one spelled) ys)
-    → FitAll (IsLineOf of spelled) ys
+lines_fit : {Y : Type 0} (of : List ℕ → Option Y) (spelled : Y → List ℕ) (ys : List Y) → AllByRecursion (IsSpelled of spelled) ys → AreShort (lines_by (one spelled) ys)
+    → AllByRecursion (IsLineOf of spelled) ys
 lines_fit of spelled [] f h = tt
 lines_fit of spelled (y ∷ ys) f h = ((f.0, h.0), lines_fit of spelled ys f.1 h.1)
 
-lines_short : {Y : Type 0} (of : List ℕ → Option Y) (spelled : Y → List ℕ) (ys : List Y) → FitAll (IsLineOf of spelled) ys → AreShort (lines_by (one spelled) ys)
+lines_short : {Y : Type 0} (of : List ℕ → Option Y) (spelled : Y → List ℕ) (ys : List Y) → AllByRecursion (IsLineOf of spelled) ys → AreShort (lines_by (one spelled) ys)
 lines_short of spelled [] f = tt
 lines_short of spelled (y ∷ ys) f = (f.0.1, lines_short of spelled ys f.1)
 

@@ -25,15 +25,15 @@ use Rattle.hsr_transcript.specs.Fits.{IsPlaceFit}
 use Rattle.hsr_transcript.specs.Form.{only}
 use Rattle.hsr_transcript.specs.Lines.{head}
 use Rattle.hsr_transcript.specs.Parsed.{count_of, end_said, link_of, link_said, mode_said, number_in, place_of, place_said, port_said, row_of, turn_of}
-use Rattle.hsr_transcript.specs.Readable.{FitAll, IsFinishedRow, IsSpelled, Lacks}
+use Rattle.hsr_transcript.specs.Readable.{IsFinishedRow, IsSpelled, Lacks}
 use Rattle.hsr_transcript.specs.Spelled.{dir_text, end_text, fate_text, letter, link_text, mac_text, mode_text, octets_text, place_text, probe_text, row_text, spaced}
 use Rattle.hsr_transcript.proofs.Again.{exactly_again, lacks_decimal, number_again, row_read, turn_read}
 use Rattle.hsr_transcript.proofs.CutWords.{cut_end, cut_word, lacks_more}
-use Rattle.hsr_transcript.proofs.SpelledMacs.{mac_again, mac_lacks, macs_again}
+use Rattle.hsr_transcript.proofs.Addressed.{mac_again, mac_lacks, macs_again}
 
 -- ---- octets that lines lack
 
-pub lacks_spaced : (word : List ℕ) (others : List (List ℕ)) → Lacks 10 word → FitAll (Lacks 10) others → Lacks 10 (spaced word others)
+pub lacks_spaced : (word : List ℕ) (others : List (List ℕ)) → Lacks 10 word → AllByRecursion (Lacks 10) others → Lacks 10 (spaced word others)
 lacks_spaced word [] h k = h
 lacks_spaced word (next ∷ others) h k = lacks_more 10 word (32 ∷ spaced next others) h (refl, lacks_spaced next others k.0 k.1)
 
@@ -131,7 +131,7 @@ place_again (RedBox mac mode) a h = rw (mac_first mac mode, mac_again mac a, mod
 place_again QuadBox a h = refl
 place_again (Station macs) a h = station_again macs.items a.0 a.1 h.some
 
-macs_lack : (macs : List (List ℕ)) → FitAll (Lacks 10) (map mac_text macs)
+macs_lack : (macs : List (List ℕ)) → AllByRecursion (Lacks 10) (map mac_text macs)
 macs_lack [] = tt
 macs_lack (mac ∷ macs) = (mac_lacks 10 mac (omega arith), macs_lack macs)
 

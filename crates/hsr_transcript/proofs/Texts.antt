@@ -1,5 +1,6 @@
 -- A whole text is read from its lines, and only from them.
 use Rattle.std.proofs.Common.{◌≡◌, ℕ, List, [], ◌∷◌, ◌++◌, length, Option, Some, Ok, refl, sym, subst, codes, append_assoc}
+use Rattle.std.specs.List.{AllByRecursion}
 use Rattle.std.specs.Fmt.{decimal}
 use Rattle.hsr_link.specs.declared.row.Row.{Row}
 use Rattle.hsr_node.specs.declared.entry.Entry.{Entry}
@@ -10,7 +11,7 @@ use Rattle.hsr_transcript.specs.Lines.{head, lines_counted, lines_each, one, sec
 use Rattle.hsr_transcript.specs.Parsed.{count_of, entry_of, link_of, number_in, place_of, row_of, turn_of, entry_said, link_said, place_said, row_said}
 use Rattle.hsr_frame.specs.Words.{cut, decimal_of}
 use Rattle.hsr_transcript.specs.Reading.{line_of, line_or}
-use Rattle.hsr_transcript.specs.Readable.{AreLines, FitAll, FitEach, IsFixed, IsLineOf, IsSection}
+use Rattle.hsr_transcript.specs.Readable.{AreLines, FitEach, IsFixed, IsLineOf, IsSection}
 use Rattle.hsr_transcript.specs.Spelled.{entry_text, link_text, place_text, row_text}
 use Rattle.hsr_transcript.specs.Transcript.{Said, carried_lines, first_line, record_lines, said_front, said_lines}
 use Rattle.hsr_transcript.specs.declared.fault.ReadFault.{ReadFault}
@@ -49,7 +50,7 @@ count_kind name = exactly_kind (head name) (λ line. number_in (cut 32 line).1)
 section_both : {Y : Type 0} (name : List ℕ) (of : List ℕ → Option Y) (spelled : Y → List ℕ) → Kind of spelled → Both (section_at name of) (section name spelled) (IsSection name of spelled)
 unfolding section_at section
 section_both name of spelled kind =
-    both_by (section_at name of) (lines_counted (head name) (one spelled)) (section name spelled) (λ ys. IsLineOf (count_of name) (head name) (length ys) × FitAll (IsLineOf of spelled) ys) (IsSection name of spelled)
+    both_by (section_at name of) (lines_counted (head name) (one spelled)) (section name spelled) (λ ys. IsLineOf (count_of name) (head name) (length ys) × AllByRecursion (IsLineOf of spelled) ys) (IsSection name of spelled)
     (λ ys f. record { count = f.0; lines = f.1 }) (λ ys f. (f.count, f.lines)) (λ ys f. refl)
     (counted_both (count_of name) (head name) (line_of of) (one spelled) (IsLineOf of spelled) (count_kind name) (line_both BadLine of spelled kind))
 

@@ -27,7 +27,7 @@ use Rattle.hsr_transcript.specs.Parsed.{about_said, below, cause_said, port_said
 use Rattle.hsr_transcript.specs.Reading.{tested}
 use Rattle.hsr_transcript.specs.Roles.{IsPortOf}
 use Rattle.hsr_transcript.specs.Spelled.{about_text, cause_text, letter, mac_text, probe_text, seq_text, vlan_text}
-use Rattle.hsr_transcript.proofs.Addressed.{mac_again, not_own, word_mac}
+use Rattle.hsr_transcript.proofs.Addressed.{mac_said, not_own, word_mac}
 use Rattle.hsr_transcript.proofs.Again.{lacks_decimal, number_again}
 use Rattle.hsr_transcript.proofs.WordTexts.{is_word, no_hyphen, word_decimal, word_hex, word_more}
 
@@ -83,7 +83,7 @@ word_vlan (Some control) = word_pair control
 pub about_again : (about : About) → IsAboutFit about → about_said (about_text about) ≡ Some about
 about_again Own h = refl
 about_again (Proxied mac) h =
-    cond-false (bytes_eq (mac_text mac) (codes "own")) (Some Own) _ (not_own mac) ∙ ap (option_map Proxied) (mac_again mac h)
+    cond-false (bytes_eq (mac_text mac) (codes "own")) (Some Own) _ (not_own mac) ∙ ap (option_map Proxied) (mac_said mac h)
 
 pub word_about : (about : About) → is_word (about_text about) ≡ true
 word_about Own = refl

@@ -3,6 +3,7 @@
 --     IsReadable   what is said is read again, line by line
 --     AreLines     and so are the lines that each text has
 use Rattle.std.specs.Prelude.{◌<◌, ◌^◌, ◌≡◌, ◌≤◌, ◌==◌, ℕ, false, List, [], ◌∷◌, length, Option, Some, codes}
+use Rattle.std.specs.List.{AllByRecursion}
 use Rattle.std.specs.Fmt.{decimal}
 use Rattle.hex.specs.Hex.{IsBytes}
 use Rattle.hsr_node.specs.declared.event.Probe.{Probe}
@@ -30,10 +31,6 @@ abbrev pub IsLineOf : {Y : Type 0} → (List ℕ → Option Y) → (Y → List �
 IsLineOf of spelled y = IsSpelled of spelled y × (length (spelled y) ≤ 8192)
 
 -- each of some values, and each beside its own
-abbrev pub FitAll : {Y : Type 0} → (Y → Type 0) → List Y → Type 0
-FitAll F [] = Unit {0}
-FitAll F (y ∷ ys) = F y × FitAll F ys
-
 abbrev pub FitEach : {X Y : Type 0} → (X → Y → Type 0) → List X → List Y → Type 0
 FitEach F [] [] = Unit {0}
 FitEach F [] (y ∷ ys) = ⊥
@@ -43,7 +40,7 @@ FitEach F (x ∷ xs) (y ∷ ys) = F x y × FitEach F xs ys
 -- a section: its count is read again, and each of its lines
 pub record IsSection {Y : Type 0} (name : List ℕ) (of : List ℕ → Option Y) (spelled : Y → List ℕ) (ys : List Y) : Type 0 where
   pub count : IsLineOf (count_of name) (head name) (length ys)
-  pub lines : FitAll (IsLineOf of spelled) ys
+  pub lines : AllByRecursion (IsLineOf of spelled) ys
 
 pub record IsReadable (t : Said) : Type 0 where
   pub nodes : IsSection (codes "nodes") place_of place_text t.nodes

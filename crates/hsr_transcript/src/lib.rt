@@ -21,7 +21,7 @@ mod words;
 mod writing;
 
 pub use fault::{ReadFault, WriteFault};
-pub use law::{lines_are_read, one_text};
+pub use law::one_text;
 pub use reading::read;
 pub use writing::write;
 

@@ -1,5 +1,6 @@
 //! Kinds of line, each with its writer and its reader, and sections of lines.
-ghost use Rattle.std.specs.Prelude.{◌≡◌, ◌++◌, ◌∷◌, [], ℕ, List, Option, OnOk, IfOk, length};
+ghost use Rattle.std.specs.Prelude.{◌≡◌, ◌<◌, ◌^◌, ◌++◌, ◌∷◌, [], ℕ, List, Option, OnOk, IfOk, length};
+ghost use Rattle.std.specs.List.{AllByRecursion};
 ghost use Rattle.std.specs.Str.{bytes_eq};
 ghost use Rattle.hsr_frame.specs.Words.{Gives};
 ghost use Rattle.hsr_transcript.specs.Lines.{head, section, text_of};
@@ -9,7 +10,7 @@ use crate::words::put_number;
 use hsr_frame::WordFault;
 use std::alloc::{AllocError, Global};
 
-/// A kind of line: how the line of a value is spelled, and what a line says.
+/// A kind of line: how the line of a value is spelled, what a line says, and what its type tells of a value.
 pub(crate) trait LineKind {
     type Value: Drop;
 
@@ -17,9 +18,12 @@ pub(crate) trait LineKind {
 
     ghost said: { Self → List ℕ → Option Self.Value };
 
+    ghost fits: { Self → Self.Value → Type 0 };
+
     /// Puts the line of a value, without its line feed.
     fn put(&self, text: &mut Vec<u8>, value: &Self::Value) -> Result<(), AllocError>
-        ensures { OnOk result (text.new.items ≡ text.old.items ++ spelled self.now value.now) };
+        ensures written { OnOk result (text.new.items ≡ text.old.items ++ spelled self.now value.now) }
+        ensures fits { OnOk result (fits self.now value.now) };
 
     /// Reads what a line says, which may be spelled otherwise.
     fn parse(&self, alloc: Global, line: &[u8]) -> Result<Self::Value, WordFault>
@@ -77,7 +81,9 @@ pub(crate) fn put_section<K: LineKind>(
     name: &[u8],
     values: &[K::Value],
 ) -> Result<(), AllocError>
-    ensures { OnOk result (text.new.items ≡ text.old.items ++ text_of (section name.now (K.spelled kind.now) values.now)) }
+    ensures written { OnOk result (text.new.items ≡ text.old.items ++ text_of (section name.now (K.spelled kind.now) values.now)) }
+    ensures fit { OnOk result (AllByRecursion (K.fits kind.now) values.now) }
+    ensures few { length values.now < 2 ^ 64 }
 {
     put_head(text, name, values.len())?;
     for value in values {

@@ -1,11 +1,14 @@
 //! The lines of nodes, links and the main worker's order.
 ghost use Rattle.std.specs.Prelude.{◌≡◌, ◌++◌, ◌∷◌, [], OnOk, map};
 ghost use Rattle.std.specs.Fmt.{decimal};
+ghost use Rattle.std.specs.List.{AllByRecursion};
+ghost use Rattle.hsr_frame.specs.Address.{IsAddress};
+ghost use Rattle.hsr_transcript.specs.Fits.{IsPlaceFit};
 ghost use Rattle.hsr_transcript.specs.Spelled.{end_text, link_text, mac_text, mode_text, place_text, spaced};
 
 use crate::lines::LineKind;
 use crate::said::{mode_said, port_said, split_stop};
-use crate::words::{letter, mode_word, put_mac, put_number, put_word};
+use crate::words::{letter, mac_fits, mode_word, put_mac, put_number, put_word};
 use arrayvec::ArrayVec;
 use hsr_audit::End;
 use hsr_frame::{Mac, Mode, WordFault, decimal, put_decimal, word};
@@ -48,8 +51,10 @@ fn put_ring_node(
     mac: Mac,
     mode: Mode,
 ) -> Result<(), AllocError>
-    ensures { OnOk result (text.new.items ≡ text.old.items ++ spaced word.now (mac_text mac ∷ mode_text mode ∷ [])) }
+    ensures written { OnOk result (text.new.items ≡ text.old.items ++ spaced word.now (mac_text mac ∷ mode_text mode ∷ [])) }
+    ensures fits { IsAddress mac }
 {
+    mac_fits(mac);
     text.extend_from_slice(word)?;
     put_mac(alloc, text, mac)?;
     put_word(text, mode_word(mode))
@@ -62,10 +67,12 @@ fn put_station(
     word: &[u8],
     macs: &[Mac],
 ) -> Result<(), AllocError>
-    ensures { OnOk result (text.new.items ≡ text.old.items ++ spaced word.now (map mac_text macs.now)) }
+    ensures written { OnOk result (text.new.items ≡ text.old.items ++ spaced word.now (map mac_text macs.now)) }
+    ensures fit { OnOk result (AllByRecursion IsAddress macs.now) }
 {
     text.extend_from_slice(word)?;
     for mac in macs {
+        mac_fits(*mac);
         put_mac(alloc, text, *mac)?;
     }
     Ok(())
@@ -74,7 +81,8 @@ fn put_station(
 /// Puts the line of a node.
 #[tactic(auto, unfolding(crate::specs::Spelled::place_text))]
 fn put_place(alloc: Global, text: &mut Vec<u8>, place: &Place) -> Result<(), AllocError>
-    ensures { OnOk result (text.new.items ≡ text.old.items ++ place_text place.now) }
+    ensures written { OnOk result (text.new.items ≡ text.old.items ++ place_text place.now) }
+    ensures fits { OnOk result (IsPlaceFit place.now) }
 {
     match place {
         Place::Danh { mac, mode } => put_ring_node(alloc, text, b"danh", *mac, *mode),
@@ -219,6 +227,7 @@ ghost use Rattle.hsr_transcript.specs.Parsed.{end_said, link_said, macs_said, nu
 ghost use Rattle.hsr_transcript.specs.Lines.{head};
 
 impl LineKind for PlaceLine {
+    ghost use Rattle.hsr_transcript.specs.Fits.{IsPlaceFit};
     ghost use Rattle.hsr_transcript.specs.Spelled.{place_text};
     ghost use Rattle.hsr_transcript.specs.Parsed.{place_said};
 
@@ -227,6 +236,8 @@ impl LineKind for PlaceLine {
     ghost spelled = { λ _. place_text };
 
     ghost said = { λ _. place_said };
+
+    ghost fits = { λ _. IsPlaceFit };
 
     fn put(&self, text: &mut Vec<u8>, place: &Place) -> Result<(), AllocError> {
         put_place(self.alloc, text, place)
@@ -247,6 +258,8 @@ impl<'a> LineKind for LinkLine<'a> {
 
     ghost said = { λ s. link_said s.places.now };
 
+    ghost fits = { λ _ _. Unit {0} };
+
     fn put(&self, text: &mut Vec<u8>, ends: &[End; 2]) -> Result<(), AllocError> {
         put_link(text, self.places, ends)
     }
@@ -265,6 +278,8 @@ impl LineKind for NumberLine {
     ghost spelled = { λ _. decimal };
 
     ghost said = { λ _. decimal_of };
+
+    ghost fits = { λ _ _. Unit {0} };
 
     fn put(&self, text: &mut Vec<u8>, n: &u64) -> Result<(), AllocError> {
         put_decimal(text, *n)
@@ -286,6 +301,8 @@ impl<'a> LineKind for CountLine<'a> {
 
     ghost said = { λ s line. number_in (cut 32 line).1 };
 
+    ghost fits = { λ _ _. Unit {0} };
+
     fn put(&self, text: &mut Vec<u8>, n: &u64) -> Result<(), AllocError> {
         text.extend_from_slice(self.name)?;
         put_number(text, *n)
@@ -304,6 +321,8 @@ impl<'a> LineKind for FixedLine<'a> {
     ghost spelled = { λ s _. s.line.now };
 
     ghost said = { λ _ _. Some tt };
+
+    ghost fits = { λ _ _. Unit {0} };
 
     fn put(&self, text: &mut Vec<u8>, _value: &()) -> Result<(), AllocError> {
         text.extend_from_slice(self.line)

@@ -1,5 +1,6 @@
 //! The lines of entries.
 ghost use Rattle.std.specs.Prelude.{◌≡◌, ◌++◌, OnOk};
+ghost use Rattle.hsr_transcript.specs.Fits.{IsEntryFit, IsEventFit, IsOutcomeFit, IsSendFit};
 ghost use Rattle.hsr_transcript.specs.Spelled.{entry_text, event_text, outcome_text, port_text, ports_text, up_text};
 
 use crate::lines::LineKind;
@@ -8,8 +9,8 @@ use crate::said::{
     seq_said, tail_of, vlan_said,
 };
 use crate::words::{
-    letter, put_about, put_cause, put_mac, put_number, put_octets, put_pair, put_probe, put_seq,
-    put_vlan, put_word,
+    about_fits, carried_fits, letter, mac_fits, put_about, put_cause, put_mac, put_number,
+    put_octets, put_pair, put_probe, put_seq, put_vlan, put_word,
 };
 use hsr_frame::{Mac, WordFault, decimal, hex_octets, hex_pair, put_decimal, word};
 use hsr_node::{Carried, Entry, Event, Octets, Outcome, Place};
@@ -311,7 +312,48 @@ ghost use Rattle.std.specs.Prelude.{option_map};
 ghost use Rattle.hsr_frame.specs.Words.{Gives};
 ghost use Rattle.hsr_transcript.specs.Parsed.{arrive_said, entry_said, event_said, judged_said, life_said, lived_said, outcome_said, send_said, sent_said};
 
+/// What the types tell of a send.
+fn send_fits(from: u8, dst: Mac, vlan: Option<u16>, kind: u16, payload: &[u8])
+    ensures { IsSendFit from dst vlan kind payload.now }
+{
+    mac_fits(dst);
+}
+
+/// What the types tell of an event.
+fn event_fits(event: &Event)
+    ensures { IsEventFit event.now }
+{
+    match event {
+        Event::Send {
+            from,
+            dst,
+            vlan,
+            kind,
+            payload,
+        } => send_fits(*from, *dst, *vlan, *kind, payload.as_slice()),
+        Event::Supervise(about) => about_fits(*about),
+        Event::Arrive { port: _, carried } => carried_fits(carried),
+        Event::Age => {}
+    }
+}
+
+/// What the types tell of an outcome.
+fn outcome_fits(outcome: Outcome)
+    ensures { IsOutcomeFit outcome }
+{}
+
+/// What the types tell of an entry.
+fn entry_fits(entry: &Entry)
+    ensures { IsEntryFit entry.now }
+{
+    let _worker = entry.worker;
+    let _at = entry.at;
+    event_fits(&entry.event);
+    outcome_fits(entry.outcome);
+}
+
 impl<'a> LineKind for EntryLine<'a> {
+    ghost use Rattle.hsr_transcript.specs.Fits.{IsEntryFit};
     ghost use Rattle.hsr_transcript.specs.Spelled.{entry_text};
     ghost use Rattle.hsr_transcript.specs.Parsed.{entry_said};
 
@@ -321,7 +363,10 @@ impl<'a> LineKind for EntryLine<'a> {
 
     ghost said = { λ s. entry_said s.place.now };
 
+    ghost fits = { λ _. IsEntryFit };
+
     fn put(&self, text: &mut Vec<u8>, entry: &Entry) -> Result<(), AllocError> {
+        entry_fits(entry);
         put_entry(self.alloc, text, self.place, entry)
     }
 

@@ -4,7 +4,7 @@ ghost use Rattle.hsr_transcript.specs.Spelled.{row_text};
 
 use crate::lines::LineKind;
 use crate::said::{dir_said, fate_said, probe_said};
-use crate::words::{dir_word, fate_word, put_octets, put_probe, put_word};
+use crate::words::{carried_fits, dir_word, fate_word, put_octets, put_probe, put_word};
 use hsr_frame::{WordFault, hex_octets, word};
 use hsr_link::Row;
 use hsr_node::{Carried, Octets};
@@ -50,6 +50,7 @@ ghost use Rattle.hsr_frame.specs.Words.{Gives};
 ghost use Rattle.hsr_transcript.specs.Parsed.{row_said};
 
 impl LineKind for RowLine {
+    ghost use Rattle.hsr_transcript.specs.Fits.{IsRowFit};
     ghost use Rattle.hsr_transcript.specs.Spelled.{row_text};
     ghost use Rattle.hsr_transcript.specs.Parsed.{row_said};
 
@@ -59,7 +60,10 @@ impl LineKind for RowLine {
 
     ghost said = { λ _. row_said };
 
+    ghost fits = { λ _. IsRowFit };
+
     fn put(&self, text: &mut Vec<u8>, row: &Row) -> Result<(), AllocError> {
+        carried_fits(&row.carried);
         put_row(text, row)
     }
 

@@ -1,23 +1,56 @@
-//! The transcript of one send, and texts that differ from it.
-use crate::fault::ReadFault;
-use crate::form::form;
-use crate::judge::judge;
+//! Transcripts of a send and of a group frame round a ring, and texts that differ from them.
+ghost use Rattle.std.specs.Prelude.{None};
+
+use crate::{ReadFault, WriteFault, read, write};
+use hsr_audit::Disagree;
+use hsr_link::Dir;
+use std::io::{self, ErrorKind, Write};
 use std::test::Fail;
 
 /// One DANH without a link that sent one frame.
 const ONE_SEND: &str =
     "hsr-bench 1\ntable 512\nnodes 1\ndanh 02-00-00-00-00-01 H\nlinks 0\nmain 1\n0\nrecord 1\n0 0 send 0 02-00-00-00-00-02 - 0800 AABB = sent 0 A B\nend\n";
 
+/// A group frame that went both ways round a ring of three.
+const RING: &str = "\
+hsr-bench 1
+table 512
+nodes 3
+danh 02-00-00-00-00-01 H
+danh 02-00-00-00-00-02 H
+danh 02-00-00-00-00-03 H
+links 3
+0.B 1.A
+1.B 2.A
+2.B 0.A
+main 1
+0
+record 3
+0 0 send 0 01-00-5E-00-00-01 - 0800 AABB = sent 0 A B
+1 0 arrive A 0:0 01005E000001020000000001892F100800000800AABB = judged returned -
+2 0 arrive B 0:0 01005E000001020000000001892F000800000800AABB = judged returned -
+record 2
+9 0 arrive A 0:0 01005E000001020000000001892F100800000800AABB = judged passed - up B
+10 0 arrive B 0:0 01005E000001020000000001892F000800000800AABB = judged passed - A
+record 2
+17 0 arrive A 0:0 01005E000001020000000001892F100800000800AABB = judged passed - up B
+18 0 arrive B 0:0 01005E000001020000000001892F000800000800AABB = judged passed - A
+carried 2
+forth 0:0 01005E000001020000000001892F100800000800AABB taken
+back 0:0 01005E000001020000000001892F000800000800AABB taken
+carried 2
+forth 0:0 01005E000001020000000001892F100800000800AABB taken
+back 0:0 01005E000001020000000001892F000800000800AABB taken
+carried 2
+back 0:0 01005E000001020000000001892F000800000800AABB taken
+forth 0:0 01005E000001020000000001892F100800000800AABB taken
+end
+";
+
 /// What is wrong with a text, for tables of 512 entries.
 fn fault_of(rt: &HostRuntime, text: &[u8]) -> Option<ReadFault> {
     let mut reader = text;
-    match form(512, rt.alloc(), &mut reader) {
-        Err(fault) => Some(fault),
-        Ok(plain) => match judge::<512>(rt.alloc(), plain) {
-            Err(fault) => Some(fault),
-            Ok(_ready) => None,
-        },
-    }
+    read::<512, _>(rt.alloc(), &mut reader).err()
 }
 
 /// Whether the text of one send with one of its parts replaced is a bad line with this number.
@@ -27,13 +60,79 @@ fn is_bad(rt: &HostRuntime, old: &str, new: &str, number: u64) -> Result<bool, F
     Ok(fault_of(rt, text.as_bytes()) == wanted)
 }
 
+/// Whether a text is read, and the run that was read has this text.
+fn is_read_again(rt: &HostRuntime, text: &[u8]) -> Result<bool, Fail> {
+    let mut reader = text;
+    let Ok(closed) = read::<512, _>(rt.alloc(), &mut reader) else {
+        return Ok(false);
+    };
+    let mut again = Vec::new(rt.alloc());
+    Ok(write(rt.alloc(), &closed, &mut again).is_ok() && again.as_slice() == text)
+}
+
+/// A writer that takes nothing.
+#[derive(Drop)]
+struct Full;
+
+impl Write for Full {
+    ghost contents = { λ _. None };
+
+    fn write(&mut self, _text: &[u8]) -> io::Result<usize> {
+        Err(io::Error::from(ErrorKind::BrokenPipe))
+    }
+
+    fn flush(&mut self) -> io::Result<()> {
+        Ok(())
+    }
+}
+
 #[test]
 fn transcript_of_one_send(rt: HostRuntime) -> Result<(), Fail> {
-    assert_eq!(rt; fault_of(&rt, ONE_SEND.as_bytes()), None);
+    assert!(rt; is_read_again(&rt, ONE_SEND.as_bytes())?);
     assert!(rt; is_bad(&rt, "sent 0", "sent 1", 9)?);
     assert!(rt; is_bad(&rt, "table 512", "table 4", 2)?);
     let version = ONE_SEND.replace(rt.alloc(), "hsr-bench 1", "hsr-bench 3")?;
     assert_eq!(rt; fault_of(&rt, version.as_bytes()), Some(ReadFault::Version));
+    Ok(())
+}
+
+#[test]
+fn transcript_of_a_ring(rt: HostRuntime) -> Result<(), Fail> {
+    assert!(rt; is_read_again(&rt, RING.as_bytes())?);
+    Ok(())
+}
+
+/// The first row of the first link is told as lost, though the node at its end took it.
+#[test]
+fn altered_fate(rt: HostRuntime) -> Result<(), Fail> {
+    let Some((front, back)) = RING.split_once(" taken") else {
+        return Err(Fail::from("no such text"));
+    };
+    let mut text = String::new(rt.alloc());
+    text.push_str(front)?;
+    text.push_str(" cut")?;
+    text.push_str(back)?;
+    let cause = Disagree::LinkTaken {
+        link: 0,
+        dir: Dir::Forth,
+    };
+    assert_eq!(rt;
+        fault_of(&rt, text.as_bytes()),
+        Some(ReadFault::Disagrees(cause))
+    );
+    Ok(())
+}
+
+#[test]
+fn writer_that_is_full(rt: HostRuntime) -> Result<(), Fail> {
+    let mut reader = ONE_SEND.as_bytes();
+    let Ok(closed) = read::<512, _>(rt.alloc(), &mut reader) else {
+        return Err(Fail::from("refused"));
+    };
+    assert_eq!(rt;
+        write(rt.alloc(), &closed, &mut Full),
+        Err(WriteFault::Write)
+    );
     Ok(())
 }
 

@@ -1,13 +1,15 @@
 //! The words of lines, written.
-ghost use Rattle.std.specs.Prelude.{◌≡◌, ◌++◌, ◌∷◌, OnOk, IfOk, string_bytes};
+ghost use Rattle.std.specs.Prelude.{◌≡◌, ◌++◌, ◌∷◌, OnOk, IfOk, IfSome, string_bytes};
 ghost use Rattle.std.specs.Fmt.{decimal};
-ghost use Rattle.hex.specs.Hex.{encode_upper};
+ghost use Rattle.hex.specs.Hex.{IsBytes, encode_upper};
+ghost use Rattle.hsr_frame.specs.Address.{IsAddress};
 ghost use Rattle.hsr_frame.specs.Grammar.{pair};
+ghost use Rattle.hsr_transcript.specs.Fits.{IsAboutFit, IsCarriedFit, IsProbeFit};
 ghost use Rattle.hsr_transcript.specs.Spelled.{about_text, cause_text, dir_text, fate_text, letter, letters, mac_text, mode_text, octets_text, probe_text, seq_text, vlan_text};
 
 use hsr_frame::{Cause, Mac, Mode, put_decimal, put_hex};
 use hsr_link::{Dir, Fate};
-use hsr_node::{Place, Probe};
+use hsr_node::{Carried, Place, Probe};
 use hsr_redbox::About;
 use std::alloc::{AllocError, Global};
 
@@ -174,4 +176,41 @@ pub(crate) fn put_cause(text: &mut Vec<u8>, cause: Cause) -> Result<(), AllocErr
             put_decimal(text, u64::from(fault.number()))
         }
     }
+}
+
+// What the types of values tell, which contracts learn from the clauses of these functions; they do nothing else.
+
+/// An address has six octets.
+pub(crate) fn mac_fits(mac: Mac)
+    ensures { IsAddress mac }
+{
+    let _ = mac.octets();
+}
+
+/// The address of a node that a supervision frame is about has six octets.
+pub(crate) fn about_fits(about: About)
+    ensures { IsAboutFit about }
+{
+    match about {
+        About::Own => {}
+        About::Proxied(mac) => mac_fits(mac),
+    }
+}
+
+/// The numbers of a probe have 64 bits.
+fn probe_fits(probe: Option<Probe>)
+    ensures { IfSome probe IsProbeFit }
+{}
+
+/// Octets have 8 bits each.
+fn octets_fit(octets: &[u8])
+    ensures { IsBytes octets.now }
+{}
+
+/// The numbers of a copy's probe have 64 bits, and its octets 8.
+pub(crate) fn carried_fits(carried: &Carried)
+    ensures { IsCarriedFit carried.now }
+{
+    probe_fits(carried.probe);
+    octets_fit(carried.octets.as_slice());
 }

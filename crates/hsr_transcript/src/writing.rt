@@ -1,6 +1,9 @@
 //! The text of a closed run, written.
-ghost use Rattle.std.specs.Prelude.{◌≡◌, ◌++◌, ◌∷◌, [], OnOk, IfOk, codes, map};
+ghost use Rattle.std.specs.Prelude.{◌≡◌, ◌<◌, ◌^◌, ℕ, ◌++◌, ◌∷◌, [], OnOk, IfOk, codes, length, map};
+ghost use Rattle.std.specs.List.{AllByRecursion};
 ghost use Rattle.std.specs.Io.KnownBytes.{Appends, Keeps};
+ghost use Rattle.hsr_audit.specs.Run.{record_of, rows_of};
+ghost use Rattle.hsr_transcript.specs.Fits.{AreEntriesFit, AreRowsFit, Fits, IsPlaceFit};
 ghost use Rattle.hsr_transcript.specs.Lines.{head, lines_each, section, text_of};
 ghost use Rattle.hsr_transcript.specs.Spelled.{link_text, place_text};
 ghost use Rattle.hsr_transcript.specs.Transcript.{carried_lines, first_line, record_lines, run_text};
@@ -30,7 +33,9 @@ fn put_front<const C: usize>(
     text: &mut Vec<u8>,
     closed: &Closed<C>,
 ) -> Result<(), AllocError>
-    ensures { OnOk result (text.new.items ≡ text.old.items ++ text_of (said_front closed.now.run.capacity (said_of closed.now))) }
+    ensures written { OnOk result (text.new.items ≡ text.old.items ++ text_of (said_front closed.now.run.capacity (said_of closed.now))) }
+    ensures places { OnOk result (AllByRecursion IsPlaceFit closed.now.run.places) }
+    ensures plan { OnOk result (length closed.now.plan < 2 ^ 64) }
 {
     let topology = closed.topology();
     let places = topology.places();
@@ -51,7 +56,8 @@ fn put_records<const C: usize>(
     text: &mut Vec<u8>,
     closed: &Closed<C>,
 ) -> Result<(), AllocError>
-    ensures { OnOk result (text.new.items ≡ text.old.items ++ text_of (lines_each record_lines closed.now.run.places closed.now.run.records)) }
+    ensures written { OnOk result (text.new.items ≡ text.old.items ++ text_of (lines_each record_lines closed.now.run.places closed.now.run.records)) }
+    ensures fit { OnOk result ((k : ℕ) → k < length closed.now.run.places → AreEntriesFit (record_of closed.now.run k)) }
 {
     let places = closed.topology().places();
     for i in 0..places.len() {
@@ -68,7 +74,8 @@ fn put_records<const C: usize>(
 
 /// Puts the rows of each link.
 fn put_carried<const C: usize>(text: &mut Vec<u8>, closed: &Closed<C>) -> Result<(), AllocError>
-    ensures { OnOk result (text.new.items ≡ text.old.items ++ text_of (lines_each (λ _. carried_lines) closed.now.run.links closed.now.run.rows)) }
+    ensures written { OnOk result (text.new.items ≡ text.old.items ++ text_of (lines_each (λ _. carried_lines) closed.now.run.links closed.now.run.rows)) }
+    ensures fit { OnOk result ((l : ℕ) → l < length closed.now.run.links → AreRowsFit (rows_of closed.now.run l)) }
 {
     let links = closed.topology().links();
     for i in 0..links.len() {
@@ -80,7 +87,8 @@ fn put_carried<const C: usize>(text: &mut Vec<u8>, closed: &Closed<C>) -> Result
 /// The whole text of a run.
 #[tactic(auto, unfolding(crate::specs::Transcript::said_lines))]
 fn whole_text<const C: usize>(alloc: Global, closed: &Closed<C>) -> Result<Vec<u8>, AllocError>
-    ensures { IfOk result (λ text. text.items ≡ run_text closed.now) }
+    ensures written { IfOk result (λ text. text.items ≡ run_text closed.now) }
+    ensures fits { OnOk result (Fits closed.now) }
 {
     let mut text = Vec::new(alloc);
     put_front(alloc, &mut text, closed)?;
@@ -98,7 +106,8 @@ pub fn write<const C: usize, W: Write>(
     closed: &Closed<C>,
     writer: &mut W,
 ) -> Result<(), WriteFault>
-    ensures { Written (W.contents writer.old) (W.contents writer.new) (run_text closed.now) result }
+    ensures written { Written (W.contents writer.old) (W.contents writer.new) (run_text closed.now) result }
+    ensures fits { OnOk result (Fits closed.now) }
 {
     let Ok(text) = whole_text(alloc, closed) else {
         return Err(WriteFault::NoMemory);

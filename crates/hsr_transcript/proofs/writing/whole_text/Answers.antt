@@ -4,9 +4,9 @@ use Rattle.hsr_transcript.specs.Transcript.{carried_lines, record_lines, said_fr
 use Rattle.hsr_transcript.proofs.Grown.{whole_text}
 use Rattle.hsr_transcript.proofs.writing.whole_text.Goals as goal
 
-pub returns : goal.returns
+pub returns-clause-written : goal.returns-clause-written
 unfolding said_lines
-returns g c =
+returns-clause-written g c =
     let f = c.args.closed.now in
     whole_text _ _ _ _ _ (codes "end") (said_front f.run.capacity (said_of f)) (lines_each record_lines f.run.places f.run.records) (lines_each (λ _. carried_lines) f.run.links f.run.rows)
-    c.new-text.ensures.items c.in_ok-put_front.ensures c.in_ok-put_records.ensures c.in_ok-put_carried.ensures c.in_ok-extend_from_slice.ensures.items
+    c.new-text.ensures.items c.in_ok-put_front.ensures.written c.in_ok-put_records.ensures.written c.in_ok-put_carried.ensures.written c.in_ok-extend_from_slice.ensures.items
