@@ -74,6 +74,6 @@ BudgetKeeps = (run : Run) → IsClosed run → NumberedFirst run → IsBudgetHel
 abbrev pub BudgetTells : Type 0
 BudgetTells = (run : Run) (macs : List (List ℕ)) → IsClosed run → IsRing run macs → run.capacity < 65536 → IsBudgetHeld run → NothingMistaken run
 
--- So within budget, with losses on one link alone, a ring delivers each frame exactly once.
+-- So within budget, with losses on at most one link, a ring delivers each frame exactly once.
 abbrev pub OnceInBudget : Type 0
 OnceInBudget = (run : Run) (macs : List (List ℕ)) → IsClosed run → IsRing run macs → OneLossyLink run → run.capacity < 65536 → IsBudgetHeld run → IsExactlyOnce run macs

@@ -42,7 +42,7 @@ certified_below run macs (suc k) = certified_below run macs k ++ certified_in ma
 abbrev pub certified : Run → List (List ℕ) → List Certified
 certified run macs = certified_below run macs (length run.places)
 
--- The run is that of a ring, with losses on one link alone, nothing forgotten and nothing mistaken; each send is listed
+-- The run is that of a ring, with losses on at most one link, nothing forgotten and nothing mistaken; each send is listed
 -- with the nodes that it is for; and each of these took its frame up just once.
 pub record IsCertified (run : Run) (sends : List Certified) : Type 0 where
   pub macs : List (List ℕ)

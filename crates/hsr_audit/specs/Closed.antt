@@ -38,7 +38,7 @@ TakenAgrees run l dir =
 abbrev pub IsSend : Run → Probe → Sending → Type 0
 IsSend run send sending = (send.node < length run.places) × (send_at (place_of run send.node) send.place (past_of run send.node) ≡ Some sending)
 
--- the number of a send, or else the one that a RedBox gave it
+-- the number of a send, or else the one that a RedBox gave it (only a Station's send meets a RedBox at its port 0)
 abbrev pub number_of : Run → Probe → Sending → Option ℕ
 number_of run send sending = option_or sending.seq (given run send)
 

@@ -93,7 +93,7 @@ IsFirstDoubt run (doubt.Forgot k i) =
 IsFirstDoubt run (doubt.Mistaken k i) =
     IsDanhRing run × AreInModeH run × HaveOwnAddresses run × OneLossyLink run × NothingForgotten run × IsFirstNot run (KnowsOwnAt run) k i
 
--- a ring, with losses on one link alone, nothing forgotten and nothing mistaken
+-- a ring, with losses on at most one link, nothing forgotten and nothing mistaken
 pub record IsPremised (run : Run) (macs : List (List ℕ)) : Type 0 where
   pub ring : IsRing run macs
   pub losses : OneLossyLink run

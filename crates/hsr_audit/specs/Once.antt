@@ -50,7 +50,7 @@ pub record IsExactlyOnce (run : Run) (macs : List (List ℕ)) : Type 0 where
       is_addressed macs send.node sending.frame k ≡ false → count_by (delivers send) (record_of run k) ≡ 0
   pub nothing_else : (k : ℕ) → k < length macs → Each (λ x past. GoesUp run x.event x.outcome) (past_of run k)
 
--- In a closed run of a ring, with losses on one link alone, nothing forgotten and nothing mistaken, each node that a
+-- In a closed run of a ring, with losses on at most one link, nothing forgotten and nothing mistaken, each node that a
 -- frame is for took it up once, and nothing else went up.
 abbrev pub ExactlyOnce : Type 0
 ExactlyOnce = (run : Run) (macs : List (List ℕ)) → IsClosed run → IsRing run macs → OneLossyLink run →

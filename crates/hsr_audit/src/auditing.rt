@@ -87,7 +87,7 @@ fn certify<const C: usize>(alloc: Global, closed: &Closed<C>) -> Result<Certific
 
 /// The certificate of a finished run: each of its sends, with the nodes that it is for, each of which took its frame up
 /// just once (IEC 62439-3 clause 5.3). There is one exactly where the nodes and links are a ring of DANHs in mode H with
-/// addresses of their own, copies were lost on one link alone, and nothing was forgotten that was needed and nothing
+/// addresses of their own, copies were lost on at most one link, and nothing was forgotten that was needed and nothing
 /// mistaken; else the first doubt is named. `NoMemory` where room is refused.
 pub fn audit<const C: usize>(alloc: Global, closed: &Closed<C>) -> Result<Certificate, AuditFault>
     ensures certified { IfOk result (λ c. IsCertified closed.now.run c.sends.items) }

@@ -4,7 +4,8 @@
 /// record the lowest node is named, and its lowest place.
 #[derive(Clone, Copy, Debug, PartialEq, Eq)]
 pub enum Doubt {
-    /// The nodes and links aren't a ring of two DANHs or more: link i joins B of node i with A of the next one.
+    /// The nodes and links aren't a ring of two DANHs or more, whatever their modes and addresses: link i joins B of node i with A
+    /// of the next one.
     NotRing,
     /// A node isn't in mode H.
     Mode,

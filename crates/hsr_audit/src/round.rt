@@ -1,4 +1,4 @@
-//! Whether nodes and links are a ring, and whether copies were lost on one link alone.
+//! Whether nodes and links are a ring, and whether copies were lost on at most one link.
 ghost use Rattle.std.specs.Prelude.{◌≡◌, ◌↔◌, ◌<◌, [], ◌++◌, filter_map, length, IfOk, IsTrue, OnOk};
 ghost use Rattle.std.specs.List.{cons_option, list_all};
 ghost use Rattle.hsr_link.specs.Rows.{is_lost};

@@ -37,7 +37,7 @@ impl Link {
     ghost use Rattle.hsr_link.specs.Link.{new_link, put_step, inject_step, add_step, take_step, cut_step, mended};
     ghost use Rattle.hsr_link.specs.Rows.{first_copy};
 
-    /// A link that is not cut, on which `capacity` copies may wait in each direction; `NoMemory` where room for them
+    /// A link that is not cut, on which `capacity` copies, 1 to 4096, may wait in each direction; `NoMemory` where room for them
     /// is refused.
     pub fn new(alloc: Global, capacity: usize) -> Result<Link, NoMemory>
         requires { (1 ≤ capacity) × (capacity ≤ 4096) }
@@ -146,7 +146,7 @@ impl Link {
         self.rows.as_slice()
     }
 
-    /// The rows.
+    /// The rows, in the order in which the copies were put.
     pub fn into_rows(self) -> Vec<Row>
         ensures { result.items ≡ self.rows }
     {

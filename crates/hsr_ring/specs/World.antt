@@ -124,7 +124,7 @@ take_to w l dir None = taken_by w l dir (take_step (line_at w l).link dir)
 abbrev pub cleared : World → End → World
 cleared w end = record w { lines = map (on_lanes (emptied end)) w.lines }
 
--- the worker of a port, and the one that ages a node by itself, have numbers
+-- the worker that judges at a port
 abbrev pub port_worker : End → ℕ
 port_worker end = 1 + 8 * end.node + end.port
 

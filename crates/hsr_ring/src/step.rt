@@ -63,8 +63,11 @@ pub enum Step {
 /// Why a step is refused, in the order in which the reasons are tried.
 #[derive(Clone, Copy, Debug, PartialEq, Eq)]
 pub enum WorldFault {
+    /// There is no node of this number.
     NoSuchNode,
+    /// There is no link of this number.
     NoSuchLink,
+    /// The node hasn't this port.
     NoSuchPort,
     /// The hand of the receiving port holds a copy.
     Busy,
@@ -74,6 +77,7 @@ pub enum WorldFault {
     TooLong,
     /// The node refuses the event.
     Node(StepFault),
+    /// Room for the step was refused.
     NoMemory,
 }
 

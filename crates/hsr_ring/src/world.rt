@@ -42,6 +42,7 @@ impl<const C: usize> World<C> {
     ghost use Rattle.hsr_node.specs.Record.{counters};
 
     /// A world at moment 0 in which nothing was done, with room for `capacity` copies, 1 to 4096, in each direction of a link.
+    /// `NoMemory` where room is refused.
     pub fn new(alloc: Global, topology: Topology, capacity: usize) -> Result<World<C>, NoMemory>
         requires entries { (1 ≤ C) × (C ≤ 65535) }
         requires room { (1 ≤ capacity) × (capacity ≤ 4096) }
@@ -92,6 +93,7 @@ impl<const C: usize> World<C> {
 
     /// Does what is left to do, until nothing is, in at most `limit` steps: copies in hands are judged, those in outboxes put
     /// and those on links taken, in this order, by the lowest node and port, or link. The answer is how many steps.
+    /// `Unsettled` after `limit` steps with something left; `World` where a step is refused. The steps before it stand.
     pub fn drain(&mut self, limit: u64) -> Result<u64, DrainFault>
         ensures ok { IfOk result (λ n. (n ≤ limit) × (next_step self.new ≡ None) × Drains C n self.old self.new) }
         ensures err { IfErr result (λ f. IsDrainFault C self.old self.new limit f) }
@@ -125,7 +127,7 @@ impl<const C: usize> World<C> {
         self.running.link_count()
     }
 
-    /// The record of a node, the oldest entry first.
+    /// The record of a node that is there, the oldest entry first.
     pub fn entries(&self, node: usize) -> &[Entry]
         requires { node < length self.now.places }
         ensures { reverse result.now ≡ record_at self.now node }
@@ -133,7 +135,7 @@ impl<const C: usize> World<C> {
         self.running.entries(node)
     }
 
-    /// How often each thing happened at a node, counted over its record.
+    /// How often each thing happened at a node that is there, counted over its record.
     pub fn counters(&self, node: usize) -> Counters
         requires { node < length self.now.places }
         ensures { result ≡ counters (owner_at self.now node).place (record_at self.now node) }
@@ -141,7 +143,7 @@ impl<const C: usize> World<C> {
         self.running.counters(node)
     }
 
-    /// The row of each copy that was put on a link, in order.
+    /// The row of each copy that was put on a link that is there, in order.
     pub fn rows(&self, link: usize) -> &[Row]
         requires { link < length self.now.lines }
         ensures { result.now ≡ (line_at self.now link).link.rows }

@@ -69,13 +69,16 @@ impl Key {
 pub enum Spot {
     /// In the document itself.
     Top,
-    /// In a node, a link or a step, each counted from 0.
+    /// In a node, counted from 0.
     Node(usize),
+    /// In a link, counted from 0.
     Link(usize),
+    /// In a step, counted from 0.
     Step(usize),
 }
 
-/// What a fault is, in the order in which faults are tried at one key.
+/// What a fault is. `Unknown` is tried before all keys of its table but `role` and `do`; at one key the others are tried in this
+/// order.
 #[derive(Clone, Copy, Debug, PartialEq, Eq)]
 pub enum What {
     /// The text has over 16 MiB, or is no TOML.

@@ -17,4 +17,8 @@ pub use scenario::Scenario;
 pub use steps::Order;
 
 #[cfg(test)]
+mod said_tests;
+#[cfg(test)]
+mod step_tests;
+#[cfg(test)]
 mod tests;

@@ -1,0 +1,209 @@
+//! What documents say, and the words of faults.
+use crate::tests::{NODES, joined};
+use crate::{Order, Scenario, What, read};
+use arrayvec::ArrayVec;
+use hsr_audit::End;
+use hsr_node::Place;
+use hsr_ring::Step as Deed;
+use std::alloc::Global;
+use std::test::Fail;
+
+/// The words of the first fault of a document.
+fn words_of(alloc: Global, text: &str) -> Result<String, Fail> {
+    match read(alloc, text) {
+        Ok(_) => Err(Fail::from("a scenario")),
+        Err(fault) => Ok(format!(in alloc; "{fault}")?),
+    }
+}
+
+#[test]
+fn scenario_faults(rt: HostRuntime) -> Result<(), Fail> {
+    let Ok(empty) = read(rt.alloc(), "") else {
+        return Err(Fail::from("refused"));
+    };
+    assert_eq!(rt; empty.capacity, 64);
+    assert!(rt; empty.topology.places().is_empty() && empty.topology.links().is_empty());
+    assert!(rt; empty.steps.is_empty());
+    let unnamed = joined(rt.alloc(), NODES, "[[step]]\ndo = \"age\"\nnode = \"nx\"")?;
+    assert_eq!(rt;
+        words_of(rt.alloc(), unnamed.as_str())?.as_str(),
+        "step 0 no-such-name"
+    );
+    let back = "[[link]]\nends = [\"n0.B\", \"n1.A\"]\n[[link]]\nends = [\"n0.B\", \"n2.A\"]";
+    let forked = joined(rt.alloc(), NODES, back)?;
+    assert_eq!(rt;
+        words_of(rt.alloc(), forked.as_str())?.as_str(),
+        "top topology-4"
+    );
+    Ok(())
+}
+
+#[test]
+fn words_of_faults(rt: HostRuntime) -> Result<(), Fail> {
+    assert_eq!(rt; words_of(rt.alloc(), "x")?.as_str(), "top text");
+    assert_eq!(rt; words_of(rt.alloc(), "x = 1")?.as_str(), "top unknown");
+    assert_eq!(rt;
+        words_of(rt.alloc(), "node = [{}]")?.as_str(),
+        "node 0 missing role"
+    );
+    assert_eq!(rt;
+        words_of(rt.alloc(), "link = [{ends=1}]")?.as_str(),
+        "link 0 wrong-kind ends"
+    );
+    assert_eq!(rt;
+        words_of(rt.alloc(), "step = [{do=\"\"}]")?.as_str(),
+        "step 0 bad-value do"
+    );
+    let twice = "node = [{role=\"quadbox\", name=\"q\"}, {role=\"quadbox\", name=\"q\"}]";
+    assert_eq!(rt; words_of(rt.alloc(), twice)?.as_str(), "node 1 name-twice");
+    Ok(())
+}
+
+/// A DANH, a RedBox with its station, and a QuadBox without links.
+const RED: &str = "
+capacity = 4096
+node = [
+  {name=\"n0\", role=\"danh\", mac=\"02-00-00-00-00-01\", mode=\"N\"},
+  {name=\"r\", role=\"redbox\", mac=\"02-00-00-00-00-09\"},
+  {name=\"s\", role=\"station\", macs=[\"02-00-00-00-00-0A\", \"02-00-00-00-00-0b\"]},
+  {name=\"q\", role=\"quadbox\"},
+]
+link = [{ends=[\"n0.B\", \"r.A\"]}, {ends=[\"r.B\", \"n0.A\"]}, {ends=[\"r.I\", \"s.P\"]}]
+";
+
+/// What a document of these nodes and links says.
+fn red_with(alloc: Global, steps: &str) -> Result<Scenario, Fail> {
+    let text = joined(alloc, RED, steps)?;
+    match read(alloc, text.as_str()) {
+        Ok(scenario) => Ok(scenario),
+        Err(_) => Err(Fail::from("refused")),
+    }
+}
+
+fn mac(last: u8) -> hsr_frame::Mac {
+    hsr_frame::Mac::new([2, 0, 0, 0, 0, last])
+}
+
+#[test]
+fn nodes_and_links(rt: HostRuntime) -> Result<(), Fail> {
+    let scenario = red_with(rt.alloc(), "")?;
+    assert_eq!(rt; scenario.capacity, 4096);
+    let mut macs = ArrayVec::new();
+    macs.push(mac(10));
+    macs.push(mac(11));
+    let places = vec![in rt.alloc();
+        Place::Danh {
+            mac: mac(1),
+            mode: hsr_frame::Mode::N
+        },
+        Place::RedBox {
+            mac: mac(9),
+            mode: hsr_frame::Mode::H
+        },
+        Place::Station { macs },
+        Place::QuadBox,
+    ]?;
+    assert!(rt; scenario.topology.places() == places.as_slice());
+    assert_eq!(rt; scenario.topology.links().len(), 3);
+    assert!(rt;
+        scenario.topology.links()[2] == [End { node: 1, port: 2 }, End { node: 2, port: 0 }]
+    );
+    Ok(())
+}
+
+#[test]
+fn steps_of_nodes(rt: HostRuntime) -> Result<(), Fail> {
+    let text =
+        "step = [{do=\"clock\", at=10}, {do=\"send\", node=\"s\", to=\"02-00-00-00-00-01\", type=0x0800, payload=\"aABB\", vlan=5, from=1},
+  {do=\"life\", node=\"r\"}, {do=\"life\", node=\"r\", about=\"02-00-00-00-00-0A\"}, {do=\"age\", node=\"q\"}]";
+    let scenario = red_with(rt.alloc(), text)?;
+    let payload = hsr_node::Octets::from_slice(rt.alloc(), &[0xAA, 0xBB])
+        .ok()
+        .ok_or("room")?;
+    let send = Deed::Send {
+        node: 2,
+        from: 1,
+        dst: mac(1),
+        vlan: Some(5),
+        kind: 0x0800,
+        payload,
+    };
+    let told = vec![in rt.alloc();
+        Order::Step(Deed::Clock { at: 10 }),
+        Order::Step(send),
+        Order::Step(Deed::Supervise {
+            node: 1,
+            about: hsr_redbox::About::Own
+        }),
+        Order::Step(Deed::Supervise {
+            node: 1,
+            about: hsr_redbox::About::Proxied(mac(10))
+        }),
+        Order::Step(Deed::Age { node: 3 }),
+    ]?;
+    assert!(rt; scenario.steps.as_slice() == told.as_slice());
+    Ok(())
+}
+
+#[test]
+fn steps_of_links(rt: HostRuntime) -> Result<(), Fail> {
+    let text =
+        "step = [{do=\"put\", port=\"r.I\"}, {do=\"judge\", port=\"q.D\"}, {do=\"take\", link=2, dir=\"back\"}, {do=\"cut\", link=1},
+  {do=\"mend\", link=1}, {do=\"inject\", link=0, dir=\"forth\", octets=\"0102\"}, {do=\"drain\"}]";
+    let scenario = red_with(rt.alloc(), text)?;
+    let octets = hsr_node::Octets::from_slice(rt.alloc(), &[1, 2])
+        .ok()
+        .ok_or("room")?;
+    let told = vec![in rt.alloc();
+        Order::Step(Deed::Put { node: 1, port: 2 }),
+        Order::Step(Deed::Judge { node: 3, port: 3 }),
+        Order::Step(Deed::Take {
+            link: 2,
+            dir: hsr_link::Dir::Back
+        }),
+        Order::Step(Deed::Cut { link: 1 }),
+        Order::Step(Deed::Mend { link: 1 }),
+        Order::Step(Deed::Inject {
+            link: 0,
+            dir: hsr_link::Dir::Forth,
+            octets
+        }),
+        Order::Drain,
+    ]?;
+    assert!(rt; scenario.steps.as_slice() == told.as_slice());
+    Ok(())
+}
+
+#[test]
+fn what_stands_for_missing_keys(rt: HostRuntime) -> Result<(), Fail> {
+    let text = "step = [{do=\"send\", node=\"n0\", to=\"01-00-5E-00-00-01\", type=65535}]";
+    let scenario = red_with(rt.alloc(), text)?;
+    let payload = hsr_node::Octets::from_slice(rt.alloc(), &[])
+        .ok()
+        .ok_or("room")?;
+    let dst = hsr_frame::Mac::new([1, 0, 0x5E, 0, 0, 1]);
+    let send = Deed::Send {
+        node: 0,
+        from: 0,
+        dst,
+        vlan: None,
+        kind: 65535,
+        payload,
+    };
+    let told = vec![in rt.alloc(); Order::Step(send)]?;
+    assert!(rt; scenario.steps.as_slice() == told.as_slice());
+    Ok(())
+}
+
+/// Whether a document is read, at the second time where a growth was refused at the first.
+fn is_read_again(alloc: Global, text: &str) -> bool {
+    match read(alloc, text) {
+        Ok(_) => true,
+        Err(fault) => fault.what == What::NoMemory && read(alloc, text).is_ok(),
+    }
+}
+
+#[test]
+fn read_again_after_a_refusal(rt: HostRuntime) {
+    assert!(rt; is_read_again(rt.alloc(), RED));
+}
