@@ -1,25 +1,45 @@
 -- One more receipt of the main worker, for what is planned next.
-use Rattle.std.proofs.Common.{◌≡◌, ℕ, ◌+◌, ◌<◌, ◌==◌, zero, suc, cond, List, [], ◌∷◌, ◌++◌, length, map, drop, get_or, set, filter_map, Some, None, refl, sym, ap, ◌∙◌, subst, arith, ⊎_elim, eqb-true, append_assoc}
+use Rattle.std.proofs.Common.{◌≡◌, ℕ, ◌+◌, ◌<◌, ◌==◌, zero, suc, cond, List, [], ◌∷◌, ◌++◌, length, map, drop, get_or, set, filter_map, Option, Some, None, refl, sym, ap, ◌∙◌, subst, arith, ⊎_elim, eqb-true, append_assoc}
 use Rattle.std.specs.List.{cons_option}
 use Rattle.std.specs.Prelude.{slice_get}
 use Rattle.std.proofs.lemmas.Bool.{cases_Bool, false≢true}
-use Rattle.std.proofs.lemmas.List.{get_or-set_same, get_or-set_other, length-set, map-append}
+use Rattle.std.proofs.lemmas.List.{get_or_default, get_or-set_same, get_or-set_other, length-set, map-append}
 use Rattle.std.proofs.lemmas.List.Elements.{filter_map-append}
 use Rattle.std.proofs.lemmas.Option.{slice_get-get_or}
 use Rattle.hsr_node.specs.Kept.{Record}
 use Rattle.hsr_node.specs.declared.entry.Entry.{Entry}
 use Rattle.hsr_node.specs.declared.entry.Receipt.{Receipt}
 use Rattle.hsr_audit.specs.Finished.{planned_by, planned_for}
-use Rattle.hsr_audit.specs.Passes.{IsAhead, IsKeptNext, IsLeft, IsNext, IsOver, left_at}
+use Rattle.hsr_audit.specs.Next.{IsNext, holds_from}
+use Rattle.hsr_audit.specs.Passes.{IsAhead, IsKeptNext, IsLeft, left_at}
 use Rattle.hsr_audit.specs.Receipts.{Shows, holds_of, named, planned_of}
 use Rattle.hsr_audit.specs.declared.planned.Planned.{Planned}
 use Rattle.hsr_audit.proofs.Decided.{not_same, same}
-use Rattle.hsr_audit.proofs.Plan.{all_append, found_at}
+use Rattle.hsr_audit.proofs.Plan.{all_append, found_at, record_told, told_of}
 
-any : {X : Type 0} (xs : List X) (i : ℕ) (x d : X) → i < length xs → get_or xs i x ≡ get_or xs i d
-any [] i x d h = absurd (omega arith)
-any (y ∷ ys) zero x d h = refl
-any (y ∷ ys) (suc i) x d h = any ys i x d (omega arith)
+-- ---- what the rest of a record tells
+
+get-drop : {X : Type 0} (xs : List X) (n i : ℕ) → slice_get xs (n + i) ≡ slice_get (drop n xs) i
+get-drop xs zero i = let e : 0 + i ≡ i = omega arith in ap (slice_get xs) e
+get-drop [] (suc n) i = refl
+get-drop (x ∷ xs) (suc n) i = let e : suc n + i ≡ suc (n + i) = omega arith in ap (slice_get (x ∷ xs)) e ∙ get-drop xs n i
+
+record_from : (k n : ℕ) (xs : List Entry) → filter_map (planned_by k) (drop n xs) ≡ filter_map (λ m. told_of k (slice_get xs m)) (holds_from 0 xs n)
+record_from k n xs = record_told k n xs (drop n xs) (get-drop xs n)
+
+none_told : (k : ℕ) (xs : List Entry) (from : ℕ) → holds_from 0 xs from ≡ [] → filter_map (planned_by k) (drop from xs) ≡ []
+none_told k xs from none = record_from k from xs ∙ ap (filter_map (λ m. told_of k (slice_get xs m))) none
+
+next_told : (k : ℕ) (xs : List Entry) (from place : ℕ) (d : Entry) → IsNext 0 xs from place → filter_map (planned_by k) (drop from xs)
+    ≡ record { node = k; at = (get_or xs place d).at; event = (get_or xs place d).event } ∷ filter_map (planned_by k) (drop (place + 1) xs)
+next_told k xs from place d is =
+    let told : ℕ → Option Planned = λ m. told_of k (slice_get xs m) in
+    record_from k from xs
+    ∙ (ap (filter_map told) is.holds
+    ∙ (ap (λ o. cons_option (told_of k o) (filter_map told (holds_from 0 xs (place + 1)))) (slice_get-get_or xs place d is.below)
+    ∙ ap (λ ys. record { node = k; at = (get_or xs place d).at; event = (get_or xs place d).event } ∷ ys) (sym (record_from k (place + 1) xs))))
+
+-- ---- the step
 
 module _ (kept : List Record) (next : List ℕ) (planned : Planned) (e : Record) (from : ℕ) (long : length next ≡ length kept) (inside : planned.node < length kept)
     (at : e ≡ get_or kept planned.node e) (starts : from ≡ get_or next planned.node 0) where
@@ -35,16 +55,16 @@ module _ (kept : List Record) (next : List ℕ) (planned : Planned) (e : Record)
 
   left_here : (d : Record) → left_at kept next k d ≡ drop from e.entries
   left_here d =
-      let is : get_or kept k d ≡ e = any kept k d e inside ∙ sym at in
+      let is : get_or kept k d ≡ e = get_or_default kept k d e inside ∙ sym at in
       λ i. drop (sym starts i) (is i).entries
 
-  pub stops : IsOver e.entries from → (rest : List Planned) → IsLeft kept next (planned ∷ rest) → ⊥
+  pub stops : holds_from 0 e.entries from ≡ [] → (rest : List Planned) → IsLeft kept next (planned ∷ rest) → ⊥
   stops over rest l =
-      let nothing = sym (first_for rest) ∙ (l.each k e inside ∙ (ap (filter_map (planned_by k)) (left_here e) ∙ over.told k)) in
+      let nothing = sym (first_for rest) ∙ (l.each k e inside ∙ (ap (filter_map (planned_by k)) (left_here e) ∙ none_told k e.entries from over)) in
       let n : length (planned ∷ filter_map (planned_for k) rest) ≡ 0 = ap length nothing in
       omega (arith, n)
 
-  module _ (place : ℕ) (x : Entry) (before : List Receipt) (is : IsNext e.entries from place) (stands : x ≡ get_or e.entries place x) where
+  module _ (place : ℕ) (x : Entry) (before : List Receipt) (is : IsNext 0 e.entries from place) (stands : x ≡ get_or e.entries place x) where
     abbrev receipt : Receipt
     receipt = record { node = k; place = place; entry = x }
 
@@ -62,7 +82,7 @@ module _ (kept : List Record) (next : List ℕ) (planned : Planned) (e : Record)
     later_here : (d : Record) → left_at kept later k d ≡ drop (place + 1) e.entries
     later_here d =
         let number : get_or later k 0 ≡ place + 1 = get_or-set_same next k (place + 1) 0 (omega (arith, inside, long)) in
-        let kept_is : get_or kept k d ≡ e = any kept k d e inside ∙ sym at in
+        let kept_is : get_or kept k d ≡ e = get_or_default kept k d e inside ∙ sym at in
         λ i. drop (number i) (kept_is i).entries
 
     Named : Record → ℕ → Type 0
@@ -104,7 +124,7 @@ module _ (kept : List Record) (next : List ℕ) (planned : Planned) (e : Record)
     here : (rest : List Planned) → IsLeft kept next (planned ∷ rest) →
         planned ∷ filter_map (planned_for k) rest ≡ planned_of receipt ∷ filter_map (planned_by k) (drop (place + 1) e.entries)
     here rest l =
-        sym (first_for rest) ∙ (l.each k e inside ∙ (ap (filter_map (planned_by k)) (left_here e) ∙ (is.told k x
+        sym (first_for rest) ∙ (l.each k e inside ∙ (ap (filter_map (planned_by k)) (left_here e) ∙ (next_told k e.entries from place x is
         ∙ ap (λ (z : Entry). record { node = k; at = z.at; event = z.event } ∷ filter_map (planned_by k) (drop (place + 1) e.entries)) (sym stands))))
 
     Left : List Planned → ℕ → Type 0

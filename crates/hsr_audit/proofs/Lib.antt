@@ -54,6 +54,8 @@ pub mod Known
 pub mod Idle
 pub mod Plan
 pub mod Agreed
+pub mod Coming
+pub mod Reaching
 pub mod Receiving
 pub mod Keeping
 pub mod MainPass

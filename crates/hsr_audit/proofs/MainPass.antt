@@ -1,14 +1,15 @@
 -- The main worker's receipts, of one planned thing after another.
 use Rattle.std.proofs.Common.{◌≡◌, ℕ, ◌+◌, ◌<◌, ◌≤◌, ◌==◌, zero, suc, cond, Bool, true, false, List, [], ◌∷◌, ◌++◌, length, map, drop, get_or, filter_map, Some, None, refl, sym, ap, ◌∙◌, subst, arith, append_assoc, append-nil}
-use Rattle.std.specs.List.{cons_option, AllByRecursion}
+use Rattle.std.specs.List.{cons_option}
 use Rattle.hsr_node.specs.Kept.{Record}
 use Rattle.hsr_node.specs.declared.entry.Entry.{Entry}
 use Rattle.hsr_node.specs.declared.entry.Receipt.{Receipt}
 use Rattle.hsr_audit.specs.Finished.{planned_by}
-use Rattle.hsr_audit.specs.Passes.{AreFirst, AreMain, IsKeptNext, IsLeft, IsToldBy, IsUpTo, left_at}
+use Rattle.hsr_audit.specs.Next.{AreFirst}
+use Rattle.hsr_audit.specs.Passes.{AreMain, IsKeptNext, IsLeft, IsToldBy, IsUpTo, left_at}
 use Rattle.hsr_audit.specs.Receipts.{holds_of, named, planned_of}
 use Rattle.hsr_audit.specs.declared.planned.Planned.{Planned}
-use Rattle.hsr_audit.proofs.Plan.{all_append}
+use Rattle.hsr_audit.proofs.Coming.{zero_at}
 
 -- ---- lists
 
@@ -24,19 +25,6 @@ drop_all [] zero h = refl
 drop_all [] (suc n) h = refl
 drop_all (x ∷ xs) zero h = absurd (omega (arith, h))
 drop_all (x ∷ xs) (suc n) h = drop_all xs n (omega (arith, h))
-
-zero_at : (xs : List ℕ) → AllByRecursion (λ n. n ≡ 0) xs → (k : ℕ) → get_or xs k 0 ≡ 0
-zero_at [] h k = refl
-zero_at (x ∷ xs) h zero = h.0
-zero_at (x ∷ xs) h (suc k) = zero_at xs h.1 k
-
-pub first_more : (n : ℕ) (next after : List ℕ) → AreFirst n next → after ≡ next ++ 0 ∷ [] → AreFirst (n + 1) after
-first_more n next after h is =
-    subst (AreFirst (n + 1)) (sym is) (record { long = more next ∙ ap (λ k. k + 1) h.long; first = all_append (λ k. k ≡ 0) next (0 ∷ []) h.first (refl, tt) })
-  where
-    more : (xs : List ℕ) → length (xs ++ 0 ∷ []) ≡ length xs + 1
-    more [] = refl
-    more (x ∷ xs) = let rest = more xs in omega (arith, rest)
 
 -- nothing of the main worker is left where nothing is told
 none_held : (k n : ℕ) (xs : List Entry) → filter_map (planned_by k) xs ≡ [] → holds_of 0 n xs ≡ []

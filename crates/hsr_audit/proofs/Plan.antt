@@ -21,7 +21,7 @@ use Rattle.hsr_audit.specs.declared.planned.Planned.{Planned}
 use Rattle.hsr_audit.proofs.Shaped.{many}
 
 -- what an entry of a node is in a plan
-abbrev told_of : ℕ → Option Entry → Option Planned
+abbrev pub told_of : ℕ → Option Entry → Option Planned
 told_of k None = None
 told_of k (Some x) = Some (record { node = k; at = x.at; event = x.event })
 
@@ -66,7 +66,7 @@ done_told kept k (p ∷ ps) shown =
 -- ---- records
 
 -- from the n-th entry on
-record_told : (k n : ℕ) (whole xs : List Entry) → ((i : ℕ) → slice_get whole (n + i) ≡ slice_get xs i) →
+pub record_told : (k n : ℕ) (whole xs : List Entry) → ((i : ℕ) → slice_get whole (n + i) ≡ slice_get xs i) →
     filter_map (planned_by k) xs ≡ filter_map (λ m. told_of k (slice_get whole m)) (holds_of 0 n xs)
 record_told k n whole [] at = refl
 record_told k n whole (x ∷ xs) at =
@@ -94,7 +94,7 @@ same_map f g (x ∷ xs) e = λ i. cons_option (e x i) (same_map f g xs e i)
 
 -- ---- nodes
 
-node_inside : (kept : List Record) (r : Receipt) → Shows kept r → r.node < length kept
+pub node_inside : (kept : List Record) (r : Receipt) → Shows kept r → r.node < length kept
 node_inside kept r is = inside kept r.node is
   where
     inside : (rs : List Record) (k : ℕ) → entry_at rs k r.place ≡ Some r.entry → k < length rs

@@ -1,12 +1,13 @@
 -- Receipts in passes, one worker after another.
-use Rattle.std.proofs.Common.{◌≡◌, ℕ, ◌+◌, ◌<◌, ◌==◌, ◌&&◌, not, zero, suc, cond, Bool, true, false, List, [], ◌∷◌, ◌++◌, length, map, get_or, filter_map, Some, None, refl, sym, ap, ◌∙◌, subst, arith, eqb-true, append_assoc, append-nil}
+use Rattle.std.proofs.Common.{◌≡◌, ℕ, ◌+◌, ◌<◌, ◌==◌, ◌&&◌, not, zero, suc, cond, Bool, true, false, List, [], ◌∷◌, ◌++◌, length, map, get_or, set, filter_map, Some, None, refl, sym, ap, ◌∙◌, subst, arith, eqb-true, append_assoc, append-nil}
 use Rattle.std.specs.Prelude.{slice_get}
 use Rattle.std.specs.List.{cons_option, AllByRecursion}
-use Rattle.std.proofs.lemmas.List.{map-append}
+use Rattle.std.proofs.lemmas.List.{length_push, map-append}
 use Rattle.std.proofs.lemmas.List.Elements.{filter_map-append}
 use Rattle.hsr_node.specs.Kept.{Receipts, Record}
 use Rattle.hsr_node.specs.declared.entry.Entry.{Entry}
-use Rattle.hsr_audit.specs.Passes.{AreMain, is_other, other_in, others_in, others_of, receipts_in, receipts_of}
+use Rattle.hsr_node.specs.declared.entry.Receipt.{Receipt}
+use Rattle.hsr_audit.specs.Passes.{AreByWorker, AreMain, is_other, other_in, others_in, others_of, receipts_in, receipts_of}
 use Rattle.hsr_audit.specs.Receipts.{HasReceipts, IsRight, IsShown, Shows, done_of, entry_in, holds_of, named, names_of, planned_of}
 use Rattle.hsr_audit.specs.declared.planned.Planned.{Planned}
 use Rattle.hsr_audit.proofs.Decided.{not_same, same}
@@ -17,9 +18,85 @@ pub one_more : (w : ℕ) (ps : List Receipts) (p : Receipts) → receipts_of w (
 one_more w [] p = append-nil (receipts_in w p)
 one_more w (q ∷ ps) p = ap (λ rs. receipts_in w q ++ rs) (one_more w ps p) ∙ sym (append_assoc (receipts_in w q) (receipts_of w ps) (receipts_in w p))
 
+-- ---- passes by worker
+
+by_worker_more : (n : ℕ) (ps : List Receipts) (p : Receipts) → AreByWorker n ps → p.worker ≡ n + length ps → AreByWorker n (ps ++ p ∷ [])
+by_worker_more n [] p h is = (omega (arith, is), tt)
+by_worker_more n (q ∷ ps) p h is = (h.0, by_worker_more (n + 1) ps p h.1 (omega (arith, is)))
+
+worker_at : (n i : ℕ) (ps : List Receipts) (d : Receipts) → AreByWorker n ps → i < length ps → (get_or ps i d).worker ≡ n + i
+worker_at n i [] d h below = absurd (omega arith)
+worker_at n zero (p ∷ ps) d h below = let e = h.0 in omega (arith, e)
+worker_at n (suc i) (p ∷ ps) d h below = let e = worker_at (n + 1) i ps d h.1 (omega (arith, below)) in omega (arith, e)
+
+by_worker_set : (n i : ℕ) (ps : List Receipts) (new : Receipts) → AreByWorker n ps → new.worker ≡ n + i → AreByWorker n (set ps i new)
+by_worker_set n i [] new h is = tt
+by_worker_set n zero (p ∷ ps) new h is = (omega (arith, is), h.1)
+by_worker_set n (suc i) (p ∷ ps) new h is = (h.0, by_worker_set (n + 1) i ps new h.1 (omega (arith, is)))
+
+-- one more, without receipts
+pub record IsLonger (ps after : List Receipts) (n : ℕ) : Type 0 where
+  pub count : length after ≡ n + 1
+  pub workers : AreByWorker 0 after
+  pub receipts : (w : ℕ) → receipts_of w after ≡ receipts_of w ps
+
+pub empty_more : (ps after : List Receipts) (p : Receipts) (n : ℕ) → length ps ≡ n → AreByWorker 0 ps → p ≡ record { worker = n; receipts = [] } → after ≡ ps ++ p ∷ [] → IsLonger ps after n
+empty_more ps after p n count h empty is = record {
+  count = ap length is ∙ (length_push ps p ∙ ap (λ k. k + 1) count);
+  workers = subst (AreByWorker 0) (sym is) (by_worker_more 0 ps p h (let e = ap (λ (q : Receipts). q.worker) empty in omega (arith, e, count)));
+  receipts = λ w. ap (receipts_of w) is ∙ (one_more w ps p ∙ (ap (λ xs. receipts_of w ps ++ xs) (ap (receipts_in w) empty ∙ nothing (n == w) [] refl) ∙ append-nil (receipts_of w ps)));
+}
+  where
+    nothing : (b : Bool) (rs : List Receipt) → rs ≡ [] → cond b rs [] ≡ []
+    nothing true rs none = none
+    nothing false rs none = refl
+
+none_before : (w n : ℕ) (ps : List Receipts) → AreByWorker n ps → w < n → receipts_of w ps ≡ []
+none_before w n [] h below = refl
+none_before w n (p ∷ ps) h below =
+    let first = h.0 in
+    ap (λ b. cond b p.receipts [] ++ receipts_of w ps) (not_same p.worker w (λ e. omega (arith, e, first, below))) ∙ none_before w (n + 1) ps h.1 (omega (arith, below))
+
+-- more receipts of a worker
+receipts_set : (w n i : ℕ) (ps : List Receipts) (old new : Receipts) (rs : List Receipt) → AreByWorker n ps → i < length ps → old ≡ get_or ps i old →
+    new ≡ record old { receipts = old.receipts ++ rs } → receipts_of w (set ps i new) ≡ receipts_of w ps ++ (cond (old.worker == w) rs [])
+receipts_set w n i [] old new rs h below stands is = absurd (omega arith)
+receipts_set w n zero (p ∷ ps) old new rs h below stands is =
+    (λ j. receipts_in w (is j) ++ receipts_of w ps)
+    ∙ (in_place (old.worker == w) refl
+    ∙ (λ j. receipts_of w (stands j ∷ ps) ++ cond (old.worker == w) rs []))
+  where
+    in_place : (b : Bool) → (old.worker == w) ≡ b → cond b (old.receipts ++ rs) [] ++ receipts_of w ps ≡ (cond b old.receipts [] ++ receipts_of w ps) ++ cond b rs []
+    in_place true same_worker =
+        let worker = eqb-true old.worker w same_worker in
+        let first : old.worker ≡ n = ap (λ (q : Receipts). q.worker) stands ∙ h.0 in
+        let none : receipts_of w ps ≡ [] = none_before w (n + 1) ps h.1 (omega (arith, worker, first)) in
+        ap (λ xs. (old.receipts ++ rs) ++ xs) none
+        ∙ (append-nil (old.receipts ++ rs)
+        ∙ (ap (λ xs. xs ++ rs) (sym (append-nil old.receipts)) ∙ ap (λ xs. (old.receipts ++ xs) ++ rs) (sym none)))
+    in_place false other = sym (append-nil (receipts_of w ps))
+receipts_set w n (suc i) (p ∷ ps) old new rs h below stands is =
+    ap (λ xs. receipts_in w p ++ xs) (receipts_set w (n + 1) i ps old new rs h.1 (omega (arith, below)) stands is)
+    ∙ sym (append_assoc (receipts_in w p) (receipts_of w ps) (cond (old.worker == w) rs []))
+
+-- the receipt of an entry of another than the main worker
+pub other_set : (ps : List Receipts) (i node place : ℕ) (x : Entry) (old new : Receipts) (r : Receipt) → AreByWorker 0 ps → x.worker < length ps → i ≡ x.worker → (x.worker ≡ 0 → ⊥) →
+    old ≡ get_or ps i old → r ≡ record { node = node; place = place; entry = x } → new ≡ record old { receipts = old.receipts ++ r ∷ [] } →
+    AreByWorker 0 (set ps i new) × ((w : ℕ) → receipts_of w (set ps i new) ≡ receipts_of w ps ++ other_in w node place x)
+other_set ps i node place x old new r h below at other stands made is =
+    let inside : i < length ps = omega (arith, below, at) in
+    let counted : old.worker ≡ 0 + i = ap (λ (q : Receipts). q.worker) stands ∙ worker_at 0 i ps old h inside in
+    let worker : old.worker ≡ i = omega (arith, counted) in
+    let new_worker : new.worker ≡ 0 + i = ap (λ (q : Receipts). q.worker) is ∙ counted in
+    let tested : (w : ℕ) → (old.worker == w) ≡ is_other w x = λ w.
+    ap (λ v. v == w) (worker ∙ at) ∙ sym (ap (λ b. not b && (x.worker == w)) (not_same x.worker 0 other)) in (
+      by_worker_set 0 i ps new h new_worker,
+      λ w. receipts_set w 0 i ps old new (r ∷ []) h inside stands is ∙ (λ j. receipts_of w ps ++ cond (tested w j) (made j ∷ []) []),
+    )
+
 -- ---- passes
 
-names_flat : (w k : ℕ) (ps : List Receipts) → names_of w k ps ≡ filter_map (named k) (receipts_of w ps)
+pub names_flat : (w k : ℕ) (ps : List Receipts) → names_of w k ps ≡ filter_map (named k) (receipts_of w ps)
 names_flat w k [] = refl
 names_flat w k (p ∷ ps) =
     by_worker (p.worker == w) (names_flat w k ps) ∙ sym (filter_map-append (named k) (receipts_in w p) (receipts_of w ps))
@@ -46,7 +123,7 @@ all_right : {X : Type 0} (P : X → Type 0) (xs ys : List X) → AllByRecursion 
 all_right P [] ys h = h
 all_right P (x ∷ xs) ys h = all_right P xs ys h.1
 
-shown_flat : (kept : List Record) (w : ℕ) (ps : List Receipts) → AllByRecursion (Shows kept) (receipts_of w ps) → IsShown kept w ps (length ps)
+pub shown_flat : (kept : List Record) (w : ℕ) (ps : List Receipts) → AllByRecursion (Shows kept) (receipts_of w ps) → IsShown kept w ps (length ps)
 shown_flat kept w [] all = λ j d below is. absurd (omega arith)
 shown_flat kept w (p ∷ ps) all = by_place (shown_flat kept w ps (all_right (Shows kept) (receipts_in w p) (receipts_of w ps) all))
   where

@@ -22,4 +22,6 @@ pub mod InOrder
 pub mod Disagree
 pub mod Origin
 pub mod Workers
+pub mod Next
 pub mod Passes
+pub mod Reached

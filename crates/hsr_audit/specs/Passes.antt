@@ -7,6 +7,7 @@ use Rattle.hsr_node.specs.Kept.{Receipts, Record}
 use Rattle.hsr_node.specs.declared.entry.Entry.{Entry}
 use Rattle.hsr_node.specs.declared.entry.Receipt.{Receipt}
 use Rattle.hsr_audit.specs.Finished.{planned_by, planned_for}
+use Rattle.hsr_audit.specs.Next.{left_of}
 use Rattle.hsr_audit.specs.Receipts.{Shows, holds_of, named, planned_of}
 use Rattle.hsr_audit.specs.declared.planned.Planned.{Planned}
 
@@ -16,6 +17,11 @@ receipts_in w p = if p.worker == w then p.receipts else []
 abbrev pub receipts_of : ℕ → List Receipts → List Receipt
 receipts_of w [] = []
 receipts_of w (p ∷ ps) = receipts_in w p ++ receipts_of w ps
+
+-- the first pass is this worker's, the second the next one's, and so on
+abbrev pub AreByWorker : ℕ → List Receipts → Type 0
+AreByWorker n [] = Unit
+AreByWorker n (p ∷ ps) = (p.worker ≡ n) × AreByWorker (n + 1) ps
 
 -- ---- workers but the main one, in node and place order
 
@@ -50,23 +56,11 @@ left_at kept next k d = drop (slice_index_or next k 0) (slice_index_or kept k d)
 pub record IsAhead (kept : List Record) (next : List ℕ) (receipts : List Receipt) : Type 0 where
   pub long : length next ≡ length kept
   pub shown : AllByRecursion (Shows kept) receipts
-  pub names : (k : ℕ) (d : Record) → k < length kept →
-      filter_map (named k) receipts ++ holds_of 0 (slice_index_or next k 0) (left_at kept next k d) ≡ holds_of 0 0 (slice_index_or kept k d).entries
+  pub names : (k : ℕ) (d : Record) → k < length kept → filter_map (named k) receipts ++ left_of 0 kept next k d ≡ holds_of 0 0 (slice_index_or kept k d).entries
 
 -- from the next places on the records tell of the rest of a plan
 pub record IsLeft (kept : List Record) (next : List ℕ) (rest : List Planned) : Type 0 where
   pub each : (k : ℕ) (d : Record) → k < length kept → filter_map (planned_for k) rest ≡ filter_map (planned_by k) (left_at kept next k d)
-
--- the first place from one on at which an entry of the main worker stands
-pub record IsNext (entries : List Entry) (from place : ℕ) : Type 0 where
-  pub below : place < length entries
-  pub holds : holds_of 0 from (drop from entries) ≡ place ∷ holds_of 0 (place + 1) (drop (place + 1) entries)
-  pub told : (k : ℕ) (d : Entry) → filter_map (planned_by k) (drop from entries)
-      ≡ record { node = k; at = (slice_index_or entries place d).at; event = (slice_index_or entries place d).event } ∷ filter_map (planned_by k) (drop (place + 1) entries)
-
--- there is none
-pub record IsOver (entries : List Entry) (from : ℕ) : Type 0 where
-  pub told : (k : ℕ) → filter_map (planned_by k) (drop from entries) ≡ []
 
 -- one more receipt, for what is planned next
 pub record IsKeptNext (kept : List Record) (planned : Planned) (old new : List ℕ) (before after : List Receipt) : Type 0 where
@@ -79,11 +73,6 @@ pub record AreMain (kept : List Record) (plan : List Planned) (receipts : List R
   pub shown : AllByRecursion (Shows kept) receipts
   pub names : (k : ℕ) (d : Record) → k < length kept → filter_map (named k) receipts ≡ holds_of 0 0 (slice_index_or kept k d).entries
   pub told : map planned_of receipts ≡ plan
-
--- a first place for each of so many nodes
-pub record AreFirst (count : ℕ) (next : List ℕ) : Type 0 where
-  pub long : length next ≡ count
-  pub first : AllByRecursion (λ n. n ≡ 0) next
 
 -- the first n of a plan have receipts
 pub record IsUpTo (kept : List Record) (plan : List Planned) (n : ℕ) (next : List ℕ) (receipts : List Receipt) : Type 0 where

@@ -1,8 +1,9 @@
 //! The passes that records and a plan tell of.
-ghost use Rattle.std.specs.Prelude.{◌≡◌, ◌≤◌, ◌<◌, ◌+◌, ◌++◌, [], ◌∷◌, ◌==◌, if◌then◌else◌, ℕ, length, map, IfOk, MatchOption, OnOk};
-ghost use Rattle.hsr_audit.specs.Passes.{AreMain, IsAhead, IsKeptNext, IsLeft, IsNext, IsOver, IsToldBy, other_in, others_in, others_of, receipts_of};
+ghost use Rattle.std.specs.Prelude.{◌≡◌, ◌<◌, ◌++◌, [], ◌∷◌, ℕ, length, IfOk, OnOk};
+ghost use Rattle.hsr_audit.specs.Passes.{AreByWorker, AreMain, IsKeptNext, IsLeft, IsToldBy, other_in, others_in, others_of, receipts_of};
 ghost use Rattle.hsr_audit.specs.Receipts.{HasReceipts};
 
+use crate::next::{first_places, next_place};
 use crate::planned::Planned;
 use hsr_frame::NoMemory;
 use hsr_node::{Entry, Kept, Pass, Receipt};
@@ -39,8 +40,20 @@ fn add_receipt(pass: &mut Pass, receipt: Receipt) -> Result<(), NoMemory>
     }
 }
 
-/// Puts the receipt of an entry last, if another than the main worker brought it.
-#[tactic(auto, using(crate::proofs::Receiving::one_more))]
+/// Puts passes without receipts last until a worker has one.
+fn add_passes(alloc: Global, passes: &mut Vec<Pass>, worker: u16) -> Result<(), NoMemory>
+    requires { AreByWorker 0 passes.old.items }
+    ensures workers { OnOk result (AreByWorker 0 passes.new.items) }
+    ensures long { OnOk result (worker < length passes.new.items) }
+    ensures receipts { OnOk result ((w : ℕ) → receipts_of w passes.new.items ≡ receipts_of w passes.old.items) }
+{
+    for number in passes.len()..usize::from(worker) + 1 {
+        add_pass(passes, Pass::new(alloc, number as u16))?;
+    }
+    Ok(())
+}
+
+/// Puts the receipt of an entry last in its worker's pass, if that isn't the main worker.
 fn add_other(
     alloc: Global,
     passes: &mut Vec<Pass>,
@@ -48,24 +61,29 @@ fn add_other(
     place: usize,
     entry: &Entry,
 ) -> Result<(), NoMemory>
-    ensures { OnOk result ((w : ℕ) → receipts_of w passes.new.items ≡ receipts_of w passes.old.items ++ other_in w node place entry.now) }
+    requires { AreByWorker 0 passes.old.items }
+    ensures workers { OnOk result (AreByWorker 0 passes.new.items) }
+    ensures receipts { OnOk result ((w : ℕ) → receipts_of w passes.new.items ≡ receipts_of w passes.old.items ++ other_in w node place entry.now) }
 {
-    if entry.worker == 0 {
+    let worker = entry.worker;
+    if worker == 0 {
         return Ok(());
     }
-    let mut pass = Pass::new(alloc, entry.worker);
-    add_receipt(&mut pass, receipt_of(node, place, entry)?)?;
-    add_pass(passes, pass)
+    add_passes(alloc, passes, worker)?;
+    let receipt = receipt_of(node, place, entry)?;
+    add_receipt(&mut passes[usize::from(worker)], receipt)
 }
 
-/// Puts those of a record last.
+/// Puts the receipts of a record's entries last in the passes of their workers.
 fn add_others_in(
     alloc: Global,
     passes: &mut Vec<Pass>,
     node: usize,
     entries: &[Entry],
 ) -> Result<(), NoMemory>
-    ensures { OnOk result ((w : ℕ) → receipts_of w passes.new.items ≡ receipts_of w passes.old.items ++ others_in w node 0 entries.now) }
+    requires { AreByWorker 0 passes.old.items }
+    ensures workers { OnOk result (AreByWorker 0 passes.new.items) }
+    ensures receipts { OnOk result ((w : ℕ) → receipts_of w passes.new.items ≡ receipts_of w passes.old.items ++ others_in w node 0 entries.now) }
 {
     for (place, entry) in entries.iter().enumerate() {
         add_other(alloc, passes, node, place, entry)?;
@@ -73,30 +91,20 @@ fn add_others_in(
     Ok(())
 }
 
-/// Puts those of all records last, in node and place order.
+/// Puts those of all records there, in node and place order.
 fn add_others<const C: usize>(
     alloc: Global,
     passes: &mut Vec<Pass>,
     kept: &[Kept<C>],
 ) -> Result<(), NoMemory>
-    ensures { OnOk result ((w : ℕ) → receipts_of w passes.new.items ≡ receipts_of w passes.old.items ++ others_of w 0 kept.now) }
+    requires { AreByWorker 0 passes.old.items }
+    ensures workers { OnOk result (AreByWorker 0 passes.new.items) }
+    ensures receipts { OnOk result ((w : ℕ) → receipts_of w passes.new.items ≡ receipts_of w passes.old.items ++ others_of w 0 kept.now) }
 {
     for (node, record) in kept.iter().enumerate() {
         add_others_in(alloc, passes, node, record.entries())?;
     }
     Ok(())
-}
-
-/// The first place from one on at which an entry of the main worker stands.
-fn next_place(entries: &[Entry], from: usize) -> Option<usize>
-    ensures { MatchOption result (IsOver entries.now from) (λ place. IsNext entries.now from place) }
-{
-    for place in from..entries.len() {
-        if entries[place].worker == 0 {
-            return Some(place);
-        }
-    }
-    None
 }
 
 /// Puts the receipt of the main worker's next entry of a node last, where there is one: of the node for which something is
@@ -118,7 +126,7 @@ fn keep_next<const C: usize>(
         return Ok(false);
     }
     let entries = kept[node].entries();
-    let Some(place) = next_place(entries, next[node]) else {
+    let Some(place) = next_place(entries, 0, next[node]) else {
         return Ok(false);
     };
     add_receipt(pass, receipt_of(node, place, &entries[place])?)?;
@@ -128,29 +136,6 @@ fn keep_next<const C: usize>(
 
 ghost use Rattle.std.specs.Prelude.{List, true, false};
 ghost use Rattle.hsr_audit.specs.declared.planned.Planned.{Planned};
-
-fn add_place(next: &mut Vec<usize>) -> Result<(), NoMemory>
-    ensures { OnOk result (next.new.items ≡ next.old.items ++ 0 ∷ []) }
-{
-    match next.push(0) {
-        Ok(()) => Ok(()),
-        Err(_) => Err(NoMemory),
-    }
-}
-
-/// A first place for each node.
-#[tactic(auto, using(crate::proofs::MainPass::first_more))]
-fn first_places(alloc: Global, count: usize) -> Result<Vec<usize>, NoMemory>
-    ensures { IfOk result (λ next. AreFirst count next.items) }
-{
-    let mut next = Vec::new(alloc);
-    for node in 0..count {
-        add_place(&mut next)?;
-    }
-    Ok(next)
-}
-
-ghost use Rattle.hsr_audit.specs.Passes.{AreFirst};
 
 /// The main worker's receipts of what is planned, in that order; up to the first that no entry is left for.
 #[tactic(auto, using(crate::proofs::MainPass::never_stops, crate::proofs::MainPass::up_to_all, crate::proofs::MainPass::up_to_more, crate::proofs::MainPass::up_to_none))]

@@ -1,10 +1,11 @@
 //! The first worker whose receipts are wrong.
 ghost use Rattle.std.specs.Prelude.{◌≡◌, ◌<◌, ◌↔◌, ◌++◌, ◌∷◌, IfOk, IfSome, IsTrue, MatchOption, map};
-ghost use Rattle.hsr_audit.specs.Receipts.{HasReceipts, IsFirstWrong, IsRight, done_in, done_of, planned_of};
+ghost use Rattle.hsr_audit.specs.Receipts.{HasReceipts, IsFirstWrong, done_in, done_of, planned_of};
 ghost use Rattle.hsr_audit.specs.Workers.{most_in, most_kept, most_passed, most_worker};
 
 use crate::planned::Planned;
-use crate::receipts::{is_kept_by, is_same_event};
+use crate::reached::{first_lost, reached_by};
+use crate::receipts::is_same_event;
 use hsr_frame::NoMemory;
 use hsr_node::{Entry, Kept, Pass, Receipt};
 use std::alloc::Global;
@@ -112,20 +113,8 @@ fn is_plan(passes: &[Pass], plan: &[Planned]) -> bool
     left.is_empty()
 }
 
-fn is_right<const C: usize>(
-    alloc: Global,
-    kept: &[Kept<C>],
-    passes: &[Pass],
-    plan: &[Planned],
-    worker: u16,
-) -> Result<bool, NoMemory>
-    ensures { IfOk result (λ is. IsTrue is ↔ IsRight kept.now passes.now plan.now worker) }
-{
-    let keeps = is_kept_by(alloc, kept, passes, worker)?;
-    Ok(keeps && (worker != 0 || is_plan(passes, plan)))
-}
-
 /// The lowest worker whose receipts aren't its entries, or aren't the plan.
+#[tactic(auto, using(crate::proofs::Idle::not_planned))]
 pub(crate) fn first_wrong<const C: usize>(
     alloc: Global,
     kept: &[Kept<C>],
@@ -134,12 +123,9 @@ pub(crate) fn first_wrong<const C: usize>(
 ) -> Result<Option<u16>, NoMemory>
     ensures { IfOk result (λ r. MatchOption r (HasReceipts kept.now passes.now plan.now) (λ worker. IsFirstWrong kept.now passes.now plan.now worker)) }
 {
-    let most = most_worker(kept, passes);
-    for number in 0..u32::from(most) + 1 {
-        let worker = number as u16;
-        if !is_right(alloc, kept, passes, plan, worker)? {
-            return Ok(Some(worker));
-        }
+    if !is_plan(passes, plan) {
+        return Ok(Some(0));
     }
-    Ok(None)
+    let reached = reached_by(alloc, kept, passes, most_worker(kept, passes))?;
+    Ok(first_lost(reached.as_slice()))
 }

@@ -1,12 +1,13 @@
-use Rattle.std.proofs.Common.{arith}
-use Rattle.hsr_audit.proofs.Idle.{all_right, right_more}
+use Rattle.std.proofs.Common.{◌≡◌, ℕ, ◌<◌, List, length, get_or, true, refl, subst}
+use Rattle.std.specs.Prelude.{MatchOption}
+use Rattle.hsr_audit.specs.Reached.{IsFirstLost}
+use Rattle.hsr_audit.specs.declared.reached.Reached.{Reached}
+use Rattle.hsr_audit.proofs.Idle.{which_wrong}
 use Rattle.hsr_audit.proofs.workers.first_wrong.Goals as goal
-
-pub loop-number-preserved : goal.loop-number-preserved
-loop-number-preserved g c =
-    right_more c.args.kept.now c.args.passes.now c.args.plan.now c.loop-number.number c.loop-number.invariant (c.in_ok-is_right.ensures.0 c.if-not-branch.false)
 
 pub returns : goal.returns
 returns g c =
-    let a = c.loop-number-test.false in let b = c.most_worker-most.ensures in let d = c.from-number-end.ensures in
-    all_right c.args.kept.now c.args.passes.now c.args.plan.now c.loop-number.number c.loop-number.invariant (omega (arith, a, b, d))
+    let found = c.first_lost.result in
+    let Lost : List Reached → Type 0 = λ rs. MatchOption found ((w : ℕ) (d : Reached) → w < length rs → (get_or rs w d).is_right ≡ true) (λ w. IsFirstLost rs w) in
+    which_wrong c.args.kept.now c.args.passes.now c.args.plan.now c.most_worker.result c.in_ok-reached.reached.items found (c.if-not-is_plan.ensures.0 refl) c.most_worker.ensures
+    c.in_ok-reached.ensures (subst Lost c.as_slice.ensures.value c.first_lost.ensures)
