@@ -3,13 +3,14 @@ use Rattle.std.proofs.Common.{◌≡◌, ◌<◌, List, [], ◌∷◌, length, m
 use Rattle.clap.specs.Words.{Row, Text, first_of, is_simple, subcommand_of}
 use Rattle.hsr_bench.specs.Options.{Chosen, ChosenIn, Says, Listed, bench_app}
 use Rattle.hsr_bench.specs.declared.chosen.Options.{Options}
-use Rattle.hsr_bench.specs.declared.chosen.Options.TheVariants.{Node, Run}
+use Rattle.hsr_bench.specs.declared.chosen.Options.TheVariants.{Node, Run, Audit}
 
 -- equal look-ups choose the same
 pub chosen_same : (name : Text) (f g : Text → Option Text) (o : Options) → ((id : Text) → f id ≡ g id) → Chosen name f o → Chosen name g o
 chosen_same name f g (Node node) e h =
     (h.0, ((h.1.0.0, sym (e (codes "mac")) ∙ h.1.0.1, h.1.0.2), sym (e (codes "mode")) ∙ h.1.1, sym (e (codes "table")) ∙ h.1.2))
-chosen_same name f g (Run table) e h = (h.0, sym (e (codes "table")) ∙ h.1)
+chosen_same name f g (Run table transcript) e h = (h.0, sym (e (codes "table")) ∙ h.1, sym (e (codes "transcript")) ∙ h.2)
+chosen_same name f g (Audit table) e h = (h.0, sym (e (codes "table")) ∙ h.1)
 
 -- a name and rows that a subcommand has
 pub joined : (found : Option (Text × List Row)) (name : Text) (rows : List Row) → Some name ≡ option_map (λ p. p.0) found → Some rows ≡ option_map (λ p. p.1) found

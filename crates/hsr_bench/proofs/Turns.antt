@@ -12,7 +12,7 @@ use Rattle.hsr_bench.specs.Output.{Ended, Output, output, put, request_in, with_
 use Rattle.hsr_bench.specs.Run.{Served, Turned, Finished, Way, Ran}
 use Rattle.hsr_danh.specs.Machine.{Machine}
 use Rattle.hsr_bench.specs.declared.fault.Fault.{Fault}
-use Rattle.hsr_bench.specs.declared.fault.Fault.TheVariants.{Line, Read, Write, Scenario, Step, Check, Memory as OutOfMemory}
+use Rattle.hsr_bench.specs.declared.fault.Fault.TheVariants.{Line, Read, Write, Scenario, Step, Transcript, Check, Memory as OutOfMemory}
 use Rattle.hsr_bench.specs.declared.fault.Status.TheVariants.{Fault as Faulty, Certified}
 
 fits_test : (line : List ℕ) → length line ≤ 4096 → nat_lt 4096 (length line) ≡ false
@@ -60,6 +60,7 @@ failed capacity old new n line ls held holds (Line k) h s =
 failed capacity old new n line ls held holds Read h s = absurd s
 failed capacity old new n line ls held holds (Scenario f) h s = absurd s
 failed capacity old new n line ls held holds (Step k f) h s = absurd s
+failed capacity old new n line ls held holds (Transcript f) h s = absurd s
 failed capacity old new n line ls held holds (Check f) h s = absurd s
 failed capacity old new n line ls held holds Write h s = tt
 failed capacity old new n line ls held holds OutOfMemory h s = ([], (output capacity old n (line ∷ ls)).text, refl, nothing held holds s)
@@ -131,6 +132,7 @@ ended_on_way held holds new front out rest Read p a s =
 ended_on_way held holds new front out rest Write p a s = tt
 ended_on_way held holds new front out rest (Scenario f) p a s = absurd s
 ended_on_way held holds new front out rest (Step k f) p a s = absurd s
+ended_on_way held holds new front out rest (Transcript f) p a s = absurd s
 ended_on_way held holds new front out rest (Check f) p a s = absurd s
 ended_on_way held holds new front out rest OutOfMemory p a s =
     subst (λ o. Ended held new o (Faulty OutOfMemory)) (sym p) (front ++ s.0, s.1, ap (λ t. front ++ t) s.2 ∙ sym (append_assoc front s.0 s.1), appends_more held holds new front s.0 a s.3)
@@ -171,6 +173,7 @@ last capacity held holds new out front e (Err (Line k)) p a f = absurd f
 last capacity held holds new out front e (Err Read) p a f = absurd f
 last capacity held holds new out front e (Err (Scenario g)) p a f = absurd f
 last capacity held holds new out front e (Err (Step k g)) p a f = absurd f
+last capacity held holds new out front e (Err (Transcript g)) p a f = absurd f
 last capacity held holds new out front e (Err (Check g)) p a f = absurd f
 last capacity held holds new out front e (Err Write) p a f = tt
 last capacity held holds new out front e (Err OutOfMemory) p a f =

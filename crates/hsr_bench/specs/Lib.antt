@@ -8,4 +8,6 @@ pub mod Options
 pub mod Playing
 pub mod Text
 pub mod Refusal
+pub mod Shown
 pub mod Told
+pub mod Audited

@@ -1,7 +1,8 @@
 -- What the words of a command line say: the values that clap's walk of this command finds.
-use Rattle.std.specs.Prelude.{◌≡◌, ℕ, List, [], ◌∷◌, map, Option, Some, None, Ok, codes, true}
+use Rattle.std.specs.Prelude.{◌≡◌, ℕ, Bool, true, false, List, [], ◌∷◌, map, Option, Some, None, Ok, codes}
 use Rattle.std.specs.Borrow.{Bor}
 use Rattle.clap.specs.Words.{App, Row, Rule, Text, new_app, new_rule, with_rule, with_subcommand, subcommand_of, first_of}
+use Rattle.clap.specs.declared.builder.ArgAction.TheVariants.{SetTrue}
 use Rattle.clap.specs.declared.builder.value_parser.ValueParser.TheVariants.{Names}
 use Rattle.hsr_frame.specs.Address.{address_of}
 use Rattle.hsr_frame.specs.declared.node.Mode.{Mode}
@@ -10,7 +11,7 @@ use Rattle.hsr_bench.specs.declared.chosen.Table.{Table}
 use Rattle.hsr_bench.specs.declared.chosen.Table.TheVariants.{Small, Large}
 use Rattle.hsr_bench.specs.declared.chosen.NodeOptions.{NodeOptions}
 use Rattle.hsr_bench.specs.declared.chosen.Options.{Options}
-use Rattle.hsr_bench.specs.declared.chosen.Options.TheVariants.{Node, Run}
+use Rattle.hsr_bench.specs.declared.chosen.Options.TheVariants.{Node, Run, Audit}
 
 -- ---- the command line
 
@@ -30,17 +31,25 @@ mode_rule modes = record (new_rule (codes "mode")) { long = Some (codes "mode");
 abbrev pub table_rule : Listed → Rule
 table_rule tables = record (new_rule (codes "table")) { long = Some (codes "table"); defaults = codes "large" ∷ []; parser = Some (Names tables) }
 
+-- `--transcript`, which takes no value
+abbrev pub transcript_rule : Rule
+transcript_rule = record (new_rule (codes "transcript")) { long = Some (codes "transcript"); action = Some SetTrue }
+
 abbrev pub node_app : Listed → Listed → App
 node_app modes tables = with_rule (with_rule (with_rule (new_app (codes "node")) mac_rule) (mode_rule modes)) (table_rule tables)
 
 abbrev pub run_app : Listed → App
-run_app tables = with_rule (new_app (codes "run")) (table_rule tables)
+run_app tables = with_rule (with_rule (new_app (codes "run")) (table_rule tables)) transcript_rule
+
+abbrev pub audit_app : Listed → App
+audit_app tables = with_rule (new_app (codes "audit")) (table_rule tables)
 
 abbrev pub top_app : App
 top_app = record { top = record (new_app (codes "hsr_bench")).top { no_binary_name = true; subcommand_required = true }; subs = [] }
 
 abbrev pub bench_app : Listed → Listed → App
-bench_app modes tables = with_subcommand (with_subcommand top_app (node_app modes tables).top) (run_app tables).top
+bench_app modes tables =
+    with_subcommand (with_subcommand (with_subcommand top_app (node_app modes tables).top) (run_app tables).top) (audit_app tables).top
 
 -- ---- what is chosen
 
@@ -52,6 +61,10 @@ abbrev pub table_text : Table → Text
 table_text Small = codes "small"
 table_text Large = codes "large"
 
+abbrev pub flag_text : Bool → Text
+flag_text true = codes "true"
+flag_text false = codes "false"
+
 -- a node's options are the values that were found: the address that a text spells, and two names
 abbrev pub IsNode : (Text → Option Text) → NodeOptions → Type 0
 IsNode found node = ((t : Text) × (found (codes "mac") ≡ Some t) × (address_of t ≡ Ok node.mac))
@@ -60,7 +73,9 @@ IsNode found node = ((t : Text) × (found (codes "mac") ≡ Some t) × (address_
 -- the options are the values of a subcommand, by its name and what it found
 abbrev pub Chosen : Text → (Text → Option Text) → Options → Type 0
 Chosen name found (Node node) = (name ≡ codes "node") × IsNode found node
-Chosen name found (Run table) = (name ≡ codes "run") × (found (codes "table") ≡ Some (table_text table))
+Chosen name found (Run table transcript) =
+    (name ≡ codes "run") × (found (codes "table") ≡ Some (table_text table)) × (found (codes "transcript") ≡ Some (flag_text transcript))
+Chosen name found (Audit table) = (name ≡ codes "audit") × (found (codes "table") ≡ Some (table_text table))
 
 abbrev pub ChosenIn : Option (Text × List Row) → Options → Type 0
 ChosenIn None o = ⊥

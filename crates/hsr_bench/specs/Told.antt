@@ -1,10 +1,7 @@
 -- What `run` tells of a scenario.
-use Rattle.std.specs.Prelude.{ℕ, ◌≡◌, List, length, Option, Ok, Err, Result, if◌then◌else◌}
+use Rattle.std.specs.Prelude.{ℕ, ◌≡◌, Bool, List, Option, Ok, Err, Result, if◌then◌else◌}
 use Rattle.std.specs.Io.KnownBytes.{Appends, Keeps}
 use Rattle.std.specs.Str.{is_utf8}
-use Rattle.hsr_audit.specs.Certificate.{Certified as Entry, IsCertified}
-use Rattle.hsr_audit.specs.Doubts.{IsFirstDoubt}
-use Rattle.hsr_audit.specs.Run.{Run}
 use Rattle.hsr_audit.specs.declared.disagree.Disagree.{Disagree}
 use Rattle.hsr_ring.specs.Ending.{IsOpen}
 use Rattle.hsr_ring.specs.Lawful.{IsEnded, finished_of}
@@ -18,13 +15,13 @@ use Rattle.hsr_scenario.specs.declared.fault.Spot.TheVariants as spot
 use Rattle.hsr_scenario.specs.declared.fault.What.{What}
 use Rattle.hsr_scenario.specs.declared.fault.What.TheVariants as what
 use Rattle.hsr_bench.specs.Playing.{Halts, Plays}
-use Rattle.hsr_bench.specs.Report.{report, status_of}
+use Rattle.hsr_bench.specs.Report.{status_of}
+use Rattle.hsr_bench.specs.Shown.{IsFound, shown}
 use Rattle.hsr_bench.specs.declared.fault.Fault.{Fault}
 use Rattle.hsr_bench.specs.declared.fault.Fault.TheVariants.{Scenario, Step, Check, Read, Write, Memory}
 use Rattle.hsr_bench.specs.declared.fault.Status.{Status}
 use Rattle.hsr_bench.specs.declared.fault.Status.TheVariants.{Certified, Fault as Stopped, Doubt}
 use Rattle.hsr_bench.specs.declared.verdict.Verdict.{Verdict}
-use Rattle.hsr_bench.specs.declared.verdict.Verdict.TheVariants as verdict
 
 -- ---- the scenario
 
@@ -65,6 +62,8 @@ step_fault step fault = Step step fault
 -- there is no scenario, or one of its steps is refused
 abbrev pub IsUnplayed : ℕ → Said → Fault → Type 0
 IsUnplayed capacity said (Scenario fault) = said ≡ Err fault
+-- want of memory is a fault of memory, and of no step
+IsUnplayed capacity said (Step step (drain.World world.NoMemory)) = ⊥
 IsUnplayed capacity said (Step step fault) =
     (meant : Meant) × (said ≡ Ok meant) × (after : World) × Halts capacity meant.steps step (first_of meant) after fault
 IsUnplayed capacity said Memory = Unit {0}
@@ -81,41 +80,29 @@ IsUnclosed capacity w _ = ⊥
 
 -- ---- what was found
 
--- the audit of a run found this: a certificate for so many sends, or its first doubt
-abbrev pub IsFound : Run → Verdict → Type 0
-IsFound run (verdict.Certified sends) = (listed : List Entry) × IsCertified run listed × (sends ≡ length listed)
-IsFound run (verdict.Doubt doubt) = IsFirstDoubt run doubt
-
--- the scenario is played, its world ends and is a finished run, of which this was found; and this is its report
-pub record IsReported (capacity : ℕ) (said : Said) (found : Verdict) (text : List ℕ) : Type 0 where
+-- the scenario is played, its world ends and is a finished run, of which this was found; and this is shown of it
+pub record IsReported (capacity : ℕ) (transcript : Bool) (said : Said) (found : Verdict) (text : List ℕ) : Type 0 where
   pub world : World
   pub played : IsPlayed capacity said world
   pub ended : IsEnded world
   pub is_found : IsFound (finished_of capacity world).run found
-  pub is_report : text ≡ report (finished_of capacity world).run found
+  pub is_report : text ≡ shown transcript (finished_of capacity world) found
 
 -- there is nothing to report: no scenario, or a step that is refused, or a world that can't be closed
 abbrev pub IsUnreported : ℕ → Said → Fault → Type 0
 IsUnreported capacity said (Check disagree) = (w : World) × IsPlayed capacity said w × StaysOpen capacity w disagree
 IsUnreported capacity said fault = IsUnplayed capacity said fault
 
--- what was found is told by the status, and its report was written
-abbrev pub IsWritten : ℕ → Said → Option (List ℕ) → Option (List ℕ) → Status → Type 0
-IsWritten capacity said held holds status =
-    (found : Verdict) × (text : List ℕ) × IsReported capacity said found text × (status ≡ status_of found) × Appends held holds text
+-- what was found is told by the status, and what is shown of the run was written
+abbrev pub IsWritten : ℕ → Bool → Said → Option (List ℕ) → Option (List ℕ) → Status → Type 0
+IsWritten capacity transcript said held holds status =
+    (found : Verdict) × (text : List ℕ) × IsReported capacity transcript said found text × (status ≡ status_of found) × Appends held holds text
 
--- a report was written, and the status tells what was found; or the writer failed
-abbrev pub IsDelivered : Option (List ℕ) → Option (List ℕ) → Verdict → List ℕ → Status → Type 0
-IsDelivered held holds found text Certified = (Certified ≡ status_of found) × Appends held holds text
-IsDelivered held holds found text Doubt = (Doubt ≡ status_of found) × Appends held holds text
-IsDelivered held holds found text (Stopped Write) = Unit {0}
-IsDelivered held holds found text (Stopped fault) = ⊥
-
--- How `run` ends, and what it wrote: the report of the run; or nothing, since there is none, or reading or memory failed. After
--- a failed write nothing is said.
-abbrev pub Told : ℕ → Said → Option (List ℕ) → Option (List ℕ) → Status → Type 0
-Told capacity said held holds Certified = IsWritten capacity said held holds Certified
-Told capacity said held holds Doubt = IsWritten capacity said held holds Doubt
-Told capacity said held holds (Stopped Read) = Keeps held holds
-Told capacity said held holds (Stopped Write) = Unit {0}
-Told capacity said held holds (Stopped fault) = IsUnreported capacity said fault × Keeps held holds
+-- How `run` ends, and what it wrote: the transcript or the report of the run; or nothing, since there is none, or reading or
+-- memory failed. After a failed write nothing is said.
+abbrev pub Told : ℕ → Bool → Said → Option (List ℕ) → Option (List ℕ) → Status → Type 0
+Told capacity transcript said held holds Certified = IsWritten capacity transcript said held holds Certified
+Told capacity transcript said held holds Doubt = IsWritten capacity transcript said held holds Doubt
+Told capacity transcript said held holds (Stopped Read) = Keeps held holds
+Told capacity transcript said held holds (Stopped Write) = Unit {0}
+Told capacity transcript said held holds (Stopped fault) = IsUnreported capacity said fault × Keeps held holds

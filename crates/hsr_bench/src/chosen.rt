@@ -24,8 +24,10 @@ pub struct NodeOptions {
 pub enum Options {
     /// Answer lines as one node.
     Node(NodeOptions),
-    /// Run a scenario, and write its report.
-    Run { table: Table },
+    /// Run a scenario, and write its transcript or its report.
+    Run { table: Table, transcript: bool },
+    /// Audit a transcript, and write its report.
+    Audit { table: Table },
 }
 
 /// Why words are refused.

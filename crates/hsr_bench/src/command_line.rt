@@ -3,11 +3,11 @@ ghost use Rattle.std.specs.Prelude.{◌≡◌, IfOk, IfSome, Some, Ok, codes, fa
 ghost use Rattle.hsr_frame.specs.Address.{IsGroup, address_of};
 ghost use Rattle.clap.specs.Words.{Text, app_of, first_value, found_of, rule_of, subcommand_rows_of};
 ghost use Rattle.clap.specs.declared.builder.Command.TheViews.{out-Command as fields_of};
-ghost use Rattle.hsr_bench.specs.Options.{Chosen, ChosenIn, IsNode, Says, bench_app, mac_rule, mode_rule, mode_text, node_app, run_app, table_rule, table_text, top_app};
+ghost use Rattle.hsr_bench.specs.Options.{Chosen, ChosenIn, IsNode, Says, audit_app, bench_app, flag_text, mac_rule, mode_rule, mode_text, node_app, run_app, table_rule, table_text, top_app, transcript_rule};
 
 use crate::chosen::{NodeOptions, OptionFault, Options, Table};
 use clap::error::ErrorKind;
-use clap::{Arg, ArgMatches, Command, Error};
+use clap::{Arg, ArgAction, ArgMatches, Command, Error};
 use hsr_frame::{Mac, Mode};
 use std::alloc::{AllocError, Global};
 
@@ -34,7 +34,23 @@ Example: echo 'send 0 02-00-00-00-00-02 0800 AABB' | hsr_bench node";
 
 const RUN_ENDS: &str = "\
 Status 0: every frame came exactly once to each node that it was for. Status 2: the run gives reason to
-doubt that, named in the last line. Status 1: the run stopped, and one line on standard error says why.";
+doubt that, named in the last line of the report. Status 1: the run stopped, and one line on standard
+error says why.
+
+With --transcript the statuses are the same, and in place of the report comes the transcript: the nodes
+and links, the order of the steps at nodes, each node's record with its arrivals and what became of
+them, and each link's copies. `audit` reads it.
+
+Example: hsr_bench run --transcript < scenario.toml | hsr_bench audit";
+
+const AUDIT_ENDS: &str = "\
+The transcript is one that `run --transcript` wrote with a table of the same size. Each entry is done
+anew and compared, links and records are checked against each other, and the report is that of `run`.
+
+Status 0: every frame came exactly once to each node that it was for. Status 2: the run gives reason to
+doubt that, named in the last line. Status 1: there is no report, and one line on standard error says
+why: `fault: transcript line <n>` (bad, or not what the node answers), `fault: transcript version`,
+`fault: transcript end` (it breaks off), `fault: check <n>` (links and records disagree).";
 
 impl From<AllocError> for OptionFault {
     fn from(_e: AllocError) -> OptionFault {
@@ -74,6 +90,16 @@ fn table_arg<'a>(alloc: Global, tables: &'a [&'a str]) -> Arg<'a>
         .default_value("large")
 }
 
+fn transcript_arg<'a>(alloc: Global) -> Arg<'a>
+    ensures rule { rule_of result ≡ transcript_rule }
+    ensures own { result.global ≡ false }
+{
+    Arg::new(alloc, "transcript")
+        .long("transcript")
+        .help("Writes the run's transcript in place of its report")
+        .action(ArgAction::SetTrue)
+}
+
 fn node_command<'a>(
     alloc: Global,
     modes: &'a [&'a str],
@@ -97,6 +123,17 @@ fn run_command<'a>(alloc: Global, tables: &'a [&'a str]) -> Result<Command<'a>, 
     Command::new(alloc, "run")
         .about("Runs the scenario on standard input, and reports whether it certifies delivery")
         .after_help(RUN_ENDS)
+        .arg(table_arg(alloc, tables))?
+        .arg(transcript_arg(alloc))
+}
+
+fn audit_command<'a>(alloc: Global, tables: &'a [&'a str]) -> Result<Command<'a>, AllocError>
+    ensures app { IfOk result (λ c. app_of c ≡ audit_app tables.entry) }
+    ensures own { IfOk result (λ c. (fields_of c).has_globals ≡ false) }
+{
+    Command::new(alloc, "audit")
+        .about("Audits the transcript on standard input, and reports whether it certifies delivery")
+        .after_help(AUDIT_ENDS)
         .arg(table_arg(alloc, tables))
 }
 
@@ -118,9 +155,11 @@ fn bench_command<'a>(
 {
     let node = node_command(alloc, modes, tables)?;
     let run = run_command(alloc, tables)?;
+    let audit = audit_command(alloc, tables)?;
     let one = top_command(alloc).subcommand(node)?;
     let two = one.subcommand(run)?;
-    Ok(two)
+    let three = two.subcommand(audit)?;
+    Ok(three)
 }
 
 /// The text of a refusal.
@@ -161,6 +200,16 @@ fn mode_of(matches: &ArgMatches<'_>) -> Option<Mode>
     }
 }
 
+fn transcript_of(matches: &ArgMatches<'_>) -> Option<bool>
+    ensures { IfSome result (λ b. first_value (found_of matches.now) (codes "transcript") ≡ Some (flag_text b)) }
+{
+    match matches.get_str("transcript") {
+        Some("true") => Some(true),
+        Some("false") => Some(false),
+        _ => None,
+    }
+}
+
 /// The address of `--mac`, if it is one and no group's.
 fn mac_of(matches: &ArgMatches<'_>) -> Option<Mac>
     ensures address { IfSome result (λ m. (t : Text) × (first_value (found_of matches.now) (codes "mac") ≡ Some t) × (address_of t ≡ Ok m)) }
@@ -190,7 +239,12 @@ fn options_of(name: &str, matches: &ArgMatches<'_>) -> Option<Options>
         "node" => Some(Options::Node(node_options(matches)?)),
         "run" => {
             let table = table_of(matches)?;
-            Some(Options::Run { table })
+            let transcript = transcript_of(matches)?;
+            Some(Options::Run { table, transcript })
+        }
+        "audit" => {
+            let table = table_of(matches)?;
+            Some(Options::Audit { table })
         }
         _ => None,
     }

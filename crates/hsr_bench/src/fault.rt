@@ -1,6 +1,6 @@
 //! How a run ended.
 ghost use Rattle.std.specs.Prelude.{◌≡◌, Some};
-ghost use Rattle.hsr_bench.specs.Fault.{code_of, fault_line};
+ghost use Rattle.hsr_bench.specs.Fault.{code_of, fault_line, transcript_text};
 ghost use Rattle.hsr_bench.specs.declared.fault.Fault.TheVariants.{Memory, Read as ReadFailed};
 
 use crate::refusal::drain_word;
@@ -31,6 +31,8 @@ pub enum Fault {
     Scenario(ScenarioFault),
     /// A step of a scenario, counted from 0, that was refused, or a drain that didn't end.
     Step { step: usize, fault: DrainFault },
+    /// A text that isn't read as a transcript.
+    Transcript(TranscriptFault),
     /// Records, links and receipts disagree at the end.
     Check(Disagree),
     /// The reader failed.
@@ -39,6 +41,17 @@ pub enum Fault {
     Write,
     /// Memory ran out.
     Memory,
+}
+
+/// Why a text isn't read as a transcript.
+#[derive(Clone, Copy, Debug, PartialEq, Eq)]
+pub enum TranscriptFault {
+    /// Its first line is that of no version that is read.
+    Version,
+    /// A line, counted from 1, that is bad.
+    Line(u64),
+    /// It ends before its last line does.
+    End,
 }
 
 impl Status {
@@ -50,6 +63,19 @@ impl Status {
             Status::Certified => 0,
             Status::Fault(_) => 1,
             Status::Doubt => 2,
+        }
+    }
+}
+
+/// What follows `fault: transcript`.
+impl fmt::Display for TranscriptFault {
+    ghost output = { λ fault. Some (transcript_text fault) };
+
+    fn fmt<W: fmt::Write>(&self, f: &mut fmt::Formatter<W>) -> fmt::Result {
+        match self {
+            TranscriptFault::Version => write!(f, "version"),
+            TranscriptFault::Line(n) => write!(f, "line {n}"),
+            TranscriptFault::End => write!(f, "end"),
         }
     }
 }
@@ -66,6 +92,7 @@ impl fmt::Display for Fault {
                 let word = drain_word(*fault);
                 write!(f, "fault: step {step} {word}")
             }
+            Fault::Transcript(fault) => write!(f, "fault: transcript {fault}"),
             Fault::Check(disagree) => {
                 let code = disagree.code();
                 write!(f, "fault: check {code}")

@@ -2,6 +2,7 @@
 #![tactic(auto)]
 
 mod answer;
+mod audit;
 mod chosen;
 mod command_line;
 mod engine;
@@ -12,9 +13,11 @@ mod reply;
 mod report;
 mod request;
 mod scenario;
+mod shown;
 mod text;
 mod verdict;
 
+use crate::audit::audit_run;
 use crate::chosen::{NodeOptions, OptionFault, Options, Table};
 use crate::command_line::options;
 use crate::engine::node_run;
@@ -31,6 +34,8 @@ mod rows;
 mod scenario_tests;
 #[cfg(test)]
 mod tests;
+#[cfg(test)]
+mod transcript_tests;
 
 /// The words after the program's name.
 fn words_of(alloc: Global, args: &Vec<String>) -> Result<Vec<&str>, AllocError> {
@@ -39,6 +44,14 @@ fn words_of(alloc: Global, args: &Vec<String>) -> Result<Vec<&str>, AllocError> 
         words.push(word.as_str())?;
     }
     Ok(words)
+}
+
+/// How a run ended, once all that it wrote has left.
+fn written<W: Write>(writer: &mut W, status: Status) -> Status {
+    match writer.flush() {
+        Ok(()) => status,
+        Err(_) => Status::Fault(Fault::Write),
+    }
 }
 
 /// Runs `node` over the standard streams.
@@ -50,23 +63,29 @@ fn node(rt: &HostRuntime, chosen: &NodeOptions) -> Status {
         return Status::Fault(Fault::Memory);
     };
     let status = node_run(rt.alloc(), &mut reader, &mut writer, chosen);
-    match writer.flush() {
-        Ok(()) => status,
-        Err(_) => Status::Fault(Fault::Write),
-    }
+    written(&mut writer, status)
 }
 
 /// Runs a scenario over the standard streams.
-fn run_scenario(rt: &HostRuntime, table: Table) -> Status {
+fn run_scenario(rt: &HostRuntime, table: Table, transcript: bool) -> Status {
     let mut reader = rt.reader();
     let Ok(mut writer) = BufWriter::new(rt.alloc(), io::writer(rt)) else {
         return Status::Fault(Fault::Memory);
     };
-    let status = scenario_run(rt.alloc(), &mut reader, &mut writer, table);
-    match writer.flush() {
-        Ok(()) => status,
-        Err(_) => Status::Fault(Fault::Write),
-    }
+    let status = scenario_run(rt.alloc(), &mut reader, &mut writer, table, transcript);
+    written(&mut writer, status)
+}
+
+/// Audits a transcript over the standard streams.
+fn audit_transcript(rt: &HostRuntime, table: Table) -> Status {
+    let Ok(mut reader) = BufReader::new(rt.alloc(), rt.reader()) else {
+        return Status::Fault(Fault::Memory);
+    };
+    let Ok(mut writer) = BufWriter::new(rt.alloc(), io::writer(rt)) else {
+        return Status::Fault(Fault::Memory);
+    };
+    let status = audit_run(rt.alloc(), &mut reader, &mut writer, table);
+    written(&mut writer, status)
 }
 
 /// Writes a fault's line on standard error, and gives the status of the process.
@@ -83,7 +102,10 @@ fn run(rt: &HostRuntime) -> io::Result<ExitCode> {
     let words = words_of(rt.alloc(), &args)?;
     match options(rt.alloc(), words.as_slice()) {
         Ok(Options::Node(chosen)) => finish(rt, node(rt, &chosen)),
-        Ok(Options::Run { table }) => finish(rt, run_scenario(rt, table)),
+        Ok(Options::Run { table, transcript }) => {
+            finish(rt, run_scenario(rt, table, transcript))
+        }
+        Ok(Options::Audit { table }) => finish(rt, audit_transcript(rt, table)),
         Err(OptionFault::Usage { text }) => {
             eprintln!(rt; "{text}")?;
             Ok(ExitCode::from(3))

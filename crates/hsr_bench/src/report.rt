@@ -1,5 +1,6 @@
 //! The report of a finished run.
 ghost use Rattle.std.specs.Prelude.{◌≡◌, ◌<◌, ◌++◌, count_by, length, IfOk, OnOk};
+ghost use Rattle.hsr_audit.specs.Finished.{IsFinished};
 ghost use Rattle.hsr_audit.specs.Run.{place_of};
 ghost use Rattle.hsr_bench.specs.Report.{head_line, is_row_lost, is_row_taken, link_line, link_lines, node_line, node_lines, report, role_text};
 
@@ -81,11 +82,13 @@ fn put_node<const C: usize>(
 /// Puts the line of the bench.
 #[tactic(auto, unfolding(crate::specs::Report::head_line))]
 fn put_head<const C: usize>(text: &mut Vec<u8>, closed: &Closed<C>) -> Result<(), AllocError>
-    ensures { OnOk result (text.new.items ≡ text.old.items ++ head_line closed.now.run) }
+    ensures line { OnOk result (text.new.items ≡ text.old.items ++ head_line closed.now.run) }
+    ensures finished { IsFinished closed.now }
 {
+    let topology = closed.topology();
     put_count(text, b"bench 1 table ", C as u64)?;
-    put_count(text, b" nodes ", closed.topology().places().len() as u64)?;
-    put_count(text, b" links ", closed.topology().links().len() as u64)?;
+    put_count(text, b" nodes ", topology.places().len() as u64)?;
+    put_count(text, b" links ", topology.links().len() as u64)?;
     text.extend_from_slice(b"\n")
 }
 
@@ -116,7 +119,8 @@ pub fn report<const C: usize>(
     closed: &Closed<C>,
     verdict: Verdict,
 ) -> Result<Vec<u8>, AllocError>
-    ensures { IfOk result (λ text. text.items ≡ report closed.now.run verdict) }
+    ensures text { IfOk result (λ text. text.items ≡ report closed.now.run verdict) }
+    ensures finished { IsFinished closed.now }
 {
     let mut text = Vec::new(alloc);
     put_head(&mut text, closed)?;

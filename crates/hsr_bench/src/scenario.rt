@@ -1,18 +1,17 @@
-//! Scenarios that are run and reported.
+//! Scenarios that are run, and shown by transcript or report.
 ghost use Rattle.std.specs.Prelude.{◌≡◌, ◌≤◌, IfErr, IfOk, IfSome, Ok, Err};
 ghost use Rattle.hsr_ring.specs.Lawful.{IsEnded, finished_of};
 ghost use Rattle.hsr_scenario.specs.Meaning.{scenario_view};
-ghost use Rattle.hsr_bench.specs.Told.{IsDelivered, IsFound, IsNoScenario, IsPlayed, IsReported, IsUnclosed, IsUnplayed, IsUnreported, Told, scenario_of, step_fault, text_fault};
+ghost use Rattle.hsr_bench.specs.Told.{IsNoScenario, IsPlayed, IsReported, IsUnclosed, IsUnplayed, IsUnreported, Told, scenario_of, step_fault, text_fault};
 ghost use Rattle.hsr_bench.specs.Output.{capacity_of};
-ghost use Rattle.hsr_bench.specs.declared.fault.Fault.TheVariants.{Memory};
 
 use crate::chosen::Table;
 use crate::fault::{Fault, Status};
 use crate::playing::play;
-use crate::report::report;
+use crate::shown::{deliver, shown};
 use crate::text::read_text;
-use crate::verdict::Verdict;
-use hsr_audit::{AuditFault, CheckFault, Closed, audit};
+use crate::verdict::{Verdict, found};
+use hsr_audit::{CheckFault, Closed};
 use hsr_ring::{DrainFault, World, WorldFault};
 use hsr_scenario::{Scenario, ScenarioFault, Spot, What, read};
 use std::alloc::Global;
@@ -92,22 +91,14 @@ fn closed<const C: usize>(world: World<C>) -> Result<Closed<C>, Fault>
     }
 }
 
-/// What the audit of a run finds.
-fn found<const C: usize>(alloc: Global, closed: &Closed<C>) -> Result<Verdict, Fault>
-    ensures ok { IfOk result (λ v. IsFound closed.now.run v) }
-    ensures err { IfErr result (λ f. f ≡ Memory) }
-{
-    match audit(alloc, closed) {
-        Ok(certificate) => Ok(Verdict::Certified(certificate.sends.len())),
-        Err(AuditFault::Doubt(doubt)) => Ok(Verdict::Doubt(doubt)),
-        Err(AuditFault::NoMemory) => Err(Fault::Memory),
-    }
-}
-
-/// Plays the scenario that octets mean, closes and audits its world, and forms the report.
-fn reported<const C: usize>(alloc: Global, octets: &[u8]) -> Result<(Verdict, Vec<u8>), Fault>
+/// Plays the scenario that octets mean, closes and audits its world, and forms what is shown of it.
+fn reported<const C: usize>(
+    alloc: Global,
+    octets: &[u8],
+    transcript: bool,
+) -> Result<(Verdict, Vec<u8>), Fault>
     requires entries { (1 ≤ C) × (C ≤ 65535) }
-    ensures ok { IfOk result (λ r. IsReported C (scenario_of octets.now) r.0 r.1.items) }
+    ensures ok { IfOk result (λ r. IsReported C transcript (scenario_of octets.now) r.0 r.1.items) }
     ensures err { IfErr result (λ f. IsUnreported C (scenario_of octets.now) f) }
 {
     let world = match played::<C>(alloc, octets) {
@@ -122,57 +113,59 @@ fn reported<const C: usize>(alloc: Global, octets: &[u8]) -> Result<(Verdict, Ve
         Ok(verdict) => verdict,
         Err(fault) => return Err(fault),
     };
-    match report(alloc, &closed, verdict) {
+    match shown(alloc, &closed, verdict, transcript) {
         Ok(text) => Ok((verdict, text)),
-        Err(_) => Err(Fault::Memory),
+        Err(fault) => Err(fault),
     }
 }
 
-/// Writes a report, and tells how the run ended.
-fn deliver<W: Write>(writer: &mut W, verdict: Verdict, text: &[u8]) -> Status
-    ensures { IsDelivered (W.contents writer.old) (W.contents writer.new) verdict text.now result }
-{
-    if writer.write_all(text).is_err() || writer.flush().is_err() {
-        return Status::Fault(Fault::Write);
-    }
-    verdict.status()
-}
-
-/// The report of the scenario that octets mean, with tables of the chosen size.
-fn reported_with(alloc: Global, octets: &[u8], table: Table) -> Result<(Verdict, Vec<u8>), Fault>
-    ensures ok { IfOk result (λ r. IsReported (capacity_of table) (scenario_of octets.now) r.0 r.1.items) }
+/// What is shown of the scenario that octets mean, with tables of the chosen size.
+fn reported_with(
+    alloc: Global,
+    octets: &[u8],
+    table: Table,
+    transcript: bool,
+) -> Result<(Verdict, Vec<u8>), Fault>
+    ensures ok { IfOk result (λ r. IsReported (capacity_of table) transcript (scenario_of octets.now) r.0 r.1.items) }
     ensures err { IfErr result (λ f. IsUnreported (capacity_of table) (scenario_of octets.now) f) }
 {
     match table {
-        Table::Small => reported::<4>(alloc, octets),
-        Table::Large => reported::<512>(alloc, octets),
+        Table::Small => reported::<4>(alloc, octets, transcript),
+        Table::Large => reported::<512>(alloc, octets, transcript),
     }
 }
 
-/// Runs the scenario that octets mean, and writes its report.
-fn tell<W: Write>(alloc: Global, octets: &[u8], writer: &mut W, table: Table) -> Status
-    ensures { Told (capacity_of table) (scenario_of octets.now) (W.contents writer.old) (W.contents writer.new) result }
+/// Runs the scenario that octets mean, and writes what is shown of it.
+fn tell<W: Write>(
+    alloc: Global,
+    octets: &[u8],
+    writer: &mut W,
+    table: Table,
+    transcript: bool,
+) -> Status
+    ensures { Told (capacity_of table) transcript (scenario_of octets.now) (W.contents writer.old) (W.contents writer.new) result }
 {
-    match reported_with(alloc, octets, table) {
+    match reported_with(alloc, octets, table, transcript) {
         Ok((verdict, text)) => deliver(writer, verdict, text.as_slice()),
         Err(fault) => Status::Fault(fault),
     }
 }
 
-/// Runs the scenario that a text means, with tables of the chosen size, and writes its report: the nodes with their
-/// counters, the links with what became of their copies, and what the audit found, which the status tells too. The report is
-/// formed whole before it is written.
+/// Runs the scenario that a text means, with tables of the chosen size, and writes its transcript, where that is asked for,
+/// or its report: the nodes with their counters, the links with what became of their copies, and what the audit found, which
+/// the status tells in both cases. The text is formed whole before it is written.
 pub fn scenario_run<R: Read, W: Write>(
     alloc: Global,
     reader: &mut R,
     writer: &mut W,
     table: Table,
+    transcript: bool,
 ) -> Status
     ensures { IfSome (R.remaining reader.old) (λ octets.
-        Told (capacity_of table) (scenario_of octets) (W.contents writer.old) (W.contents writer.new) result) }
+        Told (capacity_of table) transcript (scenario_of octets) (W.contents writer.old) (W.contents writer.new) result) }
 {
     match read_text(alloc, reader, MOST_OCTETS) {
-        Ok(octets) => tell(alloc, octets.as_slice(), writer, table),
+        Ok(octets) => tell(alloc, octets.as_slice(), writer, table, transcript),
         Err(fault) => Status::Fault(fault),
     }
 }

@@ -9,7 +9,7 @@ use hsr_scenario::{ScenarioFault, Spot, What};
 use std::alloc::{AllocError, Global};
 use std::test::Fail;
 
-const RING: &[u8] = b"node = [
+pub const RING: &[u8] = b"node = [
   {name=\"n0\", role=\"danh\", mac=\"02-00-00-00-00-01\"},
   {name=\"n1\", role=\"danh\", mac=\"02-00-00-00-00-02\"},
   {name=\"n2\", role=\"danh\", mac=\"02-00-00-00-00-03\"},
@@ -24,8 +24,13 @@ const PAIR: &[u8] = b"node = [
 link = [{ends=[\"n0.B\",\"n1.A\"]}, {ends=[\"n1.B\",\"n0.A\"]}]
 ";
 
-/// What a run of nodes and links with these steps writes, and how it ends.
-fn run(alloc: Global, nodes: &[u8], steps: &[u8]) -> Result<(Status, Vec<u8>), AllocError> {
+/// What a run of nodes and links with these steps writes, by transcript or report, and how it ends.
+pub fn run_shown(
+    alloc: Global,
+    nodes: &[u8],
+    steps: &[u8],
+    transcript: bool,
+) -> Result<(Status, Vec<u8>), AllocError> {
     let mut text = Vec::new(alloc);
     text.extend_from_slice(nodes)?;
     text.extend_from_slice(b"step = [\n")?;
@@ -33,17 +38,20 @@ fn run(alloc: Global, nodes: &[u8], steps: &[u8]) -> Result<(Status, Vec<u8>), A
     text.extend_from_slice(b"]\n")?;
     let mut reader = text.as_slice();
     let mut writer = Vec::new(alloc);
-    let status = scenario_run(alloc, &mut reader, &mut writer, Table::Large);
+    let status = scenario_run(alloc, &mut reader, &mut writer, Table::Large, transcript);
     Ok((status, writer))
 }
 
-const GROUP_SEND: &[u8] =
+/// What a run of nodes and links with these steps reports, and how it ends.
+fn run(alloc: Global, nodes: &[u8], steps: &[u8]) -> Result<(Status, Vec<u8>), AllocError> {
+    run_shown(alloc, nodes, steps, false)
+}
+
+pub const GROUP_SEND: &[u8] =
     b"{do=\"send\", node=\"n0\", to=\"01-00-5E-00-00-01\", type=0x0800, payload=\"AABB\"}, {do=\"drain\"},\n";
 
-#[test]
-fn group_round_a_ring(rt: HostRuntime) -> Result<(), Fail> {
-    let (status, text) = run(rt.alloc(), RING, GROUP_SEND)?;
-    let expected = b"bench 1 table 512 nodes 3 links 3
+/// The report of that send round the ring.
+pub const RING_REPORT: &[u8] = b"bench 1 table 512 nodes 3 links 3
 node 0 danh sent 1 life 0 up 0 forwarded 0 duplicate 0 returned 2 dropped 0
 node 1 danh sent 0 life 0 up 1 forwarded 2 duplicate 0 returned 0 dropped 0
 node 2 danh sent 0 life 0 up 1 forwarded 2 duplicate 0 returned 0 dropped 0
@@ -52,8 +60,12 @@ link 1 put 2 taken 2 lost 0
 link 2 put 2 taken 2 lost 0
 certified 1
 ";
+
+#[test]
+fn group_round_a_ring(rt: HostRuntime) -> Result<(), Fail> {
+    let (status, text) = run(rt.alloc(), RING, GROUP_SEND)?;
     assert_eq!(rt; status, Status::Certified);
-    assert!(rt; text.as_slice() == expected.as_slice());
+    assert!(rt; text.as_slice() == RING_REPORT);
     Ok(())
 }
 
@@ -116,22 +128,30 @@ fn scenario_that_cannot_be_read(rt: HostRuntime) -> Result<(), Fail> {
         reads_left: 0,
     };
     let mut writer = Vec::new(rt.alloc());
-    let status = scenario_run(rt.alloc(), &mut reader, &mut writer, Table::Large);
+    let status = scenario_run(rt.alloc(), &mut reader, &mut writer, Table::Large, false);
     assert_eq!(rt; status, Status::Fault(Fault::Read));
     assert!(rt; writer.is_empty());
     Ok(())
 }
 
 #[test]
-fn report_that_cannot_be_written(rt: HostRuntime) -> Result<(), Fail> {
-    let mut reader = RING;
-    let mut writer = FailingWriter {
-        held: Vec::new(rt.alloc()),
-        writes_left: 0,
-    };
-    let status = scenario_run(rt.alloc(), &mut reader, &mut writer, Table::Small);
-    assert_eq!(rt; status, Status::Fault(Fault::Write));
-    assert!(rt; writer.held.is_empty());
+fn text_that_cannot_be_written(rt: HostRuntime) -> Result<(), Fail> {
+    for transcript in [false, true] {
+        let mut reader = RING;
+        let mut writer = FailingWriter {
+            held: Vec::new(rt.alloc()),
+            writes_left: 0,
+        };
+        let status = scenario_run(
+            rt.alloc(),
+            &mut reader,
+            &mut writer,
+            Table::Small,
+            transcript,
+        );
+        assert_eq!(rt; status, Status::Fault(Fault::Write));
+        assert!(rt; writer.held.is_empty());
+    }
     Ok(())
 }
 

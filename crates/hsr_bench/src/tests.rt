@@ -4,7 +4,7 @@ ghost use Rattle.std.specs.Prelude.{Some};
 use crate::chosen::{NodeOptions, OptionFault, Options, Table};
 use crate::command_line::options;
 use crate::engine::node_run;
-use crate::fault::{Fault, Status};
+use crate::fault::{Fault, Status, TranscriptFault};
 use hsr_frame::{Mac, Mode};
 use std::alloc::{AllocError, Global};
 use std::io;
@@ -164,6 +164,18 @@ fn statuses_and_their_lines(rt: HostRuntime) -> Result<(), Fail> {
     assert_eq!(rt; Status::Doubt.code(), 2);
     let lines = [
         (Fault::Line(12), "fault: line 12"),
+        (
+            Fault::Transcript(TranscriptFault::Line(9)),
+            "fault: transcript line 9",
+        ),
+        (
+            Fault::Transcript(TranscriptFault::Version),
+            "fault: transcript version",
+        ),
+        (
+            Fault::Transcript(TranscriptFault::End),
+            "fault: transcript end",
+        ),
         (Fault::Read, "fault: read"),
         (Fault::Write, "fault: write"),
         (Fault::Memory, "fault: memory"),
@@ -184,8 +196,18 @@ fn words_choose(rt: HostRuntime) -> Result<(), Fail> {
     assert!(rt; options(rt.alloc(), &["node", "--mode=N", "--"]).is_ok());
     let run = Options::Run {
         table: Table::Small,
+        transcript: false,
     };
     assert!(rt; options(rt.alloc(), &["run", "--table", "small"]).ok() == Some(run));
+    let told = Options::Run {
+        table: Table::Large,
+        transcript: true,
+    };
+    assert!(rt; options(rt.alloc(), &["run", "--transcript"]).ok() == Some(told));
+    let audit = Options::Audit {
+        table: Table::Large,
+    };
+    assert!(rt; options(rt.alloc(), &["audit"]).ok() == Some(audit));
     assert!(rt; options(rt.alloc(), &[]).ok() == Some(Options::Node(defaults())));
     for mac in ["", "02-00", "01-00-5E-00-00-01"] {
         match options(rt.alloc(), &["node", "--mac", mac]) {
@@ -207,9 +229,11 @@ fn words_that_clap_refuses(rt: HostRuntime) -> Result<(), Fail> {
         &["node", "-V"],
         &["node", "--mac", "02-00", "x"],
         &["run", "--table", "medium"],
-        &["run", "--transcript"],
+        &["run", "--transcript=x"],
+        &["run", "--transcript", "--transcript"],
+        &["audit", "--transcript"],
+        &["audit", "--table", "small", "--table", "small"],
         &["threads"],
-        &["audit"],
     ];
     for words in refused {
         match options(rt.alloc(), words) {

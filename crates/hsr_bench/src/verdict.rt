@@ -1,11 +1,13 @@
 //! What an audit of a run found.
-ghost use Rattle.std.specs.Prelude.{◌≡◌, ◌++◌, OnOk};
+ghost use Rattle.std.specs.Prelude.{◌≡◌, ◌++◌, IfErr, IfOk, OnOk};
 ghost use Rattle.hsr_bench.specs.Report.{doubt_text, status_of, verdict_line};
+ghost use Rattle.hsr_bench.specs.Shown.{IsFound};
+ghost use Rattle.hsr_bench.specs.declared.fault.Fault.TheVariants.{Memory};
 
-use crate::fault::Status;
+use crate::fault::{Fault, Status};
 use crate::reply::put_count;
-use hsr_audit::Doubt;
-use std::alloc::AllocError;
+use hsr_audit::{AuditFault, Closed, Doubt, audit};
+use std::alloc::{AllocError, Global};
 
 /// What an audit of a run found: so many sends that are certified, or a doubt.
 #[derive(Clone, Copy, Debug, PartialEq, Eq)]
@@ -23,6 +25,18 @@ impl Verdict {
             Verdict::Certified(_) => Status::Certified,
             Verdict::Doubt(_) => Status::Doubt,
         }
+    }
+}
+
+/// What the audit of a run finds.
+pub fn found<const C: usize>(alloc: Global, closed: &Closed<C>) -> Result<Verdict, Fault>
+    ensures ok { IfOk result (λ v. IsFound closed.now.run v) }
+    ensures err { IfErr result (λ f. f ≡ Memory) }
+{
+    match audit(alloc, closed) {
+        Ok(certificate) => Ok(Verdict::Certified(certificate.sends.len())),
+        Err(AuditFault::Doubt(doubt)) => Ok(Verdict::Doubt(doubt)),
+        Err(AuditFault::NoMemory) => Err(Fault::Memory),
     }
 }
 
