@@ -114,7 +114,7 @@ pub turned_long : (capacity : ℕ) (left rest held : Option (List ℕ)) (old : M
 turned_long capacity None rest held old n line f = tt
 turned_long capacity (Some ys) rest held old n line f =
     let l = lines_long ys (omega arith) in
-    subst (λ out. Ended held held out (Faulty (Line n))) (sym (ap (output capacity old n) l.1 ∙ output_long capacity old n _ l.0 f.2)) (refl, nothing held held (unchanged held))
+    subst (λ out. Ended held held out (Faulty (Line n))) (sym (ap (output capacity old n) l.1 ∙ output_long capacity old n _ l.0 f.2.0)) (refl, nothing held held (unchanged held))
 
 appends_more : (held holds new : Option (List ℕ)) (a b : List ℕ) → Appends held holds a → Appends holds new b → Appends held new (a ++ b)
 appends_more None holds new a b h k = tt

@@ -74,7 +74,8 @@ fn audited_with<R: Read>(
 /// Reads a transcript of a run with tables of the chosen size, audits the run, and writes its report: the nodes with their
 /// counters, the links with what became of their copies, and what the audit found, which the status tells too. The report is
 /// formed whole before it is written. `Fault::Transcript` where the text is no run's, and `Fault::Check` where links and
-/// records of its run disagree: then nothing is written.
+/// records of its run disagree; `Fault::Read` where the reader fails or takes over 2^40 reads, `Fault::Memory` where room is
+/// refused: then nothing is written.
 pub fn audit_run<R: Read, W: Write>(
     alloc: Global,
     reader: &mut R,

@@ -259,7 +259,7 @@ fn chosen_in(matches: &ArgMatches<'_>) -> Option<Options>
 }
 
 /// What the words after the program's name say: with none, `node` and its defaults. A `--mac` that is no
-/// address or a group's is refused by the text `usage: --mac`, and other words by clap's text.
+/// address or a group's is refused by the text `usage: --mac`, and other words by clap's text; `Memory` where room is refused.
 pub fn options<'a>(alloc: Global, words: &'a [&'a str]) -> Result<Options, OptionFault>
     ensures { IfOk result (Says (map (λ s. s.now) words.entry.now)) }
 {

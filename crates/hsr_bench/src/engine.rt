@@ -136,7 +136,9 @@ fn run<R: Read, W: Write, const C: usize>(
     }
 }
 
-/// Answers the lines of a text by a DANH with the chosen address, mode and size of tables.
+/// Answers the lines of a text by a DANH with the chosen address, mode and size of tables; moments are milliseconds. A line that
+/// is bad or has over 4096 octets ends the run as `Fault::Line`, counted from 1; what was answered stands. `Fault::Read` where
+/// the reader fails or takes over 2^40 reads, `Fault::Write`, `Fault::Memory`.
 pub fn node_run<R: Read, W: Write>(
     alloc: Global,
     reader: &mut R,

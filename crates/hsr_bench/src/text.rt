@@ -24,7 +24,8 @@ fn read_piece<R: Read>(reader: &mut R, text: &mut Vec<u8>) -> Result<bool, Fault
     }
 }
 
-/// Reads a whole text, or of one with more than `most` octets a front that has more.
+/// Reads a whole text, or of one with more than `most` octets a front that has more. `Fault::Read` where the reader fails or takes
+/// 2^40 reads, `Fault::Memory` where room is refused.
 pub fn read_text<R: Read>(alloc: Global, reader: &mut R, most: usize) -> Result<Vec<u8>, Fault>
     ensures ok { IfOk result (λ text. IfSome (R.remaining reader.old) (λ all. IsWhole most all text.items)) }
     ensures err { IfErr result (λ f. (f ≡ ReadFailed) ⊎ (f ≡ Memory)) }

@@ -61,7 +61,7 @@ impl<const C: usize> Danh<C> {
     ghost use Rattle.hsr_danh.specs.Machine.{new_machine};
     ghost use Rattle.hsr_danh.specs.Step.{age_step, arrive_step, life_step, now_at, send_step};
 
-    /// A node that has done nothing. No group has its address.
+    /// A node that has done nothing. No group has its address. `NoMemory` where room for its tables is refused.
     pub fn new(alloc: Global, own: Mac, mode: Mode) -> Result<Self, NoMemory>
         requires station { ¬ IsGroup own }
         requires entries { (1 ≤ C) × (C ≤ 65535) }
@@ -129,9 +129,9 @@ impl<const C: usize> Danh<C> {
         Ok(Life { seq, life })
     }
 
-    /// Judges what came to a ring port (IEC 62439-3 clause 5.3): octets that are no frame are counted, plain frames
-    /// dropped, tagged ones passed where they are wanted and not remembered. Where `STEPS` steps are
-    /// spent it changes nothing.
+    /// Judges what came to a ring port (IEC 62439-3 clause 5.3): octets that are no frame and plain frames are counted
+    /// and dropped, tagged ones passed where they are wanted and not remembered. Where `STEPS` steps are spent it
+    /// changes nothing.
     pub fn arrive(&mut self, at: u64, port: RingPort, octets: &[u8]) -> Result<Verdict, Spent>
         ensures { (result, self.new) ≡ arrive_step C self.old at port octets.now }
     {

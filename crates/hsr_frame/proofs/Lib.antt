@@ -1,7 +1,9 @@
 pub mod UpTo
 pub mod Cells
 pub mod Digits
+pub mod Decimals
 pub mod Texts
 pub mod Raws
 pub mod LineCuts
+pub mod LongLines
 pub mod Counting

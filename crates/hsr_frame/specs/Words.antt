@@ -1,7 +1,8 @@
 -- The words of a line of text, and what each kind of word says.
-use Rattle.std.specs.Prelude.{ℕ, ◌≡◌, Result, Ok, Err, ◌+◌, ◌-◌, ◌*◌, ◌^◌, ◌==◌, ◌&&◌, nat_lt, nat_le, List, [], ◌∷◌, length, Option, Some, None, if◌then◌else◌, Bool}
+use Rattle.std.specs.Prelude.{ℕ, ◌≡◌, Result, Ok, Err, ◌+◌, ◌-◌, ◌*◌, ◌^◌, ◌==◌, ◌&&◌, ◌||◌, nat_lt, List, [], ◌∷◌, length, Option, Some, None, if◌then◌else◌, Bool, false}
 use Rattle.std.specs.Int.{from_be_bytes, w16}
 use Rattle.std.specs.Result.{result_ok}
+use Rattle.std.specs.Str.{all_ascii_digits}
 use Rattle.hex.specs.Hex.{decode_of, decode_sized}
 use Rattle.hsr_frame.specs.declared.words.WordFault.{WordFault}
 use Rattle.hsr_frame.specs.declared.words.WordFault.TheVariants.{Bad, Memory}
@@ -28,18 +29,19 @@ abbrev pub word_at : Option (List ℕ) → Option (List ℕ × Option (List ℕ)
 word_at None = None
 word_at (Some text) = Some (cut 32 text)
 
-abbrev pub is_digit : ℕ → Bool
-is_digit b = nat_le 48 b && nat_le b 57
+-- the number that digits spell behind those that gave n
+abbrev pub value_on : ℕ → List ℕ → ℕ
+value_on n [] = n
+value_on n (b ∷ bs) = value_on (10 * n + (b - 48)) bs
 
--- the number of digits behind those that gave n
-abbrev pub digits_on : ℕ → List ℕ → Option ℕ
-digits_on n [] = Some n
-digits_on n (b ∷ bs) = if is_digit b && nat_lt (10 * n + (b - 48)) (2 ^ 64) then digits_on (10 * n + (b - 48)) bs else None
+-- digits, of which the first is a zero only where it is alone
+abbrev pub is_decimal : List ℕ → Bool
+is_decimal [] = false
+is_decimal (b ∷ bs) = all_ascii_digits (b ∷ bs) && (nat_lt 48 b || length bs == 0)
 
 -- a decimal number below 2^64, without sign or leading zeros
 abbrev pub decimal_of : List ℕ → Option ℕ
-decimal_of [] = None
-decimal_of (b ∷ bs) = if b == 48 && nat_lt 0 (length bs) then None else digits_on 0 (b ∷ bs)
+decimal_of word = if is_decimal word && nat_lt (value_on 0 word) (2 ^ 64) then Some (value_on 0 word) else None
 
 -- four hexadecimal digits of either case
 abbrev pub hex_pair_of : List ℕ → Option ℕ

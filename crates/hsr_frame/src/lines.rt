@@ -1,6 +1,6 @@
 //! Lines of a reader, with a bound on the length of a line and on the number of reads.
 ghost use Rattle.std.specs.Prelude.{◌<◌, ◌≤◌, IfOk, OnOk};
-ghost use Rattle.hsr_frame.specs.Lines.{ReadsByte, ReadsFront};
+ghost use Rattle.hsr_frame.specs.Lines.{Paid, ReadsByte, ReadsFront};
 
 use arrayvec::ArrayVec;
 use std::io;
@@ -16,7 +16,7 @@ pub enum Front {
     Line,
     /// The text's end; what stood before it is the last line, or empty.
     Rest,
-    /// A line that is longer than the buffer.
+    /// A line that is longer than the buffer: its front fills it, and the octet behind that is lost.
     TooLong,
 }
 
@@ -34,13 +34,15 @@ fn read_byte<R: Read>(reader: &mut R) -> io::Result<Option<u8>>
     if count == 0 { Ok(None) } else { Ok(Some(b)) }
 }
 
-/// Reads the next line into `line`, without its line feed.
+/// Reads the next line, of at most `N` octets, into `line`, without its line feed; each octet takes one of `reads`.
+/// `ReadFault` where the reader fails or no reads are left; then the line isn't told.
 pub fn next_line<R: Read, const N: usize>(
     reader: &mut R,
     reads: &mut u64,
     line: &mut ArrayVec<u8, N>,
 ) -> Result<Front, ReadFault>
     ensures front { IfOk result (ReadsFront N (R.remaining reader.old) (R.remaining reader.new) line.new.items) }
+    ensures paid { Paid (R.remaining reader.old) (R.remaining reader.new) reads.old reads.new }
     ensures counted { OnOk result (reads.new < reads.old) }
     ensures bounded { reads.new ≤ reads.old }
 {

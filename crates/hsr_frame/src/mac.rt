@@ -112,12 +112,14 @@ impl Mac {
         Mac::SUPERVISION
     }
 
+    /// The address of these octets.
     pub const fn new(octets: [u8; 6]) -> Mac
         ensures { result ≡ octets }
     {
         Mac { octets }
     }
 
+    /// Its octets, the first to be sent first.
     pub const fn octets(&self) -> [u8; 6]
         ensures value { result ≡ self.now }
         ensures address { IsAddress self.now }
@@ -140,8 +142,9 @@ impl Mac {
         *self == Mac::SUPERVISION
     }
 
-    /// The address that a text of 17 octets spells, in digits of either case parted by hyphens; a fault
-    /// is that of the leftmost wrong octet.
+    /// The address that a text of 17 octets spells, in digits of either case parted by hyphens. `Length` where it has
+    /// another number of octets; else, by the leftmost wrong octet, `Digit` where a digit is wanted and `Separator` where
+    /// a hyphen is.
     pub fn from_text(text: &str) -> Result<Mac, MacFault>
         ensures exact { result ≡ address_of text.now }
         // What is read is spelled so, but for the case of its digits.

@@ -4,7 +4,7 @@ use crate::fault::FrameFault;
 /// Which frames a node forwards round the ring (IEC 62439-3 clause 5.3.2).
 #[derive(Clone, Copy, Debug, PartialEq, Eq)]
 pub enum Mode {
-    /// Every frame but a unicast frame to the node itself.
+    /// Every frame but its own, one to itself alone, and, of a RedBox, one to a known station.
     H,
     /// None.
     N,

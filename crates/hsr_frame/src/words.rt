@@ -40,6 +40,7 @@ pub fn word(rest: Option<&[u8]>) -> Option<(&[u8], Option<&[u8]>)>
 }
 
 /// The decimal number below 2^64 that a word spells, without sign or leading zeros.
+#[tactic(auto, using(crate::proofs::Decimals::zero_first, crate::proofs::Decimals::read_all))]
 pub fn decimal(word: &[u8]) -> Option<u64>
     ensures { result ≡ decimal_of word.now }
 {
@@ -67,7 +68,8 @@ pub fn hex_pair(word: &[u8]) -> Option<u16>
     }
 }
 
-/// The octets that hexadecimal text of either case spells; a hyphen spells none.
+/// The octets that hexadecimal text of either case spells; a hyphen spells none. `Bad` where the word is neither,
+/// `Memory` where room is refused.
 pub fn hex_octets(alloc: Global, word: &[u8]) -> Result<Vec<u8>, WordFault>
     ensures { Gives (λ v. v.items) result (hex_octets_of word.now) }
 {
@@ -82,7 +84,7 @@ pub fn hex_octets(alloc: Global, word: &[u8]) -> Result<Vec<u8>, WordFault>
     }
 }
 
-/// Puts a number in decimal digits last.
+/// Puts a number in decimal digits last; a refused growth changes nothing.
 pub fn put_decimal(text: &mut Vec<u8>, n: u64) -> Result<(), AllocError>
     ensures ok { OnOk result (text.new.items ≡ text.old.items ++ decimal_text n) }
     ensures err { OnErr result (text.new.items ≡ text.old.items) }
@@ -91,7 +93,7 @@ pub fn put_decimal(text: &mut Vec<u8>, n: u64) -> Result<(), AllocError>
     text.extend_from_slice(buffer.format(n).as_bytes())
 }
 
-/// Puts octets in hexadecimal digits of upper case last.
+/// Puts octets in hexadecimal digits of upper case last; a refused growth changes nothing.
 pub fn put_hex(text: &mut Vec<u8>, octets: &[u8]) -> Result<(), AllocError>
     ensures ok { OnOk result (text.new.items ≡ text.old.items ++ encode_upper octets.now) }
     ensures err { OnErr result (text.new.items ≡ text.old.items) }

@@ -37,6 +37,7 @@ impl<const C: usize> Kept<C> {
     ghost use Rattle.hsr_node.specs.Record.{IsLegal, counters};
 
     /// A node of this number at this place that has done nothing. No group has the address of a DANH or RedBox.
+    /// `NoMemory` where room for its tables is refused.
     pub fn new(alloc: Global, number: usize, place: Place) -> Result<Kept<C>, NoMemory>
         requires station { HasOwnAddress place }
         requires entries { (1 ≤ C) × (C ≤ 65535) }
@@ -122,6 +123,7 @@ impl<const C: usize> Kept<C> {
         self.number
     }
 
+    /// The place of the node.
     pub fn place(&self) -> &Place
         ensures { result.now ≡ self.now.place }
     {

@@ -28,7 +28,8 @@ impl<const C: usize> Node<C> {
     ghost use Rattle.hsr_node.specs.Place.{HasOwnAddress};
     ghost use Rattle.hsr_node.specs.Step.{counters_of, new_node, node_step};
 
-    /// A node at this place that has done nothing. No group has the address of a DANH or RedBox.
+    /// A node at this place that has done nothing. No group has the address of a DANH or RedBox. `NoMemory` where room
+    /// for its tables is refused.
     pub fn new(alloc: Global, place: &Place) -> Result<Self, NoMemory>
         requires station { HasOwnAddress place.now }
         requires entries { (1 ≤ C) × (C ≤ 65535) }
@@ -43,8 +44,8 @@ impl<const C: usize> Node<C> {
     }
 
     /// Lets an event happen, as its kind of node does. `WrongEvent` exactly where the event doesn't fit the kind, its
-    /// ports or its addresses: a QuadBox or Station has no supervision, a QuadBox sends nothing, a DANH speaks for no
-    /// other. A refusal changes nothing.
+    /// ports or its addresses: a QuadBox or Station has no supervision, a QuadBox sends nothing, a DANH's supervision
+    /// names no address. A refusal changes nothing.
     pub fn apply(&mut self, at: u64, event: &Event) -> Result<Outcome, StepFault>
         ensures { (result, self.new) ≡ node_step C self.old at event.now }
     {

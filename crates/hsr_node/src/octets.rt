@@ -35,6 +35,7 @@ impl Octets {
         Ok(Octets { bytes })
     }
 
+    /// The octets, in order.
     pub fn as_slice(&self) -> &[u8]
         ensures { result.now ≡ self.now }
     {

@@ -50,6 +50,7 @@ impl Pass {
         self.worker
     }
 
+    /// The receipts, in the order in which they were kept.
     pub fn receipts(&self) -> &[Receipt]
         ensures { result.now ≡ self.now.receipts }
     {

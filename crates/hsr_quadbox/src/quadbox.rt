@@ -17,7 +17,8 @@ pub struct QuadVerdict {
 }
 
 /// A QuadBox (IEC 62439-3 clause 5), which joins two rings. It has no address and sends nothing of its own. Each of
-/// its ports has a duplicate table of `C` entries, `C` from 1 to 65535. Only `new` takes memory.
+/// its ports has a duplicate table of `C` entries, `C` from 1 to 65535. Moments are in milliseconds; one that is
+/// earlier than the last is read as the last. Only `new` takes memory.
 #[derive(Drop)]
 pub struct QuadBox<const C: usize> {
     tables: PortTables<C>,

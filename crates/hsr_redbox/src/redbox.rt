@@ -47,7 +47,7 @@ impl<const C: usize> RedBox<C> {
     ghost use Rattle.hsr_redbox.specs.Machine.{new_machine};
     ghost use Rattle.hsr_redbox.specs.Step.{after_frame, after_interlink, after_ring, age_step, arrive_step, life_step, now_at, send_step};
 
-    /// A node that has done nothing. No group has its address.
+    /// A node that has done nothing. No group has its address. `NoMemory` where room for its tables is refused.
     pub fn new(alloc: Global, own: Mac, mode: Mode) -> Result<Self, NoMemory>
         requires station { ¬ IsGroup own }
         requires entries { (1 ≤ C) × (C ≤ 65535) }

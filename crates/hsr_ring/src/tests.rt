@@ -107,6 +107,8 @@ fn links_and_time(rt: HostRuntime) -> Result<(), Fail> {
     let mut world = ring(&rt)?;
     assert!(rt; world.step(&Step::Clock { at: 5 }) == Ok(()));
     assert!(rt; world.step(&Step::Age { node: 2 }) == Ok(()));
+    let about = About::Own;
+    assert!(rt; world.step(&Step::Supervise { node: 2, about }) == Ok(()));
     assert!(rt; world.step(&Step::Cut { link: 1 }) == Ok(()));
     assert!(rt; world.step(&Step::Mend { link: 1 }) == Ok(()));
     let octets = Octets::from_slice(rt.alloc(), &[1, 2])?;

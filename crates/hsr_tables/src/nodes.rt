@@ -86,7 +86,7 @@ impl NodeTable {
         }
     }
 
-    /// The nodes that aren't forgotten at this moment, the latest heard first.
+    /// The nodes that aren't forgotten at this moment in milliseconds, the latest heard first.
     pub fn rows(&self, at: u64) -> ArrayVec<NodeRow, 64>
         requires { self.now.last ≤ at }
         ensures { result.items ≡ map (λ r. r.0) (known at self.now.rows) }

@@ -56,7 +56,7 @@ impl ProxyTable {
         self.last = at;
     }
 
-    /// Whether `list` has an address at this moment.
+    /// Whether `list` has an address at this moment in milliseconds.
     pub fn knows(&self, mac: Mac, at: u64) -> bool
         requires { self.now.last ≤ at }
         ensures { result ≡ is_known at self.now.heard mac }
@@ -65,7 +65,7 @@ impl ProxyTable {
     }
 
     /// The addresses that aren't forgotten at this moment, each with the moment when it was heard last,
-    /// the latest first.
+    /// the latest first; moments are in milliseconds.
     pub fn list(&self, at: u64) -> ArrayVec<(Mac, u64), 64>
         requires { self.now.last ≤ at }
         ensures { result.items ≡ known at self.now.heard }

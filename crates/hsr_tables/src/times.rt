@@ -10,7 +10,7 @@ pub const NODE_FORGET: u64 = 60000;
 /// clause 5.8).
 pub const LIFE_CHECK: u64 = 2000;
 
-/// Whether what was heard at one moment isn't forgotten at another.
+/// Whether what was heard at one moment isn't forgotten at another, both in milliseconds.
 pub fn is_known_at(heard: u64, at: u64) -> bool
     ensures { result ≡ is_young at heard }
 {

@@ -1,6 +1,6 @@
 -- Words that were written are read.
-use Rattle.std.proofs.Common.{◌≡◌, ℕ, ◌+◌, ◌-◌, ◌*◌, ◌/◌, ◌%◌, ◌^◌, ◌<◌, ◌≤◌, ◌==◌, ◌&&◌, nat_lt, Option, None, Some, List, [], ◌∷◌, ◌++◌, ◌∙◌, length, slice_index, get_or, refl, sym, ap, ap₂, subst, rules, arith, cond, Bool, true, false, suc, inl, inr, ◌⊎◌}
-use Rattle.std.proofs.lemmas.Bool.{and_parts, cases_lt}
+use Rattle.std.proofs.Common.{◌≡◌, ℕ, ◌/◌, ◌%◌, ◌^◌, ◌<◌, ◌==◌, ◌&&◌, nat_lt, Option, None, Some, List, [], ◌∷◌, ◌++◌, ◌∙◌, length, slice_index, get_or, refl, sym, ap, subst, rules, arith, cond, Bool, true, false, suc, inl, inr, ◌⊎◌}
+use Rattle.std.proofs.lemmas.Bool.{and_from, and_parts, cases_lt, or_left}
 use Rattle.std.proofs.lemmas.Bool.Decides.{nat_tests}
 use borrow.Author.Tests.{eqb-true}
 use Rattle.std.proofs.lemmas.Fmt.{digits_decimal, digits_value-decimal, first_decimal, decimal_digit}
@@ -11,7 +11,7 @@ use Rattle.std.specs.Fmt.{decimal}
 use Rattle.std.specs.Result.{result_ok}
 use Rattle.hex.specs.Hex.{encode_upper, encode_with, upper_digits, hex_digit_value, decode_of, IsBytes}
 use Rattle.hex.proofs.HexLemmas.{IsDigits-upper_digits, decode_of-encode_upper}
-use Rattle.hsr_frame.specs.Words.{cut, decimal_of, digits_on, is_digit, hex_octets_of}
+use Rattle.hsr_frame.specs.Words.{cut, decimal_of, hex_octets_of, is_decimal, value_on}
 use Rattle.hsr_node.specs.declared.event.Probe.{Probe}
 use Rattle.hsr_link.specs.declared.row.Dir.{Dir}
 use Rattle.hsr_link.specs.declared.row.Dir.TheVariants.{Forth, Back}
@@ -27,37 +27,21 @@ use Rattle.hsr_transcript.proofs.CutWords.{cut_word, cut_end, lacks_more}
 
 -- ---- numbers
 
-abbrev read_on : ℕ → List ℕ → ℕ
-read_on n [] = n
-read_on n (c ∷ cs) = read_on (10 * n + (c - 48)) cs
+pub own : IsNumeralModel (λ ds. all_ascii_digits ds ≡ true) (value_on 0)
+own = numerals_by_fold _ (search rules) value_on (search rules)
 
-pub own : IsNumeralModel (λ ds. all_ascii_digits ds ≡ true) (read_on 0)
-own = numerals_by_fold _ (search rules) read_on (search rules)
-
-grows : (n : ℕ) (ds : List ℕ) → n ≤ read_on n ds
-grows n [] = omega arith
-grows n (c ∷ cs) = let h = grows (10 * n + (c - 48)) cs in omega (arith, h)
-
-digits_read : (n : ℕ) (ds : List ℕ) → all_ascii_digits ds ≡ true → read_on n ds < 2 ^ 64 → digits_on n ds ≡ Some (read_on n ds)
-digits_read n [] d h = refl
-digits_read n (c ∷ cs) d h =
-    let parts = and_parts (is_ascii_digit c) (all_ascii_digits cs) d in
-    let most = grows (10 * n + (c - 48)) cs in
-    let below : nat_lt (10 * n + (c - 48)) (2 ^ 64) ≡ true = grind (arith, nat_tests, most, h) in
-    let digit : is_digit c ≡ true = parts.0 in
-    ap₂ (λ a b. cond (a && b) (digits_on (10 * n + (c - 48)) cs) None) digit below ∙ digits_read (10 * n + (c - 48)) cs parts.1 h
-
-no_zero : (ds : List ℕ) → 48 < get_or ds 0 0 → decimal_of ds ≡ digits_on 0 ds
-no_zero [] h = absurd (omega arith)
-no_zero (b ∷ bs) h =
-    let other : (b == 48) ≡ false = grind (arith, nat_tests) in
-    ap (λ t. cond (t && nat_lt 0 (length bs)) None (digits_on 0 (b ∷ bs))) other
+digits_read : (ds : List ℕ) → all_ascii_digits ds ≡ true → 48 < get_or ds 0 0 → value_on 0 ds < 2 ^ 64 → decimal_of ds ≡ Some (value_on 0 ds)
+digits_read [] d first h = absurd (omega arith)
+digits_read (b ∷ bs) d first h =
+    let above : nat_lt 48 b ≡ true = grind (arith, nat_tests) in
+    let below : nat_lt (value_on 0 (b ∷ bs)) (2 ^ 64) ≡ true = grind (arith, nat_tests, h) in
+    let whole : (is_decimal (b ∷ bs) && nat_lt (value_on 0 (b ∷ bs)) (2 ^ 64)) ≡ true = and_from _ _ (and_from _ _ d (or_left _ _ above)) below in
+    ap (λ t. cond t (Some (value_on 0 (b ∷ bs))) None) whole
 
 pub number_again : (n : ℕ) → n < 2 ^ 64 → decimal_of (decimal n) ≡ Some n
 number_again n h = elim (cases_lt 0 n) [
   | inl some ↦
-      no_zero (decimal n) (first_decimal n some h)
-      ∙ digits_read 0 (decimal n) (digits_decimal own n h) (rw (digits_value-decimal own n h) h)
+      digits_read (decimal n) (digits_decimal own n h) (first_decimal n some h) (rw (digits_value-decimal own n h) h)
       ∙ ap Some (digits_value-decimal own n h)
   | inr none ↦ let e : n ≡ 0 = omega arith in rw e (ap decimal_of (decimal_digit 0 (omega arith)))
 ]

@@ -34,7 +34,7 @@ line_ends (Some text) new line n m f h = line_is BadLine (record { number = n; t
 pub line_long : (old new : Option (List ℕ)) (line : List ℕ) (n m : ℕ) → ReadsFront 8192 old new line TooLong
     → Gives (λ (_ : Unit {0}). line) old new n m (Err (BadLine n)) (line_at BadLine)
 line_long None new line n m f = tt
-line_long (Some text) new line n m f = long_line BadLine (record { number = n; text = text }) f.2
+line_long (Some text) new line n m f = long_line BadLine (record { number = n; text = text }) f.2.0
 
 -- a fault of a first part is the fault of the whole
 pub passed_at : {X Y Z W : Type 0} (view : X → Y) (see : Z → W) (new : Option (List ℕ)) (n : ℕ) (e : ReadFault) (r : Result (Y × At) ReadFault) (w : Result (W × At) ReadFault)

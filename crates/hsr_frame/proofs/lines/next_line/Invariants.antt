@@ -1,10 +1,13 @@
 use Rattle.std.proofs.Common.{◌≤◌}
-use Rattle.hsr_frame.specs.Lines.{Continues}
+use Rattle.hsr_frame.specs.Lines.{Continues, Paid}
+use Rattle.std.specs.Io.KnownBytes.{Consumes}
 use Rattle.hsr_frame.proofs.lines.next_line.Given as goal
 
 abbrev pub invariant-loop-reads : goal.invariant-loop-reads
 invariant-loop-reads g l = record {
   line : Continues (g.R.Read.remaining l.initial.reader) (g.R.Read.remaining l.reader) l.line.items;
+  taken : Consumes (g.R.Read.remaining l.initial.reader) (g.R.Read.remaining l.reader) l.line.items;
+  paid : Paid (g.R.Read.remaining l.initial.reader) (g.R.Read.remaining l.reader) l.initial.reads l.reads;
   reads : l.reads ≤ l.initial.reads;
 }
 
