@@ -7,15 +7,15 @@ top=$(cd "$(dirname "${BASH_SOURCE[0]}")/.." && pwd)
 work=$(mktemp -d); trap 'rm -rf "$work"' EXIT
 "$top/hsr_bench" run < "$top/examples/ring3.toml" > /dev/null # builds the program
 
-# ring NODES SENDS: a ring of DANHs, in which the first sends to all, each send drained
+# ring NODES SENDS PAYLOAD: a ring of DANHs, in which the first sends to all, each send drained
 ring() {
-  awk -v n="$1" -v sends="$2" 'BEGIN {
+  awk -v n="$1" -v sends="$2" -v payload="$3" 'BEGIN {
     print "node = ["
     for (i = 0; i < n; i++) printf "  {name=\"n%d\", role=\"danh\", mac=\"02-00-00-00-00-%02X\"},\n", i, i + 1
     print "]\nlink = ["
     for (i = 0; i < n; i++) printf "  {ends=[\"n%d.B\", \"n%d.A\"]},\n", i, (i + 1) % n
     print "]\nstep = ["
-    for (i = 0; i < sends; i++) print "  {do=\"send\", node=\"n0\", to=\"01-00-5E-00-00-01\", type=0x0800, payload=\"AABB\"},\n  {do=\"drain\"},"
+    for (i = 0; i < sends; i++) print "  {do=\"send\", node=\"n0\", to=\"01-00-5E-00-00-01\", type=0x0800, payload=\"" payload "\"},\n  {do=\"drain\"},"
     print "]"
   }'
 }
@@ -27,12 +27,12 @@ measure() {
   echo "$name: $(tail -1 "$output" | cut -c1-60), $(tail -1 "$work/told"), $(stat -c %s "$output") octets written"
 }
 
-ring 64 1000 > "$work/64.toml"
+ring 64 1000 AABB > "$work/64.toml"
 measure "ring of 64, 1000 sends" "$work/64.toml" "$work/report" run
-ring 16 10000 > "$work/16.toml"
+ring 16 10000 AABB > "$work/16.toml"
 measure "ring of 16, 10000 sends" "$work/16.toml" "$work/report" run
-{ ring 3 0 | sed '/^step/,$d'; awk 'BEGIN { print "step = ["; for (i = 0; i < 50000; i++) printf "  {do=\"clock\", at=%d},\n", i; print "]" }'; } > "$work/clock.toml"
+{ ring 3 0 AABB | sed '/^step/,$d'; awk 'BEGIN { print "step = ["; for (i = 0; i < 50000; i++) printf "  {do=\"clock\", at=%d},\n", i; print "]" }'; } > "$work/clock.toml"
 measure "document of 50,000 steps" "$work/clock.toml" "$work/report" run
-ring 64 500 > "$work/500.toml"
+ring 64 500 "$(printf 'AB%.0s' {1..125})" > "$work/500.toml"
 measure "transcript of 500 sends" "$work/500.toml" "$work/transcript" run --transcript
 measure "audit of that transcript" "$work/transcript" "$work/report" audit
