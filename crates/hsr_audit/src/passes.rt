@@ -157,8 +157,8 @@ fn main_pass<const C: usize>(
     Ok(pass)
 }
 
-/// Passes of these records, in which the main worker did what is planned, in that order, and each other worker what the
-/// records tell, in node and place order. They are right where the records tell of the plan.
+/// Passes that are right for these records and this plan, where for each node the records tell of the main worker what is
+/// planned, in order; where they don't, nothing is said of them. `NoMemory` where room is refused.
 #[tactic(auto, using(crate::proofs::Receiving::has_receipts))]
 pub fn passes_of<const C: usize>(
     alloc: Global,
