@@ -1,7 +1,7 @@
 #!/usr/bin/env bash
 # Measures the program: `run` on a ring of 64 DANHs with 1,000 sends to a group, each drained, and on a ring of 16 with 10,000; on a
-# document of 50,000 steps of the clock (`clock`); `run --transcript` on the ring of 64 with 500 sends (64,000 entries, 42 MB), and
-# `audit` of that text. For each: the last line, processor time, peak memory, and the size of the text.
+# document of 50,000 steps of the clock; `run --transcript` on the ring of 64 with 250, 500 and 1,000 sends of 125 octets (500: 64,500
+# entries, 41 MB), and `audit` of each text. For each: the last line, processor time, peak memory, and how much was written.
 set -eu
 top=$(cd "$(dirname "${BASH_SOURCE[0]}")/.." && pwd)
 work=$(mktemp -d); trap 'rm -rf "$work"' EXIT
@@ -33,6 +33,8 @@ ring 16 10000 AABB > "$work/16.toml"
 measure "ring of 16, 10000 sends" "$work/16.toml" "$work/report" run
 { ring 3 0 AABB | sed '/^step/,$d'; awk 'BEGIN { print "step = ["; for (i = 0; i < 50000; i++) printf "  {do=\"clock\", at=%d},\n", i; print "]" }'; } > "$work/clock.toml"
 measure "document of 50,000 steps" "$work/clock.toml" "$work/report" run
-ring 64 500 "$(printf 'AB%.0s' {1..125})" > "$work/500.toml"
-measure "transcript of 500 sends" "$work/500.toml" "$work/transcript" run --transcript
-measure "audit of that transcript" "$work/transcript" "$work/report" audit
+for sends in 250 500 1000; do
+  ring 64 $sends "$(printf 'AB%.0s' {1..125})" > "$work/$sends.toml"
+  measure "transcript of $sends sends, $((sends * 129)) entries" "$work/$sends.toml" "$work/transcript" run --transcript
+  measure "audit of that transcript" "$work/transcript" "$work/report" audit
+done
