@@ -11,7 +11,7 @@ use Rattle.hsr_node.specs.declared.entry.Entry.{Entry}
 use Rattle.hsr_node.specs.declared.entry.Receipt.{Receipt}
 use Rattle.hsr_audit.specs.Finished.{planned_by, planned_for}
 use Rattle.hsr_audit.specs.Next.{IsNext, holds_from}
-use Rattle.hsr_audit.specs.Passes.{IsAhead, IsKeptNext, IsLeft, left_at}
+use Rattle.hsr_audit.specs.Passes.{IsAhead, IsKeptNext, IsLeft, IsOver, left_at}
 use Rattle.hsr_audit.specs.Receipts.{Shows, holds_of, named, planned_of}
 use Rattle.hsr_audit.specs.declared.planned.Planned.{Planned}
 use Rattle.hsr_audit.proofs.Decided.{not_same, same}
@@ -57,6 +57,9 @@ module _ (kept : List Record) (next : List ℕ) (planned : Planned) (e : Record)
   left_here d =
       let is : get_or kept k d ≡ e = get_or_default kept k d e inside ∙ sym at in
       λ i. drop (sym starts i) (is i).entries
+
+  pub over : holds_from 0 e.entries from ≡ [] → IsOver kept next k
+  over none d below = (λ i. holds_of 0 (sym starts i) (left_here d i)) ∙ none
 
   pub stops : holds_from 0 e.entries from ≡ [] → (rest : List Planned) → IsLeft kept next (planned ∷ rest) → ⊥
   stops over rest l =
@@ -144,6 +147,7 @@ module _ (kept : List Record) (next : List ℕ) (planned : Planned) (e : Record)
 
     pub keeps : IsKeptNext kept planned next later before after
     keeps = record {
+      node = map-append (λ (r : Receipt). r.node) before (receipt ∷ []);
       ahead = ahead_more;
       left = left_more;
       told = λ rest l.

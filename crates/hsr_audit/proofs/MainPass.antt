@@ -1,12 +1,13 @@
 -- The main worker's receipts, of one planned thing after another.
-use Rattle.std.proofs.Common.{◌≡◌, ℕ, ◌+◌, ◌<◌, ◌≤◌, ◌==◌, zero, suc, cond, Bool, true, false, List, [], ◌∷◌, ◌++◌, length, map, drop, get_or, filter_map, Some, None, refl, sym, ap, ◌∙◌, subst, arith, append_assoc, append-nil}
+use Rattle.std.proofs.Common.{◌≡◌, ℕ, ◌+◌, ◌<◌, ◌≤◌, ◌==◌, zero, suc, cond, Bool, true, false, List, [], ◌∷◌, ◌++◌, length, map, drop, take, get_or, filter_map, Some, None, refl, sym, ap, ◌∙◌, subst, arith, append_assoc, append-nil}
 use Rattle.std.specs.List.{cons_option}
+use Rattle.std.proofs.lemmas.List.{get_or_default, map_more}
 use Rattle.hsr_node.specs.Kept.{Record}
 use Rattle.hsr_node.specs.declared.entry.Entry.{Entry}
 use Rattle.hsr_node.specs.declared.entry.Receipt.{Receipt}
 use Rattle.hsr_audit.specs.Finished.{planned_by}
 use Rattle.hsr_audit.specs.Next.{AreFirst}
-use Rattle.hsr_audit.specs.Passes.{AreMain, IsKeptNext, IsLeft, IsToldBy, IsUpTo, left_at}
+use Rattle.hsr_audit.specs.Passes.{AreByPlan, AreMain, IsKeptNext, IsLeft, IsOver, IsToldBy, IsUpTo, left_at}
 use Rattle.hsr_audit.specs.Receipts.{holds_of, named, planned_of}
 use Rattle.hsr_audit.specs.declared.planned.Planned.{Planned}
 use Rattle.hsr_audit.proofs.Coming.{zero_at}
@@ -42,6 +43,7 @@ module _ (kept : List Record) (plan : List Planned) where
   pub up_to_none : (next : List ℕ) → AreFirst (length kept) next → IsUpTo kept plan 0 next []
   up_to_none next h = record {
     ahead = record { long = h.long; shown = tt; names = λ k d below i. holds_of 0 (zero_at next h.first k i) (drop (zero_at next h.first k i) (get_or kept k d).entries) };
+    nodes = refl;
     left = λ told. record { each = λ k d below. told.each k d below ∙ (λ i. filter_map (planned_by k) (drop (sym (zero_at next h.first k) i) (get_or kept k d).entries)) };
     told = λ told. refl;
   }
@@ -53,11 +55,34 @@ module _ (kept : List Record) (plan : List Planned) where
       let next_is : drop n plan ≡ planned ∷ rest = drop_at plan n planned below is in
       record {
         ahead = one.ahead h.ahead;
+        nodes = one.node ∙ (ap (λ ks. ks ++ planned.node ∷ []) h.nodes
+            ∙ ((λ i. map (λ (p : Planned). p.node) (take n plan) ++ (is i).node ∷ []) ∙ sym (map_more (λ (p : Planned). p.node) plan n planned below)));
         left = λ told. one.left rest (subst (IsLeft kept next) next_is (h.left told));
         told = λ told.
             ap (λ xs. xs ++ rest) (one.told rest (subst (IsLeft kept next) next_is (h.left told)))
             ∙ (append_assoc (map planned_of before) (planned ∷ []) rest ∙ (ap (λ xs. map planned_of before ++ xs) (sym next_is) ∙ h.told told));
       }
+
+  pub up_to_over : (n : ℕ) (planned : Planned) (next : List ℕ) (receipts : List Receipt) → n < length plan → planned ≡ get_or plan n planned →
+      IsOver kept next planned.node → IsUpTo kept plan n next receipts → AreByPlan kept plan receipts
+  up_to_over n planned next receipts below is over h = record {
+    count = n;
+    next = next;
+    ahead = h.ahead;
+    nodes = h.nodes;
+    below = omega (arith, below);
+    over = λ d inside. subst (λ (p : Planned). IsOver kept next p.node) (is ∙ get_or_default plan n planned d below) over;
+  }
+
+  pub up_to_end : (n : ℕ) (next : List ℕ) (receipts : List Receipt) → n ≡ length plan → IsUpTo kept plan n next receipts → AreByPlan kept plan receipts
+  up_to_end n next receipts all h = record {
+    count = n;
+    next = next;
+    ahead = h.ahead;
+    nodes = h.nodes;
+    below = omega (arith, all);
+    over = λ d inside. absurd (omega (arith, all, inside));
+  }
 
   pub never_stops : (n : ℕ) (planned : Planned) (next : List ℕ) (before : List Receipt) → n < length plan → planned ≡ get_or plan n planned →
       (planned.node < length kept → (rest : List Planned) → IsLeft kept next (planned ∷ rest) → ⊥) → IsUpTo kept plan n next before → IsToldBy kept plan → ⊥

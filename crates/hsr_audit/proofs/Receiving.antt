@@ -7,7 +7,7 @@ use Rattle.std.proofs.lemmas.List.Elements.{filter_map-append}
 use Rattle.hsr_node.specs.Kept.{Receipts, Record}
 use Rattle.hsr_node.specs.declared.entry.Entry.{Entry}
 use Rattle.hsr_node.specs.declared.entry.Receipt.{Receipt}
-use Rattle.hsr_audit.specs.Passes.{AreByWorker, AreMain, is_other, other_in, others_in, others_of, receipts_in, receipts_of}
+use Rattle.hsr_audit.specs.Passes.{AreByPlan, AreByWorker, AreMain, is_other, other_in, others_in, others_of, receipts_in, receipts_of}
 use Rattle.hsr_audit.specs.Receipts.{HasReceipts, IsRight, IsShown, Shows, done_of, entry_in, holds_of, named, names_of, planned_of}
 use Rattle.hsr_audit.specs.declared.planned.Planned.{Planned}
 use Rattle.hsr_audit.proofs.Decided.{not_same, same}
@@ -232,10 +232,13 @@ module _ (kept : List Record) (plan : List Planned) (main : Receipts) (passes : 
       ∙ ((λ i. ((cond (same main.worker 0 is_main i) main.receipts []) ++ []) ++ no_others 0 kept i)
       ∙ (append-nil (main.receipts ++ []) ∙ append-nil main.receipts))
 
-  of_other : (w : ℕ) → (w ≡ 0 → ⊥) → receipts_of w passes ≡ others_of w 0 kept
+  pub of_other : (w : ℕ) → (w ≡ 0 → ⊥) → receipts_of w passes ≡ others_of w 0 kept
   of_other w other =
       let apart : (main.worker == w) ≡ false = not_same main.worker w (λ e. other (sym e ∙ is_main)) in
       whole w ∙ (λ i. (cond (apart i) main.receipts [] ++ []) ++ others_of w 0 kept)
+
+  pub by_plan : AreByPlan kept plan main.receipts → AreByPlan kept plan (receipts_of 0 passes)
+  by_plan = subst (AreByPlan kept plan) (sym of_main)
 
   right_main : AreMain kept plan main.receipts → IsRight kept passes plan 0
   right_main h = record {

@@ -1,7 +1,8 @@
 -- Passes that records and a plan tell of.
 --     receipts_of   a worker's receipts, one pass after another
 --     IsToldBy      a plan that records tell of
-use Rattle.std.specs.Prelude.{ℕ, ◌+◌, ◌<◌, ◌≡◌, ◌==◌, ◌&&◌, not, if◌then◌else◌, Bool, List, [], ◌∷◌, ◌++◌, length, drop, map, filter_map, slice_index_or}
+--     AreByPlan     the main worker's receipts by a plan, told or not
+use Rattle.std.specs.Prelude.{ℕ, ◌+◌, ◌<◌, ◌≤◌, ◌≡◌, ◌==◌, ◌&&◌, not, if◌then◌else◌, Bool, List, [], ◌∷◌, ◌++◌, length, drop, take, map, filter_map, slice_index_or}
 use Rattle.std.specs.List.{AllByRecursion}
 use Rattle.hsr_node.specs.Kept.{Receipts, Record}
 use Rattle.hsr_node.specs.declared.entry.Entry.{Entry}
@@ -58,12 +59,30 @@ pub record IsAhead (kept : List Record) (next : List ℕ) (receipts : List Recei
   pub shown : AllByRecursion (Shows kept) receipts
   pub names : (k : ℕ) (d : Record) → k < length kept → filter_map (named k) receipts ++ left_of 0 kept next k d ≡ holds_of 0 0 (slice_index_or kept k d).entries
 
+abbrev pub nodes_of : List Receipt → List ℕ
+nodes_of receipts = map (λ r. r.node) receipts
+
+-- there's no such node, or no entry of the main worker is left in its record
+abbrev pub IsOver : List Record → List ℕ → ℕ → Type 0
+IsOver kept next k = (d : Record) → k < length kept → left_of 0 kept next k d ≡ []
+
+-- the main worker's receipts for the first of a plan: of each node its first entries, in the order in which the plan names the nodes;
+-- for all of the plan, or up to what no entry is left for
+pub record AreByPlan (kept : List Record) (plan : List Planned) (receipts : List Receipt) : Type 0 where
+  pub count : ℕ
+  pub next : List ℕ
+  pub below : count ≤ length plan
+  pub ahead : IsAhead kept next receipts
+  pub nodes : nodes_of receipts ≡ map (λ p. p.node) (take count plan)
+  pub over : (d : Planned) → count < length plan → IsOver kept next (slice_index_or plan count d).node
+
 -- from the next places on the records tell of the rest of a plan
 pub record IsLeft (kept : List Record) (next : List ℕ) (rest : List Planned) : Type 0 where
   pub each : (k : ℕ) (d : Record) → k < length kept → filter_map (planned_for k) rest ≡ filter_map (planned_by k) (left_at kept next k d)
 
 -- one more receipt, for what is planned next
 pub record IsKeptNext (kept : List Record) (planned : Planned) (old new : List ℕ) (before after : List Receipt) : Type 0 where
+  pub node : nodes_of after ≡ nodes_of before ++ planned.node ∷ []
   pub ahead : IsAhead kept old before → IsAhead kept new after
   pub left : (rest : List Planned) → IsLeft kept old (planned ∷ rest) → IsLeft kept new rest
   pub told : (rest : List Planned) → IsLeft kept old (planned ∷ rest) → map planned_of after ≡ map planned_of before ++ planned ∷ []
@@ -77,5 +96,6 @@ pub record AreMain (kept : List Record) (plan : List Planned) (receipts : List R
 -- the first n of a plan have receipts
 pub record IsUpTo (kept : List Record) (plan : List Planned) (n : ℕ) (next : List ℕ) (receipts : List Receipt) : Type 0 where
   pub ahead : IsAhead kept next receipts
+  pub nodes : nodes_of receipts ≡ map (λ p. p.node) (take n plan)
   pub left : IsToldBy kept plan → IsLeft kept next (drop n plan)
   pub told : IsToldBy kept plan → map planned_of receipts ++ drop n plan ≡ plan

@@ -1,6 +1,6 @@
 //! The passes that records and a plan tell of.
 ghost use Rattle.std.specs.Prelude.{◌≡◌, ◌<◌, ◌++◌, [], ◌∷◌, ℕ, length, IfOk, OnOk};
-ghost use Rattle.hsr_audit.specs.Passes.{AreByWorker, AreMain, IsKeptNext, IsLeft, IsToldBy, other_in, others_in, others_of, receipts_of};
+ghost use Rattle.hsr_audit.specs.Passes.{AreByPlan, AreByWorker, AreMain, IsKeptNext, IsLeft, IsOver, IsToldBy, other_in, others_in, others_of, receipts_of};
 ghost use Rattle.hsr_audit.specs.Receipts.{HasReceipts};
 
 use crate::next::{first_places, next_place};
@@ -119,6 +119,7 @@ fn keep_next<const C: usize>(
     ensures worker { OnOk result (pass.new.worker ≡ pass.old.worker) }
     ensures long { OnOk result (length next.new.items ≡ length kept.now) }
     ensures kept { IfOk result (λ is. is ≡ true → IsKeptNext kept.now planned.now next.old.items next.new.items pass.old.receipts pass.new.receipts) }
+    ensures over { IfOk result (λ is. is ≡ false → (next.new.items ≡ next.old.items) × (pass.new.receipts ≡ pass.old.receipts) × IsOver kept.now next.old.items planned.now.node) }
     ensures stops { IfOk result (λ is. is ≡ false → planned.now.node < length kept.now → (rest : List Planned) → IsLeft kept.now next.old.items (planned.now ∷ rest) → ⊥) }
 {
     let node = planned.node;
@@ -138,13 +139,14 @@ ghost use Rattle.std.specs.Prelude.{List, true, false};
 ghost use Rattle.hsr_audit.specs.declared.planned.Planned.{Planned};
 
 /// The main worker's receipts of what is planned, in that order; up to the first that no entry is left for.
-#[tactic(auto, using(crate::proofs::MainPass::never_stops, crate::proofs::MainPass::up_to_all, crate::proofs::MainPass::up_to_more, crate::proofs::MainPass::up_to_none))]
+#[tactic(auto, using(crate::proofs::MainPass::never_stops, crate::proofs::MainPass::up_to_all, crate::proofs::MainPass::up_to_more, crate::proofs::MainPass::up_to_none, crate::proofs::MainPass::up_to_over, crate::proofs::MainPass::up_to_end))]
 fn main_pass<const C: usize>(
     alloc: Global,
     kept: &[Kept<C>],
     plan: &[Planned],
 ) -> Result<Pass, NoMemory>
     ensures worker { IfOk result (λ pass. pass.worker ≡ 0) }
+    ensures first { IfOk result (λ pass. AreByPlan kept.now plan.now pass.receipts) }
     ensures main { IfOk result (λ pass. IsToldBy kept.now plan.now → AreMain kept.now plan.now pass.receipts) }
 {
     let mut next = first_places(alloc, kept.len())?;
@@ -158,14 +160,19 @@ fn main_pass<const C: usize>(
 }
 
 /// Passes that are right for these records and this plan, where for each node the records tell of the main worker what is
-/// planned, in order; where they don't, nothing is said of them. `NoMemory` where room is refused.
-#[tactic(auto, using(crate::proofs::Receiving::has_receipts))]
+/// planned, in order. In any case pass w is worker w's: of the main worker, number 0, the next entry of each node that the
+/// plan names, up to the first that has none left, and of all others their entries, in node and place order. `NoMemory` where
+/// room is refused.
+#[tactic(auto, using(crate::proofs::Receiving::has_receipts, crate::proofs::Receiving::by_plan, crate::proofs::Receiving::of_other))]
 pub fn passes_of<const C: usize>(
     alloc: Global,
     kept: &[Kept<C>],
     plan: &[Planned],
 ) -> Result<Vec<Pass>, NoMemory>
-    ensures { IfOk result (λ passes. IsToldBy kept.now plan.now → HasReceipts kept.now passes.items plan.now) }
+    ensures right { IfOk result (λ passes. IsToldBy kept.now plan.now → HasReceipts kept.now passes.items plan.now) }
+    ensures workers { IfOk result (λ passes. AreByWorker 0 passes.items) }
+    ensures main { IfOk result (λ passes. AreByPlan kept.now plan.now (receipts_of 0 passes.items)) }
+    ensures others { IfOk result (λ passes. (w : ℕ) → (w ≡ 0 → ⊥) → receipts_of w passes.items ≡ others_of w 0 kept.now) }
 {
     let mut passes = Vec::new(alloc);
     add_pass(&mut passes, main_pass(alloc, kept, plan)?)?;

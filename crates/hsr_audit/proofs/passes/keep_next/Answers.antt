@@ -1,11 +1,11 @@
-use Rattle.std.proofs.Common.{◌≡◌, ◌+◌, ◌++◌, [], ◌∷◌, List, get_or, set, sym, subst, ap, ◌∙◌}
+use Rattle.std.proofs.Common.{◌≡◌, ℕ, refl, ◌+◌, ◌++◌, [], ◌∷◌, List, get_or, set, sym, subst, ap, ◌∙◌}
 use Rattle.std.proofs.lemmas.List.{get_or_read_under}
 use Rattle.hsr_node.specs.declared.entry.Receipt.{Receipt}
 use Rattle.hsr_node.specs.declared.entry.Entry.{Entry}
 use Rattle.hsr_node.specs.Kept.{Receipts}
 use Rattle.hsr_audit.specs.Next.{IsNext, holds_from}
 use Rattle.hsr_audit.specs.Passes.{IsKeptNext}
-use Rattle.hsr_audit.proofs.Keeping.{keeps, stops}
+use Rattle.hsr_audit.proofs.Keeping.{keeps, over, stops}
 use Rattle.hsr_audit.proofs.passes.keep_next.Goals as goal
 
 pub returns-clause-kept : goal.returns-clause-kept
@@ -33,3 +33,16 @@ returns-in_default-clause-stops g c is below rest =
     stops c.args.kept.now c.args.next.now.items c.args.planned.now e c.index.result.now c.requires below c.index-kept-node.is
     (get_or_read_under c.args.next.now.items c.args.planned.now.node _ c.index.result.now 0 c.index.ensures below (sym c.requires))
     (subst N entries_are c.in_default.ensures) rest
+
+pub returns-in_default-clause-over : goal.returns-in_default-clause-over
+returns-in_default-clause-over g c is =
+    let e = c.index-kept-node.result in
+    let entries_are : c.entries-entries.result.now ≡ e.entries = c.entries-entries.ensures.entries in
+    let N : List Entry → Type 0 = λ xs. holds_from 0 xs c.index.result.now ≡ [] in
+    let below = c.if-node-kept.false in (
+      refl {A = List ℕ},
+      refl {A = List Receipt},
+      over c.args.kept.now c.args.next.now.items c.args.planned.now e c.index.result.now c.requires below c.index-kept-node.is
+          (get_or_read_under c.args.next.now.items c.args.planned.now.node _ c.index.result.now 0 c.index.ensures below (sym c.requires))
+          (subst N entries_are c.in_default.ensures),
+    )
