@@ -59,3 +59,4 @@ pub mod Reaching
 pub mod Receiving
 pub mod Keeping
 pub mod MainPass
+pub mod Marking

@@ -1,5 +1,5 @@
 -- Looking through the marks of an egress, and the log of one more entry.
-use Rattle.std.proofs.Common.{◌≡◌, ℕ, ◌+◌, ◌-◌, ◌<◌, ◌≤◌, Bool, ◌&&◌, List, [], ◌∷◌, ◌++◌, length, drop, take, reverse, Option, Some, None, sym, ap, ◌∙◌, subst, arith, take_all, ⊎_elim, slice_index_or, append-nil, append_assoc}
+use Rattle.std.proofs.Common.{◌≡◌, ℕ, ◌+◌, ◌-◌, ◌<◌, ◌≤◌, Bool, ◌&&◌, List, [], ◌∷◌, ◌++◌, length, drop, take, reverse, Option, Some, None, false, refl, sym, ap, ◌∙◌, subst, arith, take_all, ⊎_elim, slice_index_or, append-nil, append_assoc}
 use Rattle.std.specs.List.{cons_option, list_any}
 use Rattle.std.proofs.lemmas.Bool.{cases_lt}
 use Rattle.std.proofs.lemmas.List.{reverse-append, length-reverse, take-append-drop, length-drop, length-take, take_more}
@@ -8,11 +8,17 @@ use Rattle.std.proofs.Math.Seq.{take-append_seam}
 use Rattle.hsr_tables.proofs.Latest.{any-filter}
 use Rattle.hsr_node.specs.Record.{Noted, remembered}
 use Rattle.hsr_node.specs.declared.entry.Entry.{Entry}
+use Rattle.hsr_audit.specs.Premises.{is_note_of}
 use Rattle.hsr_audit.specs.Logged.{is_young, log_at, logged, logged_after, reading_at, youngest}
 
 -- an order doesn't matter where one is looked for
 pub any_reversed : {X : Type 0} (p : X → Bool) (xs : List X) → list_any p (reverse xs) ≡ list_any p xs
 any_reversed p xs = sym (list_any-IsPermutation p xs (reverse xs) (IsPermutation-reverse xs))
+
+-- no note is of no send
+pub none_of_no_send : (notes : List Noted) → list_any (is_note_of None) notes ≡ false
+none_of_no_send [] = refl
+none_of_no_send (note ∷ notes) = none_of_no_send notes
 
 -- the first of a list in reverse are the last of it
 pub take_reversed : {X : Type 0} (n : ℕ) (xs : List X) → take n (reverse xs) ≡ reverse (drop (length xs - n) xs)

@@ -59,6 +59,7 @@ fn first_of(first: Option<usize>, is_one: bool, i: usize) -> Option<usize>
 }
 
 /// What is found first in the record of the DANH in mode H that has this number and address.
+#[tactic(auto, using(crate::proofs::Logging::log_more))]
 pub(crate) fn found_in(
     alloc: Global,
     capacity: usize,

@@ -16,6 +16,7 @@ mod law;
 mod links;
 mod links_agree;
 mod log;
+mod marks;
 mod next;
 mod nodes;
 mod parts;
