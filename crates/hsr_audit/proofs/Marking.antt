@@ -1,13 +1,14 @@
 -- The sends that an egress has marks of, after one more.
-use Rattle.std.proofs.Common.{◌≡◌, ℕ, ◌==◌, ◌&&◌, ◌||◌, cond, Bool, true, false, List, [], ◌∷◌, ◌++◌, Some, Option, None, refl, sym, ap, ◌∙◌}
+use Rattle.std.proofs.Common.{◌≡◌, ℕ, ◌==◌, ◌&&◌, ◌||◌, not, reverse, cond, Bool, true, false, List, [], ◌∷◌, ◌++◌, Some, Option, None, refl, sym, ap, ◌∙◌}
 use Rattle.std.specs.List.{list_any}
 use Rattle.std.specs.Prelude.{nat_eq}
 use Rattle.std.proofs.lemmas.Bool.{false≢true}
-use Rattle.hsr_node.specs.Record.{Noted}
+use Rattle.hsr_node.specs.Record.{Noted, remembered}
 use Rattle.hsr_node.specs.declared.event.Probe.{Probe}
-use Rattle.hsr_audit.specs.Logged.{AreNamed}
+use Rattle.hsr_audit.specs.Logged.{AreNamed, is_gone}
 use Rattle.hsr_audit.specs.Premises.{is_note_of}
 use Rattle.hsr_audit.specs.Run.{is_same_send}
+use Rattle.hsr_audit.proofs.Logging.{any_reversed}
 
 -- more sends name the same notes
 pub named_kept : (has more : ℕ × ℕ → Bool) (notes : List Noted) → ((at : ℕ × ℕ) → has at ≡ true → more at ≡ true) → AreNamed has notes → AreNamed more notes
@@ -31,6 +32,24 @@ named_more has more (n ∷ notes) note keeps added named p is =
     or_right : (a b : Bool) → b ≡ true → (a || b) ≡ true
     or_right true b h = refl
     or_right false b h = h
+
+-- a send whose place isn't there has no note
+pub not_named : (has : ℕ × ℕ → Bool) (notes : List Noted) (p : Probe) → AreNamed has notes → has (p.node, p.place) ≡ false → list_any (is_note_of (Some p)) notes ≡ false
+not_named has notes p named none = by_case (list_any (is_note_of (Some p)) notes) refl
+  where
+    by_case : (b : Bool) → list_any (is_note_of (Some p)) notes ≡ b → b ≡ false
+    by_case true here = absurd (false≢true (sym none ∙ named p here))
+    by_case false here = refl
+
+-- nor is it gone
+pub not_gone : (capacity at : ℕ) (send : Option Probe) (notes : List Noted) → list_any (is_note_of send) notes ≡ false → is_gone capacity at send (reverse notes) ≡ false
+not_gone capacity at send notes none =
+    let R : Bool = list_any (is_note_of send) (remembered capacity at (reverse notes)) in
+    ap (λ b. not R && b) (any_reversed (is_note_of send) notes ∙ none) ∙ and_false (not R)
+  where
+    and_false : (b : Bool) → (b && false) ≡ false
+    and_false true = refl
+    and_false false = refl
 
 -- what is in a set is there after one more was put
 pub still_there : (is_it was now : Bool) → now ≡ cond is_it true was → was ≡ true → now ≡ true

@@ -1,5 +1,5 @@
 //! What an egress of a node in a ring noted, and what of it is forgotten or mistaken.
-ghost use Rattle.std.specs.Prelude.{◌≡◌, ◌++◌, ◌∷◌, [], ◌&&◌, ℕ, Some, true, reverse, OnErr, OnOk};
+ghost use Rattle.std.specs.Prelude.{◌≡◌, ◌++◌, ◌∷◌, [], ◌&&◌, ℕ, Some, true, false, reverse, OnErr, OnOk};
 ghost use Rattle.std.specs.List.{list_any};
 ghost use Rattle.hsr_node.specs.Record.{remembered};
 ghost use Rattle.hsr_audit.specs.Logged.{has_send, is_young, youngest};
@@ -90,6 +90,13 @@ fn youngest(capacity: usize, marks: &[Mark]) -> &[Mark]
     &marks[marks.len().saturating_sub(capacity)..]
 }
 
+/// Whether one of these marks is of this send.
+fn has_mark_of(send: Option<Probe>, marks: &[Mark]) -> bool
+    ensures { result ≡ list_any (is_note_of send) marks.now }
+{
+    marks.iter().any(|mark| is_mark_of(send, mark))
+}
+
 /// Whether a young one of these marks is of this send.
 fn has_young_of(at: u64, send: Option<Probe>, marks: &[Mark]) -> bool
     ensures { result ≡ list_any (λ mark. is_young at mark && is_note_of send mark) marks.now }
@@ -167,26 +174,25 @@ impl Marks {
         }
     }
 
-    /// Whether a mark is of this send.
-    #[tactic(auto, using(crate::proofs::Logging::none_of_no_send))]
-    fn has_mark_of(&self, send: Option<Probe>) -> bool
-        ensures { result ≡ list_any (is_note_of send) self.now }
+    /// Whether a mark may be of this send; where none may be, none is.
+    #[tactic(auto, using(crate::proofs::Logging::none_of_no_send, crate::proofs::Marking::not_named))]
+    fn may_have(&self, send: Option<Probe>) -> bool
+        ensures { result ≡ false → list_any (is_note_of send) self.now ≡ false }
     {
         match send {
-            Some(probe) => {
-                self.sends.contains(&(probe.node, probe.place))
-                    && self.marks.iter().any(|mark| is_mark_of(send, mark))
-            }
+            Some(probe) => self.sends.contains(&(probe.node, probe.place)),
             None => false,
         }
     }
 
-    /// Whether a send was noted, and no such mark is remembered. What is remembered is looked through first.
-    #[tactic(auto, using(crate::proofs::Logging::any_reversed))]
+    /// Whether a send was noted, and no such mark is remembered.
+    #[tactic(auto, using(crate::proofs::Logging::any_reversed, crate::proofs::Marking::not_gone))]
     pub(crate) fn is_gone(&self, capacity: usize, at: u64, send: Option<Probe>) -> bool
         ensures { result ≡ is_gone capacity at send (reverse self.now) }
     {
-        !is_remembered(capacity, at, send, &self.marks) && self.has_mark_of(send)
+        self.may_have(send)
+            && !is_remembered(capacity, at, send, &self.marks)
+            && has_mark_of(send, &self.marks)
     }
 
     /// Whether a mark with this source and number is remembered that is of another send.
