@@ -5,9 +5,10 @@ use Rattle.std.proofs.lemmas.Bool.{or_parts, eqb-false}
 use Rattle.std.proofs.lemmas.List.Elements.{All-nil, All-cons}
 use Rattle.hsr_frame.specs.Address.{IsGroup, is_group, is_same_address}
 use Rattle.hsr_node.specs.Place.{HasOwnAddress}
+use Rattle.hsr_node.specs.Station.{is_among}
 use Rattle.hsr_node.specs.declared.place.Place.{Place}
 use Rattle.hsr_node.specs.declared.place.Place.TheVariants.{Danh, RedBox, QuadBox, Station}
-use Rattle.hsr_audit.specs.Nodes.{has_group, has_twice, is_among, is_bad_node}
+use Rattle.hsr_audit.specs.Nodes.{has_group, has_twice, is_bad_node}
 use Rattle.hsr_audit.specs.Wired.{AreAddresses, AreDifferent, HasAddresses}
 
 -- where none passes a test, each fails it

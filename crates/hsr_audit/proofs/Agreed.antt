@@ -66,6 +66,6 @@ module _ (capacity : ℕ) (topology : Topology) (kept : List Record) (rows : Lis
 
   pub calm : IsWired topology.places topology.links → Agrees capacity topology kept rows passes plan → HasNoStorm (run_of capacity topology kept rows)
   unfolding HasNoStorm
-  calm wired all = λ boxes kept_all.
+  calm wired all = λ boxes.
       let run = run_of capacity topology kept rows in
-      no_storm run (λ l dir below. from_there topology.places topology.links wired l dir below) all.closed (boxless run all.closed boxes) kept_all
+      no_storm run (λ l dir below. from_there topology.places topology.links wired l dir below) all.closed (boxless run all.closed boxes)

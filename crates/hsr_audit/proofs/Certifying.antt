@@ -1,24 +1,16 @@
 -- The sends of a ring of DANHs, listed by their destinations.
-use Rattle.std.proofs.Common.{◌≡◌, ℕ, ◌+◌, ◌<◌, ◌==◌, ◌||◌, Bool, true, false, not, if◌then◌else◌, List, [], ◌∷◌, ◌++◌, length, filter, reverse, slice_index_or, Option, Some, None, refl, sym, ap, ◌∙◌, subst, arith, zero, suc, take_all}
-use Rattle.std.specs.Prelude.{nat_lt, option_map}
+use Rattle.std.proofs.Common.{◌≡◌, ℕ, ◌+◌, ◌<◌, if◌then◌else◌, List, [], ◌∷◌, ◌++◌, length, filter, reverse, slice_index_or, Option, Some, None, refl, sym, ap, ◌∙◌, subst, arith, zero, suc, take_all}
+use Rattle.std.specs.Prelude.{option_map}
 use Rattle.std.specs.List.{cons_option, range_with_len}
 use Rattle.std.proofs.lemmas.List.Elements.{filter-append}
-use Rattle.hsr_frame.specs.Address.{is_group, supervision_address}
-use Rattle.hsr_frame.specs.Grammar.{Fields}
 use Rattle.hsr_frame.specs.declared.node.Mode.TheVariants.{H}
-use Rattle.hsr_redbox.specs.declared.call.About.{About}
-use Rattle.hsr_node.specs.Copies.{asked_frame, life_frame, life_said}
-use Rattle.hsr_node.specs.Flow.{Sending, sending_of, sent_by}
-use Rattle.hsr_node.specs.declared.event.Event.{Event}
-use Rattle.hsr_node.specs.declared.event.Outcome.{Outcome}
-use Rattle.hsr_supervision.specs.Payload as payload
+use Rattle.hsr_node.specs.Flow.{sent_by}
+use Rattle.hsr_node.specs.declared.sending.Sending.{Sending}
 use Rattle.hsr_node.specs.declared.entry.Entry.{Entry}
-use Rattle.hsr_node.specs.declared.event.Event.TheVariants.{Send, Supervise, Arrive, Age}
-use Rattle.hsr_node.specs.declared.event.Outcome.TheVariants.{Sent, Life, Judged, Aged}
 use Rattle.hsr_node.specs.declared.event.Probe.{Probe}
 use Rattle.hsr_node.specs.declared.place.Place.TheVariants.{Danh}
 use Rattle.hsr_audit.specs.Certificate.{certified_as, certified_in}
-use Rattle.hsr_audit.specs.Listed.{listed_below, asked_to, certified_to, dst_of, frame_to, is_for, is_sendable, listed_at, listed_by, lived_to, receivers_below, sent_so, sent_to}
+use Rattle.hsr_audit.specs.Listed.{certified_to, dst_of, frame_to, is_for, listed_at, listed_below, listed_by, receivers_below, sent_to}
 use Rattle.hsr_audit.specs.Once.{is_addressed}
 use Rattle.hsr_audit.specs.Run.{Run, past_of}
 use Rattle.hsr_audit.specs.Premises.{mac_at}
@@ -43,45 +35,6 @@ receivers_more macs sender dst k =
 
 -- ---- entries
 
-asked_same : (mac : List ℕ) (from : ℕ) (dst : List ℕ) (vlan : Option ℕ) (kind : ℕ) (octets : List ℕ) (seq : Option ℕ) →
-    asked_to mac from dst kind (length octets) ≡ option_map dst_of (sending_of seq (asked_frame (if from == 0 then Some mac else None) dst vlan kind octets))
-asked_same mac from dst vlan kind octets seq = by_from (from == 0) (is_group mac || (kind == 0x892F) || (kind == 0x8100) || nat_lt 1500 (length octets))
-  where
-    frame : Fields
-    frame = record { dst = dst; src = mac; vlan = vlan; kind = kind; rest = octets }
-
-    by_fault : (bad : Bool) → (if not bad then Some dst else None) ≡ option_map dst_of (sending_of seq (if bad then None else Some frame))
-    by_fault true = refl
-    by_fault false = refl
-
-    by_from : (own bad : Bool) →
-        (if own then (if is_sendable mac kind (length octets) then Some dst else None) else None)
-        ≡ option_map dst_of (sending_of seq (asked_frame (if own then Some mac else None) dst vlan kind octets))
-    by_from true bad = by_fault (is_group mac || (kind == 0x892F) || (kind == 0x8100) || nat_lt 1500 (length octets))
-    by_from false bad = refl
-
-lived_same : (mac : List ℕ) (about : About) (life seq : ℕ) → lived_to mac about life ≡ option_map dst_of (sending_of (Some seq) (life_frame (Some mac) about life))
-lived_same mac about life seq = by_fault (is_group mac || (0x88FB == 0x892F) || (0x88FB == 0x8100) || nat_lt 1500 (length (payload.spelling (life_said mac about life))))
-  where
-    frame : Fields
-    frame = record { dst = supervision_address; src = mac; vlan = None; kind = 0x88FB; rest = payload.spelling (life_said mac about life) }
-
-    by_fault : (bad : Bool) → (if not bad then Some supervision_address else None) ≡ option_map dst_of (sending_of (Some seq) (if bad then None else Some frame))
-    by_fault true = refl
-    by_fault false = refl
-
-sent_same : (mac : List ℕ) (event : Event) (outcome : Outcome) → sent_so mac event outcome ≡ option_map dst_of (sent_by (Danh mac H) event outcome)
-sent_same mac (Send from dst vlan kind octets) (Sent seq ports) = asked_same mac from dst vlan kind octets seq
-sent_same mac (Send from dst vlan kind octets) (Life seq life ports) = refl
-sent_same mac (Send from dst vlan kind octets) (Judged up_too ports seq cause) = refl
-sent_same mac (Send from dst vlan kind octets) Aged = refl
-sent_same mac (Supervise about) (Sent seq ports) = refl
-sent_same mac (Supervise about) (Life seq life ports) = lived_same mac about life seq
-sent_same mac (Supervise about) (Judged up_too ports seq cause) = refl
-sent_same mac (Supervise about) Aged = refl
-sent_same mac (Arrive port copy) outcome = refl
-sent_same mac Age outcome = refl
-
 same_certified : (macs : List (List ℕ)) (send : Probe) (o : Option Sending) → option_map (certified_to macs send) (option_map dst_of o) ≡ option_map (certified_as macs send) o
 same_certified macs send None = refl
 same_certified macs send (Some s) = refl
@@ -94,10 +47,9 @@ listed_more macs number mac xs i d below =
     let x = slice_index_or xs i d in
     let here : Probe = record { node = number; place = i } in
     let sent = sent_by (Danh mac H) x.event x.outcome in
-    let P : ℕ → Type 0 = λ n. listed_at macs number mac xs i ++ cons_option (option_map (certified_to macs here) (sent_so mac x.event x.outcome)) []
+    let P : ℕ → Type 0 = λ n. listed_at macs number mac xs i ++ cons_option (option_map (certified_to macs here) (option_map dst_of sent)) []
     ≡ listed_at macs number mac xs i ++ cons_option (option_map (certified_as macs (record { node = number; place = n })) sent) [] in
-    subst P (sym (past_length xs i (omega (arith, below))))
-    (ap (λ o. listed_at macs number mac xs i ++ cons_option o []) (ap (option_map (certified_to macs here)) (sent_same mac x.event x.outcome) ∙ same_certified macs here sent))
+    subst P (sym (past_length xs i (omega (arith, below)))) (ap (λ o. listed_at macs number mac xs i ++ cons_option o []) (same_certified macs here sent))
     ∙ sym (ap (certified_in macs (record { number = number; place = Danh mac H })) (past_more xs i d below))
 
 -- one more node

@@ -10,7 +10,7 @@ use Rattle.hsr_node.specs.declared.entry.Entry.{Entry}
 use Rattle.hsr_node.specs.declared.place.Place.TheVariants.{QuadBox}
 use Rattle.hsr_link.specs.Rows.{is_queued}
 use Rattle.hsr_link.specs.declared.row.Row.{Row}
-use Rattle.hsr_audit.specs.Checked.{AreKnown, AreLegal, HasNoStranger, IsQuiet, PutsAgree, TakensAgree, is_noisy}
+use Rattle.hsr_audit.specs.Checked.{AllAgree, AreKnown, AreLegal, HasNoStranger, IsQuiet, PutsAgree, TakensAgree, is_noisy}
 use Rattle.hsr_audit.specs.Closed.{IsClosed, IsSettled}
 use Rattle.hsr_audit.specs.Finished.{items_of, run_of}
 use Rattle.hsr_audit.specs.Run as run
@@ -59,7 +59,7 @@ module _ (capacity : ℕ) (topology : Topology) (kept : List Record) (rows : Lis
   pub closed : IsWired topology.places topology.links → AreLegal capacity kept (length kept) →
       PutsAgree whole (length topology.links) → TakensAgree whole (length topology.links) →
       HasNoStranger whole (length topology.links) → IsQuiet whole (length topology.links) → IsClosed whole
-  unfolding PutsAgree TakensAgree HasNoStranger IsQuiet
+  unfolding AllAgree HasNoStranger IsQuiet
   closed wired legal puts takens known quiet = record {
     records = length-map kept (λ (r : Record). r.entries) ∙ many capacity topology kept rows shaped;
     rows = length-map rows items_of ∙ shaped.of_links;

@@ -13,7 +13,8 @@ use Rattle.hsr_tag.specs.Tag.{tag_of, tagged_spelling}
 use Rattle.hsr_redbox.specs.declared.call.About.{About}
 use Rattle.hsr_redbox.specs.declared.call.About.TheVariants.{Own, Proxied}
 use Rattle.hsr_node.specs.Copies.{address_at, asked_frame, copy_octets, life_frame, passed_octets, ports_of, side_of, written}
-use Rattle.hsr_node.specs.Flow.{Sending, sending_of, sent_by}
+use Rattle.hsr_node.specs.Flow.{sending_of, sent_by}
+use Rattle.hsr_node.specs.declared.sending.Sending.{Sending}
 use Rattle.hsr_node.specs.Record.{answer, has_port, lives, next_number, send_answer, sent_or_refused, steps}
 use Rattle.hsr_node.specs.declared.entry.Entry.{Entry}
 use Rattle.hsr_node.specs.declared.event.Event.{Event}

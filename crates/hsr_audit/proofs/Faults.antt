@@ -10,10 +10,11 @@ use Rattle.std.proofs.lemmas.List.Elements.{All-head, All-tail}
 use Rattle.std.proofs.lemmas.List.Folds.{list_any-append, list_any_none}
 use Rattle.hsr_frame.specs.Address.{IsGroup, is_group, is_same_address}
 use Rattle.hsr_node.specs.Place.{HasOwnAddress}
+use Rattle.hsr_node.specs.Station.{is_among}
 use Rattle.hsr_node.specs.declared.place.Place.{Place}
 use Rattle.hsr_node.specs.declared.place.Place.TheVariants.{Danh, RedBox, QuadBox, Station}
 use Rattle.hsr_audit.specs.Links.{fault_between, faces_wrongly, has_port, is_end_of, is_port_of, is_same_end, is_used, links_fault}
-use Rattle.hsr_audit.specs.Nodes.{has_group, has_twice, is_among, is_bad_node, ports}
+use Rattle.hsr_audit.specs.Nodes.{has_group, has_twice, is_bad_node, ports}
 use Rattle.hsr_audit.specs.Topology.{topology_fault}
 use Rattle.hsr_audit.specs.Wired.{AreAddresses, AreDifferent, AreDistinct, AreJoined, HasAddresses, HasPort, IsJoin, IsWired, ends_of}
 use Rattle.hsr_audit.specs.declared.end.End.{End}
@@ -27,7 +28,7 @@ use Rattle.hsr_audit.proofs.Wired.{wired}
 eqb_differ : (a b : ℕ) → ¬ (a ≡ b) → (a == b) ≡ false
 eqb_differ a b h = grind (arith, nat_tests)
 
-no_group : (mac : List ℕ) → ¬ IsGroup mac → is_group mac ≡ false
+pub no_group : (mac : List ℕ) → ¬ IsGroup mac → is_group mac ≡ false
 no_group mac h = eqb_differ _ 1 h
 
 none_twice : (macs : List (List ℕ)) → AreDifferent macs → has_twice macs ≡ false

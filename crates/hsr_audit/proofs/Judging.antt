@@ -6,7 +6,7 @@ use Rattle.std.proofs.lemmas.Bool.{false≢true}
 use Rattle.std.proofs.lemmas.List.{reverse-append, reverse-reverse}
 use Rattle.hsr_frame.specs.Address.{is_group, is_same_address}
 use Rattle.hsr_frame.specs.Cases.{first_of}
-use Rattle.hsr_frame.specs.Egress.{Egress, up, a, b, c, d, beyond, in_mode, nowhere, to}
+use Rattle.hsr_frame.specs.Egress.{Egress, up, a, b, c, d, beyond, in_mode, nowhere, to, has_exit}
 use Rattle.hsr_frame.specs.declared.egress.Exits.{Exits}
 use Rattle.hsr_frame.specs.declared.fault.FrameFault.{FrameFault}
 use Rattle.hsr_frame.specs.declared.node.Cause.TheVariants.{Returned}
@@ -20,7 +20,7 @@ use Rattle.hsr_duptable.specs.Key.{Key}
 use Rattle.hsr_danh.specs.Wanted as of_danh
 use Rattle.hsr_redbox.specs.Wanted.{unnumbered}
 use Rattle.hsr_redbox.specs.declared.wanted.Handling.{Handling}
-use Rattle.hsr_node.specs.Flow.{has_exit, wanted_at, wants}
+use Rattle.hsr_node.specs.Flow.{wanted_at, wants}
 use Rattle.hsr_node.specs.Record.{Noted, Owner, handling, key_in, knows, is_noted, key_handled, note_if, note_of, notes, now, probe_handled, remembered}
 use Rattle.hsr_node.specs.Step.{ring_port}
 use Rattle.hsr_node.specs.declared.entry.Entry.{Entry}

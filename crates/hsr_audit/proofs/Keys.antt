@@ -8,7 +8,8 @@ use Rattle.hsr_tag.specs.declared.seen.Seen.TheVariants.{Plain, Tagged}
 use Rattle.hsr_duptable.specs.Key.{Key}
 use Rattle.hsr_danh.specs.Step.{key_of}
 use Rattle.hsr_node.specs.Copies.{plain_in}
-use Rattle.hsr_node.specs.Flow.{Sending, arrivals, send_at}
+use Rattle.hsr_node.specs.Flow.{arrivals, send_at}
+use Rattle.hsr_node.specs.declared.sending.Sending.{Sending}
 use Rattle.hsr_node.specs.Record.{Each, Noted}
 use Rattle.hsr_node.specs.declared.event.Carried.{Carried}
 use Rattle.hsr_node.specs.declared.event.Probe.{Probe}
@@ -17,8 +18,8 @@ use Rattle.hsr_link.specs.declared.row.Row.{Row}
 use Rattle.hsr_audit.specs.Closed.{IsClosed, IsOfSend, IsSend, IsSettled, number_of}
 use Rattle.hsr_audit.specs.Once.{is_copy}
 use Rattle.hsr_audit.specs.Premises.{is_note_of}
-use Rattle.hsr_link.specs.Rows.{is_same_dir, is_taken}
-use Rattle.hsr_audit.specs.Run.{Run, past_of, place_of, rows_of, taken_copy}
+use Rattle.hsr_link.specs.Rows.{is_same_dir, is_taken, taken_copy}
+use Rattle.hsr_audit.specs.Run.{Run, past_of, place_of, rows_of}
 use Rattle.hsr_audit.specs.declared.end.End.{End}
 use Rattle.hsr_audit.proofs.Lists.{all_permutation}
 use Rattle.hsr_audit.proofs.Records.{OfArrival, each_from_ports}

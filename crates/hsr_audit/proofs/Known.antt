@@ -5,7 +5,8 @@ use Rattle.std.specs.Option.{option_and_then, option_or}
 use Rattle.std.specs.Prelude.{slice_get}
 use Rattle.std.proofs.lemmas.Bool.{cases_lt}
 use Rattle.std.proofs.lemmas.Option.{none-some}
-use Rattle.hsr_node.specs.Flow.{Sending, send_at}
+use Rattle.hsr_node.specs.Flow.{send_at}
+use Rattle.hsr_node.specs.declared.sending.Sending.{Sending}
 use Rattle.hsr_node.specs.Kept.{Record}
 use Rattle.hsr_node.specs.declared.event.Carried.{Carried}
 use Rattle.hsr_node.specs.declared.event.Probe.{Probe}

@@ -60,3 +60,5 @@ pub mod Receiving
 pub mod Keeping
 pub mod MainPass
 pub mod Marking
+pub mod Losses
+pub mod Ends

@@ -10,8 +10,8 @@ use Rattle.hsr_link.specs.declared.row.Fate.TheVariants.{Queued, Taken, LostDown
 use Rattle.hsr_link.specs.declared.row.Row.{Row}
 use Rattle.hsr_audit.specs.Closed.{IsClosed, IsOfSend, IsSettled}
 use Rattle.hsr_audit.specs.Premises.{any_lost}
-use Rattle.hsr_link.specs.Rows.{is_lost, is_queued, is_same_dir, is_taken}
-use Rattle.hsr_audit.specs.Run.{Run, ends_of, from_end, owner_of, past_of, put_copy, rows_of, taken_copy, to_end}
+use Rattle.hsr_link.specs.Rows.{is_lost, is_queued, is_same_dir, is_taken, put_copy, taken_copy}
+use Rattle.hsr_audit.specs.Run.{Run, ends_of, from_end, owner_of, past_of, rows_of, to_end}
 use Rattle.hsr_audit.specs.declared.end.End.{End}
 use Rattle.hsr_audit.proofs.Lists.{all_permutation, any_permutation}
 

@@ -137,3 +137,7 @@ filter_holds q (x ∷ xs) = go (q x) refl (filter_holds q xs)
     go : (b : Bool) → q x ≡ b → AllByRecursion (λ x. q x ≡ true) (filter q xs) → AllByRecursion (λ x. q x ≡ true) (cond b (x ∷ filter q xs) (filter q xs))
     go true e rest = (e, rest)
     go false e rest = rest
+
+pub all_implied : {X : Type 0} (P Q : X → Type 0) → ((x : X) → P x → Q x) → (xs : List X) → AllByRecursion P xs → AllByRecursion Q xs
+all_implied P Q f [] all = tt
+all_implied P Q f (x ∷ xs) all = (f x all.0, all_implied P Q f xs all.1)

@@ -7,7 +7,7 @@ use Rattle.hsr_node.specs.declared.entry.Entry.{Entry}
 use Rattle.hsr_node.specs.declared.entry.Receipt.{Receipt}
 use Rattle.hsr_audit.specs.Finished.{planned_by}
 use Rattle.hsr_audit.specs.Next.{AreFirst}
-use Rattle.hsr_audit.specs.Passes.{AreByPlan, AreMain, IsKeptNext, IsLeft, IsOver, IsToldBy, IsUpTo, left_at}
+use Rattle.hsr_audit.specs.Passes.{AreByPlan, AreMain, IsAhead, IsKeptNext, IsLeft, IsOver, IsToldBy, left_at, nodes_of}
 use Rattle.hsr_audit.specs.Receipts.{holds_of, named, planned_of}
 use Rattle.hsr_audit.specs.declared.planned.Planned.{Planned}
 use Rattle.hsr_audit.proofs.Coming.{zero_at}
@@ -38,6 +38,13 @@ none_held k n (x ∷ xs) h = by_worker (x.worker == 0) h (none_held k (n + 1) xs
     by_worker false h rest = rest h
 
 -- ---- steps
+
+-- the first n of a plan have receipts
+pub record IsUpTo (kept : List Record) (plan : List Planned) (n : ℕ) (next : List ℕ) (receipts : List Receipt) : Type 0 where
+  pub ahead : IsAhead kept next receipts
+  pub nodes : nodes_of receipts ≡ map (λ p. p.node) (take n plan)
+  pub left : IsToldBy kept plan → IsLeft kept next (drop n plan)
+  pub told : IsToldBy kept plan → map planned_of receipts ++ drop n plan ≡ plan
 
 module _ (kept : List Record) (plan : List Planned) where
   pub up_to_none : (next : List ℕ) → AreFirst (length kept) next → IsUpTo kept plan 0 next []

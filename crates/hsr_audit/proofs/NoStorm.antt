@@ -18,7 +18,7 @@ use Rattle.hsr_node.specs.declared.event.Outcome.TheVariants.{Judged}
 use Rattle.hsr_node.specs.declared.event.Probe.{Probe}
 use Rattle.hsr_node.specs.declared.place.Place.{Place}
 use Rattle.hsr_audit.specs.Closed.{IsClosed, IsOfSend}
-use Rattle.hsr_audit.specs.Once.{NoStorm, is_copy}
+use Rattle.hsr_audit.specs.Once.{IsCalm, NoStorm, is_copy}
 use Rattle.hsr_audit.specs.Premises.{NothingForgotten, NumberedFirst, is_note_of}
 use Rattle.hsr_audit.specs.Run.{Run, ends_of, from_end, is_of, owner_of, past_of}
 use Rattle.hsr_audit.proofs.Keys.{each_of_send}
@@ -234,6 +234,7 @@ leaves_once run closed first remembers k n send below =
         (noted_once run k send e (past_of run k) (legal_each run.capacity (owner_of run k) (past_of run k) (closed.legal k below)) (each_of_send run closed k below) (first k below) (remembers k below)).once
 
 pub no_storm : NoStorm
+unfolding IsCalm
 no_storm run has closed first remembers l dir send below =
     let same = sum_by-IsPermutation (λ x. cond (is_copy send x) 1 0) _ _ (closed.put l dir below) in
     let once = leaves_once run closed first remembers (from_end dir (ends_of run l)).node (from_end dir (ends_of run l)).port send (has l dir below) in

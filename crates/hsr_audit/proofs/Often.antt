@@ -1,4 +1,4 @@
--- Lists that hold each copy as often are one in another order, and the other way round: agreement in both its forms.
+-- Lists that hold each copy as often are one in another order, and the other way round.
 use Rattle.std.proofs.Common.{◌≡◌, ℕ, ◌<◌, Bool, true, cond, List, [], ◌∷◌, length, get_or, count_by, remove, IsPermutation, Option, Some, None, refl, sym, subst, arith, suc}
 use Rattle.std.specs.Str.{bytes_eq}
 use Rattle.std.proofs.lemmas.List.Folds.{Any-from_list_any}
@@ -6,10 +6,7 @@ use Rattle.std.proofs.lemmas.List.Sorted.{IsPermutation-cons, IsPermutation-refl
 use Rattle.std.proofs.lemmas.Bool.{and_from, and_parts, false≢true}
 use Rattle.hsr_node.specs.declared.event.Carried.{Carried}
 use Rattle.hsr_node.specs.declared.event.Probe.{Probe}
-use Rattle.hsr_link.specs.declared.row.Dir.{Dir}
-use Rattle.hsr_audit.specs.Closed.{PutAgrees, TakenAgrees}
-use Rattle.hsr_audit.specs.Often.{AsOften, PutAsOften, TakenAsOften, is_same_carried, is_same_probe}
-use Rattle.hsr_audit.specs.Run.{Run}
+use Rattle.hsr_audit.specs.Often.{AsOften, is_same_carried, is_same_probe}
 use Rattle.hsr_audit.proofs.Lists.{any_counted, count_more, one_if}
 use Rattle.hsr_audit.proofs.Same.{address_same, is_of_itself, probe_is, same_address}
 
@@ -106,17 +103,3 @@ by_each xs ys long all = as_often xs ys (permutation_from_counts is_same_carried
 pub each_often : (xs ys : List Carried) → AsOften xs ys → (copy : Carried) → count_by (is_same_carried copy) xs ≡ count_by (is_same_carried copy) ys
 unfolding AsOften
 each_often xs ys h = h
-
--- ---- agreement
-
-pub put_agrees : (run : Run) (l : ℕ) (dir : Dir) → PutAsOften run l dir → PutAgrees run l dir
-put_agrees run l dir h = in_order _ _ h
-
-pub taken_agrees : (run : Run) (l : ℕ) (dir : Dir) → TakenAsOften run l dir → TakenAgrees run l dir
-taken_agrees run l dir h = in_order _ _ h
-
-pub put_as_often : (run : Run) (l : ℕ) (dir : Dir) → PutAgrees run l dir → PutAsOften run l dir
-put_as_often run l dir h = as_often _ _ h
-
-pub taken_as_often : (run : Run) (l : ℕ) (dir : Dir) → TakenAgrees run l dir → TakenAsOften run l dir
-taken_as_often run l dir h = as_often _ _ h

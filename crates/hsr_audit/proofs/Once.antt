@@ -11,7 +11,8 @@ use Rattle.hsr_frame.specs.declared.node.Mode.TheVariants.{H}
 use Rattle.hsr_tag.specs.Seen.{classified}
 use Rattle.hsr_tag.specs.Tag.{untag_of}
 use Rattle.hsr_node.specs.Copies.{plain_in, up_octets}
-use Rattle.hsr_node.specs.Flow.{Sending, wants}
+use Rattle.hsr_node.specs.Flow.{wants}
+use Rattle.hsr_node.specs.declared.sending.Sending.{Sending}
 use Rattle.hsr_node.specs.Record.{Each, Owner, leaves, notes, now}
 use Rattle.hsr_node.specs.declared.entry.Entry.{Entry}
 use Rattle.hsr_node.specs.declared.event.Carried.{Carried}

@@ -16,7 +16,8 @@ use Rattle.hsr_redbox.specs.Step.{number_of}
 use Rattle.hsr_redbox.specs.Wanted.{unnumbered}
 use Rattle.hsr_redbox.specs.declared.wanted.Handling.{Handling}
 use Rattle.hsr_node.specs.Copies.{as_came}
-use Rattle.hsr_node.specs.Flow.{Sending, pass_of, passes, sent_by}
+use Rattle.hsr_node.specs.Flow.{pass_of, passes, sent_by}
+use Rattle.hsr_node.specs.declared.sending.Sending.{Sending}
 use Rattle.hsr_node.specs.Record.{Each, Noted, Owner, answer, leaves, next_number, note_of, notes, now, probe_handled}
 use Rattle.hsr_node.specs.Step.{ring_port}
 use Rattle.hsr_node.specs.declared.entry.Entry.{Entry}

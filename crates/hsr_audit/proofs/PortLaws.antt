@@ -4,7 +4,7 @@ use Rattle.std.specs.Prelude.{option_map}
 use Rattle.std.proofs.lemmas.Bool.{false≢true}
 use Rattle.hsr_frame.specs.Address.{is_group, is_same_address}
 use Rattle.hsr_frame.specs.Cases.{first_of}
-use Rattle.hsr_frame.specs.Egress.{Egress, up, a, b, c, d, nowhere, to}
+use Rattle.hsr_frame.specs.Egress.{Egress, up, a, b, c, d, nowhere, to, has_exit}
 use Rattle.hsr_frame.specs.Grammar.{Fields}
 use Rattle.hsr_frame.specs.declared.egress.Exits.{Exits}
 use Rattle.hsr_frame.specs.declared.fault.FrameFault.{FrameFault}
@@ -22,7 +22,6 @@ use Rattle.hsr_redbox.specs.declared.wanted.Handling.{Handling}
 use Rattle.hsr_quadbox.specs.Wanted as of_quadbox
 use Rattle.hsr_quadbox.specs.declared.wanted.QuadPort.{QuadPort}
 use Rattle.hsr_node.specs.Copies.{plain_in}
-use Rattle.hsr_node.specs.Flow.{has_exit}
 use Rattle.hsr_node.specs.Record.{Noted, Owner, answer, box_handling, handling, has_left, is_noted, judged_as, key_handled, key_in, leaves, next_number, note_if, note_of, noted_on, now, passing, ports, probe_handled, remembers, station_wanted}
 use Rattle.hsr_node.specs.Station.{is_among}
 use Rattle.hsr_node.specs.Step.{box_port, quad_port, ring_port}

@@ -1,11 +1,13 @@
 -- What is asked of nodes and links, and of all places of all records, and what it is to be a ring without a doubt.
-use Rattle.std.proofs.Common.{◌≡◌, ℕ, ◌+◌, ◌%◌, ◌<◌, ◌==◌, ◌&&◌, Bool, true, false, List, [], ◌∷◌, length, map, filter_map, take, slice_index_or, refl, sym, ap, ◌∙◌, subst, arith, zero, suc, inl, inr, ⊎_elim, eqb-true, eq-eqb}
+use Rattle.std.proofs.Common.{◌≡◌, ℕ, ◌+◌, ◌%◌, ◌<◌, ◌&&◌, Bool, true, List, [], ◌∷◌, length, map, filter_map, take, slice_index_or, refl, sym, ap, ◌∙◌, subst, arith, zero, suc, inl, inr, ⊎_elim}
 use Rattle.std.specs.List.{list_all}
 use Rattle.std.proofs.lemmas.Bool.{and_from, and_parts, cases_Bool, cases_lt, false≢true, or_cases, or_left, or_right}
 use Rattle.hsr_frame.specs.declared.node.Mode.TheVariants.{H, N}
 use Rattle.hsr_link.specs.declared.row.Dir.TheVariants.{Forth, Back}
 use Rattle.hsr_node.specs.declared.place.Place.{Place}
 use Rattle.hsr_node.specs.declared.place.Place.TheVariants.{Danh, RedBox, QuadBox, Station}
+use Rattle.hsr_audit.proofs.Ends.{end_is, end_same}
+use Rattle.hsr_audit.proofs.Faults.{no_group}
 use Rattle.hsr_audit.specs.Doubts.{AreInModeH, HaveOwnAddresses, IsDanhRing, is_danh, is_in_mode_h, mac_of, macs_of}
 use Rattle.hsr_audit.specs.Links.{is_same_end}
 use Rattle.hsr_audit.specs.Premises.{IsRing, Joins, mac_at}
@@ -14,8 +16,7 @@ use Rattle.hsr_audit.specs.Run.{Run, ends_of, from_end, place_of}
 use Rattle.hsr_audit.specs.declared.end.End.{End}
 use Rattle.std.proofs.lemmas.List.{length-map}
 use Rattle.std.proofs.lemmas.List.Elements.{All-get_or}
-use Rattle.std.specs.Prelude.{slice_index}
-use Rattle.hsr_frame.specs.Address.{IsGroup, is_group, is_same_address}
+use Rattle.hsr_frame.specs.Address.{is_same_address}
 use Rattle.hsr_node.specs.Place.{HasOwnAddress}
 use Rattle.hsr_audit.specs.Wired.{IsWired}
 use Rattle.hsr_audit.proofs.Same.{address_same, same_address}
@@ -65,23 +66,14 @@ addresses_are (Station macs ∷ ps) h = absurd (false≢true h)
 
 -- ---- links
 
-same_end : (a b : End) → is_same_end a b ≡ true → a ≡ b
-same_end a b h = let parts = and_parts (a.node == b.node) (a.port == b.port) h in
-    let node = eqb-true a.node b.node parts.0 in
-    let port = eqb-true a.port b.port parts.1 in
-    λ i. record { node = node i; port = port i }
-
-end_same : (a b : End) → a ≡ b → is_same_end a b ≡ true
-end_same a b e = and_from (a.node == b.node) (a.port == b.port) (eq-eqb a.node b.node (ap (λ (x : End). x.node) e)) (eq-eqb a.port b.port (ap (λ (x : End). x.port) e))
-
 end_at : ℕ → ℕ → End
 end_at node port = record { node = node; port = port }
 
 joins_so : (ends : List End) (k next : ℕ) → is_joint ends k next ≡ true → Joins ends k next
 joins_so ends k next h =
     ⊎_elim
-    (λ forth. let parts = and_parts _ _ forth in inl (same_end (from_end Forth ends) (record { node = k; port = 1 }) parts.0, same_end (from_end Back ends) (record { node = next; port = 0 }) parts.1))
-    (λ back. let parts = and_parts _ _ back in inr (same_end (from_end Forth ends) (record { node = next; port = 0 }) parts.0, same_end (from_end Back ends) (record { node = k; port = 1 }) parts.1))
+    (λ forth. let parts = and_parts _ _ forth in inl (end_is (from_end Forth ends) (record { node = k; port = 1 }) parts.0, end_is (from_end Back ends) (record { node = next; port = 0 }) parts.1))
+    (λ back. let parts = and_parts _ _ back in inr (end_is (from_end Forth ends) (record { node = next; port = 0 }) parts.0, end_is (from_end Back ends) (record { node = k; port = 1 }) parts.1))
     (or_cases (is_same_end (from_end Forth ends) (record { node = k; port = 1 }) && is_same_end (from_end Back ends) (record { node = next; port = 0 }))
     (is_same_end (from_end Forth ends) (record { node = next; port = 0 }) && is_same_end (from_end Back ends) (record { node = k; port = 1 })) h)
 
@@ -172,9 +164,6 @@ differ_of_own run own k d below = ⊎_elim (λ again. absurd (clash again)) (λ 
         omega (arith, low, same)
 
 -- ---- a ring, and a ring of DANHs in mode H with addresses of their own
-
-no_group : (mac : List ℕ) → ¬ IsGroup mac → is_group mac ≡ false
-no_group mac h = ⊎_elim (λ yes. absurd (h (eqb-true (slice_index mac 0 % 2) 1 yes))) (λ no. no) (cases_Bool (is_group mac))
 
 pub danh_at : (run : Run) → IsDanhRing run → AreInModeH run → (k : ℕ) → k < length run.places → place_of run k ≡ Danh (mac_at (macs_of run.places) k) H
 danh_at run ring modes k below = place_is (place_of run k) (ring.danhs k below) (modes k below) ∙ ap (λ mac. Danh mac H) (sym (mac_is run k))

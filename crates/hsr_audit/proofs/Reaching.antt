@@ -1,15 +1,16 @@
 -- How far workers' receipts come, one pass after another; and the entries that are left.
-use Rattle.std.proofs.Common.{◌≡◌, ◌↔◌, ℕ, ◌+◌, ◌<◌, ◌&&◌, zero, suc, ◌==◌, ◌-◌, cond, Bool, true, false, List, [], ◌∷◌, ◌++◌, length, drop, get_or, set, Vec, refl, sym, ap, ◌∙◌, subst, arith, ⊎_elim}
+use Rattle.std.proofs.Common.{◌≡◌, ◌↔◌, ℕ, ◌+◌, ◌<◌, ◌&&◌, zero, suc, ◌==◌, ◌-◌, cond, Bool, true, false, List, [], ◌∷◌, ◌++◌, length, drop, get_or, set, Vec, refl, sym, ap, ◌∙◌, subst, arith, ⊎_elim, ◌≤◌}
 use Rattle.std.specs.Global.{Global}
 use Rattle.std.specs.List.{AllByRecursion}
 use Rattle.std.proofs.lemmas.Bool.{and_cases, and_parts, cases_Bool, cases_eq}
 use Rattle.std.proofs.lemmas.List.{get_or-drop, get_or-set_other, get_or-set_same, length-drop, length-set}
+use Rattle.std.specs.Prelude.{slice_index_or}
 use Rattle.hsr_node.specs.Kept.{Receipts, Record}
 use Rattle.hsr_node.specs.declared.entry.Entry.{Entry}
 use Rattle.hsr_node.specs.declared.entry.Receipt.{Receipt}
 use Rattle.hsr_audit.specs.Next.{AreFirst, AreNext, holds_from}
 use Rattle.hsr_audit.specs.Passes.{receipts_of}
-use Rattle.hsr_audit.specs.Reached.{AllFollow, AreTold, Follows, AreUsedUp, IsMarked, IsPassed, IsStart}
+use Rattle.hsr_audit.specs.Reached.{AllFollow, AreTold, Follows, AreUsedUp, IsMarked, IsStart}
 use Rattle.hsr_audit.specs.Receipts.{holds_of}
 use Rattle.hsr_audit.specs.declared.reached.Reached.{Reached}
 use Rattle.hsr_audit.proofs.Coming.{kept_first}
@@ -102,6 +103,10 @@ marked_as P Q a b alike h = record {
 }
 
 -- ---- what is left of a record
+
+-- no entry of a worker stands from a place on and before another
+abbrev pub IsPassed : List Entry → ℕ → ℕ → ℕ → Type 0
+IsPassed entries w from end = (p : ℕ) (d : Entry) → p < end → from ≤ p → (slice_index_or entries p d).worker ≡ w → ⊥
 
 none_held : (w n : ℕ) (xs : List Entry) → ((p : ℕ) (d : Entry) → p < length xs → (get_or xs p d).worker ≡ w → ⊥) → holds_of w n xs ≡ []
 none_held w n [] h = refl

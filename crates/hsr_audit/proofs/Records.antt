@@ -7,7 +7,8 @@ use Rattle.hsr_frame.specs.Address.{is_group}
 use Rattle.hsr_frame.specs.Egress.{Egress}
 use Rattle.hsr_frame.specs.Grammar.{Fields}
 use Rattle.hsr_node.specs.Copies.{asked_frame, frame_of}
-use Rattle.hsr_node.specs.Flow.{Sending, arrivals, copy_at, send_at, sending_of, sent_by}
+use Rattle.hsr_node.specs.Flow.{arrivals, copy_at, send_at, sending_of, sent_by}
+use Rattle.hsr_node.specs.declared.sending.Sending.{Sending}
 use Rattle.hsr_node.specs.Record.{Each, IsLegal, Noted, Owner, answer, notes, now, remembered}
 use Rattle.hsr_node.specs.declared.entry.Entry.{Entry}
 use Rattle.hsr_node.specs.declared.event.Carried.{Carried}

@@ -5,7 +5,7 @@ use Rattle.std.specs.Prelude.{option_map}
 use Rattle.std.proofs.lemmas.Bool.{false≢true}
 use Rattle.hsr_frame.specs.Address.{is_group, is_same_address}
 use Rattle.hsr_frame.specs.Cases.{first_of}
-use Rattle.hsr_frame.specs.Egress.{Egress, up, a, b, beyond, in_mode, nowhere, to}
+use Rattle.hsr_frame.specs.Egress.{Egress, up, a, b, beyond, in_mode, nowhere, to, has_exit}
 use Rattle.hsr_frame.specs.declared.node.Cause.TheVariants.{Returned}
 use Rattle.hsr_frame.specs.declared.node.Mode.TheVariants.{H}
 use Rattle.hsr_frame.specs.declared.node.RingPort.{RingPort}
@@ -14,7 +14,7 @@ use Rattle.hsr_tag.specs.Tag.{TaggedFields}
 use Rattle.hsr_tag.specs.declared.seen.Seen.TheVariants.{Tagged}
 use Rattle.hsr_danh.specs.Wanted as of_danh
 use Rattle.hsr_redbox.specs.Wanted.{unnumbered}
-use Rattle.hsr_node.specs.Flow.{has_exit, wanted_at, wants}
+use Rattle.hsr_node.specs.Flow.{wanted_at, wants}
 use Rattle.hsr_node.specs.Step.{ring_port}
 use Rattle.hsr_node.specs.declared.place.Place.TheVariants.{Danh}
 use Rattle.hsr_audit.proofs.Danh.{RingExit, by_a, by_b, egress, exit_port}

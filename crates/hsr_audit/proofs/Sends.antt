@@ -7,7 +7,8 @@ use Rattle.hsr_frame.specs.declared.node.Mode.TheVariants.{H}
 use Rattle.hsr_tag.specs.Tag.{tag_of, tagged_spelling}
 use Rattle.hsr_tag.specs.declared.seen.Seen.TheVariants.{Tagged}
 use Rattle.hsr_node.specs.Copies.{as_came}
-use Rattle.hsr_node.specs.Flow.{Sending, pass_of, passes, send_at, sent_by}
+use Rattle.hsr_node.specs.Flow.{pass_of, passes, send_at, sent_by}
+use Rattle.hsr_node.specs.declared.sending.Sending.{Sending}
 use Rattle.hsr_node.specs.Record.{Each, Owner, answer, leaves, now, probe_handled}
 use Rattle.hsr_node.specs.declared.entry.Entry.{Entry}
 use Rattle.hsr_node.specs.declared.event.Carried.{Carried}

@@ -2,7 +2,7 @@
 use Rattle.std.proofs.Common.{◌≡◌, ◌⊎◌, inl, inr, ℕ, ◌<◌, ◌==◌, zero, suc, true, false, cond, List, [], ◌∷◌, length, get_or, reverse, slice_index_or, Option, Some, None, Vec, refl, sym, ap, ◌∙◌, subst, arith, ⊎_elim, eqb-true}
 use Rattle.std.specs.Global.{Global}
 use Rattle.std.specs.List.{cons_option, AllByRecursion}
-use Rattle.std.proofs.lemmas.Bool.{false≢true, and_parts, or_cases, cases_Bool}
+use Rattle.std.proofs.lemmas.Bool.{false≢true, or_cases, cases_Bool}
 use Rattle.std.proofs.lemmas.List.{get_or-map, length-map}
 use Rattle.std.proofs.lemmas.List.Elements.{recursion_from_All}
 use Rattle.hsr_node.specs.Flow.{arrivals, copy_at}
@@ -16,12 +16,13 @@ use Rattle.hsr_node.specs.declared.place.Place.TheVariants.{QuadBox}
 use Rattle.hsr_link.specs.declared.row.Dir.{Dir}
 use Rattle.hsr_link.specs.declared.row.Dir.TheVariants.{Forth, Back}
 use Rattle.hsr_link.specs.declared.row.Row.{Row}
+use Rattle.hsr_audit.proofs.Ends.{end_is}
 use Rattle.hsr_audit.specs.Closed.{HasLink}
 use Rattle.hsr_audit.specs.Finished.{run_of}
 use Rattle.hsr_audit.specs.InOrder.{came}
 use Rattle.hsr_audit.specs.Links.{is_end_of, is_same_end, is_used}
 use Rattle.hsr_audit.specs.Run as run
-use Rattle.hsr_audit.specs.Run.{Run, ends_of, from_end, rows_of, to_end}
+use Rattle.hsr_audit.specs.Run.{Run, from_end, to_end}
 use Rattle.hsr_audit.specs.Shape.{AreLinked, IsShaped, is_linked}
 use Rattle.hsr_audit.specs.Topology.{Topology}
 use Rattle.hsr_audit.specs.Wired.{IsJoin, IsWired}
@@ -75,13 +76,6 @@ module _ (capacity : ℕ) (topology : Topology) (kept : List Record) (rows : Lis
 
 -- ---- links where something came
 
-same_end : (a b : End) → is_same_end a b ≡ true → b ≡ a
-same_end a b h =
-    let parts = and_parts (a.node == b.node) (a.port == b.port) h in
-    let node = eqb-true a.node b.node parts.0 in
-    let port = eqb-true a.port b.port parts.1 in
-    λ i. record { node = sym node i; port = sym port i }
-
 -- a link and a direction in which it leads to an end
 abbrev LeadsTo : List (List End) → End → Type 0
 LeadsTo links end = (l : ℕ) × (dir : Dir) × (l < length links) × (to_end dir (slice_index_or links l []) ≡ end)
@@ -90,8 +84,8 @@ leads_in : (places : List Place) (link : List End) (links : List (List End)) (en
 leads_in places [] links end h is = elim h [ ]
 leads_in places (a ∷ []) links end h is = elim h [ ]
 leads_in places (a ∷ b ∷ []) links end h is =
-    ⊎_elim (λ first. (0, Back, omega arith, same_end end a first))
-    (λ other. ⊎_elim (λ second. (0, Forth, omega arith, same_end end b second)) (λ none. absurd (false≢true none)) (or_cases (is_same_end end b) false other))
+    ⊎_elim (λ first. (0, Back, omega arith, sym (end_is end a first)))
+    (λ other. ⊎_elim (λ second. (0, Forth, omega arith, sym (end_is end b second))) (λ none. absurd (false≢true none)) (or_cases (is_same_end end b) false other))
     (or_cases (is_same_end end a) (is_end_of end (b ∷ [])) is)
 leads_in places (a ∷ b ∷ c ∷ ends) links end h is = elim h [ ]
 

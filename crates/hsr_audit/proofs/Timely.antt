@@ -4,7 +4,8 @@ use Rattle.std.specs.List.{list_any, AllByRecursion, cons_option}
 use Rattle.std.proofs.lemmas.List.Folds.{list_any-append}
 use Rattle.std.proofs.lemmas.Bool.{or_left, or_right, and_from, false≢true, cases_eq, cond-true, cond-false}
 use Rattle.hsr_frame.specs.Egress.{Egress}
-use Rattle.hsr_node.specs.Flow.{Sending, send_at, sent_by}
+use Rattle.hsr_node.specs.Flow.{send_at, sent_by}
+use Rattle.hsr_node.specs.declared.sending.Sending.{Sending}
 use Rattle.hsr_node.specs.Record.{Each, Noted, Owner, answer, is_noted, notes, now, probe_handled}
 use Rattle.hsr_node.specs.declared.entry.Entry.{Entry}
 use Rattle.hsr_node.specs.declared.event.Event.{Event}

@@ -1,7 +1,7 @@
 -- What an answer tells, so that nobody else has to look into it.
 use Rattle.std.proofs.Common.{◌≡◌, ℕ, ◌^◌, ◌==◌, Bool, true, false, not, ◌&&◌, if◌then◌else◌, List, Option, Some, None, Result, Ok, Err, refl, sym, ap, ◌∙◌}
 use Rattle.std.proofs.lemmas.Bool.{and_parts}
-use Rattle.hsr_frame.specs.Egress.{Egress, up, a, b, c, d}
+use Rattle.hsr_frame.specs.Egress.{Egress, up, a, b, c, d, has_exit}
 use Rattle.hsr_frame.specs.declared.egress.Exits.{Exits}
 use Rattle.hsr_frame.specs.declared.fault.FrameFault.{FrameFault}
 use Rattle.hsr_tag.specs.Seen.{classified}
@@ -11,7 +11,7 @@ use Rattle.hsr_tag.specs.declared.seen.Seen.TheVariants.{Plain, Tagged}
 use Rattle.hsr_duptable.specs.Key.{Key}
 use Rattle.hsr_danh.specs.Step.{key_of}
 use Rattle.hsr_redbox.specs.declared.wanted.Handling.{Handling}
-use Rattle.hsr_node.specs.Flow.{has_exit, wants, wanted_at}
+use Rattle.hsr_node.specs.Flow.{wants, wanted_at}
 use Rattle.hsr_node.specs.Record.{Owner, answer, arrive_answer, handling, judged_as, knows, leaves, next_number, passing, remembers, steps}
 use Rattle.hsr_node.specs.declared.entry.Entry.{Entry}
 use Rattle.hsr_node.specs.declared.event.Carried.{Carried}

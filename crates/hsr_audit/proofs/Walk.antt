@@ -8,7 +8,8 @@ use Rattle.hsr_frame.specs.Grammar.{Fields}
 use Rattle.hsr_frame.specs.declared.node.Mode.TheVariants.{H}
 use Rattle.hsr_tag.specs.Tag.{TaggedFields, untag_of}
 use Rattle.hsr_tag.specs.declared.seen.Seen.TheVariants.{Tagged}
-use Rattle.hsr_node.specs.Flow.{Sending, arrivals, passes, send_at, wants}
+use Rattle.hsr_node.specs.Flow.{arrivals, passes, send_at, wants}
+use Rattle.hsr_node.specs.declared.sending.Sending.{Sending}
 use Rattle.hsr_node.specs.Record.{Each, Owner, notes, now}
 use Rattle.hsr_node.specs.declared.event.Carried.{Carried}
 use Rattle.hsr_node.specs.declared.event.Probe.{Probe}

@@ -5,7 +5,7 @@ use Rattle.std.proofs.lemmas.Bool.{false≢true}
 use Rattle.hsr_frame.specs.Address.{is_group, is_same_address, supervision_address}
 use Rattle.hsr_supervision.specs.Payload as payload
 use Rattle.hsr_frame.specs.Cases.{first_of}
-use Rattle.hsr_frame.specs.Egress.{Egress, up, a, b, c, d, beyond, in_mode, is_supervision, nowhere, to}
+use Rattle.hsr_frame.specs.Egress.{Egress, up, a, b, c, d, beyond, in_mode, is_supervision, nowhere, to, has_exit}
 use Rattle.hsr_frame.specs.Grammar.{Fields}
 use Rattle.hsr_frame.specs.declared.egress.Wants.{Wants}
 use Rattle.hsr_frame.specs.declared.node.Mode.{Mode}
@@ -26,7 +26,8 @@ use Rattle.hsr_redbox.specs.declared.wanted.Handling.{Handling}
 use Rattle.hsr_quadbox.specs.Wanted as of_quadbox
 use Rattle.hsr_quadbox.specs.declared.wanted.QuadPort.{QuadPort}
 use Rattle.hsr_node.specs.Copies.{address_at, asked_frame, life_frame, life_said, ring_address}
-use Rattle.hsr_node.specs.Flow.{Sending, has_exit, send_at, sent_by, wanted_at, wants}
+use Rattle.hsr_node.specs.Flow.{send_at, sent_by, wanted_at, wants}
+use Rattle.hsr_node.specs.declared.sending.Sending.{Sending}
 use Rattle.hsr_node.specs.Record.{box_handling, handling}
 use Rattle.hsr_node.specs.Step.{box_port, quad_port, ring_port}
 use Rattle.hsr_node.specs.declared.entry.Entry.{Entry}

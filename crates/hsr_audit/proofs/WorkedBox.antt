@@ -1,6 +1,6 @@
 -- A run with a RedBox that is all that the laws ask for: its Station sends to a DANH on the ring, which takes the first of
 -- two copies up.
-use Rattle.std.proofs.Common.{◌≡◌, ◌⊎◌, ℕ, ◌+◌, ◌<◌, ◌≤◌, ◌==◌, Bool, true, false, List, [], ◌∷◌, length, if◌then◌else◌, Option, Some, None, Result, Ok, IsPermutation, filter_map, refl, sym, ap, ◌∙◌, arith, inl, inr, zero, suc, ne_eqb, count_by, ⊎_elim}
+use Rattle.std.proofs.Common.{◌≡◌, ◌⊎◌, ℕ, ◌+◌, ◌<◌, ◌≤◌, ◌==◌, Bool, true, false, [], ◌∷◌, if◌then◌else◌, Some, None, Ok, refl, sym, ap, ◌∙◌, arith, inl, inr, zero, suc, ne_eqb, count_by, ⊎_elim}
 use Rattle.std.specs.List.{list_any, AllByRecursion, cons_option}
 use Rattle.std.proofs.lemmas.List.Sorted.{IsPermutation-refl}
 use Rattle.std.proofs.lemmas.Bool.{cases_Bool, false≢true}
@@ -11,13 +11,11 @@ use Rattle.hsr_tag.specs.Seen.{classified}
 use Rattle.hsr_tag.specs.Tag.{TaggedFields, tag_of, tagged_spelling}
 use Rattle.hsr_tag.specs.declared.seen.Seen.TheVariants.{Plain, Tagged}
 use Rattle.hsr_node.specs.Copies.{copy_octets, passed_octets}
-use Rattle.hsr_node.specs.Flow.{Sending, arrivals}
+use Rattle.hsr_node.specs.Flow.{arrivals}
+use Rattle.hsr_node.specs.declared.sending.Sending.{Sending}
 use Rattle.hsr_node.specs.Record.{Each, IsLegal, now}
-use Rattle.hsr_node.specs.declared.entry.Entry.{Entry}
 use Rattle.hsr_node.specs.declared.event.Carried.{Carried}
-use Rattle.hsr_node.specs.declared.event.Event.{Event}
 use Rattle.hsr_node.specs.declared.event.Event.TheVariants.{Send, Arrive}
-use Rattle.hsr_node.specs.declared.event.Outcome.{Outcome}
 use Rattle.hsr_node.specs.declared.event.Outcome.TheVariants.{Sent, Judged}
 use Rattle.hsr_node.specs.declared.event.Probe.{Probe}
 use Rattle.hsr_node.specs.declared.place.Place.TheVariants.{Danh, RedBox, Station}
@@ -33,7 +31,7 @@ use Rattle.hsr_audit.specs.Run.{Run, given, owner_of, past_of, rows_of}
 use Rattle.hsr_audit.specs.declared.end.End.{End}
 use Rattle.hsr_audit.proofs.InBudget.{budget_keeps}
 use Rattle.hsr_audit.proofs.Lists.{count_more, one_if, zero_if}
-use Rattle.hsr_audit.proofs.Worked.{far, mac}
+use Rattle.hsr_audit.proofs.Worked.{entry, far, mac, nothing_far}
 
 abbrev frame : Fields
 frame = record { dst = mac 1; src = mac 10; vlan = None; kind = 0x0800; rest = 0xAA ∷ 0xBB ∷ [] }
@@ -47,9 +45,6 @@ copy path = record { probe = Some first; octets = tagged_spelling (tag_of frame 
 
 abbrev plain : Carried
 plain = record { probe = Some first; octets = spelling frame }
-
-abbrev entry : Event → Outcome → Entry
-entry event outcome = record { worker = 0; at = 0; event = event; outcome = outcome }
 
 abbrev row : Dir → Carried → Row
 row dir carried = record { dir = dir; carried = carried; injected = false; fate = Taken }
@@ -136,11 +131,6 @@ taken_at (suc zero) Back h = IsPermutation-refl []
 taken_at (suc (suc zero)) Forth h = IsPermutation-refl []
 taken_at (suc (suc zero)) Back h = IsPermutation-refl (plain ∷ [])
 taken_at (suc (suc (suc l))) dir h = absurd (omega arith)
-
-nothing_far : (p q : Bool) (x y : Carried) → p ≡ false → q ≡ false → cons_option (if p then Some x else None) (cons_option (if q then Some y else None) []) ≡ []
-nothing_far false false x y e f = refl
-nothing_far true q x y e f = absurd (false≢true (sym e))
-nothing_far false true x y e f = absurd (false≢true (sym f))
 
 nothing_else : (p : Bool) (x : Carried) → p ≡ false → cons_option (if p then Some x else None) [] ≡ []
 nothing_else false x e = refl

@@ -15,8 +15,9 @@ use Rattle.hsr_tag.specs.Seen.{classified}
 use Rattle.hsr_tag.specs.Tag.{TaggedFields, tag_of}
 use Rattle.hsr_tag.specs.declared.seen.Seen.TheVariants.{Tagged}
 use Rattle.hsr_node.specs.Copies.{copy_octets, passed_octets, plain_in}
+use Rattle.hsr_node.specs.Counts.{counters}
 use Rattle.hsr_node.specs.Flow.{arrivals}
-use Rattle.hsr_node.specs.Record.{Each, IsLegal, Noted, Owner, counters, notes, now, remembered}
+use Rattle.hsr_node.specs.Record.{Each, IsLegal, Noted, Owner, notes, now, remembered}
 use Rattle.hsr_node.specs.declared.entry.Entry.{Entry}
 use Rattle.hsr_node.specs.declared.event.Carried.{Carried}
 use Rattle.hsr_node.specs.declared.event.Event.{Event}

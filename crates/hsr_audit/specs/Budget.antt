@@ -3,8 +3,9 @@
 --     BudgetKeeps    within budget nothing is forgotten
 --     BudgetTells    within budget a ring mistakes nothing
 --     OnceInBudget   within budget a ring delivers exactly once
-use Rattle.std.specs.Prelude.{ℕ, zero, suc, ◌+◌, ◌<◌, ◌≤◌, ◌≡◌, ◌==◌, ◌&&◌, nat_lt, nat_le, Bool, true, false, if◌then◌else◌, List, [], ◌∷◌, ◌++◌, length, count_by, Option, Some, None}
+use Rattle.std.specs.Prelude.{ℕ, zero, suc, ◌+◌, ◌<◌, ◌≤◌, ◌≡◌, ◌==◌, ◌&&◌, nat_lt, nat_le, Bool, true, false, if◌then◌else◌, List, [], ◌∷◌, ◌++◌, length, count_by, Option, Some, None, ◌*◌}
 use Rattle.std.specs.List.{list_any, cons_option}
+use Rattle.hsr_duptable.specs.Notes.{entry_forget}
 use Rattle.hsr_node.specs.Record.{Each, now}
 use Rattle.hsr_node.specs.declared.entry.Entry.{Entry}
 use Rattle.hsr_node.specs.declared.event.Event.{Event}
@@ -54,7 +55,7 @@ moment_of run send = moment_at send.place (past_of run send.node)
 
 -- an arrival comes before its send would be forgotten
 abbrev pub IsInTime : Run → ℕ → Event → Type 0
-IsInTime run at (Arrive port copy) = (send : Probe) → copy.probe ≡ Some send → (moment_of run send ≤ at) × (at < moment_of run send + 400)
+IsInTime run at (Arrive port copy) = (send : Probe) → copy.probe ≡ Some send → (moment_of run send ≤ at) × (at < moment_of run send + entry_forget)
 IsInTime run at event = Unit {0}
 
 abbrev pub is_within : ℕ → ℕ → Sent → Bool
@@ -64,7 +65,7 @@ is_within start width sent = nat_le start sent.moment && nat_lt sent.moment (sta
 -- from any send on, there are no more than a table has entries.
 pub record IsBudgetHeld (run : Run) : Type 0 where
   pub in_time : (k : ℕ) → k < length run.places → Each (λ x past. IsInTime run (now (x ∷ past)) x.event) (past_of run k)
-  pub not_crowded : (start : ℕ) → list_any (λ sent. sent.moment == start) (sends_of run) ≡ true → count_by (is_within start 800) (sends_of run) ≤ run.capacity
+  pub not_crowded : (start : ℕ) → list_any (λ sent. sent.moment == start) (sends_of run) ≡ true → count_by (is_within start (2 * entry_forget)) (sends_of run) ≤ run.capacity
 
 -- Within budget nothing is forgotten that is needed.
 abbrev pub BudgetKeeps : Type 0

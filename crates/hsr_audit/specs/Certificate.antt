@@ -4,7 +4,8 @@
 use Rattle.std.specs.Prelude.{ℕ, zero, suc, ◌≡◌, List, [], ◌∷◌, ◌++◌, length, filter, Option, option_map}
 use Rattle.std.specs.List.{cons_option, range_with_len}
 use Rattle.hsr_frame.specs.Grammar.{Fields}
-use Rattle.hsr_node.specs.Flow.{Sending, sent_by}
+use Rattle.hsr_node.specs.Flow.{sent_by}
+use Rattle.hsr_node.specs.declared.sending.Sending.{Sending}
 use Rattle.hsr_node.specs.Record.{Owner}
 use Rattle.hsr_node.specs.declared.entry.Entry.{Entry}
 use Rattle.hsr_node.specs.declared.event.Probe.{Probe}

@@ -1,25 +1,27 @@
 -- When the parts of a run agree, and the first cause where they don't.
 --     Agrees       agreement of all
+--     IsOpen       why a run isn't closed
 --     IsFirst      a cause, with nothing before it
 --     HasNoStorm   no direction of a link carried two copies of one send
-use Rattle.std.specs.Prelude.{ℕ, ◌<◌, ◌≤◌, ◌≡◌, Bool, true, false, List, length, count_by, filter_map, slice_index_or, Vec, ⊤}
+use Rattle.std.specs.Prelude.{ℕ, ◌<◌, ◌≡◌, Bool, true, false, List, length, slice_index_or, Vec, ⊤}
 use Rattle.std.specs.Global.{Global}
 use Rattle.std.specs.List.{list_any}
 use Rattle.hsr_node.specs.Kept.{Receipts, Record, owner_of, past_of}
 use Rattle.hsr_node.specs.Record.{IsLegal}
-use Rattle.hsr_node.specs.declared.event.Probe.{Probe}
 use Rattle.hsr_link.specs.Rows.{is_queued}
 use Rattle.hsr_link.specs.declared.row.Dir.{Dir}
 use Rattle.hsr_link.specs.declared.row.Dir.TheVariants.{Forth, Back}
 use Rattle.hsr_link.specs.declared.row.Row.{Row}
 use Rattle.hsr_audit.specs.Closed.{IsClosed, IsOfSend, PutAgrees, TakenAgrees}
 use Rattle.hsr_audit.specs.Finished.{run_of}
-use Rattle.hsr_audit.specs.Once.{is_copy}
-use Rattle.hsr_audit.specs.Premises.{HasNoRedBox, NothingForgotten}
+use Rattle.hsr_audit.specs.Once.{IsCalm}
+use Rattle.hsr_audit.specs.Premises.{HasNoRedBox}
 use Rattle.hsr_audit.specs.Receipts.{HasReceipts, IsFirstWrong}
-use Rattle.hsr_audit.specs.Run.{Run, put_copy, rows_of}
+use Rattle.hsr_audit.specs.Run.{Run, rows_of}
 use Rattle.hsr_audit.specs.Shape.{IsShaped}
 use Rattle.hsr_audit.specs.Topology.{Topology}
+use Rattle.hsr_audit.specs.declared.agreement.Told.{Told}
+use Rattle.hsr_audit.specs.declared.agreement.Told.TheVariants.{Put, Taken}
 use Rattle.hsr_audit.specs.declared.disagree.CheckFault.{CheckFault}
 use Rattle.hsr_audit.specs.declared.disagree.CheckFault.TheVariants as fault
 use Rattle.hsr_audit.specs.declared.disagree.Disagree.{Disagree}
@@ -35,25 +37,33 @@ AreLegal capacity kept n = (k : ℕ) (d : Record) → k < n → IsLegal capacity
 
 -- ---- links and records
 
--- the first n links agree with the records, both ways
-unfoldable pub PutsAgree : Run → ℕ → Type 0
-PutsAgree run n = (l : ℕ) (dir : Dir) → l < n → PutAgrees run l dir
+-- what was put on a link in a direction agrees with the record of the node there, or what was taken
+abbrev pub ToldAgrees : Told → Run → ℕ → Dir → Type 0
+ToldAgrees Put = PutAgrees
+ToldAgrees Taken = TakenAgrees
 
-unfoldable pub TakensAgree : Run → ℕ → Type 0
-TakensAgree run n = (l : ℕ) (dir : Dir) → l < n → TakenAgrees run l dir
+-- on the first n links, both ways
+unfoldable pub AllAgree : Told → Run → ℕ → Type 0
+AllAgree which run n = (l : ℕ) (dir : Dir) → l < n → ToldAgrees which run l dir
 
--- the lowest link that doesn't, Forth before Back
-pub record IsFirstPut (run : Run) (l : ℕ) (dir : Dir) : Type 0 where
+-- the lowest link on which it doesn't, Forth before Back
+pub record IsFirstOther (which : Told) (run : Run) (l : ℕ) (dir : Dir) : Type 0 where
   pub below : l < length run.links
-  pub here : ¬ PutAgrees run l dir
-  pub forth_first : dir ≡ Back → PutAgrees run l Forth
-  pub before : PutsAgree run l
+  pub here : ¬ ToldAgrees which run l dir
+  pub forth_first : dir ≡ Back → ToldAgrees which run l Forth
+  pub before : AllAgree which run l
 
-pub record IsFirstTaken (run : Run) (l : ℕ) (dir : Dir) : Type 0 where
-  pub below : l < length run.links
-  pub here : ¬ TakenAgrees run l dir
-  pub forth_first : dir ≡ Back → TakenAgrees run l Forth
-  pub before : TakensAgree run l
+abbrev pub PutsAgree : Run → ℕ → Type 0
+PutsAgree = AllAgree Put
+
+abbrev pub TakensAgree : Run → ℕ → Type 0
+TakensAgree = AllAgree Taken
+
+abbrev pub IsFirstPut : Run → ℕ → Dir → Type 0
+IsFirstPut = IsFirstOther Put
+
+abbrev pub IsFirstTaken : Run → ℕ → Dir → Type 0
+IsFirstTaken = IsFirstOther Taken
 
 -- ---- origin
 
@@ -104,18 +114,23 @@ pub record Agrees (capacity : ℕ) (topology : Topology) (kept : List Record) (r
   pub closed : IsClosed (run_of capacity topology kept rows)
   pub receipts : HasReceipts kept passes plan
 
+-- Why a run isn't closed: the first cause in the order in which a run is checked, where records and rows are the topology's and
+-- the receipts are right.
+abbrev pub IsOpen : Run → Disagree → Type 0
+IsOpen run Shape = ⊥
+IsOpen run (LinkPut link dir) = IsFirstPut run link dir
+IsOpen run (LinkTaken link dir) = PutsAgree run (length run.links) × IsFirstTaken run link dir
+IsOpen run (Stranger link row) = PutsAgree run (length run.links) × TakensAgree run (length run.links) × IsFirstStranger run link row
+IsOpen run (NotQuiet link) =
+    PutsAgree run (length run.links) × TakensAgree run (length run.links) × HasNoStranger run (length run.links) × IsFirstNoisy run link
+IsOpen run (cause.Receipts worker) = ⊥
+
 -- of records and rows that are the topology's: the cause is there, and none before it
 abbrev pub IsFirstIn : Run → List Record → List Receipts → List Planned → Disagree → Type 0
-IsFirstIn run kept passes plan Shape = ⊥
-IsFirstIn run kept passes plan (LinkPut link dir) = IsFirstPut run link dir
-IsFirstIn run kept passes plan (LinkTaken link dir) = PutsAgree run (length run.links) × IsFirstTaken run link dir
-IsFirstIn run kept passes plan (Stranger link row) =
-    PutsAgree run (length run.links) × TakensAgree run (length run.links) × IsFirstStranger run link row
-IsFirstIn run kept passes plan (NotQuiet link) =
-    PutsAgree run (length run.links) × TakensAgree run (length run.links) × HasNoStranger run (length run.links) × IsFirstNoisy run link
 IsFirstIn run kept passes plan (cause.Receipts worker) =
     PutsAgree run (length run.links) × TakensAgree run (length run.links) × HasNoStranger run (length run.links) × IsQuiet run (length run.links)
     × IsFirstWrong kept passes plan worker
+IsFirstIn run kept passes plan d = IsOpen run d
 
 -- the cause is there, and none before it
 abbrev pub IsFirst : (capacity : ℕ) → Topology → List Record → List (Vec Row Global) → List Receipts → List Planned → Disagree → Type 0
@@ -131,5 +146,4 @@ IfDisagree fault.NoMemory P = ⊤
 
 -- Where there is no RedBox and nothing was forgotten, no direction of a link carried two copies of one send.
 unfoldable pub HasNoStorm : Run → Type 0
-HasNoStorm run = HasNoRedBox run → NothingForgotten run → (l : ℕ) (dir : Dir) (send : Probe) → l < length run.links →
-    count_by (is_copy send) (filter_map (put_copy dir) (rows_of run l)) ≤ 1
+HasNoStorm run = HasNoRedBox run → IsCalm run

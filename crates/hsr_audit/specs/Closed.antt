@@ -2,21 +2,22 @@
 --     PutAgrees, TakenAgrees   agreement of a link with the records of the nodes at its ends
 --     IsOfSend                 origin of a copy
 --     IsClosed                 a closed run
-use Rattle.std.specs.Prelude.{ℕ, ◌<◌, ◌≡◌, ◌⊎◌, false, [], length, filter_map, Option, Some, Ok, IsPermutation}
+use Rattle.std.specs.Prelude.{ℕ, ◌<◌, ◌≡◌, ◌⊎◌, false, [], length, Option, Some, Ok, IsPermutation}
 use Rattle.std.specs.List.{AllByRecursion}
 use Rattle.std.specs.Option.{option_or}
 use Rattle.hsr_tag.specs.Seen.{classified}
 use Rattle.hsr_tag.specs.Tag.{TaggedFields}
 use Rattle.hsr_tag.specs.declared.seen.Seen.TheVariants.{Tagged}
 use Rattle.hsr_node.specs.Copies.{plain_in}
-use Rattle.hsr_node.specs.Flow.{Sending, arrivals, passes, send_at}
+use Rattle.hsr_node.specs.Flow.{arrivals, passes, send_at}
+use Rattle.hsr_node.specs.declared.sending.Sending.{Sending}
 use Rattle.hsr_node.specs.Record.{IsLegal}
 use Rattle.hsr_node.specs.declared.event.Carried.{Carried}
 use Rattle.hsr_node.specs.declared.event.Probe.{Probe}
 use Rattle.hsr_link.specs.declared.row.Dir.{Dir}
 use Rattle.hsr_link.specs.declared.row.Row.{Row}
-use Rattle.hsr_link.specs.Rows.{is_queued}
-use Rattle.hsr_audit.specs.Run.{Run, ends_of, from_end, given, owner_of, past_of, place_of, put_copy, rows_of, taken_copy, to_end}
+use Rattle.hsr_link.specs.Rows.{is_queued, put_copies, taken_copies}
+use Rattle.hsr_audit.specs.Run.{Run, ends_of, from_end, given, owner_of, past_of, place_of, rows_of, to_end}
 
 -- ---- agreement
 
@@ -24,13 +25,13 @@ use Rattle.hsr_audit.specs.Run.{Run, ends_of, from_end, given, owner_of, past_of
 abbrev pub PutAgrees : Run → ℕ → Dir → Type 0
 PutAgrees run l dir =
     let end = from_end dir (ends_of run l) in
-    IsPermutation (passes (owner_of run end.node) end.port (past_of run end.node)) (filter_map (put_copy dir) (rows_of run l))
+    IsPermutation (passes (owner_of run end.node) end.port (past_of run end.node)) (put_copies dir (rows_of run l))
 
 -- the copies that were taken there are those that came to the node at the other end, each as often
 abbrev pub TakenAgrees : Run → ℕ → Dir → Type 0
 TakenAgrees run l dir =
     let end = to_end dir (ends_of run l) in
-    IsPermutation (filter_map (taken_copy dir) (rows_of run l)) (arrivals end.port (past_of run end.node))
+    IsPermutation (taken_copies dir (rows_of run l)) (arrivals end.port (past_of run end.node))
 
 -- ---- origin
 

@@ -39,10 +39,14 @@ planned_by k x = if x.worker == 0 then Some (record { node = k; at = x.at; event
 abbrev pub planned_for : ℕ → Planned → Option Planned
 planned_for k x = if x.node == k then Some x else None
 
--- the plan has for each node what its record tells of the main worker, in the same order, and nothing for other nodes
+-- the plan has for a node what these entries of it tell of the main worker, in the same order
+abbrev pub IsPlanOf : List Planned → ℕ → List Entry → Type 0
+IsPlanOf plan k entries = filter_map (planned_for k) plan ≡ filter_map (planned_by k) entries
+
+-- the plan has for each node what its record tells of the main worker, and nothing for other nodes
 pub record IsPlanned (run : Run) (plan : List Planned) : Type 0 where
   pub nodes : (i : ℕ) (d : Planned) → i < length plan → (slice_index_or plan i d).node < length run.places
-  pub each : (k : ℕ) → k < length run.places → filter_map (planned_for k) plan ≡ filter_map (planned_by k) (record_of run k)
+  pub each : (k : ℕ) → k < length run.places → IsPlanOf plan k (record_of run k)
 
 -- ---- what always holds
 

@@ -7,9 +7,9 @@ use Rattle.hsr_node.specs.Kept.{Record, owner_of, past_of}
 use Rattle.hsr_node.specs.Record.{Owner, probe_handled}
 use Rattle.hsr_node.specs.declared.entry.Entry.{Entry}
 use Rattle.hsr_node.specs.declared.event.Carried.{Carried}
+use Rattle.hsr_link.specs.Rows.{put_copies, put_copy, taken_copies, taken_copy}
 use Rattle.hsr_link.specs.declared.row.Dir.{Dir}
 use Rattle.hsr_link.specs.declared.row.Row.{Row}
-use Rattle.hsr_audit.specs.Run.{put_copy, taken_copy}
 use Rattle.hsr_audit.specs.declared.agreement.Told.{Told}
 use Rattle.hsr_audit.specs.declared.agreement.Told.TheVariants.{Put, Taken}
 
@@ -41,8 +41,8 @@ came port entries = filter_map (came_by port) entries
 
 -- what was put in a direction is what a node passed by a port, each as often
 abbrev pub PutsFit : Record → ℕ → Dir → List Row → Type 0
-PutsFit r port dir rows = IsPermutation (passes (owner_of r) port (past_of r)) (filter_map (put_copy dir) rows)
+PutsFit r port dir rows = IsPermutation (passes (owner_of r) port (past_of r)) (put_copies dir rows)
 
 -- what was taken in a direction is what came to a port of a node
 abbrev pub TakensFit : Record → ℕ → Dir → List Row → Type 0
-TakensFit r port dir rows = IsPermutation (filter_map (taken_copy dir) rows) (arrivals port (past_of r))
+TakensFit r port dir rows = IsPermutation (taken_copies dir rows) (arrivals port (past_of r))

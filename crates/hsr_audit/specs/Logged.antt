@@ -10,6 +10,7 @@ use Rattle.hsr_frame.specs.Egress.{up, a, b, no_exits}
 use Rattle.hsr_frame.specs.declared.egress.Exits.{Exits}
 use Rattle.hsr_frame.specs.declared.node.Mode.TheVariants.{H}
 use Rattle.hsr_duptable.specs.Key.{Key}
+use Rattle.hsr_duptable.specs.Notes.{entry_forget}
 use Rattle.hsr_redbox.specs.declared.wanted.Handling.{Handling}
 use Rattle.hsr_frame.specs.declared.fault.FrameFault.{FrameFault}
 use Rattle.hsr_tag.specs.Seen.{classified}
@@ -118,7 +119,7 @@ abbrev pub youngest : ℕ → List Noted → List Noted
 youngest capacity notes = drop (length notes - capacity) notes
 
 abbrev pub is_young : ℕ → Noted → Bool
-is_young at note = nat_lt (at - note.moment) 400
+is_young at note = nat_lt (at - note.moment) entry_forget
 
 -- the send was noted, and no such note is remembered
 abbrev pub is_gone : ℕ → ℕ → Option Probe → List Noted → Bool

@@ -1,7 +1,8 @@
 -- What the nodes of a topology may be.
 use Rattle.std.specs.Prelude.{ℕ, ◌==◌, ◌||◌, Bool, false, List, [], ◌∷◌, length}
 use Rattle.std.specs.List.{list_any}
-use Rattle.hsr_frame.specs.Address.{is_group, is_same_address}
+use Rattle.hsr_frame.specs.Address.{is_group}
+use Rattle.hsr_node.specs.Station.{is_among}
 use Rattle.hsr_node.specs.declared.place.Place.{Place}
 use Rattle.hsr_node.specs.declared.place.Place.TheVariants.{Danh, RedBox, QuadBox, Station}
 
@@ -14,9 +15,6 @@ ports (Station macs) = 1
 
 abbrev pub has_group : List (List ℕ) → Bool
 has_group macs = list_any is_group macs
-
-abbrev pub is_among : List (List ℕ) → List ℕ → Bool
-is_among macs mac = list_any (λ other. is_same_address other mac) macs
 
 -- an address stands again further on
 abbrev pub has_twice : List (List ℕ) → Bool

@@ -1,13 +1,14 @@
 -- What a ring promises of each frame.
 --     is_addressed   addressed: whom a frame is for
 --     ExactlyOnce    each node that a frame is for took it up once, and nothing else went up
---     NoStorm        no direction of a link carried two copies of one send
-use Rattle.std.specs.Prelude.{ℕ, ◌<◌, ◌≤◌, ◌≡◌, ◌==◌, ◌&&◌, not, Bool, true, false, List, length, filter_map, count_by, Option, Some, if◌then◌else◌}
+--     IsCalm         no direction of a link carried two copies of one send, where nothing was forgotten
+--     NoStorm        a closed run is calm
+use Rattle.std.specs.Prelude.{ℕ, ◌<◌, ◌≤◌, ◌≡◌, ◌==◌, ◌&&◌, not, Bool, true, false, List, length, count_by, Option, Some, if◌then◌else◌}
 use Rattle.hsr_frame.specs.Address.{is_group, is_same_address}
 use Rattle.hsr_frame.specs.Egress.{up}
 use Rattle.hsr_frame.specs.Grammar.{Fields, spelling}
 use Rattle.hsr_node.specs.Copies.{up_octets}
-use Rattle.hsr_node.specs.Flow.{Sending}
+use Rattle.hsr_node.specs.declared.sending.Sending.{Sending}
 use Rattle.hsr_node.specs.Record.{Each, leaves}
 use Rattle.hsr_node.specs.declared.entry.Entry.{Entry}
 use Rattle.hsr_node.specs.declared.event.Carried.{Carried}
@@ -15,10 +16,11 @@ use Rattle.hsr_node.specs.declared.event.Event.{Event}
 use Rattle.hsr_node.specs.declared.event.Event.TheVariants.{Arrive}
 use Rattle.hsr_node.specs.declared.event.Outcome.{Outcome}
 use Rattle.hsr_node.specs.declared.event.Probe.{Probe}
+use Rattle.hsr_link.specs.Rows.{put_copies}
 use Rattle.hsr_link.specs.declared.row.Dir.{Dir}
 use Rattle.hsr_audit.specs.Closed.{IsClosed, IsOfSend, IsSend}
 use Rattle.hsr_audit.specs.Premises.{IsRing, NothingForgotten, NothingMistaken, NumberedFirst, OneLossyLink, mac_at}
-use Rattle.hsr_audit.specs.Run.{Run, ends_of, from_end, is_of, past_of, put_copy, record_of, rows_of}
+use Rattle.hsr_audit.specs.Run.{Run, ends_of, from_end, is_of, past_of, record_of, rows_of}
 
 -- a frame to a group is for each node but the sender, any other for the node with its address
 abbrev pub is_addressed : List (List ℕ) → ℕ → Fields → ℕ → Bool
@@ -65,6 +67,9 @@ abbrev pub is_copy : Probe → Carried → Bool
 is_copy send copy = is_of send copy.probe
 
 -- Where nothing was forgotten, no direction of a link carried two copies of one send.
+unfoldable pub IsCalm : Run → Type 0
+IsCalm run = NothingForgotten run → (l : ℕ) (dir : Dir) (send : Probe) → l < length run.links → count_by (is_copy send) (put_copies dir (rows_of run l)) ≤ 1
+
+-- So it is in a closed run in which each RedBox numbers a Station's frame first.
 abbrev pub NoStorm : Type 0
-NoStorm = (run : Run) → HasNodes run → IsClosed run → NumberedFirst run → NothingForgotten run →
-    (l : ℕ) (dir : Dir) (send : Probe) → l < length run.links → count_by (is_copy send) (filter_map (put_copy dir) (rows_of run l)) ≤ 1
+NoStorm = (run : Run) → HasNodes run → IsClosed run → NumberedFirst run → IsCalm run

@@ -6,19 +6,16 @@ use Rattle.hsr_tag.specs.Seen.{classified}
 use Rattle.hsr_tag.specs.Tag.{TaggedFields}
 use Rattle.hsr_tag.specs.declared.seen.Seen.TheVariants.{Tagged}
 use Rattle.hsr_node.specs.Copies.{plain_in}
-use Rattle.hsr_node.specs.Flow.{Sending, sent_by}
+use Rattle.hsr_node.specs.Flow.{sent_by}
+use Rattle.hsr_node.specs.declared.sending.Sending.{Sending}
 use Rattle.hsr_node.specs.Kept.{Record}
 use Rattle.hsr_node.specs.declared.entry.Entry.{Entry}
 use Rattle.hsr_node.specs.declared.event.Carried.{Carried}
 use Rattle.hsr_node.specs.declared.event.Probe.{Probe}
 use Rattle.hsr_node.specs.declared.place.Place.{Place}
-use Rattle.hsr_audit.specs.declared.sent.Sent.{Sent}
 use Rattle.hsr_audit.specs.Run.{gives, peer_in}
 use Rattle.hsr_link.specs.declared.row.Row.{Row}
 use Rattle.hsr_audit.specs.declared.end.End.{End}
-
-abbrev pub as_sending : Sent → Sending
-as_sending s = record { frame = s.frame; seq = s.seq }
 
 -- what an entry sends, if there is one
 abbrev pub sent_in : Place → Option Entry → Option Sending

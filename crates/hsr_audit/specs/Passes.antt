@@ -7,7 +7,7 @@ use Rattle.std.specs.List.{AllByRecursion}
 use Rattle.hsr_node.specs.Kept.{Receipts, Record}
 use Rattle.hsr_node.specs.declared.entry.Entry.{Entry}
 use Rattle.hsr_node.specs.declared.entry.Receipt.{Receipt}
-use Rattle.hsr_audit.specs.Finished.{planned_by, planned_for}
+use Rattle.hsr_audit.specs.Finished.{IsPlanOf}
 use Rattle.hsr_audit.specs.Next.{left_of}
 use Rattle.hsr_audit.specs.Receipts.{Shows, holds_of, named, planned_of}
 use Rattle.hsr_audit.specs.declared.planned.Planned.{Planned}
@@ -47,7 +47,7 @@ others_of w k (r ∷ rs) = others_in w k 0 r.entries ++ others_of w (k + 1) rs
 -- for each node the records tell of the main worker what is planned, and nothing is planned for other nodes
 pub record IsToldBy (kept : List Record) (plan : List Planned) : Type 0 where
   pub nodes : (i : ℕ) (d : Planned) → i < length plan → (slice_index_or plan i d).node < length kept
-  pub each : (k : ℕ) (d : Record) → k < length kept → filter_map (planned_for k) plan ≡ filter_map (planned_by k) (slice_index_or kept k d).entries
+  pub each : (k : ℕ) (d : Record) → k < length kept → IsPlanOf plan k (slice_index_or kept k d).entries
 
 -- what is left of a record from a place on
 abbrev pub left_at : List Record → List ℕ → ℕ → Record → List Entry
@@ -78,7 +78,7 @@ pub record AreByPlan (kept : List Record) (plan : List Planned) (receipts : List
 
 -- from the next places on the records tell of the rest of a plan
 pub record IsLeft (kept : List Record) (next : List ℕ) (rest : List Planned) : Type 0 where
-  pub each : (k : ℕ) (d : Record) → k < length kept → filter_map (planned_for k) rest ≡ filter_map (planned_by k) (left_at kept next k d)
+  pub each : (k : ℕ) (d : Record) → k < length kept → IsPlanOf rest k (left_at kept next k d)
 
 -- one more receipt, for what is planned next
 pub record IsKeptNext (kept : List Record) (planned : Planned) (old new : List ℕ) (before after : List Receipt) : Type 0 where
@@ -92,10 +92,3 @@ pub record AreMain (kept : List Record) (plan : List Planned) (receipts : List R
   pub shown : AllByRecursion (Shows kept) receipts
   pub names : (k : ℕ) (d : Record) → k < length kept → filter_map (named k) receipts ≡ holds_of 0 0 (slice_index_or kept k d).entries
   pub told : map planned_of receipts ≡ plan
-
--- the first n of a plan have receipts
-pub record IsUpTo (kept : List Record) (plan : List Planned) (n : ℕ) (next : List ℕ) (receipts : List Receipt) : Type 0 where
-  pub ahead : IsAhead kept next receipts
-  pub nodes : nodes_of receipts ≡ map (λ p. p.node) (take n plan)
-  pub left : IsToldBy kept plan → IsLeft kept next (drop n plan)
-  pub told : IsToldBy kept plan → map planned_of receipts ++ drop n plan ≡ plan

@@ -12,7 +12,8 @@ use Rattle.hsr_frame.specs.declared.node.Mode.TheVariants.{H}
 use Rattle.hsr_duptable.specs.Key.{Key, is_same_key}
 use Rattle.hsr_tag.specs.Seen.{classified}
 use Rattle.hsr_node.specs.Copies.{is_ring, side_of}
-use Rattle.hsr_node.specs.Flow.{Sending, wants}
+use Rattle.hsr_node.specs.Flow.{wants}
+use Rattle.hsr_node.specs.declared.sending.Sending.{Sending}
 use Rattle.hsr_node.specs.Record.{Each, Noted, Owner, key_in, knows, notes, now, remembered}
 use Rattle.hsr_node.specs.declared.entry.Entry.{Entry}
 use Rattle.hsr_node.specs.declared.event.Event.{Event}

@@ -2,9 +2,8 @@
 --     IsKeptBy      a worker's receipts are its entries
 --     AllFollow     what is left of each worker's receipts tells whether they are
 --     IsMarked      workers' receipts that were right so far, and no longer are
-use Rattle.std.specs.Prelude.{ℕ, ◌<◌, ◌≤◌, ◌≡◌, ◌↔◌, true, false, List, [], length, slice_index_or}
+use Rattle.std.specs.Prelude.{ℕ, ◌<◌, ◌≡◌, ◌↔◌, true, false, List, [], length, slice_index_or}
 use Rattle.hsr_node.specs.Kept.{Receipts, Record}
-use Rattle.hsr_node.specs.declared.entry.Entry.{Entry}
 use Rattle.hsr_node.specs.declared.entry.Receipt.{Receipt}
 use Rattle.hsr_audit.specs.Next.{AreFirst, AreNext, left_of}
 use Rattle.hsr_audit.specs.Passes.{receipts_of}
@@ -36,10 +35,6 @@ pub record Follows (kept : List Record) (passes : List Receipts) (worker : ℕ) 
 -- so it is with each, where these passes are left
 pub record AllFollow (kept : List Record) (passes rest : List Receipts) (rs : List Reached) : Type 0 where
   pub each : (w : ℕ) (d : Reached) → w < length rs → Follows kept passes w (receipts_of w rest) (slice_index_or rs w d)
-
--- no entry of a worker stands from a place on and before another
-abbrev pub IsPassed : List Entry → ℕ → ℕ → ℕ → Type 0
-IsPassed entries w from end = (p : ℕ) (d : Entry) → p < end → from ≤ p → (slice_index_or entries p d).worker ≡ w → ⊥
 
 -- no entry of a worker is left in the records of the first n nodes
 abbrev pub AreUsedUp : List Record → ℕ → List ℕ → ℕ → Type 0

@@ -7,8 +7,8 @@ use Rattle.hsr_node.specs.declared.place.Place.{Place}
 use Rattle.hsr_node.specs.declared.place.Place.TheVariants.{Danh, RedBox, QuadBox, Station}
 use Rattle.hsr_audit.specs.Doubts.{AreInModeH, HaveOwnAddresses, IsDanhRing, is_danh, macs_of}
 use Rattle.hsr_audit.specs.Links.{is_same_end}
-use Rattle.hsr_audit.specs.Premises.{NothingForgotten, NothingMistaken, OneLossyLink, any_lost}
-use Rattle.hsr_audit.specs.Run.{Run, from_end, rows_of}
+use Rattle.hsr_audit.specs.Premises.{NothingForgotten, NothingMistaken, OneLossyLink}
+use Rattle.hsr_audit.specs.Run.{Run, from_end}
 use Rattle.hsr_audit.specs.declared.end.End.{End}
 
 -- ---- nodes and links
@@ -47,20 +47,6 @@ is_again mac before = list_any (λ other. is_same_address other mac) before
 
 abbrev pub DifferBelow : List (List ℕ) → ℕ → Type 0
 DifferBelow macs n = (k : ℕ) (d : List ℕ) → k < n → is_again (slice_index_or macs k d) (take k macs) ≡ false
-
--- ---- losses
-
-abbrev pub loses : Run → ℕ → Bool
-loses run l = any_lost (rows_of run l)
-
-abbrev pub NoLossBelow : Run → ℕ → Type 0
-NoLossBelow run n = (l : ℕ) → l < n → loses run l ≡ false
-
--- of the links below n this one alone lost copies
-pub record IsOnlyLoss (run : Run) (n l : ℕ) : Type 0 where
-  pub below : l < n
-  pub here : loses run l ≡ true
-  pub only : (j : ℕ) → j < n → loses run j ≡ true → j ≡ l
 
 -- ---- what is found out in turn
 

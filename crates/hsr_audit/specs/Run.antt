@@ -1,15 +1,12 @@
 -- A finished run: which nodes there are and how they are joined, what each of them did, and what became of each copy
 -- on each link.
---     past_of      a node's record, the newest entry first
---     from_end     where a link's copies of a direction come from
---     to_end       where they go
---     put_copy     the copy of a row that the node at the one end put
---     taken_copy   the copy of a row that the node at the other end took
-use Rattle.std.specs.Prelude.{ℕ, ◌==◌, ◌&&◌, not, Bool, false, List, [], ◌∷◌, reverse, slice_index_or, Option, Some, None, if◌then◌else◌}
+--     past_of    a node's record, the newest entry first
+--     from_end   where a link's copies of a direction come from
+--     to_end     where they go
+use Rattle.std.specs.Prelude.{ℕ, ◌==◌, ◌&&◌, Bool, false, List, [], ◌∷◌, reverse, slice_index_or, Option, Some, None, if◌then◌else◌}
 use Rattle.std.specs.Option.{option_and_then, option_or}
 use Rattle.hsr_node.specs.Record.{Owner}
 use Rattle.hsr_node.specs.declared.entry.Entry.{Entry}
-use Rattle.hsr_node.specs.declared.event.Carried.{Carried}
 use Rattle.hsr_node.specs.declared.event.Event.{Event}
 use Rattle.hsr_node.specs.declared.event.Event.TheVariants.{Arrive}
 use Rattle.hsr_node.specs.declared.event.Outcome.{Outcome}
@@ -17,7 +14,6 @@ use Rattle.hsr_node.specs.declared.event.Outcome.TheVariants.{Judged}
 use Rattle.hsr_node.specs.declared.event.Probe.{Probe}
 use Rattle.hsr_node.specs.declared.place.Place.{Place}
 use Rattle.hsr_node.specs.declared.place.Place.TheVariants.{QuadBox}
-use Rattle.hsr_link.specs.Rows.{goes, is_taken}
 use Rattle.hsr_link.specs.declared.row.Dir.{Dir}
 use Rattle.hsr_link.specs.declared.row.Dir.TheVariants.{Forth, Back}
 use Rattle.hsr_link.specs.declared.row.Row.{Row}
@@ -40,16 +36,23 @@ pub record Run : Type 0 where
 abbrev pub place_of : Run → ℕ → Place
 place_of run k = slice_index_or run.places k QuadBox
 
+-- a node's record, of the records of all
+abbrev pub record_in : List (List Entry) → ℕ → List Entry
+record_in records k = slice_index_or records k []
+
 abbrev pub record_of : Run → ℕ → List Entry
-record_of run k = slice_index_or run.records k []
+record_of run k = record_in run.records k
 
 -- a node's record, the newest entry first
 abbrev pub past_of : Run → ℕ → List Entry
 past_of run k = reverse (record_of run k)
 
 -- whose record it is
+abbrev pub owner_in : List Place → ℕ → Owner
+owner_in places k = record { number = k; place = slice_index_or places k QuadBox }
+
 abbrev pub owner_of : Run → ℕ → Owner
-owner_of run k = record { number = k; place = place_of run k }
+owner_of run k = owner_in run.places k
 
 -- ---- links
 
@@ -70,14 +73,6 @@ from_end Back ends = slice_index_or ends 1 no_end
 abbrev pub to_end : Dir → List End → End
 to_end Forth ends = slice_index_or ends 1 no_end
 to_end Back ends = slice_index_or ends 0 no_end
-
--- a copy that the node at the one end put: an injected one comes from nobody
-abbrev pub put_copy : Dir → Row → Option Carried
-put_copy dir row = if goes dir row && not row.injected then Some row.carried else None
-
--- a copy that the node at the other end took
-abbrev pub taken_copy : Dir → Row → Option Carried
-taken_copy dir row = if goes dir row && is_taken row.fate then Some row.carried else None
 
 -- ---- sends
 

@@ -1,12 +1,9 @@
 //! What is certified of a run.
 ghost use Rattle.std.specs.Prelude.{◌≡◌, ◌++◌, ◌∷◌, [], if◌then◌else◌, length, IfOk, OnOk};
-ghost use Rattle.hsr_node.specs.Copies.{life_said};
-ghost use Rattle.hsr_audit.specs.Listed.{asked_to, is_for, is_sendable, listed_at, listed_by, lived_to, receivers_below, sent_to};
+ghost use Rattle.hsr_audit.specs.Listed.{is_for, listed_at, listed_by, receivers_below, sent_to};
 
-use hsr_frame::{HSR, Mac, NoMemory, SUPERVISION_TYPE, VLAN};
-use hsr_node::{Entry, Event, Outcome, Probe};
-use hsr_redbox::About;
-use hsr_supervision::{SupKind, Supervision};
+use hsr_frame::{Mac, Mode, NoMemory};
+use hsr_node::{Entry, Place, Probe, sent_by};
 use std::alloc::Global;
 use std::marker::Model;
 
@@ -32,78 +29,14 @@ pub struct Certificate {
     pub sends: Vec<Certified>,
 }
 
-/// Whether a frame of this source, type and length can be sent: no group sends it, its type is that of no VLAN or HSR
-/// tag, and its payload fits.
-fn is_sendable(mac: Mac, kind: u16, len: usize) -> bool
-    ensures { result ≡ is_sendable mac kind len }
-{
-    !(mac.is_group() || kind == HSR || kind == VLAN || len > 1500)
-}
-
-/// Where a frame goes that a DANH was asked to send, if it can be sent.
-fn asked_to(mac: Mac, from: u8, dst: Mac, kind: u16, len: usize) -> Option<Mac>
-    ensures { result ≡ asked_to mac from dst kind len }
-{
-    if from == 0 && is_sendable(mac, kind, len) {
-        Some(dst)
-    } else {
-        None
-    }
-}
-
-/// What a supervision frame of a DANH says (IEC 62439-3 clause 5.7).
-fn life_said(own: Mac, about: About, life: u16) -> Supervision
-    ensures { result ≡ life_said own about life }
-{
-    let (mac, redbox) = match about {
-        About::Own => (own, None),
-        About::Proxied(mac) => (mac, Some(own)),
-    };
-    Supervision {
-        path: 0,
-        version: 1,
-        seq: life,
-        kind: SupKind::Hsr,
-        about: mac,
-        redbox,
-    }
-}
-
-/// Where a supervision frame of a DANH goes.
-fn lived_to(mac: Mac, about: About, life: u16) -> Option<Mac>
-    ensures { result ≡ lived_to mac about life }
-{
-    let said = life_said(mac, about, life).write();
-    if is_sendable(mac, SUPERVISION_TYPE, said.as_slice().len()) {
-        Some(Mac::supervision())
-    } else {
-        None
-    }
-}
-
 /// Where the frame goes that an entry of a DANH sends, if it is a send.
 #[tactic(auto, unfolding(crate::specs::Listed::sent_to))]
 fn sent_to(mac: Mac, x: &Entry) -> Option<Mac>
     ensures { result ≡ sent_to mac x.now }
 {
-    match &x.event {
-        Event::Send {
-            from,
-            dst,
-            vlan: _,
-            kind,
-            payload,
-        } => match &x.outcome {
-            Outcome::Sent { .. } => asked_to(mac, *from, *dst, *kind, payload.as_slice().len()),
-            _ => None,
-        },
-        Event::Supervise(about) => match &x.outcome {
-            Outcome::Life { life, .. } => lived_to(mac, *about, *life),
-            _ => None,
-        },
-        Event::Arrive { .. } => None,
-        Event::Age => None,
-    }
+    let mode = Mode::H;
+    let sending = sent_by(&Place::Danh { mac, mode }, &x.event, &x.outcome)?;
+    Some(sending.frame.dst)
 }
 
 /// Whether a frame to this destination is for a node: to a group it is for all but the sender.

@@ -41,7 +41,7 @@ impl<const C: usize> Model for Closed<C> {
 }
 
 impl<const C: usize> Closed<C> {
-    ghost use Rattle.hsr_node.specs.Record.{counters};
+    ghost use Rattle.hsr_node.specs.Counts.{counters};
     ghost use Rattle.hsr_audit.specs.Checked.{Agrees, HasNoStorm, IfDisagree, IsFirst};
     ghost use Rattle.hsr_audit.specs.Finished.{run_of};
 

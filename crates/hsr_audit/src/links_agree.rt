@@ -1,12 +1,12 @@
 //! The first link that doesn't agree with the records of the nodes at its ends.
 ghost use Rattle.std.specs.Prelude.{◌≡◌, ◌↔◌, ◌<◌, [], length, map, slice_index_or, IfOk, IsTrue, MatchOption};
-ghost use Rattle.hsr_audit.specs.Checked.{IsFirstNoisy, IsFirstPut, IsFirstTaken, IsQuiet, PutsAgree, TakensAgree, is_noisy};
+ghost use Rattle.hsr_audit.specs.Checked.{AllAgree, IsFirstNoisy, IsFirstOther, IsQuiet, ToldAgrees, is_noisy};
 ghost use Rattle.hsr_audit.specs.Closed.{PutAgrees, TakenAgrees};
 ghost use Rattle.hsr_audit.specs.Finished.{items_of, run_of};
 ghost use Rattle.hsr_audit.specs.Run.{from_end, to_end};
 ghost use Rattle.hsr_audit.specs.Shape.{IsShaped};
 
-use crate::agreement::{puts_fit, takens_fit};
+use crate::agreement::{Told, puts_fit, takens_fit};
 use crate::end::End;
 use crate::topology::Topology;
 use hsr_frame::NoMemory;
@@ -80,44 +80,43 @@ fn taken_agrees<const C: usize>(
     takens_fit(alloc, &kept[end.node], end.port, dir, rows_at(rows, link))
 }
 
-/// The first link and direction in which what was put isn't what was passed.
-#[tactic(auto, unfolding(crate::specs::Checked::PutsAgree))]
-pub(crate) fn first_put<const C: usize>(
+/// Whether what was put there, or taken, is what the record of the node at that end tells.
+fn told_agrees<const C: usize>(
     alloc: Global,
+    which: Told,
     topology: &Topology,
     kept: &[Kept<C>],
     rows: &[Vec<Row>],
-) -> Result<Option<(usize, Dir)>, NoMemory>
+    link: usize,
+    dir: Dir,
+) -> Result<bool, NoMemory>
     requires shaped { IsShaped topology.now kept.now rows.now }
-    ensures { IfOk result (λ r. MatchOption r (PutsAgree (run_of C topology.now kept.now rows.now) (length topology.now.links)) (λ f. IsFirstPut (run_of C topology.now kept.now rows.now) f.0 f.1)) }
+    requires below { link < length topology.now.links }
+    ensures { IfOk result (λ agrees. IsTrue agrees ↔ ToldAgrees which (run_of C topology.now kept.now rows.now) link dir) }
 {
-    for link in 0..topology.links().len() {
-        if !put_agrees(alloc, topology, kept, rows, link, Dir::Forth)? {
-            return Ok(Some((link, Dir::Forth)));
-        }
-        if !put_agrees(alloc, topology, kept, rows, link, Dir::Back)? {
-            return Ok(Some((link, Dir::Back)));
-        }
+    match which {
+        Told::Put => put_agrees(alloc, topology, kept, rows, link, dir),
+        Told::Taken => taken_agrees(alloc, topology, kept, rows, link, dir),
     }
-    Ok(None)
 }
 
-/// The first link and direction in which what was taken isn't what came.
-#[tactic(auto, unfolding(crate::specs::Checked::TakensAgree))]
-pub(crate) fn first_taken<const C: usize>(
+/// The first link and direction in which what was put isn't what was passed, or what was taken isn't what came.
+#[tactic(auto, unfolding(crate::specs::Checked::AllAgree))]
+pub(crate) fn first_other<const C: usize>(
     alloc: Global,
+    which: Told,
     topology: &Topology,
     kept: &[Kept<C>],
     rows: &[Vec<Row>],
 ) -> Result<Option<(usize, Dir)>, NoMemory>
     requires shaped { IsShaped topology.now kept.now rows.now }
-    ensures { IfOk result (λ r. MatchOption r (TakensAgree (run_of C topology.now kept.now rows.now) (length topology.now.links)) (λ f. IsFirstTaken (run_of C topology.now kept.now rows.now) f.0 f.1)) }
+    ensures { IfOk result (λ r. MatchOption r (AllAgree which (run_of C topology.now kept.now rows.now) (length topology.now.links)) (λ f. IsFirstOther which (run_of C topology.now kept.now rows.now) f.0 f.1)) }
 {
     for link in 0..topology.links().len() {
-        if !taken_agrees(alloc, topology, kept, rows, link, Dir::Forth)? {
+        if !told_agrees(alloc, which, topology, kept, rows, link, Dir::Forth)? {
             return Ok(Some((link, Dir::Forth)));
         }
-        if !taken_agrees(alloc, topology, kept, rows, link, Dir::Back)? {
+        if !told_agrees(alloc, which, topology, kept, rows, link, Dir::Back)? {
             return Ok(Some((link, Dir::Back)));
         }
     }

@@ -1,6 +1,7 @@
 //! What the nodes of a topology may be.
 ghost use Rattle.std.specs.Prelude.{◌≡◌, ◌≤◌, drop, length};
-ghost use Rattle.hsr_audit.specs.Nodes.{has_bad_node, has_group, has_twice, is_among, is_bad_node, ports};
+ghost use Rattle.hsr_audit.specs.Nodes.{has_bad_node, has_group, has_twice, is_bad_node, ports};
+ghost use Rattle.hsr_node.specs.Station.{is_among};
 
 use hsr_frame::Mac;
 use hsr_node::Place;

@@ -1,7 +1,6 @@
 //! Whether nodes and links are a ring, and whether copies were lost on at most one link.
 ghost use Rattle.std.specs.Prelude.{◌≡◌, ◌↔◌, ◌<◌, [], ◌++◌, filter_map, length, IfOk, IsTrue, OnOk};
 ghost use Rattle.std.specs.List.{cons_option, list_all};
-ghost use Rattle.hsr_link.specs.Rows.{is_lost};
 ghost use Rattle.hsr_audit.specs.Doubts.{is_danh, is_in_mode_h};
 ghost use Rattle.hsr_audit.specs.Premises.{OneLossyLink, any_lost};
 ghost use Rattle.hsr_audit.specs.Round.{DifferBelow, IsRound, JoinedBelow, address_of, is_again, is_joint, is_joint_of};
@@ -9,7 +8,7 @@ ghost use Rattle.hsr_audit.specs.Round.{DifferBelow, IsRound, JoinedBelow, addre
 use crate::closed::Closed;
 use crate::end::{End, is_same_end};
 use hsr_frame::{Mac, Mode, NoMemory};
-use hsr_link::{Fate, Row};
+use hsr_link::Row;
 use hsr_node::Place;
 use std::alloc::Global;
 
@@ -127,19 +126,10 @@ pub(crate) fn are_different(macs: &[Mac]) -> bool
     true
 }
 
-fn is_lost(fate: Fate) -> bool
-    ensures { result ≡ is_lost fate }
-{
-    match fate {
-        Fate::Queued | Fate::Taken => false,
-        Fate::LostDown | Fate::LostCut | Fate::LostOverrun => true,
-    }
-}
-
 fn any_lost(rows: &[Row]) -> bool
     ensures { result ≡ any_lost rows.now }
 {
-    rows.iter().any(|row| is_lost(row.fate))
+    rows.iter().any(|row| row.fate.is_lost())
 }
 
 /// Whether all copies that were lost were lost on one link.

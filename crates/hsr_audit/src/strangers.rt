@@ -1,18 +1,17 @@
 //! Whether each copy on a link is of a send.
-ghost use Rattle.std.specs.Prelude.{◌≡◌, ◌<◌, ◌↔◌, IsTrue, MatchOption, length, map, option_map};
+ghost use Rattle.std.specs.Prelude.{◌≡◌, ◌<◌, ◌↔◌, IsTrue, MatchOption, length, map};
 ghost use Rattle.hsr_audit.specs.Checked.{AreKnown, HasNoStranger, IsFirstStranger, IsKnown, IsStranger};
 ghost use Rattle.hsr_audit.specs.Finished.{items_of, run_of};
-ghost use Rattle.hsr_audit.specs.Origin.{FitsSend, IsOurs, IsOwn, as_sending, given_in, given_to, sent_at};
+ghost use Rattle.hsr_audit.specs.Origin.{FitsSend, IsOurs, IsOwn, given_in, given_to, sent_at};
 ghost use Rattle.std.specs.Option.{option_or};
 ghost use Rattle.hsr_audit.specs.Run.{gives, joined_by, peer_in};
 ghost use Rattle.hsr_audit.specs.Shape.{IsShaped};
 
 use crate::end::{End, is_same_end};
 use crate::links_agree::rows_at;
-use crate::sent::{Sent, is_same_frame, sent_by};
 use crate::topology::Topology;
 use hsr_link::Row;
-use hsr_node::{Carried, Entry, Event, Kept, Outcome, Probe};
+use hsr_node::{Carried, Entry, Event, Kept, Outcome, Probe, Sending, sent_by};
 use hsr_tag::{Frame, Seen, classify};
 
 /// The end that a link joins with this one.
@@ -98,12 +97,23 @@ fn number_of<const C: usize>(
 }
 
 /// What the entry that a probe names sends.
-fn sent_at<const C: usize>(kept: &[Kept<C>], send: Probe) -> Option<Sent>
-    ensures { option_map as_sending result ≡ sent_at kept.now send }
+fn sent_at<const C: usize>(kept: &[Kept<C>], send: Probe) -> Option<Sending>
+    ensures { result ≡ sent_at kept.now send }
 {
     let kept = kept.get(send.node)?;
     let entry = kept.entries().get(send.place)?;
-    sent_by(kept.place(), entry)
+    sent_by(kept.place(), &entry.event, &entry.outcome)
+}
+
+/// Whether they are one frame.
+fn is_same_frame(a: &Frame, b: &Frame) -> bool
+    ensures { IsTrue result ↔ (a.now ≡ b.now) }
+{
+    a.dst == b.dst
+        && a.src == b.src
+        && a.vlan == b.vlan
+        && a.kind == b.kind
+        && a.payload.as_slice() == b.payload.as_slice()
 }
 
 /// Whether octets say what a frame says, and have this number where they are tagged.

@@ -5,7 +5,6 @@ ghost use Rattle.hsr_audit.specs.Workers.{most_in, most_kept, most_passed, most_
 
 use crate::planned::Planned;
 use crate::reached::{first_lost, reached_by};
-use crate::receipts::is_same_event;
 use hsr_frame::NoMemory;
 use hsr_node::{Entry, Kept, Pass, Receipt};
 use std::alloc::Global;
@@ -65,7 +64,7 @@ fn is_planned(receipt: &Receipt, planned: &Planned) -> bool
 {
     receipt.node == planned.node
         && receipt.entry.at == planned.at
-        && is_same_event(&receipt.entry.event, &planned.event)
+        && receipt.entry.event == planned.event
 }
 
 /// What is left of a plan after these receipts, if it begins with them.

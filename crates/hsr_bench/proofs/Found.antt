@@ -1,7 +1,12 @@
 -- What a parse found, by the walk of its command.
-use Rattle.std.proofs.Common.{◌≡◌, ◌<◌, List, [], ◌∷◌, length, map, Option, Some, None, option_map, IfSome, refl, sym, ap, ap₂, subst, ◌∙◌, codes, arith, true}
-use Rattle.clap.specs.Words.{Row, Text, first_of, is_simple, subcommand_of}
-use Rattle.hsr_bench.specs.Options.{Chosen, ChosenIn, Says, Listed, bench_app}
+use Rattle.std.proofs.Common.{◌≡◌, ◌≢◌, ◌<◌, inl, inr, ⊎_elim, string_bytes, List, [], ◌∷◌, length, map, Option, Some, None, option_map, IfNone, IfSome, refl, sym, ap, ap₂, subst, ◌∙◌, codes, arith, true}
+use Rattle.clap.specs.Kinds.{HasKind, IsAmong, Kinds}
+use Rattle.clap.specs.Words.{App, Row, Text, fault_of, first_of, is_simple, is_simple_and_free, kind_of, subcommand_of}
+use Rattle.clap.specs.declared.error.Error.{Error}
+use Rattle.clap.specs.declared.error.kind.ErrorKind.TheVariants.{OutOfMemory}
+use Rattle.hsr_bench.specs.Options.{Chosen, ChosenIn, IfUsage, IsBench, IsRefused, IsTaken, Says, SaysNothing, Listed, bench_app}
+use Rattle.hsr_bench.specs.declared.chosen.OptionFault.{OptionFault}
+use Rattle.hsr_bench.specs.declared.chosen.OptionFault.TheVariants.{Usage, Memory}
 use Rattle.hsr_bench.specs.declared.chosen.Options.{Options}
 use Rattle.hsr_bench.specs.declared.chosen.Options.TheVariants.{Node, Run, Audit}
 
@@ -25,6 +30,10 @@ pub chosen_from : (found : Option (Text × List Row)) (name : Text) (rows : List
     → Chosen name (λ id. first_of id rows) o → ChosenIn found o
 chosen_from found name rows o e h = subst (λ f. ChosenIn f o) (sym e) h
 
+pub chosen_to : (found : Option (Text × List Row)) (name : Text) (rows : List Row) (o : Options) → found ≡ Some (name, rows)
+    → ChosenIn found o → Chosen name (λ id. first_of id rows) o
+chosen_to found name rows o e h = subst (λ f. ChosenIn f o) e h
+
 pub is_simple_bench : (modes tables : Listed) → is_simple (bench_app modes tables) ≡ true
 is_simple_bench modes tables = refl
 
@@ -33,9 +42,42 @@ pub says : (words : List Text) (modes tables : Listed) (o : Options) → 0 < len
 says [] modes tables o h a b c = absurd (omega arith)
 says (w ∷ ws) modes tables o h a b c = (modes, tables, a, b, c)
 
+-- ---- what is refused
+
+pub is_simple_so : (app : App) → IsBench app → is_simple app ≡ true
+is_simple_so app is = ap is_simple is.4
+
+pub is_free : (app : App) → IsBench app → is_simple_and_free app ≡ true
+is_free app is = ap is_simple_and_free is.4
+
+pub taken : (words : List Text) (app : App) → 0 < length words → IsBench app → fault_of app words ≡ [] → IsTaken words
+taken [] app h is none = tt
+taken (w ∷ ws) app h is none = (app, is, none)
+
+pub faulty : (words : List Text) (app : App) (text : Text) → 0 < length words → IsBench app → fault_of app words ≢ [] → IsRefused words text
+faulty [] app text h is some = absurd (omega arith)
+faulty (w ∷ ws) app text h is some = (app, is, inl some)
+
+pub silent : (words : List Text) (app : App) (text : Text) → 0 < length words → IsBench app → fault_of app words ≡ [] → SaysNothing (subcommand_of app words)
+    → text ≡ codes "usage: --mac" → IsRefused words text
+silent [] app text h is none nothing said = absurd (omega arith)
+silent (w ∷ ws) app text h is none nothing said = (app, is, inr (none, nothing, said))
+
+-- an error that isn't want of memory tells a fault
+pub fault_found : (kinds : Kinds) (e : Error) → HasKind kinds e → kind_of e ≢ OutOfMemory → kinds ≢ []
+fault_found kinds e h room = ⊎_elim (λ memory. absurd (room memory)) (λ among none. subst (IsAmong (kind_of e)) none among) h
+
+pub usage_weaker : (f : OptionFault) (P Q : Text → Type 0) → ((t : Text) → P t → Q t) → IfUsage f P → IfUsage f Q
+usage_weaker (Usage text) P Q f h = f (string_bytes text) h
+usage_weaker Memory P Q f h = tt
+
 pub some_weaker : {X : Type 0} (o : Option X) (P Q : X → Type 0) → ((x : X) → P x → Q x) → IfSome o P → IfSome o Q
 some_weaker None P Q f h = tt
 some_weaker (Some x) P Q f h = f x h
+
+pub none_weaker : {X : Type 0} (o : Option X) (P Q : Type 0) → (P → Q) → IfNone o P → IfNone o Q
+none_weaker None P Q f h = f h
+none_weaker (Some x) P Q f h = tt
 
 pub first_part : {X A B : Type 0} (n : X → A) (r : X → B) (o : Option X) → option_map (λ (p : A × B). p.0) (option_map (λ x. (n x, r x)) o) ≡ option_map n o
 first_part n r None = refl

@@ -1,9 +1,11 @@
 -- How `run` and `audit` end, by what was shown and by what was read.
-use Rattle.std.proofs.Common.{ℕ, ◌≡◌, ◌^◌, Bool, List, Option, Some, None, subst, sym, IfSome}
+use Rattle.std.proofs.Common.{ℕ, ◌≡◌, ◌≢◌, ◌^◌, Bool, List, Option, Some, None, Err, subst, sym, IfSome}
 use Rattle.std.specs.Io.KnownBytes.{Keeps}
 use Rattle.hsr_audit.specs.Finished.{Finished, IsFinished}
-use Rattle.hsr_transcript.specs.Answers.{IsTextOf}
-use Rattle.hsr_bench.specs.Audited.{Audited, IsAudited, IsUnread}
+use Rattle.hsr_transcript.specs.Answers.{Answers, IsTextOf}
+use Rattle.hsr_transcript.specs.declared.fault.ReadFault.{ReadFault}
+use Rattle.hsr_transcript.specs.declared.fault.ReadFault.TheVariants as read
+use Rattle.hsr_bench.specs.Audited.{Audited, IsAudited, IsUnread, transcript_fault}
 use Rattle.hsr_bench.specs.Text.{IsWhole}
 use Rattle.hsr_bench.specs.Report.{report}
 use Rattle.hsr_bench.specs.Shown.{IsDelivered, IsFound}
@@ -19,7 +21,7 @@ pub told_report : (capacity : ℕ) (transcript : Bool) (said : Said) (held holds
     → IsReported capacity transcript said found text → IsDelivered held holds found text status → Told capacity transcript said held holds status
 told_report capacity transcript said held holds found text Certified r d = (found, text, r, d.0, d.1)
 told_report capacity transcript said held holds found text Doubt r d = (found, text, r, d.0, d.1)
-told_report capacity transcript said held holds found text (Stopped Write) r d = tt
+told_report capacity transcript said held holds found text (Stopped Write) r d = (found, text, r)
 told_report capacity transcript said held holds found text (Stopped Read) r d = absurd d
 told_report capacity transcript said held holds found text (Stopped Memory) r d = absurd d
 told_report capacity transcript said held holds found text (Stopped (Line n)) r d = absurd d
@@ -31,7 +33,7 @@ told_report capacity transcript said held holds found text (Stopped (Check f)) r
 pub told_fault : (capacity : ℕ) (transcript : Bool) (said : Said) (held holds : Option (List ℕ)) (fault : Fault) → IsUnreported capacity said fault → Keeps held holds
     → Told capacity transcript said held holds (Stopped fault)
 told_fault capacity transcript said held holds Read u k = k
-told_fault capacity transcript said held holds Write u k = tt
+told_fault capacity transcript said held holds Write u k = absurd u
 told_fault capacity transcript said held holds Memory u k = (u, k)
 told_fault capacity transcript said held holds (Line n) u k = (u, k)
 told_fault capacity transcript said held holds (Scenario f) u k = (u, k)
@@ -45,13 +47,20 @@ pub told_text : (capacity : ℕ) (transcript : Bool) (all : Option (List ℕ)) (
 told_text capacity transcript None read held holds status whole told = tt
 told_text capacity transcript (Some text) read held holds status whole told = subst (λ (said : Said). Told capacity transcript said held holds status) (as_read text read whole) told
 
+-- what is told of octets is no fault of a reader
+pub unreported_told : (capacity : ℕ) (said : Said) (fault : Fault) → IsUnreported capacity said fault → Stopped fault ≢ Stopped Read
+unreported_told capacity said fault u is = let same : fault ≡ Read = cc in subst (λ f. IsUnreported capacity said f) same u
+
+pub delivered_told : (held holds : Option (List ℕ)) (found : Verdict) (text : List ℕ) (status : Status) → IsDelivered held holds found text status → status ≢ Stopped Read
+delivered_told held holds found text status d is = subst (λ s. IsDelivered held holds found text s) is d
+
 -- ---- a transcript
 
 audited_report : (capacity : ℕ) (text : List ℕ) (held holds : Option (List ℕ)) (found : Verdict) (written : List ℕ) (status : Status) → IsAudited capacity text found written
     → IsDelivered held holds found written status → Audited capacity text held holds status
 audited_report capacity text held holds found written Certified r d = (found, written, r, d.0, d.1)
 audited_report capacity text held holds found written Doubt r d = (found, written, r, d.0, d.1)
-audited_report capacity text held holds found written (Stopped Write) r d = tt
+audited_report capacity text held holds found written (Stopped Write) r d = (found, written, r)
 audited_report capacity text held holds found written (Stopped Read) r d = absurd d
 audited_report capacity text held holds found written (Stopped Memory) r d = absurd d
 audited_report capacity text held holds found written (Stopped (Line n)) r d = absurd d
@@ -63,7 +72,7 @@ audited_report capacity text held holds found written (Stopped (Check f)) r d = 
 audited_fault : (capacity : ℕ) (text : List ℕ) (held holds : Option (List ℕ)) (fault : Fault) → IsUnread capacity text fault → Keeps held holds
     → Audited capacity text held holds (Stopped fault)
 audited_fault capacity text held holds Read u k = (u, k)
-audited_fault capacity text held holds Write u k = tt
+audited_fault capacity text held holds Write u k = absurd u
 audited_fault capacity text held holds Memory u k = (u, k)
 audited_fault capacity text held holds (Line n) u k = (u, k)
 audited_fault capacity text held holds (Scenario f) u k = (u, k)
@@ -90,3 +99,12 @@ audited_run capacity (Some text) f found written is_text holds is_found is_repor
 pub memory_known : (capacity : ℕ) (all : Option (List ℕ)) (fault : Fault) → fault ≡ Memory → IfSome all (λ text. IsUnread capacity text fault)
 memory_known capacity None fault is = tt
 memory_known capacity (Some text) fault is = subst (λ (f : Fault). IsUnread capacity text f) (sym is) tt
+
+pub unread_as : (capacity : ℕ) (all : Option (List ℕ)) (fault : ReadFault) → IfSome all (Answers capacity (Err fault)) → IfSome all (λ text. IsUnread capacity text (transcript_fault fault))
+unread_as capacity None fault h = tt
+unread_as capacity (Some text) read.Version h = h
+unread_as capacity (Some text) (read.BadLine n) h = h
+unread_as capacity (Some text) read.End h = h
+unread_as capacity (Some text) (read.Disagrees cause) h = h
+unread_as capacity (Some text) read.Read h = tt
+unread_as capacity (Some text) read.NoMemory h = tt

@@ -1,5 +1,5 @@
 -- What one line does to the output.
-use Rattle.std.proofs.Common.{◌≡◌, ℕ, ◌+◌, ◌<◌, ◌≤◌, Option, None, Some, Result, Ok, Err, List, [], ◌∷◌, ◌++◌, ◌∙◌, length, refl, sym, ap, arith, cond, Bool, true, false, nat_lt, append_assoc, subst}
+use Rattle.std.proofs.Common.{◌≡◌, ◌≢◌, ℕ, ◌+◌, ◌<◌, ◌≤◌, IfSome, Option, None, Some, Result, Ok, Err, List, [], ◌∷◌, ◌++◌, ◌∙◌, length, refl, sym, ap, arith, cond, Bool, true, false, nat_lt, append_assoc, subst}
 use Rattle.std.proofs.lemmas.List.{append-nil}
 use Rattle.std.proofs.lemmas.Bool.Decides.{nat_tests}
 use Rattle.std.specs.Io.KnownBytes.{Appends, Keeps}
@@ -9,7 +9,8 @@ use Rattle.hsr_frame.specs.declared.lines.Front.TheVariants.{Line as FrontLine, 
 use Rattle.hsr_bench.specs.Request.{Asked, request_of}
 use Rattle.hsr_bench.specs.Reply.{after, reply}
 use Rattle.hsr_bench.specs.Output.{Ended, Output, output, put, request_in, with_line}
-use Rattle.hsr_bench.specs.Run.{Served, Turned, Finished, Way, Ran}
+use Rattle.hsr_bench.specs.Run.{Finished, OnTheWay, Ran, Served, Turned}
+use Rattle.hsr_bench.proofs.Replies.{counter_some, reply_some, some_before, some_behind}
 use Rattle.hsr_danh.specs.Machine.{Machine}
 use Rattle.hsr_bench.specs.declared.fault.Fault.{Fault}
 use Rattle.hsr_bench.specs.declared.fault.Fault.TheVariants.{Line, Read, Write, Scenario, Step, Transcript, Check, Memory as OutOfMemory}
@@ -62,8 +63,13 @@ failed capacity old new n line ls held holds (Scenario f) h s = absurd s
 failed capacity old new n line ls held holds (Step k f) h s = absurd s
 failed capacity old new n line ls held holds (Transcript f) h s = absurd s
 failed capacity old new n line ls held holds (Check f) h s = absurd s
-failed capacity old new n line ls held holds Write h s = tt
+failed capacity old new n line ls held holds Write h s =
+    subst (λ out. Ended held holds out (Faulty Write)) (sym (output_some capacity old n line ls s.0 h s.1)) (some_before (reply capacity old s.0) _ (reply_some capacity old s.0))
 failed capacity old new n line ls held holds OutOfMemory h s = ([], (output capacity old n (line ∷ ls)).text, refl, nothing held holds s)
+
+-- a line that isn't answered is no fault of a reader
+pub served_told : (capacity : ℕ) (old new : Machine) (n : ℕ) (line : List ℕ) (held holds : Option (List ℕ)) (e : Fault) → Served capacity old new n line held holds (Err e) → e ≢ Read
+served_told capacity old new n line held holds e s is = subst (λ f. Served capacity old new n line held holds (Err f)) is s
 
 pub turned_line : (capacity : ℕ) (left rest held holds : Option (List ℕ)) (old new : Machine) (n : ℕ) (line : List ℕ)
     → ReadsFront 4096 left rest line FrontLine → length line ≤ 4096 → Served capacity old new n line held holds (Ok tt)
@@ -129,7 +135,7 @@ ended_on_way held holds new front out rest (Line k) p a s =
     subst (λ o. Ended held new o (Faulty (Line k))) (sym p) (s.0, appends_more held holds new front rest.text a s.1)
 ended_on_way held holds new front out rest Read p a s =
     subst (λ o. Ended held new o (Faulty Read)) (sym p) (front ++ s.0, s.1, ap (λ t. front ++ t) s.2 ∙ sym (append_assoc front s.0 s.1), appends_more held holds new front s.0 a s.3)
-ended_on_way held holds new front out rest Write p a s = tt
+ended_on_way held holds new front out rest Write p a s = subst (λ o. Ended held new o (Faulty Write)) (sym p) (some_behind front rest.text s)
 ended_on_way held holds new front out rest (Scenario f) p a s = absurd s
 ended_on_way held holds new front out rest (Step k f) p a s = absurd s
 ended_on_way held holds new front out rest (Transcript f) p a s = absurd s
@@ -141,6 +147,10 @@ ended_on_way held holds new front out rest OutOfMemory p a s =
 turned_at : (capacity : ℕ) (left rest held holds : Option (List ℕ)) (old new : Machine) (n : ℕ) (r : Result Bool Fault) (ys : List ℕ) → left ≡ Some ys
     → Turned left rest held holds capacity old new n r → Turned (Some ys) rest held holds capacity old new n r
 turned_at capacity left rest held holds old new n r ys e t = subst (λ l. Turned l rest held holds capacity old new n r) e t
+
+-- a run on its way, for a text that may be unknown
+abbrev pub Way : ℕ → Machine → Option (List ℕ) → Option (List ℕ) → Option (List ℕ) → Option (List ℕ) → Machine → ℕ → Type 0
+Way capacity start text left held holds machine n = IfSome text (λ known. OnTheWay capacity (output capacity start 1 (lines_of known)) left held holds machine n)
 
 pub way_begins : (capacity : ℕ) (start : Machine) (text held : Option (List ℕ)) → Way capacity start text text held held start 1
 way_begins capacity start None held = tt
@@ -175,7 +185,7 @@ last capacity held holds new out front e (Err (Scenario g)) p a f = absurd f
 last capacity held holds new out front e (Err (Step k g)) p a f = absurd f
 last capacity held holds new out front e (Err (Transcript g)) p a f = absurd f
 last capacity held holds new out front e (Err (Check g)) p a f = absurd f
-last capacity held holds new out front e (Err Write) p a f = tt
+last capacity held holds new out front e (Err Write) p a f = subst (λ o. Ended held new o (Faulty Write)) (sym p) (some_behind front (output capacity e 0 []).text (counter_some e.counters))
 last capacity held holds new out front e (Err OutOfMemory) p a f =
     subst (λ o. Ended held new o (Faulty OutOfMemory)) (sym p) (front ++ [], (output capacity e 0 []).text, ap (λ l. l ++ (output capacity e 0 []).text) (sym (append-nil front)), appends_more held holds new front [] a (nothing holds new f))
 

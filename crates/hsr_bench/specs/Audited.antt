@@ -5,6 +5,7 @@ use Rattle.hsr_audit.specs.Finished.{Finished, IsFinished}
 use Rattle.hsr_transcript.specs.Answers.{Disagreeing, IsBadAt, IsTextOf}
 use Rattle.hsr_transcript.specs.Form.{form_of}
 use Rattle.hsr_transcript.specs.Transcript.{Said}
+use Rattle.hsr_transcript.specs.declared.fault.ReadFault.{ReadFault}
 use Rattle.hsr_transcript.specs.declared.fault.ReadFault.TheVariants as read
 use Rattle.hsr_bench.specs.Report.{report, status_of}
 use Rattle.hsr_bench.specs.Shown.{IsFound}
@@ -33,15 +34,28 @@ IsUnread capacity text Read = Unit {0}
 IsUnread capacity text Memory = Unit {0}
 IsUnread capacity text _ = ⊥
 
+-- why a text isn't read, as a fault of the run
+abbrev pub transcript_fault : ReadFault → Fault
+transcript_fault read.Version = Transcript Version
+transcript_fault (read.BadLine n) = Transcript (Line n)
+transcript_fault read.End = Transcript End
+transcript_fault (read.Disagrees cause) = Check cause
+transcript_fault read.Read = Read
+transcript_fault read.NoMemory = Memory
+
 -- what was found is told by the status, and its report was written
 abbrev pub IsWritten : ℕ → List ℕ → Option (List ℕ) → Option (List ℕ) → Status → Type 0
 IsWritten capacity text held holds status =
     (found : Verdict) × (written : List ℕ) × IsAudited capacity text found written × (status ≡ status_of found) × Appends held holds written
 
+-- there is a report to write
+abbrev pub IsReportable : ℕ → List ℕ → Type 0
+IsReportable capacity text = (found : Verdict) × (written : List ℕ) × IsAudited capacity text found written
+
 -- How `audit` ends, and what it wrote: the report of the run whose text it read; or nothing, since the text is that of no run, or
--- reading or memory failed. After a failed write nothing is said.
+-- reading or memory failed. Of a failed write no more is said than that there was a report to write.
 abbrev pub Audited : ℕ → List ℕ → Option (List ℕ) → Option (List ℕ) → Status → Type 0
 Audited capacity text held holds Certified = IsWritten capacity text held holds Certified
 Audited capacity text held holds Doubt = IsWritten capacity text held holds Doubt
-Audited capacity text held holds (Stopped Write) = Unit {0}
+Audited capacity text held holds (Stopped Write) = IsReportable capacity text
 Audited capacity text held holds (Stopped fault) = IsUnread capacity text fault × Keeps held holds

@@ -11,3 +11,4 @@ pub mod Refusal
 pub mod Shown
 pub mod Told
 pub mod Audited
+pub mod Performing

@@ -1,17 +1,19 @@
 -- What the words of a command line say: the values that clap's walk of this command finds.
-use Rattle.std.specs.Prelude.{◌≡◌, ℕ, Bool, true, false, List, [], ◌∷◌, map, Option, Some, None, Ok, codes}
+use Rattle.std.specs.Prelude.{◌≡◌, ◌≢◌, ◌⊎◌, ⊤, ℕ, Bool, true, false, List, [], ◌∷◌, map, Option, Some, None, Ok, codes, string_bytes}
 use Rattle.std.specs.Borrow.{Bor}
-use Rattle.clap.specs.Words.{App, Row, Rule, Text, new_app, new_rule, with_rule, with_subcommand, subcommand_of, first_of}
+use Rattle.clap.specs.Words.{App, Row, Rule, Text, new_app, new_rule, with_rule, with_subcommand, subcommand_of, first_of, fault_of}
 use Rattle.clap.specs.declared.builder.ArgAction.TheVariants.{SetTrue}
 use Rattle.clap.specs.declared.builder.value_parser.ValueParser.TheVariants.{Names}
 use Rattle.hsr_frame.specs.Address.{address_of}
-use Rattle.hsr_frame.specs.declared.node.Mode.{Mode}
-use Rattle.hsr_frame.specs.declared.node.Mode.TheVariants.{H, N}
+use Rattle.hsr_frame.specs.declared.node.Mode.TheVariants.{H}
 use Rattle.hsr_bench.specs.declared.chosen.Table.{Table}
 use Rattle.hsr_bench.specs.declared.chosen.Table.TheVariants.{Small, Large}
 use Rattle.hsr_bench.specs.declared.chosen.NodeOptions.{NodeOptions}
+use Rattle.hsr_bench.specs.declared.chosen.OptionFault.{OptionFault}
+use Rattle.hsr_bench.specs.declared.chosen.OptionFault.TheVariants.{Usage, Memory}
 use Rattle.hsr_bench.specs.declared.chosen.Options.{Options}
 use Rattle.hsr_bench.specs.declared.chosen.Options.TheVariants.{Node, Run, Audit}
+use Rattle.hsr_transcript.specs.Spelled.{mode_text}
 
 -- ---- the command line
 
@@ -53,10 +55,6 @@ bench_app modes tables =
 
 -- ---- what is chosen
 
-abbrev pub mode_text : Mode → Text
-mode_text H = codes "H"
-mode_text N = codes "N"
-
 abbrev pub table_text : Table → Text
 table_text Small = codes "small"
 table_text Large = codes "large"
@@ -87,3 +85,30 @@ Says [] (Node node) = (node.mac ≡ 2 ∷ 0 ∷ 0 ∷ 0 ∷ 0 ∷ 1 ∷ []) × (
 Says [] o = ⊥
 Says (w ∷ ws) o = (modes : Listed) × (tables : Listed) × (map (λ s. s.now) modes.now ≡ codes "H" ∷ codes "N" ∷ [])
     × (map (λ s. s.now) tables.now ≡ codes "small" ∷ codes "large" ∷ []) × ChosenIn (subcommand_of (bench_app modes tables) (w ∷ ws)) o
+
+-- ---- what is refused
+
+-- the bench's command, with the names that it takes for modes and tables
+abbrev pub IsBench : App → Type 0
+IsBench app = (modes : Listed) × (tables : Listed) × (map (λ s. s.now) modes.now ≡ codes "H" ∷ codes "N" ∷ [])
+    × (map (λ s. s.now) tables.now ≡ codes "small" ∷ codes "large" ∷ []) × (app ≡ bench_app modes tables)
+
+-- the command finds no fault in the words
+abbrev pub IsTaken : List Text → Type 0
+IsTaken [] = ⊤
+IsTaken (w ∷ ws) = (app : App) × IsBench app × (fault_of app (w ∷ ws) ≡ [])
+
+-- what was found is of no subcommand, or a value of it says nothing, as a `--mac` that is no address or a group's
+abbrev pub SaysNothing : Option (Text × List Row) → Type 0
+SaysNothing found = (o : Options) → ¬ ChosenIn found o
+
+-- words are refused by this text: the command finds a fault in them, or finds none, and what it finds says nothing
+abbrev pub IsRefused : List Text → Text → Type 0
+IsRefused [] text = ⊥
+IsRefused (w ∷ ws) text = (app : App) × IsBench app × ((fault_of app (w ∷ ws) ≢ [])
+    ⊎ ((fault_of app (w ∷ ws) ≡ []) × SaysNothing (subcommand_of app (w ∷ ws)) × (text ≡ codes "usage: --mac")))
+
+-- P of the text of a refusal; of want of memory nothing
+abbrev pub IfUsage : OptionFault → (Text → Type 0) → Type 0
+IfUsage (Usage text) P = P (string_bytes text)
+IfUsage Memory P = ⊤

@@ -1,5 +1,5 @@
 -- What `node` writes for the lines that it reads.
-use Rattle.std.specs.Prelude.{◌≡◌, ℕ, ◌+◌, nat_lt, List, [], ◌∷◌, ◌++◌, length, Option, Some, None, if◌then◌else◌}
+use Rattle.std.specs.Prelude.{◌≡◌, ◌<◌, ℕ, ◌+◌, nat_lt, List, [], ◌∷◌, ◌++◌, length, Option, Some, None, if◌then◌else◌}
 use Rattle.std.specs.Io.KnownBytes.{Appends}
 use Rattle.hsr_danh.specs.Machine.{Machine}
 use Rattle.hsr_bench.specs.Request.{Asked, request_of}
@@ -42,11 +42,11 @@ abbrev pub IsFront : Option (List ℕ) → Option (List ℕ) → List ℕ → Ty
 IsFront held holds text = (front : List ℕ) × (rest : List ℕ) × (text ≡ front ++ rest) × Appends held holds front
 
 -- How a run ended, and what stands on the writer: all of the output, and its bad line if it has one; a front
--- of it where reading or memory failed. After a failed write nothing is said.
+-- of it where reading or memory failed. Of a failed write no more is said than that there was something to write.
 abbrev pub Ended : Option (List ℕ) → Option (List ℕ) → Output → Status → Type 0
 Ended held holds output Certified = (output.bad_line ≡ None) × Appends held holds output.text
 Ended held holds output (Stopped (Line n)) = (output.bad_line ≡ Some n) × Appends held holds output.text
-Ended held holds output (Stopped Write) = Unit {0}
+Ended held holds output (Stopped Write) = 0 < length output.text
 Ended held holds output (Stopped Read) = IsFront held holds output.text
 Ended held holds output (Stopped Memory) = IsFront held holds output.text
 Ended held holds output (Stopped _) = ⊥

@@ -11,7 +11,7 @@ use Rattle.hsr_frame.specs.declared.fault.SendFault.{SendFault}
 use Rattle.hsr_frame.specs.declared.fault.SendFault.TheVariants.{Spent as NoneLeft}
 use Rattle.hsr_frame.specs.declared.fault.Spent.{Spent}
 use Rattle.hsr_frame.specs.declared.node.Cause.{Cause}
-use Rattle.hsr_frame.specs.declared.node.Cause.TheVariants.{Passed, Duplicate, Returned, Foreign, Local, Untagged, Tagged, Malformed}
+use Rattle.hsr_frame.specs.declared.node.Cause.TheVariants.{Malformed}
 use Rattle.hsr_frame.specs.declared.node.Life.{Life}
 use Rattle.hsr_tag.specs.Seen.{classified}
 use Rattle.hsr_tag.specs.Tag.{tag_of, tagged_spelling, untag_of}
@@ -22,6 +22,7 @@ use Rattle.hsr_danh.specs.Machine.{Machine}
 use Rattle.hsr_danh.specs.Step.{age_step, arrive_step, life_step, send_step}
 use Rattle.hsr_danh.specs.declared.danh.Sent.{Sent}
 use Rattle.hsr_danh.specs.declared.danh.Verdict.{Verdict}
+use Rattle.hsr_transcript.specs.Spelled as spelled
 use Rattle.hsr_bench.specs.Request.{Asked, Sending, age, arrive, life, send}
 
 -- ---- frames of the node's own
@@ -60,14 +61,8 @@ word_if said word = if said then word else []
 
 -- why an arrival went where it did, without its egresses
 abbrev pub cause_text : Cause → List ℕ
-cause_text Passed = codes "passed"
-cause_text Duplicate = codes "duplicate"
-cause_text Returned = codes "returned"
-cause_text Foreign = codes "foreign"
-cause_text Local = codes "local"
-cause_text Untagged = codes "untagged"
-cause_text Tagged = codes "tagged"
 cause_text (Malformed fault) = codes "malformed " ++ decimal (frame_fault_number fault)
+cause_text cause = spelled.cause_text cause
 
 -- the egresses stand in the order up, A, B
 abbrev pub verdict_text : Verdict → List ℕ

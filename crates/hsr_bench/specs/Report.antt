@@ -1,7 +1,7 @@
 -- The report of a finished run: a line for the bench, one for each node and each link, and what the audit found.
 use Rattle.std.specs.Prelude.{ℕ, zero, suc, Bool, List, [], ◌++◌, length, count_by, codes}
 use Rattle.std.specs.Fmt.{decimal}
-use Rattle.hsr_node.specs.Record.{counters}
+use Rattle.hsr_node.specs.Counts.{counters}
 use Rattle.hsr_node.specs.declared.place.Place.{Place}
 use Rattle.hsr_node.specs.declared.place.Place.TheVariants.{Danh, RedBox, QuadBox, Station}
 use Rattle.hsr_link.specs.Rows.{is_lost, is_taken}

@@ -15,11 +15,11 @@ abbrev pub OnTheWay : ℕ → Output → Option (List ℕ) → Option (List ℕ)
 OnTheWay capacity whole left held holds machine n =
     (text : List ℕ) × (left ≡ Some text) × (front : List ℕ) × (whole ≡ put front (output capacity machine n (lines_of text))) × Appends held holds front
 
--- what one line did: it was answered, or is bad, or the writer or memory failed
+-- what one line did: it was answered, or is bad, or isn't and the writer failed, or memory failed
 abbrev pub Served : ℕ → Machine → Machine → ℕ → List ℕ → Option (List ℕ) → Option (List ℕ) → Result Unit Fault → Type 0
 Served capacity old new n line held holds (Ok _) = (r : Asked) × (request_of line ≡ Some r) × (new ≡ after capacity old r) × Appends held holds (reply capacity old r)
 Served capacity old new n line held holds (Err (Line k)) = (k ≡ n) × (request_of line ≡ None) × Keeps held holds
-Served capacity old new n line held holds (Err Write) = Unit {0}
+Served capacity old new n line held holds (Err Write) = (r : Asked) × (request_of line ≡ Some r)
 Served capacity old new n line held holds (Err Memory) = Keeps held holds
 Served capacity old new n line held holds (Err _) = ⊥
 
@@ -35,10 +35,6 @@ Finished machine held holds (Ok _) = Appends held holds (counter_line machine.co
 Finished machine held holds (Err Write) = Unit {0}
 Finished machine held holds (Err Memory) = Keeps held holds
 Finished machine held holds (Err _) = ⊥
-
--- a run on its way, for a text that may be unknown
-abbrev pub Way : ℕ → Machine → Option (List ℕ) → Option (List ℕ) → Option (List ℕ) → Option (List ℕ) → Machine → ℕ → Type 0
-Way capacity start text left held holds machine n = IfSome text (λ known. OnTheWay capacity (output capacity start 1 (lines_of known)) left held holds machine n)
 
 -- a whole run
 abbrev pub Ran : Option (List ℕ) → Option (List ℕ) → Option (List ℕ) → ℕ → Machine → Result Unit Fault → Type 0

@@ -2,8 +2,8 @@
 use Rattle.std.specs.Prelude.{ℕ, ◌≡◌, Bool, List, Option, Ok, Err, Result, if◌then◌else◌}
 use Rattle.std.specs.Io.KnownBytes.{Appends, Keeps}
 use Rattle.std.specs.Str.{is_utf8}
+use Rattle.hsr_audit.specs.Checked.{IsOpen}
 use Rattle.hsr_audit.specs.declared.disagree.Disagree.{Disagree}
-use Rattle.hsr_ring.specs.Ending.{IsOpen}
 use Rattle.hsr_ring.specs.Lawful.{IsEnded, finished_of}
 use Rattle.hsr_ring.specs.World.{World, new_world}
 use Rattle.hsr_ring.specs.declared.step.DrainFault.{DrainFault}
@@ -98,11 +98,15 @@ abbrev pub IsWritten : ℕ → Bool → Said → Option (List ℕ) → Option (L
 IsWritten capacity transcript said held holds status =
     (found : Verdict) × (text : List ℕ) × IsReported capacity transcript said found text × (status ≡ status_of found) × Appends held holds text
 
+-- there is something to write of the run
+abbrev pub IsShowable : ℕ → Bool → Said → Type 0
+IsShowable capacity transcript said = (found : Verdict) × (text : List ℕ) × IsReported capacity transcript said found text
+
 -- How `run` ends, and what it wrote: the transcript or the report of the run; or nothing, since there is none, or reading or
--- memory failed. After a failed write nothing is said.
+-- memory failed. Of a failed write no more is said than that there was something to write.
 abbrev pub Told : ℕ → Bool → Said → Option (List ℕ) → Option (List ℕ) → Status → Type 0
 Told capacity transcript said held holds Certified = IsWritten capacity transcript said held holds Certified
 Told capacity transcript said held holds Doubt = IsWritten capacity transcript said held holds Doubt
 Told capacity transcript said held holds (Stopped Read) = Keeps held holds
-Told capacity transcript said held holds (Stopped Write) = Unit {0}
+Told capacity transcript said held holds (Stopped Write) = IsShowable capacity transcript said
 Told capacity transcript said held holds (Stopped fault) = IsUnreported capacity said fault × Keeps held holds

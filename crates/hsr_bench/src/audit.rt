@@ -1,7 +1,7 @@
 //! Transcripts that are read and audited.
-ghost use Rattle.std.specs.Prelude.{◌≤◌, IfErr, IfOk, IfSome};
+ghost use Rattle.std.specs.Prelude.{◌≡◌, ◌≤◌, IfErr, IfOk, IfSome};
 ghost use Rattle.hsr_transcript.specs.Answers.{IsTextOf};
-ghost use Rattle.hsr_bench.specs.Audited.{Audited, IsAudited, IsUnread};
+ghost use Rattle.hsr_bench.specs.Audited.{Audited, IsAudited, IsUnread, transcript_fault};
 ghost use Rattle.hsr_bench.specs.Output.{capacity_of};
 
 use crate::chosen::Table;
@@ -14,7 +14,22 @@ use hsr_transcript::{ReadFault, read};
 use std::alloc::Global;
 use std::io::{Read, Write};
 
+/// Why a text isn't read, as a fault of the run.
+fn transcript_fault(fault: ReadFault) -> Fault
+    ensures { result ≡ transcript_fault fault }
+{
+    match fault {
+        ReadFault::Version => Fault::Transcript(TranscriptFault::Version),
+        ReadFault::BadLine { number } => Fault::Transcript(TranscriptFault::Line(number)),
+        ReadFault::End => Fault::Transcript(TranscriptFault::End),
+        ReadFault::Disagrees(cause) => Fault::Check(cause),
+        ReadFault::Read => Fault::Read,
+        ReadFault::NoMemory => Fault::Memory,
+    }
+}
+
 /// The finished run whose transcript a text is.
+#[tactic(auto, using(crate::proofs::Telling::unread_as))]
 fn closed<R: Read, const C: usize>(alloc: Global, reader: &mut R) -> Result<Closed<C>, Fault>
     requires entries { (1 ≤ C) × (C ≤ 65535) }
     ensures ok { IfOk result (λ c. IfSome (R.remaining reader.old) (λ text. IsTextOf C c text)) }
@@ -22,14 +37,7 @@ fn closed<R: Read, const C: usize>(alloc: Global, reader: &mut R) -> Result<Clos
 {
     match read(alloc, reader) {
         Ok(closed) => Ok(closed),
-        Err(ReadFault::Version) => Err(Fault::Transcript(TranscriptFault::Version)),
-        Err(ReadFault::BadLine { number }) => {
-            Err(Fault::Transcript(TranscriptFault::Line(number)))
-        }
-        Err(ReadFault::End) => Err(Fault::Transcript(TranscriptFault::End)),
-        Err(ReadFault::Disagrees(cause)) => Err(Fault::Check(cause)),
-        Err(ReadFault::Read) => Err(Fault::Read),
-        Err(ReadFault::NoMemory) => Err(Fault::Memory),
+        Err(fault) => Err(transcript_fault(fault)),
     }
 }
 

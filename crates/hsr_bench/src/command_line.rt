@@ -1,9 +1,12 @@
 //! Reads the words of a command line, by clap.
-ghost use Rattle.std.specs.Prelude.{◌≡◌, IfOk, IfSome, Some, Ok, codes, false, map};
+ghost use Rattle.std.specs.Prelude.{◌≡◌, ◌≢◌, IfErr, IfNone, IfOk, IfSome, OnOk, Some, Ok, codes, false, map};
 ghost use Rattle.hsr_frame.specs.Address.{IsGroup, address_of};
-ghost use Rattle.clap.specs.Words.{Text, app_of, first_value, found_of, rule_of, subcommand_rows_of};
+ghost use Rattle.clap.specs.Words.{Text, app_of, first_value, found_of, kind_of, rule_of, subcommand_rows_of};
 ghost use Rattle.clap.specs.declared.builder.Command.TheViews.{out-Command as fields_of};
-ghost use Rattle.hsr_bench.specs.Options.{Chosen, ChosenIn, IsNode, Says, audit_app, bench_app, flag_text, mac_rule, mode_rule, mode_text, node_app, run_app, table_rule, table_text, top_app, transcript_rule};
+ghost use Rattle.clap.specs.declared.error.kind.ErrorKind.TheVariants.{OutOfMemory};
+ghost use Rattle.hsr_bench.specs.declared.chosen.OptionFault.TheVariants.{Memory};
+ghost use Rattle.hsr_bench.specs.Options.{Chosen, ChosenIn, IfUsage, IsNode, IsRefused, IsTaken, Says, SaysNothing, audit_app, bench_app, flag_text, mac_rule, mode_rule, node_app, run_app, table_rule, table_text, top_app, transcript_rule};
+ghost use Rattle.hsr_transcript.specs.Spelled.{mode_text};
 
 use crate::chosen::{NodeOptions, OptionFault, Options, Table};
 use clap::error::ErrorKind;
@@ -53,6 +56,8 @@ why: `fault: transcript line <n>` (bad, or not what the node answers), `fault: t
 `fault: transcript end` (it breaks off), `fault: check <n>` (links and records disagree).";
 
 impl From<AllocError> for OptionFault {
+    ghost from_gives = { λ _ f. f ≡ Memory };
+
     fn from(_e: AllocError) -> OptionFault {
         OptionFault::Memory
     }
@@ -163,7 +168,9 @@ fn bench_command<'a>(
 }
 
 /// The text of a refusal.
-fn refused(alloc: Global, error: &Error) -> OptionFault {
+fn refused(alloc: Global, error: &Error) -> OptionFault
+    ensures { IfUsage result (λ _. kind_of error.now ≢ OutOfMemory) }
+{
     if error.kind() == ErrorKind::OutOfMemory {
         return OptionFault::Memory;
     }
@@ -173,7 +180,9 @@ fn refused(alloc: Global, error: &Error) -> OptionFault {
     }
 }
 
-fn usage(alloc: Global, text: &str) -> OptionFault {
+fn usage(alloc: Global, text: &str) -> OptionFault
+    ensures { IfUsage result (λ t. t ≡ text.now) }
+{
     match String::from_str(alloc, text) {
         Ok(text) => OptionFault::Usage { text },
         Err(_) => OptionFault::Memory,
@@ -181,7 +190,8 @@ fn usage(alloc: Global, text: &str) -> OptionFault {
 }
 
 fn table_of(matches: &ArgMatches<'_>) -> Option<Table>
-    ensures { IfSome result (λ t. first_value (found_of matches.now) (codes "table") ≡ Some (table_text t)) }
+    ensures found { IfSome result (λ t. first_value (found_of matches.now) (codes "table") ≡ Some (table_text t)) }
+    ensures none { IfNone result ((t : _) → first_value (found_of matches.now) (codes "table") ≢ Some (table_text t)) }
 {
     match matches.get_str("table") {
         Some("small") => Some(Table::Small),
@@ -191,7 +201,8 @@ fn table_of(matches: &ArgMatches<'_>) -> Option<Table>
 }
 
 fn mode_of(matches: &ArgMatches<'_>) -> Option<Mode>
-    ensures { IfSome result (λ m. first_value (found_of matches.now) (codes "mode") ≡ Some (mode_text m)) }
+    ensures found { IfSome result (λ m. first_value (found_of matches.now) (codes "mode") ≡ Some (mode_text m)) }
+    ensures none { IfNone result ((m : _) → first_value (found_of matches.now) (codes "mode") ≢ Some (mode_text m)) }
 {
     match matches.get_str("mode") {
         Some("H") => Some(Mode::H),
@@ -201,7 +212,8 @@ fn mode_of(matches: &ArgMatches<'_>) -> Option<Mode>
 }
 
 fn transcript_of(matches: &ArgMatches<'_>) -> Option<bool>
-    ensures { IfSome result (λ b. first_value (found_of matches.now) (codes "transcript") ≡ Some (flag_text b)) }
+    ensures found { IfSome result (λ b. first_value (found_of matches.now) (codes "transcript") ≡ Some (flag_text b)) }
+    ensures none { IfNone result ((b : _) → first_value (found_of matches.now) (codes "transcript") ≢ Some (flag_text b)) }
 {
     match matches.get_str("transcript") {
         Some("true") => Some(true),
@@ -214,6 +226,7 @@ fn transcript_of(matches: &ArgMatches<'_>) -> Option<bool>
 fn mac_of(matches: &ArgMatches<'_>) -> Option<Mac>
     ensures address { IfSome result (λ m. (t : Text) × (first_value (found_of matches.now) (codes "mac") ≡ Some t) × (address_of t ≡ Ok m)) }
     ensures station { IfSome result (λ m. ¬ IsGroup m) }
+    ensures none { IfNone result ((t : Text) (m : Mac) → first_value (found_of matches.now) (codes "mac") ≡ Some t → address_of t ≡ Ok m → IsGroup m) }
 {
     let text = matches.get_str("mac")?;
     match Mac::from_text(text) {
@@ -223,7 +236,8 @@ fn mac_of(matches: &ArgMatches<'_>) -> Option<Mac>
 }
 
 fn node_options(matches: &ArgMatches<'_>) -> Option<NodeOptions>
-    ensures { IfSome result (IsNode (first_value (found_of matches.now))) }
+    ensures found { IfSome result (IsNode (first_value (found_of matches.now))) }
+    ensures none { IfNone result ((node : NodeOptions) → ¬ IsNode (first_value (found_of matches.now)) node) }
 {
     let mode = mode_of(matches)?;
     let table = table_of(matches)?;
@@ -233,7 +247,8 @@ fn node_options(matches: &ArgMatches<'_>) -> Option<NodeOptions>
 
 /// The options of a subcommand.
 fn options_of(name: &str, matches: &ArgMatches<'_>) -> Option<Options>
-    ensures { IfSome result (Chosen name.now (first_value (found_of matches.now))) }
+    ensures found { IfSome result (Chosen name.now (first_value (found_of matches.now))) }
+    ensures none { IfNone result ((o : Options) → ¬ Chosen name.now (first_value (found_of matches.now)) o) }
 {
     match name {
         "node" => Some(Options::Node(node_options(matches)?)),
@@ -252,7 +267,8 @@ fn options_of(name: &str, matches: &ArgMatches<'_>) -> Option<Options>
 
 /// What a parse found.
 fn chosen_in(matches: &ArgMatches<'_>) -> Option<Options>
-    ensures { IfSome result (ChosenIn (subcommand_rows_of matches.now)) }
+    ensures found { IfSome result (ChosenIn (subcommand_rows_of matches.now)) }
+    ensures none { IfNone result (SaysNothing (subcommand_rows_of matches.now)) }
 {
     let (name, inner) = matches.subcommand()?;
     options_of(name, inner)
@@ -261,7 +277,9 @@ fn chosen_in(matches: &ArgMatches<'_>) -> Option<Options>
 /// What the words after the program's name say: with none, `node` and its defaults. A `--mac` that is no
 /// address or a group's is refused by the text `usage: --mac`, and other words by clap's text; `Memory` where room is refused.
 pub fn options<'a>(alloc: Global, words: &'a [&'a str]) -> Result<Options, OptionFault>
-    ensures { IfOk result (Says (map (λ s. s.now) words.entry.now)) }
+    ensures found { IfOk result (Says (map (λ s. s.now) words.entry.now)) }
+    ensures taken { OnOk result (IsTaken (map (λ s. s.now) words.entry.now)) }
+    ensures refused { IfErr result (λ f. IfUsage f (IsRefused (map (λ s. s.now) words.entry.now))) }
 {
     if words.is_empty() {
         return Ok(Options::Node(NodeOptions {

@@ -1,10 +1,11 @@
 //! The run of `node` over a reader and a writer.
-ghost use Rattle.std.specs.Prelude.{◌≡◌, ◌<◌, ◌≤◌, IfSome, OnOk, length};
+ghost use Rattle.std.specs.Prelude.{◌≡◌, ◌≢◌, ◌<◌, ◌≤◌, ℕ, IfErr, IfSome, List, OnOk, Option, length};
 ghost use Rattle.hsr_frame.specs.Address.{IsGroup};
-ghost use Rattle.hsr_frame.specs.Lines.{lines_of};
+ghost use Rattle.hsr_frame.specs.Lines.{ReadsFront, lines_of};
 ghost use Rattle.hsr_danh.specs.Machine.{new_machine};
 ghost use Rattle.hsr_bench.specs.Output.{Ended, capacity_of, output};
 ghost use Rattle.hsr_bench.specs.Run.{Finished, Ran, Served, Turned};
+ghost use Rattle.hsr_bench.specs.declared.fault.Fault.TheVariants.{Read as ReadFailed};
 
 use crate::answer::answer;
 use crate::chosen::{NodeOptions, Table};
@@ -47,24 +48,23 @@ fn serve<W: Write, const C: usize>(
     }
 }
 
-/// Reads and answers the next line, and tells whether more may follow.
-#[tactic(auto, using(crate::proofs::Turns::turned_line, crate::proofs::Turns::turned_line_err, crate::proofs::Turns::turned_rest, crate::proofs::Turns::turned_rest_err, crate::proofs::Turns::turned_none, crate::proofs::Turns::turned_long))]
-fn turn<R: Read, W: Write, const C: usize>(
+/// Answers what was read of a text, and tells whether more may follow.
+#[tactic(auto, using(crate::proofs::Turns::turned_line, crate::proofs::Turns::turned_line_err, crate::proofs::Turns::turned_rest, crate::proofs::Turns::turned_rest_err, crate::proofs::Turns::turned_none, crate::proofs::Turns::turned_long, crate::proofs::Turns::served_told))]
+fn answer_front<W: Write, const C: usize>(
     alloc: Global,
     danh: &mut Danh<C>,
     number: u64,
-    reader: &mut R,
-    reads: &mut u64,
+    front: Front,
     writer: &mut W,
     room: &mut Room,
 ) -> Result<bool, Fault>
-    ensures turned { Turned (R.remaining reader.old) (R.remaining reader.new) (W.contents writer.old) (W.contents writer.new) C danh.old danh.new number result }
-    ensures fewer { OnOk result (reads.new < reads.old) }
-    ensures bounded { reads.new ≤ reads.old }
+    ensures turned { (left rest : Option (List ℕ)) → ReadsFront 4096 left rest room.old.line.items front
+        → Turned left rest (W.contents writer.old) (W.contents writer.new) C danh.old danh.new number result }
+    ensures told { IfErr result (λ f. f ≢ ReadFailed) }
 {
-    let line = &mut room.line;
+    let line = &room.line;
     let text = &mut room.text;
-    match next_line(reader, reads, line)? {
+    match front {
         Front::TooLong => Err(Fault::Line(number)),
         Front::Line => match serve(alloc, danh, number, line.as_slice(), writer, text) {
             Ok(()) => Ok(true),
@@ -80,6 +80,24 @@ fn turn<R: Read, W: Write, const C: usize>(
             }
         }
     }
+}
+
+/// Reads and answers the next line, and tells whether more may follow.
+fn turn<R: Read, W: Write, const C: usize>(
+    alloc: Global,
+    danh: &mut Danh<C>,
+    number: u64,
+    reader: &mut R,
+    reads: &mut u64,
+    writer: &mut W,
+    room: &mut Room,
+) -> Result<bool, Fault>
+    ensures turned { Turned (R.remaining reader.old) (R.remaining reader.new) (W.contents writer.old) (W.contents writer.new) C danh.old danh.new number result }
+    ensures fewer { OnOk result (reads.new < reads.old) }
+    ensures bounded { reads.new ≤ reads.old }
+{
+    let front = next_line(reader, reads, &mut room.line)?;
+    answer_front(alloc, danh, number, front, writer, room)
 }
 
 /// Writes the line at the end.

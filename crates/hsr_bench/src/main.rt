@@ -1,12 +1,20 @@
 //! The bench's program: a command and its options, standard input, standard output.
 #![tactic(auto)]
 
+ghost use Rattle.std.specs.Prelude.{◌≡◌, ◌⊎◌, IfOk, drop, map, string_bytes};
+ghost use Rattle.std.specs.Io.KnownBytes.{Keeps};
+ghost use Rattle.std.specs.Process.{exit_status};
+ghost use Rattle.hsr_bench.specs.Fault.{code_of};
+ghost use Rattle.hsr_bench.specs.declared.fault.Fault.TheVariants.{Write as WriteFailed};
+ghost use Rattle.hsr_bench.specs.declared.fault.Status.TheVariants.{Fault as Stopped};
+
 mod answer;
 mod audit;
 mod chosen;
 mod command_line;
 mod engine;
 mod fault;
+mod performing;
 mod playing;
 mod refusal;
 mod reply;
@@ -17,12 +25,10 @@ mod shown;
 mod text;
 mod verdict;
 
-use crate::audit::audit_run;
-use crate::chosen::{NodeOptions, OptionFault, Options, Table};
+use crate::chosen::{OptionFault, Options};
 use crate::command_line::options;
-use crate::engine::node_run;
 use crate::fault::{Fault, Status};
-use crate::scenario::scenario_run;
+use crate::performing::perform;
 use std::alloc::{AllocError, Global};
 use std::io::{BufReader, BufWriter, ErrorKind, Write};
 use std::process::ExitCode;
@@ -38,7 +44,9 @@ mod tests;
 mod transcript_tests;
 
 /// The words after the program's name.
-fn words_of(alloc: Global, args: &Vec<String>) -> Result<Vec<&str>, AllocError> {
+fn words_of(alloc: Global, args: &Vec<String>) -> Result<Vec<&str>, AllocError>
+    ensures { IfOk result (λ words. map (λ s. s.now) words.items ≡ map string_bytes (drop 1 args.now.items)) }
+{
     let mut words = Vec::new(alloc);
     for word in args.iter().skip(1) {
         words.push(word.as_str())?;
@@ -47,49 +55,32 @@ fn words_of(alloc: Global, args: &Vec<String>) -> Result<Vec<&str>, AllocError> 
 }
 
 /// How a run ended, once all that it wrote has left.
-fn written<W: Write>(writer: &mut W, status: Status) -> Status {
+fn written<W: Write>(writer: &mut W, status: Status) -> Status
+    ensures status { (result ≡ status) ⊎ (result ≡ Stopped WriteFailed) }
+    ensures kept { Keeps (W.contents writer.old) (W.contents writer.new) }
+{
     match writer.flush() {
         Ok(()) => status,
         Err(_) => Status::Fault(Fault::Write),
     }
 }
 
-/// Runs `node` over the standard streams.
-fn node(rt: &HostRuntime, chosen: &NodeOptions) -> Status {
+/// Does what is chosen, over the standard streams.
+fn performed(rt: &HostRuntime, chosen: &Options) -> Status {
     let Ok(mut reader) = BufReader::new(rt.alloc(), rt.reader()) else {
         return Status::Fault(Fault::Memory);
     };
     let Ok(mut writer) = BufWriter::new(rt.alloc(), io::writer(rt)) else {
         return Status::Fault(Fault::Memory);
     };
-    let status = node_run(rt.alloc(), &mut reader, &mut writer, chosen);
-    written(&mut writer, status)
-}
-
-/// Runs a scenario over the standard streams.
-fn run_scenario(rt: &HostRuntime, table: Table, transcript: bool) -> Status {
-    let mut reader = rt.reader();
-    let Ok(mut writer) = BufWriter::new(rt.alloc(), io::writer(rt)) else {
-        return Status::Fault(Fault::Memory);
-    };
-    let status = scenario_run(rt.alloc(), &mut reader, &mut writer, table, transcript);
-    written(&mut writer, status)
-}
-
-/// Audits a transcript over the standard streams.
-fn audit_transcript(rt: &HostRuntime, table: Table) -> Status {
-    let Ok(mut reader) = BufReader::new(rt.alloc(), rt.reader()) else {
-        return Status::Fault(Fault::Memory);
-    };
-    let Ok(mut writer) = BufWriter::new(rt.alloc(), io::writer(rt)) else {
-        return Status::Fault(Fault::Memory);
-    };
-    let status = audit_run(rt.alloc(), &mut reader, &mut writer, table);
+    let status = perform(rt.alloc(), &mut reader, &mut writer, chosen);
     written(&mut writer, status)
 }
 
 /// Writes a fault's line on standard error, and gives the status of the process.
-fn finish(rt: &HostRuntime, status: Status) -> io::Result<ExitCode> {
+fn finish(rt: &HostRuntime, status: Status) -> io::Result<ExitCode>
+    ensures { IfOk result (λ code. exit_status code ≡ code_of status) }
+{
     if let Status::Fault(fault) = status {
         eprintln!(rt; "{fault}")?;
     }
@@ -101,11 +92,7 @@ fn run(rt: &HostRuntime) -> io::Result<ExitCode> {
     let args: Vec<String> = env::args(rt)?.collect(rt.alloc())?;
     let words = words_of(rt.alloc(), &args)?;
     match options(rt.alloc(), words.as_slice()) {
-        Ok(Options::Node(chosen)) => finish(rt, node(rt, &chosen)),
-        Ok(Options::Run { table, transcript }) => {
-            finish(rt, run_scenario(rt, table, transcript))
-        }
-        Ok(Options::Audit { table }) => finish(rt, audit_transcript(rt, table)),
+        Ok(chosen) => finish(rt, performed(rt, &chosen)),
         Err(OptionFault::Usage { text }) => {
             eprintln!(rt; "{text}")?;
             Ok(ExitCode::from(3))

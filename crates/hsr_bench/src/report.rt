@@ -28,12 +28,6 @@ fn is_taken(row: &Row) -> bool
     matches!(row.fate, Fate::Taken)
 }
 
-fn is_lost(row: &Row) -> bool
-    ensures { result ≡ is_row_lost row.now }
-{
-    matches!(row.fate, Fate::LostDown | Fate::LostCut | Fate::LostOverrun)
-}
-
 /// How many rows of a link are of taken copies.
 fn taken_of(rows: &[Row]) -> usize
     ensures { result ≡ count_by is_row_taken rows.now }
@@ -45,7 +39,7 @@ fn taken_of(rows: &[Row]) -> usize
 fn lost_of(rows: &[Row]) -> usize
     ensures { result ≡ count_by is_row_lost rows.now }
 {
-    rows.iter().filter(|row| is_lost(row)).count()
+    rows.iter().filter(|row| row.fate.is_lost()).count()
 }
 
 /// Puts the line of a link.

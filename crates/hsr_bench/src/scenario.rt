@@ -1,9 +1,11 @@
 //! Scenarios that are run, and shown by transcript or report.
-ghost use Rattle.std.specs.Prelude.{◌≡◌, ◌≤◌, IfErr, IfOk, IfSome, Ok, Err};
+ghost use Rattle.std.specs.Prelude.{◌≡◌, ◌≢◌, ◌≤◌, IfErr, IfOk, IfSome, Ok, Err};
 ghost use Rattle.hsr_ring.specs.Lawful.{IsEnded, finished_of};
 ghost use Rattle.hsr_scenario.specs.Meaning.{scenario_view};
 ghost use Rattle.hsr_bench.specs.Told.{IsNoScenario, IsPlayed, IsReported, IsUnclosed, IsUnplayed, IsUnreported, Told, scenario_of, step_fault, text_fault};
 ghost use Rattle.hsr_bench.specs.Output.{capacity_of};
+ghost use Rattle.hsr_bench.specs.declared.fault.Fault.TheVariants.{Read as ReadFailed};
+ghost use Rattle.hsr_bench.specs.declared.fault.Status.TheVariants.{Fault as Stopped};
 
 use crate::chosen::Table;
 use crate::fault::{Fault, Status};
@@ -136,6 +138,7 @@ fn reported_with(
 }
 
 /// Runs the scenario that octets mean, and writes what is shown of it.
+#[tactic(auto, using(crate::proofs::Telling::unreported_told, crate::proofs::Telling::delivered_told))]
 fn tell<W: Write>(
     alloc: Global,
     octets: &[u8],
@@ -143,7 +146,8 @@ fn tell<W: Write>(
     table: Table,
     transcript: bool,
 ) -> Status
-    ensures { Told (capacity_of table) transcript (scenario_of octets.now) (W.contents writer.old) (W.contents writer.new) result }
+    ensures shown { Told (capacity_of table) transcript (scenario_of octets.now) (W.contents writer.old) (W.contents writer.new) result }
+    ensures told { result ≢ Stopped ReadFailed }
 {
     match reported_with(alloc, octets, table, transcript) {
         Ok((verdict, text)) => deliver(writer, verdict, text.as_slice()),

@@ -1,11 +1,10 @@
 -- The stepping machine answers as its whole past.
 use Rattle.std.proofs.Common.{◌≡◌, ℕ, ◌+◌, ◌%◌, ◌≤◌, ◌^◌, ◌==◌, ◌&&◌, not, Bool, true, false, if◌then◌else◌, List, [], ◌∷◌, ◌++◌, map, Option, Some, None, Result, Ok, Err, refl, sym, ap, ap₂, subst, ◌∙◌, arith, add-zero}
-use Rattle.std.specs.Prelude.{max, fold, is_err}
+use Rattle.std.specs.Prelude.{max, fold}
 use Rattle.std.proofs.lemmas.List.{append-nil}
 use Rattle.std.proofs.lemmas.List.Sums.{fold-append}
-use Rattle.hsr_frame.specs.Address.{is_same_address}
 use Rattle.hsr_frame.specs.Counters.{bit, counted_cause}
-use Rattle.hsr_frame.specs.Egress.{Egress, up, a, b, exits_of, is_supervision}
+use Rattle.hsr_frame.specs.Egress.{Egress, up, a, b, exits_of}
 use Rattle.hsr_frame.specs.Send.{send_refusal}
 use Rattle.hsr_frame.specs.declared.counters.Counters.{Counters}
 use Rattle.hsr_frame.specs.declared.egress.Exits.{Exits}
@@ -16,27 +15,25 @@ use Rattle.hsr_frame.specs.declared.node.Cause.{Cause}
 use Rattle.hsr_frame.specs.declared.node.Cause.TheVariants as cause
 use Rattle.hsr_frame.specs.declared.node.Mode.{Mode}
 use Rattle.hsr_frame.specs.declared.node.RingPort.{RingPort}
-use Rattle.hsr_supervision.specs.Payload.{Fields, read_of}
-use Rattle.hsr_supervision.specs.declared.payload.SupFault.{SupFault}
-use Rattle.hsr_tag.specs.Seen.{classified}
+use Rattle.hsr_tag.specs.Seen.{classified, is_told, payload_in}
 use Rattle.hsr_tag.specs.declared.seen.Seen.{Seen}
 use Rattle.hsr_tag.specs.declared.seen.Seen.TheVariants.{Plain, Tagged}
 use Rattle.hsr_duptable.specs.Key.{Key}
 use Rattle.hsr_duptable.specs.Log.{StandsFor, remembered}
-use Rattle.hsr_duptable.specs.Notes.{has_key}
-use Rattle.hsr_duptable.specs.Table.{Table, after_age, after_pass, remembers}
+use Rattle.hsr_duptable.specs.Notes.{has_key, entry_forget, note_if}
+use Rattle.hsr_duptable.specs.Table.{Table, after_age, remembers}
 use Rattle.hsr_duptable.specs.declared.note.Note.{Note}
-use Rattle.hsr_duptable.proofs.LogLaws.{StandsFor-age, StandsFor-new, StandsFor-note, remembers-StandsFor}
+use Rattle.hsr_duptable.proofs.LogLaws.{StandsFor-age, StandsFor-new, StandsFor-note, remembers-StandsFor, StandsFor-pass, StandsFor-same}
 use Rattle.hsr_duptable.proofs.Within.{IsWithin-age, IsWithin-empty}
 use Rattle.hsr_tables.specs.Known.{known}
-use Rattle.hsr_tables.specs.Nodes.{Hearing, Nodes, heard, heard_if, listened, no_nodes}
+use Rattle.hsr_tables.specs.Nodes.{Hearing, Nodes, heard, no_nodes}
 use Rattle.hsr_danh.specs.Machine.{AreWithin, Machine, new_machine}
 use Rattle.hsr_danh.specs.Step.{after_arrival, after_numbered, age_step, arrive_or_spent, arrive_step, counted_with, heard_of, judged, key_of, life_or_spent, life_step, now_at, send_or_refuse, send_step, verdict_of}
 use Rattle.hsr_danh.specs.Wanted.{wanted}
 use Rattle.hsr_danh.specs.Past as deeds
-use Rattle.hsr_danh.specs.Past.{Answer, Call, Deed, Did, count_of, counters_of, done, gave_up, hearings_of, is_step, is_told, is_unreadable, judged_frame, log_of, number_after, moment_of, note_if, passes_from, past_step, remembers_of, sent_frame, sent_life, step, told_by, verdict_from}
+use Rattle.hsr_danh.specs.Past.{Answer, Call, Deed, Did, count_of, counters_of, done, gave_up, hearings_of, is_step, is_unreadable, judged_frame, log_of, number_after, moment_of, passes_from, past_step, remembers_of, sent_frame, sent_life, step, verdict_from}
 use Rattle.hsr_danh.specs.declared.danh.Verdict.{Verdict}
-use Rattle.hsr_tables.proofs.NodeLaws.{rows_of_latest}
+use Rattle.hsr_tables.proofs.NodeLaws.{rows_of_latest, listened-if}
 use Rattle.hsr_danh.proofs.Steps.{AreWithin-judged, notes-passed}
 
 -- what a machine holds is what its past gives
@@ -56,14 +53,6 @@ abbrev pub Kept : ℕ → Machine → Answer × Machine → Answer × List Deed 
 Kept capacity machine s p = (s.0 ≡ p.0) × IsPastOf capacity s.1 p.1 × (s.1.own ≡ machine.own) × (s.1.mode ≡ machine.mode)
 
 -- ---- logs
-
-StandsFor-pass : (capacity : ℕ) (table : Table) (log : List Note) (passes : Bool) (key : Key) (now : ℕ) → table.last ≤ now → StandsFor capacity table log
-    → StandsFor capacity (after_pass capacity table passes key now) (log ++ note_if passes key now)
-StandsFor-pass capacity table log true key now h s = StandsFor-note capacity table log key now h s
-StandsFor-pass capacity table log false key now h s = rw (append-nil log) s
-
-StandsFor-same : (capacity : ℕ) (table : Table) (log : List Note) → StandsFor capacity table log → StandsFor capacity table (log ++ [])
-StandsFor-same capacity table log s = rw (append-nil log) s
 
 heard-same : (nodes : Nodes) (hearings : List Hearing) → nodes ≡ fold heard no_nodes hearings → nodes ≡ fold heard no_nodes (hearings ++ [])
 heard-same nodes hearings e = rw (append-nil hearings) e
@@ -125,7 +114,7 @@ life-case capacity machine past at false r =
 
 -- ---- arrivals
 
-remembers-same : (capacity : ℕ) (machine : Machine) (past : List Deed) (now : ℕ) (key : Key) (table : Table) (egress : Egress) → table.last ≤ now → table.forget ≡ 400
+remembers-same : (capacity : ℕ) (machine : Machine) (past : List Deed) (now : ℕ) (key : Key) (table : Table) (egress : Egress) → table.last ≤ now → table.forget ≡ entry_forget
     → StandsFor capacity table (log_of machine.own egress past) → remembers table key now ≡ remembers_of capacity machine.own past now key egress
 remembers-same capacity machine past now key table egress h forget s =
     remembers-StandsFor capacity table (log_of machine.own egress past) key now h s
@@ -167,22 +156,9 @@ logged-b capacity machine past now wants x (Ok (Plain frame)) h r = StandsFor-sa
 logged-b capacity machine past now wants x (Ok (Tagged frame)) h r =
     StandsFor-pass capacity machine.notes.b (log_of machine.own b past) (judged capacity machine.notes wants.exits (Ok (Tagged frame)) now).0.b (key_of frame) now (omega (arith, r.within.b.last)) r.on_b
 
--- what is heard, and whether it could be read
-told-same : (told : Bool) (payload : List ℕ) (nodes : Nodes) (x : RingPort) (now : ℕ)
-    → let h = if told then listened nodes payload x now else (true, nodes) in
-    (h.1 ≡ fold heard nodes (if told then deeds.hearing_if x now (read_of payload) else [])) × (not h.0 ≡ (if told then is_err (read_of payload) else false))
-told-same false payload nodes x now = (refl, refl)
-told-same true payload nodes x now = by_read (read_of payload)
-  where
-    by_read : (said : Result Fields SupFault) → ((heard_if nodes x now said).1 ≡ fold heard nodes (deeds.hearing_if x now said)) × (not (heard_if nodes x now said).0 ≡ is_err said)
-    by_read (Ok said) = (refl, refl)
-    by_read (Err fault) = (refl, refl)
-
 heard-told : (own : List ℕ) (nodes : Nodes) (x : RingPort) (seen : Result Seen FrameFault) (verdict : Verdict) (now : ℕ)
     → ((heard_of own nodes x seen now).1 ≡ fold heard nodes (deeds.heard_by own now (judged_frame x seen verdict))) × (not (heard_of own nodes x seen now).0 ≡ is_unreadable own (judged_frame x seen verdict))
-heard-told own nodes x (Err fault) verdict now = (refl, refl)
-heard-told own nodes x (Ok (Plain frame)) verdict now = (refl, refl)
-heard-told own nodes x (Ok (Tagged frame)) verdict now = told-same (is_supervision frame.dst frame.kind && not (is_same_address frame.src own)) frame.payload nodes x now
+heard-told own nodes x seen verdict now = listened-if (is_told own seen) (payload_in seen) nodes x now
 
 one-more : (p : Bool) (n : ℕ) → n + bit p ≡ (if p then n + 1 else n)
 one-more true n = refl
@@ -305,9 +281,9 @@ runs capacity own mode machine past (call ∷ calls) is_own is_mode r =
 
 pub begins : (capacity : ℕ) (own : List ℕ) (mode : Mode) → IsPastOf capacity (new_machine own mode) []
 begins capacity own mode = record {
-  on_up = StandsFor-new capacity 400;
-  on_a = StandsFor-new capacity 400;
-  on_b = StandsFor-new capacity 400;
+  on_up = StandsFor-new capacity entry_forget;
+  on_a = StandsFor-new capacity entry_forget;
+  on_b = StandsFor-new capacity entry_forget;
   within = record { up = IsWithin-empty; a = IsWithin-empty; b = IsWithin-empty };
   nodes = refl;
   next = refl;

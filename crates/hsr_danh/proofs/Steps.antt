@@ -1,24 +1,22 @@
 -- What the program does in a step is the step of the definition, and keeps what holds of each DANH.
-use Rattle.std.proofs.Common.{◌≡◌, ℕ, ◌+◌, ◌%◌, ◌<◌, ◌≤◌, ◌^◌, ◌==◌, Bool, true, false, not, ◌&&◌, if◌then◌else◌, List, [], ◌∷◌, Some, None, Result, Ok, Err, ap, ap₂, sym, arith, ◌∙◌}
+use Rattle.std.proofs.Common.{◌≡◌, ℕ, ◌+◌, ◌%◌, ◌<◌, ◌≤◌, ◌^◌, ◌==◌, Bool, true, false, not, List, [], ◌∷◌, Some, None, Result, Ok, Err, ap, ap₂, sym, arith, ◌∙◌}
 use Rattle.std.proofs.lemmas.Bool.Decides.{nat_tests}
 use Rattle.hsr_frame.specs.Counters.{AreWithin as CountersWithin, bit}
 use Rattle.hsr_frame.proofs.Counting.{AreWithin-counted_bad}
-use Rattle.hsr_frame.specs.Address.{is_same_address}
-use Rattle.hsr_frame.specs.Egress.{a, b, exits_of, is_supervision}
+use Rattle.hsr_frame.specs.Egress.{a, b, exits_of}
 use Rattle.hsr_frame.specs.Send.{send_refusal}
 use Rattle.hsr_frame.specs.declared.counters.Counters.{Counters}
 use Rattle.hsr_frame.specs.declared.egress.Exits.{Exits}
 use Rattle.hsr_frame.specs.declared.fault.FrameFault.{FrameFault}
 use Rattle.hsr_frame.specs.declared.fault.SendFault.{SendFault}
 use Rattle.hsr_frame.specs.declared.node.RingPort.{RingPort}
-use Rattle.hsr_tag.specs.Seen.{classified}
+use Rattle.hsr_tag.specs.Seen.{classified, is_told, payload_in}
 use Rattle.hsr_tag.specs.declared.seen.Seen.{Seen}
 use Rattle.hsr_tag.specs.declared.seen.Seen.TheVariants.{Plain, Tagged}
 use Rattle.hsr_duptable.specs.Key.{Key}
 use Rattle.hsr_duptable.proofs.Within.{IsWithin-more, IsWithin-pass}
-use Rattle.hsr_supervision.specs.Payload.{Fields, read_of}
-use Rattle.hsr_supervision.specs.declared.payload.SupFault.{SupFault}
-use Rattle.hsr_tables.specs.Nodes.{Nodes, heard_if, listened}
+use Rattle.hsr_tables.specs.Nodes.{Nodes}
+use Rattle.hsr_tables.proofs.NodeLaws.{listened-last}
 use Rattle.hsr_danh.specs.Machine.{AreWithin, Machine, Notes}
 use Rattle.hsr_danh.specs.Step.{after_arrival, after_passes, arrive_or_spent, arrive_step, counted_with, heard_of, judged, key_of, life_or_spent, life_step, now_at, passes_of, send_or_refuse, send_step, verdict_of}
 use Rattle.hsr_danh.specs.Wanted.{wanted}
@@ -106,17 +104,7 @@ AreWithin-judged capacity notes exits (Ok (Plain frame)) moment now accepted h w
 AreWithin-judged capacity notes exits (Ok (Tagged frame)) moment now accepted h w = notes-passed capacity notes (passes_of notes exits (key_of frame) now) (key_of frame) moment now accepted h w
 
 pub heard_of-last : (own : List ℕ) (nodes : Nodes) (x : RingPort) (seen : Result Seen FrameFault) (now : ℕ) → nodes.last ≤ now → (heard_of own nodes x seen now).1.last ≤ now
-heard_of-last own nodes x (Err fault) now h = h
-heard_of-last own nodes x (Ok (Plain frame)) now h = h
-heard_of-last own nodes x (Ok (Tagged frame)) now h = either (is_supervision frame.dst frame.kind && not (is_same_address frame.src own))
-  where
-    read : (said : Result Fields SupFault) → (heard_if nodes x now said).1.last ≤ now
-    read (Ok said) = omega arith
-    read (Err fault) = h
-
-    either : (heard : Bool) → (if heard then listened nodes frame.payload x now else (true, nodes)).1.last ≤ now
-    either true = read (read_of frame.payload)
-    either false = h
+heard_of-last own nodes x seen now h = listened-last (is_told own seen) (payload_in seen) nodes x now h
 
 pub CountersWithin-arrived : (counters : Counters) (verdict : Verdict) (readable : Bool) (accepted : ℕ) → CountersWithin counters accepted → CountersWithin (counted_with counters verdict readable) (accepted + 1)
 CountersWithin-arrived counters verdict readable accepted w =

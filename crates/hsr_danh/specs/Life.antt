@@ -1,16 +1,8 @@
 -- The supervision frame of a DANH.
 use Rattle.std.specs.Prelude.{ℕ, List, None}
-use Rattle.hsr_frame.specs.Address.{supervision_address}
 use Rattle.hsr_frame.specs.Grammar.{Fields}
-use Rattle.hsr_supervision.specs.Payload.{spelling}
-use Rattle.hsr_supervision.specs.declared.payload.SupKind.TheVariants.{Hsr}
+use Rattle.hsr_supervision.specs.Life.{life_frame, life_said}
 
--- to the group of supervision frames, about the node itself, with no VLAN tag
-abbrev pub life_fields : List ℕ → ℕ → Fields
-life_fields own life = record {
-  dst = supervision_address;
-  src = own;
-  vlan = None;
-  kind = 0x88FB;
-  rest = spelling (record { path = 0; version = 1; seq = life; kind = Hsr; about = own; redbox = None });
-}
+-- it is about the node itself
+unfoldable pub life_fields : List ℕ → ℕ → Fields
+life_fields own life = life_frame own (life_said own None life)

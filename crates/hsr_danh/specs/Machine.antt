@@ -4,6 +4,7 @@ use Rattle.hsr_frame.specs.Address.{IsGroup}
 use Rattle.hsr_frame.specs.Counters.{no_counts, AreWithin as CountersWithin}
 use Rattle.hsr_frame.specs.declared.counters.Counters.{Counters}
 use Rattle.hsr_frame.specs.declared.node.Mode.{Mode}
+use Rattle.hsr_duptable.specs.Notes.{entry_forget}
 use Rattle.hsr_duptable.specs.Table.{IsWithin, Table, empty_table}
 use Rattle.hsr_tables.specs.Nodes.{Nodes, no_nodes}
 
@@ -28,7 +29,7 @@ pub record Machine : Type 0 where
   pub accepted : ℕ
 
 abbrev pub no_notes : Notes
-no_notes = record { up = empty_table 400; a = empty_table 400; b = empty_table 400 }
+no_notes = record { up = empty_table entry_forget; a = empty_table entry_forget; b = empty_table entry_forget }
 
 abbrev pub new_machine : List ℕ → Mode → Machine
 new_machine own mode = record { own = own; mode = mode; notes = no_notes; nodes = no_nodes; next = 0; counters = no_counts; moment = 0; accepted = 0 }

@@ -1,29 +1,26 @@
 -- The machine that keeps its whole past, and answers by filtering it.
-use Rattle.std.specs.Prelude.{◌≡◌, ℕ, ◌+◌, ◌%◌, ◌^◌, ◌==◌, ◌&&◌, not, max, Bool, true, false, List, [], ◌∷◌, ◌++◌, filter, map, reverse, Option, Some, None, Result, Ok, Err, if◌then◌else◌, is_err}
-use Rattle.hsr_frame.specs.Address.{is_same_address}
-use Rattle.hsr_frame.specs.Egress.{Egress, up, a, b, c, d, is_supervision}
+use Rattle.std.specs.Prelude.{◌≡◌, ℕ, ◌+◌, ◌%◌, ◌^◌, ◌==◌, ◌&&◌, not, max, Bool, true, false, List, [], ◌∷◌, ◌++◌, map, reverse, Option, Some, None, Result, Ok, Err, if◌then◌else◌, is_err}
+use Rattle.hsr_frame.specs.Cause.{is_duplicate, is_returned, is_foreign, is_local, is_untagged, is_tagged, is_malformed}
+use Rattle.hsr_frame.specs.Egress.{Egress, up, a, b, c, d}
 use Rattle.hsr_frame.specs.Send.{send_refusal}
 use Rattle.hsr_frame.specs.declared.counters.Counters.{Counters}
 use Rattle.hsr_frame.specs.declared.egress.Exits.{Exits}
 use Rattle.hsr_frame.specs.declared.fault.FrameFault.{FrameFault}
 use Rattle.hsr_frame.specs.declared.fault.SendFault.{SendFault}
 use Rattle.hsr_frame.specs.declared.fault.Spent.{Spent}
-use Rattle.hsr_frame.specs.declared.node.Cause.{Cause}
-use Rattle.hsr_frame.specs.declared.node.Cause.TheVariants as cause
 use Rattle.hsr_frame.specs.declared.node.Life.{Life}
 use Rattle.hsr_frame.specs.declared.node.Mode.{Mode}
 use Rattle.hsr_frame.specs.declared.node.RingPort.{RingPort}
-use Rattle.hsr_supervision.specs.Payload.{Fields, read_of}
-use Rattle.hsr_supervision.specs.declared.payload.SupFault.{SupFault}
-use Rattle.hsr_tag.specs.Seen.{classified}
+use Rattle.hsr_supervision.specs.Payload.{read_of}
+use Rattle.hsr_tag.specs.Seen.{classified, is_told, payload_in}
 use Rattle.hsr_tag.specs.declared.seen.Seen.{Seen}
 use Rattle.hsr_tag.specs.declared.seen.Seen.TheVariants.{Plain, Tagged}
 use Rattle.hsr_duptable.specs.Key.{Key}
-use Rattle.hsr_duptable.specs.Notes.{has_key}
+use Rattle.hsr_duptable.specs.Notes.{has_key, entry_forget, note_if}
 use Rattle.hsr_duptable.specs.Log.{remembered}
 use Rattle.hsr_duptable.specs.declared.note.Note.{Note}
-use Rattle.hsr_tables.specs.Known.{is_young, known, latest_64}
-use Rattle.hsr_tables.specs.Nodes.{Hearing, row_after}
+use Rattle.hsr_tables.specs.Known.{known}
+use Rattle.hsr_tables.specs.Nodes.{Hearing, hearing_if, rows_known}
 use Rattle.hsr_tables.specs.declared.nodes.NodeRow.{NodeRow}
 use Rattle.hsr_danh.specs.Machine.{Machine, new_machine}
 use Rattle.hsr_danh.specs.Step.{age_step, arrive_step, key_of, life_step, send_step, verdict_of}
@@ -125,9 +122,6 @@ passed verdict b = verdict.b
 passed verdict c = false
 passed verdict d = false
 
-abbrev pub note_if : Bool → Key → ℕ → List Note
-note_if noted key now = if noted then record { key = key; moment = now } ∷ [] else []
-
 abbrev pub noted_by : List ℕ → Egress → ℕ → Did → List Note
 noted_by own egress now (sent_frame seq) = note_if (is_ring egress) (record { src = own; seq = seq }) now
 noted_by own egress now (sent_life seq) = note_if (is_ring egress) (record { src = own; seq = seq }) now
@@ -142,28 +136,14 @@ log_of own egress (deed ∷ past) = log_of own egress past ++ noted_by own egres
 
 -- an egress remembers a frame: of its last notes, as many as a table has entries, one is younger than 400 milliseconds and has the key
 abbrev pub remembers_of : ℕ → List ℕ → List Deed → ℕ → Key → Egress → Bool
-remembers_of capacity own past now key egress = has_key key (remembered capacity 400 (log_of own egress past) now)
+remembers_of capacity own past now key egress = has_key key (remembered capacity entry_forget (log_of own egress past) now)
 
 -- ---- hearings: readable tagged supervision frames of other nodes, the earliest first
-
-abbrev pub is_told : List ℕ → Result Seen FrameFault → Bool
-is_told own (Err fault) = false
-is_told own (Ok (Plain frame)) = false
-is_told own (Ok (Tagged frame)) = is_supervision frame.dst frame.kind && not (is_same_address frame.src own)
-
-abbrev pub told_by : Result Seen FrameFault → Result Fields SupFault
-told_by (Err fault) = read_of []
-told_by (Ok (Plain frame)) = read_of []
-told_by (Ok (Tagged frame)) = read_of frame.payload
-
-abbrev pub hearing_if : RingPort → ℕ → Result Fields SupFault → List Hearing
-hearing_if x now (Ok said) = record { said = said; port = x; at = now } ∷ []
-hearing_if x now (Err fault) = []
 
 abbrev pub heard_by : List ℕ → ℕ → Did → List Hearing
 heard_by own now (sent_frame seq) = []
 heard_by own now (sent_life seq) = []
-heard_by own now (judged_frame x seen verdict) = if is_told own seen then hearing_if x now (told_by seen) else []
+heard_by own now (judged_frame x seen verdict) = if is_told own seen then hearing_if x now (read_of (payload_in seen)) else []
 heard_by own now gave_up = []
 
 abbrev pub hearings_of : List ℕ → List Deed → List Hearing
@@ -173,14 +153,12 @@ hearings_of own (deed ∷ past) = hearings_of own past ++ heard_by own deed.now 
 abbrev pub is_unreadable : List ℕ → Did → Bool
 is_unreadable own (sent_frame seq) = false
 is_unreadable own (sent_life seq) = false
-is_unreadable own (judged_frame x seen verdict) = if is_told own seen then is_err (told_by seen) else false
+is_unreadable own (judged_frame x seen verdict) = if is_told own seen then is_err (read_of (payload_in seen)) else false
 is_unreadable own gave_up = false
 
 -- the rows of the nodes that are known at a moment
 abbrev pub rows_of : List ℕ → List Deed → ℕ → List NodeRow
-rows_of own past at =
-    let latest_first = reverse (hearings_of own past) in
-    map (row_after latest_first) (filter (λ h. is_young at h.at) (latest_64 (λ h. h.said.about) latest_first))
+rows_of own past at = rows_known (reverse (hearings_of own past)) at
 
 -- ---- counters: how often each thing was done
 
@@ -189,34 +167,6 @@ has p (sent_frame seq) = false
 has p (sent_life seq) = false
 has p (judged_frame x seen verdict) = p verdict
 has p gave_up = false
-
-abbrev pub is_duplicate : Cause → Bool
-is_duplicate cause.Duplicate = true
-is_duplicate _ = false
-
-abbrev pub is_returned : Cause → Bool
-is_returned cause.Returned = true
-is_returned _ = false
-
-abbrev pub is_foreign : Cause → Bool
-is_foreign cause.Foreign = true
-is_foreign _ = false
-
-abbrev pub is_local : Cause → Bool
-is_local cause.Local = true
-is_local _ = false
-
-abbrev pub is_untagged : Cause → Bool
-is_untagged cause.Untagged = true
-is_untagged _ = false
-
-abbrev pub is_tagged : Cause → Bool
-is_tagged cause.Tagged = true
-is_tagged _ = false
-
-abbrev pub is_malformed : Cause → Bool
-is_malformed (cause.Malformed fault) = true
-is_malformed _ = false
 
 abbrev pub counters_of : List ℕ → List Deed → Counters
 counters_of own past = record {

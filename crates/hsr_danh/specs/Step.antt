@@ -1,8 +1,7 @@
 -- One step of a DANH: the answer to a call, and what the node holds after it.
 use Rattle.std.specs.Prelude.{ℕ, ◌+◌, ◌%◌, ◌^◌, ◌==◌, ◌&&◌, not, max, Bool, true, false, List, [], ◌∷◌, Option, Some, None, Result, Ok, Err, if◌then◌else◌}
-use Rattle.hsr_frame.specs.Address.{is_same_address}
 use Rattle.hsr_frame.specs.Counters.{bit, counted}
-use Rattle.hsr_frame.specs.Egress.{cause_of, exits_of, is_supervision}
+use Rattle.hsr_frame.specs.Egress.{cause_of, exits_of}
 use Rattle.hsr_frame.specs.Egress as egress
 use Rattle.hsr_frame.specs.Send.{send_refusal}
 use Rattle.hsr_frame.specs.declared.counters.Counters.{Counters}
@@ -14,7 +13,7 @@ use Rattle.hsr_frame.specs.declared.fault.Spent.{Spent}
 use Rattle.hsr_frame.specs.declared.node.Life.{Life}
 use Rattle.hsr_frame.specs.declared.node.RingPort.{RingPort}
 use Rattle.hsr_tag.specs.Tag.{TaggedFields}
-use Rattle.hsr_tag.specs.Seen.{classified}
+use Rattle.hsr_tag.specs.Seen.{classified, is_told, payload_in}
 use Rattle.hsr_tag.specs.declared.seen.Seen.{Seen}
 use Rattle.hsr_tag.specs.declared.seen.Seen.TheVariants.{Plain, Tagged}
 use Rattle.hsr_duptable.specs.Key.{Key}
@@ -90,10 +89,7 @@ judged capacity notes exits (Ok (Tagged frame)) now =
 
 -- a tagged supervision frame of another node is heard, duplicates too; whether it could be read, and the nodes after it
 abbrev pub heard_of : List ℕ → Nodes → RingPort → Result Seen FrameFault → ℕ → Bool × Nodes
-heard_of own nodes x (Err fault) now = (true, nodes)
-heard_of own nodes x (Ok (Plain frame)) now = (true, nodes)
-heard_of own nodes x (Ok (Tagged frame)) now =
-    if is_supervision frame.dst frame.kind && not (is_same_address frame.src own) then listened nodes frame.payload x now else (true, nodes)
+heard_of own nodes x seen now = if is_told own seen then listened nodes (payload_in seen) x now else (true, nodes)
 
 abbrev pub verdict_of : Wants → Exits → Verdict
 verdict_of wants passes = record { up = passes.up; a = passes.a; b = passes.b; cause = cause_of wants passes }

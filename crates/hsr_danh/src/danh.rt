@@ -101,7 +101,7 @@ impl<const C: usize> Danh<C> {
         let now = self.moment.max(at);
         let seq = self.next;
         self.tables
-            .mark(both_ports(), Key { src: self.own, seq }, now);
+            .mark(Exits::both_ports(), Key { src: self.own, seq }, now);
         self.next = seq.wrapping_add(1);
         self.counters.sent += 1;
         self.moment = now;
@@ -121,7 +121,7 @@ impl<const C: usize> Danh<C> {
         let seq = self.next;
         let life = (self.counters.life % 65536) as u16;
         self.tables
-            .mark(both_ports(), Key { src: self.own, seq }, now);
+            .mark(Exits::both_ports(), Key { src: self.own, seq }, now);
         self.next = seq.wrapping_add(1);
         self.counters.life += 1;
         self.moment = now;
@@ -183,21 +183,8 @@ impl<const C: usize> Danh<C> {
     }
 }
 
-ghost use Rattle.std.specs.Prelude.{[], ◌∷◌};
 ghost use Rattle.hsr_frame.specs.Counters.{AreWithin};
-ghost use Rattle.hsr_frame.specs.Egress.{a, b, exits_of};
 ghost use Rattle.hsr_danh.specs.Step.{counted_with, heard_of, verdict_of};
-
-/// The egresses of a frame of the node's own.
-fn both_ports() -> Exits
-    ensures { result ≡ exits_of (a ∷ b ∷ []) }
-{
-    Exits {
-        a: true,
-        b: true,
-        ..Exits::none()
-    }
-}
 
 /// The verdict on what these of the egresses that want it pass.
 fn verdict_on(wants: Wants, passes: Exits) -> Verdict

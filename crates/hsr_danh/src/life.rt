@@ -9,6 +9,7 @@ use hsr_tag::Frame;
 
 /// The frame by which a node tells that it is there (IEC 62439-3 clause 5.7), before it is tagged; `life` counts the
 /// node's earlier ones, modulo 65536.
+#[tactic(auto, unfolding(crate::specs::Life::life_fields))]
 pub fn life_frame(own: Mac, life: u16) -> Frame
     requires { ¬ IsGroup own }
     ensures { result ≡ life_fields own life }

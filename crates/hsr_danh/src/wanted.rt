@@ -26,14 +26,11 @@ fn tagged_wants(own: Mac, mode: Mode, port: RingPort, frame: &Tagged) -> Wants
     }
     let goes_up = frame.dst == own || frame.dst.is_group();
     let goes_on = frame.dst != own && mode == Mode::H;
-    Wants {
-        exits: Exits {
-            up: goes_up,
-            a: goes_on && port == RingPort::B,
-            b: goes_on && port == RingPort::A,
-            c: false,
-            d: false,
-        },
-        cause: Cause::Foreign,
-    }
+    Wants::to(Exits {
+        up: goes_up,
+        a: goes_on && port == RingPort::B,
+        b: goes_on && port == RingPort::A,
+        c: false,
+        d: false,
+    })
 }

@@ -4,8 +4,8 @@ use Rattle.std.proofs.lemmas.List.{take-append-drop, drop-append-le, drop-drop}
 use Rattle.std.proofs.lemmas.List.Elements.{filter-append}
 use Rattle.std.proofs.Math.ListN.{drop_of_length-le}
 use Rattle.std.proofs.lemmas.Bool.{cases_lt}
-use Rattle.hsr_duptable.specs.Notes.{has_key, is_unexpired, unexpired_notes, last_notes, IsRising}
-use Rattle.hsr_duptable.specs.Table.{Table, empty_table, remembers, after_note, after_age}
+use Rattle.hsr_duptable.specs.Notes.{has_key, is_unexpired, unexpired_notes, last_notes, IsRising, note_if}
+use Rattle.hsr_duptable.specs.Table.{Table, empty_table, remembers, after_note, after_age, after_pass}
 use Rattle.hsr_duptable.specs.Log.{remembered, StandsFor, Call, noting, ageing, IsTimely, after_calls, log_of, AnswersAsLog}
 use Rattle.hsr_duptable.specs.Key.{Key}
 use Rattle.hsr_duptable.specs.declared.note.Note.{Note}
@@ -98,6 +98,16 @@ StandsFor-note capacity table log key at h s =
     older_gone forget at older more capacity before after (inr room) none =
         let part = last_notes-fewer (capacity - after) (capacity - before) older (omega arith) in
         rw (room.1, append-nil older, part.1) (unexpired_notes-drop forget at part.0 (last_notes (capacity - before) older) none)
+
+-- nothing is noted
+pub StandsFor-same : (capacity : ℕ) (table : Table) (log : List Note) → StandsFor capacity table log → StandsFor capacity table (log ++ [])
+StandsFor-same capacity table log s = rw (append-nil log) s
+
+-- a frame that passes is noted, and one that doesn't leaves the log
+pub StandsFor-pass : (capacity : ℕ) (table : Table) (log : List Note) (passes : Bool) (key : Key) (at : ℕ) → table.last ≤ at → StandsFor capacity table log
+    → StandsFor capacity (after_pass capacity table passes key at) (log ++ note_if passes key at)
+StandsFor-pass capacity table log true key at h s = StandsFor-note capacity table log key at h s
+StandsFor-pass capacity table log false key at h s = StandsFor-same capacity table log s
 
 -- ageing adds nothing to the log
 pub StandsFor-age : (capacity : ℕ) (table : Table) (log : List Note) (at : ℕ) → table.last ≤ at → StandsFor capacity table log → StandsFor capacity (after_age table at) log

@@ -1,9 +1,10 @@
 -- A node's table stays within its node's moment and steps.
 use Rattle.std.proofs.Common.{ℕ, ◌+◌, ◌≤◌, Bool, true, false, refl, arith}
 use Rattle.hsr_duptable.specs.Key.{Key}
+use Rattle.hsr_duptable.specs.Notes.{entry_forget}
 use Rattle.hsr_duptable.specs.Table.{IsWithin, Table, after_age, after_pass, empty_table}
 
-pub IsWithin-empty : IsWithin (empty_table 400) 0 0
+pub IsWithin-empty : IsWithin (empty_table entry_forget) 0 0
 IsWithin-empty = record { forget = refl; last = omega arith; noted = omega arith }
 
 pub IsWithin-pass : (capacity : ℕ) (table : Table) (passes : Bool) (key : Key) (moment now accepted : ℕ) → moment ≤ now → IsWithin table moment accepted

@@ -1,8 +1,16 @@
 -- Notes of the frames that passed, the oldest first.
-use Rattle.std.specs.Prelude.{ℕ, ◌-◌, ◌≤◌, Bool, List, [], ◌∷◌, length, drop, filter, nat_lt}
+use Rattle.std.specs.Prelude.{ℕ, ◌-◌, ◌≤◌, Bool, List, [], ◌∷◌, length, drop, filter, nat_lt, if◌then◌else◌}
 use Rattle.std.specs.List.{list_any}
 use Rattle.hsr_duptable.specs.Key.{Key, is_same_key}
 use Rattle.hsr_duptable.specs.declared.note.Note.{Note}
+
+-- for how many milliseconds a frame is remembered: the EntryForgetTime of IEC 62439-3 clause 5
+abbrev pub entry_forget : ℕ
+entry_forget = 400
+
+-- what a frame leaves in a log: its note, or none
+abbrev pub note_if : Bool → Key → ℕ → List Note
+note_if noted key now = if noted then record { key = key; moment = now } ∷ [] else []
 
 -- one of the notes has the key
 abbrev pub has_key : Key → List Note → Bool

@@ -1,6 +1,6 @@
 -- What a contract sees of a `DupTable`.
 use Rattle.std.specs.Prelude.{ℕ, ◌≡◌, ◌+◌, ◌≤◌, if◌then◌else◌, Bool, List, [], ◌∷◌, ◌++◌}
-use Rattle.hsr_duptable.specs.Notes.{has_key, unexpired_notes, last_notes, IsRising}
+use Rattle.hsr_duptable.specs.Notes.{has_key, unexpired_notes, last_notes, IsRising, entry_forget}
 use Rattle.hsr_duptable.specs.Key.{Key}
 use Rattle.hsr_duptable.specs.declared.note.Note.{Note}
 
@@ -52,6 +52,6 @@ pub record IsSound (capacity room : ℕ) (notes : List Note) (last : ℕ) : Type
 -- A node's table: it forgets after 400 milliseconds, its time isn't ahead of the node's moment, and no more was
 -- noted than the node accepted.
 pub record IsWithin (table : Table) (moment accepted : ℕ) : Type 0 where
-  pub forget : table.forget ≡ 400
+  pub forget : table.forget ≡ entry_forget
   pub last : table.last ≤ moment
   pub noted : table.noted ≤ accepted

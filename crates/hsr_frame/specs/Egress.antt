@@ -28,6 +28,13 @@ with_exit b exits = record exits { b = true }
 with_exit c exits = record exits { c = true }
 with_exit d exits = record exits { d = true }
 
+abbrev pub has_exit : Exits → Egress → Bool
+has_exit exits up = exits.up
+has_exit exits a = exits.a
+has_exit exits b = exits.b
+has_exit exits c = exits.c
+has_exit exits d = exits.d
+
 -- the set of some egresses
 abbrev pub exits_of : List Egress → Exits
 exits_of [] = no_exits

@@ -1,4 +1,5 @@
 pub mod Cases
+pub mod Cause
 pub mod Fault
 pub mod Address
 pub mod Grammar

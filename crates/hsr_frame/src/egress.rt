@@ -1,6 +1,6 @@
 //! Where a frame can leave a node.
-ghost use Rattle.std.specs.Prelude.{◌≡◌};
-ghost use Rattle.hsr_frame.specs.Egress.{cause_of, is_any, is_supervision, no_exits, nowhere};
+ghost use Rattle.std.specs.Prelude.{[], ◌∷◌, ◌≡◌};
+ghost use Rattle.hsr_frame.specs.Egress.{a, b, cause_of, exits_of, is_any, is_supervision, no_exits, nowhere};
 
 use crate::mac::Mac;
 use crate::node::Cause;
@@ -32,6 +32,17 @@ impl Exits {
         }
     }
 
+    /// Both ring ports, by which a node on a ring sends (IEC 62439-3 clause 5.3).
+    pub fn both_ports() -> Exits
+        ensures { result ≡ exits_of (a ∷ b ∷ []) }
+    {
+        Exits {
+            a: true,
+            b: true,
+            ..Exits::none()
+        }
+    }
+
     /// Whether some egress is in the set.
     pub fn is_any(self) -> bool
         ensures { result ≡ is_any self }
@@ -55,6 +66,16 @@ impl Wants {
         Wants {
             exits: Exits::none(),
             cause,
+        }
+    }
+
+    /// These egresses want the frame; where there are none it is foreign.
+    pub fn to(exits: Exits) -> Wants
+        ensures { result ≡ record { exits = exits; cause = Cause.Foreign } }
+    {
+        Wants {
+            exits,
+            cause: Cause::Foreign,
         }
     }
 

@@ -1,9 +1,9 @@
 -- What is taken in a direction stands before what waits there.
 use Rattle.std.proofs.Common.{◌≡◌, Bool, true, false, cond, ◌&&◌, List, [], ◌∷◌, ◌++◌, map, refl, sym, ap, ◌∙◌, option_to_list, append_assoc, append-nil, arith}
 use Rattle.std.proofs.lemmas.Grind.{common_steps}
-use Rattle.hsr_link.specs.Calls.{Call, TakesInOrder, after_call, after_calls, all_given, cutting, given, injecting, mending, putting, taken_copies, taking}
+use Rattle.hsr_link.specs.Calls.{Call, TakesInOrder, after_call, after_calls, all_given, cutting, given, injecting, mending, putting, taking}
 use Rattle.hsr_link.specs.Link.{Link, fate_of, new_link}
-use Rattle.hsr_link.specs.Rows.{first_copy, goes, is_queued, is_same_dir, is_taken, lost, turned, waits, with_fate}
+use Rattle.hsr_link.specs.Rows.{first_copy, goes, is_queued, is_same_dir, is_taken, lost, taken_copies, turned, waits, with_fate}
 use Rattle.hsr_link.specs.declared.row.Dir.{Dir}
 use Rattle.hsr_link.specs.declared.row.Dir.TheVariants.{Forth, Back}
 use Rattle.hsr_link.specs.declared.row.Fate.{Fate}
@@ -56,7 +56,7 @@ order_turned dir (x ∷ rows) i =
     no_more true h = cc
     no_more false h = cc
 
-taken_turned_other : (dir other : Dir) (rows : List Row) → is_same_dir dir other ≡ false → taken_copies other (turned Taken dir rows) ≡ taken_copies other rows
+pub taken_turned_other : (dir other : Dir) (rows : List Row) → is_same_dir dir other ≡ false → taken_copies other (turned Taken dir rows) ≡ taken_copies other rows
 taken_turned_other dir other [] apart = refl
 taken_turned_other dir other (x ∷ rows) apart =
     let rest = taken_turned_other dir other rows apart in
@@ -76,7 +76,7 @@ order_turned_other dir other (x ∷ rows) apart i =
 
 -- ---- a cut
 
-taken_lost : (dir : Dir) (rows : List Row) → taken_copies dir (map lost rows) ≡ taken_copies dir rows
+pub taken_lost : (dir : Dir) (rows : List Row) → taken_copies dir (map lost rows) ≡ taken_copies dir rows
 taken_lost dir [] = refl
 taken_lost dir (x ∷ rows) =
     let rest = taken_lost dir rows in
@@ -91,7 +91,7 @@ order_lost dir (x ∷ rows) i = (λ w. absurd (none_left x w), order_lost dir ro
 
 -- ---- any call
 
-put_not_taken : (link : Link) (dir : Dir) → is_taken (fate_of link dir) ≡ false
+pub put_not_taken : (link : Link) (dir : Dir) → is_taken (fate_of link dir) ≡ false
 put_not_taken link dir = grind (arith, common_steps)
 
 step_taken : (dir : Dir) (link : Link) (call : Call) → InOrder dir link.rows → taken_copies dir (after_call link call).rows ≡ taken_copies dir link.rows ++ given dir link call

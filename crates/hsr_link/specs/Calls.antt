@@ -1,11 +1,10 @@
 -- Any calls of a link, one after another.
-use Rattle.std.specs.Prelude.{ℕ, ◌≡◌, ◌&&◌, List, [], ◌∷◌, ◌++◌, filter, map, if◌then◌else◌}
+use Rattle.std.specs.Prelude.{ℕ, ◌≡◌, List, [], ◌∷◌, ◌++◌, if◌then◌else◌}
 use Rattle.std.specs.Option.{option_to_list}
 use Rattle.hsr_node.specs.declared.event.Carried.{Carried}
 use Rattle.hsr_link.specs.Link.{Link, cut_step, inject_step, mended, new_link, put_step, take_step}
-use Rattle.hsr_link.specs.Rows.{goes, is_same_dir, is_taken}
+use Rattle.hsr_link.specs.Rows.{is_same_dir, taken_copies}
 use Rattle.hsr_link.specs.declared.row.Dir.{Dir}
-use Rattle.hsr_link.specs.declared.row.Row.{Row}
 
 -- what is done to a link
 pub data Call : Type 0 where
@@ -35,10 +34,6 @@ given dir link _ = []
 abbrev pub all_given : Dir → Link → List Call → List Carried
 all_given dir link [] = []
 all_given dir link (call ∷ calls) = given dir link call ++ all_given dir (after_call link call) calls
-
--- the copies of the Taken rows of a direction
-abbrev pub taken_copies : Dir → List Row → List Carried
-taken_copies dir rows = map (λ row. row.carried) (filter (λ row. goes dir row && is_taken row.fate) rows)
 
 -- Whatever is done to a new link, the copies taken in a direction are those of its Taken rows, in the same order: a
 -- copy overtakes no other.

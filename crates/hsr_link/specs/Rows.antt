@@ -1,5 +1,5 @@
 -- The rows of a link: one for each copy that was put on it, the first put first.
-use Rattle.std.specs.Prelude.{ℕ, ◌==◌, ◌&&◌, Bool, true, false, List, [], ◌∷◌, filter, slice_get, Option, option_map, if◌then◌else◌}
+use Rattle.std.specs.Prelude.{ℕ, ◌==◌, ◌&&◌, not, Bool, true, false, List, [], ◌∷◌, filter, filter_map, slice_get, Option, Some, None, option_map, if◌then◌else◌}
 use Rattle.hsr_frame.specs.Cases.{first_of}
 use Rattle.hsr_node.specs.declared.event.Carried.{Carried}
 use Rattle.hsr_link.specs.declared.row.Dir.{Dir}
@@ -62,3 +62,20 @@ lost row = if is_queued row.fate then with_fate LostCut row else row
 -- a row after the queue of a direction was lost
 abbrev pub lost_of : Dir → Row → Row
 lost_of dir row = if waits dir row then with_fate LostCut row else row
+
+-- ---- copies
+
+-- the copy of a row that the port at the one end put: an injected one comes from nobody
+abbrev pub put_copy : Dir → Row → Option Carried
+put_copy dir row = if goes dir row && not row.injected then Some row.carried else None
+
+-- the copy of a row that the port at the other end took
+abbrev pub taken_copy : Dir → Row → Option Carried
+taken_copy dir row = if goes dir row && is_taken row.fate then Some row.carried else None
+
+-- those of rows, the first put first
+abbrev pub put_copies : Dir → List Row → List Carried
+put_copies dir rows = filter_map (put_copy dir) rows
+
+abbrev pub taken_copies : Dir → List Row → List Carried
+taken_copies dir rows = filter_map (taken_copy dir) rows

@@ -1,5 +1,6 @@
 //! What a link tells of each copy.
 ghost use Rattle.std.specs.Prelude.{◌≡◌, IfOk};
+ghost use Rattle.hsr_link.specs.Rows.{is_lost};
 
 use hsr_frame::NoMemory;
 use hsr_node::Carried;
@@ -35,6 +36,15 @@ pub struct Row {
     pub carried: Carried,
     pub injected: bool,
     pub fate: Fate,
+}
+
+impl Fate {
+    /// Whether the copy was lost: it neither waits nor was taken.
+    pub fn is_lost(self) -> bool
+        ensures { result ≡ is_lost self }
+    {
+        matches!(self, Fate::LostDown | Fate::LostCut | Fate::LostOverrun)
+    }
 }
 
 impl Row {

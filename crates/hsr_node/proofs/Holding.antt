@@ -1,16 +1,16 @@
 -- A node that is told by a record holds what the record tells.
-use Rattle.std.proofs.Common.{◌≡◌, ℕ, ◌%◌, List, map, filter, reverse, ap, sym, ◌∙◌, arith}
+use Rattle.std.proofs.Common.{◌≡◌, ℕ, ◌%◌, List, map, reverse, ap, sym, ◌∙◌, arith}
 use Rattle.std.specs.Prelude.{fold}
 use Rattle.hsr_frame.specs.Egress.{Egress, up, a, b, c, d}
 use Rattle.hsr_duptable.specs.Log as log
 use Rattle.hsr_duptable.specs.Log.{StandsFor}
-use Rattle.hsr_duptable.specs.Notes.{unexpired_notes}
+use Rattle.hsr_duptable.specs.Notes.{unexpired_notes, entry_forget}
 use Rattle.hsr_duptable.specs.Table.{IsWithin, Table}
 use Rattle.hsr_duptable.specs.declared.note.Note.{Note}
 use Rattle.hsr_duptable.proofs.LogLaws.{unexpired_notes-StandsFor}
-use Rattle.hsr_tables.specs.Known.{is_young, known, latest_64}
+use Rattle.hsr_tables.specs.Known.{known, latest_64}
 use Rattle.hsr_tables.specs.Nodes as nodes
-use Rattle.hsr_tables.specs.Nodes.{Hearing, Nodes, no_nodes, row_after}
+use Rattle.hsr_tables.specs.Nodes.{Hearing, Nodes, no_nodes, rows_known}
 use Rattle.hsr_tables.specs.Proxies.{Proxies}
 use Rattle.hsr_tables.proofs.NodeLaws.{rows_of_latest}
 use Rattle.hsr_tables.proofs.ProxyLaws.{knows_latest}
@@ -38,16 +38,16 @@ is-remembered capacity owner past e table notes_of moment accepted within m stan
     ap (λ (f : ℕ). unexpired_notes f at table.notes) (sym within.forget)
     ∙ unexpired_notes-StandsFor capacity table notes_of at (omega (arith, within.last)) stands
     ∙ ap (λ (f : ℕ). log.remembered capacity f notes_of at) within.forget
-    ∙ ap (λ (l : List Note). log.remembered capacity 400 l at) logged
+    ∙ ap (λ (l : List Note). log.remembered capacity entry_forget l at) logged
     ∙ remembered-oldest capacity at (notes owner e past)
 
 -- the rows of hearings
 rows-told : (table : Nodes) (all latest_first : List Hearing) (at : ℕ) → table ≡ fold nodes.heard no_nodes all → reverse all ≡ latest_first
-    → map (λ r. r.0) (known at table.rows) ≡ map (row_after latest_first) (filter (λ h. is_young at h.at) (latest_64 (λ h. h.said.about) latest_first))
+    → map (λ r. r.0) (known at table.rows) ≡ rows_known latest_first at
 rows-told table all latest_first at e r =
     ap (λ (t : Nodes). map (λ r. r.0) (known at t.rows)) e
     ∙ rows_of_latest all at
-    ∙ ap (λ (xs : List Hearing). map (row_after xs) (filter (λ h. is_young at h.at) (latest_64 (λ h. h.said.about) xs))) r
+    ∙ ap (λ (xs : List Hearing). rows_known xs at) r
 
 holds : (capacity : ℕ) (owner : Owner) (past : List Entry) (n : Node capacity) → Held capacity owner.number owner.place n past → Holds capacity owner past n
 holds capacity owner past n h = by_kind owner.number owner.place n h

@@ -7,3 +7,4 @@ pub mod OfStation
 pub mod Refused
 pub mod Replayed
 pub mod Holding
+pub mod SameOutcome

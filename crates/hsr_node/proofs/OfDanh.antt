@@ -4,6 +4,7 @@ use Rattle.std.specs.Prelude.{max, is_some, option_map}
 use Rattle.std.specs.List.{cons_option}
 use Rattle.std.proofs.lemmas.List.{reverse-append}
 use Rattle.hsr_frame.specs.Address.{is_group, is_same_address}
+use Rattle.hsr_frame.specs.Cause.{is_duplicate, is_returned, is_foreign, is_local, is_untagged, is_tagged, is_malformed}
 use Rattle.hsr_frame.specs.Counters.{bit}
 use Rattle.hsr_frame.specs.Egress.{Egress, up, a, b, c, d, beyond, cause_of, nowhere, to}
 use Rattle.hsr_frame.specs.Send.{send_refusal}
@@ -20,19 +21,18 @@ use Rattle.hsr_frame.specs.declared.node.Mode.{Mode}
 use Rattle.hsr_frame.specs.declared.node.Mode.TheVariants.{H, N}
 use Rattle.hsr_frame.specs.declared.node.RingPort.{RingPort}
 use Rattle.hsr_frame.specs.declared.node.RingPort.TheVariants as ring
-use Rattle.hsr_tag.specs.Seen.{classified}
+use Rattle.hsr_tag.specs.Seen.{classified, is_told, payload_in}
 use Rattle.hsr_tag.specs.Tag.{TaggedFields}
 use Rattle.hsr_tag.specs.declared.seen.Seen.{Seen}
 use Rattle.hsr_tag.specs.declared.seen.Seen.TheVariants.{Plain, Tagged}
 use Rattle.hsr_duptable.specs.Key.{Key}
 use Rattle.hsr_duptable.specs.Log.{remembered}
-use Rattle.hsr_duptable.specs.Notes.{has_key}
-use Rattle.hsr_supervision.specs.Payload.{Fields as Said}
-use Rattle.hsr_supervision.specs.declared.payload.SupFault.{SupFault}
+use Rattle.hsr_duptable.specs.Notes.{has_key, entry_forget, note_if as noted_if}
+use Rattle.hsr_supervision.specs.Payload.{read_of}
 use Rattle.hsr_tables.specs.Nodes.{Hearing}
 use Rattle.hsr_danh.specs.Machine.{Machine, new_machine}
 use Rattle.hsr_danh.specs.Past as deeds
-use Rattle.hsr_danh.specs.Past.{Answer, Deed, Did, done, gave_up, judged_frame, sent_frame, sent_life}
+use Rattle.hsr_danh.specs.Past.{Answer, Deed, done, gave_up, judged_frame, sent_frame, sent_life}
 use Rattle.hsr_danh.specs.Step.{arrive_step, key_of, life_step, send_step}
 use Rattle.hsr_danh.specs.Wanted.{wanted}
 use Rattle.hsr_danh.specs.declared.danh.Sent.{Sent as DanhSent}
@@ -42,7 +42,8 @@ use Rattle.hsr_danh.proofs.PastLaw as law
 use Rattle.hsr_redbox.specs.Wanted.{unnumbered}
 use Rattle.hsr_redbox.specs.declared.call.About.{About}
 use Rattle.hsr_redbox.specs.declared.call.About.TheVariants.{Own, Proxied}
-use Rattle.hsr_node.specs.Record.{Owner, arrive_answer, copies, count_of, counters, hearing_by, hearings, hears_at, is_noted, is_unreadable_for, judged_as, key_in, lived_or_refused, lives, next_number, note_if, notes, now, number_in, oldest_first, passing, remembers, send_answer, sent_or_refused, steps, sum_of}
+use Rattle.hsr_node.specs.Counts.{copies, counters, hears_at, is_unreadable_for}
+use Rattle.hsr_node.specs.Record.{Owner, arrive_answer, count_of, hearing_by, hearings, is_noted, judged_as, key_in, lived_or_refused, lives, next_number, note_if, notes, now, number_in, oldest_first, passing, remembers, send_answer, sent_or_refused, steps, sum_of}
 use Rattle.hsr_node.specs.Step.{danh_arrive, danh_judged, danh_send, danh_sent, danh_step, lived, ring_port, spent, told, wrong}
 use Rattle.hsr_node.specs.declared.entry.Entry.{Entry}
 use Rattle.hsr_node.specs.declared.event.Carried.{Carried}
@@ -53,7 +54,7 @@ use Rattle.hsr_node.specs.declared.event.Outcome.TheVariants as outcome
 use Rattle.hsr_node.specs.declared.event.StepFault.TheVariants as refused
 use Rattle.hsr_node.specs.declared.place.Place.TheVariants as place
 use Rattle.hsr_node.proofs.Remembering.{remembers-oldest}
-use Rattle.hsr_node.proofs.Told.{Call, Keeps, Stays, logged, unlogged}
+use Rattle.hsr_node.proofs.Told.{Call, Keeps, Stays, logged, unlogged, heard-same}
 
 abbrev owner_of : ℕ → List ℕ → Mode → Owner
 owner_of number mac mode = record { number = number; place = place.Danh mac mode }
@@ -79,13 +80,6 @@ pub record Held (capacity number : ℕ) (mac : List ℕ) (mode : Mode) (machine 
 
 silent : (xs : List Hearing) → reverse (xs ++ []) ≡ reverse xs
 silent xs = reverse-append xs []
-
--- one hearing, or none
-heard-same : (x : RingPort) (moment effective : ℕ) (is_told : Bool) (said : Result Said SupFault) → moment ≡ effective
-    → reverse {A = Hearing} (if is_told then deeds.hearing_if x moment said else []) ≡ (if is_told then deeds.hearing_if x effective said else [])
-heard-same x moment effective false said m = refl
-heard-same x moment effective true (Err fault) m = refl
-heard-same x moment effective true (Ok said) m = ap (λ (n : ℕ). record { said = said; port = x; at = n } ∷ []) m
 
 -- ---- a frame of the node's own
 
@@ -180,20 +174,20 @@ judged-tells number mac mode did past worker at port x copy v is_x t = record {
   log = λ e. by_seen e (classified copy.octets);
   heard = reverse-append (deeds.hearings_of mac did) (deeds.heard_by mac (max (deeds.moment_of did) at) (judged_frame x (classified copy.octets) v))
       ∙ ap₂ (λ (xs ys : List Hearing). xs ++ ys)
-      (heard-same x (max (deeds.moment_of did) at) (max (now past) at) (deeds.is_told mac (classified copy.octets)) (deeds.told_by (classified copy.octets)) (ap (λ m. max m at) t.moment)) t.heard
+      (heard-same x (max (deeds.moment_of did) at) (max (now past) at) (is_told mac (classified copy.octets)) (read_of (payload_in (classified copy.octets))) (ap (λ m. max m at) t.moment)) t.heard
       ∙ ap (λ (found : Option RingPort). hearing_by (Some mac) found (max (now past) at) (classified copy.octets) ++ hearings (place.Danh mac mode) past) (sym is_x);
   counters = λ i. let k : Counters = t.counters i in record {
     sent = k.sent;
     life = k.life;
     up = if v.up then k.up + 1 else k.up;
     forwarded = forwards i;
-    duplicate = if deeds.is_duplicate v.cause then k.duplicate + 1 else k.duplicate;
-    returned = if deeds.is_returned v.cause then k.returned + 1 else k.returned;
-    foreign = if deeds.is_foreign v.cause then k.foreign + 1 else k.foreign;
-    local = if deeds.is_local v.cause then k.local + 1 else k.local;
-    untagged = if deeds.is_untagged v.cause then k.untagged + 1 else k.untagged;
-    tagged = if deeds.is_tagged v.cause then k.tagged + 1 else k.tagged;
-    malformed = if deeds.is_malformed v.cause then k.malformed + 1 else k.malformed;
+    duplicate = if is_duplicate v.cause then k.duplicate + 1 else k.duplicate;
+    returned = if is_returned v.cause then k.returned + 1 else k.returned;
+    foreign = if is_foreign v.cause then k.foreign + 1 else k.foreign;
+    local = if is_local v.cause then k.local + 1 else k.local;
+    untagged = if is_untagged v.cause then k.untagged + 1 else k.untagged;
+    tagged = if is_tagged v.cause then k.tagged + 1 else k.tagged;
+    malformed = if is_malformed v.cause then k.malformed + 1 else k.malformed;
     bad_life = if unreadable i then k.bad_life + 1 else k.bad_life;
   };
 }
@@ -211,11 +205,11 @@ judged-tells number mac mode did past worker at port x copy v is_x t = record {
     by_seen e (Ok (Plain frame)) = unlogged (deeds.log_of mac e did) (notes (owner_of number mac mode) e past) (t.log e)
     by_seen e (Ok (Tagged frame)) = by_egress e
       where
-        one : (e : Egress) (passed : Bool) → deeds.log_of mac e did ++ deeds.note_if passed (key_of frame) (max (deeds.moment_of did) at)
+        one : (e : Egress) (passed : Bool) → deeds.log_of mac e did ++ noted_if passed (key_of frame) (max (deeds.moment_of did) at)
             ≡ oldest_first (cons_option (note_if passed (Some (key_of frame)) (max (now past) at) copy.probe) (notes (owner_of number mac mode) e past))
         one e passed = logged passed (key_of frame) (max (deeds.moment_of did) at) (max (now past) at) copy.probe (deeds.log_of mac e did) (notes (owner_of number mac mode) e past) (ap (λ m. max m at) t.moment) (t.log e)
 
-        by_egress : (e : Egress) → deeds.log_of mac e did ++ deeds.note_if (deeds.passed v e) (key_of frame) (max (deeds.moment_of did) at)
+        by_egress : (e : Egress) → deeds.log_of mac e did ++ noted_if (deeds.passed v e) (key_of frame) (max (deeds.moment_of did) at)
             ≡ oldest_first (cons_option (note_if (is_noted (danh_judged v) e) (Some (key_of frame)) (max (now past) at) copy.probe) (notes (owner_of number mac mode) e past))
         by_egress up = one up v.up
         by_egress a = one a v.a
@@ -244,7 +238,7 @@ no-others mac N x frame = only-two x (is_same_address frame.src mac) (is_same_ad
 remembers-same : (capacity number : ℕ) (mac : List ℕ) (mode : Mode) (did : List Deed) (past : List Entry) (at : ℕ) (key : Key) (e : Egress) → Tells number mac mode did past
     → deeds.remembers_of capacity mac did at key e ≡ remembers capacity (owner_of number mac mode) past at key e
 remembers-same capacity number mac mode did past at key e t =
-    ap (λ log. has_key key (remembered capacity 400 log at)) (t.log e) ∙ remembers-oldest capacity at key (notes (owner_of number mac mode) e past)
+    ap (λ log. has_key key (remembered capacity entry_forget log at)) (t.log e) ∙ remembers-oldest capacity at key (notes (owner_of number mac mode) e past)
 
 verdict-same : (capacity number : ℕ) (mac : List ℕ) (mode : Mode) (did : List Deed) (past : List Entry) (at next : ℕ) (x : RingPort) (seen : Result Seen FrameFault) → Tells number mac mode did past
     → judged_as (unnumbered (wanted mac mode x seen)) (passing (remembers capacity (owner_of number mac mode) past at) (wanted mac mode x seen).exits seen) next

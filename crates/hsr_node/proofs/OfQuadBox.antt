@@ -2,6 +2,7 @@
 use Rattle.std.proofs.Common.{◌≡◌, ℕ, ◌+◌, ◌==◌, ◌^◌, ◌&&◌, not, Bool, true, false, if◌then◌else◌, List, [], ◌∷◌, ◌++◌, length, Option, Some, None, Result, Ok, Err, refl, sym, ap, subst, ◌∙◌, arith, add-zero}
 use Rattle.std.specs.Prelude.{max, option_map}
 use Rattle.std.specs.List.{cons_option}
+use Rattle.hsr_frame.specs.Cause.{is_duplicate, is_returned, is_foreign, is_local, is_untagged, is_tagged, is_malformed}
 use Rattle.hsr_frame.specs.Counters.{counted}
 use Rattle.hsr_frame.specs.Egress.{Egress, up, a, b, c, d, cause_of}
 use Rattle.hsr_frame.specs.declared.counters.Counters.{Counters}
@@ -17,8 +18,7 @@ use Rattle.hsr_tag.specs.declared.seen.Seen.{Seen}
 use Rattle.hsr_tag.specs.declared.seen.Seen.TheVariants.{Plain, Tagged}
 use Rattle.hsr_duptable.specs.Key.{Key}
 use Rattle.hsr_duptable.specs.Log.{remembered}
-use Rattle.hsr_duptable.specs.Notes.{has_key}
-use Rattle.hsr_danh.specs.Past as kinds
+use Rattle.hsr_duptable.specs.Notes.{has_key, entry_forget}
 use Rattle.hsr_redbox.specs.Wanted.{unnumbered}
 use Rattle.hsr_quadbox.specs.Machine.{Machine, new_machine}
 use Rattle.hsr_quadbox.specs.Past as deeds
@@ -29,7 +29,8 @@ use Rattle.hsr_quadbox.specs.declared.quadbox.QuadVerdict.{QuadVerdict}
 use Rattle.hsr_quadbox.specs.declared.wanted.QuadPort.{QuadPort}
 use Rattle.hsr_quadbox.specs.declared.wanted.QuadPort.TheVariants as quad
 use Rattle.hsr_quadbox.proofs.PastLaws as law
-use Rattle.hsr_node.specs.Record.{Noted, Owner, arrive_answer, counters, is_noted, judged_as, key_in, next_number, note_if, notes, now, oldest_first, passing, remembers, steps}
+use Rattle.hsr_node.specs.Counts.{counters}
+use Rattle.hsr_node.specs.Record.{Noted, Owner, arrive_answer, is_noted, judged_as, key_in, next_number, note_if, notes, now, oldest_first, passing, remembers, steps}
 use Rattle.hsr_node.specs.Step.{quad_judged, quad_port, quadbox_arrive, quadbox_step, spent, told}
 use Rattle.hsr_node.specs.declared.entry.Entry.{Entry}
 use Rattle.hsr_node.specs.declared.event.Carried.{Carried}
@@ -84,13 +85,13 @@ pub counted-entry : (k : Counters) (cause : Cause) (up_too : Bool) (n : ℕ) →
   life = k.life;
   up = if up_too then k.up + 1 else k.up;
   forwarded = k.forwarded + n;
-  duplicate = if kinds.is_duplicate cause then k.duplicate + 1 else k.duplicate;
-  returned = if kinds.is_returned cause then k.returned + 1 else k.returned;
-  foreign = if kinds.is_foreign cause then k.foreign + 1 else k.foreign;
-  local = if kinds.is_local cause then k.local + 1 else k.local;
-  untagged = if kinds.is_untagged cause then k.untagged + 1 else k.untagged;
-  tagged = if kinds.is_tagged cause then k.tagged + 1 else k.tagged;
-  malformed = if kinds.is_malformed cause then k.malformed + 1 else k.malformed;
+  duplicate = if is_duplicate cause then k.duplicate + 1 else k.duplicate;
+  returned = if is_returned cause then k.returned + 1 else k.returned;
+  foreign = if is_foreign cause then k.foreign + 1 else k.foreign;
+  local = if is_local cause then k.local + 1 else k.local;
+  untagged = if is_untagged cause then k.untagged + 1 else k.untagged;
+  tagged = if is_tagged cause then k.tagged + 1 else k.tagged;
+  malformed = if is_malformed cause then k.malformed + 1 else k.malformed;
   bad_life = k.bad_life;
 }
 counted-entry k cause.Passed up_too n = λ i. record (counted k cause.Passed up_too n) { up = sym (one-more up_too k.up) i }
@@ -160,9 +161,9 @@ never-up quad.C frame = refl
 never-up quad.D frame = refl
 
 remembers-same : (capacity number : ℕ) (did : List Deed) (past : List Entry) (at : ℕ) (key : Key) (port : QuadPort) → Tells number did past
-    → has_key key (remembered capacity 400 (deeds.log port did) at) ≡ remembers capacity (owner_of number) past at key (egress_of port)
+    → has_key key (remembered capacity entry_forget (deeds.log port did) at) ≡ remembers capacity (owner_of number) past at key (egress_of port)
 remembers-same capacity number did past at key port t =
-    ap (λ log. has_key key (remembered capacity 400 log at)) (t.log port) ∙ remembers-oldest capacity at key (notes (owner_of number) (egress_of port) past)
+    ap (λ log. has_key key (remembered capacity entry_forget log at)) (t.log port) ∙ remembers-oldest capacity at key (notes (owner_of number) (egress_of port) past)
 
 verdict-same : (capacity number : ℕ) (did : List Deed) (past : List Entry) (at next : ℕ) (x : QuadPort) (seen : Result Seen FrameFault) → Tells number did past
     → judged_as (unnumbered (wanted x seen)) (passing (remembers capacity (owner_of number) past (max (now past) at)) (wanted x seen).exits seen) next
@@ -175,8 +176,8 @@ verdict-same capacity number did past at next x (Ok (Tagged frame)) t =
     let none = never-up x frame in
     let held : (e : Egress) → Bool = λ e. remembers capacity (owner_of number) past (max (now past) at) (key_of frame) e in
     let moment : max (deeds.greatest did) at ≡ max (now past) at = ap (λ m. max m at) t.moment in
-    let same : (port : QuadPort) → held (egress_of port) ≡ has_key (key_of frame) (remembered capacity 400 (deeds.log port did) (max (deeds.greatest did) at)) = λ port.
-    sym (ap (λ m. has_key (key_of frame) (remembered capacity 400 (deeds.log port did) m)) moment ∙ remembers-same capacity number did past (max (now past) at) (key_of frame) port t) in
+    let same : (port : QuadPort) → held (egress_of port) ≡ has_key (key_of frame) (remembered capacity entry_forget (deeds.log port did) (max (deeds.greatest did) at)) = λ port.
+    sym (ap (λ m. has_key (key_of frame) (remembered capacity entry_forget (deeds.log port did) m)) moment ∙ remembers-same capacity number did past (max (now past) at) (key_of frame) port t) in
     let passed : Exits = deeds.passes_in capacity did exits (Ok (Tagged frame)) (max (deeds.greatest did) at) in
     let passes : record {
       up = exits.up && not (held up);

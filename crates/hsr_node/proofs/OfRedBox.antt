@@ -1,11 +1,12 @@
 -- A RedBox answers as its record does.
 use Rattle.std.proofs.Common.{◌≡◌, ℕ, ◌+◌, ◌%◌, ◌^◌, ◌==◌, ◌&&◌, not, Bool, true, false, if◌then◌else◌, cond, List, [], ◌∷◌, ◌++◌, length, reverse, Option, Some, None, Result, Ok, Err, refl, sym, ap, ap₂, subst, ◌∙◌, add-zero}
-use Rattle.std.specs.Prelude.{max, is_some, is_err, option_map}
+use Rattle.std.specs.Prelude.{max, is_some, option_map}
 use Rattle.std.specs.List.{cons_option, list_any}
 use Rattle.std.proofs.lemmas.List.{reverse-append}
 use Rattle.hsr_frame.specs.Address.{is_group, is_same_address}
+use Rattle.hsr_frame.specs.Cause.{is_duplicate, is_returned, is_foreign, is_local, is_untagged, is_tagged, is_malformed}
 use Rattle.hsr_frame.specs.Counters.{bit}
-use Rattle.hsr_frame.specs.Egress.{Egress, up, a, b, c, d, beyond, cause_of, is_supervision, nowhere, to, with_exit}
+use Rattle.hsr_frame.specs.Egress.{Egress, up, a, b, c, d, beyond, cause_of, is_supervision, nowhere, to, with_exit, has_exit}
 use Rattle.hsr_frame.specs.Grammar.{Fields}
 use Rattle.hsr_frame.specs.Send.{send_refusal}
 use Rattle.hsr_frame.specs.declared.counters.Counters.{Counters}
@@ -15,28 +16,25 @@ use Rattle.hsr_frame.specs.declared.fault.FrameFault.{FrameFault}
 use Rattle.hsr_frame.specs.declared.fault.SendFault.{SendFault}
 use Rattle.hsr_frame.specs.declared.fault.SendFault.TheVariants.{Spent}
 use Rattle.hsr_frame.specs.declared.fault.Spent.{Spent as IsSpent}
-use Rattle.hsr_frame.specs.declared.node.Cause.{Cause}
 use Rattle.hsr_frame.specs.declared.node.Cause.TheVariants as cause
 use Rattle.hsr_frame.specs.declared.node.Life.{Life}
 use Rattle.hsr_frame.specs.declared.node.Mode.{Mode}
 use Rattle.hsr_frame.specs.declared.node.Mode.TheVariants.{H, N}
 use Rattle.hsr_frame.specs.declared.node.RingPort.{RingPort}
 use Rattle.hsr_frame.specs.declared.node.RingPort.TheVariants as ring
-use Rattle.hsr_tag.specs.Seen.{classified}
+use Rattle.hsr_tag.specs.Seen.{classified, is_told, payload_in}
 use Rattle.hsr_tag.specs.Tag.{TaggedFields}
 use Rattle.hsr_tag.specs.declared.seen.Seen.{Seen}
 use Rattle.hsr_tag.specs.declared.seen.Seen.TheVariants.{Plain, Tagged}
 use Rattle.hsr_duptable.specs.Key.{Key}
 use Rattle.hsr_duptable.specs.Log.{remembered}
-use Rattle.hsr_duptable.specs.Notes.{has_key}
-use Rattle.hsr_supervision.specs.Payload.{Fields as Said, read_of}
-use Rattle.hsr_supervision.specs.declared.payload.SupFault.{SupFault}
+use Rattle.hsr_duptable.specs.Notes.{has_key, entry_forget, note_if as noted_if}
+use Rattle.hsr_supervision.specs.Payload.{read_of}
 use Rattle.hsr_tables.specs.Known.{known, latest_64}
 use Rattle.hsr_tables.specs.Nodes.{Hearing}
-use Rattle.hsr_danh.specs.Past as of_danh
 use Rattle.hsr_redbox.specs.Machine.{Machine, new_machine}
 use Rattle.hsr_redbox.specs.Past as deeds
-use Rattle.hsr_redbox.specs.Past.{Answer, Deed, Did, done, gave_up, judged_interlink, judged_ring, linked, sent_frame, sent_life}
+use Rattle.hsr_redbox.specs.Past.{Answer, Deed, Did, done, gave_up, judged_interlink, judged_ring, linked, sent_frame, sent_life, source_in}
 use Rattle.hsr_redbox.specs.Step.{arrive_step, key_of, life_refusal, life_step, number_of, send_step, sent_of, verdict_of}
 use Rattle.hsr_redbox.specs.Wanted.{handling_interlink, handling_plain, handling_send, interlink, numbered, unnumbered, wanted}
 use Rattle.hsr_redbox.specs.declared.call.About.{About}
@@ -49,7 +47,8 @@ use Rattle.hsr_redbox.specs.declared.call.LifeFault.TheVariants as refused_life
 use Rattle.hsr_redbox.specs.declared.wanted.Handling.{Handling}
 use Rattle.hsr_redbox.proofs.PastLaw.{IsPastOf, begins}
 use Rattle.hsr_redbox.proofs.PastLaw as law
-use Rattle.hsr_node.specs.Record.{Owner, arrive_answer, box_handling, count_of, counters, heard, hearing_by, hearings, hears_at, is_noted, is_some_ring, is_unreadable_for, judged_as, key_in, knows, lived_or_refused, lives, next_number, note_if, notes, now, number_in, oldest_first, own_key, passing, remembers, ring_of, send_answer, sent_as, sent_or_refused, source_at, source_in, steps}
+use Rattle.hsr_node.specs.Counts.{counters, hears_at, is_some_ring, is_unreadable_for}
+use Rattle.hsr_node.specs.Record.{Owner, arrive_answer, box_handling, count_of, heard, hearing_by, hearings, is_noted, judged_as, key_in, knows, lived_or_refused, lives, next_number, note_if, notes, now, number_in, oldest_first, own_key, passing, remembers, ring_of, send_answer, sent_as, sent_or_refused, source_at, steps}
 use Rattle.hsr_node.specs.Step.{box_judged, box_port, box_sent, life_fault, lived, redbox_arrive, redbox_send, redbox_step, spent, told, wrong}
 use Rattle.hsr_node.specs.declared.entry.Entry.{Entry}
 use Rattle.hsr_node.specs.declared.event.Carried.{Carried}
@@ -61,7 +60,7 @@ use Rattle.hsr_node.specs.declared.event.Probe.{Probe}
 use Rattle.hsr_node.specs.declared.event.StepFault.TheVariants as refused
 use Rattle.hsr_node.specs.declared.place.Place.TheVariants as place
 use Rattle.hsr_node.proofs.Remembering.{remembers-oldest}
-use Rattle.hsr_node.proofs.Told.{Call, Keeps, Stays, logged, unlogged}
+use Rattle.hsr_node.proofs.Told.{Call, Keeps, Stays, logged, unlogged, heard-same as hearing-same}
 
 abbrev owner_of : ℕ → List ℕ → Mode → Owner
 owner_of number mac mode = record { number = number; place = place.RedBox mac mode }
@@ -93,19 +92,6 @@ silent xs = reverse-append xs []
 
 unheard-more : (xs : List Hearing) → reverse (xs ++ []) ≡ reverse xs
 unheard-more xs = reverse-append xs []
-
--- one hearing, or none
-told-same : (mac : List ℕ) (x : RingPort) (moment effective : ℕ) (seen : Result Seen FrameFault) → moment ≡ effective
-    → reverse {A = Hearing} (if deeds.is_told mac seen then deeds.hearing_if x moment (deeds.told_by seen) else []) ≡ hearing_by (Some mac) (Some x) effective seen
-told-same mac x moment effective (Err fault) m = refl
-told-same mac x moment effective (Ok (Plain frame)) m = refl
-told-same mac x moment effective (Ok (Tagged frame)) m = by_case (is_supervision frame.dst frame.kind && not (is_same_address frame.src mac)) (read_of frame.payload)
-  where
-    by_case : (is_told : Bool) (said : Result Said SupFault)
-        → reverse {A = Hearing} (if is_told then deeds.hearing_if x moment said else []) ≡ (if is_told then of_danh.hearing_if x effective said else [])
-    by_case false said = refl
-    by_case true (Err fault) = refl
-    by_case true (Ok said) = ap (λ (n : ℕ). record { said = said; port = x; at = n } ∷ []) m
 
 -- ---- a frame of the node's own
 
@@ -184,7 +170,7 @@ life-tells number mac mode did past worker at seq life about t = record {
   counters = λ i. let k : Counters = t.counters i in record k { life = k.life + 1; forwarded = k.forwarded + 0 };
 }
   where
-    one : (noted : Bool) (e : Egress) → deeds.log_of mac e did ++ deeds.note_if noted (record { src = mac; seq = seq }) (at_least did at)
+    one : (noted : Bool) (e : Egress) → deeds.log_of mac e did ++ noted_if noted (record { src = mac; seq = seq }) (at_least did at)
         ≡ oldest_first (cons_option (note_if noted (Some (record { src = mac; seq = seq })) (max (now past) at) (Some (record { node = number; place = length past }))) (notes (owner_of number mac mode) e past))
     one noted e = logged noted (record { src = mac; seq = seq }) (at_least did at) (max (now past) at) (Some (record { node = number; place = length past })) (deeds.log_of mac e did) (notes (owner_of number mac mode) e past) (ap (λ m. max m at) t.moment) (t.log e)
 
@@ -211,23 +197,6 @@ aged-tells number mac mode did past worker at t = record {
 
 -- ---- an arrival
 
--- the causes have the same names
-causes-same : (k : Cause) → (deeds.is_duplicate k ≡ of_danh.is_duplicate k) × (deeds.is_returned k ≡ of_danh.is_returned k) × (deeds.is_foreign k ≡ of_danh.is_foreign k)
-    × (deeds.is_local k ≡ of_danh.is_local k) × (deeds.is_untagged k ≡ of_danh.is_untagged k) × (deeds.is_tagged k ≡ of_danh.is_tagged k) × (deeds.is_malformed k ≡ of_danh.is_malformed k)
-causes-same cause.Passed = (refl, refl, refl, refl, refl, refl, refl)
-causes-same cause.Duplicate = (refl, refl, refl, refl, refl, refl, refl)
-causes-same cause.Returned = (refl, refl, refl, refl, refl, refl, refl)
-causes-same cause.Foreign = (refl, refl, refl, refl, refl, refl, refl)
-causes-same cause.Local = (refl, refl, refl, refl, refl, refl, refl)
-causes-same cause.Untagged = (refl, refl, refl, refl, refl, refl, refl)
-causes-same cause.Tagged = (refl, refl, refl, refl, refl, refl, refl)
-causes-same (cause.Malformed fault) = (refl, refl, refl, refl, refl, refl, refl)
-
-unreadable-same : (mac : List ℕ) (seen : Result Seen FrameFault) → (if deeds.is_told mac seen then is_err (deeds.told_by seen) else false) ≡ is_unreadable_for (Some mac) seen
-unreadable-same mac (Err fault) = refl
-unreadable-same mac (Ok (Plain frame)) = refl
-unreadable-same mac (Ok (Tagged frame)) = refl
-
 -- the counters after an arrival with this verdict
 abbrev counted_on : Counters → BoxVerdict → Bool → Counters
 counted_on k v unreadable = record {
@@ -235,13 +204,13 @@ counted_on k v unreadable = record {
   life = k.life;
   up = if v.up then k.up + 1 else k.up;
   forwarded = k.forwarded + (bit v.a + bit v.b + bit v.interlink);
-  duplicate = if deeds.is_duplicate v.cause then k.duplicate + 1 else k.duplicate;
-  returned = if deeds.is_returned v.cause then k.returned + 1 else k.returned;
-  foreign = if deeds.is_foreign v.cause then k.foreign + 1 else k.foreign;
-  local = if deeds.is_local v.cause then k.local + 1 else k.local;
-  untagged = if deeds.is_untagged v.cause then k.untagged + 1 else k.untagged;
-  tagged = if deeds.is_tagged v.cause then k.tagged + 1 else k.tagged;
-  malformed = if deeds.is_malformed v.cause then k.malformed + 1 else k.malformed;
+  duplicate = if is_duplicate v.cause then k.duplicate + 1 else k.duplicate;
+  returned = if is_returned v.cause then k.returned + 1 else k.returned;
+  foreign = if is_foreign v.cause then k.foreign + 1 else k.foreign;
+  local = if is_local v.cause then k.local + 1 else k.local;
+  untagged = if is_untagged v.cause then k.untagged + 1 else k.untagged;
+  tagged = if is_tagged v.cause then k.tagged + 1 else k.tagged;
+  malformed = if is_malformed v.cause then k.malformed + 1 else k.malformed;
   bad_life = if unreadable then k.bad_life + 1 else k.bad_life;
 }
 
@@ -249,18 +218,18 @@ counted-same : (mac : List ℕ) (mode : Mode) (past : List Entry) (worker at por
     → unreadable ≡ is_unreadable_for (hears_at (place.RedBox mac mode) port) (classified copy.octets)
     → counted_on (counters (place.RedBox mac mode) past) v unreadable
     ≡ counters (place.RedBox mac mode) (record { worker = worker; at = at; event = Arrive port copy; outcome = box_judged v } ∷ past)
-counted-same mac mode past worker at port copy v unreadable bad = let same = causes-same v.cause in λ i. let k : Counters = counters (place.RedBox mac mode) past in record {
+counted-same mac mode past worker at port copy v unreadable bad = λ i. let k : Counters = counters (place.RedBox mac mode) past in record {
   sent = k.sent;
   life = k.life;
   up = if v.up then k.up + 1 else k.up;
   forwarded = k.forwarded + sym (add-zero (bit v.a + bit v.b + bit v.interlink)) i;
-  duplicate = if same.0 i then k.duplicate + 1 else k.duplicate;
-  returned = if same.1 i then k.returned + 1 else k.returned;
-  foreign = if same.2 i then k.foreign + 1 else k.foreign;
-  local = if same.3 i then k.local + 1 else k.local;
-  untagged = if same.4 i then k.untagged + 1 else k.untagged;
-  tagged = if same.5 i then k.tagged + 1 else k.tagged;
-  malformed = if same.6 i then k.malformed + 1 else k.malformed;
+  duplicate = if is_duplicate v.cause then k.duplicate + 1 else k.duplicate;
+  returned = if is_returned v.cause then k.returned + 1 else k.returned;
+  foreign = if is_foreign v.cause then k.foreign + 1 else k.foreign;
+  local = if is_local v.cause then k.local + 1 else k.local;
+  untagged = if is_untagged v.cause then k.untagged + 1 else k.untagged;
+  tagged = if is_tagged v.cause then k.tagged + 1 else k.tagged;
+  malformed = if is_malformed v.cause then k.malformed + 1 else k.malformed;
   bad_life = if bad i then k.bad_life + 1 else k.bad_life;
 }
 
@@ -278,7 +247,7 @@ ring-tells number mac mode did past worker at port y x copy wants passes is_y is
       log = λ e. by_seen e (classified copy.octets);
       sources = silent (deeds.sources_of mac did) ∙ t.sources ∙ ap (λ xs. xs ++ heard (place.RedBox mac mode) past) (sym unheard);
       hearing = reverse-append (deeds.hearings_of mac did) (deeds.heard_by mac (at_least did at) (judged_ring x (classified copy.octets) v))
-          ∙ ap₂ (λ (xs ys : List Hearing). xs ++ ys) (told-same mac x (at_least did at) (max (now past) at) (classified copy.octets) (ap (λ m. max m at) t.moment)) t.hearing
+          ∙ ap₂ (λ (xs ys : List Hearing). xs ++ ys) (hearing-same x (at_least did at) (max (now past) at) (is_told mac (classified copy.octets)) (read_of (payload_in (classified copy.octets))) (ap (λ m. max m at) t.moment)) t.hearing
           ∙ ap (λ (found : Option RingPort). hearing_by (Some mac) found (max (now past) at) (classified copy.octets) ++ hearings (place.RedBox mac mode) past) (sym (ap ring_of is_y ∙ is_x));
       counters = ap (λ (k : Counters). counted_on k v (deeds.is_unreadable mac (judged_ring x (classified copy.octets) v))) t.counters
           ∙ counted-same mac mode past worker at port copy v (deeds.is_unreadable mac (judged_ring x (classified copy.octets) v)) unreadable;
@@ -296,7 +265,7 @@ ring-tells number mac mode did past worker at port y x copy wants passes is_y is
     hears = ap (λ (p : Bool). if p then Some mac else None) (ap is_some_ring is_y ∙ is_ring)
 
     unreadable : deeds.is_unreadable mac (judged_ring x (classified copy.octets) (verdict_of wants passes None)) ≡ is_unreadable_for (hears_at (place.RedBox mac mode) port) (classified copy.octets)
-    unreadable = unreadable-same mac (classified copy.octets) ∙ ap (λ own. is_unreadable_for own (classified copy.octets)) (sym hears)
+    unreadable = ap (λ own. is_unreadable_for own (classified copy.octets)) (sym hears)
 
     by_seen : (e : Egress) (seen : Result Seen FrameFault)
         → deeds.log_of mac e did ++ deeds.noted_by mac e (at_least did at) (judged_ring x seen (verdict_of wants passes None))
@@ -305,11 +274,11 @@ ring-tells number mac mode did past worker at port y x copy wants passes is_y is
     by_seen e (Ok (Plain frame)) = unlogged (deeds.log_of mac e did) (notes (owner_of number mac mode) e past) (t.log e)
     by_seen e (Ok (Tagged frame)) = by_egress e
       where
-        one : (e : Egress) (passed : Bool) → deeds.log_of mac e did ++ deeds.note_if passed (key_of frame) (at_least did at)
+        one : (e : Egress) (passed : Bool) → deeds.log_of mac e did ++ noted_if passed (key_of frame) (at_least did at)
             ≡ oldest_first (cons_option (note_if passed (Some (key_of frame)) (max (now past) at) copy.probe) (notes (owner_of number mac mode) e past))
         one e passed = logged passed (key_of frame) (at_least did at) (max (now past) at) copy.probe (deeds.log_of mac e did) (notes (owner_of number mac mode) e past) (ap (λ m. max m at) t.moment) (t.log e)
 
-        by_egress : (e : Egress) → deeds.log_of mac e did ++ deeds.note_if (deeds.passed (verdict_of wants passes None) e) (key_of frame) (at_least did at)
+        by_egress : (e : Egress) → deeds.log_of mac e did ++ noted_if (deeds.passed (verdict_of wants passes None) e) (key_of frame) (at_least did at)
             ≡ oldest_first (cons_option (note_if (is_noted (box_judged (verdict_of wants passes None)) e) (Some (key_of frame)) (max (now past) at) copy.probe) (notes (owner_of number mac mode) e past))
         by_egress up = one up passes.up
         by_egress a = one a passes.a
@@ -347,7 +316,7 @@ interlink-tells number mac mode did past worker at port seq copy known is_i t =
       steps = ap (λ n. n + 1) t.steps;
       numbered = ap₂ (λ p n. if p then n + 1 else n) (is-numbered h.source seq) t.numbered;
       log = λ e. by_seen e (classified copy.octets);
-      sources = reverse-append (deeds.sources_of mac did) (deeds.source_in mac (at_least did at) (classified copy.octets))
+      sources = reverse-append (deeds.sources_of mac did) (source_in mac (at_least did at) (classified copy.octets))
           ∙ ap₂ (λ (xs ys : List (List ℕ × ℕ)). xs ++ ys) (heard-same (classified copy.octets)) t.sources
           ∙ ap (λ (found : Option BoxPort). source_at found mac (max (now past) at) (classified copy.octets) ++ heard (place.RedBox mac mode) past) (sym is_i);
       hearing = unheard-more (deeds.hearings_of mac did) ∙ t.hearing
@@ -355,7 +324,7 @@ interlink-tells number mac mode did past worker at port seq copy known is_i t =
       counters = ap (λ (k : Counters). counted_on k (linked h seq) false) t.counters ∙ counted-same mac mode past worker at port copy (linked h seq) false unreadable;
     }
   where
-    heard-same : (seen : Result Seen FrameFault) → reverse (deeds.source_in mac (at_least did at) seen) ≡ source_in mac (max (now past) at) seen
+    heard-same : (seen : Result Seen FrameFault) → reverse (source_in mac (at_least did at) seen) ≡ source_in mac (max (now past) at) seen
     heard-same (Err fault) = refl
     heard-same (Ok (Tagged frame)) = refl
     heard-same (Ok (Plain frame)) = by_own (is_same_address frame.src mac)
@@ -381,18 +350,18 @@ interlink-tells number mac mode did past worker at port seq copy known is_i t =
     by_seen d (Ok (Tagged frame)) = nothing d
     by_seen e (Ok (Plain frame)) = by_source (handling_plain mac known frame) (is-local mac known frame)
       where
-        one : (e : Egress) (noted : Bool) → deeds.log_of mac e did ++ deeds.note_if noted (record { src = frame.src; seq = seq }) (at_least did at)
+        one : (e : Egress) (noted : Bool) → deeds.log_of mac e did ++ noted_if noted (record { src = frame.src; seq = seq }) (at_least did at)
             ≡ oldest_first (cons_option (note_if noted (Some (record { src = frame.src; seq = seq })) (max (now past) at) copy.probe) (notes (owner_of number mac mode) e past))
         one e noted = logged noted (record { src = frame.src; seq = seq }) (at_least did at) (max (now past) at) copy.probe (deeds.log_of mac e did) (notes (owner_of number mac mode) e past) (ap (λ m. max m at) t.moment) (t.log e)
 
         by_egress : (e : Egress) (wants : Wants) → wants.exits.d ≡ false
-            → deeds.log_of mac e did ++ deeds.mark_if (Some frame.src) seq (deeds.has_exit (with_exit interlink wants.exits) e) (at_least did at)
+            → deeds.log_of mac e did ++ deeds.mark_if (Some frame.src) seq (has_exit (with_exit interlink wants.exits) e) (at_least did at)
             ≡ oldest_first (cons_option (note_if (is_noted (box_judged (linked (numbered frame.src wants) seq)) e) (Some (record { src = frame.src; seq = seq })) (max (now past) at) copy.probe) (notes (owner_of number mac mode) e past))
         by_egress up wants no_d = one up wants.exits.up
         by_egress a wants no_d = one a wants.exits.a
         by_egress b wants no_d = one b wants.exits.b
         by_egress c wants no_d = one c true
-        by_egress d wants no_d = ap (λ p. deeds.log_of mac d did ++ deeds.note_if p (record { src = frame.src; seq = seq }) (at_least did at)) no_d ∙ one d false
+        by_egress d wants no_d = ap (λ p. deeds.log_of mac d did ++ noted_if p (record { src = frame.src; seq = seq }) (at_least did at)) no_d ∙ one d false
 
         by_number : (has_number : Bool) (wants : Wants) → wants.exits.d ≡ false → let h : Handling = record { wants = wants; source = cond has_number (Some frame.src) None } in
             deeds.log_of mac e did ++ deeds.noted_by mac e (at_least did at) (judged_interlink (Ok (Plain frame)) h seq)
@@ -446,7 +415,7 @@ no-fourth mac mode knows x frame = by_mode mode
 remembers-same : (capacity number : ℕ) (mac : List ℕ) (mode : Mode) (did : List Deed) (past : List Entry) (at : ℕ) (key : Key) (e : Egress) → Tells number mac mode did past
     → deeds.remembers_of capacity mac did at key e ≡ remembers capacity (owner_of number mac mode) past at key e
 remembers-same capacity number mac mode did past at key e t =
-    ap (λ log. has_key key (remembered capacity 400 log at)) (t.log e) ∙ remembers-oldest capacity at key (notes (owner_of number mac mode) e past)
+    ap (λ log. has_key key (remembered capacity entry_forget log at)) (t.log e) ∙ remembers-oldest capacity at key (notes (owner_of number mac mode) e past)
 
 -- by what is known
 abbrev ring_verdict : ℕ → List ℕ → Mode → List Deed → ℕ → (List ℕ → Bool) → RingPort → Result Seen FrameFault → BoxVerdict
@@ -574,14 +543,14 @@ knows-ring mac mode past at port y copy is_y is_ring =
 
 -- what comes from the interlink is judged by what is known once its own source is heard
 knows-interlink : (number : ℕ) (mac : List ℕ) (mode : Mode) (did : List Deed) (past : List Entry) (at port : ℕ) (copy : Carried) → box_port port ≡ Some I → Tells number mac mode did past
-    → deeds.knows_among (deeds.sources_of mac did ++ deeds.source_in mac at (classified copy.octets)) at ≡ knows (place.RedBox mac mode) past at (Arrive port copy)
+    → deeds.knows_among (deeds.sources_of mac did ++ source_in mac at (classified copy.octets)) at ≡ knows (place.RedBox mac mode) past at (Arrive port copy)
 knows-interlink number mac mode did past at port copy is_i t =
     ap {B = List ℕ → Bool} (λ (xs : List (List ℕ × ℕ)) m. list_any (λ h. is_same_address h.0 m) (known at (latest_64 (λ h. h.0) xs)))
-    (reverse-append (deeds.sources_of mac did) (deeds.source_in mac at (classified copy.octets))
+    (reverse-append (deeds.sources_of mac did) (source_in mac at (classified copy.octets))
     ∙ ap₂ (λ (xs ys : List (List ℕ × ℕ)). xs ++ ys) (same (classified copy.octets)) t.sources
     ∙ ap (λ (found : Option BoxPort). source_at found mac at (classified copy.octets) ++ heard (place.RedBox mac mode) past) (sym is_i))
   where
-    same : (seen : Result Seen FrameFault) → reverse (deeds.source_in mac at seen) ≡ source_in mac at seen
+    same : (seen : Result Seen FrameFault) → reverse (source_in mac at seen) ≡ source_in mac at seen
     same (Err fault) = refl
     same (Ok (Tagged frame)) = refl
     same (Ok (Plain frame)) = by_own (is_same_address frame.src mac)
@@ -642,7 +611,7 @@ interlink-case capacity number worker at port copy machine did past s is_i t k =
     let m : old ≡ moment = ap (λ m. max m at) t.moment in
     let next = next_number past in
     let n : deeds.number_after did ≡ next = ap (λ m. m % 65536) t.numbered in
-    let known_at : ℕ → List ℕ → Bool = λ n. deeds.knows_among (deeds.sources_of mac did ++ deeds.source_in mac n seen) n in
+    let known_at : ℕ → List ℕ → Bool = λ n. deeds.knows_among (deeds.sources_of mac did ++ source_in mac n seen) n in
     let knew = known_at old in
     let knowing = knows (place.RedBox mac mode) past moment (Arrive port copy) in
     let h : (List ℕ → Bool) → Handling = λ f. handling_interlink mac f seen in

@@ -18,7 +18,8 @@ use Rattle.hsr_tag.specs.declared.seen.Seen.{Seen}
 use Rattle.hsr_tag.specs.declared.seen.Seen.TheVariants.{Plain, Tagged}
 use Rattle.hsr_duptable.specs.Key.{Key}
 use Rattle.hsr_redbox.specs.Wanted.{unnumbered}
-use Rattle.hsr_node.specs.Record.{Owner, arrive_answer, counters, judged_as, next_number, now, passing, remembers, send_answer, sent_or_refused, station_wanted, steps}
+use Rattle.hsr_node.specs.Counts.{counters}
+use Rattle.hsr_node.specs.Record.{Owner, arrive_answer, judged_as, next_number, now, passing, remembers, send_answer, sent_or_refused, station_wanted, steps}
 use Rattle.hsr_node.specs.Station.{Machine, after_arrival, after_cause, after_send, arrive_or_spent, is_among, is_passed, judged_seen, new_machine, send_from, send_or_refuse, station_step}
 use Rattle.hsr_node.specs.declared.entry.Entry.{Entry}
 use Rattle.hsr_node.specs.declared.event.Carried.{Carried}

@@ -1,7 +1,8 @@
 -- A record that replays to a node is legal, and tells what the node holds.
 use Rattle.std.proofs.Common.{◌≡◌, ℕ, List, [], ◌∷◌, max, Result, Ok, Err, sym, subst}
+use Rattle.hsr_node.specs.Counts.{counters}
 use Rattle.hsr_node.specs.Kept.{Replays}
-use Rattle.hsr_node.specs.Record.{IsLegal, answer, counters, now}
+use Rattle.hsr_node.specs.Record.{IsLegal, answer, now}
 use Rattle.hsr_node.specs.Step.{counters_of, danh_step, new_node, node_step, quadbox_step, redbox_step}
 use Rattle.hsr_node.specs.Station.{station_step}
 use Rattle.hsr_node.specs.declared.entry.Entry.{Entry}

@@ -1,7 +1,11 @@
 -- What is shown of each kind of node: it answers as its record does, and goes on to be told by it.
-use Rattle.std.proofs.Common.{◌≡◌, ℕ, ◌+◌, Bool, true, false, cond, List, [], ◌∷◌, ◌++◌, max, Option, Some, None, Result, Ok, Err, refl, ap₂, sym, ◌∙◌, arith, append-nil}
+use Rattle.std.proofs.Common.{◌≡◌, ℕ, ◌+◌, Bool, true, false, cond, List, [], ◌∷◌, ◌++◌, max, Option, Some, None, Result, Ok, Err, refl, ap₂, sym, ◌∙◌, arith, append-nil, if◌then◌else◌, ap, reverse}
 use Rattle.std.specs.List.{cons_option}
 use Rattle.hsr_frame.specs.Counters.{bit}
+use Rattle.hsr_frame.specs.declared.node.RingPort.{RingPort}
+use Rattle.hsr_supervision.specs.Payload.{Fields as Said}
+use Rattle.hsr_supervision.specs.declared.payload.SupFault.{SupFault}
+use Rattle.hsr_tables.specs.Nodes.{Hearing, hearing_if}
 use Rattle.hsr_duptable.specs.Key.{Key}
 use Rattle.hsr_duptable.specs.declared.note.Note.{Note}
 use Rattle.hsr_node.specs.Record.{Noted, Owner, answer, now, oldest_first}
@@ -44,3 +48,10 @@ unlogged log ns l = append-nil log ∙ l
 pub one-more : (p : Bool) (n : ℕ) → cond p (n + 1) n ≡ n + bit p
 one-more true n = refl
 one-more false n = omega arith
+
+-- one hearing, or none
+pub heard-same : (x : RingPort) (moment effective : ℕ) (told : Bool) (said : Result Said SupFault) → moment ≡ effective
+    → reverse {A = Hearing} (if told then hearing_if x moment said else []) ≡ (if told then hearing_if x effective said else [])
+heard-same x moment effective false said m = refl
+heard-same x moment effective true (Err fault) m = refl
+heard-same x moment effective true (Ok said) m = ap (λ (n : ℕ). record { said = said; port = x; at = n } ∷ []) m

@@ -1,12 +1,12 @@
 -- The octets that leave a node by a port, and those that go up.
 use Rattle.std.specs.Prelude.{ℕ, ◌==◌, ◌||◌, ◌&&◌, Bool, true, false, nat_lt, List, [], length, slice_get, unwrap_or, Option, Some, None, option_map, Result, Ok, Err, if◌then◌else◌}
-use Rattle.hsr_frame.specs.Address.{is_group, supervision_address}
+use Rattle.hsr_frame.specs.Address.{is_group}
 use Rattle.hsr_frame.specs.Grammar.{Fields, spelling}
 use Rattle.hsr_frame.specs.declared.fault.FrameFault.{FrameFault}
 use Rattle.hsr_frame.specs.declared.node.RingPort.{RingPort}
 use Rattle.hsr_frame.specs.declared.node.RingPort.TheVariants.{A, B}
+use Rattle.hsr_supervision.specs.Life as supervision
 use Rattle.hsr_supervision.specs.Payload as payload
-use Rattle.hsr_supervision.specs.declared.payload.SupKind.TheVariants.{Hsr}
 use Rattle.hsr_tag.specs.Seen.{classified}
 use Rattle.hsr_tag.specs.Tag.{tag_of, tagged_spelling, untag_of}
 use Rattle.hsr_tag.specs.declared.seen.Seen.{Seen}
@@ -74,14 +74,13 @@ asked_frame (Some src) dst vlan kind payload = frame_of (record { dst = dst; src
 
 -- what a supervision frame says: a RedBox names itself where it speaks for a station
 abbrev pub life_said : List ℕ → About → ℕ → payload.Fields
-life_said own Own life = record { path = 0; version = 1; seq = life; kind = Hsr; about = own; redbox = None }
-life_said own (Proxied mac) life = record { path = 0; version = 1; seq = life; kind = Hsr; about = mac; redbox = Some own }
+life_said own Own life = supervision.life_said own None life
+life_said own (Proxied mac) life = supervision.life_said mac (Some own) life
 
--- a supervision frame comes from the node's own address, whatever it is about, and has no VLAN tag
+-- a supervision frame comes from the node's own address, whatever it is about
 abbrev pub life_frame : Option (List ℕ) → About → ℕ → Option Fields
 life_frame None about life = None
-life_frame (Some own) about life =
-    frame_of (record { dst = supervision_address; src = own; vlan = None; kind = 0x88FB; rest = payload.spelling (life_said own about life) })
+life_frame (Some own) about life = frame_of (supervision.life_frame own (life_said own about life))
 
 -- ---- what leaves by a port
 

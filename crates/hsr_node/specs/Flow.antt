@@ -1,9 +1,8 @@
 -- The copies that come to a node and leave it, as its record tells them.
 use Rattle.std.specs.Prelude.{ℕ, ◌==◌, Bool, false, if◌then◌else◌, List, [], ◌∷◌, length, Option, Some, None, option_map}
 use Rattle.std.specs.List.{cons_option}
-use Rattle.hsr_frame.specs.Egress.{Egress, up, a, b, c, d}
+use Rattle.hsr_frame.specs.Egress.{Egress, has_exit}
 use Rattle.hsr_frame.specs.Grammar.{Fields}
-use Rattle.hsr_frame.specs.declared.egress.Exits.{Exits}
 use Rattle.hsr_frame.specs.declared.fault.FrameFault.{FrameFault}
 use Rattle.hsr_tag.specs.declared.seen.Seen.{Seen}
 use Rattle.hsr_redbox.specs.declared.wanted.Handling.{Handling}
@@ -17,6 +16,7 @@ use Rattle.hsr_node.specs.declared.event.Outcome.{Outcome}
 use Rattle.hsr_node.specs.declared.event.Outcome.TheVariants.{Sent, Life}
 use Rattle.hsr_node.specs.declared.entry.Entry.{Entry}
 use Rattle.hsr_node.specs.declared.place.Place.{Place}
+use Rattle.hsr_node.specs.declared.sending.Sending.{Sending}
 
 -- ---- arrivals
 
@@ -44,11 +44,6 @@ passes owner port (x ∷ past) = cons_option (pass_of owner port x past) (passes
 
 -- ---- sends
 
--- a send: its plain frame, and the number that it got
-pub record Sending : Type 0 where
-  pub frame : Fields
-  pub seq : Option ℕ
-
 abbrev pub sending_of : Option ℕ → Option Fields → Option Sending
 sending_of seq frame = option_map (λ f. record { frame = f; seq = seq }) frame
 
@@ -64,13 +59,6 @@ send_at place n [] = None
 send_at place n (x ∷ past) = if n == length past then sent_by place x.event x.outcome else send_at place n past
 
 -- ---- what an arrival wants
-
-abbrev pub has_exit : Exits → Egress → Bool
-has_exit exits up = exits.up
-has_exit exits a = exits.a
-has_exit exits b = exits.b
-has_exit exits c = exits.c
-has_exit exits d = exits.d
 
 abbrev pub wanted_at : Option Handling → Egress → Bool
 wanted_at None e = false

@@ -1,14 +1,15 @@
 -- What a node holds is what its record tells.
 use Rattle.std.specs.Prelude.{ℕ, ◌≡◌, ◌≤◌, List, map}
 use Rattle.hsr_frame.specs.Egress.{Egress, up, a, b, c, d}
-use Rattle.hsr_duptable.specs.Notes.{unexpired_notes}
+use Rattle.hsr_duptable.specs.Notes.{unexpired_notes, entry_forget}
 use Rattle.hsr_duptable.specs.Table.{Table}
 use Rattle.hsr_tables.specs.Known.{known, latest_64}
 use Rattle.hsr_danh.specs.Machine as danh
 use Rattle.hsr_redbox.specs.Machine as redbox
 use Rattle.hsr_quadbox.specs.Machine as quadbox
+use Rattle.hsr_node.specs.Counts.{counters}
 use Rattle.hsr_node.specs.Kept.{Replays}
-use Rattle.hsr_node.specs.Record.{Owner, counters, heard, next_number, notes, now, oldest_first, remembered, rows}
+use Rattle.hsr_node.specs.Record.{Owner, heard, next_number, notes, now, oldest_first, remembered, rows}
 use Rattle.hsr_node.specs.Station as station
 use Rattle.hsr_node.specs.declared.entry.Entry.{Entry}
 use Rattle.hsr_node.specs.declared.node.Node.{Node}
@@ -17,7 +18,7 @@ use Rattle.hsr_node.specs.declared.node.Node.TheVariants.{Danh, RedBox, QuadBox,
 -- what a table holds unexpired is what the record remembers of an egress
 abbrev pub IsRemembered : ℕ → Owner → List Entry → Egress → Table → Type 0
 IsRemembered capacity owner past e table =
-    (at : ℕ) → now past ≤ at → unexpired_notes 400 at table.notes ≡ oldest_first (remembered capacity at (notes owner e past))
+    (at : ℕ) → now past ≤ at → unexpired_notes entry_forget at table.notes ≡ oldest_first (remembered capacity at (notes owner e past))
 
 pub record DanhHolds (capacity : ℕ) (owner : Owner) (past : List Entry) (machine : danh.Machine) : Type 0 where
   pub on_up : IsRemembered capacity owner past up machine.notes.up

@@ -3,6 +3,7 @@ pub mod Station
 pub mod Step
 pub mod Copies
 pub mod Record
+pub mod Counts
 pub mod Flow
 pub mod Kept
 pub mod Holds

@@ -5,38 +5,37 @@
 --     IsLegal      each outcome is what the past below it answers
 --     notes        what was noted at one egress, never shortened
 --     remembered   what is remembered of that
-use Rattle.std.specs.Prelude.{ℕ, ◌+◌, ◌-◌, ◌%◌, ◌^◌, ◌≡◌, ◌==◌, ◌&&◌, ◌||◌, not, max, nat_lt, Bool, true, false, if◌then◌else◌, List, [], ◌∷◌, ◌++◌, length, map, take, filter, slice_get, unwrap_or, Option, Some, None, option_map, is_some, is_err, Result, Ok, Err}
+use Rattle.std.specs.Prelude.{ℕ, ◌+◌, ◌-◌, ◌%◌, ◌^◌, ◌≡◌, ◌==◌, ◌&&◌, ◌||◌, not, max, nat_lt, Bool, true, false, if◌then◌else◌, List, [], ◌∷◌, ◌++◌, length, take, filter, slice_get, unwrap_or, Option, Some, None, option_map, is_some, Result, Ok, Err}
 use Rattle.std.specs.List.{list_any, cons_option}
 use Rattle.hsr_frame.specs.Address.{is_group, is_same_address}
 use Rattle.hsr_frame.specs.Cases.{first_of}
-use Rattle.hsr_frame.specs.Counters.{bit}
 use Rattle.hsr_frame.specs.Egress.{Egress, up, a, b, c, d, cause_of, nowhere, to}
 use Rattle.hsr_frame.specs.Grammar.{Fields}
 use Rattle.hsr_frame.specs.Send.{send_refusal}
-use Rattle.hsr_frame.specs.declared.counters.Counters.{Counters}
 use Rattle.hsr_frame.specs.declared.egress.Exits.{Exits}
 use Rattle.hsr_frame.specs.declared.egress.Wants.{Wants}
 use Rattle.hsr_frame.specs.declared.fault.FrameFault.{FrameFault}
 use Rattle.hsr_frame.specs.declared.fault.SendFault.{SendFault}
-use Rattle.hsr_frame.specs.declared.node.Cause.{Cause}
 use Rattle.hsr_frame.specs.declared.node.Cause.TheVariants as cause
 use Rattle.hsr_frame.specs.declared.node.Mode.{Mode}
 use Rattle.hsr_frame.specs.declared.node.RingPort.{RingPort}
 use Rattle.hsr_frame.specs.declared.node.RingPort.TheVariants as ring
-use Rattle.hsr_tag.specs.Seen.{classified}
+use Rattle.hsr_tag.specs.Seen.{classified, is_told, payload_in}
 use Rattle.hsr_tag.specs.declared.seen.Seen.{Seen}
 use Rattle.hsr_tag.specs.declared.seen.Seen.TheVariants.{Plain, Tagged}
 use Rattle.hsr_duptable.specs.Key.{Key, is_same_key}
+use Rattle.hsr_duptable.specs.Notes.{entry_forget}
 use Rattle.hsr_duptable.specs.declared.note.Note.{Note}
-use Rattle.hsr_tables.specs.Known.{is_young, known, latest_64}
-use Rattle.hsr_tables.specs.Nodes.{Hearing, row_after}
+use Rattle.hsr_supervision.specs.Payload.{read_of}
+use Rattle.hsr_tables.specs.Known.{known, latest_64}
+use Rattle.hsr_tables.specs.Nodes.{Hearing, hearing_if, rows_known}
 use Rattle.hsr_tables.specs.declared.nodes.NodeRow.{NodeRow}
-use Rattle.hsr_danh.specs.Past.{hearing_if, is_told, told_by}
 use Rattle.hsr_danh.specs.Step.{key_of}
 use Rattle.hsr_danh.specs.Wanted as of_danh
+use Rattle.hsr_redbox.specs.Past.{source_in}
 use Rattle.hsr_redbox.specs.Step.{life_refusal, number_of}
 use Rattle.hsr_redbox.specs.Wanted as of_redbox
-use Rattle.hsr_redbox.specs.Wanted.{numbered, unnumbered, interlink}
+use Rattle.hsr_redbox.specs.Wanted.{numbered, unnumbered}
 use Rattle.hsr_redbox.specs.declared.call.About.{About}
 use Rattle.hsr_redbox.specs.declared.call.About.TheVariants.{Own}
 use Rattle.hsr_redbox.specs.declared.call.BoxPort.{BoxPort}
@@ -190,7 +189,7 @@ oldest_first (n ∷ ns) = oldest_first ns ++ record { key = n.key; moment = n.mo
 
 -- of all notes the youngest, as many as a table has entries, and of these the ones younger than 400 milliseconds
 abbrev pub remembered : ℕ → ℕ → List Noted → List Noted
-remembered capacity at noted = filter (λ n. nat_lt (at - n.moment) 400) (take capacity noted)
+remembered capacity at noted = filter (λ n. nat_lt (at - n.moment) entry_forget) (take capacity noted)
 
 abbrev pub has_key : Key → List Noted → Bool
 has_key key noted = list_any (λ n. is_same_key n.key key) noted
@@ -199,10 +198,6 @@ abbrev pub remembers : ℕ → Owner → List Entry → ℕ → Key → Egress �
 remembers capacity owner past at key e = has_key key (remembered capacity at (notes owner e past))
 
 -- ---- the addresses that a RedBox knows on its interlink
-
-abbrev pub source_in : List ℕ → ℕ → Result Seen FrameFault → List (List ℕ × ℕ)
-source_in own at (Ok (Plain frame)) = if is_same_address frame.src own then [] else (frame.src, at) ∷ []
-source_in own at _ = []
 
 abbrev pub source_at : Option BoxPort → List ℕ → ℕ → Result Seen FrameFault → List (List ℕ × ℕ)
 source_at (Some box.I) own at seen = source_in own at seen
@@ -238,7 +233,7 @@ hears_on (RedBox mac mode) port = ring_of (box_port port)
 hears_on _ port = None
 
 abbrev pub hearing_by : Option (List ℕ) → Option RingPort → ℕ → Result Seen FrameFault → List Hearing
-hearing_by (Some own) (Some x) at seen = if is_told own seen then hearing_if x at (told_by seen) else []
+hearing_by (Some own) (Some x) at seen = if is_told own seen then hearing_if x at (read_of (payload_in seen)) else []
 hearing_by own x at seen = []
 
 -- a node hears each readable tagged supervision frame of another on a ring port
@@ -253,9 +248,7 @@ hearings place (x ∷ past) = hearings_from place (now (x ∷ past)) x.event ++ 
 
 -- the rows of the nodes that are known at a moment
 abbrev pub rows : Place → List Entry → ℕ → List NodeRow
-rows place past at =
-    let latest_first = hearings place past in
-    map (row_after latest_first) (filter (λ h. is_young at h.at) (latest_64 (λ h. h.said.about) latest_first))
+rows place past at = rows_known (hearings place past) at
 
 -- ---- what is wanted
 
@@ -351,54 +344,3 @@ answer capacity owner past at Age = Ok Aged
 -- Each outcome is what the past below it answers. A refused event has no outcome, so no legal record holds one.
 unfoldable pub IsLegal : ℕ → Owner → List Entry → Type 0
 IsLegal capacity owner past = Each (λ x below. answer capacity owner below (now (x ∷ below)) x.event ≡ Ok x.outcome) past
-
--- ---- counters: how often each thing happened
-
-abbrev pub is_up : Outcome → Bool
-is_up (Judged up_too ports seq cause) = up_too
-is_up _ = false
-
-abbrev pub is_cause : (Cause → Bool) → Outcome → Bool
-is_cause p (Judged up_too ports seq cause) = p cause
-is_cause p _ = false
-
--- the copies of an arrival that left by ports
-abbrev pub copies : Outcome → ℕ
-copies (Judged up_too ports seq cause) = bit (has_port ports 0) + bit (has_port ports 1) + bit (has_port ports 2) + bit (has_port ports 3)
-copies _ = 0
-
-abbrev pub is_some_ring : Option BoxPort → Bool
-is_some_ring None = false
-is_some_ring (Some box.I) = false
-is_some_ring (Some x) = true
-
--- the address of a node that hears supervision frames at this port
-abbrev pub hears_at : Place → ℕ → Option (List ℕ)
-hears_at (Danh mac mode) port = option_map (λ x. mac) (ring_port port)
-hears_at (RedBox mac mode) port = if is_some_ring (box_port port) then Some mac else None
-hears_at _ port = None
-
-abbrev pub is_unreadable_for : Option (List ℕ) → Result Seen FrameFault → Bool
-is_unreadable_for None seen = false
-is_unreadable_for (Some own) seen = if is_told own seen then is_err (told_by seen) else false
-
--- a tagged supervision frame of another node that can't be read
-abbrev pub is_unreadable : Place → Event → Bool
-is_unreadable place (Arrive port copy) = is_unreadable_for (hears_at place port) (classified copy.octets)
-is_unreadable place event = false
-
-abbrev pub counters : Place → List Entry → Counters
-counters place past = record {
-  sent = count_of (λ x. is_sent x.outcome) past;
-  life = count_of (λ x. is_life x.outcome) past;
-  up = count_of (λ x. is_up x.outcome) past;
-  forwarded = sum_of (λ x. copies x.outcome) past;
-  duplicate = count_of (λ x. is_cause Rattle.hsr_danh.specs.Past.is_duplicate x.outcome) past;
-  returned = count_of (λ x. is_cause Rattle.hsr_danh.specs.Past.is_returned x.outcome) past;
-  foreign = count_of (λ x. is_cause Rattle.hsr_danh.specs.Past.is_foreign x.outcome) past;
-  local = count_of (λ x. is_cause Rattle.hsr_danh.specs.Past.is_local x.outcome) past;
-  untagged = count_of (λ x. is_cause Rattle.hsr_danh.specs.Past.is_untagged x.outcome) past;
-  tagged = count_of (λ x. is_cause Rattle.hsr_danh.specs.Past.is_tagged x.outcome) past;
-  malformed = count_of (λ x. is_cause Rattle.hsr_danh.specs.Past.is_malformed x.outcome) past;
-  bad_life = count_of (λ x. is_unreadable place x.event) past;
-}

@@ -1,90 +1,17 @@
 //! What leaves a node by a port, and what goes up.
 ghost use Rattle.std.specs.Prelude.{◌≡◌, Option, Result, option_map};
-ghost use Rattle.hsr_node.specs.Copies.{address_at, arrived_octets, as_came, asked_frame, copy_octets, forwarded, frame_of, life_frame, life_octets, life_said, octets_at, passed_octets, plain_in, ports_of, raised, ring_address, sent_octets, up_octets, written};
+ghost use Rattle.hsr_node.specs.Copies.{as_came, copy_octets, forwarded, octets_at, passed_octets, plain_in, ports_of, up_octets, written};
 
 use crate::event::{Event, Outcome};
 use crate::place::Place;
+use crate::sending::sent_by;
 use crate::side::{Side, is_ring, path_of, side_of};
 use arrayvec::ArrayVec;
-use hsr_frame::{FrameFault, HSR, Mac, SUPERVISION_TYPE, VLAN, copied};
-use hsr_redbox::About;
-use hsr_supervision::{SupKind, Supervision};
+use hsr_frame::{FrameFault, copied};
 use hsr_tag::{Frame, Seen, classify};
 
 /// The octets of a frame.
 type Octets = ArrayVec<u8, 1524>;
-
-/// The frame with these fields, where there is one: no group sends it, its type is that of no VLAN or HSR tag, and its
-/// payload has at most 1500 octets.
-fn frame_of(src: Mac, dst: Mac, vlan: Option<u16>, kind: u16, payload: &[u8]) -> Option<Frame>
-    ensures { result ≡ frame_of (record { dst = dst; src = src; vlan = vlan; kind = kind; rest = payload.now }) }
-{
-    if src.is_group() || kind == HSR || kind == VLAN || payload.len() > 1500 {
-        return None;
-    }
-    Some(Frame {
-        dst,
-        src,
-        vlan,
-        kind,
-        payload: copied(payload),
-    })
-}
-
-/// The address of a node on a ring.
-fn ring_address(place: &Place) -> Option<Mac>
-    ensures { result ≡ ring_address place.now }
-{
-    match place {
-        Place::Danh { mac, mode: _ } => Some(*mac),
-        Place::RedBox { mac, mode: _ } => Some(*mac),
-        Place::QuadBox => None,
-        Place::Station { .. } => None,
-    }
-}
-
-/// The address at a place among a node's own.
-fn address_at(place: &Place, from: u8) -> Option<Mac>
-    ensures { result ≡ address_at place.now from }
-{
-    match place {
-        Place::Station { macs } => macs.as_slice().get(usize::from(from)).copied(),
-        _ => { if from == 0 { ring_address(place) } else { None } }
-    }
-}
-
-/// What a supervision frame says (IEC 62439-3 clause 5.7): a RedBox names itself where it speaks for a station.
-fn life_said(own: Mac, about: About, life: u16) -> Supervision
-    ensures { result ≡ life_said own about life }
-{
-    let (mac, redbox) = match about {
-        About::Own => (own, None),
-        About::Proxied(mac) => (mac, Some(own)),
-    };
-    Supervision {
-        path: 0,
-        version: 1,
-        seq: life,
-        kind: SupKind::Hsr,
-        about: mac,
-        redbox,
-    }
-}
-
-/// The supervision frame of a node with this address.
-fn life_frame(own: Option<Mac>, about: About, life: u16) -> Option<Frame>
-    ensures { result ≡ life_frame own about life }
-{
-    let own = own?;
-    let said = life_said(own, about, life).write();
-    frame_of(
-        own,
-        Mac::supervision(),
-        None,
-        SUPERVISION_TYPE,
-        said.as_slice(),
-    )
-}
 
 /// The octets of a frame of the node's own, or of one that it numbers or untags: plain at an edge, and on a ring with
 /// its number (IEC 62439-3 clause 5.6).
@@ -177,38 +104,16 @@ fn passed(place: &Place, event: &Event, outcome: &Outcome, port: u8) -> Option<O
 {
     let side = side_of(place, port);
     match event {
-        Event::Send {
-            from,
-            dst,
-            vlan,
-            kind,
-            payload,
-        } => match outcome {
-            Outcome::Sent { seq, ports: _ } => {
-                let src = address_at(place, *from)?;
-                let frame = frame_of(src, *dst, *vlan, *kind, payload.as_slice());
-                written(side, *seq, frame)
-            }
-            _ => None,
-        },
-        Event::Supervise(about) => match outcome {
-            Outcome::Life {
-                seq,
-                life,
-                ports: _,
-            } => {
-                let frame = life_frame(ring_address(place), *about, *life);
-                written(side, Some(*seq), frame)
-            }
-            _ => None,
-        },
         Event::Arrive { port: x, carried } => match outcome {
             Outcome::Judged { seq, .. } => {
                 forwarded(side_of(place, *x), side, *seq, carried.octets.as_slice())
             }
             _ => None,
         },
-        Event::Age => None,
+        _ => {
+            let sending = sent_by(place, event, outcome)?;
+            octets_at(side?, sending.seq, &sending.frame)
+        }
     }
 }
 

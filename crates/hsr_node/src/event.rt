@@ -1,5 +1,5 @@
 //! What happens to a node, and what it answers.
-ghost use Rattle.std.specs.Prelude.{◌≡◌, IfOk};
+ghost use Rattle.std.specs.Prelude.{◌≡◌, ◌↔◌, IfOk, IsTrue};
 
 use crate::octets::Octets;
 use hsr_frame::{Cause, Mac, NoMemory, SendFault};
@@ -96,5 +96,15 @@ impl Event {
         ensures { IfOk result (λ event. event ≡ self.now) }
     {
         Ok(self.clone()?)
+    }
+}
+
+impl Outcome {
+    /// Whether they are one outcome.
+    #[tactic(auto, using(crate::proofs::SameOutcome::same_outcome))]
+    pub fn is_same(&self, other: &Outcome) -> bool
+        ensures { IsTrue result ↔ (self.now ≡ other.now) }
+    {
+        self == other
     }
 }

@@ -32,9 +32,10 @@ impl<const C: usize> Model for Kept<C> {
 }
 
 impl<const C: usize> Kept<C> {
+    ghost use Rattle.hsr_node.specs.Counts.{counters};
     ghost use Rattle.hsr_node.specs.Kept.{IsAnswered, owner_of, past_of};
     ghost use Rattle.hsr_node.specs.Place.{HasOwnAddress};
-    ghost use Rattle.hsr_node.specs.Record.{IsLegal, counters};
+    ghost use Rattle.hsr_node.specs.Record.{IsLegal};
 
     /// A node of this number at this place that has done nothing. No group has the address of a DANH or RedBox.
     /// `NoMemory` where room for its tables is refused.

@@ -12,6 +12,7 @@ mod pass;
 mod place;
 mod quadbox;
 mod redbox;
+mod sending;
 mod side;
 mod station;
 
@@ -23,6 +24,7 @@ pub use node::Node;
 pub use octets::Octets;
 pub use pass::Pass;
 pub use place::Place;
+pub use sending::{Sending, sent_by};
 pub use station::Station;
 
 #[cfg(test)]

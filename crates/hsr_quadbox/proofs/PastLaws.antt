@@ -1,8 +1,9 @@
 -- The stepping machine answers as the one that keeps its past.
-use Rattle.std.proofs.Common.{◌≡◌, ℕ, ◌+◌, ◌≤◌, ◌^◌, ◌==◌, Bool, true, false, not, ◌&&◌, List, [], ◌∷◌, ◌++◌, length, refl, ap, sym, ◌∙◌, append-nil, filter, subst, arith, Some, Result, Ok, Err, if◌then◌else◌}
+use Rattle.std.proofs.Common.{◌≡◌, ℕ, ◌+◌, ◌≤◌, ◌^◌, ◌==◌, Bool, true, false, not, ◌&&◌, List, [], ◌∷◌, length, refl, ap, sym, ◌∙◌, append-nil, filter, subst, arith, Some, Result, Ok, Err, if◌then◌else◌}
 use Rattle.std.specs.Prelude.{max}
 use Rattle.std.specs.List.{sum_by}
 use Rattle.std.proofs.lemmas.List.Sums.{sum_by-cons}
+use Rattle.hsr_frame.specs.Cause.{is_duplicate, is_malformed, is_untagged}
 use Rattle.hsr_frame.specs.Counters.{counted, no_counts}
 use Rattle.hsr_frame.specs.Egress.{cause_of, is_any}
 use Rattle.hsr_frame.specs.declared.egress.Exits.{Exits}
@@ -14,15 +15,15 @@ use Rattle.hsr_tag.specs.declared.seen.Seen.{Seen}
 use Rattle.hsr_tag.specs.declared.seen.Seen.TheVariants.{Plain, Tagged}
 use Rattle.hsr_duptable.specs.Key.{Key}
 use Rattle.hsr_duptable.specs.Log.{StandsFor, remembered}
-use Rattle.hsr_duptable.specs.Notes.{has_key}
-use Rattle.hsr_duptable.specs.Table.{Table, after_pass, remembers, IsWithin}
+use Rattle.hsr_duptable.specs.Notes.{has_key, entry_forget}
+use Rattle.hsr_duptable.specs.Table.{Table, remembers, IsWithin}
 use Rattle.hsr_duptable.specs.declared.note.Note.{Note}
-use Rattle.hsr_duptable.proofs.LogLaws.{StandsFor-age, StandsFor-new, StandsFor-note, remembers-StandsFor}
+use Rattle.hsr_duptable.proofs.LogLaws.{StandsFor-age, StandsFor-new, remembers-StandsFor, StandsFor-pass}
 use Rattle.hsr_duptable.proofs.Within.{IsWithin-age, IsWithin-empty}
 use Rattle.hsr_quadbox.specs.Wanted.{wanted}
 use Rattle.hsr_quadbox.specs.Machine.{Machine, Notes, NotesAreWithin, new_machine}
 use Rattle.hsr_quadbox.specs.Step.{after_arrival, age_step, arrive_or_spent, arrive_step, copies_of, judged as judged_notes, key_of, now_at, verdict_of}
-use Rattle.hsr_quadbox.specs.Past.{AnswersAsPast, Answer, IsTold, StandForLogs, Call, arriving, ageing, Deed, judged, aged, Judged, answers_of, arrivals, counts, greatest, is_duplicate, is_malformed, is_untagged, judgement, judge_or_spent, log, machine_call, passes_in, past_call, verdict_on}
+use Rattle.hsr_quadbox.specs.Past.{AnswersAsPast, Answer, IsTold, StandForLogs, Call, arriving, ageing, Deed, judged, aged, Judged, answers_of, arrivals, counts, greatest, judgement, judge_or_spent, log, machine_call, passes_in, past_call, verdict_on}
 use Rattle.hsr_quadbox.specs.declared.quadbox.QuadVerdict.{QuadVerdict}
 use Rattle.hsr_quadbox.specs.declared.wanted.QuadPort.{QuadPort}
 use Rattle.hsr_quadbox.specs.declared.wanted.QuadPort.TheVariants.{A, B, C, D}
@@ -31,7 +32,7 @@ use Rattle.hsr_quadbox.proofs.Steps.{NotesAreWithin-judged}
 -- ---- where an arrival passes
 
 not_remembered : (capacity : ℕ) (table : Table) (past : List Note) (key : Key) (now moment accepted : ℕ) → moment ≤ now → IsWithin table moment accepted → StandsFor capacity table past
-    → not (remembers table key now) ≡ not (has_key key (remembered capacity 400 past now))
+    → not (remembers table key now) ≡ not (has_key key (remembered capacity entry_forget past now))
 not_remembered capacity table past key now moment accepted h w s =
     ap not (remembers-StandsFor capacity table past key now (omega (arith, w.last)) s
     ∙ ap (λ (forget : ℕ). has_key key (remembered capacity forget past now)) w.forget)
@@ -49,11 +50,6 @@ passes-told capacity notes past exits (Ok (Tagged frame)) now moment accepted h 
     λ i. record exits { a = exits.a && a i; b = exits.b && b i; c = exits.c && c i; d = exits.d && d i }
 
 -- ---- what is noted
-
-StandsFor-pass : (capacity : ℕ) (table : Table) (past : List Note) (passed : Bool) (key : Key) (now : ℕ) → table.last ≤ now → StandsFor capacity table past
-    → StandsFor capacity (after_pass capacity table passed key now) (past ++ (if passed then record { key = key; moment = now } ∷ [] else []))
-StandsFor-pass capacity table past true key now h s = StandsFor-note capacity table past key now h s
-StandsFor-pass capacity table past false key now h s = rw (append-nil past) s
 
 -- the deed that the machine's passes make
 abbrev deed_of : ℕ → Notes → ℕ → QuadPort → Result Seen FrameFault → ℕ → Deed
@@ -124,7 +120,7 @@ counts-judged past j =
 
 pub told-new : (capacity : ℕ) → IsTold capacity new_machine []
 told-new capacity =
-    let stands = StandsFor-new capacity 400 in
+    let stands = StandsFor-new capacity entry_forget in
     record {
       logs = record { a = stands; b = stands; c = stands; d = stands };
       within = record { a = IsWithin-empty; b = IsWithin-empty; c = IsWithin-empty; d = IsWithin-empty };

@@ -2,6 +2,7 @@
 use Rattle.std.specs.Prelude.{ℕ, ◌≤◌, ◌<◌, ◌^◌}
 use Rattle.hsr_frame.specs.Counters.{no_counts}
 use Rattle.hsr_frame.specs.declared.counters.Counters.{Counters}
+use Rattle.hsr_duptable.specs.Notes.{entry_forget}
 use Rattle.hsr_duptable.specs.Table.{IsWithin, Table, empty_table}
 
 -- what each port remembers
@@ -20,7 +21,7 @@ pub record Machine : Type 0 where
   pub accepted : ℕ
 
 abbrev pub no_notes : Notes
-no_notes = record { a = empty_table 400; b = empty_table 400; c = empty_table 400; d = empty_table 400 }
+no_notes = record { a = empty_table entry_forget; b = empty_table entry_forget; c = empty_table entry_forget; d = empty_table entry_forget }
 
 abbrev pub new_machine : Machine
 new_machine = record { notes = no_notes; counters = no_counts; moment = 0; accepted = 0 }

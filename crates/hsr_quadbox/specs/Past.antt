@@ -1,19 +1,19 @@
 -- A QuadBox that keeps its whole past, and answers by looking through it.
-use Rattle.std.specs.Prelude.{ℕ, ◌≡◌, ◌^◌, ◌==◌, ◌&&◌, not, max, Bool, true, false, List, [], ◌∷◌, ◌++◌, length, filter, Option, Some, None, Result, Ok, Err, if◌then◌else◌}
+use Rattle.std.specs.Prelude.{ℕ, ◌≡◌, ◌^◌, ◌==◌, ◌&&◌, not, max, Bool, true, false, List, [], ◌∷◌, ◌++◌, length, filter, Option, Some, None, Result, Ok, Err}
 use Rattle.std.specs.List.{sum_by}
+use Rattle.hsr_frame.specs.Cause.{is_duplicate, is_malformed, is_untagged}
 use Rattle.hsr_frame.specs.Counters.{no_counts}
 use Rattle.hsr_frame.specs.declared.counters.Counters.{Counters}
 use Rattle.hsr_frame.specs.declared.egress.Exits.{Exits}
 use Rattle.hsr_frame.specs.declared.fault.FrameFault.{FrameFault}
 use Rattle.hsr_frame.specs.declared.fault.Spent.{Spent}
 use Rattle.hsr_frame.specs.declared.node.Cause.{Cause}
-use Rattle.hsr_frame.specs.declared.node.Cause.TheVariants.{Duplicate, Untagged, Malformed}
 use Rattle.hsr_tag.specs.Seen.{classified}
 use Rattle.hsr_tag.specs.declared.seen.Seen.{Seen}
 use Rattle.hsr_tag.specs.declared.seen.Seen.TheVariants.{Plain, Tagged}
 use Rattle.hsr_duptable.specs.Key.{Key}
 use Rattle.hsr_duptable.specs.Log.{StandsFor, remembered}
-use Rattle.hsr_duptable.specs.Notes.{has_key}
+use Rattle.hsr_duptable.specs.Notes.{has_key, entry_forget, note_if}
 use Rattle.hsr_duptable.specs.declared.note.Note.{Note}
 use Rattle.hsr_quadbox.specs.Wanted.{wanted}
 use Rattle.hsr_quadbox.specs.Machine.{Machine, Notes, NotesAreWithin, new_machine}
@@ -53,7 +53,7 @@ passed_by D exits = exits.d
 abbrev pub note_of : Result Seen FrameFault → Bool → ℕ → List Note
 note_of (Err fault) passed now = []
 note_of (Ok (Plain frame)) passed now = []
-note_of (Ok (Tagged frame)) passed now = if passed then record { key = key_of frame; moment = now } ∷ [] else []
+note_of (Ok (Tagged frame)) passed now = note_if passed (key_of frame) now
 
 -- the log of a port: all its notes, each with its effective moment, the oldest first
 abbrev pub log : QuadPort → List Deed → List Note
@@ -65,7 +65,7 @@ log port (judged j ∷ past) = log port past ++ note_of j.seen (passed_by port j
 
 -- no remembered note of the port's log has the key
 abbrev pub is_new : ℕ → List Deed → QuadPort → Key → ℕ → Bool
-is_new capacity past port key now = not (has_key key (remembered capacity 400 (log port past) now))
+is_new capacity past port key now = not (has_key key (remembered capacity entry_forget (log port past) now))
 
 -- where an arrival passes: of the ports that want it, a tagged one only where it is new
 abbrev pub passes_in : ℕ → List Deed → Exits → Result Seen FrameFault → ℕ → Exits
@@ -95,15 +95,6 @@ abbrev pub arrivals : List Deed → List Judged
 arrivals [] = []
 arrivals (aged at ∷ past) = arrivals past
 arrivals (judged j ∷ past) = j ∷ arrivals past
-
-abbrev pub is_duplicate : Cause → Bool
-is_duplicate cause = elim cause as (λ c. Bool) [ Duplicate ↦ true | _ ↦ false ]
-
-abbrev pub is_untagged : Cause → Bool
-is_untagged cause = elim cause as (λ c. Bool) [ Untagged ↦ true | _ ↦ false ]
-
-abbrev pub is_malformed : Cause → Bool
-is_malformed cause = elim cause as (λ c. Bool) [ Malformed fault ↦ true | _ ↦ false ]
 
 -- how many arrivals have such a cause
 abbrev pub how_many : (Cause → Bool) → List Deed → ℕ

@@ -30,14 +30,11 @@ pub(crate) fn arrival_wants(port: QuadPort, seen: &Result<Seen, FrameFault>) -> 
 fn tagged_wants(port: QuadPort) -> Wants
     ensures { result ≡ to (others port) }
 {
-    Wants {
-        exits: Exits {
-            up: false,
-            a: port != QuadPort::A,
-            b: port != QuadPort::B,
-            c: port != QuadPort::C,
-            d: port != QuadPort::D,
-        },
-        cause: Cause::Foreign,
-    }
+    Wants::to(Exits {
+        up: false,
+        a: port != QuadPort::A,
+        b: port != QuadPort::B,
+        c: port != QuadPort::C,
+        d: port != QuadPort::D,
+    })
 }

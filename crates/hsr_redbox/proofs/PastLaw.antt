@@ -1,12 +1,13 @@
 -- The stepping machine answers as its whole past.
 use Rattle.std.proofs.Common.{◌≡◌, ℕ, ◌+◌, ◌%◌, ◌≤◌, ◌^◌, ◌==◌, ◌&&◌, not, Bool, true, false, if◌then◌else◌, List, [], ◌∷◌, ◌++◌, map, Option, Some, None, Result, Ok, Err, refl, sym, ap, ap₂, subst, ◌∙◌, arith, add-zero}
-use Rattle.std.specs.Prelude.{max, fold, is_err, is_some}
+use Rattle.std.specs.Prelude.{max, fold, is_some}
 use Rattle.std.specs.List.{list_any}
 use Rattle.std.proofs.lemmas.List.{append-nil}
 use Rattle.std.proofs.lemmas.List.Sums.{fold-append}
 use Rattle.hsr_frame.specs.Address.{is_same_address}
+use Rattle.hsr_frame.specs.Cause.{is_duplicate, is_returned, is_foreign, is_local, is_untagged, is_tagged, is_malformed}
 use Rattle.hsr_frame.specs.Counters.{bit, counted_cause}
-use Rattle.hsr_frame.specs.Egress.{Egress, up, a, b, exits_of, is_supervision, with_exit}
+use Rattle.hsr_frame.specs.Egress.{Egress, up, a, b, exits_of, with_exit, has_exit}
 use Rattle.hsr_frame.specs.Send.{send_refusal}
 use Rattle.hsr_frame.specs.declared.counters.Counters.{Counters}
 use Rattle.hsr_frame.specs.declared.egress.Exits.{Exits}
@@ -18,28 +19,26 @@ use Rattle.hsr_frame.specs.declared.node.Cause.TheVariants as cause
 use Rattle.hsr_frame.specs.declared.node.Mode.{Mode}
 use Rattle.hsr_frame.specs.declared.node.RingPort.{RingPort}
 use Rattle.hsr_frame.specs.declared.node.RingPort.TheVariants as ring
-use Rattle.hsr_supervision.specs.Payload.{Fields, read_of}
-use Rattle.hsr_supervision.specs.declared.payload.SupFault.{SupFault}
-use Rattle.hsr_tag.specs.Seen.{classified}
+use Rattle.hsr_tag.specs.Seen.{classified, is_told, payload_in}
 use Rattle.hsr_tag.specs.declared.seen.Seen.{Seen}
 use Rattle.hsr_tag.specs.declared.seen.Seen.TheVariants.{Plain, Tagged}
 use Rattle.hsr_duptable.specs.Key.{Key}
 use Rattle.hsr_duptable.specs.Log.{StandsFor, remembered}
-use Rattle.hsr_duptable.specs.Notes.{has_key}
-use Rattle.hsr_duptable.specs.Table.{Table, after_pass, remembers}
+use Rattle.hsr_duptable.specs.Notes.{has_key, entry_forget}
+use Rattle.hsr_duptable.specs.Table.{Table, remembers}
 use Rattle.hsr_duptable.specs.declared.note.Note.{Note}
-use Rattle.hsr_duptable.proofs.LogLaws.{StandsFor-age, StandsFor-new, StandsFor-note, remembers-StandsFor}
+use Rattle.hsr_duptable.proofs.LogLaws.{StandsFor-age, StandsFor-new, remembers-StandsFor, StandsFor-pass, StandsFor-same}
 use Rattle.hsr_duptable.proofs.Within.{IsWithin-age, IsWithin-empty}
 use Rattle.hsr_tables.specs.Known.{known}
-use Rattle.hsr_tables.specs.Nodes.{Hearing, Nodes, heard, heard_if, listened, no_nodes}
+use Rattle.hsr_tables.specs.Nodes.{Hearing, Nodes, heard, no_nodes}
 use Rattle.hsr_tables.specs.Proxies.{Proxies, is_known, learned, no_proxies}
-use Rattle.hsr_tables.proofs.NodeLaws.{rows_of_latest}
+use Rattle.hsr_tables.proofs.NodeLaws.{rows_of_latest, listened-if}
 use Rattle.hsr_tables.proofs.ProxyLaws.{knows_latest}
 use Rattle.hsr_redbox.specs.Machine.{AreWithin, Machine, Notes, new_machine}
 use Rattle.hsr_redbox.specs.Step.{after_arrival, after_frame, after_interlink, after_marks, after_ring, age_step, aged, arrive_or_spent, arrive_step, counted_with, heard_from, heard_of, judged, key_of, life_or_refuse, life_refusal, life_step, now_at, send_or_refuse, send_step, sent_of, verdict_of}
 use Rattle.hsr_redbox.specs.Wanted.{handling_interlink, handling_send, interlink, wanted}
 use Rattle.hsr_redbox.specs.Past as deeds
-use Rattle.hsr_redbox.specs.Past.{Answer, Call, Deed, Did, count_of, counters_of, done, gave_up, has_exit, hearings_of, is_step, is_unreadable, judged_interlink, judged_ring, knows_among, known_among, linked, log_of, mark_if, moment_of, note_if, noted_by, now_after, number_after, passes_from, past_step, ports_of, remembers_of, sent_frame, sent_life, source_in, sources_of, step}
+use Rattle.hsr_redbox.specs.Past.{Answer, Call, Deed, Did, count_of, counters_of, done, gave_up, hearings_of, is_step, is_unreadable, judged_interlink, judged_ring, knows_among, known_among, linked, log_of, mark_if, moment_of, noted_by, now_after, number_after, passes_from, past_step, ports_of, remembers_of, sent_frame, sent_life, source_in, sources_of, step}
 use Rattle.hsr_redbox.specs.declared.wanted.Handling.{Handling}
 use Rattle.hsr_redbox.specs.declared.call.BoxPort.{BoxPort}
 use Rattle.hsr_redbox.specs.declared.call.BoxPort.TheVariants.{A, B, I}
@@ -70,14 +69,6 @@ abbrev pub Kept : {X : Type 0} → ℕ → Machine → X × Machine → X × Lis
 Kept capacity machine s p = (s.0 ≡ p.0) × IsPastOf capacity s.1 p.1 × (s.1.own ≡ machine.own) × (s.1.mode ≡ machine.mode)
 
 -- ---- logs
-
-StandsFor-pass : (capacity : ℕ) (table : Table) (log : List Note) (passes : Bool) (key : Key) (now : ℕ) → table.last ≤ now → StandsFor capacity table log
-    → StandsFor capacity (after_pass capacity table passes key now) (log ++ note_if passes key now)
-StandsFor-pass capacity table log true key now h s = StandsFor-note capacity table log key now h s
-StandsFor-pass capacity table log false key now h s = rw (append-nil log) s
-
-StandsFor-same : (capacity : ℕ) (table : Table) (log : List Note) → StandsFor capacity table log → StandsFor capacity table (log ++ [])
-StandsFor-same capacity table log s = rw (append-nil log) s
 
 logs-same : (capacity : ℕ) (notes : Notes) (log : Egress → List Note) → LogsOf capacity notes log → LogsOf capacity notes (λ egress. log egress ++ [])
 logs-same capacity notes log l = record {
@@ -135,13 +126,13 @@ counts_plus k verdict bad = record {
   life = k.life;
   up = if verdict.up then k.up + 1 else k.up;
   forwarded = k.forwarded + ports_of verdict;
-  duplicate = if deeds.is_duplicate verdict.cause then k.duplicate + 1 else k.duplicate;
-  returned = if deeds.is_returned verdict.cause then k.returned + 1 else k.returned;
-  foreign = if deeds.is_foreign verdict.cause then k.foreign + 1 else k.foreign;
-  local = if deeds.is_local verdict.cause then k.local + 1 else k.local;
-  untagged = if deeds.is_untagged verdict.cause then k.untagged + 1 else k.untagged;
-  tagged = if deeds.is_tagged verdict.cause then k.tagged + 1 else k.tagged;
-  malformed = if deeds.is_malformed verdict.cause then k.malformed + 1 else k.malformed;
+  duplicate = if is_duplicate verdict.cause then k.duplicate + 1 else k.duplicate;
+  returned = if is_returned verdict.cause then k.returned + 1 else k.returned;
+  foreign = if is_foreign verdict.cause then k.foreign + 1 else k.foreign;
+  local = if is_local verdict.cause then k.local + 1 else k.local;
+  untagged = if is_untagged verdict.cause then k.untagged + 1 else k.untagged;
+  tagged = if is_tagged verdict.cause then k.tagged + 1 else k.tagged;
+  malformed = if is_malformed verdict.cause then k.malformed + 1 else k.malformed;
   bad_life = if bad then k.bad_life + 1 else k.bad_life;
 }
 
@@ -265,7 +256,7 @@ interlink-case capacity machine past now seen later r =
 
 -- ---- arrivals at a ring port
 
-remembers-same : (capacity : ℕ) (machine : Machine) (past : List Deed) (now : ℕ) (key : Key) (table : Table) (egress : Egress) → table.last ≤ now → table.forget ≡ 400
+remembers-same : (capacity : ℕ) (machine : Machine) (past : List Deed) (now : ℕ) (key : Key) (table : Table) (egress : Egress) → table.last ≤ now → table.forget ≡ entry_forget
     → StandsFor capacity table (log_of machine.own egress past) → remembers table key now ≡ remembers_of capacity machine.own past now key egress
 remembers-same capacity machine past now key table egress h forget s =
     remembers-StandsFor capacity table (log_of machine.own egress past) key now h s
@@ -283,22 +274,9 @@ passes-same capacity machine past now exits (Ok (Tagged frame)) h r =
     let on_interlink = same machine.notes.interlink interlink (omega (arith, r.within.interlink.last)) r.within.interlink.forget r.logs.on_interlink in
     λ i. record exits { up = exits.up && not (on_up i); a = exits.a && not (on_a i); b = exits.b && not (on_b i); c = exits.c && not (on_interlink i) }
 
--- what is heard, and whether it could be read
-told-same : (told : Bool) (payload : List ℕ) (nodes : Nodes) (x : RingPort) (now : ℕ)
-    → let h = if told then listened nodes payload x now else (true, nodes) in
-    (h.1 ≡ fold heard nodes (if told then deeds.hearing_if x now (read_of payload) else [])) × (not h.0 ≡ (if told then is_err (read_of payload) else false))
-told-same false payload nodes x now = (refl, refl)
-told-same true payload nodes x now = by_read (read_of payload)
-  where
-    by_read : (said : Result Fields SupFault) → ((heard_if nodes x now said).1 ≡ fold heard nodes (deeds.hearing_if x now said)) × (not (heard_if nodes x now said).0 ≡ is_err said)
-    by_read (Ok said) = (refl, refl)
-    by_read (Err fault) = (refl, refl)
-
 heard-told : (own : List ℕ) (nodes : Nodes) (x : RingPort) (seen : Result Seen FrameFault) (verdict : BoxVerdict) (now : ℕ)
     → ((heard_of own nodes x seen now).1 ≡ fold heard nodes (deeds.heard_by own now (judged_ring x seen verdict))) × (not (heard_of own nodes x seen now).0 ≡ is_unreadable own (judged_ring x seen verdict))
-heard-told own nodes x (Err fault) verdict now = (refl, refl)
-heard-told own nodes x (Ok (Plain frame)) verdict now = (refl, refl)
-heard-told own nodes x (Ok (Tagged frame)) verdict now = told-same (is_supervision frame.dst frame.kind && not (is_same_address frame.src own)) frame.payload nodes x now
+heard-told own nodes x seen verdict now = listened-if (is_told own seen) (payload_in seen) nodes x now
 
 ring-case : (capacity : ℕ) (machine : Machine) (past : List Deed) (now : ℕ) (x : RingPort) (seen : Result Seen FrameFault) → machine.moment ≤ now → IsPastOf capacity machine past
     → Kept capacity machine (after_ring capacity machine now x seen) (deeds.ring_from capacity machine.own machine.mode past now x seen)
@@ -415,7 +393,7 @@ runs capacity own mode machine past (call ∷ calls) is_own is_mode r =
 
 pub begins : (capacity : ℕ) (own : List ℕ) (mode : Mode) → IsPastOf capacity (new_machine own mode) []
 begins capacity own mode = record {
-  logs = let new = StandsFor-new capacity 400 in record { on_up = new; on_a = new; on_b = new; on_interlink = new };
+  logs = let new = StandsFor-new capacity entry_forget in record { on_up = new; on_a = new; on_b = new; on_interlink = new };
   within = record { up = IsWithin-empty; a = IsWithin-empty; b = IsWithin-empty; interlink = IsWithin-empty };
   nodes = refl;
   proxies = refl;

@@ -1,5 +1,5 @@
 -- What the program does in a step is the step of the definition, and keeps what holds of each RedBox.
-use Rattle.std.proofs.Common.{◌≡◌, ℕ, ◌+◌, ◌%◌, ◌<◌, ◌≤◌, ◌^◌, ◌==◌, Bool, true, false, not, ◌&&◌, if◌then◌else◌, List, [], ◌∷◌, Option, Some, None, Result, Ok, Err, ap, sym, refl, arith, ◌∙◌}
+use Rattle.std.proofs.Common.{◌≡◌, ℕ, ◌+◌, ◌%◌, ◌<◌, ◌≤◌, ◌^◌, ◌==◌, Bool, true, false, not, List, [], ◌∷◌, Option, Some, None, Result, Ok, Err, ap, sym, refl, arith, ◌∙◌}
 use Rattle.std.proofs.lemmas.Bool.Decides.{nat_tests}
 use Rattle.hsr_frame.specs.Counters.{AreWithin as CountersWithin, bit}
 use Rattle.hsr_frame.proofs.Counting.{AreWithin-counted_bad}
@@ -14,14 +14,11 @@ use Rattle.hsr_tag.specs.declared.seen.Seen.TheVariants.{Plain, Tagged}
 use Rattle.hsr_duptable.specs.Key.{Key}
 use Rattle.hsr_duptable.proofs.Within.{IsWithin-more, IsWithin-pass}
 use Rattle.hsr_tables.specs.Nodes.{Nodes}
+use Rattle.hsr_tables.proofs.NodeLaws.{listened-last}
 use Rattle.hsr_redbox.specs.Machine.{AreWithin, Machine, Notes}
-use Rattle.hsr_frame.specs.Address.{is_same_address}
-use Rattle.hsr_frame.specs.Egress.{a, b, exits_of, is_supervision, with_exit}
+use Rattle.hsr_frame.specs.Egress.{a, b, exits_of, with_exit}
 use Rattle.hsr_frame.specs.declared.egress.Wants.{Wants}
-use Rattle.hsr_supervision.specs.Payload.{Fields, read_of}
-use Rattle.hsr_supervision.specs.declared.payload.SupFault.{SupFault}
-use Rattle.hsr_tag.specs.Seen.{classified}
-use Rattle.hsr_tables.specs.Nodes.{heard_if, listened}
+use Rattle.hsr_tag.specs.Seen.{classified, is_told, payload_in}
 use Rattle.hsr_tables.specs.Proxies.{Proxies, is_known}
 use Rattle.hsr_redbox.specs.Wanted.{handling_interlink, handling_send, interlink, wanted}
 use Rattle.hsr_redbox.specs.Step.{after_arrival, after_frame, after_handling, after_interlink, after_marks, after_passes, after_ring, arrive_or_spent, arrive_step, counted_with, heard_from, heard_of, judged, key_of, life_or_refuse, life_refusal, life_step, now_at, number_of, passes_of, send_or_refuse, send_step, sent_of, verdict_of}
@@ -125,16 +122,7 @@ arrive-accepted capacity machine at port octets seen now verdict new some read a
 
 -- a hearing sets the moment of the nodes that are heard
 pub heard_of-last : (own : List ℕ) (nodes : Nodes) (x : RingPort) (seen : Result Seen FrameFault) (now : ℕ) → nodes.last ≤ now → (heard_of own nodes x seen now).1.last ≤ now
-heard_of-last own nodes x (Err fault) now h = h
-heard_of-last own nodes x (Ok (Plain frame)) now h = h
-heard_of-last own nodes x (Ok (Tagged frame)) now h = elim (is_supervision frame.dst frame.kind && not (is_same_address frame.src own)) as (λ b. (if b then listened nodes frame.payload x now else (true, nodes)).1.last ≤ now) [
-  | true ↦ listened-last (read_of frame.payload)
-  | false ↦ h
-]
-  where
-    listened-last : (read : Result Fields SupFault) → (heard_if nodes x now read).1.last ≤ now
-    listened-last (Ok said) = omega arith
-    listened-last (Err fault) = h
+heard_of-last own nodes x seen now h = listened-last (is_told own seen) (payload_in seen) nodes x now h
 
 pub ring-step : (capacity : ℕ) (machine : Machine) (now : ℕ) (x : RingPort) (seen : Result Seen FrameFault) (wants : Wants) (passes : Exits) (notes : Notes) (readable : Bool) (nodes : Nodes) (verdict : BoxVerdict) (counters : Counters)
     → wants ≡ wanted machine.own machine.mode (is_known now machine.proxies.heard) x seen

@@ -1,32 +1,30 @@
 -- The machine that keeps its whole past, and answers by filtering it.
-use Rattle.std.specs.Prelude.{◌≡◌, ℕ, ◌+◌, ◌%◌, ◌^◌, ◌==◌, ◌&&◌, not, max, Bool, true, false, List, [], ◌∷◌, ◌++◌, filter, map, reverse, Option, Some, None, is_some, is_err, Result, Ok, Err, if◌then◌else◌}
+use Rattle.std.specs.Prelude.{◌≡◌, ℕ, ◌+◌, ◌%◌, ◌^◌, ◌==◌, ◌&&◌, not, max, Bool, true, false, List, [], ◌∷◌, ◌++◌, map, reverse, Option, Some, None, is_some, is_err, Result, Ok, Err, if◌then◌else◌}
 use Rattle.std.specs.List.{list_any}
 use Rattle.hsr_frame.specs.Address.{is_same_address}
+use Rattle.hsr_frame.specs.Cause.{is_duplicate, is_returned, is_foreign, is_local, is_untagged, is_tagged, is_malformed}
 use Rattle.hsr_frame.specs.Counters.{bit}
-use Rattle.hsr_frame.specs.Egress.{Egress, up, a, b, c, d, exits_of, is_supervision, with_exit}
+use Rattle.hsr_frame.specs.Egress.{Egress, up, a, b, c, d, exits_of, with_exit, has_exit}
 use Rattle.hsr_frame.specs.Send.{send_refusal}
 use Rattle.hsr_frame.specs.declared.counters.Counters.{Counters}
 use Rattle.hsr_frame.specs.declared.egress.Exits.{Exits}
 use Rattle.hsr_frame.specs.declared.fault.FrameFault.{FrameFault}
 use Rattle.hsr_frame.specs.declared.fault.SendFault.{SendFault}
 use Rattle.hsr_frame.specs.declared.fault.Spent.{Spent}
-use Rattle.hsr_frame.specs.declared.node.Cause.{Cause}
-use Rattle.hsr_frame.specs.declared.node.Cause.TheVariants as cause
 use Rattle.hsr_frame.specs.declared.node.Life.{Life}
 use Rattle.hsr_frame.specs.declared.node.Mode.{Mode}
 use Rattle.hsr_frame.specs.declared.node.RingPort.{RingPort}
 use Rattle.hsr_frame.specs.declared.node.RingPort.TheVariants as ring
-use Rattle.hsr_supervision.specs.Payload.{Fields, read_of}
-use Rattle.hsr_supervision.specs.declared.payload.SupFault.{SupFault}
-use Rattle.hsr_tag.specs.Seen.{classified}
+use Rattle.hsr_supervision.specs.Payload.{read_of}
+use Rattle.hsr_tag.specs.Seen.{classified, is_told, payload_in}
 use Rattle.hsr_tag.specs.declared.seen.Seen.{Seen}
 use Rattle.hsr_tag.specs.declared.seen.Seen.TheVariants.{Plain, Tagged}
 use Rattle.hsr_duptable.specs.Key.{Key}
-use Rattle.hsr_duptable.specs.Notes.{has_key}
+use Rattle.hsr_duptable.specs.Notes.{has_key, entry_forget, note_if}
 use Rattle.hsr_duptable.specs.Log.{remembered}
 use Rattle.hsr_duptable.specs.declared.note.Note.{Note}
-use Rattle.hsr_tables.specs.Known.{is_young, known, latest_64}
-use Rattle.hsr_tables.specs.Nodes.{Hearing, row_after}
+use Rattle.hsr_tables.specs.Known.{known, latest_64}
+use Rattle.hsr_tables.specs.Nodes.{Hearing, hearing_if, rows_known}
 use Rattle.hsr_tables.specs.declared.nodes.NodeRow.{NodeRow}
 use Rattle.hsr_redbox.specs.Machine.{Machine, new_machine}
 use Rattle.hsr_redbox.specs.Step.{age_step, arrive_step, key_of, life_refusal, life_step, number_of, send_step, sent_of, verdict_of}
@@ -120,22 +118,12 @@ number_after past = count_of is_numbered past % 65536
 
 -- ---- the log of an egress: a note for each numbered frame that it passed or that was marked there, the oldest first, never shortened
 
-abbrev pub has_exit : Exits → Egress → Bool
-has_exit exits up = exits.up
-has_exit exits a = exits.a
-has_exit exits b = exits.b
-has_exit exits c = exits.c
-has_exit exits d = exits.d
-
 abbrev pub passed : BoxVerdict → Egress → Bool
 passed verdict up = verdict.up
 passed verdict a = verdict.a
 passed verdict b = verdict.b
 passed verdict c = verdict.interlink
 passed verdict d = false
-
-abbrev pub note_if : Bool → Key → ℕ → List Note
-note_if noted key now = if noted then record { key = key; moment = now } ∷ [] else []
 
 -- a frame that got a number for its source, or none
 abbrev pub mark_if : Option (List ℕ) → ℕ → Bool → ℕ → List Note
@@ -157,26 +145,12 @@ log_of own egress (deed ∷ past) = log_of own egress past ++ noted_by own egres
 
 -- an egress remembers a frame: of its last notes, as many as a table has entries, one is younger than 400 milliseconds and has the key
 abbrev pub remembers_of : ℕ → List ℕ → List Deed → ℕ → Key → Egress → Bool
-remembers_of capacity own past now key egress = has_key key (remembered capacity 400 (log_of own egress past) now)
+remembers_of capacity own past now key egress = has_key key (remembered capacity entry_forget (log_of own egress past) now)
 
 -- ---- hearings on the ring: readable tagged supervision frames of other nodes, the earliest first
 
-abbrev pub is_told : List ℕ → Result Seen FrameFault → Bool
-is_told own (Err fault) = false
-is_told own (Ok (Plain frame)) = false
-is_told own (Ok (Tagged frame)) = is_supervision frame.dst frame.kind && not (is_same_address frame.src own)
-
-abbrev pub told_by : Result Seen FrameFault → Result Fields SupFault
-told_by (Err fault) = read_of []
-told_by (Ok (Plain frame)) = read_of []
-told_by (Ok (Tagged frame)) = read_of frame.payload
-
-abbrev pub hearing_if : RingPort → ℕ → Result Fields SupFault → List Hearing
-hearing_if x now (Ok said) = record { said = said; port = x; at = now } ∷ []
-hearing_if x now (Err fault) = []
-
 abbrev pub heard_by : List ℕ → ℕ → Did → List Hearing
-heard_by own now (judged_ring x seen verdict) = if is_told own seen then hearing_if x now (told_by seen) else []
+heard_by own now (judged_ring x seen verdict) = if is_told own seen then hearing_if x now (read_of (payload_in seen)) else []
 heard_by own now _ = []
 
 abbrev pub hearings_of : List ℕ → List Deed → List Hearing
@@ -184,14 +158,12 @@ hearings_of own [] = []
 hearings_of own (deed ∷ past) = hearings_of own past ++ heard_by own deed.now deed.did
 
 abbrev pub is_unreadable : List ℕ → Did → Bool
-is_unreadable own (judged_ring x seen verdict) = if is_told own seen then is_err (told_by seen) else false
+is_unreadable own (judged_ring x seen verdict) = if is_told own seen then is_err (read_of (payload_in seen)) else false
 is_unreadable own _ = false
 
 -- the rows of the nodes that are known at a moment
 abbrev pub rows_of : List ℕ → List Deed → ℕ → List NodeRow
-rows_of own past at =
-    let latest_first = reverse (hearings_of own past) in
-    map (row_after latest_first) (filter (λ h. is_young at h.at) (latest_64 (λ h. h.said.about) latest_first))
+rows_of own past at = rows_known (reverse (hearings_of own past)) at
 
 -- ---- hearings on the interlink: the sources of plain frames but the own address, with their moments, the earliest first
 
@@ -225,34 +197,6 @@ abbrev pub has : (BoxVerdict → Bool) → Did → Bool
 has p (judged_ring x seen verdict) = p verdict
 has p (judged_interlink seen handling seq) = p (linked handling seq)
 has p _ = false
-
-abbrev pub is_duplicate : Cause → Bool
-is_duplicate cause.Duplicate = true
-is_duplicate _ = false
-
-abbrev pub is_returned : Cause → Bool
-is_returned cause.Returned = true
-is_returned _ = false
-
-abbrev pub is_foreign : Cause → Bool
-is_foreign cause.Foreign = true
-is_foreign _ = false
-
-abbrev pub is_local : Cause → Bool
-is_local cause.Local = true
-is_local _ = false
-
-abbrev pub is_untagged : Cause → Bool
-is_untagged cause.Untagged = true
-is_untagged _ = false
-
-abbrev pub is_tagged : Cause → Bool
-is_tagged cause.Tagged = true
-is_tagged _ = false
-
-abbrev pub is_malformed : Cause → Bool
-is_malformed (cause.Malformed fault) = true
-is_malformed _ = false
 
 abbrev pub ports_of : BoxVerdict → ℕ
 ports_of verdict = bit verdict.a + bit verdict.b + bit verdict.interlink

@@ -3,7 +3,7 @@ use Rattle.std.specs.Prelude.{ℕ, ◌+◌, ◌%◌, ◌^◌, ◌==◌, ◌&&◌
 use Rattle.hsr_frame.specs.Address.{is_same_address}
 use Rattle.hsr_frame.specs.Cases.{first_of}
 use Rattle.hsr_frame.specs.Counters.{bit, counted}
-use Rattle.hsr_frame.specs.Egress.{a, b, cause_of, exits_of, is_supervision, with_exit}
+use Rattle.hsr_frame.specs.Egress.{a, b, cause_of, exits_of, with_exit}
 use Rattle.hsr_frame.specs.Send.{send_refusal}
 use Rattle.hsr_frame.specs.declared.counters.Counters.{Counters}
 use Rattle.hsr_frame.specs.declared.egress.Exits.{Exits}
@@ -15,7 +15,7 @@ use Rattle.hsr_frame.specs.declared.node.Life.{Life}
 use Rattle.hsr_frame.specs.declared.node.RingPort.{RingPort}
 use Rattle.hsr_frame.specs.declared.node.RingPort.TheVariants as ring
 use Rattle.hsr_tag.specs.Tag.{TaggedFields}
-use Rattle.hsr_tag.specs.Seen.{classified}
+use Rattle.hsr_tag.specs.Seen.{classified, is_told, payload_in}
 use Rattle.hsr_tag.specs.declared.seen.Seen.{Seen}
 use Rattle.hsr_tag.specs.declared.seen.Seen.TheVariants.{Plain, Tagged}
 use Rattle.hsr_duptable.specs.Key.{Key}
@@ -150,10 +150,7 @@ judged capacity notes exits (Ok (Tagged frame)) now =
 
 -- a tagged supervision frame of another node is heard, duplicates too; whether it could be read, and the nodes after it
 abbrev pub heard_of : List ℕ → Nodes → RingPort → Result Seen FrameFault → ℕ → Bool × Nodes
-heard_of own nodes x (Err fault) now = (true, nodes)
-heard_of own nodes x (Ok (Plain frame)) now = (true, nodes)
-heard_of own nodes x (Ok (Tagged frame)) now =
-    if is_supervision frame.dst frame.kind && not (is_same_address frame.src own) then listened nodes frame.payload x now else (true, nodes)
+heard_of own nodes x seen now = if is_told own seen then listened nodes (payload_in seen) x now else (true, nodes)
 
 -- what came to ring port x, at the effective moment
 abbrev pub after_ring : ℕ → Machine → ℕ → RingPort → Result Seen FrameFault → BoxVerdict × Machine

@@ -3,7 +3,7 @@ ghost use Rattle.std.specs.Prelude.{◌≡◌, ◌≢◌, ◌+◌, ◌-◌, ◌�
 
 use crate::call::{About, BoxPort, BoxSent, BoxVerdict, LifeFault};
 use crate::tables::Tables;
-use crate::wanted::{both_ports, interlink_handling, ring_wants, send_handling};
+use crate::wanted::{interlink_handling, ring_wants, send_handling};
 use arrayvec::ArrayVec;
 use hsr_frame::{
     Counters, Exits, FrameFault, Life, Mac, Mode, NoMemory, RingPort, STEPS, SendFault, Spent,
@@ -124,7 +124,7 @@ impl<const C: usize> RedBox<C> {
             ..self.counters
         };
         let own = self.own;
-        self.leave(both_ports(), Some(own), counters, now);
+        self.leave(Exits::both_ports(), Some(own), counters, now);
         Ok(life)
     }
 

@@ -1,6 +1,6 @@
 //! Which egresses want a frame.
 ghost use Rattle.std.specs.Prelude.{[], ◌∷◌, ◌≡◌, ◌≤◌, Option, Result};
-ghost use Rattle.hsr_frame.specs.Egress.{Egress, a, b, beyond, exits_of, in_mode, to, up};
+ghost use Rattle.hsr_frame.specs.Egress.{Egress, beyond, exits_of, in_mode, to, up};
 ghost use Rattle.hsr_tables.specs.Proxies.{is_known};
 ghost use Rattle.hsr_redbox.specs.Wanted.{handling_interlink, handling_plain, handling_send, interlink, numbered, unnumbered, wanted, wanted_tagged};
 
@@ -14,27 +14,6 @@ use hsr_tag::{Frame, Seen, Tagged};
 pub struct Handling {
     pub wants: Wants,
     pub source: Option<Mac>,
-}
-
-/// Some egresses want the frame.
-fn to(exits: Exits) -> Wants
-    ensures { result ≡ record { exits = exits; cause = Cause.Foreign } }
-{
-    Wants {
-        exits,
-        cause: Cause::Foreign,
-    }
-}
-
-/// Both ring ports.
-pub fn both_ports() -> Exits
-    ensures { result ≡ exits_of (a ∷ b ∷ []) }
-{
-    Exits {
-        a: true,
-        b: true,
-        ..Exits::none()
-    }
 }
 
 /// The ring port from which a frame goes on.
@@ -100,22 +79,22 @@ fn tagged_wants(own: Mac, proxies: &ProxyTable, x: RingPort, frame: &Tagged, now
         return Wants::nowhere(Cause::Returned);
     }
     if frame.dst == own {
-        return to(Exits { up: true, ..none });
+        return Wants::to(Exits { up: true, ..none });
     }
     if is_supervision(frame.dst, frame.kind) {
-        return to(Exits { up: true, ..on });
+        return Wants::to(Exits { up: true, ..on });
     }
     if frame.dst.is_group() {
-        return to(Exits {
+        return Wants::to(Exits {
             up: true,
             c: true,
             ..on
         });
     }
     if proxies.knows(frame.dst, now) {
-        return to(Exits { c: true, ..none });
+        return Wants::to(Exits { c: true, ..none });
     }
-    to(on)
+    Wants::to(on)
 }
 
 /// It goes out with no number.
@@ -133,7 +112,7 @@ fn numbered(src: Mac, exits: Exits) -> Handling
     ensures { result ≡ numbered src (record { exits = exits; cause = Cause.Foreign }) }
 {
     Handling {
-        wants: to(exits),
+        wants: Wants::to(exits),
         source: Some(src),
     }
 }
@@ -164,7 +143,7 @@ fn plain_handling(own: Mac, proxies: &ProxyTable, frame: &Frame, now: u64) -> Ha
         return unnumbered(Wants::nowhere(Cause::Returned));
     }
     if frame.dst == own {
-        return unnumbered(to(Exits {
+        return unnumbered(Wants::to(Exits {
             up: true,
             ..Exits::none()
         }));
@@ -172,7 +151,7 @@ fn plain_handling(own: Mac, proxies: &ProxyTable, frame: &Frame, now: u64) -> Ha
     if proxies.knows(frame.dst, now) {
         return unnumbered(Wants::nowhere(Cause::Local));
     }
-    let ports = both_ports();
+    let ports = Exits::both_ports();
     if frame.dst.is_group() {
         return numbered(frame.src, Exits { up: true, ..ports });
     }
@@ -185,12 +164,12 @@ pub fn send_handling(own: Mac, proxies: &ProxyTable, dst: Mac, kind: u16, now: u
     ensures { result ≡ handling_send own (is_known now proxies.now.heard) dst kind }
 {
     if proxies.knows(dst, now) {
-        return unnumbered(to(Exits {
+        return unnumbered(Wants::to(Exits {
             c: true,
             ..Exits::none()
         }));
     }
-    let ports = both_ports();
+    let ports = Exits::both_ports();
     if dst.is_group() && !is_supervision(dst, kind) {
         return numbered(own, Exits { c: true, ..ports });
     }

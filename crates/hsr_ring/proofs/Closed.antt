@@ -1,17 +1,17 @@
 -- A quiet world that is a run's own is a closed run.
-use Rattle.std.proofs.Common.{◌≡◌, ℕ, ◌<◌, Bool, true, false, not, cond, List, [], ◌∷◌, map, reverse, get_or, length, count_by, filter_map, option_and_then, option_to_list, Option, Some, None, refl, sym, ap, ◌∙◌, subst, arith, ⊎_elim, inl, inr, zero, suc, IsPermutation}
+use Rattle.std.proofs.Common.{◌≡◌, ℕ, ◌<◌, Bool, true, false, not, List, [], ◌∷◌, map, reverse, get_or, length, count_by, option_and_then, option_to_list, Option, Some, None, refl, sym, ap, ◌∙◌, subst, arith, ⊎_elim, inl, inr, zero, suc, IsPermutation}
 use Rattle.std.specs.Prelude.{is_some, slice_index_or, Vec, ◌||◌}
-use Rattle.std.specs.List.{All, AllByRecursion, cons_option, list_any}
+use Rattle.std.specs.List.{All, AllByRecursion, list_any}
 use Rattle.std.specs.Option.{option_or}
 use Rattle.std.proofs.lemmas.Bool.{false≢true, or_parts, or_cases}
 use Rattle.std.proofs.lemmas.List.{get_or-map, length-map, reverse-reverse}
-use Rattle.std.proofs.lemmas.List.Sorted.{sum_by-IsPermutation}
 use Rattle.std.proofs.lemmas.List.Elements.{All-from_recursion, All-head, All-tail}
-use Rattle.hsr_link.specs.Rows.{is_queued}
+use Rattle.hsr_link.specs.Rows.{is_queued, put_copies, taken_copies}
 use Rattle.hsr_link.specs.declared.row.Dir.{Dir}
 use Rattle.hsr_link.specs.declared.row.Dir.TheVariants.{Forth, Back}
 use Rattle.hsr_link.specs.declared.row.Row.{Row}
-use Rattle.hsr_node.specs.Flow.{Sending, arrivals, passes, send_at}
+use Rattle.hsr_node.specs.Flow.{arrivals, passes, send_at}
+use Rattle.hsr_node.specs.declared.sending.Sending.{Sending}
 use Rattle.hsr_node.specs.Record.{Each, IsLegal, Owner}
 use Rattle.hsr_node.specs.declared.entry.Entry.{Entry}
 use Rattle.hsr_node.specs.declared.event.Carried.{Carried}
@@ -21,11 +21,10 @@ use Rattle.hsr_node.specs.declared.event.Outcome.{Outcome}
 use Rattle.hsr_node.specs.declared.event.Outcome.TheVariants as outcome
 use Rattle.hsr_node.specs.declared.event.Probe.{Probe}
 use Rattle.hsr_node.specs.declared.place.Place.{Place}
+use Rattle.hsr_audit.proofs.Ends.{end_is}
 use Rattle.hsr_audit.specs.Closed.{IsOfSend, IsSend, IsSettled, HasLink}
-use Rattle.hsr_audit.specs.Often.{AsOften, is_same_carried}
 use Rattle.hsr_audit.specs.Premises.{NumbersFirst}
-use Rattle.hsr_audit.specs.Run as of_run
-use Rattle.hsr_audit.specs.Run.{Run, from_end, given, given_at, owner_of, past_of, peer_in, rows_of, to_end}
+use Rattle.hsr_audit.specs.Run.{Run, from_end, given, given_at, no_end, owner_in, owner_of, past_of, peer_in, record_in, rows_of, to_end}
 use Rattle.hsr_audit.specs.Wired.{IsJoin, IsWired}
 use Rattle.hsr_audit.specs.declared.end.End.{End}
 use Rattle.hsr_audit.specs.Finished.{items_of}
@@ -35,25 +34,23 @@ use Rattle.std.specs.Global.{Global}
 use Rattle.hsr_node.specs.Kept.{Record}
 use Rattle.hsr_node.specs.Kept as kept_node
 use Rattle.hsr_audit.specs.Links.{is_same_end}
-use Rattle.hsr_audit.proofs.Lists.{count_more, none_all}
-use Rattle.hsr_audit.proofs.Often.{in_order}
+use Rattle.hsr_audit.proofs.Lists.{all_implied, count_more, none_all}
 use Rattle.hsr_ring.specs.Closing.{AlwaysCloses, AlwaysFinishes, AlwaysNumberedFirst, AlwaysOfSend, OnlyQuietCloses, IsOwn, is_busy, is_busy_lane, run_of}
 use Rattle.hsr_ring.specs.Law.{IsSound, LaneAgrees, LineAgrees}
-use Rattle.hsr_ring.specs.Lines.{Lane, Line, lane_of, put_copies, put_copy, taken_copies, taken_copy}
+use Rattle.hsr_ring.specs.Lines.{Lane, Line, lane_of}
 use Rattle.hsr_ring.specs.Origin.{EachCopy, InLine, has_injected}
 use Rattle.hsr_ring.specs.Reached.{IsReached}
-use Rattle.hsr_ring.specs.World.{World, is_empty, line_in, new_world, no_end, or_same, owner_in, record_in, run, tried}
+use Rattle.hsr_ring.specs.World.{World, is_empty, line_in, new_world, or_same, run, tried}
 use Rattle.hsr_ring.specs.declared.step.Step.{Step}
-use Rattle.hsr_ring.proofs.Counts.{count_append}
+use Rattle.hsr_ring.proofs.Counts.{by_counts, count_append, counts_of}
 use Rattle.hsr_ring.proofs.First.{first_sound, no_entries}
 use Rattle.hsr_ring.proofs.Keeps.{always_sound, keeps}
 use Rattle.hsr_ring.proofs.Linked.{IsLinked, is_led_to, leads_to, linked_run}
 use Rattle.hsr_ring.proofs.Numbering.{IsFirst, each_kept}
 use Rattle.hsr_ring.proofs.OfSends.{Holds, HoldsOwn, holds_step}
-use Rattle.hsr_ring.proofs.Origin.{all_implied, line_implied, no_copies, send_below}
+use Rattle.hsr_ring.proofs.Origin.{line_implied, no_copies, send_below}
 use Rattle.hsr_ring.proofs.Passing.{IsCopyOf, given_in}
 use Rattle.hsr_ring.proofs.Plans.{always_planned}
-use Rattle.hsr_ring.proofs.Single.{end_is}
 use Rattle.hsr_ring.proofs.Wires.{Wire, WiredWell, first_wires, run_keeps, step_keeps, wire, wire_of, wired_well}
 
 -- ---- any steps from the first world on
@@ -224,22 +221,6 @@ link_to places end (link ∷ links) joins h = ⊎_elim
 
 -- ---- links and records agree
 
-put_map : (dir : Dir) (rows : List Row) → put_copies dir rows ≡ filter_map (of_run.put_copy dir) rows
-put_map dir [] = refl
-put_map dir (row ∷ rows) = ap (cons_option (put_copy dir row)) (put_map dir rows)
-
-taken_map : (dir : Dir) (rows : List Row) → taken_copies dir rows ≡ filter_map (of_run.taken_copy dir) rows
-taken_map dir [] = refl
-taken_map dir (row ∷ rows) = ap (cons_option (taken_copy dir row)) (taken_map dir rows)
-
--- counts by any test give counts by those that tell equality
-often_by : (xs ys : List Carried) → ((p : Carried → Bool) → count_by p xs ≡ count_by p ys) → AsOften xs ys
-unfolding AsOften
-often_by xs ys h copy = h (is_same_carried copy)
-
-any_often : (xs ys : List Carried) → ((p : Carried → Bool) → count_by p xs ≡ count_by p ys) → IsPermutation xs ys
-any_often xs ys h = in_order xs ys (often_by xs ys h)
-
 not_busy : (lane : Lane) → is_busy_lane lane ≡ false → (lane.outbox ≡ []) × (lane.hand ≡ None)
 not_busy lane h = let parts = or_parts (not (is_empty lane.outbox)) (is_some lane.hand) h in (no_box lane.outbox parts.0, no_hand lane.hand parts.1)
   where
@@ -263,23 +244,21 @@ not_waiting line h =
     record { rows = both.0; forth = both.1; back = parts.1 }
 
 record LaneQuiet (places : List Place) (records : List (List Entry)) (dir : Dir) (rows : List Row) (lane : Lane) : Type 0 where
-  put : IsPermutation (passes (owner_in places lane.from.node) lane.from.port (record_in records lane.from.node)) (filter_map (of_run.put_copy dir) rows)
-  taken : IsPermutation (filter_map (of_run.taken_copy dir) rows) (arrivals lane.to.port (record_in records lane.to.node))
+  put : IsPermutation (passes (owner_in places lane.from.node) lane.from.port (record_in records lane.from.node)) (put_copies dir rows)
+  taken : IsPermutation (taken_copies dir rows) (arrivals lane.to.port (record_in records lane.to.node))
 
 lane_quiet : (places : List Place) (records : List (List Entry)) (dir : Dir) (rows : List Row) (lane : Lane) → LaneAgrees places records dir rows lane → (lane.outbox ≡ []) × (lane.hand ≡ None) → LaneQuiet places records dir rows lane
 lane_quiet places records dir rows lane h empty = record {
-  put = any_often _ _ (λ p.
+  put = by_counts _ _ (λ p.
       let all = count_append p (put_copies dir rows) lane.outbox in
       let none = ap (count_by p) empty.0 in
-      let sent = h.sent p in
-      let map = ap (count_by p) (put_map dir rows) in
-      omega (arith, all, none, sent, map));
-  taken = any_often _ _ (λ p.
+      let sent = counts_of _ _ h.sent p in
+      omega (arith, all, none, sent));
+  taken = by_counts _ _ (λ p.
       let all = count_append p (arrivals lane.to.port (record_in records lane.to.node)) (option_to_list lane.hand) in
       let none = ap (λ o. count_by p (option_to_list o)) empty.1 in
-      let came = h.came p in
-      let map = ap (count_by p) (taken_map dir rows) in
-      omega (arith, all, none, came, map));
+      let came = counts_of _ _ h.came p in
+      omega (arith, all, none, came));
 }
 
 rows_settled : (run : Run) (rows : List Row) → AllByRecursion (λ (row : Row). IsOfSend run row.carried) rows → list_any (λ (row : Row). row.injected) rows ≡ false → list_any (λ (row : Row). is_queued row.fate) rows ≡ false →
@@ -334,28 +313,28 @@ module _ (capacity : ℕ) (places : List Place) (links : List (List End)) (w : W
   -- in the words of the run: what left at the beginning of a lane, and what came to its end
   left_at : (Q : List Carried → List Carried → Type 0) (l : ℕ) (dir : Dir) → l < length links →
       Q (passes (owner_in w.places (lane_of dir (line_in w.lines l)).from.node) (lane_of dir (line_in w.lines l)).from.port (record_in w.records (lane_of dir (line_in w.lines l)).from.node))
-      (filter_map (of_run.put_copy dir) (line_in w.lines l).link.rows) →
+      (put_copies dir (line_in w.lines l).link.rows) →
       let end = from_end dir (slice_index_or links l []) in
-      Q (passes (owner_of (run_of capacity links w) end.node) end.port (past_of (run_of capacity links w) end.node)) (filter_map (of_run.put_copy dir) (rows_of (run_of capacity links w) l))
+      Q (passes (owner_of (run_of capacity links w) end.node) end.port (past_of (run_of capacity links w) end.node)) (put_copies dir (rows_of (run_of capacity links w) l))
   left_at Q l dir below h =
-      subst (λ (end : End). Q (passes (owner_of (run_of capacity links w) end.node) end.port (past_of (run_of capacity links w) end.node)) (filter_map (of_run.put_copy dir) (rows_of (run_of capacity links w) l)))
+      subst (λ (end : End). Q (passes (owner_of (run_of capacity links w) end.node) end.port (past_of (run_of capacity links w) end.node)) (put_copies dir (rows_of (run_of capacity links w) l)))
       (from_is dir (slice_index_or links l []) (line_in w.lines l) (is_line l below))
-      (subst (λ past. Q (passes (owner_in w.places (lane_of dir (line_in w.lines l)).from.node) (lane_of dir (line_in w.lines l)).from.port past) (filter_map (of_run.put_copy dir) (rows_of (run_of capacity links w) l)))
+      (subst (λ past. Q (passes (owner_in w.places (lane_of dir (line_in w.lines l)).from.node) (lane_of dir (line_in w.lines l)).from.port past) (put_copies dir (rows_of (run_of capacity links w) l)))
       (sym (past_is capacity links w (lane_of dir (line_in w.lines l)).from.node))
       (subst
-      (λ rows. Q (passes (owner_in w.places (lane_of dir (line_in w.lines l)).from.node) (lane_of dir (line_in w.lines l)).from.port (record_in w.records (lane_of dir (line_in w.lines l)).from.node)) (filter_map (of_run.put_copy dir) rows))
+      (λ rows. Q (passes (owner_in w.places (lane_of dir (line_in w.lines l)).from.node) (lane_of dir (line_in w.lines l)).from.port (record_in w.records (lane_of dir (line_in w.lines l)).from.node)) (put_copies dir rows))
       (sym (rows_are l below)) h))
 
   came_at : (Q : List Carried → List Carried → Type 0) (l : ℕ) (dir : Dir) → l < length links →
-      Q (filter_map (of_run.taken_copy dir) (line_in w.lines l).link.rows) (arrivals (lane_of dir (line_in w.lines l)).to.port (record_in w.records (lane_of dir (line_in w.lines l)).to.node)) →
+      Q (taken_copies dir (line_in w.lines l).link.rows) (arrivals (lane_of dir (line_in w.lines l)).to.port (record_in w.records (lane_of dir (line_in w.lines l)).to.node)) →
       let end = to_end dir (slice_index_or links l []) in
-      Q (filter_map (of_run.taken_copy dir) (rows_of (run_of capacity links w) l)) (arrivals end.port (past_of (run_of capacity links w) end.node))
+      Q (taken_copies dir (rows_of (run_of capacity links w) l)) (arrivals end.port (past_of (run_of capacity links w) end.node))
   came_at Q l dir below h =
-      subst (λ (end : End). Q (filter_map (of_run.taken_copy dir) (rows_of (run_of capacity links w) l)) (arrivals end.port (past_of (run_of capacity links w) end.node)))
+      subst (λ (end : End). Q (taken_copies dir (rows_of (run_of capacity links w) l)) (arrivals end.port (past_of (run_of capacity links w) end.node)))
       (to_is dir (slice_index_or links l []) (line_in w.lines l) (is_line l below))
-      (subst (λ past. Q (filter_map (of_run.taken_copy dir) (rows_of (run_of capacity links w) l)) (arrivals (lane_of dir (line_in w.lines l)).to.port past))
+      (subst (λ past. Q (taken_copies dir (rows_of (run_of capacity links w) l)) (arrivals (lane_of dir (line_in w.lines l)).to.port past))
       (sym (past_is capacity links w (lane_of dir (line_in w.lines l)).to.node))
-      (subst (λ rows. Q (filter_map (of_run.taken_copy dir) rows) (arrivals (lane_of dir (line_in w.lines l)).to.port (record_in w.records (lane_of dir (line_in w.lines l)).to.node))) (sym (rows_are l below)) h))
+      (subst (λ rows. Q (taken_copies dir rows) (arrivals (lane_of dir (line_in w.lines l)).to.port (record_in w.records (lane_of dir (line_in w.lines l)).to.node))) (sym (rows_are l below)) h))
 
 -- ---- a quiet world closes
 
@@ -416,9 +395,6 @@ no_item : (o : Option Carried) → count_by (λ (c : Carried). true) (option_to_
 no_item None h = refl
 no_item (Some c) h = let more = count_more (λ (d : Carried). true) c [] in absurd (omega (arith, more, h))
 
-moved : (xs ys : List Carried) → IsPermutation xs ys → count_by (λ (c : Carried). true) xs ≡ count_by (λ (c : Carried). true) ys
-moved xs ys perm = sym (sum_by-IsPermutation (λ c. cond true 1 0) xs ys perm)
-
 settled_rows : (run : Run) (rows : List Row) → AllByRecursion (IsSettled run) rows → (list_any (λ (row : Row). row.injected) rows ≡ false) × (list_any (λ (row : Row). is_queued row.fate) rows ≡ false)
 settled_rows run [] all = (refl, refl)
 settled_rows run (row ∷ rows) all =
@@ -446,11 +422,10 @@ only_quiet_closes capacity places links w wired r closed = (
         left_at capacity places links w wired r (λ xs ys. IsPermutation xs ys → (lane_of dir (line_in w.lines l)).outbox ≡ []) l dir below
         (λ perm.
         let test : Carried → Bool = λ c. true in
-        let same = moved _ _ perm in
-        let sent = (agrees capacity places links w wired r l dir below).sent test in
+        let same = counts_of _ _ perm test in
+        let sent = counts_of _ _ (agrees capacity places links w wired r l dir below).sent test in
         let parts = count_append test (put_copies dir (line_in w.lines l).link.rows) lane.outbox in
-        let map = ap (count_by test) (put_map dir (line_in w.lines l).link.rows) in
-        no_items lane.outbox (omega (arith, same, sent, parts, map)))
+        no_items lane.outbox (omega (arith, same, sent, parts)))
         (closed.put l dir below)
 
     hand : (l : ℕ) (dir : Dir) → l < length links → (lane_of dir (line_in w.lines l)).hand ≡ None
@@ -459,11 +434,10 @@ only_quiet_closes capacity places links w wired r closed = (
         came_at capacity places links w wired r (λ xs ys. IsPermutation xs ys → (lane_of dir (line_in w.lines l)).hand ≡ None) l dir below
         (λ perm.
         let test : Carried → Bool = λ c. true in
-        let same = moved _ _ perm in
-        let came = (agrees capacity places links w wired r l dir below).came test in
+        let same = counts_of _ _ perm test in
+        let came = counts_of _ _ (agrees capacity places links w wired r l dir below).came test in
         let parts = count_append test (arrivals lane.to.port (record_in w.records lane.to.node)) (option_to_list lane.hand) in
-        let map = ap (count_by test) (taken_map dir (line_in w.lines l).link.rows) in
-        no_item lane.hand (omega (arith, same, came, parts, map)))
+        no_item lane.hand (omega (arith, same, came, parts)))
         (closed.taken l dir below)
 
     free : (l : ℕ) (dir : Dir) → l < length links → is_busy_lane (lane_of dir (line_in w.lines l)) ≡ false

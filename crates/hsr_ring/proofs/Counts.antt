@@ -1,19 +1,27 @@
 -- How often a copy is among rows, passes and hands.
-use Rattle.std.proofs.Common.{◌≡◌, ◌+◌, ◌==◌, Bool, true, false, cond, List, [], ◌∷◌, ◌++◌, map, count_by, option_map, option_to_list, Option, Some, None, refl, sym, ap, ◌∙◌, arith}
+use Rattle.std.proofs.Common.{◌≡◌, ◌+◌, Bool, true, false, cond, List, [], ◌∷◌, ◌++◌, map, count_by, option_map, option_to_list, IsPermutation, Option, Some, None, refl, sym, ap, ◌∙◌, arith}
+use Rattle.std.proofs.lemmas.List.Sorted.{sum_by-IsPermutation}
 use Rattle.std.specs.Prelude.{◌&&◌, if◌then◌else◌, slice_get}
 use Rattle.std.specs.List.{cons_option}
 use Rattle.std.proofs.lemmas.List.Sums.{sum_by-append}
 use Rattle.std.proofs.lemmas.Bool.{false≢true}
-use Rattle.hsr_frame.specs.Cases.{first_of}
-use Rattle.hsr_link.specs.Link.{Link, fate_of}
-use Rattle.hsr_link.specs.Rows.{first_copy, is_queued, is_same_dir, is_taken, lost, queued, turned, waits, with_fate}
+use Rattle.hsr_link.specs.Rows.{first_copy, is_queued, is_same_dir, is_taken, lost, put_copies, put_copy, queued, taken_copies, taken_copy, turned, waits, with_fate}
 use Rattle.hsr_link.specs.declared.row.Dir.{Dir}
-use Rattle.hsr_link.specs.declared.row.Dir.TheVariants.{Forth, Back}
 use Rattle.hsr_link.specs.declared.row.Fate.{Fate}
 use Rattle.hsr_link.specs.declared.row.Fate.TheVariants.{Queued, Taken, LostDown, LostCut, LostOverrun}
 use Rattle.hsr_link.specs.declared.row.Row.{Row}
 use Rattle.hsr_node.specs.declared.event.Carried.{Carried}
-use Rattle.hsr_ring.specs.Lines.{put_copies, put_copy, taken_copies, taken_copy}
+use Rattle.hsr_audit.proofs.Often.{in_order}
+use Rattle.hsr_audit.specs.Often.{AsOften, is_same_carried}
+
+-- lists in one another's order hold each copy as often, whatever tells copies apart
+pub counts_of : (xs ys : List Carried) → IsPermutation xs ys → (p : Carried → Bool) → count_by p xs ≡ count_by p ys
+counts_of xs ys moved p = sym (sum_by-IsPermutation (λ c. cond (p c) 1 0) xs ys moved)
+
+-- and the other way round
+pub by_counts : (xs ys : List Carried) → ((p : Carried → Bool) → count_by p xs ≡ count_by p ys) → IsPermutation xs ys
+unfolding AsOften
+by_counts xs ys h = in_order xs ys (λ copy. h (is_same_carried copy))
 
 pub count_append : {X : Type 0} (p : X → Bool) (xs ys : List X) → count_by p (xs ++ ys) ≡ count_by p xs + count_by p ys
 count_append p xs ys = sum_by-append (λ x. cond (p x) 1 0) xs ys
@@ -47,33 +55,16 @@ put_taken dir other (r ∷ rows) =
     elim (waits other r) as (λ b. put_copies dir (if b then record r { fate = Taken } ∷ rows else r ∷ turned Taken other rows) ≡ put_copies dir (r ∷ rows))
     [ true ↦ refl | false ↦ ap (λ (ys : List Carried). cons_option (put_copy dir r) ys) (put_taken dir other rows) ]
 
--- a cut changes neither what was put nor what was taken
+-- a cut does not change what was put
 put_lost : (dir : Dir) (r : Row) → put_copy dir (lost r) ≡ put_copy dir r
 put_lost dir r =
     elim (is_queued r.fate) as (λ b. put_copy dir (if b then with_fate LostCut r else r) ≡ put_copy dir r) [ true ↦ refl | false ↦ refl ]
-
-taken_lost : (dir : Dir) (r : Row) → taken_copy dir (lost r) ≡ taken_copy dir r
-taken_lost dir r = by_fate r.dir r.carried r.injected r.fate
-  where
-    by_fate : (way : Dir) (carried : Carried) (injected : Bool) (fate : Fate) →
-        taken_copy dir (lost (record { dir = way; carried = carried; injected = injected; fate = fate })) ≡ taken_copy dir (record { dir = way; carried = carried; injected = injected; fate = fate })
-    by_fate way carried injected Queued = refl
-    by_fate way carried injected Taken = refl
-    by_fate way carried injected LostDown = refl
-    by_fate way carried injected LostCut = refl
-    by_fate way carried injected LostOverrun = refl
 
 pub put_cut : (dir : Dir) (rows : List Row) → put_copies dir (map lost rows) ≡ put_copies dir rows
 put_cut dir [] = refl
 put_cut dir (r ∷ rows) =
     ap (λ (o : Option Carried). cons_option o (put_copies dir (map lost rows))) (put_lost dir r)
     ∙ ap (λ (ys : List Carried). cons_option (put_copy dir r) ys) (put_cut dir rows)
-
-pub taken_cut : (dir : Dir) (rows : List Row) → taken_copies dir (map lost rows) ≡ taken_copies dir rows
-taken_cut dir [] = refl
-taken_cut dir (r ∷ rows) =
-    ap (λ (o : Option Carried). cons_option o (taken_copies dir (map lost rows))) (taken_lost dir r)
-    ∙ ap (λ (ys : List Carried). cons_option (taken_copy dir r) ys) (taken_cut dir rows)
 
 -- what a row of this direction and fate adds to those taken, before and after it is taken
 pub now_taken : (p : Carried → Bool) (dir : Dir) (r : Row) → waits dir r ≡ true →
@@ -114,32 +105,3 @@ oldest_taken p dir (r ∷ rows) c h = by_case (λ e. oldest_taken p dir rows c e
         let b = count_option p (taken_copy dir r) (taken_copies dir rows) in
         let i = below h in
         omega (arith, a, b, i)
-
--- the other direction's rows taken are as they were
-pub other_taken : (dir other : Dir) (rows : List Row) → is_same_dir dir other ≡ false → taken_copies dir (turned Taken other rows) ≡ taken_copies dir rows
-other_taken dir other [] d = refl
-other_taken dir other (r ∷ rows) d = by_case (other_taken dir other rows d) (waits other r) refl
-  where
-    apart : (x y z : Dir) (f : Fate) → is_same_dir x y ≡ false → (is_same_dir y z && is_queued f) ≡ true → is_same_dir x z ≡ false
-    apart Forth Forth z f d h = absurd (false≢true (sym d))
-    apart Back Back z f d h = absurd (false≢true (sym d))
-    apart Forth Back Forth f d h = absurd (false≢true h)
-    apart Forth Back Back f d h = refl
-    apart Back Forth Forth f d h = refl
-    apart Back Forth Back f d h = absurd (false≢true h)
-
-    by_case : taken_copies dir (turned Taken other rows) ≡ taken_copies dir rows → (b : Bool) → waits other r ≡ b → taken_copies dir (if b then record r { fate = Taken } ∷ rows else r ∷ turned Taken other rows) ≡ taken_copies dir (r ∷ rows)
-    by_case below true e =
-        let away = apart dir other r.dir r.fate d e in
-        ap (λ b. cons_option (if b && true then Some r.carried else None) (taken_copies dir rows)) away
-        ∙ sym (ap (λ b. cons_option (if b && is_taken r.fate then Some r.carried else None) (taken_copies dir rows)) away)
-    by_case below false e = ap (λ (ys : List Carried). cons_option (taken_copy dir r) ys) below
-
--- what is put waits or is lost
-pub not_taken : (link : Link) (dir : Dir) → is_taken (fate_of link dir) ≡ false
-not_taken link dir = by_case link.is_cut (count_by (waits dir) link.rows == link.capacity)
-  where
-    by_case : (a b : Bool) → is_taken (first_of ((a, LostDown) ∷ (b, LostOverrun) ∷ []) Queued) ≡ false
-    by_case true b = refl
-    by_case false true = refl
-    by_case false false = refl

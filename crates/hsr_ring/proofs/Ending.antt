@@ -1,8 +1,8 @@
 -- What is handed over where a world is closed agrees exactly where the world is ended.
-use Rattle.std.proofs.Common.{◌≡◌, ◌⊎◌, inl, inr, ℕ, ◌<◌, ◌==◌, ◌||◌, zero, suc, Bool, true, false, cond, List, [], ◌∷◌, length, map, get_or, reverse, filter_map, Option, Some, None, Vec, refl, sym, ap, ◌∙◌, subst, arith, ⊎_elim, eq-eqb}
+use Rattle.std.proofs.Common.{◌≡◌, ◌⊎◌, inl, inr, ℕ, ◌<◌, zero, suc, true, false, cond, List, [], ◌∷◌, length, map, get_or, reverse, filter_map, Option, Some, None, Vec, refl, sym, ap, ◌∙◌, subst, arith, ⊎_elim, eq-eqb}
 use Rattle.std.specs.Global.{Global}
 use Rattle.std.specs.List.{AllByRecursion, cons_option}
-use Rattle.std.proofs.lemmas.Bool.{and_from, or_cases, or_left}
+use Rattle.std.proofs.lemmas.Bool.{or_cases, or_left, or_right}
 use Rattle.std.proofs.lemmas.List.{get_or-map, length-map, reverse-reverse}
 use Rattle.std.proofs.lemmas.List.Elements.{recursion_from_All}
 use Rattle.hsr_node.specs.Flow.{arrivals, copy_at}
@@ -13,12 +13,14 @@ use Rattle.hsr_node.specs.declared.event.Event.{Event}
 use Rattle.hsr_node.specs.declared.event.Event.TheVariants.{Send, Supervise, Arrive, Age}
 use Rattle.hsr_node.specs.declared.place.Place.{Place}
 use Rattle.hsr_link.specs.declared.row.Row.{Row}
-use Rattle.hsr_audit.specs.Checked.{Agrees, IfDisagree, IsFirst}
+use Rattle.hsr_audit.proofs.Ends.{end_is, end_same}
+use Rattle.hsr_audit.specs.Checked.{Agrees, IfDisagree, IsFirst, IsOpen}
 use Rattle.hsr_audit.specs.Closed.{IsClosed}
 use Rattle.hsr_audit.specs.Finished.{Finished, IsPlanned, planned_by}
 use Rattle.hsr_audit.specs.Finished as finished
 use Rattle.hsr_audit.specs.InOrder.{came}
 use Rattle.hsr_audit.specs.Links.{is_end_of, is_same_end, is_used}
+use Rattle.hsr_audit.specs.Once.{IsCalm}
 use Rattle.hsr_audit.specs.Passes.{IsToldBy}
 use Rattle.hsr_audit.specs.Receipts.{HasReceipts}
 use Rattle.hsr_audit.specs.Run.{Run}
@@ -36,7 +38,7 @@ use Rattle.hsr_audit.proofs.Forwards.{arrivals_of}
 use Rattle.hsr_audit.proofs.NoStorm.{no_storm}
 use Rattle.hsr_audit.proofs.Shaped.{from_there}
 use Rattle.hsr_ring.specs.Closing.{IsOwn, run_of}
-use Rattle.hsr_ring.specs.Ending.{AreTold, IsCalm, IsOpen, IsToldClosed, IsToldOpen}
+use Rattle.hsr_ring.specs.Ending.{AreTold, IsToldClosed, IsToldOpen}
 use Rattle.hsr_ring.specs.Lawful.{IsEnded, finished_of}
 use Rattle.hsr_ring.specs.Lines.{Line}
 use Rattle.hsr_ring.specs.Reached.{IsReached}
@@ -47,20 +49,9 @@ use Rattle.hsr_ring.proofs.Entered.{number_at}
 use Rattle.hsr_ring.proofs.Lawful.{own_of, same_links}
 use Rattle.hsr_ring.proofs.Linked.{is_led_to, leads_to}
 use Rattle.hsr_ring.proofs.Plans.{always_planned}
-use Rattle.hsr_ring.proofs.Single.{end_is}
 use Rattle.hsr_ring.proofs.Wires.{run_keeps, wire_of}
 
 -- ---- where a link leads, it is used
-
-or_right : (x y : Bool) → y ≡ true → (x || y) ≡ true
-or_right true y h = refl
-or_right false y h = h
-
-same_self : (e : End) → is_same_end e e ≡ true
-same_self e = and_from (e.node == e.node) (e.port == e.port) (eq-eqb e.node e.node refl) (eq-eqb e.port e.port refl)
-
-turned : (a b : End) → is_same_end a b ≡ true → is_same_end b a ≡ true
-turned a b h = subst (λ (e : End). is_same_end b e ≡ true) (sym (end_is a b h)) (same_self b)
 
 used : (places : List Place) (links : List (List End)) (end : End) → AllByRecursion (IsJoin places) links → is_led_to (map wire_of links) end ≡ true → is_used links end ≡ true
 used places [] end joins led = led
@@ -74,8 +65,8 @@ used places (link ∷ links) end joins led = ⊎_elim
     by_link (a ∷ []) join h = absurd join
     by_link (a ∷ b ∷ c ∷ ends) join h = absurd join
     by_link (a ∷ b ∷ []) join h = ⊎_elim
-        (λ second. or_right (is_same_end end a) (is_end_of end (b ∷ [])) (or_left (is_same_end end b) false (turned b end second)))
-        (λ first. or_left (is_same_end end a) (is_end_of end (b ∷ [])) (turned a end first))
+        (λ second. or_right (is_same_end end a) (is_end_of end (b ∷ [])) (or_left (is_same_end end b) false (end_same end b (sym (end_is b end second)))))
+        (λ first. or_left (is_same_end end a) (is_end_of end (b ∷ [])) (end_same end a (sym (end_is a end first))))
         (or_cases (is_same_end b end) (is_same_end a end) h)
 
 -- ---- where nothing came, no entry is an arrival
@@ -172,7 +163,6 @@ module _ (capacity : ℕ) (topology : Topology) (moment : ℕ) (kept : List Reco
     }
 
     calm : IsClosed (finished.run_of capacity topology kept rows) → IsCalm (finished.run_of capacity topology kept rows)
-    unfolding IsCalm
     calm closed =
         no_storm (finished.run_of capacity topology kept rows) (λ l dir below. from_there topology.places topology.links wired l dir below) closed
         (subst (λ (run : Run). Rattle.hsr_audit.specs.Premises.NumberedFirst run) run_same (always_numbered_first capacity topology.places topology.links world (own (ended closed))))

@@ -1,6 +1,9 @@
 -- What an entry makes of the nodes and lines of the code.
-use Rattle.std.proofs.Common.{◌≡◌, ◌⊎◌, inl, inr, ℕ, ◌+◌, ◌<◌, zero, suc, List, [], ◌∷◌, ◌++◌, map, max, reverse, set, get_or, length, Some, None, Result, Ok, Err, refl, sym, ap, ap₂, ◌∙◌, subst, arith}
+use Rattle.std.proofs.Common.{◌≡◌, ◌⊎◌, inl, inr, ℕ, ◌<◌, List, [], ◌∷◌, ◌++◌, map, max, reverse, set, get_or, length, Some, None, Result, Ok, Err, refl, sym, ap, ap₂, ◌∙◌, subst, arith}
+use Rattle.std.proofs.lemmas.List.FromFn.{get_or-range_with_len}
 use Rattle.std.proofs.lemmas.List.{map-set, get_or-map, length-map, length-set, length-reverse, reverse-append}
+use Rattle.std.specs.List.{range_with_len}
+use Rattle.hsr_audit.specs.Run.{owner_in, record_in}
 use Rattle.hsr_audit.specs.declared.end.End.{End}
 use Rattle.hsr_node.specs.declared.event.Carried.{Carried}
 use Rattle.hsr_node.specs.declared.event.Event.TheVariants as event
@@ -17,8 +20,8 @@ use Rattle.hsr_node.specs.declared.place.Place.TheVariants.{QuadBox}
 use Rattle.hsr_ring.specs.Entering.{IsEntered, IsNotEntered, IsRefusal, IsStepped, IsUnplanned, answer_in, past_in, places_of, world_fault}
 use Rattle.hsr_ring.specs.Giving.{emptied_line, given_lane, given_line}
 use Rattle.hsr_ring.specs.Lines.{Line, emptied, held_in, lanes_of, on_lanes, spread}
-use Rattle.hsr_ring.specs.Views.{AreNumbered, line_view, numbers_from, world_of}
-use Rattle.hsr_ring.specs.World.{World, added, and_added, cleared, entered, judged_at, owner_in, planned, port_worker, record_in}
+use Rattle.hsr_ring.specs.Views.{AreNumbered, line_view, world_of}
+use Rattle.hsr_ring.specs.World.{World, added, and_added, cleared, entered, judged_at, planned, port_worker}
 use Rattle.hsr_ring.specs.declared.line.Line as code
 use Rattle.hsr_ring.specs.declared.step.WorldFault.{WorldFault}
 use Rattle.hsr_ring.specs.declared.step.WorldFault.TheVariants.{NoMemory, Node, Nothing}
@@ -26,15 +29,8 @@ use Rattle.hsr_ring.proofs.Places.{map_set_same, or_map}
 
 -- ---- numbers
 
-number_from : (k m n d : ℕ) → n < m → get_or (numbers_from k m) n d ≡ k + n
-number_from k zero n d h = absurd (omega arith)
-number_from k (suc m) zero d h = omega arith
-number_from k (suc m) (suc n) d h =
-    let rest = number_from (k + 1) m n d (omega arith) in
-    omega (arith, rest)
-
-number_from_0 : (m n : ℕ) → n < m → get_or (numbers_from 0 m) n 0 ≡ n
-number_from_0 m n h = let is = number_from 0 m n 0 h in omega (arith, is)
+number_from_0 : (m n : ℕ) → n < m → get_or (range_with_len 0 m) n 0 ≡ n
+number_from_0 m n h = let is = get_or-range_with_len 0 m n 0 h in omega (arith, is)
 
 pub number_at : (nodes : List Record) (n : ℕ) (d : Record) → AreNumbered nodes → n < length nodes → (get_or nodes n d).number ≡ n
 number_at nodes n d numbered below =
@@ -45,7 +41,7 @@ still_numbered nodes n r d numbered same =
     let long = length-set nodes n r in
     record {
       few = rw long numbered.few;
-      numbered = map_set_same (λ (r : Record). r.number) nodes n r d same ∙ (numbered.numbered ∙ ap (numbers_from 0) (sym long));
+      numbered = map_set_same (λ (r : Record). r.number) nodes n r d same ∙ (numbered.numbered ∙ ap (range_with_len 0) (sym long));
     }
 
 -- ---- one node

@@ -1,19 +1,21 @@
 -- A new world is sound.
-use Rattle.std.proofs.Common.{◌≡◌, ℕ, ◌==◌, Bool, false, List, [], ◌∷◌, ◌++◌, map, count_by, refl, sym, ap, ◌∙◌, subst, arith, zero, suc}
-use Rattle.std.specs.Prelude.{◌&&◌}
+use Rattle.std.proofs.Common.{◌≡◌, ℕ, false, List, [], ◌∷◌, ◌++◌, map, count_by, refl, sym, ap, subst, arith, zero, suc}
+use Rattle.std.proofs.lemmas.List.Elements.{All-from_recursion}
 use Rattle.std.specs.List.{All, AllByRecursion}
 use Rattle.std.proofs.lemmas.List.{length-map}
+use Rattle.hsr_audit.proofs.Ends.{end_apart}
 use Rattle.hsr_audit.specs.Links.{is_same_end}
-use Rattle.hsr_audit.specs.Wired as wired
-use Rattle.hsr_audit.specs.Wired.{IsJoin, IsWired, ends_of}
+use Rattle.hsr_audit.specs.Run.{no_end, owner_in, record_in}
+use Rattle.hsr_audit.specs.Wired.{AreDistinct, IsJoin, ends_of}
 use Rattle.hsr_audit.specs.declared.end.End.{End}
 use Rattle.hsr_link.specs.declared.row.Dir.{Dir}
 use Rattle.hsr_node.specs.Flow.{arrivals, passes}
 use Rattle.hsr_node.specs.Record.{IsLegal, Owner}
 use Rattle.hsr_node.specs.declared.place.Place.{Place}
-use Rattle.hsr_ring.specs.Law.{AreDistinct, FirstSound, LaneAgrees, LineAgrees, receiving}
+use Rattle.hsr_ring.proofs.Counts.{by_counts}
+use Rattle.hsr_ring.specs.Law.{FirstSound, LaneAgrees, LineAgrees, receiving}
 use Rattle.hsr_ring.specs.Lines.{lanes_of}
-use Rattle.hsr_ring.specs.World.{new_lane, new_line, no_end, owner_in, record_in}
+use Rattle.hsr_ring.specs.World.{new_lane, new_line}
 
 -- ---- no entries
 
@@ -30,8 +32,8 @@ legal_none capacity owner = record {}
 
 lane_agrees : (places all : List Place) (dir : Dir) (from to : End) → LaneAgrees places (map (λ (place : Place). []) all) dir [] (new_lane from to)
 lane_agrees places all dir from to = record {
-  sent = λ p. ap (λ past. count_by p (passes (owner_in places from.node) from.port past)) (no_entries all from.node);
-  came = λ p. sym (ap (λ past. count_by p (arrivals to.port past ++ [])) (no_entries all to.node));
+  sent = by_counts _ _ (λ p. ap (λ past. count_by p (passes (owner_in places from.node) from.port past)) (no_entries all from.node));
+  came = by_counts _ _ (λ p. sym (ap (λ past. count_by p (arrivals to.port past ++ [])) (no_entries all to.node)));
 }
 
 line_agrees : (places all : List Place) (room : ℕ) (link : List End) → LineAgrees places (map (λ (place : Place). []) all) (new_line room link)
@@ -51,15 +53,6 @@ head_of P x xs h = h 0 x (omega arith)
 rest_of : {X : Type 0} (P : X → Type 0) (x : X) (xs : List X) → All P (x ∷ xs) → All P xs
 rest_of P x xs h = λ k d below. h (suc k) d (omega (arith, below))
 
-other_round : (a b : End) → is_same_end b a ≡ false → is_same_end a b ≡ false
-other_round a b h = flip (a.node == b.node) (b.node == a.node) (a.port == b.port) (b.port == a.port) (numbers a.node b.node) (numbers a.port b.port) h
-  where
-    numbers : (m k : ℕ) → (m == k) ≡ (k == m)
-    numbers m k = grind arith
-
-    flip : (x y u v : Bool) → x ≡ y → u ≡ v → (y && v) ≡ false → (x && u) ≡ false
-    flip x y u v e f h = ap (λ z. z && u) e ∙ (ap (λ z. y && z) f ∙ h)
-
 all_received : (places : List Place) (room : ℕ) (P : End → Type 0) (links : List (List End)) → All (IsJoin places) links → All P (ends_of links) → AllByRecursion P (receiving (lanes_of (map (new_line room) links)))
 all_received places room P [] joined h = tt
 all_received places room P (link ∷ links) joined h =
@@ -74,7 +67,7 @@ all_received places room P (link ∷ links) joined h =
         let below = rest_of P a (b ∷ ends_of links) h in
         (head_of P b (ends_of links) below, (head_of P a (b ∷ ends_of links) h, rest (rest_of P b (ends_of links) below)))
 
-received_distinct : (places : List Place) (room : ℕ) (links : List (List End)) → All (IsJoin places) links → wired.AreDistinct (ends_of links) → AreDistinct (receiving (lanes_of (map (new_line room) links)))
+received_distinct : (places : List Place) (room : ℕ) (links : List (List End)) → All (IsJoin places) links → AreDistinct (ends_of links) → AreDistinct (receiving (lanes_of (map (new_line room) links)))
 received_distinct places room [] joined d = tt
 received_distinct places room (link ∷ links) joined d =
     by_link (λ distinct. received_distinct places room links (rest_of (IsJoin places) link links joined) distinct) link (head_of (IsJoin places) link links joined) d
@@ -82,17 +75,18 @@ received_distinct places room (link ∷ links) joined d =
     joined_rest : All (IsJoin places) links
     joined_rest = rest_of (IsJoin places) link links joined
 
-    by_link : (wired.AreDistinct (ends_of links) → AreDistinct (receiving (lanes_of (map (new_line room) links)))) →
-        (x : List End) → IsJoin places x → wired.AreDistinct (x ++ ends_of links) → AreDistinct (receiving (lanes_of (map (new_line room) (x ∷ links))))
+    by_link : (AreDistinct (ends_of links) → AreDistinct (receiving (lanes_of (map (new_line room) links)))) →
+        (x : List End) → IsJoin places x → AreDistinct (x ++ ends_of links) → AreDistinct (receiving (lanes_of (map (new_line room) (x ∷ links))))
     by_link rest [] j d = absurd j
     by_link rest (a ∷ []) j d = absurd j
     by_link rest (a ∷ b ∷ c ∷ ends) j d = absurd j
     by_link rest (a ∷ b ∷ []) j d =
         let of_a : End → Type 0 = λ other. is_same_end other a ≡ false in
-        let of_b : End → Type 0 = λ other. is_same_end other b ≡ false in (
-          (other_round a b (head_of of_a b (ends_of links) d.0), all_received places room of_b links joined_rest d.1.0),
+        let of_b : End → Type 0 = λ other. is_same_end other b ≡ false in
+        let more : List End = receiving (lanes_of (map (new_line room) links)) in (
+          All-from_recursion of_b (a ∷ more) (end_apart a b (head_of of_a b (ends_of links) d.0), all_received places room of_b links joined_rest d.1.0),
           (
-            all_received places room of_a links joined_rest (rest_of of_a b (ends_of links) d.0),
+            All-from_recursion of_a more (all_received places room of_a links joined_rest (rest_of of_a b (ends_of links) d.0)),
             rest d.1.1,
           ),
         )

@@ -10,7 +10,8 @@ use Rattle.hsr_redbox.specs.declared.call.About.{About}
 use Rattle.hsr_supervision.specs.Payload as payload
 use Rattle.hsr_tag.specs.Tag.{IsPlain}
 use Rattle.hsr_node.specs.Copies.{address_at, asked_frame, frame_of, life_frame, life_said, ring_address}
-use Rattle.hsr_node.specs.Flow.{Sending, send_at, sent_by}
+use Rattle.hsr_node.specs.Flow.{send_at, sent_by}
+use Rattle.hsr_node.specs.declared.sending.Sending.{Sending}
 use Rattle.hsr_node.specs.Record.{Each, answer, now}
 use Rattle.hsr_node.specs.declared.entry.Entry.{Entry}
 use Rattle.hsr_node.specs.declared.event.Carried.{Carried}
@@ -21,6 +22,7 @@ use Rattle.hsr_node.specs.declared.event.Outcome.TheVariants as outcome
 use Rattle.hsr_node.specs.declared.event.StepFault.{StepFault}
 use Rattle.hsr_node.specs.declared.place.Place.{Place}
 use Rattle.hsr_node.specs.declared.place.Place.TheVariants.{Danh, RedBox, QuadBox, Station}
+use Rattle.hsr_audit.specs.Run.{owner_in, record_in}
 use Rattle.hsr_audit.specs.declared.end.End.{End}
 use Rattle.hsr_audit.proofs.Records.{sending_frame}
 use Rattle.hsr_ring.specs.Closing.{AreFrames}
@@ -28,7 +30,7 @@ use Rattle.hsr_ring.specs.Fit.{FitsEvent, FitsPlace, FitsStep, IsFit}
 use Rattle.hsr_ring.specs.Fitting.{AlwaysFrames, FitFrames}
 use Rattle.hsr_ring.specs.Lines.{held_in, lane_of, lanes_of, spot_from}
 use Rattle.hsr_ring.specs.Reached.{IsReached}
-use Rattle.hsr_ring.specs.World.{World, and_added, cleared, entered, has_link, has_node, has_port, injected_at, judged_at, line_at, new_world, or_same, owner_at, owner_in, planned, port_worker, put_at, record_at, record_in, run, take_to, tried}
+use Rattle.hsr_ring.specs.World.{World, and_added, cleared, entered, has_link, has_node, has_port, injected_at, judged_at, line_at, new_world, or_same, owner_at, planned, port_worker, put_at, record_at, run, take_to, tried}
 use Rattle.hsr_ring.specs.declared.step.Step.{Step}
 use Rattle.hsr_ring.specs.declared.step.Step.TheVariants as step
 use Rattle.hsr_ring.specs.declared.step.WorldFault.{WorldFault}

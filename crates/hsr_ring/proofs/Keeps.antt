@@ -1,10 +1,14 @@
 -- Each step keeps a world sound.
 use Rattle.std.proofs.Common.{◌≡◌, ℕ, ◌<◌, nat_lt, max, Bool, true, false, List, [], ◌∷◌, map, set, get_or, length, Option, Some, None, Result, Ok, Err, refl, sym, ap, ◌∙◌, subst, arith, eqb-true, eq-eqb, ⊎_elim, zero, suc, ◌==◌}
+use Rattle.std.proofs.lemmas.List.Elements.{recursion_from_All}
 use Rattle.std.specs.Prelude.{if◌then◌else◌}
 use Rattle.std.specs.List.{AllByRecursion}
-use Rattle.std.proofs.lemmas.Bool.{false≢true, cases_Bool, and_parts, and_from}
+use Rattle.std.proofs.lemmas.Bool.{false≢true, cases_Bool}
 use Rattle.std.proofs.lemmas.List.{get_or-set_same, get_or-set_other, length-set}
+use Rattle.hsr_audit.proofs.Ends.{end_is, end_same}
 use Rattle.hsr_audit.specs.Links.{is_same_end}
+use Rattle.hsr_audit.specs.Run.{owner_in, record_in}
+use Rattle.hsr_audit.specs.Wired.{AreDistinct}
 use Rattle.hsr_audit.specs.declared.end.End.{End}
 use Rattle.hsr_link.specs.Link.{inject_step, take_step}
 use Rattle.hsr_link.specs.Rows.{first_copy}
@@ -18,9 +22,9 @@ use Rattle.hsr_node.specs.declared.event.Event.{Event}
 use Rattle.hsr_node.specs.declared.event.Event.TheVariants as event
 use Rattle.hsr_node.specs.declared.event.Outcome.{Outcome}
 use Rattle.hsr_node.specs.declared.event.StepFault.{StepFault}
-use Rattle.hsr_ring.specs.Law.{AlwaysSound, AreDistinct, IsSound, LineAgrees, receiving}
+use Rattle.hsr_ring.specs.Law.{AlwaysSound, IsSound, LineAgrees, receiving}
 use Rattle.hsr_ring.specs.Lines.{Lane, Line, Spot, emptied, held_in, lane_of, lanes_of, on_lanes, spot_from, spread, with_lane, with_link}
-use Rattle.hsr_ring.specs.World.{World, and_added, cleared, entered, has_link, has_node, has_port, injected_at, judged_at, line_at, or_same, owner_at, owner_in, planned, port_worker, put_at, put_from, record_at, record_in, take_to, taken_by, tried, with_line}
+use Rattle.hsr_ring.specs.World.{World, and_added, cleared, entered, has_link, has_node, has_port, injected_at, judged_at, line_at, or_same, owner_at, planned, port_worker, put_at, put_from, record_at, take_to, taken_by, tried, with_line}
 use Rattle.hsr_ring.specs.declared.step.Step.{Step}
 use Rattle.hsr_ring.specs.declared.step.Step.TheVariants.{Clock, Send, Supervise, Age, Put, Take, Judge, Cut, Mend, Inject}
 use Rattle.hsr_ring.specs.declared.step.WorldFault.{WorldFault}
@@ -65,18 +69,10 @@ sound_line capacity w l line f b keeps h = record {
 
 -- ---- what a port holds
 
-same_by : (x y z : End) → is_same_end x z ≡ true → is_same_end y z ≡ true → is_same_end x y ≡ true
-same_by x y z a b =
-    let p = and_parts (x.node == z.node) (x.port == z.port) a in
-    let q = and_parts (y.node == z.node) (y.port == z.port) b in
-    and_from (x.node == y.node) (x.port == y.port)
-    (eq-eqb x.node y.node (eqb-true x.node z.node p.0 ∙ sym (eqb-true y.node z.node q.0)))
-    (eq-eqb x.port y.port (eqb-true x.port z.port p.1 ∙ sym (eqb-true y.port z.port q.1)))
-
 none_held : (x end : End) (c : Carried) → is_same_end x end ≡ true → (xs : List Lane) → AllByRecursion (λ y. is_same_end y x ≡ false) (receiving xs) →
     AllByRecursion (λ (y : Lane). is_same_end y.to end ≡ true → y.hand ≡ Some c) xs
 none_held x end c here [] apart = tt
-none_held x end c here (y ∷ ys) apart = ((λ e. absurd (false≢true (sym apart.0 ∙ same_by y.to x end e here))), none_held x end c here ys apart.1)
+none_held x end c here (y ∷ ys) apart = ((λ e. absurd (false≢true (sym apart.0 ∙ end_same y.to x (end_is y.to end e ∙ sym (end_is x end here))))), none_held x end c here ys apart.1)
 
 -- the copy that is found for an end is in each hand there
 held_all : (end : End) (lanes : List Lane) (c : Carried) → AreDistinct (receiving lanes) → held_in end lanes ≡ Some c →
@@ -87,7 +83,7 @@ held_all end (x ∷ xs) c d h = by_case (λ e. held_all end xs c d.1 e) (is_same
     by_case : (held_in end xs ≡ Some c → AllByRecursion (λ (y : Lane). is_same_end y.to end ≡ true → y.hand ≡ Some c) xs) →
         (b : Bool) → is_same_end x.to end ≡ b → (if b then x.hand else held_in end xs) ≡ Some c →
         AllByRecursion (λ (y : Lane). is_same_end y.to end ≡ true → y.hand ≡ Some c) (x ∷ xs)
-    by_case below true e h = ((λ t. h), none_held x.to end c e xs d.0)
+    by_case below true e h = ((λ t. h), none_held x.to end c e xs (recursion_from_All (λ y. is_same_end y x.to ≡ false) (receiving xs) d.0))
     by_case below false e h = ((λ t. absurd (false≢true (sym e ∙ t))), below h)
 
 lines_from_lanes : (P : Lane → Type 0) (lines : List Line) → AllByRecursion P (lanes_of lines) → AllByRecursion (λ line. P line.forth × P line.back) lines
@@ -224,7 +220,7 @@ guarded : (capacity : ℕ) (w : World) (b : Bool) (r : Result World WorldFault) 
 guarded capacity w true r f h met = met refl
 guarded capacity w false r f h met = h
 
-below_by : (a b : ℕ) → nat_lt a b ≡ true → a < b
+pub below_by : (a b : ℕ) → nat_lt a b ≡ true → a < b
 below_by a b h = grind arith
 
 pub node_below : (capacity : ℕ) (w : World) (n : ℕ) → IsSound capacity w → has_node w n ≡ true → n < length w.records

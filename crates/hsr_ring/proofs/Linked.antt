@@ -16,9 +16,10 @@ use Rattle.hsr_node.specs.declared.event.Event.TheVariants as event
 use Rattle.hsr_node.specs.declared.event.Outcome.{Outcome}
 use Rattle.hsr_node.specs.declared.event.StepFault.{StepFault}
 use Rattle.hsr_audit.specs.Links.{is_same_end}
+use Rattle.hsr_audit.specs.Run.{record_in}
 use Rattle.hsr_audit.specs.declared.end.End.{End}
 use Rattle.hsr_ring.specs.Lines.{Line, Lane, Spot, held_in, lane_of, lanes_of, spot_from}
-use Rattle.hsr_ring.specs.World.{World, and_added, cleared, entered, has_link, has_node, has_port, injected_at, judged_at, line_at, or_same, owner_at, planned, port_worker, put_at, put_from, record_at, record_in, run, take_to, taken_by, tried, with_line}
+use Rattle.hsr_ring.specs.World.{World, and_added, cleared, entered, has_link, has_node, has_port, injected_at, judged_at, line_at, or_same, owner_at, planned, port_worker, put_at, put_from, record_at, run, take_to, taken_by, tried, with_line}
 use Rattle.hsr_ring.specs.declared.step.Step.{Step}
 use Rattle.hsr_ring.specs.declared.step.Step.TheVariants.{Clock, Send, Supervise, Age, Put, Take, Judge, Cut, Mend, Inject}
 use Rattle.hsr_ring.specs.declared.step.WorldFault.{WorldFault}

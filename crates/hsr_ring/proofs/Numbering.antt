@@ -12,7 +12,8 @@ use Rattle.hsr_tag.specs.Seen.{classified}
 use Rattle.hsr_tag.specs.Tag.{TaggedFields}
 use Rattle.hsr_tag.specs.declared.seen.Seen.TheVariants.{Tagged}
 use Rattle.hsr_node.specs.Copies.{address_at}
-use Rattle.hsr_node.specs.Flow.{Sending, arrivals, copy_at, send_at, sent_by}
+use Rattle.hsr_node.specs.Flow.{arrivals, copy_at, send_at, sent_by}
+use Rattle.hsr_node.specs.declared.sending.Sending.{Sending}
 use Rattle.hsr_node.specs.Record.{Each, Noted, Owner, answer, knows, next_number, notes, now, number_in, send_answer, sent_as, sent_or_refused, sending}
 use Rattle.hsr_node.specs.declared.entry.Entry.{Entry}
 use Rattle.hsr_node.specs.declared.event.Carried.{Carried}
@@ -28,14 +29,13 @@ use Rattle.hsr_audit.specs.Budget.{is_sending}
 use Rattle.hsr_audit.specs.Links.{is_a_station}
 use Rattle.hsr_audit.specs.Once.{is_copy}
 use Rattle.hsr_audit.specs.Premises.{is_note_of}
-use Rattle.hsr_audit.specs.Run.{gives, given_at, is_of, peer_in}
+use Rattle.hsr_audit.specs.Run.{given_at, gives, is_of, owner_in, peer_in, record_in}
 use Rattle.hsr_audit.specs.declared.end.End.{End}
 use Rattle.hsr_audit.proofs.Lists.{count_more, one_if}
 use Rattle.hsr_audit.proofs.Noting.{IsNoteOf, note_from}
 use Rattle.hsr_audit.proofs.Records.{Answered, OfArrival, each_from_ports, notes_more}
 use Rattle.hsr_audit.proofs.Same.{is_of_itself, probe_is}
 use Rattle.hsr_audit.proofs.SentNumbers.{sent_number}
-use Rattle.hsr_ring.specs.World.{owner_in, record_in}
 use Rattle.hsr_ring.proofs.Counts.{count_option}
 use Rattle.hsr_ring.proofs.Passing.{IsCopyOf, given_in, given_kept, number_kept, sent_kept}
 use Rattle.hsr_ring.proofs.Single.{numbered_came}

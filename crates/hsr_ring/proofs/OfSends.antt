@@ -27,9 +27,11 @@ use Rattle.hsr_node.specs.declared.event.Probe.{Probe}
 use Rattle.hsr_node.specs.declared.event.StepFault.{StepFault}
 use Rattle.hsr_node.specs.declared.place.Place.{Place}
 use Rattle.hsr_node.specs.declared.place.Place.TheVariants.{QuadBox, RedBox}
+use Rattle.hsr_audit.proofs.Lists.{all_implied}
+use Rattle.hsr_audit.proofs.Plan.{all_append}
 use Rattle.hsr_audit.specs.Links.{is_a_station}
 use Rattle.hsr_audit.specs.Once.{is_copy}
-use Rattle.hsr_audit.specs.Run.{peer_in}
+use Rattle.hsr_audit.specs.Run.{owner_in, peer_in, record_in}
 use Rattle.hsr_audit.specs.declared.end.End.{End}
 use Rattle.hsr_audit.proofs.Records.{Answered, legal_each}
 use Rattle.hsr_audit.proofs.Views.{judged}
@@ -37,14 +39,14 @@ use Rattle.hsr_ring.specs.Closing.{AreFrames}
 use Rattle.hsr_ring.specs.Law.{IsSound}
 use Rattle.hsr_ring.specs.Lines.{Lane, Line, Spot, emptied, gift, held_in, lane_of, lanes_of, on_lanes, spot_from, spread, with_lane, with_link}
 use Rattle.hsr_ring.specs.Origin.{EachCopy, InLine, has_injected, is_injected}
-use Rattle.hsr_ring.specs.World.{World, added, and_added, cleared, entered, has_link, has_node, has_port, injected_at, judged_at, line_at, or_same, owner_at, owner_in, planned, port_worker, put_at, put_from, record_at, record_in, take_to, taken_by, tried, with_line}
+use Rattle.hsr_ring.specs.World.{World, added, and_added, cleared, entered, has_link, has_node, has_port, injected_at, judged_at, line_at, or_same, owner_at, planned, port_worker, put_at, put_from, record_at, take_to, taken_by, tried, with_line}
 use Rattle.hsr_ring.specs.declared.step.Step.{Step}
 use Rattle.hsr_ring.specs.declared.step.Step.TheVariants.{Clock, Send, Supervise, Age, Put, Take, Judge, Cut, Mend, Inject}
 use Rattle.hsr_ring.specs.declared.step.WorldFault.{WorldFault}
 use Rattle.hsr_ring.specs.declared.step.WorldFault.TheVariants.{TooLong}
-use Rattle.hsr_ring.proofs.Keeps.{all_mapped, all_replaced, entry_of, node_below}
+use Rattle.hsr_ring.proofs.Keeps.{all_mapped, all_replaced, below_by, entry_of, node_below}
 use Rattle.hsr_ring.proofs.Numbering.{IsFirst, IsNew, each_kept, first_kept, first_number, none_given, numbered, station_seq}
-use Rattle.hsr_ring.proofs.Origin.{all_appended, all_came, all_cons_option, all_implied, held_is, in_cut, in_emptied, in_lanes, in_mended, in_put, in_taken, injected_here, injected_last, injected_lost, injected_mapped, injected_more, injected_set, injected_turned, line_implied, link_below}
+use Rattle.hsr_ring.proofs.Origin.{all_came, all_cons_option, held_is, in_cut, in_emptied, in_lanes, in_mended, in_put, in_taken, injected_here, injected_last, injected_lost, injected_mapped, injected_more, injected_set, injected_turned, line_implied}
 use Rattle.hsr_ring.proofs.Passing.{IsCopyOf, NumberedAs, copy_kept, numbers_fit, passed_copy, sent_kept}
 use Rattle.hsr_ring.proofs.Single.{IsNumbered, held_by, is_fresh, numbered_came}
 use Rattle.hsr_ring.proofs.Wires.{WiredWell, wire}
@@ -138,8 +140,8 @@ spread_in : (P : Carried → Type 0) (owner : Owner) (x : Entry) (past : List En
     InLine P (on_lanes (spread owner x past) line)
 spread_in P owner x past f line h = record {
   rows = h.rows;
-  forth = record { outbox = all_appended P line.forth.outbox _ h.forth.outbox (gifts P owner x past f line.forth); hand = h.forth.hand };
-  back = record { outbox = all_appended P line.back.outbox _ h.back.outbox (gifts P owner x past f line.back); hand = h.back.hand };
+  forth = record { outbox = all_append P line.forth.outbox _ h.forth.outbox (gifts P owner x past f line.forth); hand = h.forth.hand };
+  back = record { outbox = all_append P line.back.outbox _ h.back.outbox (gifts P owner x past f line.back); hand = h.back.hand };
 }
 
 -- each copy then, by what leaves and what came
@@ -350,4 +352,4 @@ holds_step capacity links w (Judge n port) s wired h =
     (λ e. met links w (has_port w n port) _ _ h (λ f. holds_judged capacity links w (record { node = n; port = port }) (node_below capacity w n s e) s wired h))
 holds_step capacity links w (Cut l) s wired h = met links w (has_link w l) _ _ h (λ e. holds_line links w l _ (λ i. injected_lost (line_at w l).link.rows ∙ i) (λ P. in_cut P (line_at w l)) h)
 holds_step capacity links w (Mend l) s wired h = met links w (has_link w l) _ _ h (λ e. holds_line links w l _ (λ i. i) (λ P. in_mended P (line_at w l)) h)
-holds_step capacity links w (Inject l dir octets) s wired h = met links w (has_link w l) _ _ h (λ e. holds_injected links w l dir octets (link_below l (length w.lines) e) h)
+holds_step capacity links w (Inject l dir octets) s wired h = met links w (has_link w l) _ _ h (λ e. holds_injected links w l dir octets (below_by l (length w.lines) e) h)

@@ -2,9 +2,12 @@
 use Rattle.std.proofs.Common.{◌≡◌, ◌⊎◌, ℕ, ◌<◌, nat_lt, max, Bool, true, false, cond, List, [], ◌∷◌, ◌++◌, map, set, get_or, length, option_map, option_to_list, slice_get, unwrap_or, Option, Some, None, Result, Ok, Err, refl, sym, ap, ◌∙◌, subst, arith, eqb-true, eq-eqb, ⊎_elim, inl, inr, zero, suc, ◌==◌}
 use Rattle.std.specs.Prelude.{if◌then◌else◌, ◌||◌}
 use Rattle.std.specs.List.{AllByRecursion, cons_option, list_any}
-use Rattle.std.proofs.lemmas.Bool.{false≢true, cases_Bool}
+use Rattle.std.proofs.lemmas.Bool.{cases_Bool, false≢true, or_left, or_right}
 use Rattle.std.proofs.lemmas.List.{get_or-set_same, get_or-set_other}
+use Rattle.hsr_audit.proofs.Lists.{all_implied}
+use Rattle.hsr_audit.proofs.Plan.{all_append}
 use Rattle.hsr_audit.specs.Links.{is_same_end}
+use Rattle.hsr_audit.specs.Run.{owner_in, record_in}
 use Rattle.hsr_audit.specs.declared.end.End.{End}
 use Rattle.hsr_frame.specs.Grammar.{Fields}
 use Rattle.hsr_link.specs.Link.{Link, cut_step, inject_step, mended, put_step, take_step}
@@ -15,7 +18,8 @@ use Rattle.hsr_link.specs.declared.row.Fate.{Fate}
 use Rattle.hsr_link.specs.declared.row.Fate.TheVariants.{Taken, LostCut}
 use Rattle.hsr_link.specs.declared.row.Row.{Row}
 use Rattle.hsr_node.specs.Copies.{address_at, asked_frame, copy_octets, life_frame, passed_octets, ports_of, ring_address, side_of, written}
-use Rattle.hsr_node.specs.Flow.{Sending, arrivals, copy_at, pass_of, send_at, sending_of, sent_by}
+use Rattle.hsr_node.specs.Flow.{arrivals, copy_at, pass_of, send_at, sending_of, sent_by}
+use Rattle.hsr_node.specs.declared.sending.Sending.{Sending}
 use Rattle.hsr_node.specs.Record.{Owner, answer, now, probe_handled}
 use Rattle.hsr_node.specs.declared.entry.Entry.{Entry}
 use Rattle.hsr_node.specs.declared.event.Carried.{Carried}
@@ -29,35 +33,19 @@ use Rattle.hsr_node.specs.declared.place.Place.{Place}
 use Rattle.hsr_ring.specs.Law.{IsSound}
 use Rattle.hsr_ring.specs.Lines.{Lane, Line, emptied, gift, lane_of, on_lanes, spread, with_lane, with_link, Spot, held_in, lanes_of, spot_from}
 use Rattle.hsr_ring.specs.Origin.{AlwaysOrigins, AlwaysSent, EachCopy, HasOrigin, HaveOrigins, InLane, InLine, NamesSend, has_injected, is_injected}
-use Rattle.hsr_ring.specs.World.{World, owner_in, record_in, and_added, cleared, entered, has_link, has_node, has_port, injected_at, judged_at, line_at, new_line, new_world, or_same, owner_at, planned, port_worker, put_at, put_from, record_at, take_to, taken_by, tried, with_line}
+use Rattle.hsr_ring.specs.World.{World, and_added, cleared, entered, has_link, has_node, has_port, injected_at, judged_at, line_at, new_line, new_world, or_same, owner_at, planned, port_worker, put_at, put_from, record_at, take_to, taken_by, tried, with_line}
 use Rattle.hsr_ring.specs.declared.step.Step.TheVariants.{Clock, Send, Supervise, Age, Put, Take, Judge, Cut, Mend, Inject}
 use Rattle.hsr_ring.specs.declared.step.Step.{Step}
 use Rattle.hsr_ring.specs.declared.step.WorldFault.TheVariants.{TooLong}
 use Rattle.hsr_ring.specs.declared.step.WorldFault.{WorldFault}
 use Rattle.hsr_ring.proofs.First.{first_sound, no_entries}
-use Rattle.hsr_ring.proofs.Keeps.{all_mapped, all_replaced, entry_of, keeps, node_below}
+use Rattle.hsr_ring.proofs.Keeps.{all_mapped, all_replaced, below_by, entry_of, keeps, node_below}
 
 -- ---- lists
-
-pub all_implied : {X : Type 0} (P Q : X → Type 0) → ((x : X) → P x → Q x) → (xs : List X) → AllByRecursion P xs → AllByRecursion Q xs
-all_implied P Q f [] all = tt
-all_implied P Q f (x ∷ xs) all = (f x all.0, all_implied P Q f xs all.1)
-
-pub all_appended : {X : Type 0} (P : X → Type 0) (xs ys : List X) → AllByRecursion P xs → AllByRecursion P ys → AllByRecursion P (xs ++ ys)
-all_appended P [] ys a b = b
-all_appended P (x ∷ xs) ys a b = (a.0, all_appended P xs ys a.1 b)
 
 pub all_cons_option : {X : Type 0} (P : X → Type 0) (o : Option X) (xs : List X) → AllByRecursion P (option_to_list o) → AllByRecursion P xs → AllByRecursion P (cons_option o xs)
 all_cons_option P None xs a b = b
 all_cons_option P (Some x) xs a b = (a.0, b)
-
-or_left : (a b : Bool) → a ≡ true → (a || b) ≡ true
-or_left true b h = refl
-or_left false b h = absurd (false≢true h)
-
-or_right : (a b : Bool) → b ≡ true → (a || b) ≡ true
-or_right true b h = refl
-or_right false b h = h
 
 -- ---- one line, any P
 
@@ -73,7 +61,7 @@ line_implied P Q f line h = record {
 
 -- a row more
 rows_more : (P : Carried → Type 0) (rows : List Row) (r : Row) → AllByRecursion (λ (row : Row). P row.carried) rows → P r.carried → AllByRecursion (λ (row : Row). P row.carried) (rows ++ r ∷ [])
-rows_more P rows r all p = all_appended (λ (row : Row). P row.carried) rows (r ∷ []) all (p, tt)
+rows_more P rows r all p = all_append (λ (row : Row). P row.carried) rows (r ∷ []) all (p, tt)
 
 rows_turned : (P : Carried → Type 0) (fate : Fate) (dir : Dir) (rows : List Row) → AllByRecursion (λ (row : Row). P row.carried) rows → AllByRecursion (λ (row : Row). P row.carried) (turned fate dir rows)
 rows_turned P fate dir [] all = tt
@@ -355,8 +343,8 @@ all_gift P owner x past f lane = by_case (lane.from.node == owner.number) (pass_
 in_spread : (P : Carried → Type 0) (owner : Owner) (x : Entry) (past : List Entry) → ((c : Carried) → Named owner x past c.probe → P c) → (line : Line) → InLine P line → InLine P (on_lanes (spread owner x past) line)
 in_spread P owner x past f line h = record {
   rows = h.rows;
-  forth = record { outbox = all_appended P line.forth.outbox _ h.forth.outbox (all_gift P owner x past f line.forth); hand = h.forth.hand };
-  back = record { outbox = all_appended P line.back.outbox _ h.back.outbox (all_gift P owner x past f line.back); hand = h.back.hand };
+  forth = record { outbox = all_append P line.forth.outbox _ h.forth.outbox (all_gift P owner x past f line.forth); hand = h.forth.hand };
+  back = record { outbox = all_append P line.back.outbox _ h.back.outbox (all_gift P owner x past f line.back); hand = h.back.hand };
 }
 
 origins_entered : (capacity : ℕ) (v w : World) (worker n : ℕ) (e : Event) → n < length w.records →
@@ -504,9 +492,6 @@ met_or : (w : World) (b : Bool) (r : Result World WorldFault) (f : WorldFault) �
 met_or w true r f h met = met refl
 met_or w false r f h met = h
 
-pub link_below : (a b : ℕ) → nat_lt a b ≡ true → a < b
-link_below a b h = grind arith
-
 origins_keep : (capacity : ℕ) (w : World) (step : Step) → IsSound capacity w → HaveOrigins w → HaveOrigins (or_same w (tried capacity w step))
 unfolding tried
 origins_keep capacity w (Clock at) s h = record { lines = h.lines; came = h.came }
@@ -522,7 +507,7 @@ origins_keep capacity w (Judge n port) s h =
 origins_keep capacity w (Cut l) s h =
     met_or w (has_link w l) _ _ h (λ e. origins_line w l _ (λ i. injected_lost (line_at w l).link.rows ∙ i) (in_cut _ (line_at w l)) h)
 origins_keep capacity w (Mend l) s h = met_or w (has_link w l) _ _ h (λ e. origins_line w l _ (λ i. i) (in_mended _ (line_at w l)) h)
-origins_keep capacity w (Inject l dir octets) s h = met_or w (has_link w l) _ _ h (λ e. origins_injected w l dir octets (link_below l (length w.lines) e) h)
+origins_keep capacity w (Inject l dir octets) s h = met_or w (has_link w l) _ _ h (λ e. origins_injected w l dir octets (below_by l (length w.lines) e) h)
 
 pub always_origins : AlwaysOrigins
 always_origins capacity [] w s h = h

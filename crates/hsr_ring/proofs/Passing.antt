@@ -15,7 +15,8 @@ use Rattle.hsr_tag.specs.Seen.{classified}
 use Rattle.hsr_tag.specs.Tag.{IsPlain, TaggedFields}
 use Rattle.hsr_tag.specs.declared.seen.Seen.TheVariants.{Tagged}
 use Rattle.hsr_node.specs.Copies.{address_at, asked_frame, copy_octets, life_frame, passed_octets, plain_in, ring_address, side_of, written}
-use Rattle.hsr_node.specs.Flow.{Sending, pass_of, send_at, sending_of, sent_by}
+use Rattle.hsr_node.specs.Flow.{pass_of, send_at, sending_of, sent_by}
+use Rattle.hsr_node.specs.declared.sending.Sending.{Sending}
 use Rattle.hsr_node.specs.Record.{Owner, answer, knows, lived_or_refused, next_number, number_in, probe_handled, send_answer, sending, sent_as, sent_or_refused, steps}
 use Rattle.hsr_node.specs.declared.entry.Entry.{Entry}
 use Rattle.hsr_node.specs.declared.event.Carried.{Carried}
@@ -28,10 +29,9 @@ use Rattle.hsr_node.specs.declared.event.StepFault.{StepFault}
 use Rattle.hsr_node.specs.declared.event.StepFault.TheVariants as refused
 use Rattle.hsr_node.specs.declared.place.Place.{Place}
 use Rattle.hsr_node.specs.declared.place.Place.TheVariants.{Danh, RedBox, QuadBox, Station}
-use Rattle.hsr_audit.specs.Run.{gives, given_at, peer_in}
+use Rattle.hsr_audit.specs.Run.{given_at, gives, owner_in, peer_in, record_in}
 use Rattle.hsr_audit.specs.declared.end.End.{End}
 use Rattle.hsr_audit.proofs.Views.{judged}
-use Rattle.hsr_ring.specs.World.{owner_in, record_in}
 use Rattle.hsr_ring.proofs.Origin.{copy_passed, send_kept, written_none}
 use Rattle.hsr_ring.proofs.Spelled.{Fits, IsWritten, forwarded_is, written_is}
 

@@ -17,11 +17,12 @@ use Rattle.hsr_node.specs.declared.event.Outcome.{Outcome}
 use Rattle.hsr_node.specs.declared.event.StepFault.{StepFault}
 use Rattle.hsr_node.specs.declared.place.Place.{Place}
 use Rattle.hsr_audit.specs.Finished.{planned_by, planned_for}
+use Rattle.hsr_audit.specs.Run.{record_in}
 use Rattle.hsr_audit.specs.declared.end.End.{End}
 use Rattle.hsr_audit.specs.declared.planned.Planned.{Planned}
 use Rattle.hsr_ring.specs.Closing.{AlwaysPlanned}
 use Rattle.hsr_ring.specs.Lines.{Spot, held_in, lane_of, lanes_of, spot_from, with_link}
-use Rattle.hsr_ring.specs.World.{World, and_added, cleared, entered, has_link, has_node, has_port, injected_at, judged_at, line_at, new_world, or_same, owner_at, planned, port_worker, put_at, put_from, record_at, record_in, run, take_to, taken_by, tried, with_line}
+use Rattle.hsr_ring.specs.World.{World, and_added, cleared, entered, has_link, has_node, has_port, injected_at, judged_at, line_at, new_world, or_same, owner_at, planned, port_worker, put_at, put_from, record_at, run, take_to, taken_by, tried, with_line}
 use Rattle.hsr_ring.specs.declared.step.Step.{Step}
 use Rattle.hsr_ring.specs.declared.step.Step.TheVariants.{Clock, Send, Supervise, Age, Put, Take, Judge, Cut, Mend, Inject}
 use Rattle.hsr_ring.specs.declared.step.WorldFault.{WorldFault}

@@ -2,10 +2,10 @@
 use Rattle.std.proofs.Common.{◌≡◌, ℕ, ◌+◌, ◌≤◌, ◌==◌, Bool, true, false, not, List, [], ◌∷◌, length, map, count_by, option_map, option_to_list, slice_get, unwrap_or, Option, Some, None, Ok, Err, refl, sym, ap, ◌∙◌, subst, arith, eqb-true, eq-eqb, ⊎_elim, inl, inr}
 use Rattle.std.specs.Prelude.{if◌then◌else◌, ◌&&◌, ◌||◌}
 use Rattle.std.specs.List.{AllByRecursion, cons_option, list_any}
-use Rattle.std.proofs.lemmas.Bool.{false≢true, cases_Bool, and_parts, or_parts, cond-false, ne_eqb}
+use Rattle.std.proofs.lemmas.Bool.{false≢true, cases_Bool, or_parts, cond-false, ne_eqb}
 use Rattle.hsr_frame.specs.Address.{is_group}
 use Rattle.hsr_frame.specs.Cases.{first_of}
-use Rattle.hsr_frame.specs.Egress.{Egress, up, a, nowhere, to}
+use Rattle.hsr_frame.specs.Egress.{Egress, up, a, nowhere, to, has_exit}
 use Rattle.hsr_frame.specs.Grammar.{Fields}
 use Rattle.hsr_frame.specs.declared.node.Cause.{Cause}
 use Rattle.hsr_frame.specs.declared.node.Cause.TheVariants.{Returned}
@@ -19,11 +19,11 @@ use Rattle.hsr_redbox.specs.declared.wanted.Handling.{Handling}
 use Rattle.hsr_quadbox.specs.Wanted as of_quadbox
 use Rattle.hsr_quadbox.specs.declared.wanted.QuadPort.{QuadPort}
 use Rattle.hsr_tag.specs.declared.seen.Seen.TheVariants.{Plain, Tagged}
-use Rattle.hsr_link.specs.Rows.{goes, is_taken}
+use Rattle.hsr_link.specs.Rows.{goes, is_taken, put_copies, put_copy, taken_copies, taken_copy}
 use Rattle.hsr_link.specs.declared.row.Dir.{Dir}
 use Rattle.hsr_link.specs.declared.row.Row.{Row}
 use Rattle.hsr_node.specs.Copies.{copy_octets, ports_of}
-use Rattle.hsr_node.specs.Flow.{arrivals, has_exit, pass_of, passes}
+use Rattle.hsr_node.specs.Flow.{arrivals, pass_of, passes}
 use Rattle.hsr_node.specs.Record.{Each, Owner, answer, box_handling, handling, next_number, now, number_in, passing, probe_handled, remembers, station_wanted}
 use Rattle.hsr_node.specs.Station.{is_among}
 use Rattle.hsr_node.specs.Step.{quad_port, ring_port}
@@ -36,19 +36,19 @@ use Rattle.hsr_node.specs.declared.event.Outcome.TheVariants as outcome
 use Rattle.hsr_node.specs.declared.event.Probe.{Probe}
 use Rattle.hsr_node.specs.declared.place.Place.{Place}
 use Rattle.hsr_node.specs.declared.place.Place.TheVariants.{Danh, RedBox, QuadBox, Station}
+use Rattle.hsr_audit.proofs.Ends.{end_is}
 use Rattle.hsr_audit.specs.Links.{is_a_station, is_same_end}
 use Rattle.hsr_audit.specs.Once.{is_copy}
-use Rattle.hsr_audit.specs.Run.{is_of}
+use Rattle.hsr_audit.specs.Run.{is_of, owner_in, record_in}
 use Rattle.hsr_audit.specs.declared.end.End.{End}
 use Rattle.hsr_audit.proofs.Lists.{count_more, count_zero, one_if, zero_if}
 use Rattle.hsr_audit.proofs.Records.{Answered}
 use Rattle.hsr_audit.proofs.Same.{is_of_itself}
 use Rattle.hsr_audit.proofs.Views.{Came, came, judged, knows_at, passing-wanted}
 use Rattle.hsr_ring.specs.Law.{LaneAgrees, LineAgrees}
-use Rattle.hsr_ring.specs.Lines.{Lane, Line, held_in, lanes_of, put_copies, put_copy, taken_copies, taken_copy}
+use Rattle.hsr_ring.specs.Lines.{Lane, Line, held_in, lanes_of}
 use Rattle.hsr_ring.specs.Origin.{has_injected, is_injected}
-use Rattle.hsr_ring.specs.World.{owner_in, record_in}
-use Rattle.hsr_ring.proofs.Counts.{count_append, count_option}
+use Rattle.hsr_ring.proofs.Counts.{count_append, count_option, counts_of}
 use Rattle.hsr_ring.proofs.Origin.{Named, pass_named}
 use Rattle.hsr_ring.proofs.Wires.{Faces, WiredWell, wire}
 
@@ -230,8 +230,8 @@ taken_put p dir (r ∷ rows) none =
 pub came_left : (places : List Place) (records : List (List Entry)) (dir : Dir) (rows : List Row) (lane : Lane) (p : Carried → Bool) → list_any (λ (row : Row). row.injected) rows ≡ false → LaneAgrees places records dir rows lane →
     count_by p (arrivals lane.to.port (record_in records lane.to.node)) + count_by p (option_to_list lane.hand) ≤ count_by p (passes (owner_in places lane.from.node) lane.from.port (record_in records lane.from.node))
 came_left places records dir rows lane p none h =
-    let came = h.came p in
-    let sent = h.sent p in
+    let came = counts_of _ _ h.came p in
+    let sent = counts_of _ _ h.sent p in
     let fewer = taken_put p dir rows none in
     let u = count_append p (arrivals lane.to.port (record_in records lane.to.node)) (option_to_list lane.hand) in
     let v = count_append p (put_copies dir rows) lane.outbox in
@@ -287,13 +287,6 @@ pub record IsHeld (places : List Place) (records : List (List Entry)) (links : L
   pub hand : lane.hand ≡ Some copy
   pub faces : Faces places lane.from lane.to
   pub peer : Rattle.hsr_audit.specs.Run.peer_in lane.from links ≡ Some lane.to
-
-pub end_is : (x y : End) → is_same_end x y ≡ true → x ≡ y
-end_is x y h =
-    let parts = and_parts (x.node == y.node) (x.port == y.port) h in
-    let n = eqb-true x.node y.node parts.0 in
-    let m = eqb-true x.port y.port parts.1 in
-    λ i. record { node = n i; port = m i }
 
 pub held_by : (places : List Place) (records : List (List Entry)) (links : List (List End)) (end : End) (c : Carried) (lines : List Line) → held_in end (lanes_of lines) ≡ Some c →
     AllByRecursion (LineAgrees places records) lines → is_injected lines ≡ false → AllByRecursion (WiredWell places links) (map wire lines) → IsHeld places records links end c

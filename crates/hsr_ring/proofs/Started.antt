@@ -1,12 +1,13 @@
 -- Nodes that did nothing.
 use Rattle.std.proofs.Common.{◌≡◌, ℕ, ◌+◌, ◌≤◌, List, [], ◌∷◌, map, length, refl, sym, ap, ◌∙◌, suc}
+use Rattle.std.specs.List.{range_with_len}
 use Rattle.hsr_node.specs.Kept.{Record, past_of}
 use Rattle.hsr_node.specs.declared.entry.Entry.{Entry}
 use Rattle.hsr_node.specs.declared.place.Place.{Place}
 use Rattle.hsr_ring.specs.Entering.{places_of}
 use Rattle.hsr_ring.specs.Lines.{Line}
 use Rattle.hsr_ring.specs.Starting.{new_records}
-use Rattle.hsr_ring.specs.Views.{AreNumbered, numbers_from, world_of}
+use Rattle.hsr_ring.specs.Views.{AreNumbered, world_of}
 use Rattle.hsr_ring.specs.World.{new_line, new_world}
 use Rattle.hsr_audit.specs.declared.end.End.{End}
 
@@ -18,7 +19,7 @@ new_pasts : (k : ℕ) (places : List Place) → map past_of (new_records k place
 new_pasts k [] = refl
 new_pasts k (place ∷ places) = ap (λ (ps : List (List Entry)). [] ∷ ps) (new_pasts (k + 1) places)
 
-new_numbers : (k : ℕ) (places : List Place) → map (λ (r : Record). r.number) (new_records k places) ≡ numbers_from k (length places)
+new_numbers : (k : ℕ) (places : List Place) → map (λ (r : Record). r.number) (new_records k places) ≡ range_with_len k (length places)
 new_numbers k [] = refl
 new_numbers k (place ∷ places) = ap (λ (ns : List ℕ). k ∷ ns) (new_numbers (k + 1) places)
 
@@ -31,7 +32,7 @@ new_numbered nodes places is few =
     let long = ap length is ∙ new_length 0 places in
     record {
       few = rw long few;
-      numbered = ap (map (λ (r : Record). r.number)) is ∙ (new_numbers 0 places ∙ ap (numbers_from 0) (sym long));
+      numbered = ap (map (λ (r : Record). r.number)) is ∙ (new_numbers 0 places ∙ ap (range_with_len 0) (sym long));
     }
 
 pub new_world_is : (room : ℕ) (places : List Place) (links : List (List End)) (nodes : List Record) (lines : List Line) →

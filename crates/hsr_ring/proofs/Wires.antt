@@ -1,14 +1,14 @@
 -- No step changes where the nodes stand and what the links join.
-use Rattle.std.proofs.Common.{◌≡◌, ℕ, ◌<◌, ◌==◌, nat_lt, max, Bool, true, false, List, [], ◌∷◌, ◌++◌, length, map, Option, Some, None, Result, Ok, Err, refl, sym, ap, ◌∙◌, subst, arith, eq-eqb, ⊎_elim}
-use Rattle.std.specs.Prelude.{if◌then◌else◌, ◌&&◌, not, slice_index_or}
+use Rattle.std.proofs.Common.{◌≡◌, ℕ, ◌<◌, nat_lt, max, Bool, true, false, List, [], ◌∷◌, ◌++◌, length, map, Option, Some, None, Result, Ok, Err, refl, sym, ap, ◌∙◌, subst, arith, eq-eqb, ⊎_elim}
+use Rattle.std.specs.Prelude.{if◌then◌else◌, not, slice_index_or}
 use Rattle.std.specs.List.{All, AllByRecursion}
 use Rattle.std.specs.Option.{option_or}
-use Rattle.std.proofs.lemmas.Bool.{false≢true, and_from, and_cases}
+use Rattle.std.proofs.lemmas.Bool.{false≢true, and_cases}
 use Rattle.std.proofs.lemmas.List.{length-map, length-set}
 use Rattle.std.proofs.lemmas.List.Elements.{All-head, All-tail}
 use Rattle.std.proofs.lemmas.Option.{slice_get-get_or}
 use Rattle.hsr_frame.specs.declared.node.Mode.{Mode}
-use Rattle.hsr_link.specs.Link.{put_step, take_step}
+use Rattle.hsr_link.specs.Link.{take_step}
 use Rattle.hsr_link.specs.Rows.{first_copy}
 use Rattle.hsr_link.specs.declared.row.Dir.{Dir}
 use Rattle.hsr_link.specs.declared.row.Dir.TheVariants.{Forth, Back}
@@ -20,14 +20,15 @@ use Rattle.hsr_node.specs.declared.event.Outcome.{Outcome}
 use Rattle.hsr_node.specs.declared.event.StepFault.{StepFault}
 use Rattle.hsr_node.specs.declared.place.Place.{Place}
 use Rattle.hsr_node.specs.declared.place.Place.TheVariants.{Danh, RedBox, QuadBox, Station}
+use Rattle.hsr_audit.proofs.Ends.{end_apart, end_same}
 use Rattle.hsr_audit.specs.Links.{faces_wrongly, is_a_station, is_interlink, is_interlink_of, is_same_end, is_station}
 use Rattle.hsr_audit.specs.Nodes.{ports}
-use Rattle.hsr_audit.specs.Run.{joined_by, peer_in}
+use Rattle.hsr_audit.specs.Run.{joined_by, no_end, peer_in}
 use Rattle.hsr_audit.specs.Wired.{AreDistinct, HasPort, IsJoin, IsWired, ends_of}
 use Rattle.hsr_audit.specs.declared.end.End.{End}
 use Rattle.hsr_ring.specs.Closing.{AlwaysPlaced, IsPlaced, StepPlaced}
 use Rattle.hsr_ring.specs.Lines.{Lane, Line, Spot, emptied, held_in, lane_of, lanes_of, on_lanes, spot_from, spread, with_lane, with_link}
-use Rattle.hsr_ring.specs.World.{World, and_added, cleared, entered, has_link, has_node, has_port, injected_at, judged_at, line_at, new_line, new_world, no_end, or_same, owner_at, planned, port_worker, put_at, put_from, record_at, run, take_to, taken_by, tried, with_line}
+use Rattle.hsr_ring.specs.World.{World, and_added, cleared, entered, has_link, has_node, has_port, injected_at, judged_at, line_at, new_line, new_world, or_same, owner_at, planned, port_worker, put_at, put_from, record_at, run, take_to, taken_by, tried, with_line}
 use Rattle.hsr_ring.specs.declared.step.Step.{Step}
 use Rattle.hsr_ring.specs.declared.step.Step.TheVariants.{Clock, Send, Supervise, Age, Put, Take, Judge, Cut, Mend, Inject}
 use Rattle.hsr_ring.specs.declared.step.WorldFault.{WorldFault}
@@ -157,20 +158,8 @@ first_wires room (link ∷ links) = ap (λ x. x ∷ map wire (map (new_line room
 abbrev pub ArePeers : List (List End) → Wire → Type 0
 ArePeers links e = (peer_in e.0 links ≡ Some e.1) × (peer_in e.2 links ≡ Some e.3)
 
-turned_round : (a b : End) → is_same_end b a ≡ false → is_same_end a b ≡ false
-turned_round a b h = flip (a.node == b.node) (b.node == a.node) (a.port == b.port) (b.port == a.port) (numbers a.node b.node) (numbers a.port b.port) h
-  where
-    numbers : (m k : ℕ) → (m == k) ≡ (k == m)
-    numbers m k = grind arith
-
-    flip : (x y u v : Bool) → x ≡ y → u ≡ v → (y && v) ≡ false → (x && u) ≡ false
-    flip x y u v e f h = ap (λ z. z && u) e ∙ (ap (λ z. y && z) f ∙ h)
-
-end_itself : (a : End) → is_same_end a a ≡ true
-end_itself a = and_from (a.node == a.node) (a.port == a.port) (eq-eqb a.node a.node refl) (eq-eqb a.port a.port refl)
-
 joined_none : (a b end : End) → is_same_end end a ≡ false → is_same_end end b ≡ false → joined_by end (a ∷ b ∷ []) ≡ None
-joined_none a b end x y = by_case (is_same_end a end) (is_same_end b end) (turned_round a end x) (turned_round b end y)
+joined_none a b end x y = by_case (is_same_end a end) (is_same_end b end) (end_apart a end x) (end_apart b end y)
   where
     by_case : (p q : Bool) → p ≡ false → q ≡ false → (if p then Some b else (if q then Some a else None)) ≡ None
     by_case true q e f = absurd (false≢true (sym e))
@@ -178,14 +167,14 @@ joined_none a b end x y = by_case (is_same_end a end) (is_same_end b end) (turne
     by_case false false e f = refl
 
 joined_first : (a b : End) → joined_by a (a ∷ b ∷ []) ≡ Some b
-joined_first a b = by_case (is_same_end a a) (end_itself a)
+joined_first a b = by_case (is_same_end a a) (end_same a a refl)
   where
     by_case : (p : Bool) → p ≡ true → (if p then Some b else (if is_same_end b a then Some a else None)) ≡ Some b
     by_case true e = refl
     by_case false e = absurd (false≢true e)
 
 joined_second : (a b : End) → is_same_end b a ≡ false → joined_by b (a ∷ b ∷ []) ≡ Some a
-joined_second a b x = by_case (is_same_end a b) (is_same_end b b) (turned_round a b x) (end_itself b)
+joined_second a b x = by_case (is_same_end a b) (is_same_end b b) (end_apart a b x) (end_same b b refl)
   where
     by_case : (p q : Bool) → p ≡ false → q ≡ true → (if p then Some b else (if q then Some a else None)) ≡ Some a
     by_case true q e f = absurd (false≢true (sym e))

@@ -11,11 +11,12 @@ use Rattle.std.specs.List.{list_any}
 use Rattle.hsr_audit.specs.Closed.{IsClosed, IsOfSend}
 use Rattle.hsr_audit.specs.Finished.{IsFinished, IsPlanned}
 use Rattle.hsr_audit.specs.Premises.{NumberedFirst}
-use Rattle.hsr_audit.specs.Run.{Run}
+use Rattle.hsr_audit.specs.Run.{Run, owner_in, record_in}
 use Rattle.hsr_audit.specs.Wired.{IsWired}
 use Rattle.hsr_audit.specs.declared.end.End.{End}
 use Rattle.hsr_link.specs.Rows.{is_queued}
-use Rattle.hsr_node.specs.Flow.{Sending, send_at}
+use Rattle.hsr_node.specs.Flow.{send_at}
+use Rattle.hsr_node.specs.declared.sending.Sending.{Sending}
 use Rattle.hsr_node.specs.declared.entry.Entry.{Entry}
 use Rattle.hsr_node.specs.declared.event.Probe.{Probe}
 use Rattle.hsr_node.specs.declared.place.Place.{Place}
@@ -23,7 +24,7 @@ use Rattle.hsr_tag.specs.Tag.{IsPlain}
 use Rattle.hsr_ring.specs.Lines.{Lane, Line}
 use Rattle.hsr_ring.specs.Origin.{EachCopy, is_injected}
 use Rattle.hsr_ring.specs.Reached.{IsReached}
-use Rattle.hsr_ring.specs.World.{World, is_empty, owner_in, record_in, run, tried}
+use Rattle.hsr_ring.specs.World.{World, is_empty, run, tried}
 use Rattle.hsr_ring.specs.declared.step.Step.{Step}
 
 -- the records the oldest entry first, and the rows of each link

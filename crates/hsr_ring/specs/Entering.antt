@@ -11,7 +11,8 @@ use Rattle.hsr_node.specs.declared.event.StepFault.TheVariants as refused
 use Rattle.hsr_node.specs.declared.place.Place.{Place}
 use Rattle.hsr_ring.specs.Lines.{Line}
 use Rattle.hsr_ring.specs.Views.{world_of}
-use Rattle.hsr_ring.specs.World.{World, entered, owner_in, record_in}
+use Rattle.hsr_ring.specs.World.{World, entered}
+use Rattle.hsr_audit.specs.Run.{owner_in, record_in}
 use Rattle.hsr_audit.specs.declared.planned.Planned.{Planned}
 use Rattle.hsr_ring.specs.declared.step.WorldFault.{WorldFault}
 use Rattle.hsr_ring.specs.declared.step.WorldFault.TheVariants.{Node, NoMemory}

@@ -1,13 +1,14 @@
 -- Sends that octets can spell, since addresses, VLAN tags and types fit.
 use Rattle.std.specs.Prelude.{ℕ, List}
 use Rattle.std.specs.List.{All, AllByRecursion}
+use Rattle.hsr_audit.specs.Run.{record_in}
 use Rattle.hsr_audit.specs.declared.end.End.{End}
 use Rattle.hsr_node.specs.Record.{Each}
 use Rattle.hsr_node.specs.declared.entry.Entry.{Entry}
 use Rattle.hsr_node.specs.declared.place.Place.{Place}
 use Rattle.hsr_ring.specs.Closing.{AreFrames}
 use Rattle.hsr_ring.specs.Fit.{FitsEvent, FitsPlace, FitsStep}
-use Rattle.hsr_ring.specs.World.{new_world, record_in, run}
+use Rattle.hsr_ring.specs.World.{new_world, run}
 use Rattle.hsr_ring.specs.declared.step.Step.{Step}
 
 -- where nodes and events are such, each send is a frame that octets can spell

@@ -1,39 +1,30 @@
 -- What holds of a world after any steps.
-use Rattle.std.specs.Prelude.{ℕ, ◌≡◌, Bool, false, List, [], ◌∷◌, ◌++◌, count_by, option_to_list, ⊤, length}
+use Rattle.std.specs.Prelude.{ℕ, ◌≡◌, List, [], ◌∷◌, ◌++◌, option_to_list, length, IsPermutation}
 use Rattle.std.specs.List.{AllByRecursion}
-use Rattle.hsr_audit.specs.Links.{is_same_end}
-use Rattle.hsr_audit.specs.Wired.{IsWired}
+use Rattle.hsr_audit.specs.Run.{owner_in, record_in}
+use Rattle.hsr_audit.specs.Wired.{AreDistinct, IsWired}
 use Rattle.hsr_audit.specs.declared.end.End.{End}
+use Rattle.hsr_link.specs.Rows.{put_copies, taken_copies}
 use Rattle.hsr_link.specs.declared.row.Dir.{Dir}
 use Rattle.hsr_link.specs.declared.row.Dir.TheVariants.{Forth, Back}
 use Rattle.hsr_link.specs.declared.row.Row.{Row}
 use Rattle.hsr_node.specs.Flow.{arrivals, passes}
 use Rattle.hsr_node.specs.Record.{IsLegal}
 use Rattle.hsr_node.specs.declared.entry.Entry.{Entry}
-use Rattle.hsr_node.specs.declared.event.Carried.{Carried}
 use Rattle.hsr_node.specs.declared.place.Place.{Place}
-use Rattle.hsr_ring.specs.Lines.{Lane, Line, lanes_of, put_copies, taken_copies}
-use Rattle.hsr_ring.specs.World.{World, new_world, owner_in, record_in, run}
+use Rattle.hsr_ring.specs.Lines.{Lane, Line, lanes_of}
+use Rattle.hsr_ring.specs.World.{World, new_world, run}
 use Rattle.hsr_ring.specs.declared.step.Step.{Step}
 
--- the same copies, each as often
-abbrev pub AsOften : List Carried → List Carried → Type 0
-AsOften xs ys = (p : Carried → Bool) → count_by p xs ≡ count_by p ys
-
 -- What a port passed is what was put and not injected, and what it has still to put; what was taken is what came to the
--- port at the other end, and what it holds.
+-- port at the other end, and what it holds; each copy as often.
 pub record LaneAgrees (places : List Place) (records : List (List Entry)) (dir : Dir) (rows : List Row) (lane : Lane) : Type 0 where
-  pub sent : AsOften (passes (owner_in places lane.from.node) lane.from.port (record_in records lane.from.node)) (put_copies dir rows ++ lane.outbox)
-  pub came : AsOften (taken_copies dir rows) (arrivals lane.to.port (record_in records lane.to.node) ++ option_to_list lane.hand)
+  pub sent : IsPermutation (passes (owner_in places lane.from.node) lane.from.port (record_in records lane.from.node)) (put_copies dir rows ++ lane.outbox)
+  pub came : IsPermutation (taken_copies dir rows) (arrivals lane.to.port (record_in records lane.to.node) ++ option_to_list lane.hand)
 
 pub record LineAgrees (places : List Place) (records : List (List Entry)) (line : Line) : Type 0 where
   pub forth : LaneAgrees places records Forth line.link.rows line.forth
   pub back : LaneAgrees places records Back line.link.rows line.back
-
--- no two of these are one
-abbrev pub AreDistinct : List End → Type 0
-AreDistinct [] = ⊤
-AreDistinct (end ∷ ends) = AllByRecursion (λ other. is_same_end other end ≡ false) ends × AreDistinct ends
 
 -- where copies come in
 abbrev pub receiving : List Lane → List End

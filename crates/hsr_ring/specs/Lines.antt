@@ -1,13 +1,10 @@
 -- The links of a world, with what their ports have still to put and what they hold.
-use Rattle.std.specs.Prelude.{ℕ, ◌+◌, ◌==◌, ◌&&◌, not, if◌then◌else◌, List, [], ◌∷◌, ◌++◌, Option, Some, None, option_to_list}
-use Rattle.std.specs.List.{cons_option}
+use Rattle.std.specs.Prelude.{ℕ, ◌+◌, ◌==◌, if◌then◌else◌, List, [], ◌∷◌, ◌++◌, Option, Some, None, option_to_list}
 use Rattle.hsr_audit.specs.Links.{is_same_end}
 use Rattle.hsr_audit.specs.declared.end.End.{End}
 use Rattle.hsr_link.specs.Link.{Link}
-use Rattle.hsr_link.specs.Rows.{goes, is_taken}
 use Rattle.hsr_link.specs.declared.row.Dir.{Dir}
 use Rattle.hsr_link.specs.declared.row.Dir.TheVariants.{Forth, Back}
-use Rattle.hsr_link.specs.declared.row.Row.{Row}
 use Rattle.hsr_node.specs.Flow.{pass_of}
 use Rattle.hsr_node.specs.Record.{Owner}
 use Rattle.hsr_node.specs.declared.entry.Entry.{Entry}
@@ -42,21 +39,6 @@ lanes_of (line ∷ lines) = line.forth ∷ line.back ∷ lanes_of lines
 
 abbrev pub on_lanes : (Lane → Lane) → Line → Line
 on_lanes f line = record line { forth = f line.forth; back = f line.back }
-
--- the copies of rows that were put in a direction by its port, and of those that were taken there
-abbrev pub put_copy : Dir → Row → Option Carried
-put_copy dir row = if goes dir row && not row.injected then Some row.carried else None
-
-abbrev pub taken_copy : Dir → Row → Option Carried
-taken_copy dir row = if goes dir row && is_taken row.fate then Some row.carried else None
-
-abbrev pub put_copies : Dir → List Row → List Carried
-put_copies dir [] = []
-put_copies dir (row ∷ rows) = cons_option (put_copy dir row) (put_copies dir rows)
-
-abbrev pub taken_copies : Dir → List Row → List Carried
-taken_copies dir [] = []
-taken_copies dir (row ∷ rows) = cons_option (taken_copy dir row) (taken_copies dir rows)
 
 -- what the receiving port at an end holds
 abbrev pub held_in : End → List Lane → Option Carried

@@ -1,16 +1,18 @@
 -- Where the copies of a world come from.
 use Rattle.std.specs.Prelude.{ℕ, ◌≡◌, ◌⊎◌, Bool, true, false, List, Some, None, option_to_list}
 use Rattle.std.specs.List.{AllByRecursion, list_any}
+use Rattle.hsr_audit.specs.Run.{owner_in, record_in}
 use Rattle.hsr_audit.specs.Wired.{IsWired}
 use Rattle.hsr_audit.specs.declared.end.End.{End}
-use Rattle.hsr_node.specs.Flow.{Sending, arrivals, send_at}
+use Rattle.hsr_node.specs.Flow.{arrivals, send_at}
+use Rattle.hsr_node.specs.declared.sending.Sending.{Sending}
 use Rattle.hsr_node.specs.declared.entry.Entry.{Entry}
 use Rattle.hsr_node.specs.declared.event.Carried.{Carried}
 use Rattle.hsr_node.specs.declared.event.Probe.{Probe}
 use Rattle.hsr_node.specs.declared.place.Place.{Place}
 use Rattle.hsr_ring.specs.Law.{IsSound}
 use Rattle.hsr_ring.specs.Lines.{Lane, Line}
-use Rattle.hsr_ring.specs.World.{World, new_world, owner_in, record_in, run}
+use Rattle.hsr_ring.specs.World.{World, new_world, run}
 use Rattle.hsr_ring.specs.declared.step.Step.{Step}
 
 -- a copy names by its probe an entry that is a send

@@ -1,5 +1,6 @@
 -- How a contract sees the ways and lines of the code, and what a call makes of one line.
-use Rattle.std.specs.Prelude.{ℕ, zero, suc, ◌+◌, ◌≡◌, ◌≤◌, List, [], ◌∷◌, nat_lt, if◌then◌else◌, slice_index_or, length, map, set, Option, Some, None, Result, Ok, Err}
+use Rattle.std.specs.List.{range_with_len}
+use Rattle.std.specs.Prelude.{ℕ, ◌≡◌, ◌≤◌, List, [], ◌∷◌, nat_lt, if◌then◌else◌, slice_index_or, length, map, set, Option, Some, None, Result, Ok, Err}
 use Rattle.hsr_audit.specs.Nodes.{ports}
 use Rattle.hsr_audit.specs.declared.end.End.{End}
 use Rattle.hsr_link.specs.Link.{Link, cut_step, inject_step, mended, put_step, take_step}
@@ -102,14 +103,10 @@ abbrev pub port_fault : List Place → ℕ → ℕ → Option WorldFault
 port_fault places n port =
     if nat_lt n (length places) then (if nat_lt port (ports (slice_index_or places n QuadBox)) then None else Some NoSuchPort) else Some NoSuchNode
 
-abbrev pub numbers_from : ℕ → ℕ → List ℕ
-numbers_from k zero = []
-numbers_from k (suc n) = k ∷ numbers_from (k + 1) n
-
 -- each node has the number of its place, and the numbers of ports fit
 pub record AreNumbered (nodes : List Record) : Type 0 where
   pub few : length nodes ≤ 64
-  pub numbered : map (λ (r : Record). r.number) nodes ≡ numbers_from 0 (length nodes)
+  pub numbered : map (λ (r : Record). r.number) nodes ≡ range_with_len 0 (length nodes)
 
 abbrev pub world_of : ℕ → List Record → List Line → List Planned → World
 world_of moment nodes lines plan =

@@ -3,6 +3,7 @@ use Rattle.std.specs.Prelude.{ℕ, zero, suc, ◌+◌, ◌*◌, ◌≡◌, not, 
 use Rattle.std.specs.Option.{option_or}
 use Rattle.std.specs.List.{find}
 use Rattle.hsr_audit.specs.Nodes.{ports}
+use Rattle.hsr_audit.specs.Run.{no_end, owner_in, record_in}
 use Rattle.hsr_audit.specs.declared.end.End.{End}
 use Rattle.hsr_link.specs.Link.{Link, cut_step, inject_step, mended, new_link, put_step, take_step}
 use Rattle.hsr_link.specs.Rows.{first_copy}
@@ -16,7 +17,6 @@ use Rattle.hsr_node.specs.declared.event.Event.TheVariants as event
 use Rattle.hsr_node.specs.declared.event.Outcome.{Outcome}
 use Rattle.hsr_node.specs.declared.event.StepFault.{StepFault}
 use Rattle.hsr_node.specs.declared.place.Place.{Place}
-use Rattle.hsr_node.specs.declared.place.Place.TheVariants.{QuadBox}
 use Rattle.hsr_ring.specs.Lines.{Lane, Line, Spot, emptied, held_in, lane_of, lanes_of, on_lanes, spot_from, spread, with_lane, with_link}
 use Rattle.hsr_audit.specs.declared.planned.Planned.{Planned}
 use Rattle.hsr_ring.specs.declared.step.Step.{Step}
@@ -34,14 +34,8 @@ pub record World : Type 0 where
 
 -- ---- nodes
 
-abbrev pub record_in : List (List Entry) → ℕ → List Entry
-record_in records n = slice_index_or records n []
-
 abbrev pub record_at : World → ℕ → List Entry
 record_at w n = record_in w.records n
-
-abbrev pub owner_in : List Place → ℕ → Owner
-owner_in places n = record { number = n; place = slice_index_or places n QuadBox }
 
 abbrev pub owner_at : World → ℕ → Owner
 owner_at w n = owner_in w.places n
@@ -79,9 +73,6 @@ by_main capacity w n event = if has_node w n then entered capacity (planned w n 
 
 abbrev pub has_link : World → ℕ → Bool
 has_link w l = nat_lt l (length w.lines)
-
-abbrev pub no_end : End
-no_end = record { node = 0; port = 0 }
 
 abbrev pub no_lane : Lane
 no_lane = record { from = no_end; to = no_end; outbox = []; hand = None }

@@ -362,7 +362,7 @@ impl<const C: usize> Running<C> {
 }
 
 impl<const C: usize> Running<C> {
-    ghost use Rattle.hsr_node.specs.Record.{counters};
+    ghost use Rattle.hsr_node.specs.Counts.{counters};
     ghost use Rattle.hsr_ring.specs.Ports.{ports_in};
     ghost use Rattle.hsr_ring.specs.World.{line_at, next_step, owner_at, record_at};
 
@@ -421,8 +421,8 @@ impl<const C: usize> Running<C> {
 }
 
 impl<const C: usize> Running<C> {
-    ghost use Rattle.hsr_audit.specs.Checked.{IfDisagree};
-    ghost use Rattle.hsr_ring.specs.Ending.{IsCalm, IsOpen};
+    ghost use Rattle.hsr_audit.specs.Checked.{IfDisagree, IsOpen};
+    ghost use Rattle.hsr_audit.specs.Once.{IsCalm};
     ghost use Rattle.hsr_ring.specs.Lawful.{IsEnded, finished_of};
     ghost use Rattle.hsr_ring.specs.Reached.{IsReached};
 

@@ -34,12 +34,12 @@ impl<const C: usize> Model for World<C> {
 }
 
 impl<const C: usize> World<C> {
-    ghost use Rattle.hsr_audit.specs.Checked.{IfDisagree};
-    ghost use Rattle.hsr_ring.specs.Ending.{IsCalm, IsOpen};
+    ghost use Rattle.hsr_audit.specs.Checked.{IfDisagree, IsOpen};
+    ghost use Rattle.hsr_audit.specs.Once.{IsCalm};
     ghost use Rattle.hsr_ring.specs.Lawful.{IsEnded, IsLawful, finished_of};
     ghost use Rattle.hsr_ring.specs.Stopping.{IsDrainFault, Runs, Stops};
     ghost use Rattle.hsr_ring.specs.World.{Drains, line_at, new_world, next_step, owner_at, record_at, tried};
-    ghost use Rattle.hsr_node.specs.Record.{counters};
+    ghost use Rattle.hsr_node.specs.Counts.{counters};
 
     /// A world at moment 0 in which nothing was done, with room for `capacity` copies, 1 to 4096, in each direction of a link.
     /// `NoMemory` where room is refused.

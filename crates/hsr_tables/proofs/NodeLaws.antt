@@ -1,14 +1,16 @@
 -- What a table of nodes knows.
-use Rattle.std.proofs.Common.{◌≡◌, ℕ, zero, suc, Bool, true, false, cond, not, ◌&&◌, ◌||◌, List, [], ◌∷◌, filter, take, map, Option, Some, None, ap, refl, ◌∙◌, ◌⊎◌, inl, inr, if◌then◌else◌}
-use Rattle.std.specs.Prelude.{reverse}
+use Rattle.std.proofs.Common.{◌≡◌, ℕ, zero, suc, Bool, true, false, cond, not, ◌&&◌, ◌||◌, List, [], ◌∷◌, filter, take, map, Option, Some, None, ap, refl, ◌∙◌, ◌⊎◌, inl, inr, if◌then◌else◌, ◌≤◌, arith}
+use Rattle.std.specs.Prelude.{reverse, fold, is_err, Result, Ok, Err}
 use Rattle.std.specs.List.{list_any}
 use Rattle.std.specs.Option.{option_and_then}
 use Rattle.hsr_frame.specs.Address.{is_same_address}
 use Rattle.hsr_frame.specs.declared.node.RingPort.{RingPort}
 use Rattle.hsr_frame.specs.declared.node.RingPort.TheVariants.{A, B}
+use Rattle.hsr_supervision.specs.Payload.{Fields, read_of}
+use Rattle.hsr_supervision.specs.declared.payload.SupFault.{SupFault}
 use Rattle.hsr_tables.specs.declared.nodes.NodeRow.{NodeRow}
 use Rattle.hsr_tables.specs.Known.{is_young, known, latest_64, latest_of_each, others, put_first}
-use Rattle.hsr_tables.specs.Nodes.{Hearing, Nodes, RowsOfLatest, heard, is_known, known_row, last_run, latest_on, no_nodes, row_after, row_on}
+use Rattle.hsr_tables.specs.Nodes.{Hearing, Nodes, RowsOfLatest, heard, is_known, known_row, last_run, latest_on, no_nodes, row_after, row_on, heard_if, hearing_if, listened}
 use Rattle.hsr_tables.proofs.Latest.{NoneOf, NoneOf-take, behind_first, fold_stands, none_left, same-equal, same-other, same-refl}
 
 abbrev mac_of : Hearing → List ℕ
@@ -116,3 +118,23 @@ rows_of_latest hearings at =
     let past = reverse hearings in
     ap (λ rows. map (λ r. r.0) (known at rows)) (fold_stands heard HasRows step no_nodes refl hearings)
     ∙ known-map past at (latest_64 mac_of past)
+
+-- a payload that is heard, or not: what the table hears of it, and whether it could be read
+pub listened-if : (told : Bool) (payload : List ℕ) (table : Nodes) (port : RingPort) (at : ℕ)
+    → let after = if told then listened table payload port at else (true, table) in
+    (after.1 ≡ fold heard table (if told then hearing_if port at (read_of payload) else [])) × (not after.0 ≡ (if told then is_err (read_of payload) else false))
+listened-if false payload table port at = (refl, refl)
+listened-if true payload table port at = by_read (read_of payload)
+  where
+    by_read : (said : Result Fields SupFault) → ((heard_if table port at said).1 ≡ fold heard table (hearing_if port at said)) × (not (heard_if table port at said).0 ≡ is_err said)
+    by_read (Ok said) = (refl, refl)
+    by_read (Err fault) = (refl, refl)
+
+-- a table that heard nothing later than this moment, or hears at it, has heard nothing later
+pub listened-last : (told : Bool) (payload : List ℕ) (table : Nodes) (port : RingPort) (at : ℕ) → table.last ≤ at → (if told then listened table payload port at else (true, table)).1.last ≤ at
+listened-last false payload table port at h = h
+listened-last true payload table port at h = by_read (read_of payload)
+  where
+    by_read : (said : Result Fields SupFault) → (heard_if table port at said).1.last ≤ at
+    by_read (Ok said) = omega arith
+    by_read (Err fault) = h

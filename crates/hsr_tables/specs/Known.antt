@@ -10,9 +10,13 @@ others mac_of mac xs = filter (λ x. not (is_same_address (mac_of x) mac)) xs
 abbrev pub put_first : {X : Type 0} → (X → List ℕ) → X → List X → List X
 put_first mac_of x xs = take 64 (x ∷ others mac_of (mac_of x) xs)
 
+-- for how many milliseconds an address is known: the NodeForgetTime and ProxyNodeTableForgetTime of IEC 62439-3 clause 5.8
+abbrev pub node_forget : ℕ
+node_forget = 60000
+
 -- heard less than 60000 milliseconds ago
 abbrev pub is_young : ℕ → ℕ → Bool
-is_young at heard = nat_lt (at - heard) 60000
+is_young at heard = nat_lt (at - heard) node_forget
 
 -- those that aren't forgotten, of what has the moment of its latest hearing beside it
 abbrev pub known : {X : Type 0} → ℕ → List (X × ℕ) → List (X × ℕ)

@@ -24,6 +24,11 @@ pub record Hearing : Type 0 where
   pub port : RingPort
   pub at : ℕ
 
+-- what a payload that could be read tells
+abbrev pub hearing_if : RingPort → ℕ → Result Fields SupFault → List Hearing
+hearing_if x now (Ok said) = record { said = said; port = x; at = now } ∷ []
+hearing_if x now (Err fault) = []
+
 -- ---- a step of the table
 
 -- the row of an address, if it is known
@@ -81,9 +86,12 @@ row_after past h = record {
   heard_b = latest_on B (last_run h.said.about past);
 }
 
+-- the rows of the nodes that are known at a moment: of the 64 addresses with the latest hearings those that aren't forgotten
+abbrev pub rows_known : List Hearing → ℕ → List NodeRow
+rows_known past at = map (row_after past) (filter (λ h. is_young at h.at) (latest_64 (λ h. h.said.about) past))
+
 -- Over any list of hearings a table has the rows of the 64 addresses with the latest hearings, the latest
 -- first, of these the ones that were heard less than 60000 milliseconds ago.
 abbrev pub RowsOfLatest : Type 0
 RowsOfLatest = (hearings : List Hearing) (at : ℕ)
-    → let past = reverse hearings in
-    map (λ r. r.0) (known at (fold heard no_nodes hearings).rows) ≡ map (row_after past) (filter (λ h. is_young at h.at) (latest_64 (λ h. h.said.about) past))
+    → map (λ r. r.0) (known at (fold heard no_nodes hearings).rows) ≡ rows_known (reverse hearings) at

@@ -1,6 +1,8 @@
 -- What octets are: a plain frame, a tagged one, or the first of their faults.
-use Rattle.std.specs.Prelude.{◌≡◌, ◌==◌, ◌/◌, ◌%◌, ℕ, nat_lt, if◌then◌else◌, List, [], ◌∷◌, length, drop, Option, Some, None, Result, ◌⊎◌}
+use Rattle.std.specs.Prelude.{◌≡◌, ◌==◌, ◌/◌, ◌%◌, ℕ, nat_lt, if◌then◌else◌, List, [], ◌∷◌, length, drop, Option, Some, None, Result, ◌⊎◌, ◌&&◌, not, Bool, false, Ok, Err}
 use Rattle.std.specs.Option.{option_or}
+use Rattle.hsr_frame.specs.Address.{is_same_address}
+use Rattle.hsr_frame.specs.Egress.{is_supervision}
 use Rattle.hsr_frame.specs.declared.fault.FrameFault.{FrameFault}
 use Rattle.hsr_frame.specs.declared.fault.FrameFault.TheVariants.{Long, ShortTag, NestedTag, DoubleVlan}
 use Rattle.hsr_frame.specs.Cases.{first_of, unless}
@@ -44,6 +46,18 @@ seen_in f = if f.kind == 0x892F then Tagged (tagged_of f) else Plain f
 -- what octets are: a frame, tagged or not, or the first fault
 unfoldable pub classified : List ℕ → Result Seen FrameFault
 classified octets = unless (frame_fault octets) (seen_in (fields_of octets))
+
+-- a tagged supervision frame of another node
+abbrev pub is_told : List ℕ → Result Seen FrameFault → Bool
+is_told own (Err fault) = false
+is_told own (Ok (Plain frame)) = false
+is_told own (Ok (Tagged frame)) = is_supervision frame.dst frame.kind && not (is_same_address frame.src own)
+
+-- the payload of a tagged frame, and no octets of what is none
+abbrev pub payload_in : Result Seen FrameFault → List ℕ
+payload_in (Err fault) = []
+payload_in (Ok (Plain frame)) = []
+payload_in (Ok (Tagged frame)) = frame.payload
 
 -- what was seen is the frame with these fields
 abbrev pub Sees : Fields → Seen → Type 0

@@ -1,16 +1,14 @@
 -- Words that were written are read.
-use Rattle.std.proofs.Common.{◌≡◌, ℕ, ◌/◌, ◌%◌, ◌^◌, ◌<◌, ◌==◌, ◌&&◌, nat_lt, Option, None, Some, List, [], ◌∷◌, ◌++◌, ◌∙◌, length, slice_index, get_or, refl, sym, ap, subst, rules, arith, cond, Bool, true, false, suc, inl, inr, ◌⊎◌}
+use Rattle.std.proofs.Common.{◌≡◌, ℕ, ◌/◌, ◌^◌, ◌<◌, ◌==◌, ◌&&◌, nat_lt, Option, None, Some, List, [], ◌∷◌, ◌++◌, ◌∙◌, length, slice_index, get_or, refl, sym, ap, subst, arith, cond, Bool, true, false, suc, inl, inr, ◌⊎◌}
 use Rattle.std.proofs.lemmas.Bool.{and_from, and_parts, cases_lt, or_left}
 use Rattle.std.proofs.lemmas.Bool.Decides.{nat_tests}
-use borrow.Author.Tests.{eqb-true}
 use Rattle.std.proofs.lemmas.Fmt.{digits_decimal, digits_value-decimal, first_decimal, decimal_digit}
-use Rattle.std.proofs.lemmas.Str.Parse.{IsNumeralModel, numerals_by_fold}
 use Rattle.std.specs.Str.{all_ascii_digits}
 use Rattle.std.specs.Char.{is_ascii_digit}
 use Rattle.std.specs.Fmt.{decimal}
 use Rattle.std.specs.Result.{result_ok}
-use Rattle.hex.specs.Hex.{encode_upper, encode_with, upper_digits, hex_digit_value, decode_of, IsBytes}
-use Rattle.hex.proofs.HexLemmas.{IsDigits-upper_digits, decode_of-encode_upper}
+use Rattle.hex.specs.Hex.{encode_upper, encode_with, upper_digits, decode_of, IsBytes}
+use Rattle.hex.proofs.HexLemmas.{decode_of-encode_upper}
 use Rattle.hsr_frame.specs.Words.{cut, decimal_of, hex_octets_of, is_decimal, value_on}
 use Rattle.hsr_node.specs.declared.event.Probe.{Probe}
 use Rattle.hsr_link.specs.declared.row.Dir.{Dir}
@@ -19,16 +17,14 @@ use Rattle.hsr_link.specs.declared.row.Fate.{Fate}
 use Rattle.hsr_link.specs.declared.row.Fate.TheVariants.{Queued, Taken, LostDown, LostCut, LostOverrun}
 use Rattle.hsr_link.specs.declared.row.Row.{Row}
 use Rattle.std.proofs.lemmas.Slice.Eq.{bytes_eq-Decides}
+use Rattle.hsr_transcript.proofs.WordTexts.{lacks_word, own, word_octets}
 use Rattle.hsr_transcript.specs.Parsed.{dir_said, fate_said, probe_said, row_of, row_said, turn_of}
 use Rattle.hsr_transcript.specs.Reading.{checked, exactly}
-use Rattle.hsr_transcript.specs.Readable.{IsFinishedRow, IsGone, Lacks}
+use Rattle.hsr_transcript.specs.Readable.{Lacks}
 use Rattle.hsr_transcript.specs.Spelled.{dir_text, fate_text, octets_text, probe_text, row_text}
 use Rattle.hsr_transcript.proofs.CutWords.{cut_word, cut_end, lacks_more}
 
 -- ---- numbers
-
-pub own : IsNumeralModel (λ ds. all_ascii_digits ds ≡ true) (value_on 0)
-own = numerals_by_fold _ (search rules) value_on (search rules)
 
 digits_read : (ds : List ℕ) → all_ascii_digits ds ≡ true → 48 < get_or ds 0 0 → value_on 0 ds < 2 ^ 64 → decimal_of ds ≡ Some (value_on 0 ds)
 digits_read [] d first h = absurd (omega arith)
@@ -57,26 +53,6 @@ lacks_decimal s n h k = lacks_digits s (decimal n) (digits_decimal own n h) k
 
 -- ---- octets
 
-no_space : (c d : ℕ) → hex_digit_value c ≡ Some d → (c == 32) ≡ false
-no_space c d e = go (c == 32) refl
-  where
-    go : (t : Bool) → (c == 32) ≡ t → (c == 32) ≡ false
-    go false t = t
-    go true t =
-        let bad : hex_digit_value 32 ≡ Some d = ap hex_digit_value (sym (eqb-true c 32 t)) ∙ e in
-        cc
-
-lacks_hex : (xs : List ℕ) → IsBytes xs → Lacks 32 (encode_upper xs)
-unfolding encode_with
-lacks_hex [] h = tt
-lacks_hex (b ∷ bs) h =
-    let byte : b < 256 = h 0 in
-    (no_space _ _ (IsDigits-upper_digits (b / 16) (omega arith)), (no_space _ _ (IsDigits-upper_digits (b % 16) (omega arith)), lacks_hex bs (λ i. h (suc i))))
-
-pub lacks_octets : (xs : List ℕ) → IsBytes xs → Lacks 32 (octets_text xs)
-lacks_octets [] h = (refl, tt)
-lacks_octets (b ∷ bs) h = lacks_hex (b ∷ bs) h
-
 never : (t : Bool) (n : ℕ) → (t && (suc n == 0)) ≡ false
 never true n = grind (arith, nat_tests)
 never false n = refl
@@ -88,6 +64,21 @@ octets_again (b ∷ bs) h =
     ap (λ t. cond t (Some []) (result_ok (decode_of (encode_upper (b ∷ bs))))) (never (slice_index upper_digits (b / 16) == 45) (length (encode_with upper_digits bs))) ∙ ap result_ok (decode_of-encode_upper (b ∷ bs) h)
 
 -- ---- rows
+
+-- the fate of a copy that waits no more
+abbrev pub IsGone : Fate → Type 0
+IsGone Queued = ⊥
+IsGone fate = Unit {0}
+
+-- a row of a copy that a node put, which names a send and waits no more; numbers have at most 64 bits
+pub record IsFinishedRow (row : Row) : Type 0 where
+  pub probe : Probe
+  pub named : row.carried.probe ≡ Some probe
+  pub node : probe.node < 2 ^ 64
+  pub place : probe.place < 2 ^ 64
+  pub octets : IsBytes row.carried.octets
+  pub put : row.injected ≡ false
+  pub gone : IsGone row.fate
 
 dir_again : (d : Dir) → (dir_said (dir_text d) ≡ Some d) × Lacks 32 (dir_text d)
 dir_again Forth = (refl, (refl, (refl, (refl, (refl, (refl, tt))))))
@@ -117,7 +108,7 @@ row_again d p octets f node place bytes gone =
     let fate = fate_again f gone in
     let rest = octets_text octets ++ 32 ∷ fate_text f in
     let cut_fate : cut 32 (fate_text f) ≡ (fate_text f, None) = cut_end 32 (fate_text f) fate.1 in
-    let cut_octets : cut 32 (octets_text octets ++ 32 ∷ fate_text f) ≡ (octets_text octets, Some (fate_text f)) = cut_word 32 (octets_text octets) (fate_text f) (lacks_octets octets bytes) in
+    let cut_octets : cut 32 (octets_text octets ++ 32 ∷ fate_text f) ≡ (octets_text octets, Some (fate_text f)) = cut_word 32 (octets_text octets) (fate_text f) (lacks_word 32 (octets_text octets) (omega arith) (word_octets octets bytes)) in
     let cut_probe : cut 32 (probe_text (Some p) ++ 32 ∷ rest) ≡ (probe_text (Some p), Some rest) = cut_word 32 (probe_text (Some p)) rest (probe_lacks p node place) in
     let cut_dir : cut 32 (dir_text d ++ 32 ∷ (probe_text (Some p) ++ 32 ∷ rest)) ≡ (dir_text d, Some (probe_text (Some p) ++ 32 ∷ rest)) = cut_word 32 (dir_text d) (probe_text (Some p) ++ 32 ∷ rest) dir.1 in
     rw (cut_dir, dir.0, cut_probe, probe_again p node place, cut_octets, octets_again octets bytes, cut_fate, fate.0) refl

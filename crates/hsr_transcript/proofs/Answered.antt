@@ -1,5 +1,5 @@
 -- A text is read as the closed run that it is the text of, or isn't read for a reason that it has.
-use Rattle.std.proofs.Common.{◌≡◌, ℕ, suc, ◌+◌, ◌<◌, [], ◌∷◌, ◌∙◌, ◌^◌, List, length, Option, Some, None, Result, Ok, Err, inl, inr, refl, sym, ap, subst, map, IfSome, option_map, Vec, arith}
+use Rattle.std.proofs.Common.{◌≡◌, ℕ, suc, ◌<◌, [], ◌∷◌, ◌∙◌, ◌^◌, List, length, Option, Some, None, Result, Ok, Err, inl, inr, refl, sym, ap, subst, map, IfSome, option_map, Vec}
 use Rattle.std.specs.Global.{Global}
 use Rattle.hsr_node.specs.Kept.{Record}
 use Rattle.hsr_node.specs.declared.entry.Entry.{Entry}
@@ -10,6 +10,7 @@ use Rattle.hsr_audit.specs.Passes.{IsToldBy}
 use Rattle.hsr_audit.specs.Topology.{Topology}
 use Rattle.hsr_audit.specs.Wired.{IsWired}
 use Rattle.hsr_audit.specs.declared.planned.Planned.{Planned}
+use Rattle.hsr_transcript.proofs.Numbered.{entries_from}
 use Rattle.hsr_transcript.specs.Answers.{Answers, AreShort, Closes, Disagreeing, IsReadAs, IsTextOf}
 use Rattle.hsr_transcript.specs.Fits.{Fits}
 use Rattle.hsr_transcript.specs.Form.{form_of}
@@ -17,7 +18,7 @@ use Rattle.hsr_transcript.specs.Judged.{IsRefused, Judged, Standing, Stands, rec
 use Rattle.hsr_transcript.specs.Lines.{text_of}
 use Rattle.hsr_transcript.specs.Order.{IsOrder, OrderTold}
 use Rattle.hsr_transcript.specs.Readable.{AreLines, FitEach}
-use Rattle.hsr_transcript.specs.Replay.{ReplayedAll, records_from}
+use Rattle.hsr_transcript.specs.Replay.{ReplayedAll}
 use Rattle.hsr_transcript.specs.Told.{ToldWhole}
 use Rattle.hsr_transcript.specs.Transcript.{Said, said_lines, said_of}
 use Rattle.hsr_transcript.specs.declared.fault.ReadFault.{ReadFault}
@@ -106,12 +107,6 @@ judged_again capacity (Some text) t NoMemory small ok h = λ f fin fits is. tt
 
 -- ---- closing
 
-entries_again : (n : ℕ) (places : List Place) (records : List (List Entry)) → length records ≡ length places → map (λ (r : Record). r.entries) (records_from n places records) ≡ records
-entries_again n [] [] e = refl
-entries_again n [] (es ∷ records) e = absurd (omega (arith, e))
-entries_again n (place ∷ places) [] e = absurd (omega (arith, e))
-entries_again n (place ∷ places) (es ∷ records) e = ap (λ rs. es ∷ rs) (entries_again (n + 1) places records (omega (arith, e)))
-
 as_long : {X Y : Type 0} (F : X → Y → Type 0) (xs : List X) (ys : List Y) → FitEach F xs ys → length ys ≡ length xs
 as_long F [] [] h = refl
 as_long F [] (y ∷ ys) h = absurd h
@@ -125,7 +120,7 @@ said_again capacity t s rows paired stands same = λ i. record {
   nodes = (ap (λ (x : Topology). x.places) stands.topology) i;
   links = (ap (λ (x : Topology). x.links) stands.topology) i;
   main = stands.plan.nodes i;
-  records = (ap (map (λ (r : Record). r.entries)) stands.records ∙ entries_again 0 t.nodes t.records paired) i;
+  records = (ap (map (λ (r : Record). r.entries)) stands.records ∙ entries_from 0 t.nodes t.records paired) i;
   carried = (same ∙ stands.rows) i;
 }
 

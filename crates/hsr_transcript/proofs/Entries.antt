@@ -10,7 +10,7 @@ use Rattle.hsr_node.specs.declared.place.Place.{Place}
 use Rattle.hsr_transcript.specs.Fits.{IsEntryFit}
 use Rattle.hsr_transcript.specs.Parsed.{below, entry_of, entry_said, event_said, outcome_said}
 use Rattle.hsr_transcript.specs.Readable.{IsSpelled, Lacks}
-use Rattle.hsr_transcript.specs.Roles.{IsEntryOf}
+use Rattle.hsr_transcript.proofs.Roles.{IsEntryOf}
 use Rattle.hsr_transcript.specs.Spelled.{entry_text, event_text, outcome_text, spaced}
 use Rattle.hsr_transcript.proofs.Again.{exactly_again, number_again}
 use Rattle.hsr_transcript.proofs.CutWords.{lacks_more}

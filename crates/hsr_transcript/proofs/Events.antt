@@ -16,7 +16,7 @@ use Rattle.hsr_node.specs.declared.place.Place.{Place}
 use Rattle.hsr_transcript.specs.Fits.{IsEventFit, IsProbeFit, IsSendFit}
 use Rattle.hsr_transcript.specs.Parsed.{arrive_said, below, event_said, port_said, probe_said, send_said, vlan_said}
 use Rattle.hsr_transcript.specs.Readable.{Lacks}
-use Rattle.hsr_transcript.specs.Roles.{IsEventOf, IsPortOf}
+use Rattle.hsr_transcript.proofs.Roles.{IsEventOf, IsPortOf}
 use Rattle.hsr_transcript.specs.Spelled.{about_text, event_text, letter, mac_text, octets_text, probe_text, spaced, vlan_text}
 use Rattle.hsr_transcript.proofs.Addressed.{mac_said, word_mac}
 use Rattle.hsr_transcript.proofs.Again.{octets_again, probe_again}

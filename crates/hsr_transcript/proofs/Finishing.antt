@@ -4,16 +4,18 @@ use Rattle.std.specs.List.{All, AllByRecursion}
 use Rattle.std.specs.Fmt.{decimal}
 use Rattle.hsr_node.specs.declared.place.Place.{Place}
 use Rattle.hsr_node.specs.declared.place.Place.TheVariants.{QuadBox}
+use Rattle.hsr_audit.proofs.Lists.{all_implied}
 use Rattle.hsr_audit.specs.Finished.{Finished, IsFinished}
 use Rattle.hsr_audit.specs.Wired.{HasAddresses, IsJoin}
 use Rattle.hsr_audit.specs.declared.end.End.{End}
 use Rattle.hsr_audit.specs.declared.planned.Planned.{Planned}
+use Rattle.hsr_transcript.proofs.Again.{IsFinishedRow}
 use Rattle.hsr_transcript.specs.Answers.{AreShort, IsTextOf}
 use Rattle.hsr_transcript.specs.Fits.{AreEntriesFit, AreRowsFit, Fits, IsEntryFit, IsPlaceFit}
 use Rattle.hsr_transcript.specs.Form.{form_of}
 use Rattle.hsr_transcript.specs.Parsed.{entry_of, link_of, place_of, row_of, turn_of}
-use Rattle.hsr_transcript.specs.Readable.{FitEach, IsFinishedRow, IsSpelled, Lacks}
-use Rattle.hsr_transcript.specs.Roles.{IsEntryOf}
+use Rattle.hsr_transcript.specs.Readable.{FitEach, IsSpelled, Lacks}
+use Rattle.hsr_transcript.proofs.Roles.{IsEntryOf}
 use Rattle.hsr_transcript.specs.Spelled.{entry_text, link_text, place_text, row_text}
 use Rattle.hsr_transcript.specs.Transcript.{run_text, said_lines, said_of}
 use Rattle.hsr_transcript.proofs.OfFinished.{entries_of_role, rows_finished}
@@ -27,10 +29,6 @@ use Rattle.hsr_transcript.proofs.Texts.{form_again}
 all_two : {A : Type 0} (P Q R : A → Type 0) → ((x : A) → P x → Q x → R x) → (xs : List A) → AllByRecursion P xs → AllByRecursion Q xs → AllByRecursion R xs
 all_two P Q R on [] p q = tt
 all_two P Q R on (x ∷ xs) p q = (on x p.0 q.0, all_two P Q R on xs p.1 q.1)
-
-all_one : {A : Type 0} (P R : A → Type 0) → ((x : A) → P x → R x) → (xs : List A) → AllByRecursion P xs → AllByRecursion R xs
-all_one P R on [] p = tt
-all_one P R on (x ∷ xs) p = (on x p.0, all_one P R on xs p.1)
 
 -- each of a list beside each of another, place by place
 each_at : {X Y : Type 0} (F : X → Y → Type 0) (dx : X) (dy : Y) (xs : List X) (ys : List Y) → length ys ≡ length xs
@@ -87,7 +85,7 @@ carried_section : (f : Finished) → IsFinished f → Fits f → (l : ℕ) → l
 carried_section f fin fits l below =
     let fit : AreRowsFit (slice_index_or f.run.rows l []) = fits.rows l below in
     section_of (codes "carried") row_of row_text (slice_index_or f.run.rows l []) ((refl, (refl, (refl, (refl, (refl, (refl, (refl, tt))))))), (refl, (refl, (refl, (refl, (refl, (refl, (refl, tt)))))))) fit.0
-    (all_one IsFinishedRow (IsSpelled row_of row_text) row_spelled _ (rows_finished f fin fits l below))
+    (all_implied IsFinishedRow (IsSpelled row_of row_text) row_spelled _ (rows_finished f fin fits l below))
 
 -- the lines of a finished run are read again, each by itself
 spelled : (f : Finished) → IsFinished f → Fits f → f.run.capacity < 2 ^ 64 → AreSpelled f.run.capacity (said_of f)

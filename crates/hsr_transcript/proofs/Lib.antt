@@ -4,6 +4,7 @@ pub mod Macs
 pub mod Eaches
 pub mod Replays
 pub mod Orders
+pub mod Nexts
 pub mod ReplayAll
 pub mod CutWords
 pub mod OfKind
@@ -31,3 +32,4 @@ pub mod Finishing
 pub mod Formal
 pub mod Fitting
 pub mod Answered
+pub mod Roles

@@ -12,20 +12,20 @@ use Rattle.hsr_node.specs.declared.event.Event.{Event}
 use Rattle.hsr_node.specs.declared.event.Event.TheVariants.{Send, Supervise, Arrive, Age}
 use Rattle.hsr_node.specs.declared.event.Outcome.{Outcome}
 use Rattle.hsr_node.specs.declared.event.Probe.{Probe}
-use Rattle.hsr_link.specs.Rows.{is_queued, is_same_dir, is_taken}
+use Rattle.hsr_link.specs.Rows.{is_queued, is_same_dir, is_taken, taken_copy}
 use Rattle.hsr_link.specs.declared.row.Dir.{Dir}
 use Rattle.hsr_link.specs.declared.row.Fate.{Fate}
 use Rattle.hsr_link.specs.declared.row.Fate.TheVariants.{Queued, Taken, LostDown, LostCut, LostOverrun}
 use Rattle.hsr_link.specs.declared.row.Row.{Row}
 use Rattle.hsr_audit.specs.Closed.{HasLink, IsClosed, IsSettled}
 use Rattle.hsr_audit.specs.Finished.{Finished, IsFinished}
-use Rattle.hsr_audit.specs.Run.{Run, owner_of, past_of, place_of, record_of, rows_of, taken_copy}
+use Rattle.hsr_audit.specs.Run.{Run, owner_of, past_of, place_of, record_of, rows_of}
 use Rattle.hsr_audit.specs.declared.end.End.{End}
 use Rattle.hsr_audit.proofs.Lists.{all_permutation}
 use Rattle.hsr_audit.proofs.Records.{Answered, OfArrival, each_from_ports, legal_each}
+use Rattle.hsr_transcript.proofs.Again.{IsFinishedRow, IsGone}
 use Rattle.hsr_transcript.specs.Fits.{Fits, IsProbeFit, IsRowFit}
-use Rattle.hsr_transcript.specs.Readable.{IsFinishedRow, IsGone}
-use Rattle.hsr_transcript.specs.Roles.{IsEntryOf, IsEventOf, IsNamed}
+use Rattle.hsr_transcript.proofs.Roles.{IsEntryOf, IsEventOf, IsNamed}
 use Rattle.hsr_transcript.proofs.OfRole.{outcome_of, port_of}
 
 -- ---- copies name a send

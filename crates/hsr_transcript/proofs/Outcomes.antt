@@ -9,7 +9,7 @@ use Rattle.hsr_node.specs.declared.place.Place.{Place}
 use Rattle.hsr_transcript.specs.Fits.{IsOutcomeFit}
 use Rattle.hsr_transcript.specs.Parsed.{below, cause_said, has_octet, judged_said, lived_said, outcome_said, ports_said, sent_said, seq_said, tail_of}
 use Rattle.hsr_transcript.specs.Readable.{Lacks}
-use Rattle.hsr_transcript.specs.Roles.{IsOutcomeOf}
+use Rattle.hsr_transcript.proofs.Roles.{IsOutcomeOf}
 use Rattle.hsr_transcript.specs.Spelled.{cause_text, outcome_text, ports_text, seq_text, up_text}
 use Rattle.hsr_transcript.proofs.CutWords.{lacks_more}
 use Rattle.hsr_transcript.proofs.Events.{cut_first}

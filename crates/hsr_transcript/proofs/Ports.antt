@@ -10,7 +10,7 @@ use Rattle.hsr_node.specs.declared.place.Place.{Place}
 use Rattle.hsr_node.specs.declared.place.Place.TheVariants.{Danh, RedBox, QuadBox, Station}
 use Rattle.hsr_transcript.specs.Parsed.{has_octet, ports_said, tail_of}
 use Rattle.hsr_transcript.specs.Readable.{Lacks}
-use Rattle.hsr_transcript.specs.Roles.{AreExitsOf}
+use Rattle.hsr_transcript.proofs.Roles.{AreExitsOf}
 use Rattle.hsr_transcript.specs.Spelled.{letter, port_text, ports_text, up_text}
 use Rattle.hsr_transcript.proofs.CutWords.{cut_end, cut_word, lacks_more}
 use Rattle.hsr_transcript.proofs.WordTexts.{is_word, lacks_word}

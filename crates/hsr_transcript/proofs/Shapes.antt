@@ -1,9 +1,9 @@
 -- The records and rows of a closed run are its topology's.
-use Rattle.std.proofs.Common.{◌≡◌, ◌⊎◌, inl, inr, ℕ, zero, suc, ◌+◌, ◌<◌, ◌==◌, ◌||◌, Bool, true, false, cond, List, [], ◌∷◌, length, map, get_or, Some, None, Vec, refl, sym, ap, ◌∙◌, subst, arith, ⊎_elim, eq-eqb}
+use Rattle.std.proofs.Common.{◌≡◌, ◌⊎◌, inl, inr, ℕ, zero, suc, ◌+◌, ◌<◌, true, false, cond, List, [], ◌∷◌, length, map, get_or, Some, None, Vec, refl, sym, ap, ◌∙◌, subst, arith, ⊎_elim, eq-eqb}
 use Rattle.std.specs.Global.{Global}
 use Rattle.std.specs.List.{AllByRecursion}
 use Rattle.std.specs.Prelude.{slice_index_or}
-use Rattle.std.proofs.lemmas.Bool.{and_from, or_left}
+use Rattle.std.proofs.lemmas.Bool.{or_left, or_right}
 use Rattle.std.proofs.lemmas.List.{length-map}
 use Rattle.std.proofs.lemmas.List.Elements.{recursion_from_All}
 use Rattle.hsr_node.specs.Flow.{copy_at}
@@ -15,6 +15,7 @@ use Rattle.hsr_node.specs.declared.place.Place.TheVariants.{QuadBox}
 use Rattle.hsr_link.specs.declared.row.Dir.{Dir}
 use Rattle.hsr_link.specs.declared.row.Dir.TheVariants.{Forth, Back}
 use Rattle.hsr_link.specs.declared.row.Row.{Row}
+use Rattle.hsr_audit.proofs.Ends.{end_same}
 use Rattle.hsr_audit.specs.Closed.{IsClosed}
 use Rattle.hsr_audit.specs.Finished.{items_of}
 use Rattle.hsr_audit.specs.Links.{is_end_of, is_same_end, is_used}
@@ -28,18 +29,11 @@ use Rattle.hsr_transcript.proofs.Unlike.{each_at, none_came}
 
 -- ---- where a link leads, it is used
 
-or_right : (x y : Bool) → y ≡ true → (x || y) ≡ true
-or_right true y h = refl
-or_right false y h = h
-
-same_end : (a b : End) → a ≡ b → is_same_end b a ≡ true
-same_end a b e = subst (λ (x : End). is_same_end b x ≡ true) (sym e) (and_from (b.node == b.node) (b.port == b.port) (eq-eqb b.node b.node refl) (eq-eqb b.port b.port refl))
-
 end_of : (places : List Place) (link : List End) (dir : Dir) (end : End) → IsJoin places link → to_end dir link ≡ end → is_end_of end link ≡ true
 end_of places [] dir end join is = absurd join
 end_of places (a ∷ []) dir end join is = absurd join
-end_of places (a ∷ b ∷ []) Forth end join is = or_right (is_same_end end a) (is_end_of end (b ∷ [])) (or_left (is_same_end end b) false (same_end b end is))
-end_of places (a ∷ b ∷ []) Back end join is = or_left (is_same_end end a) (is_end_of end (b ∷ [])) (same_end a end is)
+end_of places (a ∷ b ∷ []) Forth end join is = or_right (is_same_end end a) (is_end_of end (b ∷ [])) (or_left (is_same_end end b) false (end_same end b (sym is)))
+end_of places (a ∷ b ∷ []) Back end join is = or_left (is_same_end end a) (is_end_of end (b ∷ [])) (end_same end a (sym is))
 end_of places (a ∷ b ∷ c ∷ ends) dir end join is = absurd join
 
 used : (places : List Place) (links : List (List End)) (l : ℕ) (dir : Dir) (end : End) → AllByRecursion (IsJoin places) links → l < length links → to_end dir (slice_index_or links l []) ≡ end

@@ -1,11 +1,8 @@
 -- Lines that were written are lines, and are read again: all kinds but entries.
-use Rattle.std.proofs.Common.{◌≡◌, ◌==◌, ◌<◌, ◌≤◌, ◌/◌, ◌%◌, ◌^◌, nat_lt, ℕ, zero, suc, true, false, Bool, List, [], ◌∷◌, ◌++◌, length, map, slice_index_or, Some, None, refl, sym, ap, subst, arith, inl, codes, ◌∙◌}
+use Rattle.std.proofs.Common.{◌≡◌, ◌==◌, ◌<◌, ◌≤◌, ◌^◌, nat_lt, ℕ, zero, suc, true, false, List, [], ◌∷◌, ◌++◌, length, map, slice_index_or, Some, None, refl, sym, ap, subst, arith, inl, codes, ◌∙◌}
 use Rattle.std.specs.Fmt.{decimal}
 use Rattle.std.specs.List.{AllByRecursion}
 use Rattle.std.proofs.lemmas.Bool.Decides.{nat_tests}
-use borrow.Author.Tests.{eqb-true}
-use Rattle.hex.specs.Hex.{encode_upper, encode_with, hex_digit_value, IsBytes}
-use Rattle.hex.proofs.HexLemmas.{IsDigits-upper_digits}
 use Rattle.hsr_frame.specs.Address.{IsAddress}
 use Rattle.hsr_frame.specs.Words.{cut}
 use Rattle.hsr_frame.specs.declared.node.Mode.{Mode}
@@ -21,13 +18,14 @@ use Rattle.hsr_link.specs.declared.row.Row.{Row}
 use Rattle.hsr_audit.specs.Wired.{HasAddresses, IsJoin}
 use Rattle.hsr_audit.specs.Nodes.{ports}
 use Rattle.hsr_audit.specs.declared.end.End.{End}
+use Rattle.hsr_transcript.proofs.WordTexts.{line_end, word_octets}
 use Rattle.hsr_transcript.specs.Fits.{IsPlaceFit}
 use Rattle.hsr_transcript.specs.Form.{only}
 use Rattle.hsr_transcript.specs.Lines.{head}
 use Rattle.hsr_transcript.specs.Parsed.{count_of, end_said, link_of, link_said, mode_said, number_in, place_of, place_said, port_said, row_of, turn_of}
-use Rattle.hsr_transcript.specs.Readable.{IsFinishedRow, IsSpelled, Lacks}
+use Rattle.hsr_transcript.specs.Readable.{IsSpelled, Lacks}
 use Rattle.hsr_transcript.specs.Spelled.{dir_text, end_text, fate_text, letter, link_text, mac_text, mode_text, octets_text, place_text, probe_text, row_text, spaced}
-use Rattle.hsr_transcript.proofs.Again.{exactly_again, lacks_decimal, number_again, row_read, turn_read}
+use Rattle.hsr_transcript.proofs.Again.{IsFinishedRow, exactly_again, lacks_decimal, number_again, row_read, turn_read}
 use Rattle.hsr_transcript.proofs.CutWords.{cut_end, cut_word, lacks_more}
 use Rattle.hsr_transcript.proofs.Addressed.{mac_again, mac_lacks, macs_again}
 
@@ -36,26 +34,6 @@ use Rattle.hsr_transcript.proofs.Addressed.{mac_again, mac_lacks, macs_again}
 pub lacks_spaced : (word : List ℕ) (others : List (List ℕ)) → Lacks 10 word → AllByRecursion (Lacks 10) others → Lacks 10 (spaced word others)
 lacks_spaced word [] h k = h
 lacks_spaced word (next ∷ others) h k = lacks_more 10 word (32 ∷ spaced next others) h (refl, lacks_spaced next others k.0 k.1)
-
-feed_free : (c d : ℕ) → hex_digit_value c ≡ Some d → (c == 10) ≡ false
-feed_free c d e = go (c == 10) refl
-  where
-    go : (t : Bool) → (c == 10) ≡ t → (c == 10) ≡ false
-    go false t = t
-    go true t =
-        let bad : hex_digit_value 10 ≡ Some d = ap hex_digit_value (sym (eqb-true c 10 t)) ∙ e in
-        cc
-
-hex_lacks : (octets : List ℕ) → IsBytes octets → Lacks 10 (encode_upper octets)
-unfolding encode_with
-hex_lacks [] h = tt
-hex_lacks (b ∷ bs) h =
-    let byte : b < 256 = h 0 in
-    (feed_free _ _ (IsDigits-upper_digits (b / 16) (omega arith)), (feed_free _ _ (IsDigits-upper_digits (b % 16) (omega arith)), hex_lacks bs (λ i. h (suc i))))
-
-pub octets_lack : (octets : List ℕ) → IsBytes octets → Lacks 10 (octets_text octets)
-octets_lack [] h = (refl, tt)
-octets_lack (b ∷ bs) h = hex_lacks (b ∷ bs) h
 
 pub decimal_lacks : (n : ℕ) → n < 2 ^ 64 → Lacks 10 (decimal n)
 decimal_lacks n h = lacks_decimal 10 n h (inl (omega arith))
@@ -96,7 +74,7 @@ row_lacks : (row : Row) → IsFinishedRow row → Lacks 10 (row_text row)
 unfolding row_text
 row_lacks row f =
     let probe = subst (λ p. Lacks 10 (probe_text p)) (sym f.named) (probe_lacks f.probe f.node f.place) in
-    lacks_spaced (dir_text row.dir) (probe_text row.carried.probe ∷ octets_text row.carried.octets ∷ fate_text row.fate ∷ []) (dir_lacks row.dir) (probe, (octets_lack row.carried.octets f.octets, (fate_lacks row.fate, tt)))
+    lacks_spaced (dir_text row.dir) (probe_text row.carried.probe ∷ octets_text row.carried.octets ∷ fate_text row.fate ∷ []) (dir_lacks row.dir) (probe, (line_end (octets_text row.carried.octets) (word_octets row.carried.octets f.octets), (fate_lacks row.fate, tt)))
 
 pub row_spelled : (row : Row) → IsFinishedRow row → IsSpelled row_of row_text row
 row_spelled row f = record { read = row_read row f; line = row_lacks row f }

@@ -1,8 +1,9 @@
 -- The octets of words: none of them parts words or lines.
-use Rattle.std.proofs.Common.{◌≡◌, ℕ, ◌/◌, ◌%◌, ◌^◌, ◌<◌, ◌==◌, ◌&&◌, nat_lt, Some, List, [], ◌∷◌, ◌++◌, slice_index, refl, arith, Bool, true, false, suc}
+use Rattle.std.proofs.Common.{◌≡◌, ℕ, ◌/◌, ◌%◌, ◌^◌, ◌<◌, ◌==◌, ◌&&◌, nat_lt, Some, List, [], ◌∷◌, ◌++◌, slice_index, refl, arith, Bool, true, false, suc, rules}
 use Rattle.std.proofs.lemmas.Bool.{and_from, and_left, and_parts}
 use Rattle.std.proofs.lemmas.Bool.Decides.{nat_tests}
 use Rattle.std.proofs.lemmas.Fmt.{digits_decimal}
+use Rattle.std.proofs.lemmas.Str.Parse.{IsNumeralModel, numerals_by_fold}
 use Rattle.std.specs.Prelude.{codes}
 use Rattle.std.specs.Str.{all_ascii_digits, bytes_eq}
 use Rattle.std.specs.Char.{is_ascii_digit}
@@ -11,8 +12,8 @@ use Rattle.hex.specs.Hex.{encode_upper, encode_with, hex_digit_value, upper_digi
 use Rattle.hex.proofs.HexLemmas.{IsDigits-upper_digits}
 use Rattle.hsr_transcript.specs.Readable.{Lacks}
 use Rattle.hsr_transcript.specs.Spelled.{octets_text}
-use Rattle.hsr_transcript.proofs.Again.{own}
 use Rattle.hsr_transcript.proofs.CutWords.{lacks_more}
+use Rattle.hsr_frame.specs.Words.{value_on}
 
 -- each octet is a hyphen or above it
 abbrev pub is_word : List ℕ → Bool
@@ -33,6 +34,9 @@ word_more (x ∷ xs) b h k =
     and_from (nat_lt 44 x) (is_word (xs ++ b)) parts.0 (word_more xs b parts.1 k)
 
 -- ---- numbers
+
+pub own : IsNumeralModel (λ ds. all_ascii_digits ds ≡ true) (value_on 0)
+own = numerals_by_fold _ (search rules) value_on (search rules)
 
 digit_above : (c : ℕ) → is_ascii_digit c ≡ true → nat_lt 44 c ≡ true
 digit_above c h = grind (arith, nat_tests, h)

@@ -25,7 +25,7 @@ use Rattle.hsr_node.specs.declared.place.Place.TheVariants.{Danh, RedBox, QuadBo
 use Rattle.hsr_transcript.specs.Fits.{IsAboutFit, IsNumberFit, IsProbeFit}
 use Rattle.hsr_transcript.specs.Parsed.{about_said, below, cause_said, port_said, seq_said, vlan_said}
 use Rattle.hsr_transcript.specs.Reading.{tested}
-use Rattle.hsr_transcript.specs.Roles.{IsPortOf}
+use Rattle.hsr_transcript.proofs.Roles.{IsPortOf}
 use Rattle.hsr_transcript.specs.Spelled.{about_text, cause_text, letter, mac_text, probe_text, seq_text, vlan_text}
 use Rattle.hsr_transcript.proofs.Addressed.{mac_said, not_own, word_mac}
 use Rattle.hsr_transcript.proofs.Again.{lacks_decimal, number_again}

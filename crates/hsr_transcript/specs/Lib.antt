@@ -14,5 +14,4 @@ pub mod Judged
 pub mod Ready
 pub mod Readable
 pub mod Fits
-pub mod Roles
 pub mod Answers

@@ -4,15 +4,13 @@
 use Rattle.std.specs.Prelude.{ℕ, ◌≡◌, ◌<◌, ◌+◌, List, [], ◌∷◌, length, map, drop, filter_map, slice_index_or, Option, Some, None}
 use Rattle.std.specs.List.{cons_option}
 use Rattle.hsr_node.specs.declared.entry.Entry.{Entry}
-use Rattle.hsr_audit.specs.Finished.{planned_by, planned_for}
+use Rattle.hsr_audit.specs.Finished.{IsPlanOf, planned_by, planned_for}
+use Rattle.hsr_audit.specs.Run.{record_in}
 use Rattle.hsr_audit.specs.declared.planned.Planned.{Planned}
-
-abbrev pub record_in : List (List Entry) → ℕ → List Entry
-record_in records k = slice_index_or records k []
 
 pub record IsOrder (main : List ℕ) (records : List (List Entry)) (plan : List Planned) : Type 0 where
   pub nodes : map (λ p. p.node) plan ≡ main
-  pub each : (k : ℕ) → filter_map (planned_for k) plan ≡ filter_map (planned_by k) (record_in records k)
+  pub each : (k : ℕ) → IsPlanOf plan k (record_in records k)
 
 abbrev pub OrderTold : List ℕ → List (List Entry) → Option (List Planned) → Type 0
 OrderTold main records (Some plan) = IsOrder main records plan

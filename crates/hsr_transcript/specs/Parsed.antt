@@ -28,10 +28,11 @@ use Rattle.hsr_link.specs.declared.row.Dir.TheVariants.{Forth, Back}
 use Rattle.hsr_link.specs.declared.row.Fate.{Fate}
 use Rattle.hsr_link.specs.declared.row.Fate.TheVariants.{Taken, LostDown, LostCut, LostOverrun}
 use Rattle.hsr_link.specs.declared.row.Row.{Row}
+use Rattle.hsr_audit.specs.Nodes.{ports}
 use Rattle.hsr_audit.specs.declared.end.End.{End}
 use Rattle.hsr_transcript.specs.Reading.{exactly, tested}
 use Rattle.hsr_transcript.specs.Lines.{head}
-use Rattle.hsr_transcript.specs.Spelled.{entry_text, letter, letters, link_text, place_text, row_text}
+use Rattle.hsr_transcript.specs.Spelled.{entry_text, letter, link_text, place_text, row_text}
 
 -- ---- words
 
@@ -93,7 +94,7 @@ port_number c = word_of
 -- a port that the place has, by a word that begins with its letter
 abbrev pub port_said : Place → List ℕ → Option ℕ
 port_said place [] = None
-port_said place (c ∷ cs) = tested (λ port. nat_lt port (length (letters place))) (port_number c)
+port_said place (c ∷ cs) = tested (λ port. nat_lt port (ports place)) (port_number c)
 
 -- ---- nodes and links
 
@@ -189,7 +190,7 @@ has_octet c text = list_any (λ b. b == c) text
 
 -- whether the letter of a port that the place has is among these octets
 abbrev pub has_letter : Place → List ℕ → ℕ → Bool
-has_letter place text port = if nat_lt port (length (letters place)) then has_octet (letter place port) text else false
+has_letter place text port = if nat_lt port (ports place) then has_octet (letter place port) text else false
 
 abbrev pub ports_said : Place → List ℕ → List Bool
 ports_said place text = has_letter place text 0 ∷ has_letter place text 1 ∷ has_letter place text 2 ∷ has_letter place text 3 ∷ []

@@ -2,14 +2,9 @@
 --     IsLineOf     a line that is read as the value whose line it is, and is not too long
 --     IsReadable   what is said is read again, line by line
 --     AreLines     and so are the lines that each text has
-use Rattle.std.specs.Prelude.{◌<◌, ◌^◌, ◌≡◌, ◌≤◌, ◌==◌, ℕ, false, List, [], ◌∷◌, length, Option, Some, codes}
+use Rattle.std.specs.Prelude.{◌≡◌, ◌≤◌, ◌==◌, ℕ, false, List, [], ◌∷◌, length, Option, Some, codes}
 use Rattle.std.specs.List.{AllByRecursion}
 use Rattle.std.specs.Fmt.{decimal}
-use Rattle.hex.specs.Hex.{IsBytes}
-use Rattle.hsr_node.specs.declared.event.Probe.{Probe}
-use Rattle.hsr_link.specs.declared.row.Fate.{Fate}
-use Rattle.hsr_link.specs.declared.row.Fate.TheVariants.{Queued}
-use Rattle.hsr_link.specs.declared.row.Row.{Row}
 use Rattle.hsr_transcript.specs.Lines.{head}
 use Rattle.hsr_transcript.specs.Parsed.{count_of, entry_of, link_of, place_of, row_of, turn_of}
 use Rattle.hsr_transcript.specs.Spelled.{entry_text, link_text, place_text, row_text}
@@ -59,20 +54,3 @@ pub record AreLines (capacity : ℕ) (t : Said) : Type 0 where
   pub table : IsFixed (head (codes "table") capacity)
   pub said : IsReadable t
   pub last : IsFixed (codes "end")
-
--- ---- rows
-
--- the fate of a copy that waits no more
-abbrev pub IsGone : Fate → Type 0
-IsGone Queued = ⊥
-IsGone fate = Unit {0}
-
--- a row of a copy that a node put, which names a send and waits no more; numbers have at most 64 bits
-pub record IsFinishedRow (row : Row) : Type 0 where
-  pub probe : Probe
-  pub named : row.carried.probe ≡ Some probe
-  pub node : probe.node < 2 ^ 64
-  pub place : probe.place < 2 ^ 64
-  pub octets : IsBytes row.carried.octets
-  pub put : row.injected ≡ false
-  pub gone : IsGone row.fate

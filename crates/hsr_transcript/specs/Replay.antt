@@ -1,6 +1,7 @@
 -- Records that are replayed.
 --     IsUnlike     the first entry of a record whose outcome isn't what its past answers, and the number of its line
 --     Replayed     what the replay of a record told
+use Rattle.std.specs.List.{AllByRecursion}
 use Rattle.std.specs.Prelude.{ℕ, ◌≡◌, ◌+◌, ◌<◌, Bool, true, false, List, [], ◌∷◌, ◌++◌, length, take, Result, Ok, Err, slice_index_or}
 use Rattle.hsr_node.specs.Kept.{Record, answer_to, owner_of, past_of}
 use Rattle.hsr_node.specs.Record.{IsLegal}
@@ -50,8 +51,7 @@ records_from n (place ∷ places) (entries ∷ records) = record { number = n; p
 
 -- each of some records is what the past of its entries answers
 abbrev pub AreLegal : ℕ → List Record → Type 0
-AreLegal capacity [] = Unit {0}
-AreLegal capacity (r ∷ rs) = IsLegal capacity (owner_of r) (past_of r) × AreLegal capacity rs
+AreLegal capacity rs = AllByRecursion (λ r. IsLegal capacity (owner_of r) (past_of r)) rs
 
 -- The first entry of all records whose outcome isn't what its past answers; the records begin on line `first`, each with its
 -- count.

@@ -15,7 +15,6 @@ mod records;
 mod replay;
 mod rows;
 mod said;
-mod same;
 mod sections;
 mod words;
 mod writing;

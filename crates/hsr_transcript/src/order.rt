@@ -3,21 +3,17 @@ ghost use Rattle.std.specs.Prelude.{◌≡◌, ◌↔◌, ◌<◌, ℕ, [], leng
 ghost use Rattle.hsr_transcript.specs.Order.{IsNext, OrderTold, Turned, left_in};
 ghost use Rattle.hsr_transcript.specs.Items.{entry_items};
 
-use hsr_audit::Planned;
+use hsr_audit::{Planned, next_place};
 use hsr_frame::NoMemory;
 use hsr_node::Entry;
 use std::alloc::Global;
 
 /// The place of the main worker's first entry from a place on.
+#[tactic(auto, using(crate::proofs::Nexts::next_main))]
 fn next_main(entries: &[Entry], from: usize) -> Option<usize>
     ensures { IsNext entries.now from result }
 {
-    for i in from..entries.len() {
-        if entries[i].worker == 0 {
-            return Some(i);
-        }
-    }
-    None
+    next_place(entries, 0, from)
 }
 
 /// Lets a node have its turn: tells its next entry of the main worker, if it has one.

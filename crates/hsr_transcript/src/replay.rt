@@ -8,7 +8,6 @@ ghost use Rattle.hsr_transcript.specs.Lines.{line_count};
 ghost use Rattle.hsr_transcript.specs.Replay.{Again, Replayed, ReplayedAll};
 
 use crate::fault::ReadFault;
-use crate::same::is_same_outcome;
 use hsr_frame::NoMemory;
 use hsr_node::{Entry, Kept, Place, StepFault};
 use std::alloc::Global;
@@ -22,7 +21,7 @@ fn again<const C: usize>(kept: &mut Kept<C>, entry: &Entry) -> Result<bool, NoMe
     let _legal = kept.entries();
     let event = entry.event.copy()?;
     match kept.step(entry.worker, entry.at, event) {
-        Ok(receipt) => Ok(is_same_outcome(&receipt.entry.outcome, &entry.outcome)),
+        Ok(receipt) => Ok(receipt.entry.outcome.is_same(&entry.outcome)),
         Err((_, StepFault::NoMemory)) => Err(NoMemory),
         Err((_, _)) => Ok(false),
     }

@@ -1,5 +1,5 @@
 use Rattle.std.proofs.Common.{◌≡◌}
-use Rattle.hsr_audit.specs.Passes.{IsUpTo}
+use Rattle.hsr_audit.proofs.MainPass.{IsUpTo}
 use Rattle.hsr_audit.proofs.passes.main_pass.Given as goal
 
 abbrev pub invariant-loop-i : goal.invariant-loop-i

@@ -1,9 +1,8 @@
 use Rattle.std.proofs.Common.{◌≡◌, ℕ, List, [], ap, arith, get_or}
 use Rattle.hsr_node.specs.declared.entry.Entry.{Entry}
 use Rattle.hsr_audit.specs.Next.{holds_from}
-use Rattle.hsr_audit.specs.Reached.{IsPassed}
 use Rattle.hsr_audit.proofs.Idle.{below_in}
-use Rattle.hsr_audit.proofs.Reaching.{marked_as, passed_all}
+use Rattle.hsr_audit.proofs.Reaching.{IsPassed, marked_as, passed_all}
 use Rattle.hsr_audit.proofs.reached.mark_record.Goals as goal
 
 pub mark_entry-requires-clause-worker : goal.mark_entry-requires-clause-worker

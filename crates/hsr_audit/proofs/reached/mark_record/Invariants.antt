@@ -1,5 +1,6 @@
 use Rattle.std.proofs.Common.{get_or}
-use Rattle.hsr_audit.specs.Reached.{IsMarked, IsPassed}
+use Rattle.hsr_audit.proofs.Reaching.{IsPassed}
+use Rattle.hsr_audit.specs.Reached.{IsMarked}
 use Rattle.hsr_audit.proofs.reached.mark_record.Given as goal
 
 abbrev pub invariant-loop-place : goal.invariant-loop-place

@@ -1,5 +1,5 @@
 use Rattle.std.specs.Prelude.{MatchOption}
-use Rattle.hsr_audit.specs.Round.{IsOnlyLoss, NoLossBelow}
+use Rattle.hsr_audit.proofs.Losses.{IsOnlyLoss, NoLossBelow}
 use Rattle.hsr_audit.proofs.round.loses_on_one.Given as goal
 
 abbrev pub invariant-loop-l : goal.invariant-loop-l

@@ -1,6 +1,6 @@
 use Rattle.std.proofs.Common.{◌+◌, ◌≤◌, ◌^◌}
 use Rattle.hsr_danh.specs.Machine.{new_machine}
-use Rattle.hsr_bench.specs.Run.{Way}
+use Rattle.hsr_bench.proofs.Turns.{Way}
 use Rattle.hsr_bench.proofs.engine.run.Given as goal
 
 abbrev pub invariant-loop-number : goal.invariant-loop-number

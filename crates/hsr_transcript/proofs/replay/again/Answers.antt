@@ -8,5 +8,5 @@ returns-in-Ok g c =
     let old = c.args.kept.now in
     let entry = c.args.entry.now in
     let answered : answer_to g.row.C old entry.at entry.event ≡ Ok c.in-Ok.receipt.entry.outcome = sym (ap (λ e. answer_to g.row.C old entry.at e) c.in_ok-event.ensures) ∙ c.in-Ok.ensures.answered in
-    again_told g.row.C old c.step.new.self entry c.in-Ok.receipt.entry c.is_same_outcome.result c.entries-legal.ensures.legal c.in-Ok.ensures.kept c.in-Ok.ensures.call.0 c.in-Ok.ensures.call.1
-    (c.in-Ok.ensures.call.2 ∙ c.in_ok-event.ensures) answered c.is_same_outcome.ensures
+    again_told g.row.C old c.step.new.self entry c.in-Ok.receipt.entry c.is_same.result c.entries-legal.ensures.legal c.in-Ok.ensures.kept c.in-Ok.ensures.call.0 c.in-Ok.ensures.call.1
+    (c.in-Ok.ensures.call.2 ∙ c.in_ok-event.ensures) answered c.is_same.ensures

@@ -1,6 +1,6 @@
 use Rattle.std.proofs.Common.{reverse, ap, ◌∙◌}
+use Rattle.hsr_node.specs.Counts.{counters}
 use Rattle.hsr_node.specs.Kept.{Record, past_of}
-use Rattle.hsr_node.specs.Record.{counters}
 use Rattle.hsr_node.proofs.Replayed.{counters-told, told}
 use Rattle.hsr_node.proofs.kept.Kept.counters.Goals as goal
 

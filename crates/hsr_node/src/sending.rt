@@ -1,20 +1,20 @@
-//! The frames that nodes sent of their own.
-ghost use Rattle.std.specs.Prelude.{◌≡◌, ◌↔◌, IsTrue, option_map};
+//! The frames that a node sends of its own.
+ghost use Rattle.std.specs.Prelude.{◌≡◌};
 ghost use Rattle.hsr_node.specs.Copies.{address_at, asked_frame, frame_of, life_frame, life_said, ring_address};
 ghost use Rattle.hsr_node.specs.Flow.{sending_of, sent_by};
-ghost use Rattle.hsr_audit.specs.Origin.{as_sending};
 
+use crate::event::{Event, Outcome};
+use crate::place::Place;
 use hsr_frame::{HSR, Mac, SUPERVISION_TYPE, VLAN, copied};
-use hsr_node::{Entry, Event, Outcome, Place};
 use hsr_redbox::About;
 use hsr_supervision::{SupKind, Supervision};
 use hsr_tag::Frame;
 
-/// A frame of a node's own, and the number that it got.
+/// A send: its plain frame, and the number that it got, if it got one.
 #[derive(Drop)]
-pub(crate) struct Sent {
-    pub(crate) frame: Frame,
-    pub(crate) seq: Option<u16>,
+pub struct Sending {
+    pub frame: Frame,
+    pub seq: Option<u16>,
 }
 
 /// The frame with these fields, where there is one: no group sends it, its type is that of no VLAN or HSR tag, and its
@@ -56,6 +56,20 @@ fn address_at(place: &Place, from: u8) -> Option<Mac>
     }
 }
 
+/// The frame that a send asks for, by its source.
+fn asked_frame(
+    src: Option<Mac>,
+    dst: Mac,
+    vlan: Option<u16>,
+    kind: u16,
+    payload: &[u8],
+) -> Option<Frame>
+    ensures { result ≡ asked_frame src dst vlan kind payload.now }
+{
+    let src = src?;
+    frame_of(src, dst, vlan, kind, payload)
+}
+
 /// What a supervision frame says (IEC 62439-3 clause 5.7): a RedBox names itself where it speaks for a station.
 fn life_said(own: Mac, about: About, life: u16) -> Supervision
     ensures { result ≡ life_said own about life }
@@ -89,42 +103,33 @@ fn life_frame(own: Option<Mac>, about: About, life: u16) -> Option<Frame>
     )
 }
 
-/// The frame that a send asks for.
-fn asked_frame(
-    src: Option<Mac>,
-    dst: Mac,
-    vlan: Option<u16>,
-    kind: u16,
-    payload: &[u8],
-) -> Option<Frame>
-    ensures { result ≡ asked_frame src dst vlan kind payload.now }
-{
-    let src = src?;
-    frame_of(src, dst, vlan, kind, payload)
-}
-
-fn numbered(frame: Option<Frame>, seq: Option<u16>) -> Option<Sent>
-    ensures { option_map as_sending result ≡ sending_of seq frame }
+/// A frame with its number.
+fn sending_of(seq: Option<u16>, frame: Option<Frame>) -> Option<Sending>
+    ensures { result ≡ sending_of seq frame }
 {
     match frame {
-        Some(frame) => Some(Sent { frame, seq }),
+        Some(frame) => Some(Sending { frame, seq }),
         None => None,
     }
 }
 
-/// What an entry sends, if it is a send of the node's own.
-pub(crate) fn sent_by(place: &Place, entry: &Entry) -> Option<Sent>
-    ensures { option_map as_sending result ≡ sent_by place.now entry.now.event entry.now.outcome }
+/// What a node of this place sends of its own in an event with this outcome: the frame of an accepted send, or the
+/// supervision frame (IEC 62439-3 clause 5.7). `None` where the event is an arrival or an ageing, where the outcome isn't
+/// that of such an event, and where there is no such frame: the place has no such address, or it is a group's, the type is
+/// that of a VLAN or HSR tag, or the payload has over 1500 octets.
+pub fn sent_by(place: &Place, event: &Event, outcome: &Outcome) -> Option<Sending>
+    ensures { result ≡ sent_by place.now event.now outcome.now }
 {
-    match &entry.event {
+    match event {
         Event::Send {
             from,
             dst,
             vlan,
             kind,
             payload,
-        } => match entry.outcome {
-            Outcome::Sent { seq, ports: _ } => numbered(
+        } => match outcome {
+            Outcome::Sent { seq, ports: _ } => sending_of(
+                *seq,
                 asked_frame(
                     address_at(place, *from),
                     *dst,
@@ -132,29 +137,17 @@ pub(crate) fn sent_by(place: &Place, entry: &Entry) -> Option<Sent>
                     *kind,
                     payload.as_slice(),
                 ),
-                seq,
             ),
             _ => None,
         },
-        Event::Supervise(about) => match entry.outcome {
+        Event::Supervise(about) => match outcome {
             Outcome::Life {
                 seq,
                 life,
                 ports: _,
-            } => numbered(life_frame(ring_address(place), *about, life), Some(seq)),
+            } => sending_of(Some(*seq), life_frame(ring_address(place), *about, *life)),
             _ => None,
         },
         _ => None,
     }
-}
-
-/// Whether they are one frame.
-pub(crate) fn is_same_frame(a: &Frame, b: &Frame) -> bool
-    ensures { IsTrue result ↔ (a.now ≡ b.now) }
-{
-    a.dst == b.dst
-        && a.src == b.src
-        && a.vlan == b.vlan
-        && a.kind == b.kind
-        && a.payload.as_slice() == b.payload.as_slice()
 }

@@ -1,6 +1,6 @@
 -- What the record of a node tells only of its own ports, and of copies that are of a send.
 --     IsEntryOf   an entry of a node at this place
-use Rattle.std.specs.Prelude.{ℕ, ◌<◌, ◌≡◌, Bool, true, List, length, Option, Some}
+use Rattle.std.specs.Prelude.{ℕ, ◌<◌, ◌≡◌, Bool, true, List, Option, Some}
 use Rattle.hsr_node.specs.Record.{has_port}
 use Rattle.hsr_node.specs.declared.entry.Entry.{Entry}
 use Rattle.hsr_node.specs.declared.event.Event.{Event}
@@ -9,11 +9,11 @@ use Rattle.hsr_node.specs.declared.event.Outcome.{Outcome}
 use Rattle.hsr_node.specs.declared.event.Outcome.TheVariants.{Sent, Life, Judged, Aged}
 use Rattle.hsr_node.specs.declared.event.Probe.{Probe}
 use Rattle.hsr_node.specs.declared.place.Place.{Place}
-use Rattle.hsr_transcript.specs.Spelled.{letters}
+use Rattle.hsr_audit.specs.Nodes.{ports}
 
 -- the place has a port of this number
 abbrev pub IsPortOf : Place → ℕ → Type 0
-IsPortOf place port = port < length (letters place)
+IsPortOf place port = port < ports place
 
 -- nothing leaves by a port that the place hasn't
 abbrev pub AreExitsOf : Place → List Bool → Type 0

@@ -1,0 +1,17 @@
+-- What is done of what the words choose.
+use Rattle.std.specs.Prelude.{ℕ, List, Option}
+use Rattle.hsr_frame.specs.Lines.{lines_of}
+use Rattle.hsr_danh.specs.Machine.{new_machine}
+use Rattle.hsr_bench.specs.Audited.{Audited}
+use Rattle.hsr_bench.specs.Output.{Ended, capacity_of, output}
+use Rattle.hsr_bench.specs.Told.{Told, scenario_of}
+use Rattle.hsr_bench.specs.declared.chosen.Options.{Options}
+use Rattle.hsr_bench.specs.declared.chosen.Options.TheVariants.{Node, Run, Audit}
+use Rattle.hsr_bench.specs.declared.fault.Status.{Status}
+
+-- the lines of a text are answered, or it is run as a scenario, or audited as a transcript; each with tables of the chosen size
+abbrev pub Performs : Options → List ℕ → Option (List ℕ) → Option (List ℕ) → Status → Type 0
+Performs (Node node) text held holds status =
+    Ended held holds (output (capacity_of node.table) (new_machine node.mac node.mode) 1 (lines_of text)) status
+Performs (Run table transcript) text held holds status = Told (capacity_of table) transcript (scenario_of text) held holds status
+Performs (Audit table) text held holds status = Audited (capacity_of table) text held holds status

@@ -1,0 +1,30 @@
+//! What the words choose, done over a reader and a writer.
+ghost use Rattle.std.specs.Prelude.{IfSome};
+ghost use Rattle.hsr_bench.specs.Performing.{Performs};
+
+use crate::audit::audit_run;
+use crate::chosen::Options;
+use crate::engine::node_run;
+use crate::fault::Status;
+use crate::scenario::scenario_run;
+use std::alloc::Global;
+use std::io::{Read, Write};
+
+/// Does what is chosen: answers the lines of a text as one node, runs the scenario that it means, or audits the transcript that it is.
+pub fn perform<R: Read, W: Write>(
+    alloc: Global,
+    reader: &mut R,
+    writer: &mut W,
+    chosen: &Options,
+) -> Status
+    ensures { IfSome (R.remaining reader.old) (λ text.
+        Performs chosen.now text (W.contents writer.old) (W.contents writer.new) result) }
+{
+    match chosen {
+        Options::Node(node) => node_run(alloc, reader, writer, node),
+        Options::Run { table, transcript } => {
+            scenario_run(alloc, reader, writer, *table, *transcript)
+        }
+        Options::Audit { table } => audit_run(alloc, reader, writer, *table),
+    }
+}
