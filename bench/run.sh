@@ -1,6 +1,6 @@
 #!/usr/bin/env bash
-# Measures the program: `run` on a ring of 64 DANHs with 1,000 sends to a group, each drained, and on a ring of 16 with 10,000; on a
-# document of 50,000 steps of the clock; `run --transcript` on the ring of 64 with 250, 500 and 1,000 sends of 125 octets (500: 64,500
+# Measures the program: `run` on a ring of 64 DANHs with 1,000 sends to a group, each drained, and on a ring of 16 with 10,000 and
+# 20,000; on a document of 50,000 steps of the clock; `run --transcript` on the ring of 64 with 250, 500 and 1,000 sends of 125 octets (500: 64,500
 # entries, 41 MB), and `audit` of each text. For each: the last line, processor time, peak memory, and how much was written.
 set -eu
 top=$(cd "$(dirname "${BASH_SOURCE[0]}")/.." && pwd)
@@ -29,8 +29,10 @@ measure() {
 
 ring 64 1000 AABB > "$work/64.toml"
 measure "ring of 64, 1000 sends" "$work/64.toml" "$work/report" run
-ring 16 10000 AABB > "$work/16.toml"
-measure "ring of 16, 10000 sends" "$work/16.toml" "$work/report" run
+for sends in 10000 20000; do
+  ring 16 $sends AABB > "$work/16.toml"
+  measure "ring of 16, $sends sends" "$work/16.toml" "$work/report" run
+done
 { ring 3 0 AABB | sed '/^step/,$d'; awk 'BEGIN { print "step = ["; for (i = 0; i < 50000; i++) printf "  {do=\"clock\", at=%d},\n", i; print "]" }'; } > "$work/clock.toml"
 measure "document of 50,000 steps" "$work/clock.toml" "$work/report" run
 for sends in 250 500 1000; do

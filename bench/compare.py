@@ -1,0 +1,267 @@
+"""Compares the program with model.py, a second implementation: random scenarios by `run`, `run --transcript` and `audit`, and random
+lines by `node`; every octet of what is printed, and the status.
+
+    python3 bench/compare.py [COUNT [SEED]]
+
+COUNT (500) of each, from SEED (1) on. The first difference is shown, with its input, and ends it.
+"""
+import random
+import subprocess
+import sys
+from collections import Counter
+from pathlib import Path
+
+import model
+
+PROGRAM = Path(__file__).resolve().parent.parent / "hsr_bench"
+GROUP = "01-00-5E-00-00-01"
+DRAIN_LIMIT = 20000  # above that the model is too slow, and the scenario is left out
+
+
+def mac(number):
+    return f"02-00-00-00-00-{number:02X}"
+
+
+def digits(chance, octets):
+    return "".join(chance.choice("0123456789ABCDEF") for _ in range(2 * octets))
+
+
+# ---- topologies
+
+
+def danh(chance, name, number):
+    return {"name": name, "role": "danh", "mac": mac(number), "mode": "N" if chance.random() < 0.06 else "H"}
+
+
+def ring_of(names, of_quadbox="BA"):
+    """The ends of a ring's links: from B to the next one's A, and of a QuadBox by its two ports in this ring."""
+    ports = {name: of_quadbox if name[0] == "q" else "BA" for name in names}
+    return [[f"{name}.{ports[name][0]}", f"{after}.{ports[after][1]}"] for name, after in zip(names, names[1:] + names[:1])]
+
+
+def topology(chance):
+    kind = chance.choice(["ring", "ring", "ring", "line", "redbox", "segments", "quadboxes"])
+    if kind in ("ring", "line"):
+        names = [f"n{i}" for i in range(chance.randint(2, 5))]
+        nodes = [danh(chance, name, i + 1 if chance.random() < 0.97 else 1) for i, name in enumerate(names)]
+        links = ring_of(names)[: len(names) - (kind == "line")]
+    elif kind == "quadboxes":
+        boxes = [f"q{i}" for i in range(chance.randint(1, 2))]
+        first, second = ["a0", "a1"], ["c0", "c1"]
+        nodes = [danh(chance, name, i + 1) for i, name in enumerate(first + second)]
+        nodes += [{"name": name, "role": "quadbox"} for name in boxes]
+        links = ring_of(first + boxes) + ring_of(second + boxes, "DC")
+    else:
+        names = [f"n{i}" for i in range(chance.randint(1, 3))]
+        nodes = [danh(chance, name, i + 1) for i, name in enumerate(names)]
+        boxes = ["r0"] if kind == "redbox" else ["r0", "r1"]
+        links = ring_of(boxes[:1] + names + boxes[1:])
+        for i, box in enumerate(boxes):
+            nodes.append({"name": box, "role": "redbox", "mac": mac(9 + i), "mode": chance.choice("HHHN")})
+            macs = [mac(16 + 16 * i + j) for j in range(chance.randint(1, 3))]
+            nodes.append({"name": f"s{i}", "role": "station", "macs": macs})
+            links.append([f"{box}.I", f"s{i}.P"])
+    if chance.random() < 0.1:
+        chance.shuffle(links)
+    return nodes, [{"ends": ends if chance.random() < 0.7 else ends[::-1]} for ends in links]
+
+
+# ---- steps
+
+
+class Steps:
+    """Makes steps that can mostly be done, by playing them in a world of the model; with `is_odd` now and then one that can't."""
+
+    def __init__(self, chance, scenario, capacity):
+        self.chance, self.scenario, self.is_odd = chance, scenario, chance.random() < 0.15
+        self.world = model.World(scenario, capacity)
+        nodes = scenario["node"]
+        macs = [node["mac"] for node in nodes if "mac" in node] + [one for node in nodes for one in node.get("macs", [])]
+        self.macs = macs + [mac(99), model.printed(model.SUPERVISION), GROUP, GROUP]
+
+    def do(self, step):
+        self.scenario["step"].append(step)
+        self.world.step(step, DRAIN_LIMIT)
+
+    def send(self):
+        node = self.chance.choice([node for node in self.scenario["node"] if self.is_odd or node["role"] != "quadbox"])
+        macs = node.get("macs", [node.get("mac")])
+        place = self.chance.randrange(len(macs)) if not self.is_odd else self.chance.choice([0, 0, 0, 1])
+        to = [one for one in self.macs if self.is_odd or one != macs[place]]
+        kinds = [0x0800, 0x0800, 0x88BA, 0x88FB] + ([0x892F, 0x8100] if self.is_odd else [])
+        length = self.chance.choice([0, 1, 2, 3, 46] + ([1500, 1501] if self.is_odd else []))
+        step = {"do": "send", "node": node["name"], "to": self.chance.choice(to), "type": self.chance.choice(kinds)}
+        step["payload"] = digits(self.chance, length)
+        if self.chance.random() < 0.2:
+            step["vlan"] = self.chance.choice([0, 5, 0x6005, 65535])
+        if place:
+            step["from"] = place
+        self.do(step)
+
+    def life(self):
+        node = self.chance.choice(self.scenario["node"])
+        if node["role"] in ("danh", "redbox") or self.is_odd:
+            step = {"do": "life", "node": node["name"]}
+            box = self.world.nodes[self.world.numbers[node["name"]]]
+            about = [one for one in self.macs if box.knows(model.address(one), self.world.at)]
+            if node["role"] == "redbox" and about and self.chance.random() < 0.7:
+                step["about"] = self.chance.choice(about)
+            elif self.is_odd and self.chance.random() < 0.5:
+                step["about"] = self.chance.choice(self.macs)
+            self.do(step)
+
+    def clock(self):
+        later = self.chance.choice([1, 5, 100, 200, 399, 400, 401, -50, 1000, 59999, 60000])
+        self.do({"do": "clock", "at": max(0, self.world.at + later)})
+
+    def age(self):
+        self.do({"do": "age", "node": self.chance.choice(self.scenario["node"])["name"]})
+
+    def cut_or_mend(self):
+        self.do({"do": self.chance.choice(["cut", "mend"]), "link": self.chance.randrange(len(self.world.links))})
+
+    def inject(self):
+        if self.is_odd and self.chance.random() < 0.3:
+            octets = digits(self.chance, self.chance.choice([0, 13, 14, 20, 60, 2048, 2049]))
+            link, dir = self.chance.randrange(len(self.world.links)), self.chance.choice(["forth", "back"])
+            self.do({"do": "inject", "link": link, "dir": dir, "octets": octets})
+
+    def by_hand(self):
+        """A few of the puts, takes and judgements that can be done, in any order."""
+        for _ in range(self.chance.randint(1, 12)):
+            world = self.world
+            can_put = [end for end in world.ends if world.outbox[end] or self.is_odd and self.chance.random() < 0.01]
+            ready = [{"do": "put", "port": self.named(end)} for end in can_put]
+            ready += [{"do": "judge", "port": self.named(end)} for end in world.ends if world.hand[end]]
+            for number, link in enumerate(world.links):
+                for dir in (0, 1):
+                    if link.queues[dir] and (self.is_odd or not world.hand[link.ends[1 - dir]]):
+                        ready.append({"do": "take", "link": number, "dir": ["forth", "back"][dir]})
+            if not ready:
+                return
+            self.do(self.chance.choice(ready))
+
+    def named(self, end):
+        return f"{self.scenario['node'][end[0]]['name']}.{end[1]}"
+
+    def drain(self):
+        self.do({"do": "drain"})
+
+
+def scenario(chance, capacity):
+    nodes, links = topology(chance)
+    made = {"node": nodes, "link": links, "step": []}
+    if chance.random() < 0.3:
+        made["capacity"] = chance.randint(1, 4)
+    steps = Steps(chance, made, capacity)
+    kinds = [steps.send] * 8 + [steps.clock] * 3 + [steps.by_hand] * 3 + [steps.drain] * 2 + [steps.life] * 2
+    kinds += [steps.cut_or_mend] * 2 + [steps.age, steps.inject]
+    try:
+        for _ in range(chance.randint(1, 40)):
+            chance.choice(kinds)()
+        if chance.random() < 0.95:
+            steps.drain()
+    except model.Refused:
+        pass
+    return made
+
+
+def toml(value):
+    if isinstance(value, dict):
+        return "{" + ", ".join(f"{key} = {toml(inner)}" for key, inner in value.items()) + "}"
+    if isinstance(value, list):
+        return "[" + ", ".join(toml(inner) for inner in value) + "]"
+    return f'"{value}"' if isinstance(value, str) else str(value)
+
+
+def document(made):
+    return "".join(f"{key} = {toml(value)}\n" for key, value in made.items())
+
+
+# ---- lines of `node`
+
+
+def frame(chance):
+    """Octets that are mostly a frame."""
+    macs = [model.address(mac(number)) for number in (1, 2, 3, 7)] + [model.address(GROUP), model.SUPERVISION]
+    dst, src = chance.choice(macs), chance.choice(macs[:5])
+    kind = chance.choice([0x0800, 0x0800, 0x0040, 0x88FB, model.VLAN, model.HSR])
+    payload = chance.randbytes(chance.choice([0, 1, 2, 5, 46])) if chance.random() < 0.97 else bytes(chance.choice([1500, 1501, 1506, 1507]))
+    made = model.Frame(dst, src, chance.choice([None, None, None, 5, 0xFFFF]), kind, payload)
+    octets = made.tagged(chance.choice("AB"), chance.choice([0, 1, 7, 65535])) if chance.random() < 0.75 else made.plain()
+    if chance.random() < 0.15:
+        return octets[: chance.randrange(len(octets) + 1)]
+    if chance.random() < 0.1:
+        place = chance.randrange(min(len(octets), 24))
+        return octets[:place] + chance.randbytes(1) + octets[place + 1 :]
+    return octets
+
+
+def node_lines(chance):
+    at, lines = 0, []
+    for _ in range(chance.randint(1, 60)):
+        at = max(0, at + chance.choice([0, 0, 1, 10, 100, 399, 400, -30]))
+        kind = chance.random()
+        if kind < 0.2:
+            payload = chance.randbytes(chance.choice([0, 1, 46])) if chance.random() < 0.95 else bytes(chance.choice([1500, 1501]))
+            to, type4 = chance.choice([mac(2), mac(1), GROUP]), chance.choice([0x0800, 0x0800, 0x88FB, model.VLAN, model.HSR])
+            lines.append(f"send {at} {to} {type4:04X} {model.hexadecimal(payload)}" + chance.choice(["", "", " 0005"]))
+        elif kind < 0.3:
+            lines.append(chance.choice([f"life {at}", f"age {at}"]))
+        else:
+            lines.append(f"arrive {at} {chance.choice('AB')} {model.hexadecimal(frame(chance))}")
+    return lines
+
+
+# ---- comparing
+
+
+def bench(words, given):
+    done = subprocess.run([PROGRAM, *words], input=given, capture_output=True, text=True, timeout=120)
+    return done.returncode, done.stdout, done.stderr
+
+
+def expect(what, words, given, expected):
+    got = bench(words, given)
+    if got == expected:
+        return
+    print(f"{what}: {' '.join(words)}\n--- input\n{given}")
+    for name, (status, printed, fault) in (("the program", got), ("the model", expected)):
+        print(f"--- {name}: status {status}\n{printed}{fault}")
+    sys.exit(1)
+
+
+def compare_scenario(seed):
+    chance = random.Random(seed)
+    capacity = chance.choice([4, 512])
+    table = ["--table", "small" if capacity == 4 else "large"]
+    try:
+        made = scenario(chance, capacity)
+    except model.Unsettled:
+        return "left out"
+    status, report, fault, world = model.run(made, capacity, DRAIN_LIMIT)
+    given = document(made)
+    expect(f"seed {seed}", ["run", *table], given, (status, report, fault))
+    if fault:
+        return fault.rstrip("\n") if "check" in fault else "fault: step .. " + fault.split()[-1]
+    transcript = world.transcript()
+    expect(f"seed {seed}", ["run", "--transcript", *table], given, (status, transcript, ""))
+    expect(f"seed {seed}", ["audit", *table], transcript, (status, report, ""))
+    return " ".join(world.verdict().split()[: 1 if status == 0 else 2])
+
+
+def compare_node(seed):
+    chance = random.Random(seed)
+    mode, capacity, lines = chance.choice("HN"), chance.choice([4, 512]), node_lines(chance)
+    words = ["node", "--mode", mode, "--table", "small" if capacity == 4 else "large"]
+    expect(f"seed {seed}", words, model.text(lines), (0, model.node_run(lines, mode, capacity), ""))
+    return "node"
+
+
+def main():
+    count, first = (int(word) for word in (sys.argv[1:] + ["500", "1"][len(sys.argv) - 1 :]))
+    seen = Counter(compare(seed) for seed in range(first, first + count) for compare in (compare_scenario, compare_node))
+    print(", ".join(f"{how}: {many}" for how, many in sorted(seen.items())))
+
+
+main()

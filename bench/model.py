@@ -1,0 +1,553 @@
+"""A second bench, written from docs/RULES.md alone and in another language, to compare the program with (compare.py does that).
+
+It is plain, not fast and not proved: a node keeps all that it ever noted, and looks through it. Mode H and N, all kinds of nodes.
+"""
+from dataclasses import dataclass, field
+
+SUPERVISION = bytes.fromhex("01154E000100")
+VLAN, HSR, SUPERVISION_TYPE = 0x8100, 0x892F, 0x88FB
+ENTRY_FORGET, PROXY_FORGET, PROXIES = 400, 60000, 64
+PORTS = {"danh": "AB", "redbox": "ABI", "quadbox": "ABCD", "station": "P"}
+CAUSES = ["duplicate", "returned", "foreign", "local", "untagged", "tagged", "malformed"]
+
+
+class Refused(Exception):
+    """A step that is refused, with its word."""
+
+
+class Unsettled(Exception):
+    """A drain that takes more steps than it may."""
+
+
+# ---- addresses and frames
+
+
+def address(text):
+    return bytes(int(pair, 16) for pair in text.split("-"))
+
+
+def printed(mac):
+    return "-".join(f"{octet:02X}" for octet in mac)
+
+
+def is_group(mac):
+    return mac[0] & 1 == 1
+
+
+def word(number):
+    return number.to_bytes(2, "big")
+
+
+def word_at(octets, place):
+    return octets[place] * 256 + octets[place + 1]
+
+
+def hexadecimal(octets):
+    return octets.hex().upper() if octets else "-"
+
+
+@dataclass
+class Frame:
+    """A frame without its HSR tag; `seq` is the number in its tag, if it came with one."""
+
+    dst: bytes
+    src: bytes
+    vlan: int | None
+    kind: int
+    payload: bytes
+    seq: int | None = None
+
+    def head(self):
+        return self.dst + self.src + (b"" if self.vlan is None else word(VLAN) + word(self.vlan))
+
+    def plain(self):
+        return self.head() + word(self.kind) + self.payload
+
+    def tagged(self, port, seq):
+        path = {"A": 0, "B": 1}[port]
+        return self.head() + word(HSR) + word(path << 12 | len(self.payload) + 6) + word(seq) + word(self.kind) + self.payload
+
+    def is_supervision(self):
+        return self.dst == SUPERVISION and self.kind == SUPERVISION_TYPE
+
+
+def read(octets):
+    """The frame that octets are, or the number of the first fault."""
+    if len(octets) < 14:
+        return 1
+    place, vlan = 12, None
+    if word_at(octets, 12) == VLAN:
+        if len(octets) < 18:
+            return 1
+        place, vlan = 16, word_at(octets, 14)
+    dst, src, kind, rest = octets[:6], octets[6:12], word_at(octets, place), octets[place + 2 :]
+    if len(rest) > 1506:
+        return 2
+    if is_group(src):
+        return 3
+    if vlan is not None and kind == VLAN:
+        return 4
+    if kind != HSR:
+        return 2 if len(rest) > 1500 else Frame(dst, src, vlan, kind, rest)
+    if len(rest) < 6:
+        return 5
+    inner = word_at(rest, 4)
+    if inner == HSR:
+        return 6
+    if inner == VLAN:
+        return 4
+    return Frame(dst, src, vlan, inner, rest[6:], word_at(rest, 2))
+
+
+def supervision(own, about, life):
+    """The supervision frame of a node with address `own`, about itself or a station."""
+    said = word(1) + word(life) + bytes([23, 6]) + (about or own) + (bytes([30, 6]) + own if about else b"")
+    return Frame(SUPERVISION, own, None, SUPERVISION_TYPE, said.ljust(46, b"\0"))
+
+
+# ---- nodes
+
+
+@dataclass
+class Answer:
+    """What an event does: its outcome as a transcript spells it, and the copies that leave, by port."""
+
+    outcome: str
+    copies: dict
+
+
+@dataclass
+class Wish:
+    """What is made of an arrival before any table is asked."""
+
+    exits: list = field(default_factory=list)
+    cause: str = ""
+    key: tuple | None = None
+    is_numbered: bool = False
+
+
+class Node:
+    def __init__(self, number, said, capacity):
+        self.number, self.role, self.capacity = number, said["role"], capacity
+        self.mac = address(said["mac"]) if "mac" in said else None
+        self.macs = [address(mac) for mac in said.get("macs", [])]
+        self.mode = said.get("mode", "H")
+        self.moment = self.next = self.lives = self.sent = self.up = self.forwarded = 0
+        self.causes = dict.fromkeys(CAUSES, 0)
+        self.notes = {}  # by way out: (source and number, moment, send), the oldest first
+        self.heard = []  # (address, moment) of stations, the latest last
+        self.record = []
+        self.forgot = self.mistaken = None  # the first place of each
+
+    def spelled(self):
+        said = {"station": [printed(mac) for mac in self.macs], "quadbox": []}
+        return " ".join([self.role] + said.get(self.role, [printed(self.mac or b""), self.mode]))
+
+    # -- what is remembered and known
+
+    def remembered(self, out):
+        youngest = self.notes.get(out, [])[-self.capacity :]
+        return [note for note in youngest if self.moment - note[1] < ENTRY_FORGET]
+
+    def note(self, outs, key, send):
+        for out in outs:
+            self.notes.setdefault(out, []).append((key, self.moment, send))
+
+    def hear(self, mac):
+        self.heard = [(other, at) for other, at in self.heard if other != mac] + [(mac, self.moment)]
+
+    def knows(self, mac, moment):
+        return any(other == mac and moment - at < PROXY_FORGET for other, at in self.heard[-PROXIES:])
+
+    def take_number(self):
+        number, self.next = self.next, (self.next + 1) % 65536
+        return number
+
+    # -- events of its own
+
+    def source(self, place):
+        macs = self.macs if self.role == "station" else [self.mac] if self.mac else []
+        if place >= len(macs):
+            raise Refused("wrong-event")
+        return macs[place]
+
+    def send(self, at, place, dst, vlan, kind, payload):
+        own = self.source(place)
+        if dst == own:
+            raise Refused("self-addressed")
+        if kind in (HSR, VLAN):
+            raise Refused("reserved-type")
+        if len(payload) > 1500:
+            raise Refused("too-long")
+        self.moment, self.sent = max(self.moment, at), self.sent + 1
+        frame = Frame(dst, own, vlan, kind, payload)
+        if self.role == "station" or self.role == "redbox" and self.knows(dst, self.moment):
+            port = PORTS[self.role][-1]
+            return Answer(f"sent - {port}", {port: frame.plain()})
+        ports = PORTS[self.role] if is_group(dst) and not frame.is_supervision() else "AB"
+        return self.numbered("sent {}", frame, ports)
+
+    def life(self, at, about):
+        if self.mac is None or about is not None and self.role == "danh":
+            raise Refused("wrong-event")
+        if about is not None and (about == self.mac or not self.knows(about, max(self.moment, at))):
+            raise Refused("not-proxied")
+        self.moment, life = max(self.moment, at), self.lives % 65536
+        self.lives += 1
+        return self.numbered(f"life {{}} {life}", supervision(self.mac, about, life), "AB")
+
+    def numbered(self, outcome, frame, ports):
+        """A frame of the node's own leaves with the next number, without a look."""
+        seq = self.take_number()
+        self.note(ports, (frame.src, seq), (self.number, len(self.record)))
+        copies = {port: frame.plain() if port == "I" else frame.tagged(port, seq) for port in ports}
+        return Answer(" ".join([outcome.format(seq), *ports]), copies)
+
+    def age(self, at):
+        self.moment = max(self.moment, at)
+        return Answer("aged", {})
+
+    # -- arrivals
+
+    def wish(self, port, frame):
+        if isinstance(frame, int):
+            return Wish(cause="malformed")
+        if self.role == "station":
+            return self.wish_of_station(frame)
+        if self.role == "quadbox":
+            others = [other for other in "ABCD" if other != port]
+            return Wish(others, key=(frame.src, frame.seq)) if frame.seq is not None else Wish(cause="untagged")
+        return self.wish_from_interlink(frame) if port == "I" else self.wish_from_ring(port, frame)
+
+    def wish_of_station(self, frame):
+        if frame.seq is not None:
+            return Wish(cause="tagged")
+        if frame.src in self.macs:
+            return Wish(cause="returned")
+        return Wish(["up"]) if frame.dst in self.macs or is_group(frame.dst) else Wish(cause="foreign")
+
+    def wish_from_interlink(self, frame):
+        if frame.seq is not None:
+            return Wish(cause="tagged")
+        if frame.src == self.mac:
+            return Wish(cause="returned")
+        self.hear(frame.src)
+        if frame.dst == self.mac:
+            return Wish(["up"])
+        if self.knows(frame.dst, self.moment):
+            return Wish(cause="local")
+        return Wish(["up", "A", "B"] if is_group(frame.dst) else ["A", "B"], is_numbered=True)
+
+    def wish_from_ring(self, port, frame):
+        if frame.seq is None:
+            return Wish(cause="untagged")
+        key, onward = (frame.src, frame.seq), {"A": ["B"], "B": ["A"]}[port] if self.mode == "H" else []
+        if frame.src == self.mac:
+            return Wish(cause="returned")
+        if frame.dst == self.mac:
+            return Wish(["up"], key=key)
+        if is_group(frame.dst):
+            interlink = ["I"] if self.role == "redbox" and not frame.is_supervision() else []
+            return Wish(["up"] + interlink + onward, key=key)
+        if self.role == "redbox" and self.knows(frame.dst, self.moment):
+            return Wish(["I"], key=key)
+        return Wish(onward, "foreign", key)
+
+    def judge(self, at, port, octets, send):
+        self.moment = max(self.moment, at)
+        frame = read(octets)
+        wish = self.wish(port, frame)
+        if wish.key:
+            self.doubt(wish, send)
+        seq = self.take_number() if wish.is_numbered else None
+        passed = [out for out in wish.exits if all(note[0] != wish.key for note in self.remembered(out))] if wish.key else wish.exits
+        if wish.key or wish.is_numbered:
+            key = (frame.src, seq) if wish.is_numbered else wish.key
+            self.note(passed + (["I"] if wish.is_numbered else []), key, send)
+        cause = "passed" if passed else "duplicate" if wish.exits else wish.cause
+        return self.judged(frame, octets, passed, cause, seq)
+
+    def judged(self, frame, octets, passed, cause, seq):
+        ports = [port for port in PORTS[self.role] if port in passed]
+        self.up += "up" in passed
+        self.forwarded += len(ports)
+        if cause != "passed":
+            self.causes[cause] += 1
+        copies = {}
+        for port in ports:
+            copies[port] = frame.tagged(port, seq) if seq is not None else frame.plain() if port == "I" else octets
+        words = ["judged", f"malformed-{frame}" if cause == "malformed" else cause, "-" if seq is None else str(seq)]
+        return Answer(" ".join(words + (["up"] if "up" in passed else []) + ports), copies)
+
+    def doubt(self, wish, send):
+        """Notes the first place where something needed is forgotten, and where a number is mistaken."""
+        for out in wish.exits:
+            remembered = self.remembered(out)
+            was_noted = any(note[2] == send for note in self.notes.get(out, []))
+            if self.forgot is None and was_noted and all(note[2] != send for note in remembered):
+                self.forgot = len(self.record)
+            if self.mistaken is None and any(note[0] == wish.key and note[2] != send for note in remembered):
+                self.mistaken = len(self.record)
+
+    def counters(self):
+        dropped = sum(self.causes[cause] for cause in CAUSES[2:])
+        counts = [("sent", self.sent), ("life", self.lives), ("up", self.up), ("forwarded", self.forwarded)]
+        counts += [("duplicate", self.causes["duplicate"]), ("returned", self.causes["returned"]), ("dropped", dropped)]
+        return " ".join(f"{name} {count}" for name, count in counts)
+
+
+# ---- worlds
+
+
+@dataclass
+class Row:
+    """A copy on a link: its direction (0 forth, 1 back), its send, and what became of it (None: it waits)."""
+
+    dir: int
+    send: tuple | None
+    octets: bytes
+    fate: str | None = None
+
+
+@dataclass
+class Link:
+    ends: tuple
+    is_cut: bool = False
+    rows: list = field(default_factory=list)
+    queues: tuple = field(default_factory=lambda: ([], []))
+
+
+class World:
+    def __init__(self, scenario, capacity):
+        self.capacity, self.room = capacity, scenario.get("capacity", 64)
+        self.nodes = [Node(number, said, capacity) for number, said in enumerate(scenario["node"])]
+        self.numbers = {said["name"]: number for number, said in enumerate(scenario["node"])}
+        self.links = [Link(tuple(self.end(end) for end in said["ends"])) for said in scenario["link"]]
+        self.lanes = {link.ends[dir]: (link, dir) for link in self.links for dir in (0, 1)}
+        self.ends = sorted(self.lanes, key=lambda end: (end[0], PORTS[self.nodes[end[0]].role].index(end[1])))
+        self.outbox = {end: [] for end in self.ends}
+        self.hand = dict.fromkeys(self.ends)
+        self.at, self.was_injected, self.main = 0, False, []
+
+    def end(self, text):
+        name, port = text.split(".")
+        return self.numbers[name], port
+
+    def enter(self, worker, number, event, answer):
+        self.nodes[number].record.append((worker, self.at, event, answer.outcome))
+        for port, octets in answer.copies.items():
+            if (number, port) in self.outbox:
+                self.outbox[number, port].append((octets, event.send or (number, len(self.nodes[number].record) - 1)))
+        if worker == 0:
+            self.main.append(number)
+
+    # -- steps
+
+    def step(self, said, limit):
+        getattr(self, "do_" + said["do"])(said) if said["do"] != "drain" else self.drain(limit)
+
+    def do_clock(self, said):
+        self.at = said["at"]
+
+    def do_send(self, said):
+        number, place, vlan = self.numbers[said["node"]], said.get("from", 0), said.get("vlan")
+        dst, payload = address(said["to"]), bytes.fromhex(said.get("payload", ""))
+        answer = self.nodes[number].send(self.at, place, dst, vlan, said["type"], payload)
+        tag = "-" if vlan is None else f"{vlan:04X}"
+        self.enter(0, number, Event(f"send {place} {printed(dst)} {tag} {said['type']:04X} {hexadecimal(payload)}"), answer)
+
+    def do_life(self, said):
+        number, about = self.numbers[said["node"]], address(said["about"]) if "about" in said else None
+        answer = self.nodes[number].life(self.at, about)
+        self.enter(0, number, Event("life " + (printed(about) if about else "own")), answer)
+
+    def do_age(self, said):
+        number = self.numbers[said["node"]]
+        self.enter(0, number, Event("age"), self.nodes[number].age(self.at))
+
+    def do_put(self, said):
+        self.put(self.end(said["port"]))
+
+    def do_judge(self, said):
+        self.judge(self.end(said["port"]))
+
+    def do_take(self, said):
+        self.take(self.links[said["link"]], ["forth", "back"].index(said["dir"]))
+
+    def do_cut(self, said):
+        link = self.links[said["link"]]
+        link.is_cut = True
+        for queue in link.queues:
+            for row in queue:
+                row.fate = "cut"
+            queue.clear()
+
+    def do_mend(self, said):
+        self.links[said["link"]].is_cut = False
+
+    def do_inject(self, said):
+        octets = bytes.fromhex(said["octets"])
+        if len(octets) > 2048:
+            raise Refused("too-long")
+        self.was_injected = True
+        self.carry(self.links[said["link"]], ["forth", "back"].index(said["dir"]), octets, None)
+
+    def carry(self, link, dir, octets, send):
+        row = Row(dir, send, octets)
+        link.rows.append(row)
+        if link.is_cut:
+            row.fate = "down"
+        elif len(link.queues[dir]) >= self.room:
+            row.fate = "overrun"
+        else:
+            link.queues[dir].append(row)
+
+    def put(self, end):
+        if not self.outbox[end]:
+            raise Refused("nothing")
+        self.carry(*self.lanes[end], *self.outbox[end].pop(0))
+
+    def take(self, link, dir):
+        end = link.ends[1 - dir]
+        if self.hand[end]:
+            raise Refused("busy")
+        if not link.queues[dir]:
+            raise Refused("nothing")
+        row = link.queues[dir].pop(0)
+        row.fate, self.hand[end] = "taken", row
+
+    def judge(self, end):
+        if not self.hand[end]:
+            raise Refused("nothing")
+        (number, port), row = end, self.hand[end]
+        answer = self.nodes[number].judge(self.at, port, row.octets, row.send)
+        self.hand[end] = None
+        worker = 1 + 8 * number + PORTS[self.nodes[number].role].index(port)
+        self.enter(worker, number, Event(f"arrive {port} {named(row.send)} {hexadecimal(row.octets)}", row.send), answer)
+
+    def next(self):
+        """What a drain does next."""
+        for todo, step in ((self.hand, self.judge), (self.outbox, self.put)):
+            for end in self.ends:
+                if todo[end]:
+                    return lambda: step(end)
+        waiting = ((link, dir) for link in self.links for dir in (0, 1) if link.queues[dir])
+        lane = next(waiting, None)
+        return lane and (lambda: self.take(*lane))
+
+    def drain(self, limit):
+        while step := self.next():
+            if limit == 0:
+                raise Unsettled
+            limit -= 1
+            step()
+
+    # -- the end
+
+    def cause(self):
+        """Why the world can't be closed: the number of the first cause, or None."""
+        waits = [any(self.outbox.values()), any(self.hand.values()), self.was_injected, any(any(link.queues) for link in self.links)]
+        return waits.index(True) + 1 if True in waits else None
+
+    def is_ring(self):
+        count = len(self.nodes)
+        joined = all(set(link.ends) == {(i, "B"), ((i + 1) % count, "A")} for i, link in enumerate(self.links))
+        return count >= 2 and len(self.links) == count and joined and all(node.role == "danh" for node in self.nodes)
+
+    def verdict(self):
+        if not self.is_ring():
+            return "doubt not-ring"
+        if any(node.mode != "H" for node in self.nodes):
+            return "doubt mode"
+        if len({node.mac for node in self.nodes}) < len(self.nodes):
+            return "doubt same-address"
+        if sum(any(row.fate != "taken" for row in link.rows) for link in self.links) > 1:
+            return "doubt two-links"
+        for what in ("forgot", "mistaken"):
+            for node in self.nodes:
+                if getattr(node, what) is not None:
+                    return f"doubt {what} {node.number} {getattr(node, what)}"
+        return f"certified {sum(node.sent + node.lives for node in self.nodes)}"
+
+    def report(self):
+        lines = [f"bench 1 table {self.capacity} nodes {len(self.nodes)} links {len(self.links)}"]
+        lines += [f"node {node.number} {node.role} {node.counters()}" for node in self.nodes]
+        for number, link in enumerate(self.links):
+            taken = sum(row.fate == "taken" for row in link.rows)
+            lines.append(f"link {number} put {len(link.rows)} taken {taken} lost {len(link.rows) - taken}")
+        return text(lines + [self.verdict()])
+
+    def transcript(self):
+        lines = ["hsr-bench 1", f"table {self.capacity}", f"nodes {len(self.nodes)}"]
+        lines += [node.spelled() for node in self.nodes] + [f"links {len(self.links)}"]
+        lines += [" ".join(f"{number}.{port}" for number, port in link.ends) for link in self.links]
+        lines += [f"main {len(self.main)}"] + [str(number) for number in self.main]
+        for node in self.nodes:
+            lines.append(f"record {len(node.record)}")
+            lines += [f"{worker} {at} {event.text} = {outcome}" for worker, at, event, outcome in node.record]
+        for link in self.links:
+            lines.append(f"carried {len(link.rows)}")
+            lines += [f"{['forth', 'back'][row.dir]} {named(row.send)} {hexadecimal(row.octets)} {row.fate}" for row in link.rows]
+        return text(lines + ["end"])
+
+
+@dataclass
+class Event:
+    """An event as a transcript spells it, and the send of what arrived."""
+
+    text: str
+    send: tuple | None = None
+
+
+def named(send):
+    return "{}:{}".format(*send) if send else "-"
+
+
+def text(lines):
+    return "".join(line + "\n" for line in lines)
+
+
+def run(scenario, capacity, limit):
+    """The status, what is printed and what goes to standard error, and the world at the end."""
+    world = World(scenario, capacity)
+    for place, said in enumerate(scenario["step"]):
+        try:
+            world.step(said, limit)
+        except Refused as refused:
+            return 1, "", f"fault: step {place} {refused}\n", world
+    if cause := world.cause():
+        return 1, "", f"fault: check {cause}\n", world
+    return 0 if world.verdict().startswith("certified") else 2, world.report(), "", world
+
+
+# ---- the command `node`
+
+
+def answered(node, line):
+    """The lines that answer a line of `node`."""
+    words = line.split(" ")
+    at = int(words[1]) if len(words) > 1 else 0
+    try:
+        if words[0] == "send":
+            payload = b"" if words[4] == "-" else bytes.fromhex(words[4])
+            answer = node.send(at, 0, address(words[2]), int(words[5], 16) if len(words) > 5 else None, int(words[3], 16), payload)
+        elif words[0] == "life":
+            answer = node.life(at, None)
+        elif words[0] == "age":
+            return [node.age(at).outcome]
+        else:
+            return judgement(node, at, words[2], b"" if words[3] == "-" else bytes.fromhex(words[3]))
+    except Refused as refused:
+        return [f"refused {['self-addressed', 'reserved-type', 'spent', 'too-long'].index(str(refused)) + 1}"]
+    return [answer.outcome.removesuffix(" A B")] + [f"{port} {hexadecimal(octets)}" for port, octets in answer.copies.items()]
+
+
+def judgement(node, at, port, octets):
+    cause, _, *outs = node.judge(at, port, octets, object()).outcome.split(" ")[1:]
+    up = ["up " + hexadecimal(read(octets).plain())] if "up" in outs else []
+    return [" ".join([cause.replace("-", " "), *outs])] + up
+
+
+def node_run(lines, mode, capacity):
+    node = Node(0, {"role": "danh", "mac": "02-00-00-00-00-01", "mode": mode}, capacity)
+    return text([line for asked in lines for line in answered(node, asked)] + [node.counters()])
