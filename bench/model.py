@@ -1,4 +1,4 @@
-"""A second bench, written from docs/RULES.md alone and in another language, to compare the program with (compare.py does that).
+"""A second bench, written after docs/RULES.md and in another language, to compare the program with (compare.py does that).
 
 It is plain, not fast and not proved: a node keeps all that it ever noted, and looks through it. Mode H and N, all kinds of nodes.
 """
