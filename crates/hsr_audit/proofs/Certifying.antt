@@ -11,9 +11,9 @@ use Rattle.hsr_node.specs.declared.event.Probe.{Probe}
 use Rattle.hsr_node.specs.declared.place.Place.TheVariants.{Danh}
 use Rattle.hsr_audit.specs.Certificate.{certified_as, certified_in}
 use Rattle.hsr_audit.specs.Listed.{certified_to, dst_of, frame_to, is_for, listed_at, listed_below, listed_by, receivers_below, sent_to}
-use Rattle.hsr_audit.specs.Once.{is_addressed}
-use Rattle.hsr_audit.specs.Run.{Run, past_of}
-use Rattle.hsr_audit.specs.Premises.{mac_at}
+use Rattle.hsr_law.specs.Once.{is_addressed}
+use Rattle.hsr_law.specs.Run.{Run, past_of}
+use Rattle.hsr_law.specs.Premises.{mac_at}
 use Rattle.hsr_audit.proofs.Logging.{past_length, past_more}
 
 -- ---- receivers

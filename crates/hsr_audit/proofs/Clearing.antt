@@ -12,15 +12,15 @@ use Rattle.hsr_audit.specs.declared.doubt.AuditFault.TheVariants.{Doubt, NoMemor
 use Rattle.hsr_audit.specs.declared.doubt.Doubt as doubts
 use Rattle.hsr_audit.specs.declared.doubt.Doubt.TheVariants as doubt
 use Rattle.hsr_audit.specs.Certificate.{Certified, IsCertified, certified_below, certified_in}
-use Rattle.hsr_audit.specs.Closed.{IsClosed}
+use Rattle.hsr_law.specs.Closed.{IsClosed}
 use Rattle.hsr_audit.specs.Listed.{listed_below}
-use Rattle.hsr_audit.specs.Once.{ExactlyOnce}
+use Rattle.hsr_law.specs.Once.{ExactlyOnce}
 use Rattle.hsr_audit.specs.Round.{IsClear, IsOwnRing}
-use Rattle.hsr_audit.specs.Wired.{IsWired}
+use Rattle.hsr_topology.specs.Wired.{IsWired}
 use Rattle.std.proofs.lemmas.List.{length-map}
 use Rattle.hsr_audit.specs.Logged.{ClearBelow, IsDoubt, IsFirstPlace, at_node, forgets, forgets_in, log_at, mistakes, mistakes_in, reading}
-use Rattle.hsr_audit.specs.Premises.{KnowsOwn, NothingForgotten, NothingMistaken, OneLossyLink, IsRing, Remembers, mac_at}
-use Rattle.hsr_audit.specs.Run.{Run, owner_of, past_of, place_of, record_of}
+use Rattle.hsr_law.specs.Premises.{KnowsOwn, NothingForgotten, NothingMistaken, OneLossyLink, IsRing, Remembers, mac_at}
+use Rattle.hsr_law.specs.Run.{Run, owner_of, past_of, place_of, record_of}
 use Rattle.hsr_audit.proofs.Doubting.{no_entry}
 use Rattle.hsr_audit.proofs.Judging.{forgets_on, forgotten, knows_own, mistaken, mistakes_on, remembers}
 use Rattle.hsr_audit.proofs.Logging.{past_length, past_more}

@@ -6,7 +6,7 @@ use Rattle.hsr_node.specs.declared.entry.Entry.{Entry}
 use Rattle.hsr_node.specs.declared.event.Event.TheVariants.{Age}
 use Rattle.hsr_node.specs.declared.event.Outcome.TheVariants.{Aged}
 use Rattle.hsr_audit.specs.Logged.{at_node, ClearBelow, IsFirstOf, IsFirstPlace, IsFound, NoneBelow, Test, forgets, mistaken_after, mistakes}
-use Rattle.hsr_audit.specs.Run.{Run, record_of}
+use Rattle.hsr_law.specs.Run.{Run, record_of}
 use Rattle.hsr_audit.specs.declared.found.Found.{Found}
 use Rattle.hsr_audit.specs.declared.found.Found.TheVariants.{Nothing, Forgotten, Mistaken}
 

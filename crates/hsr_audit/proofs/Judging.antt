@@ -31,7 +31,7 @@ use Rattle.hsr_node.specs.declared.event.Event.TheVariants.{Send, Supervise, Arr
 use Rattle.hsr_node.specs.declared.event.Probe.{Probe}
 use Rattle.hsr_node.specs.declared.place.Place.TheVariants.{Danh}
 use Rattle.hsr_audit.specs.Logged.{Log, exits_of, exits_wanted, forgets_in, is_gone, is_mixed_up, logged, logged_after, mistakes_in, noted_after, one_of, reading}
-use Rattle.hsr_audit.specs.Premises.{KnowsOwn, Remembers, is_mistaken, is_note_of, is_on_ring}
+use Rattle.hsr_law.specs.Premises.{KnowsOwn, Remembers, is_mistaken, is_note_of, is_on_ring}
 
 -- ---- egresses of a DANH
 

@@ -8,7 +8,7 @@ use Rattle.std.proofs.Math.Seq.{take-append_seam}
 use Rattle.hsr_tables.proofs.Latest.{any-filter}
 use Rattle.hsr_node.specs.Record.{Noted, remembered}
 use Rattle.hsr_node.specs.declared.entry.Entry.{Entry}
-use Rattle.hsr_audit.specs.Premises.{is_note_of}
+use Rattle.hsr_law.specs.Premises.{is_note_of}
 use Rattle.hsr_audit.specs.Logged.{is_young, log_at, logged, logged_after, reading_at, youngest}
 
 -- an order doesn't matter where one is looked for

@@ -6,8 +6,8 @@ use Rattle.std.proofs.lemmas.Bool.{false≢true}
 use Rattle.hsr_node.specs.Record.{Noted, remembered}
 use Rattle.hsr_node.specs.declared.event.Probe.{Probe}
 use Rattle.hsr_audit.specs.Logged.{AreNamed, is_gone}
-use Rattle.hsr_audit.specs.Premises.{is_note_of}
-use Rattle.hsr_audit.specs.Run.{is_same_send}
+use Rattle.hsr_law.specs.Premises.{is_note_of}
+use Rattle.hsr_law.specs.Run.{is_same_send}
 use Rattle.hsr_audit.proofs.Logging.{any_reversed}
 
 -- more sends name the same notes

@@ -6,20 +6,20 @@ use Rattle.hsr_frame.specs.declared.node.Mode.TheVariants.{H, N}
 use Rattle.hsr_link.specs.declared.row.Dir.TheVariants.{Forth, Back}
 use Rattle.hsr_node.specs.declared.place.Place.{Place}
 use Rattle.hsr_node.specs.declared.place.Place.TheVariants.{Danh, RedBox, QuadBox, Station}
-use Rattle.hsr_audit.proofs.Ends.{end_is, end_same}
-use Rattle.hsr_audit.proofs.Faults.{no_group}
+use Rattle.hsr_topology.proofs.Ends.{end_is, end_same}
+use Rattle.hsr_topology.proofs.Faults.{no_group}
 use Rattle.hsr_audit.specs.Doubts.{AreInModeH, HaveOwnAddresses, IsDanhRing, is_danh, is_in_mode_h, mac_of, macs_of}
-use Rattle.hsr_audit.specs.Links.{is_same_end}
-use Rattle.hsr_audit.specs.Premises.{IsRing, Joins, mac_at}
+use Rattle.hsr_topology.specs.Links.{is_same_end}
+use Rattle.hsr_law.specs.Premises.{IsRing, Joins, mac_at}
 use Rattle.hsr_audit.specs.Round.{DifferBelow, IsRound, address_of, is_again, is_joint, is_joint_of}
-use Rattle.hsr_audit.specs.Run.{Run, ends_of, from_end, place_of}
-use Rattle.hsr_audit.specs.declared.end.End.{End}
+use Rattle.hsr_law.specs.Run.{Run, ends_of, from_end, place_of}
+use Rattle.hsr_topology.specs.declared.end.End.{End}
 use Rattle.std.proofs.lemmas.List.{length-map}
 use Rattle.std.proofs.lemmas.List.Elements.{All-get_or}
 use Rattle.hsr_frame.specs.Address.{is_same_address}
 use Rattle.hsr_node.specs.Place.{HasOwnAddress}
-use Rattle.hsr_audit.specs.Wired.{IsWired}
-use Rattle.hsr_audit.proofs.Same.{address_same, same_address}
+use Rattle.hsr_topology.specs.Wired.{IsWired}
+use Rattle.hsr_law.proofs.Same.{address_same, same_address}
 
 -- ---- lists
 

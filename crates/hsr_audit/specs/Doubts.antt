@@ -8,8 +8,8 @@ use Rattle.hsr_node.specs.Record.{now}
 use Rattle.hsr_node.specs.declared.entry.Entry.{Entry}
 use Rattle.hsr_node.specs.declared.place.Place.{Place}
 use Rattle.hsr_node.specs.declared.place.Place.TheVariants.{Danh, RedBox, QuadBox, Station}
-use Rattle.hsr_audit.specs.Premises.{IsRing, Joins, KnowsOwn, NothingForgotten, NothingMistaken, OneLossyLink, Remembers}
-use Rattle.hsr_audit.specs.Run.{Run, ends_of, owner_of, place_of, record_of}
+use Rattle.hsr_law.specs.Premises.{IsRing, Joins, KnowsOwn, NothingForgotten, NothingMistaken, OneLossyLink, Remembers}
+use Rattle.hsr_law.specs.Run.{Run, ends_of, owner_of, place_of, record_of}
 use Rattle.hsr_audit.specs.declared.doubt.AuditFault.{AuditFault}
 use Rattle.hsr_audit.specs.declared.doubt.AuditFault.TheVariants.{Doubt, NoMemory}
 use Rattle.hsr_audit.specs.declared.doubt.Doubt as doubts

@@ -10,9 +10,9 @@ use Rattle.hsr_node.specs.declared.entry.Entry.{Entry}
 use Rattle.hsr_node.specs.declared.event.Probe.{Probe}
 use Rattle.hsr_node.specs.declared.place.Place.TheVariants.{Danh}
 use Rattle.hsr_audit.specs.Certificate.{Certified, certified_in, receivers}
-use Rattle.hsr_audit.specs.Once.{is_addressed}
-use Rattle.hsr_audit.specs.Premises.{mac_at}
-use Rattle.hsr_audit.specs.Run.{Run, past_of}
+use Rattle.hsr_law.specs.Once.{is_addressed}
+use Rattle.hsr_law.specs.Premises.{mac_at}
+use Rattle.hsr_law.specs.Run.{Run, past_of}
 
 -- a frame of which the destination alone counts
 abbrev pub frame_to : List ℕ → Fields

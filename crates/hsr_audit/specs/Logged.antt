@@ -23,8 +23,8 @@ use Rattle.hsr_node.specs.declared.event.Outcome.{Outcome}
 use Rattle.hsr_node.specs.declared.event.Outcome.TheVariants.{Judged}
 use Rattle.hsr_node.specs.declared.event.Probe.{Probe}
 use Rattle.hsr_node.specs.declared.place.Place.TheVariants.{Danh}
-use Rattle.hsr_audit.specs.Premises.{is_mistaken, is_note_of, mac_at}
-use Rattle.hsr_audit.specs.Run.{Run, record_of}
+use Rattle.hsr_law.specs.Premises.{is_mistaken, is_note_of, mac_at}
+use Rattle.hsr_law.specs.Run.{Run, record_of}
 use Rattle.hsr_audit.specs.declared.doubt.Doubt.{Doubt}
 use Rattle.hsr_audit.specs.declared.doubt.Doubt.TheVariants as doubt
 use Rattle.hsr_audit.specs.declared.found.Found.{Found}

@@ -1,9 +1,9 @@
 use crate::certificate::{Certified, list_record};
-use crate::end::End;
 use crate::found::{Found, found_in};
 use crate::round::{are_different, are_in_mode_h, is_round};
 use hsr_frame::{Cause, Mac, Mode};
 use hsr_node::{Carried, Entry, Event, Octets, Outcome, Place, Probe};
+use hsr_topology::End;
 use std::test::Fail;
 
 /// The address of a node that ends in this octet.

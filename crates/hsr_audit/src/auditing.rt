@@ -2,17 +2,17 @@
 ghost use Rattle.std.specs.Prelude.{◌≡◌, length, IfErr, IfOk};
 ghost use Rattle.hsr_audit.specs.Certificate.{IsCertified};
 ghost use Rattle.hsr_audit.specs.Doubts.{IsFirstFault, IsRefused};
-ghost use Rattle.hsr_audit.specs.Finished.{IsFinished};
+ghost use Rattle.hsr_closing.specs.Finished.{IsFinished};
 ghost use Rattle.hsr_audit.specs.Listed.{listed_below};
 ghost use Rattle.hsr_audit.specs.Round.{IsClear, IsOwnRing};
 
 use crate::certificate::{Certificate, Certified, list_record};
-use crate::closed::Closed;
 use crate::doubt::{AuditFault, Doubt};
 use crate::doubted::record_doubt;
-use crate::law::exactly_once;
 use crate::round::{addresses, are_different, are_in_mode_h, is_round, loses_on_one};
+use hsr_closing::Closed;
 use hsr_frame::{Mac, NoMemory};
+use hsr_law::exactly_once;
 use std::alloc::Global;
 
 /// The addresses round the ring, or the first doubt that the nodes and links give.

@@ -2,9 +2,9 @@
 ghost use Rattle.std.specs.Prelude.{◌≡◌, length, IfOk};
 ghost use Rattle.hsr_audit.specs.Logged.{IsDoubt, mistaken_after};
 
-use crate::closed::Closed;
 use crate::doubt::Doubt;
 use crate::found::{Found, found_in};
+use hsr_closing::Closed;
 use hsr_frame::{Mac, NoMemory};
 use std::alloc::Global;
 

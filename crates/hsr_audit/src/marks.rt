@@ -4,8 +4,8 @@ ghost use Rattle.std.specs.List.{list_any};
 ghost use Rattle.hsr_node.specs.Record.{remembered};
 ghost use Rattle.hsr_audit.specs.Logged.{has_send, is_young, youngest};
 ghost use Rattle.hsr_node.specs.declared.event.Probe.{Probe};
-ghost use Rattle.hsr_audit.specs.Premises.{is_mistaken, is_note_of};
-ghost use Rattle.hsr_audit.specs.Run.{is_same_send};
+ghost use Rattle.hsr_law.specs.Premises.{is_mistaken, is_note_of};
+ghost use Rattle.hsr_law.specs.Run.{is_same_send};
 
 use hsr_duptable::{ENTRY_FORGET, Key};
 use hsr_frame::NoMemory;

@@ -2,14 +2,14 @@
 ghost use Rattle.std.specs.Prelude.{◌≡◌, ◌↔◌, ◌<◌, [], ◌++◌, filter_map, length, IfOk, IsTrue, OnOk};
 ghost use Rattle.std.specs.List.{cons_option, list_all};
 ghost use Rattle.hsr_audit.specs.Doubts.{is_danh, is_in_mode_h};
-ghost use Rattle.hsr_audit.specs.Premises.{OneLossyLink, any_lost};
+ghost use Rattle.hsr_law.specs.Premises.{OneLossyLink, any_lost};
 ghost use Rattle.hsr_audit.specs.Round.{DifferBelow, IsRound, JoinedBelow, address_of, is_again, is_joint, is_joint_of};
 
-use crate::closed::Closed;
-use crate::end::{End, is_same_end};
+use hsr_closing::Closed;
 use hsr_frame::{Mac, Mode, NoMemory};
 use hsr_link::Row;
 use hsr_node::Place;
+use hsr_topology::{End, is_same_end};
 use std::alloc::Global;
 
 fn is_danh(place: &Place) -> bool

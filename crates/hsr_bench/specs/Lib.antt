@@ -1,14 +1,2 @@
-pub mod Fault
-pub mod Request
-pub mod Reply
-pub mod Report
-pub mod Output
-pub mod Run
 pub mod Options
-pub mod Playing
-pub mod Text
-pub mod Refusal
-pub mod Shown
-pub mod Told
-pub mod Audited
 pub mod Performing

@@ -6,14 +6,14 @@ use Rattle.clap.specs.declared.builder.ArgAction.TheVariants.{SetTrue}
 use Rattle.clap.specs.declared.builder.value_parser.ValueParser.TheVariants.{Names}
 use Rattle.hsr_frame.specs.Address.{address_of}
 use Rattle.hsr_frame.specs.declared.node.Mode.TheVariants.{H}
-use Rattle.hsr_bench.specs.declared.chosen.Table.{Table}
-use Rattle.hsr_bench.specs.declared.chosen.Table.TheVariants.{Small, Large}
-use Rattle.hsr_bench.specs.declared.chosen.NodeOptions.{NodeOptions}
+use Rattle.hsr_engines.specs.declared.chosen.Table.{Table}
+use Rattle.hsr_engines.specs.declared.chosen.Table.TheVariants.{Small, Large}
+use Rattle.hsr_engines.specs.declared.chosen.NodeOptions.{NodeOptions}
 use Rattle.hsr_bench.specs.declared.chosen.OptionFault.{OptionFault}
 use Rattle.hsr_bench.specs.declared.chosen.OptionFault.TheVariants.{Usage, Memory}
 use Rattle.hsr_bench.specs.declared.chosen.Options.{Options}
 use Rattle.hsr_bench.specs.declared.chosen.Options.TheVariants.{Node, Run, Audit}
-use Rattle.hsr_transcript.specs.Spelled.{mode_text}
+use Rattle.hsr_transcript_text.specs.Spelled.{mode_text}
 
 -- ---- the command line
 

@@ -1,13 +1,13 @@
 -- What is done of what the words choose.
 use Rattle.std.specs.Prelude.{ℕ, List, Option}
-use Rattle.hsr_frame.specs.Lines.{lines_of}
+use Rattle.hsr_text.specs.Lines.{lines_of}
 use Rattle.hsr_danh.specs.Machine.{new_machine}
-use Rattle.hsr_bench.specs.Audited.{Audited}
-use Rattle.hsr_bench.specs.Output.{Ended, capacity_of, output}
-use Rattle.hsr_bench.specs.Told.{Told, scenario_of}
+use Rattle.hsr_engines.specs.Audited.{Audited}
+use Rattle.hsr_engines.specs.Output.{Ended, capacity_of, output}
+use Rattle.hsr_engines.specs.Told.{Told, scenario_of}
 use Rattle.hsr_bench.specs.declared.chosen.Options.{Options}
 use Rattle.hsr_bench.specs.declared.chosen.Options.TheVariants.{Node, Run, Audit}
-use Rattle.hsr_bench.specs.declared.fault.Status.{Status}
+use Rattle.hsr_engines.specs.declared.fault.Status.{Status}
 
 -- the lines of a text are answered, or it is run as a scenario, or audited as a transcript; each with tables of the chosen size
 abbrev pub Performs : Options → List ℕ → Option (List ℕ) → Option (List ℕ) → Status → Type 0

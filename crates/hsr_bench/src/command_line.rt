@@ -6,11 +6,12 @@ ghost use Rattle.clap.specs.declared.builder.Command.TheViews.{out-Command as fi
 ghost use Rattle.clap.specs.declared.error.kind.ErrorKind.TheVariants.{OutOfMemory};
 ghost use Rattle.hsr_bench.specs.declared.chosen.OptionFault.TheVariants.{Memory};
 ghost use Rattle.hsr_bench.specs.Options.{Chosen, ChosenIn, IfUsage, IsNode, IsRefused, IsTaken, Says, SaysNothing, audit_app, bench_app, flag_text, mac_rule, mode_rule, node_app, run_app, table_rule, table_text, top_app, transcript_rule};
-ghost use Rattle.hsr_transcript.specs.Spelled.{mode_text};
+ghost use Rattle.hsr_transcript_text.specs.Spelled.{mode_text};
 
-use crate::chosen::{NodeOptions, OptionFault, Options, Table};
+use crate::chosen::{OptionFault, Options};
 use clap::error::ErrorKind;
 use clap::{Arg, ArgAction, ArgMatches, Command, Error};
+use hsr_engines::{NodeOptions, Table};
 use hsr_frame::{Mac, Mode};
 use std::alloc::{AllocError, Global};
 

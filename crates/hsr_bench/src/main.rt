@@ -4,44 +4,25 @@
 ghost use Rattle.std.specs.Prelude.{◌≡◌, ◌⊎◌, IfOk, drop, map, string_bytes};
 ghost use Rattle.std.specs.Io.KnownBytes.{Keeps};
 ghost use Rattle.std.specs.Process.{exit_status};
-ghost use Rattle.hsr_bench.specs.Fault.{code_of};
-ghost use Rattle.hsr_bench.specs.declared.fault.Fault.TheVariants.{Write as WriteFailed};
-ghost use Rattle.hsr_bench.specs.declared.fault.Status.TheVariants.{Fault as Stopped};
+ghost use Rattle.hsr_engines.specs.Fault.{code_of};
+ghost use Rattle.hsr_engines.specs.declared.fault.Fault.TheVariants.{Write as WriteFailed};
+ghost use Rattle.hsr_engines.specs.declared.fault.Status.TheVariants.{Fault as Stopped};
 
-mod answer;
-mod audit;
 mod chosen;
 mod command_line;
-mod engine;
-mod fault;
 mod performing;
-mod playing;
-mod refusal;
-mod reply;
-mod report;
-mod request;
-mod scenario;
-mod shown;
-mod text;
-mod verdict;
 
 use crate::chosen::{OptionFault, Options};
 use crate::command_line::options;
-use crate::fault::{Fault, Status};
 use crate::performing::perform;
+use hsr_engines::{Fault, Status};
 use std::alloc::{AllocError, Global};
 use std::io::{BufReader, BufWriter, ErrorKind, Write};
 use std::process::ExitCode;
 use std::{env, io};
 
 #[cfg(test)]
-mod rows;
-#[cfg(test)]
-mod scenario_tests;
-#[cfg(test)]
-mod tests;
-#[cfg(test)]
-mod transcript_tests;
+mod option_tests;
 
 /// The words after the program's name.
 fn words_of(alloc: Global, args: &Vec<String>) -> Result<Vec<&str>, AllocError>

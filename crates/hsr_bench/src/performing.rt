@@ -2,11 +2,8 @@
 ghost use Rattle.std.specs.Prelude.{IfSome};
 ghost use Rattle.hsr_bench.specs.Performing.{Performs};
 
-use crate::audit::audit_run;
 use crate::chosen::Options;
-use crate::engine::node_run;
-use crate::fault::Status;
-use crate::scenario::scenario_run;
+use hsr_engines::{Status, audit_run, node_run, scenario_run};
 use std::alloc::Global;
 use std::io::{Read, Write};
 

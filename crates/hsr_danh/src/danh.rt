@@ -6,7 +6,7 @@ use crate::wanted::wants_of;
 use arrayvec::ArrayVec;
 use hsr_duptable::Key;
 use hsr_frame::{
-    Cause, Counters, Exits, FrameFault, Life, Mac, Mode, NoMemory, RingPort, STEPS, SendFault,
+    Cause, Counters, Exits, FrameFault, Life, Mac, Mode, NoMemory, RingPort, STEP_LIMIT, SendFault,
     Spent, Wants, is_supervision, send_fault,
 };
 use hsr_tables::{NodeRow, NodeTable};
@@ -81,7 +81,7 @@ impl<const C: usize> Danh<C> {
     }
 
     /// Numbers a frame of this node's own and sends it by both ports (IEC 62439-3 clause 5.3). It refuses a
-    /// frame to itself, one of the type of a VLAN or HSR tag, any where `STEPS` steps are spent, and one of over
+    /// frame to itself, one of the type of a VLAN or HSR tag, any where `STEP_LIMIT` steps are spent, and one of over
     /// 1500 octets of payload, in this order; a refusal changes nothing.
     pub fn send(
         &mut self,
@@ -110,11 +110,11 @@ impl<const C: usize> Danh<C> {
     }
 
     /// Numbers a supervision frame and sends it by both ports (IEC 62439-3 clause 5.7); `life` counts the
-    /// earlier ones, modulo 65536. Where `STEPS` steps are spent it changes nothing.
+    /// earlier ones, modulo 65536. Where `STEP_LIMIT` steps are spent it changes nothing.
     pub fn supervise(&mut self, at: u64) -> Result<Life, Spent>
         ensures { (result, self.new) ≡ life_step C self.old at }
     {
-        if self.accepted == STEPS {
+        if self.accepted == STEP_LIMIT {
             return Err(Spent);
         }
         let now = self.moment.max(at);
@@ -130,12 +130,12 @@ impl<const C: usize> Danh<C> {
     }
 
     /// Judges what came to a ring port (IEC 62439-3 clause 5.3): octets that are no frame and plain frames are counted
-    /// and dropped, tagged ones passed where they are wanted and not remembered. Where `STEPS` steps are spent it
+    /// and dropped, tagged ones passed where they are wanted and not remembered. Where `STEP_LIMIT` steps are spent it
     /// changes nothing.
     pub fn arrive(&mut self, at: u64, port: RingPort, octets: &[u8]) -> Result<Verdict, Spent>
         ensures { (result, self.new) ≡ arrive_step C self.old at port octets.now }
     {
-        if self.accepted == STEPS {
+        if self.accepted == STEP_LIMIT {
             return Err(Spent);
         }
         let now = self.moment.max(at);

@@ -3,7 +3,7 @@ ghost use Rattle.std.specs.Prelude.{◌≡◌, ◌^◌, ◌<◌};
 ghost use Rattle.hsr_frame.specs.Address.{IsGroup};
 ghost use Rattle.hsr_danh.specs.Life.{life_fields};
 
-use hsr_frame::{Mac, SUPERVISION_TYPE, copied};
+use hsr_frame::{ETHERTYPE_SUPERVISION, Mac, copied};
 use hsr_supervision::{SupKind, Supervision};
 use hsr_tag::Frame;
 
@@ -26,7 +26,7 @@ pub fn life_frame(own: Mac, life: u16) -> Frame
         dst: Mac::supervision(),
         src: own,
         vlan: None,
-        kind: SUPERVISION_TYPE,
+        kind: ETHERTYPE_SUPERVISION,
         payload: copied(said.write().as_slice()),
     }
 }

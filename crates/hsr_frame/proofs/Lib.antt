@@ -1,9 +1,5 @@
 pub mod UpTo
 pub mod Cells
-pub mod Digits
-pub mod Decimals
 pub mod Texts
 pub mod Raws
-pub mod LineCuts
-pub mod LongLines
 pub mod Counting

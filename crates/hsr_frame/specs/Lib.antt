@@ -6,5 +6,3 @@ pub mod Grammar
 pub mod Egress
 pub mod Counters
 pub mod Send
-pub mod Words
-pub mod Lines

@@ -6,7 +6,7 @@ use crate::mac::Mac;
 use crate::node::Cause;
 
 /// The type of supervision frames (IEC 62439-3 clause 5.7).
-pub const SUPERVISION_TYPE: u16 = 0x88FB;
+pub const ETHERTYPE_SUPERVISION: u16 = 0x88FB;
 
 /// A set of egresses: up, and ports. `c` is port C of a QuadBox, or a RedBox's interlink.
 #[derive(Clone, Copy, Debug, PartialEq, Eq)]
@@ -97,5 +97,5 @@ impl Wants {
 pub fn is_supervision(dst: Mac, kind: u16) -> bool
     ensures { result ≡ is_supervision dst kind }
 {
-    dst.is_supervision() && kind == SUPERVISION_TYPE
+    dst.is_supervision() && kind == ETHERTYPE_SUPERVISION
 }

@@ -1,6 +1,6 @@
 //! Why a text is no address, octets are no frame, and a send is refused.
 ghost use Rattle.std.specs.Prelude.{◌≡◌};
-ghost use Rattle.hsr_frame.specs.Fault.{frame_fault_number, send_fault_number};
+ghost use Rattle.hsr_frame.specs.Fault.{frame_fault_code, send_fault_code};
 
 use std::alloc::AllocError;
 use thiserror::Error;
@@ -35,8 +35,8 @@ pub enum FrameFault {
 
 impl FrameFault {
     /// Its number in texts, 1 to 6.
-    pub fn number(&self) -> u8
-        ensures { result ≡ frame_fault_number self.now }
+    pub fn code(&self) -> u8
+        ensures { result ≡ frame_fault_code self.now }
     {
         match self {
             FrameFault::Short => 1,
@@ -64,8 +64,8 @@ pub enum SendFault {
 
 impl SendFault {
     /// Its number in texts, 1 to 4.
-    pub fn number(&self) -> u8
-        ensures { result ≡ send_fault_number self.now }
+    pub fn code(&self) -> u8
+        ensures { result ≡ send_fault_code self.now }
     {
         match self {
             SendFault::SelfAddressed => 1,

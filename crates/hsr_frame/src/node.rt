@@ -1,5 +1,6 @@
 //! What all kinds of node share.
 use crate::fault::FrameFault;
+use crate::mac::Mac;
 
 /// Which frames a node forwards round the ring (IEC 62439-3 clause 5.3.2).
 #[derive(Clone, Copy, Debug, PartialEq, Eq)]
@@ -45,5 +46,14 @@ pub struct Life {
     pub life: u16,
 }
 
+/// The node that a supervision frame is about (IEC 62439-3 clause 5.7).
+#[derive(Clone, Copy, Debug, PartialEq, Eq)]
+pub enum About {
+    /// The node itself.
+    Own,
+    /// A station of a RedBox's interlink.
+    Proxied(Mac),
+}
+
 /// How many sends, supervisions and arrivals a node accepts (this profile's choice).
-pub const STEPS: u64 = 1 << 62;
+pub const STEP_LIMIT: u64 = 1 << 62;

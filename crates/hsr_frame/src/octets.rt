@@ -8,10 +8,10 @@ use arrayvec::ArrayVec;
 use byteorder::{BigEndian, ByteOrder};
 
 /// The type of a VLAN tag (IEEE 802.1Q clause 9.5).
-pub const VLAN: u16 = 0x8100;
+pub const ETHERTYPE_VLAN: u16 = 0x8100;
 
 /// The type of an HSR tag (IEC 62439-3 clause 5.6).
-pub const HSR: u16 = 0x892F;
+pub const ETHERTYPE_HSR: u16 = 0x892F;
 
 /// The number of 16 bits at a place, the high octet first.
 pub fn u16_at(octets: &[u8], at: usize) -> u16
@@ -30,7 +30,7 @@ pub fn put<const CAP: usize>(out: &mut ArrayVec<u8, CAP>, octets: &[u8])
 }
 
 /// Puts a number of 16 bits at the end, the high octet first.
-pub fn put_pair<const CAP: usize>(out: &mut ArrayVec<u8, CAP>, n: u16)
+pub fn put_u16<const CAP: usize>(out: &mut ArrayVec<u8, CAP>, n: u16)
     requires { array_vec_len out.old + 2 ≤ CAP }
     ensures { out.new.items ≡ out.old.items ++ pair n }
 {
@@ -56,8 +56,8 @@ pub fn put_head<const CAP: usize>(
     put(out, &dst.octets());
     put(out, &src.octets());
     if let Some(control) = vlan {
-        put_pair(out, VLAN);
-        put_pair(out, control);
+        put_u16(out, ETHERTYPE_VLAN);
+        put_u16(out, control);
     }
 }
 

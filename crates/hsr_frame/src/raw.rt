@@ -4,7 +4,7 @@ ghost use Rattle.hsr_frame.specs.Grammar.{Fields, spelling, IsRaw, fields_of, ra
 
 use crate::fault::FrameFault;
 use crate::mac::Mac;
-use crate::octets::{VLAN, copied, put, put_head, put_pair, u16_at};
+use crate::octets::{ETHERTYPE_VLAN, copied, put, put_head, put_u16, u16_at};
 use arrayvec::ArrayVec;
 use std::marker::Model;
 
@@ -72,7 +72,7 @@ fn read(octets: &[u8]) -> Result<Head<'_>, FrameFault>
         return Err(FrameFault::Short);
     }
     let first = u16_at(octets, 12);
-    let tagged = first == VLAN;
+    let tagged = first == ETHERTYPE_VLAN;
     if tagged && octets.len() < 18 {
         return Err(FrameFault::Short);
     }
@@ -91,7 +91,7 @@ fn read(octets: &[u8]) -> Result<Head<'_>, FrameFault>
         None
     };
     let kind = u16_at(octets, head - 2);
-    if kind == VLAN {
+    if kind == ETHERTYPE_VLAN {
         return Err(FrameFault::DoubleVlan);
     }
     Ok(Head {
@@ -143,7 +143,7 @@ impl Raw {
     {
         let mut out = ArrayVec::new();
         put_head(&mut out, &self.dst, &self.src, self.vlan);
-        put_pair(&mut out, self.kind);
+        put_u16(&mut out, self.kind);
         put(&mut out, self.rest.as_slice());
         out
     }

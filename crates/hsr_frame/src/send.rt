@@ -4,8 +4,8 @@ ghost use Rattle.hsr_frame.specs.Send.{send_refusal};
 
 use crate::fault::SendFault;
 use crate::mac::Mac;
-use crate::node::STEPS;
-use crate::octets::{HSR, VLAN};
+use crate::node::STEP_LIMIT;
+use crate::octets::{ETHERTYPE_HSR, ETHERTYPE_VLAN};
 
 /// Why a send is refused, if it is: it goes to its own source, its type is that of a VLAN or HSR tag, as
 /// many steps as a node accepts are spent, or its payload has over 1500 octets. The first reason counts.
@@ -17,9 +17,9 @@ pub fn send_fault(src: Mac, accepted: u64, dst: Mac, kind: u16, len: usize) -> O
 {
     if dst == src {
         Some(SendFault::SelfAddressed)
-    } else if kind == HSR || kind == VLAN {
+    } else if kind == ETHERTYPE_HSR || kind == ETHERTYPE_VLAN {
         Some(SendFault::ReservedType)
-    } else if accepted == STEPS {
+    } else if accepted == STEP_LIMIT {
         Some(SendFault::Spent)
     } else if len > 1500 {
         Some(SendFault::TooLong)

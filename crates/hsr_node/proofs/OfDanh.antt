@@ -40,8 +40,8 @@ use Rattle.hsr_danh.specs.declared.danh.Verdict.{Verdict}
 use Rattle.hsr_danh.proofs.PastLaw.{IsPastOf, begins}
 use Rattle.hsr_danh.proofs.PastLaw as law
 use Rattle.hsr_redbox.specs.Wanted.{unnumbered}
-use Rattle.hsr_redbox.specs.declared.call.About.{About}
-use Rattle.hsr_redbox.specs.declared.call.About.TheVariants.{Own, Proxied}
+use Rattle.hsr_frame.specs.declared.node.About.{About}
+use Rattle.hsr_frame.specs.declared.node.About.TheVariants.{Own, Proxied}
 use Rattle.hsr_node.specs.Counts.{copies, counters, hears_at, is_unreadable_for}
 use Rattle.hsr_node.specs.Record.{Owner, arrive_answer, count_of, hearing_by, hearings, is_noted, judged_as, key_in, lived_or_refused, lives, next_number, note_if, notes, now, number_in, oldest_first, passing, remembers, send_answer, sent_or_refused, steps, sum_of}
 use Rattle.hsr_node.specs.Step.{danh_arrive, danh_judged, danh_send, danh_sent, danh_step, lived, ring_port, spent, told, wrong}

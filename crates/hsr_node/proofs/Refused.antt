@@ -9,7 +9,7 @@ use Rattle.hsr_danh.specs.Step as of_danh
 use Rattle.hsr_redbox.specs.Machine as redbox
 use Rattle.hsr_redbox.specs.Step as of_redbox
 use Rattle.hsr_redbox.specs.Wanted.{handling_send}
-use Rattle.hsr_redbox.specs.declared.call.About.TheVariants.{Own, Proxied}
+use Rattle.hsr_frame.specs.declared.node.About.TheVariants.{Own, Proxied}
 use Rattle.hsr_redbox.specs.declared.call.BoxPort.{BoxPort}
 use Rattle.hsr_redbox.specs.declared.call.LifeFault.{LifeFault}
 use Rattle.hsr_redbox.specs.declared.wanted.Handling.{Handling}

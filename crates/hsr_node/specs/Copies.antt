@@ -11,8 +11,8 @@ use Rattle.hsr_tag.specs.Seen.{classified}
 use Rattle.hsr_tag.specs.Tag.{tag_of, tagged_spelling, untag_of}
 use Rattle.hsr_tag.specs.declared.seen.Seen.{Seen}
 use Rattle.hsr_tag.specs.declared.seen.Seen.TheVariants.{Plain, Tagged}
-use Rattle.hsr_redbox.specs.declared.call.About.{About}
-use Rattle.hsr_redbox.specs.declared.call.About.TheVariants.{Own, Proxied}
+use Rattle.hsr_frame.specs.declared.node.About.{About}
+use Rattle.hsr_frame.specs.declared.node.About.TheVariants.{Own, Proxied}
 use Rattle.hsr_node.specs.declared.event.Event.{Event}
 use Rattle.hsr_node.specs.declared.event.Event.TheVariants.{Send, Supervise, Arrive, Age}
 use Rattle.hsr_node.specs.declared.event.Outcome.{Outcome}

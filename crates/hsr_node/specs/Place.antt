@@ -1,4 +1,5 @@
 -- What a place may be.
+use Rattle.std.specs.Prelude.{ℕ}
 use Rattle.hsr_frame.specs.Address.{IsGroup}
 use Rattle.hsr_node.specs.declared.place.Place.{Place}
 use Rattle.hsr_node.specs.declared.place.Place.TheVariants.{Danh, RedBox, QuadBox, Station}
@@ -9,3 +10,10 @@ HasOwnAddress (Danh mac mode) = ¬ IsGroup mac
 HasOwnAddress (RedBox mac mode) = ¬ IsGroup mac
 HasOwnAddress QuadBox = Unit {0}
 HasOwnAddress (Station macs) = Unit {0}
+
+-- how many ports a place has
+abbrev pub ports : Place → ℕ
+ports (Danh mac mode) = 2
+ports (RedBox mac mode) = 3
+ports QuadBox = 4
+ports (Station macs) = 1

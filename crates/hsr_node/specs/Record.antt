@@ -36,8 +36,8 @@ use Rattle.hsr_redbox.specs.Past.{source_in}
 use Rattle.hsr_redbox.specs.Step.{life_refusal, number_of}
 use Rattle.hsr_redbox.specs.Wanted as of_redbox
 use Rattle.hsr_redbox.specs.Wanted.{numbered, unnumbered}
-use Rattle.hsr_redbox.specs.declared.call.About.{About}
-use Rattle.hsr_redbox.specs.declared.call.About.TheVariants.{Own}
+use Rattle.hsr_frame.specs.declared.node.About.{About}
+use Rattle.hsr_frame.specs.declared.node.About.TheVariants.{Own}
 use Rattle.hsr_redbox.specs.declared.call.BoxPort.{BoxPort}
 use Rattle.hsr_redbox.specs.declared.call.BoxPort.TheVariants as box
 use Rattle.hsr_redbox.specs.declared.call.LifeFault.{LifeFault}

@@ -12,8 +12,8 @@ use Rattle.hsr_danh.specs.declared.danh.Sent.{Sent as DanhSent}
 use Rattle.hsr_danh.specs.declared.danh.Verdict.{Verdict}
 use Rattle.hsr_redbox.specs.Machine as redbox
 use Rattle.hsr_redbox.specs.Step as of_redbox
-use Rattle.hsr_redbox.specs.declared.call.About.{About}
-use Rattle.hsr_redbox.specs.declared.call.About.TheVariants.{Own, Proxied}
+use Rattle.hsr_frame.specs.declared.node.About.{About}
+use Rattle.hsr_frame.specs.declared.node.About.TheVariants.{Own, Proxied}
 use Rattle.hsr_redbox.specs.declared.call.BoxPort.{BoxPort}
 use Rattle.hsr_redbox.specs.declared.call.BoxPort.TheVariants as box
 use Rattle.hsr_redbox.specs.declared.call.BoxSent.{BoxSent}

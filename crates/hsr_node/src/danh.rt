@@ -4,8 +4,7 @@ ghost use Rattle.hsr_node.specs.Step.{danh_arrive, danh_life, danh_send, danh_st
 
 use crate::event::{Event, Outcome, StepFault};
 use hsr_danh::Danh;
-use hsr_frame::{Mac, RingPort};
-use hsr_redbox::About;
+use hsr_frame::{About, Mac, RingPort};
 
 /// The ring port with this number.
 fn ring_port(number: u8) -> Option<RingPort>

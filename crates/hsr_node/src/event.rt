@@ -2,8 +2,7 @@
 ghost use Rattle.std.specs.Prelude.{◌≡◌, ◌↔◌, IfOk, IsTrue};
 
 use crate::octets::Octets;
-use hsr_frame::{Cause, Mac, NoMemory, SendFault};
-use hsr_redbox::About;
+use hsr_frame::{About, Cause, Mac, NoMemory, SendFault};
 
 /// Names the entry of a send: the number of its node, and its place in that node's record.
 #[derive(Clone, Copy, Debug, PartialEq, Eq)]
@@ -75,7 +74,7 @@ pub enum StepFault {
     Send(SendFault),
     /// A supervision is about an address that isn't known on the interlink.
     NotProxied,
-    /// The node has accepted as many steps as it may: `STEPS`.
+    /// The node has accepted as many steps as it may: `STEP_LIMIT`.
     Spent,
     /// Room for the entry or its copy was refused; a node that keeps no record never answers this.
     NoMemory,

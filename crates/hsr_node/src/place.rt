@@ -1,5 +1,5 @@
 //! What kind of node stands at a place.
-ghost use Rattle.std.specs.Prelude.{◌≡◌, IfOk};
+ghost use Rattle.std.specs.Prelude.{◌≡◌, ◌≤◌, IfOk};
 
 use arrayvec::ArrayVec;
 use hsr_frame::{Mac, Mode, NoMemory};
@@ -19,6 +19,21 @@ pub enum Place {
 }
 
 impl Place {
+    ghost use Rattle.hsr_node.specs.Place.{ports};
+
+    /// How many ports it has; they are numbered from 0.
+    pub fn ports(&self) -> u8
+        ensures value { result ≡ ports self.now }
+        ensures most { result ≤ 4 }
+    {
+        match self {
+            Place::Danh { .. } => 2,
+            Place::RedBox { .. } => 3,
+            Place::QuadBox => 4,
+            Place::Station { .. } => 1,
+        }
+    }
+
     /// An equal place; `NoMemory` where room for it is refused.
     pub fn copy(&self) -> Result<Place, NoMemory>
         ensures { IfOk result (λ place. place ≡ self.now) }

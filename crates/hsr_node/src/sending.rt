@@ -5,8 +5,7 @@ ghost use Rattle.hsr_node.specs.Flow.{sending_of, sent_by};
 
 use crate::event::{Event, Outcome};
 use crate::place::Place;
-use hsr_frame::{HSR, Mac, SUPERVISION_TYPE, VLAN, copied};
-use hsr_redbox::About;
+use hsr_frame::{About, ETHERTYPE_HSR, ETHERTYPE_SUPERVISION, ETHERTYPE_VLAN, Mac, copied};
 use hsr_supervision::{SupKind, Supervision};
 use hsr_tag::Frame;
 
@@ -22,7 +21,7 @@ pub struct Sending {
 fn frame_of(src: Mac, dst: Mac, vlan: Option<u16>, kind: u16, payload: &[u8]) -> Option<Frame>
     ensures { result ≡ frame_of (record { dst = dst; src = src; vlan = vlan; kind = kind; rest = payload.now }) }
 {
-    if src.is_group() || kind == HSR || kind == VLAN || payload.len() > 1500 {
+    if src.is_group() || kind == ETHERTYPE_HSR || kind == ETHERTYPE_VLAN || payload.len() > 1500 {
         return None;
     }
     Some(Frame {
@@ -98,7 +97,7 @@ fn life_frame(own: Option<Mac>, about: About, life: u16) -> Option<Frame>
         own,
         Mac::supervision(),
         None,
-        SUPERVISION_TYPE,
+        ETHERTYPE_SUPERVISION,
         said.as_slice(),
     )
 }

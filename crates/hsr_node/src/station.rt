@@ -6,7 +6,7 @@ ghost use Rattle.hsr_node.specs.Station.{is_among, judged_plain, judged_seen};
 
 use crate::event::{Event, Outcome, StepFault};
 use arrayvec::ArrayVec;
-use hsr_frame::{Cause, Counters, FrameFault, Mac, STEPS, send_fault};
+use hsr_frame::{Cause, Counters, FrameFault, Mac, STEP_LIMIT, send_fault};
 use hsr_tag::{Frame, Seen, classify};
 use std::marker::Model;
 
@@ -79,12 +79,12 @@ impl Station {
         })
     }
 
-    /// Judges what came to the port. `Spent` where `STEPS` steps were accepted; that changes nothing.
+    /// Judges what came to the port. `Spent` where `STEP_LIMIT` steps were accepted; that changes nothing.
     #[tactic(auto, unfolding(crate::specs::Station::after_arrival))]
     fn arrive(&mut self, at: u64, octets: &[u8]) -> Result<Outcome, StepFault>
         ensures { (result, self.new) ≡ after_arrival self.old at octets.now }
     {
-        if self.accepted == STEPS {
+        if self.accepted == STEP_LIMIT {
             return Err(StepFault::Spent);
         }
         let cause = cause_of(self.macs.as_slice(), &classify(octets));

@@ -2,8 +2,8 @@ ghost use Rattle.hsr_node.specs.Place.{HasOwnAddress};
 
 use super::*;
 use arrayvec::ArrayVec;
-use hsr_frame::{Cause, Mac, Mode, NoMemory, SendFault, hex_octets};
-use hsr_redbox::About;
+use hsr_frame::{About, Cause, Mac, Mode, NoMemory, SendFault};
+use hsr_text::hex_octets;
 use std::test::Fail;
 
 /// The node of the ring that the tests speak of, and the node next to it.

@@ -4,7 +4,7 @@ ghost use Rattle.hsr_quadbox.specs.Step.{copies_of, verdict_of};
 
 use crate::tables::PortTables;
 use crate::wanted::{QuadPort, arrival_wants};
-use hsr_frame::{Cause, Counters, Exits, NoMemory, STEPS, Spent, Wants};
+use hsr_frame::{Cause, Counters, Exits, NoMemory, STEP_LIMIT, Spent, Wants};
 use hsr_tag::classify;
 use std::alloc::Global;
 use std::marker::Model;
@@ -60,11 +60,11 @@ impl<const C: usize> QuadBox<C> {
 
     /// Judges octets that came to a port, at a moment in milliseconds: a tagged frame leaves by each of the other
     /// ports that doesn't remember it, and is noted there (IEC 62439-3 clause 5.3); what is no tagged frame is counted
-    /// and dropped. `Spent` where `STEPS` arrivals were accepted; that changes nothing.
+    /// and dropped. `Spent` where `STEP_LIMIT` arrivals were accepted; that changes nothing.
     pub fn arrive(&mut self, at: u64, port: QuadPort, octets: &[u8]) -> Result<QuadVerdict, Spent>
         ensures { (result, self.new) ≡ arrive_step C self.old at port octets.now }
     {
-        if self.accepted == STEPS {
+        if self.accepted == STEP_LIMIT {
             return Err(Spent);
         }
         let now = self.moment.max(at);

@@ -22,7 +22,7 @@ use Rattle.hsr_tag.specs.Seen.{classified, is_told, payload_in}
 use Rattle.hsr_tables.specs.Proxies.{Proxies, is_known}
 use Rattle.hsr_redbox.specs.Wanted.{handling_interlink, handling_send, interlink, wanted}
 use Rattle.hsr_redbox.specs.Step.{after_arrival, after_frame, after_handling, after_interlink, after_marks, after_passes, after_ring, arrive_or_spent, arrive_step, counted_with, heard_from, heard_of, judged, key_of, life_or_refuse, life_refusal, life_step, now_at, number_of, passes_of, send_or_refuse, send_step, sent_of, verdict_of}
-use Rattle.hsr_redbox.specs.declared.call.About.{About}
+use Rattle.hsr_frame.specs.declared.node.About.{About}
 use Rattle.hsr_redbox.specs.declared.call.BoxPort.{BoxPort}
 use Rattle.hsr_redbox.specs.declared.call.BoxVerdict.{BoxVerdict}
 use Rattle.hsr_redbox.specs.declared.call.LifeFault.{LifeFault}

@@ -30,7 +30,7 @@ use Rattle.hsr_redbox.specs.Machine.{Machine, new_machine}
 use Rattle.hsr_redbox.specs.Step.{age_step, arrive_step, key_of, life_refusal, life_step, number_of, send_step, sent_of, verdict_of}
 use Rattle.hsr_redbox.specs.Wanted.{handling_interlink, handling_send, interlink, wanted}
 use Rattle.hsr_redbox.specs.declared.wanted.Handling.{Handling}
-use Rattle.hsr_redbox.specs.declared.call.About.{About}
+use Rattle.hsr_frame.specs.declared.node.About.{About}
 use Rattle.hsr_redbox.specs.declared.call.BoxPort.{BoxPort}
 use Rattle.hsr_redbox.specs.declared.call.BoxPort.TheVariants.{A, B, I}
 use Rattle.hsr_redbox.specs.declared.call.BoxSent.{BoxSent}

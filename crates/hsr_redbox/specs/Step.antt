@@ -25,8 +25,8 @@ use Rattle.hsr_tables.specs.Proxies.{Proxies, is_known, learned}
 use Rattle.hsr_redbox.specs.Wanted.{handling_interlink, handling_send, interlink, wanted}
 use Rattle.hsr_redbox.specs.Machine.{Machine, Notes}
 use Rattle.hsr_redbox.specs.declared.wanted.Handling.{Handling}
-use Rattle.hsr_redbox.specs.declared.call.About.{About}
-use Rattle.hsr_redbox.specs.declared.call.About.TheVariants.{Own, Proxied}
+use Rattle.hsr_frame.specs.declared.node.About.{About}
+use Rattle.hsr_frame.specs.declared.node.About.TheVariants.{Own, Proxied}
 use Rattle.hsr_redbox.specs.declared.call.BoxPort.{BoxPort}
 use Rattle.hsr_redbox.specs.declared.call.BoxPort.TheVariants.{A, B, I}
 use Rattle.hsr_redbox.specs.declared.call.BoxSent.{BoxSent}

@@ -1,5 +1,5 @@
 //! What a RedBox is asked, and what it answers.
-use hsr_frame::{Cause, Mac};
+use hsr_frame::Cause;
 
 /// A port of a RedBox: two on the ring, and the interlink.
 #[derive(Clone, Copy, Debug, PartialEq, Eq)]
@@ -7,15 +7,6 @@ pub enum BoxPort {
     A,
     B,
     I,
-}
-
-/// The node that a supervision frame is about (IEC 62439-3 clause 5.7).
-#[derive(Clone, Copy, Debug, PartialEq, Eq)]
-pub enum About {
-    /// The RedBox itself.
-    Own,
-    /// A station of the interlink.
-    Proxied(Mac),
 }
 
 /// By which ports a frame of the RedBox's own left, and its number, if it got one: with the path 0 on A and 1 on

@@ -6,7 +6,8 @@ mod redbox;
 mod tables;
 mod wanted;
 
-pub use call::{About, BoxPort, BoxSent, BoxVerdict, LifeFault};
+pub use call::{BoxPort, BoxSent, BoxVerdict, LifeFault};
+pub use hsr_frame::About;
 pub use redbox::{RedBox, answers_as_past};
 
 #[cfg(test)]

@@ -1,13 +1,13 @@
 //! A node with two ring ports and an interlink, its tables and its counters.
 ghost use Rattle.std.specs.Prelude.{◌≡◌, ◌≢◌, ◌+◌, ◌-◌, ◌≤◌, ◌<◌, ◌^◌, length, map, true, IfOk, OnOk, IfNone, Option, Result};
 
-use crate::call::{About, BoxPort, BoxSent, BoxVerdict, LifeFault};
+use crate::call::{BoxPort, BoxSent, BoxVerdict, LifeFault};
 use crate::tables::Tables;
 use crate::wanted::{interlink_handling, ring_wants, send_handling};
 use arrayvec::ArrayVec;
 use hsr_frame::{
-    Counters, Exits, FrameFault, Life, Mac, Mode, NoMemory, RingPort, STEPS, SendFault, Spent,
-    Wants, is_supervision, send_fault,
+    About, Counters, Exits, FrameFault, Life, Mac, Mode, NoMemory, RingPort, STEP_LIMIT, SendFault,
+    Spent, Wants, is_supervision, send_fault,
 };
 use hsr_tables::{NodeRow, NodeTable, ProxyTable};
 use hsr_tag::{Seen, classify};
@@ -70,7 +70,7 @@ impl<const C: usize> RedBox<C> {
     /// Sends a frame of this node's own (IEC 62439-3 clause 5.3): to a station of the interlink with no number and
     /// by the interlink alone; any other with the next number by both ring ports, and one to a group by the interlink
     /// too unless it is a supervision frame. It refuses a frame to itself, one of the type of a VLAN or HSR tag, any
-    /// where `STEPS` steps are spent, and one of over 1500 octets of payload, in this order; a refusal changes
+    /// where `STEP_LIMIT` steps are spent, and one of over 1500 octets of payload, in this order; a refusal changes
     /// nothing.
     pub fn send(
         &mut self,
@@ -106,7 +106,7 @@ impl<const C: usize> RedBox<C> {
 
     /// Numbers a supervision frame about this node or a station of its interlink, and sends it by both ring ports
     /// under its own address (IEC 62439-3 clause 5.7); `life` counts the earlier ones, modulo 65536. It refuses one
-    /// about an address that isn't known at this moment, and any where `STEPS` steps are spent, in this order; a
+    /// about an address that isn't known at this moment, and any where `STEP_LIMIT` steps are spent, in this order; a
     /// refusal changes nothing.
     pub fn supervise(&mut self, at: u64, about: About) -> Result<Life, LifeFault>
         ensures { (result, self.new) ≡ life_step C self.old at about }
@@ -131,11 +131,11 @@ impl<const C: usize> RedBox<C> {
     /// Judges what came to a port (IEC 62439-3 clause 5.3). Octets that are no frame are counted. Of a ring port plain
     /// frames are dropped, and tagged ones pass where they are wanted and not remembered. Of the interlink
     /// tagged frames are dropped; the source of a plain one is heard, and it passes wherever it is wanted: to the
-    /// ring with the next number. Where `STEPS` steps are spent it changes nothing.
+    /// ring with the next number. Where `STEP_LIMIT` steps are spent it changes nothing.
     pub fn arrive(&mut self, at: u64, port: BoxPort, octets: &[u8]) -> Result<BoxVerdict, Spent>
         ensures { (result, self.new) ≡ arrive_step C self.old at port octets.now }
     {
-        if self.accepted == STEPS {
+        if self.accepted == STEP_LIMIT {
             return Err(Spent);
         }
         let now = self.moment.max(at);
@@ -271,7 +271,7 @@ fn life_fault(proxies: &ProxyTable, accepted: u64, about: About, now: u64) -> Op
 {
     if !speaks_for(proxies, about, now) {
         Some(LifeFault::NotProxied)
-    } else if accepted == STEPS {
+    } else if accepted == STEP_LIMIT {
         Some(LifeFault::Spent)
     } else {
         None

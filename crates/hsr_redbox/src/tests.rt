@@ -1,5 +1,5 @@
 use super::*;
-use hsr_frame::{Cause, Life, Mac, Mode, SUPERVISION_TYPE, SendFault, copied};
+use hsr_frame::{Cause, ETHERTYPE_SUPERVISION, Life, Mac, Mode, SendFault, copied};
 use hsr_supervision::{SupKind, Supervision};
 use hsr_tag::Frame;
 use std::test::Fail;
@@ -193,7 +193,7 @@ fn supervision_payloads(rt: HostRuntime) -> Result<(), Fail> {
         dst: Mac::supervision(),
         src: node.address(),
         vlan: None,
-        kind: SUPERVISION_TYPE,
+        kind: ETHERTYPE_SUPERVISION,
         payload: copied(written.as_slice()),
     };
     let on_a = frame.tag(0, 0).write();

@@ -13,43 +13,43 @@ use Rattle.hsr_node.specs.declared.event.Event.{Event}
 use Rattle.hsr_node.specs.declared.event.Event.TheVariants.{Send, Supervise, Arrive, Age}
 use Rattle.hsr_node.specs.declared.place.Place.{Place}
 use Rattle.hsr_link.specs.declared.row.Row.{Row}
-use Rattle.hsr_audit.proofs.Ends.{end_is, end_same}
-use Rattle.hsr_audit.specs.Checked.{Agrees, IfDisagree, IsFirst, IsOpen}
-use Rattle.hsr_audit.specs.Closed.{IsClosed}
-use Rattle.hsr_audit.specs.Finished.{Finished, IsPlanned, planned_by}
-use Rattle.hsr_audit.specs.Finished as finished
-use Rattle.hsr_audit.specs.InOrder.{came}
-use Rattle.hsr_audit.specs.Links.{is_end_of, is_same_end, is_used}
-use Rattle.hsr_audit.specs.Once.{IsCalm}
-use Rattle.hsr_audit.specs.Passes.{IsToldBy}
-use Rattle.hsr_audit.specs.Receipts.{HasReceipts}
-use Rattle.hsr_audit.specs.Run.{Run}
-use Rattle.hsr_audit.specs.Shape.{IsShaped, NodesFit, is_linked}
-use Rattle.hsr_audit.specs.Topology.{Topology}
-use Rattle.hsr_audit.specs.Wired.{IsJoin, IsWired}
-use Rattle.hsr_audit.specs.declared.disagree.CheckFault.{CheckFault}
-use Rattle.hsr_audit.specs.declared.disagree.CheckFault.TheVariants as fault
-use Rattle.hsr_audit.specs.declared.disagree.Disagree.{Disagree}
-use Rattle.hsr_audit.specs.declared.disagree.Disagree.TheVariants.{Shape, LinkPut, LinkTaken, Stranger, NotQuiet}
-use Rattle.hsr_audit.specs.declared.disagree.Disagree.TheVariants as cause
-use Rattle.hsr_audit.specs.declared.end.End.{End}
-use Rattle.hsr_audit.specs.declared.planned.Planned.{Planned}
-use Rattle.hsr_audit.proofs.Forwards.{arrivals_of}
-use Rattle.hsr_audit.proofs.NoStorm.{no_storm}
-use Rattle.hsr_audit.proofs.Shaped.{from_there}
-use Rattle.hsr_ring.specs.Closing.{IsOwn, run_of}
+use Rattle.hsr_topology.proofs.Ends.{end_is, end_same}
+use Rattle.hsr_closing.specs.Checked.{Agrees, IfDisagree, IsFirst, IsOpen}
+use Rattle.hsr_law.specs.Closed.{IsClosed}
+use Rattle.hsr_closing.specs.Finished.{Finished, IsPlanned, planned_by}
+use Rattle.hsr_closing.specs.Finished as finished
+use Rattle.hsr_closing.specs.InOrder.{came}
+use Rattle.hsr_topology.specs.Links.{is_end_of, is_same_end, is_used}
+use Rattle.hsr_law.specs.Once.{IsCalm}
+use Rattle.hsr_closing.specs.Passes.{IsToldBy}
+use Rattle.hsr_closing.specs.Receipts.{HasReceipts}
+use Rattle.hsr_law.specs.Run.{Run}
+use Rattle.hsr_closing.specs.Shape.{IsShaped, NodesFit, is_linked}
+use Rattle.hsr_topology.specs.Topology.{Topology}
+use Rattle.hsr_topology.specs.Wired.{IsJoin, IsWired}
+use Rattle.hsr_closing.specs.declared.disagree.CheckFault.{CheckFault}
+use Rattle.hsr_closing.specs.declared.disagree.CheckFault.TheVariants as fault
+use Rattle.hsr_closing.specs.declared.disagree.Disagree.{Disagree}
+use Rattle.hsr_closing.specs.declared.disagree.Disagree.TheVariants.{Shape, LinkPut, LinkTaken, Stranger, NotQuiet}
+use Rattle.hsr_closing.specs.declared.disagree.Disagree.TheVariants as cause
+use Rattle.hsr_topology.specs.declared.end.End.{End}
+use Rattle.hsr_closing.specs.declared.planned.Planned.{Planned}
+use Rattle.hsr_closing.proofs.Forwards.{arrivals_of}
+use Rattle.hsr_law.proofs.NoStorm.{no_storm}
+use Rattle.hsr_closing.proofs.Shaped.{from_there}
+use Rattle.hsr_world.specs.Closing.{IsOwn, run_of}
 use Rattle.hsr_ring.specs.Ending.{AreTold, IsToldClosed, IsToldOpen}
-use Rattle.hsr_ring.specs.Lawful.{IsEnded, finished_of}
-use Rattle.hsr_ring.specs.Lines.{Line}
-use Rattle.hsr_ring.specs.Reached.{IsReached}
+use Rattle.hsr_world.specs.Lawful.{IsEnded, finished_of}
+use Rattle.hsr_world.specs.Lines.{Line}
+use Rattle.hsr_world.specs.Reached.{IsReached}
 use Rattle.hsr_ring.specs.Views.{AreNumbered, world_of}
-use Rattle.hsr_ring.specs.World.{World, new_world}
-use Rattle.hsr_ring.proofs.Closed.{always_closes, always_numbered_first, lines_counted, linked, only_quiet_closes, run_is, wires}
+use Rattle.hsr_world.specs.World.{World, new_world}
+use Rattle.hsr_world.proofs.Closed.{always_closes, always_numbered_first, lines_counted, linked, only_quiet_closes, run_is, wires}
 use Rattle.hsr_ring.proofs.Entered.{number_at}
-use Rattle.hsr_ring.proofs.Lawful.{own_of, same_links}
-use Rattle.hsr_ring.proofs.Linked.{is_led_to, leads_to}
-use Rattle.hsr_ring.proofs.Plans.{always_planned}
-use Rattle.hsr_ring.proofs.Wires.{run_keeps, wire_of}
+use Rattle.hsr_world.proofs.Lawful.{own_of, same_links}
+use Rattle.hsr_world.proofs.Linked.{is_led_to, leads_to}
+use Rattle.hsr_world.proofs.Plans.{always_planned}
+use Rattle.hsr_world.proofs.Wires.{run_keeps, wire_of}
 
 -- ---- where a link leads, it is used
 
@@ -165,7 +165,7 @@ module _ (capacity : ℕ) (topology : Topology) (moment : ℕ) (kept : List Reco
     calm : IsClosed (finished.run_of capacity topology kept rows) → IsCalm (finished.run_of capacity topology kept rows)
     calm closed =
         no_storm (finished.run_of capacity topology kept rows) (λ l dir below. from_there topology.places topology.links wired l dir below) closed
-        (subst (λ (run : Run). Rattle.hsr_audit.specs.Premises.NumberedFirst run) run_same (always_numbered_first capacity topology.places topology.links world (own (ended closed))))
+        (subst (λ (run : Run). Rattle.hsr_law.specs.Premises.NumberedFirst run) run_same (always_numbered_first capacity topology.places topology.links world (own (ended closed))))
 
     open_as : (d : Disagree) → IsFirst capacity topology kept rows passes plan d → IsOpen (finished.run_of capacity topology kept rows) d
     unfolding HasReceipts

@@ -1,6 +1,6 @@
 -- The ports of a node, one after another.
 use Rattle.std.proofs.Common.{◌≡◌, ℕ, suc, ◌+◌, ◌-◌, ◌<◌, ◌∷◌, ap, arith}
-use Rattle.hsr_ring.specs.World.{ports_of}
+use Rattle.hsr_world.specs.World.{ports_of}
 
 pub ports_step : (n port count : ℕ) → port < count → ports_of n port (count - port) ≡ record { node = n; port = port } ∷ ports_of n (port + 1) (count - (port + 1))
 ports_step n port count below =

@@ -3,8 +3,8 @@ use Rattle.std.proofs.Common.{◌≡◌, ◌⊎◌, inl, inr, ℕ, ◌<◌, List
 use Rattle.std.proofs.lemmas.List.FromFn.{get_or-range_with_len}
 use Rattle.std.proofs.lemmas.List.{map-set, get_or-map, length-map, length-set, length-reverse, reverse-append}
 use Rattle.std.specs.List.{range_with_len}
-use Rattle.hsr_audit.specs.Run.{owner_in, record_in}
-use Rattle.hsr_audit.specs.declared.end.End.{End}
+use Rattle.hsr_law.specs.Run.{owner_in, record_in}
+use Rattle.hsr_topology.specs.declared.end.End.{End}
 use Rattle.hsr_node.specs.declared.event.Carried.{Carried}
 use Rattle.hsr_node.specs.declared.event.Event.TheVariants as event
 use Rattle.hsr_node.specs.Kept.{Record, answer_to, owner_of, past_of}
@@ -19,13 +19,14 @@ use Rattle.hsr_node.specs.declared.place.Place.{Place}
 use Rattle.hsr_node.specs.declared.place.Place.TheVariants.{QuadBox}
 use Rattle.hsr_ring.specs.Entering.{IsEntered, IsNotEntered, IsRefusal, IsStepped, IsUnplanned, answer_in, past_in, places_of, world_fault}
 use Rattle.hsr_ring.specs.Giving.{emptied_line, given_lane, given_line}
-use Rattle.hsr_ring.specs.Lines.{Line, emptied, held_in, lanes_of, on_lanes, spread}
+use Rattle.hsr_world.specs.Lines.{Line, emptied, held_in, lanes_of, on_lanes, spread}
 use Rattle.hsr_ring.specs.Views.{AreNumbered, line_view, world_of}
-use Rattle.hsr_ring.specs.World.{World, added, and_added, cleared, entered, judged_at, planned, port_worker}
+use Rattle.hsr_world.specs.World.{World, added, and_added, cleared, entered, judged_at, planned, port_worker}
 use Rattle.hsr_ring.specs.declared.line.Line as code
-use Rattle.hsr_ring.specs.declared.step.WorldFault.{WorldFault}
-use Rattle.hsr_ring.specs.declared.step.WorldFault.TheVariants.{NoMemory, Node, Nothing}
-use Rattle.hsr_ring.proofs.Places.{map_set_same, or_map}
+use Rattle.hsr_step.specs.declared.step.WorldFault.{WorldFault}
+use Rattle.hsr_step.specs.declared.step.WorldFault.TheVariants.{NoMemory, Node, Nothing}
+use Rattle.hsr_ring.proofs.Places.{or_map}
+use Rattle.hsr_world.proofs.Counts.{map_set_same}
 
 -- ---- numbers
 

@@ -1,6 +1,6 @@
 -- A place of the lines of the code, and of the list of what is seen of them.
 use Rattle.std.proofs.Common.{◌≡◌, ◌⊎◌, inl, inr, ℕ, ◌<◌, zero, suc, List, [], ◌∷◌, map, set, get_or, length, Option, Some, None, Result, Ok, Err, refl, sym, ap, ◌∙◌, arith}
-use Rattle.hsr_ring.specs.declared.step.WorldFault.TheVariants.{Nothing}
+use Rattle.hsr_step.specs.declared.step.WorldFault.TheVariants.{Nothing}
 use Rattle.std.specs.Prelude.{is_some, false, OnOk, IfErr}
 use Rattle.std.proofs.lemmas.List.{map-set, get_or-map}
 use Rattle.hsr_link.specs.Link.{Link, take_step}
@@ -10,16 +10,11 @@ use Rattle.hsr_link.specs.declared.row.Fate.{Fate}
 use Rattle.hsr_link.specs.declared.row.Row.{Row}
 use Rattle.hsr_node.specs.declared.event.Carried.{Carried}
 use Rattle.std.proofs.lemmas.Grind.{common_steps}
-use Rattle.hsr_ring.specs.Lines.{Lane, Line}
+use Rattle.hsr_world.specs.Lines.{Lane, Line}
 use Rattle.hsr_ring.specs.Views.{take_in, taken_in, in_lines, line_view, on_line}
-use Rattle.hsr_ring.specs.World.{line_in}
+use Rattle.hsr_world.specs.World.{line_in}
 use Rattle.hsr_ring.specs.declared.line.Line as code
-use Rattle.hsr_ring.specs.declared.step.WorldFault.{WorldFault}
-
-pub map_set_same : {X Y : Type 0} (f : X → Y) (xs : List X) (i : ℕ) (y d : X) → f y ≡ f (get_or xs i d) → map f (set xs i y) ≡ map f xs
-map_set_same f [] i y d h = refl
-map_set_same f (x ∷ xs) zero y d h = ap (λ z. z ∷ map f xs) h
-map_set_same f (x ∷ xs) (suc i) y d h = ap (λ zs. f x ∷ zs) (map_set_same f xs i y d h)
+use Rattle.hsr_step.specs.declared.step.WorldFault.{WorldFault}
 
 pub line_seen : (lines : List code.Line) (i : ℕ) (d : code.Line) → i < length lines → line_in (map line_view lines) i ≡ line_view (get_or lines i d)
 line_seen lines i d below = get_or-map line_view lines i d _ below

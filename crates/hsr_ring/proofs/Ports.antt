@@ -3,8 +3,8 @@ use Rattle.std.specs.Prelude.{IfErr, OnOk, is_some, if◌then◌else◌}
 use Rattle.std.proofs.Common.{◌≡◌, ℕ, ◌+◌, ◌-◌, ◌<◌, ◌++◌, suc, nat_lt, Bool, true, false, max, List, [], ◌∷◌, map, length, Option, Some, None, option_map, Result, Ok, Err, refl, ap, ap₂, sym, subst, ◌∙◌, arith}
 use Rattle.std.specs.List.{find}
 use Rattle.std.specs.Option.{option_or}
-use Rattle.hsr_audit.specs.Links.{is_same_end}
-use Rattle.hsr_audit.specs.declared.end.End.{End}
+use Rattle.hsr_topology.specs.Links.{is_same_end}
+use Rattle.hsr_topology.specs.declared.end.End.{End}
 use Rattle.hsr_link.specs.Link.{inject_step, take_step}
 use Rattle.hsr_link.specs.Rows.{first_copy}
 use Rattle.hsr_link.specs.declared.row.Dir.{Dir}
@@ -16,20 +16,20 @@ use Rattle.hsr_node.specs.declared.event.Event.TheVariants as event
 use Rattle.hsr_node.specs.declared.event.Outcome.{Outcome}
 use Rattle.hsr_node.specs.declared.event.StepFault.{StepFault}
 use Rattle.hsr_node.specs.declared.place.Place.{Place}
-use Rattle.hsr_ring.specs.Fit.{FitsStep}
-use Rattle.hsr_ring.specs.Lines.{Lane, Line, Spot, emptied, held_in, lane_of, lanes_of, on_lanes, spot_from, spread, with_lane, with_link}
+use Rattle.hsr_world.specs.Fit.{FitsStep}
+use Rattle.hsr_world.specs.Lines.{Lane, Line, Spot, emptied, held_in, lane_of, lanes_of, on_lanes, spot_from, spread, with_lane, with_link}
 use Rattle.hsr_ring.specs.Ports.{IsKept, held_at, judge_of, next_by, port_at, ports_in, put_of, spot_code, spot_to}
 use Rattle.hsr_ring.specs.Views.{spot_view}
-use Rattle.hsr_ring.specs.World.{World, and_added, cleared, entered, has_link, has_node, has_port, is_held, is_waiting, judged_at, line_at, line_in, next_step, or_same, owner_at, planned, port_worker, ports_from, ports_of, put_at, put_from, record_at, take_from, take_to, taken_by, tried, waits_in, with_line}
+use Rattle.hsr_world.specs.World.{World, and_added, cleared, entered, has_link, has_node, has_port, is_held, is_waiting, judged_at, line_at, line_in, next_step, or_same, owner_at, planned, port_worker, ports_from, ports_of, put_at, put_from, record_at, take_from, take_to, taken_by, tried, waits_in, with_line}
 use Rattle.hsr_ring.specs.declared.port.Port.{Port}
 use Rattle.hsr_ring.specs.declared.spot.Spot as code-spot
-use Rattle.hsr_ring.specs.declared.step.Step.{Step}
-use Rattle.hsr_ring.specs.declared.step.Step.TheVariants.{Clock, Send, Supervise, Age, Put, Take, Judge, Cut, Mend, Inject}
-use Rattle.hsr_ring.specs.declared.step.WorldFault.{WorldFault}
-use Rattle.hsr_ring.specs.declared.step.WorldFault.TheVariants.{TooLong}
+use Rattle.hsr_step.specs.declared.step.Step.{Step}
+use Rattle.hsr_step.specs.declared.step.Step.TheVariants.{Clock, Send, Supervise, Age, Put, Take, Judge, Cut, Mend, Inject}
+use Rattle.hsr_step.specs.declared.step.WorldFault.{WorldFault}
+use Rattle.hsr_step.specs.declared.step.WorldFault.TheVariants.{TooLong}
 use Rattle.hsr_ring.proofs.Ends.{ports_step}
-use Rattle.hsr_ring.proofs.Places.{map_set_same}
-use Rattle.hsr_ring.proofs.Reached.{reached-step}
+use Rattle.hsr_world.proofs.Counts.{map_set_same}
+use Rattle.hsr_world.proofs.Reached.{reached-step}
 
 -- ---- the ends of lines
 

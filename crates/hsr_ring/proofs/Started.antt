@@ -5,11 +5,11 @@ use Rattle.hsr_node.specs.Kept.{Record, past_of}
 use Rattle.hsr_node.specs.declared.entry.Entry.{Entry}
 use Rattle.hsr_node.specs.declared.place.Place.{Place}
 use Rattle.hsr_ring.specs.Entering.{places_of}
-use Rattle.hsr_ring.specs.Lines.{Line}
+use Rattle.hsr_world.specs.Lines.{Line}
 use Rattle.hsr_ring.specs.Starting.{new_records}
 use Rattle.hsr_ring.specs.Views.{AreNumbered, world_of}
-use Rattle.hsr_ring.specs.World.{new_line, new_world}
-use Rattle.hsr_audit.specs.declared.end.End.{End}
+use Rattle.hsr_world.specs.World.{new_line, new_world}
+use Rattle.hsr_topology.specs.declared.end.End.{End}
 
 new_places : (k : ℕ) (places : List Place) → places_of (new_records k places) ≡ places
 new_places k [] = refl

@@ -6,14 +6,14 @@ use Rattle.std.specs.Prelude.{ℕ, ◌≡◌, List, map, Vec}
 use Rattle.std.specs.Global.{Global}
 use Rattle.hsr_node.specs.Kept.{Receipts, Record}
 use Rattle.hsr_link.specs.declared.row.Row.{Row}
-use Rattle.hsr_audit.specs.Checked.{Agrees, IsFirst}
-use Rattle.hsr_audit.specs.Finished.{Finished, items_of, run_of}
-use Rattle.hsr_audit.specs.Passes.{IsToldBy}
-use Rattle.hsr_audit.specs.Receipts.{HasReceipts}
-use Rattle.hsr_audit.specs.Topology.{Topology}
-use Rattle.hsr_audit.specs.declared.disagree.Disagree.{Disagree}
-use Rattle.hsr_audit.specs.declared.planned.Planned.{Planned}
-use Rattle.hsr_ring.specs.Lines.{Line}
+use Rattle.hsr_closing.specs.Checked.{Agrees, IsFirst}
+use Rattle.hsr_closing.specs.Finished.{Finished, items_of, run_of}
+use Rattle.hsr_closing.specs.Passes.{IsToldBy}
+use Rattle.hsr_closing.specs.Receipts.{HasReceipts}
+use Rattle.hsr_topology.specs.Topology.{Topology}
+use Rattle.hsr_closing.specs.declared.disagree.Disagree.{Disagree}
+use Rattle.hsr_closing.specs.declared.planned.Planned.{Planned}
+use Rattle.hsr_world.specs.Lines.{Line}
 
 abbrev pub rows_in : Line → List Row
 rows_in line = line.link.rows

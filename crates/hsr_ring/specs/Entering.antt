@@ -9,13 +9,13 @@ use Rattle.hsr_node.specs.declared.event.Outcome.{Outcome}
 use Rattle.hsr_node.specs.declared.event.StepFault.{StepFault}
 use Rattle.hsr_node.specs.declared.event.StepFault.TheVariants as refused
 use Rattle.hsr_node.specs.declared.place.Place.{Place}
-use Rattle.hsr_ring.specs.Lines.{Line}
+use Rattle.hsr_world.specs.Lines.{Line}
 use Rattle.hsr_ring.specs.Views.{world_of}
-use Rattle.hsr_ring.specs.World.{World, entered}
-use Rattle.hsr_audit.specs.Run.{owner_in, record_in}
-use Rattle.hsr_audit.specs.declared.planned.Planned.{Planned}
-use Rattle.hsr_ring.specs.declared.step.WorldFault.{WorldFault}
-use Rattle.hsr_ring.specs.declared.step.WorldFault.TheVariants.{Node, NoMemory}
+use Rattle.hsr_world.specs.World.{World, entered}
+use Rattle.hsr_law.specs.Run.{owner_in, record_in}
+use Rattle.hsr_closing.specs.declared.planned.Planned.{Planned}
+use Rattle.hsr_step.specs.declared.step.WorldFault.{WorldFault}
+use Rattle.hsr_step.specs.declared.step.WorldFault.TheVariants.{Node, NoMemory}
 
 abbrev pub places_of : List Record → List Place
 places_of nodes = map (λ (r : Record). r.place) nodes

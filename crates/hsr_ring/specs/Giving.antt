@@ -1,13 +1,13 @@
 -- What a new entry gives to the ways of the code, and the room that it needs.
 use Rattle.std.specs.Prelude.{ℕ, ◌==◌, ◌≡◌, ◌<◌, ◌≤◌, true, List, [], ◌++◌, if◌then◌else◌, option_map, option_to_list, vec_capacity}
 use Rattle.std.specs.VecDeque.{deque_len, deque_capacity}
-use Rattle.hsr_audit.specs.declared.end.End.{End}
+use Rattle.hsr_topology.specs.declared.end.End.{End}
 use Rattle.hsr_node.specs.Copies.{copy_octets}
 use Rattle.hsr_node.specs.Record.{probe_handled}
 use Rattle.hsr_node.specs.declared.entry.Receipt.{Receipt}
 use Rattle.hsr_node.specs.declared.event.Carried.{Carried}
 use Rattle.hsr_node.specs.declared.place.Place.{Place}
-use Rattle.hsr_ring.specs.Lines.{Lane, Line, emptied, on_lanes}
+use Rattle.hsr_world.specs.Lines.{Lane, Line, emptied, on_lanes}
 use Rattle.hsr_ring.specs.Views.{line_view}
 use Rattle.hsr_ring.specs.declared.line.Line as code
 use Rattle.hsr_ring.specs.declared.way.Way.{Way}

@@ -1,16 +1,7 @@
-pub mod Lines
-pub mod World
-pub mod Law
-pub mod Origin
 pub mod Views
 pub mod Giving
 pub mod Entering
 pub mod Starting
-pub mod Reached
 pub mod Stopping
-pub mod Closing
-pub mod Lawful
-pub mod Fit
-pub mod Fitting
 pub mod Ports
 pub mod Ending

@@ -2,18 +2,18 @@
 use Rattle.std.specs.Prelude.{ℕ, ◌+◌, ◌≡◌, Bool, false, if◌then◌else◌, List, [], ◌∷◌, map, is_some, Option, Some, None, option_map}
 use Rattle.std.specs.Option.{option_or}
 use Rattle.std.specs.List.{find}
-use Rattle.hsr_audit.specs.Links.{is_same_end}
-use Rattle.hsr_audit.specs.declared.end.End.{End}
+use Rattle.hsr_topology.specs.Links.{is_same_end}
+use Rattle.hsr_topology.specs.declared.end.End.{End}
 use Rattle.hsr_link.specs.declared.row.Dir.TheVariants.{Forth, Back}
 use Rattle.hsr_node.specs.declared.place.Place.{Place}
-use Rattle.hsr_ring.specs.Lines.{Line, Spot, lane_of, spot_from}
-use Rattle.hsr_ring.specs.Reached.{IsReached}
+use Rattle.hsr_world.specs.Lines.{Line, Spot, lane_of, spot_from}
+use Rattle.hsr_world.specs.Reached.{IsReached}
 use Rattle.hsr_ring.specs.Views.{spot_view}
-use Rattle.hsr_ring.specs.World.{World, line_in, ports_from, take_from, waits_in}
+use Rattle.hsr_world.specs.World.{World, line_in, ports_from, take_from, waits_in}
 use Rattle.hsr_ring.specs.declared.port.Port.{Port}
 use Rattle.hsr_ring.specs.declared.spot.Spot as code-spot
-use Rattle.hsr_ring.specs.declared.step.Step.{Step}
-use Rattle.hsr_ring.specs.declared.step.Step.TheVariants.{Judge, Put}
+use Rattle.hsr_step.specs.declared.step.Step.{Step}
+use Rattle.hsr_step.specs.declared.step.Step.TheVariants.{Judge, Put}
 
 -- the direction in which the port at an end receives, among the lines from the k-th on
 abbrev pub spot_to : End → ℕ → List Line → Option Spot

@@ -1,21 +1,21 @@
 -- How a contract sees the ways and lines of the code, and what a call makes of one line.
 use Rattle.std.specs.List.{range_with_len}
 use Rattle.std.specs.Prelude.{ℕ, ◌≡◌, ◌≤◌, List, [], ◌∷◌, nat_lt, if◌then◌else◌, slice_index_or, length, map, set, Option, Some, None, Result, Ok, Err}
-use Rattle.hsr_audit.specs.Nodes.{ports}
-use Rattle.hsr_audit.specs.declared.end.End.{End}
+use Rattle.hsr_node.specs.Place.{ports}
+use Rattle.hsr_topology.specs.declared.end.End.{End}
 use Rattle.hsr_link.specs.Link.{Link, cut_step, inject_step, mended, put_step, take_step}
 use Rattle.hsr_link.specs.declared.row.Dir.{Dir}
 use Rattle.hsr_node.specs.Kept.{Record, past_of}
 use Rattle.hsr_node.specs.declared.event.Carried.{Carried}
 use Rattle.hsr_node.specs.declared.place.Place.{Place}
 use Rattle.hsr_node.specs.declared.place.Place.TheVariants.{QuadBox}
-use Rattle.hsr_ring.specs.Lines.{Lane, Line, Spot, lane_of, spot_from, with_lane, with_link}
-use Rattle.hsr_ring.specs.World.{World, line_in}
+use Rattle.hsr_world.specs.Lines.{Lane, Line, Spot, lane_of, spot_from, with_lane, with_link}
+use Rattle.hsr_world.specs.World.{World, line_in}
 use Rattle.hsr_ring.specs.declared.line.Line as code
 use Rattle.hsr_ring.specs.declared.spot.Spot as code-spot
-use Rattle.hsr_audit.specs.declared.planned.Planned.{Planned}
-use Rattle.hsr_ring.specs.declared.step.WorldFault.{WorldFault}
-use Rattle.hsr_ring.specs.declared.step.WorldFault.TheVariants.{Busy, NoSuchNode, NoSuchPort, Nothing}
+use Rattle.hsr_closing.specs.declared.planned.Planned.{Planned}
+use Rattle.hsr_step.specs.declared.step.WorldFault.{WorldFault}
+use Rattle.hsr_step.specs.declared.step.WorldFault.TheVariants.{Busy, NoSuchNode, NoSuchPort, Nothing}
 use Rattle.hsr_ring.specs.declared.way.Way.{Way}
 
 abbrev pub lane_view : Way → Lane

@@ -1,15 +1,16 @@
 //! What a world hands over where it is closed.
 ghost use Rattle.std.specs.Prelude.{◌≡◌, IfErr, IfOk, map};
-ghost use Rattle.hsr_audit.specs.Checked.{IfDisagree};
-ghost use Rattle.hsr_audit.specs.Finished.{items_of};
+ghost use Rattle.hsr_closing.specs.Checked.{IfDisagree};
+ghost use Rattle.hsr_closing.specs.Finished.{items_of};
 ghost use Rattle.hsr_ring.specs.Ending.{AreTold, IsToldClosed, IsToldOpen, rows_in};
 ghost use Rattle.hsr_ring.specs.Views.{line_view};
 
 use crate::line::Line;
-use hsr_audit::{CheckFault, Closed, Parts, Planned, Topology, passes_of};
+use hsr_closing::{CheckFault, Closed, Parts, Planned, passes_of};
 use hsr_frame::NoMemory;
 use hsr_link::Row;
 use hsr_node::{Kept, Pass};
+use hsr_topology::Topology;
 use std::alloc::Global;
 
 /// What a world is made of, but its links.

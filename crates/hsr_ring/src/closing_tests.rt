@@ -1,6 +1,6 @@
 use crate::tests::{ring, send};
 use crate::*;
-use hsr_audit::{CheckFault, Disagree};
+use hsr_closing::{CheckFault, Disagree};
 use hsr_link::Dir;
 use hsr_node::Octets;
 use std::test::Fail;

@@ -2,12 +2,12 @@
 ghost use Rattle.std.specs.Prelude.{◌≡◌, ◌⊎◌, ◌<◌, IfErr, IfOk, OnOk, length, map};
 ghost use Rattle.hsr_ring.specs.Entering.{IsEntered, IsNotEntered, IsRefusal, IsStepped, world_fault};
 ghost use Rattle.hsr_ring.specs.Views.{AreNumbered, line_view};
-ghost use Rattle.hsr_ring.specs.declared.step.WorldFault.TheVariants.{NoMemory};
+ghost use Rattle.hsr_step.specs.declared.step.WorldFault.TheVariants.{NoMemory};
 
 use crate::giving::{commit, prepare};
 use crate::line::Line;
-use crate::step::WorldFault;
 use hsr_node::{Event, Kept, Receipt, StepFault};
+use hsr_step::WorldFault;
 use std::alloc::Global;
 
 /// Why a step is refused for which a node refuses an event.

@@ -1,14 +1,14 @@
 //! What a receiving port holds.
 ghost use Rattle.std.specs.Prelude.{◌≡◌, IfOk, map};
 ghost use Rattle.hsr_ring.specs.Giving.{emptied_line};
-ghost use Rattle.hsr_ring.specs.Lines.{emptied, held_in, lanes_of, on_lanes};
+ghost use Rattle.hsr_world.specs.Lines.{emptied, held_in, lanes_of, on_lanes};
 ghost use Rattle.hsr_ring.specs.Views.{lane_view, line_view};
 
 use crate::line::Line;
 use crate::way::Way;
-use hsr_audit::End;
 use hsr_frame::NoMemory;
 use hsr_node::Carried;
+use hsr_topology::End;
 
 fn copy_of(hand: &Option<Carried>) -> Result<Option<Carried>, NoMemory>
     ensures { IfOk result (λ copy. copy ≡ hand.now) }

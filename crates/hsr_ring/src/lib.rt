@@ -3,25 +3,24 @@
 
 mod closing;
 mod entering;
+mod fit;
 mod giving;
 mod hand;
-mod law;
 mod line;
 mod port;
 mod running;
 mod spot;
 mod starting;
-mod step;
 mod waiting;
 mod way;
 mod world;
 
-pub use law::{
+pub use hsr_step::{DrainFault, Step, WorldFault};
+pub use hsr_world::{
     always_closes, always_finishes, always_frames, always_numbered_first, always_of_send,
     always_origins, always_placed, always_planned, always_sent, always_sound, first_sound,
     fit_frames, only_quiet_closes, step_placed,
 };
-pub use step::{DrainFault, Step, WorldFault};
 pub use world::World;
 
 #[cfg(test)]

@@ -1,13 +1,13 @@
 //! A link, with what the ports at its ends keep.
 ghost use Rattle.std.specs.Prelude.{◌≡◌, ◌<◌, ◌⊎◌, Ok, Err, OnOk, IfErr, length, map};
-ghost use Rattle.hsr_ring.specs.Lines.{lane_of};
+ghost use Rattle.hsr_world.specs.Lines.{lane_of};
 ghost use Rattle.hsr_ring.specs.Views.{cut_line, inject_line, lane_view, line_view, mend_line, on_line, put_lane, put_line, put_lines, take_lane, take_line, take_lines};
-ghost use Rattle.hsr_ring.specs.declared.step.WorldFault.TheVariants.{NoMemory};
+ghost use Rattle.hsr_step.specs.declared.step.WorldFault.TheVariants.{NoMemory};
 
-use crate::step::WorldFault;
 use crate::way::Way;
 use hsr_link::{Dir, Link};
 use hsr_node::{Carried, Octets};
+use hsr_step::WorldFault;
 use std::alloc::Global;
 
 /// A link and its two directions.

@@ -3,14 +3,14 @@ ghost use Rattle.std.specs.Prelude.{◌≡◌, ◌++◌, IfOk, OnOk, map, option
 ghost use Rattle.hsr_ring.specs.Entering.{places_of};
 ghost use Rattle.hsr_ring.specs.Ports.{port_at, ports_in, spot_to};
 ghost use Rattle.hsr_ring.specs.Views.{line_view, spot_view};
-ghost use Rattle.hsr_ring.specs.World.{ports_of};
+ghost use Rattle.hsr_world.specs.World.{ports_of};
 
 use crate::line::Line;
 use crate::spot::{Spot, find_spot};
-use hsr_audit::{End, ports};
 use hsr_frame::NoMemory;
 use hsr_link::Dir;
 use hsr_node::Kept;
+use hsr_topology::End;
 use std::alloc::Global;
 
 /// A port, with the directions in which it receives and sends, if it has a link. They stay what they are, whatever is done,
@@ -77,7 +77,7 @@ pub(crate) fn new_ports<const C: usize>(
 {
     let mut all = Vec::new(alloc);
     for (node, kept) in nodes.iter().enumerate() {
-        add_ports(&mut all, lines, node, ports(kept.place()))?;
+        add_ports(&mut all, lines, node, kept.place().ports())?;
     }
     Ok(all)
 }

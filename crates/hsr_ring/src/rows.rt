@@ -1,10 +1,11 @@
 use super::*;
 use crate::tests::{GROUP, danh};
 use arrayvec::ArrayVec;
-use hsr_audit::{End, Topology};
-use hsr_frame::{Counters, Mac, Mode, hex_octets};
+use hsr_frame::{Counters, Mac, Mode};
 use hsr_link::{Dir, Fate, Row};
 use hsr_node::{Entry, Octets, Place, up_out};
+use hsr_text::hex_octets;
+use hsr_topology::{End, Topology};
 use std::test::Fail;
 
 const FIRST: [u8; 6] = [2, 0, 0, 0, 0, 1];

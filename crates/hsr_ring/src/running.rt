@@ -3,7 +3,7 @@ ghost use Rattle.std.specs.Prelude.{◌≡◌, ◌⊎◌, ◌<◌, ◌≤◌, Ok
 ghost use Rattle.hsr_ring.specs.Views.{in_world, port_fault, put_at_end};
 ghost use Rattle.hsr_ring.specs.Entering.{IsUnplanned};
 ghost use Rattle.hsr_node.specs.Kept.{Record};
-ghost use Rattle.hsr_ring.specs.World.{port_worker};
+ghost use Rattle.hsr_world.specs.World.{port_worker};
 
 use crate::closing::{Rest, closed_of};
 use crate::entering::enter;
@@ -12,13 +12,13 @@ use crate::line::{Line, cut_at, inject_at, mend_at, take_at};
 use crate::port::{Port, new_ports};
 use crate::spot::put_at_end;
 use crate::starting::{new_lines, new_nodes};
-use crate::step::{Step, WorldFault};
 use crate::waiting::next_step;
-use hsr_audit::{CheckFault, Closed, End, Planned, Topology, ports};
-use hsr_frame::{Counters, Mac};
+use hsr_closing::{CheckFault, Closed, Planned};
+use hsr_frame::{About, Counters, Mac};
 use hsr_link::{Dir, Row};
 use hsr_node::{Carried, Entry, Event, Kept, Octets};
-use hsr_redbox::About;
+use hsr_step::{Step, WorldFault};
+use hsr_topology::{End, Topology};
 use std::alloc::Global;
 use std::marker::Model;
 
@@ -35,7 +35,7 @@ pub(crate) struct Running<const C: usize> {
 impl<const C: usize> Model for Running<C> {
     ghost use Rattle.std.specs.Prelude.{map};
     ghost use Rattle.hsr_ring.specs.Views.{AreNumbered, line_view, world_of};
-    ghost use Rattle.hsr_ring.specs.World.{World};
+    ghost use Rattle.hsr_world.specs.World.{World};
 
     ghost Value = { World };
 
@@ -50,7 +50,7 @@ fn port_fault<const C: usize>(nodes: &[Kept<C>], node: usize, port: u8) -> Optio
 {
     match nodes.get(node) {
         Some(kept) => {
-            if port < ports(kept.place()) {
+            if port < kept.place().ports() {
                 None
             } else {
                 Some(WorldFault::NoSuchPort)
@@ -69,7 +69,7 @@ fn port_worker(end: End) -> u16
 }
 
 impl<const C: usize> Running<C> {
-    ghost use Rattle.hsr_ring.specs.World.{new_world};
+    ghost use Rattle.hsr_world.specs.World.{new_world};
 
     /// The world of a topology in which nothing was done; on each link `capacity` copies may wait in each direction.
     pub(crate) fn new(
@@ -94,19 +94,19 @@ impl<const C: usize> Running<C> {
 }
 
 impl<const C: usize> Running<C> {
-    ghost use Rattle.hsr_ring.specs.Lines.{held_in, lanes_of};
-    ghost use Rattle.hsr_ring.specs.World.{by_main, cleared, entered, planned, tried};
-    ghost use Rattle.hsr_ring.specs.declared.step.Step.TheVariants.{Age, Clock, Cut, Inject, Judge, Mend, Put, Send, Supervise, Take};
-    ghost use Rattle.hsr_ring.specs.declared.step.WorldFault.TheVariants.{NoMemory};
+    ghost use Rattle.hsr_world.specs.Lines.{held_in, lanes_of};
+    ghost use Rattle.hsr_world.specs.World.{by_main, cleared, entered, planned, tried};
+    ghost use Rattle.hsr_step.specs.declared.step.Step.TheVariants.{Age, Clock, Cut, Inject, Judge, Mend, Put, Send, Supervise, Take};
+    ghost use Rattle.hsr_step.specs.declared.step.WorldFault.TheVariants.{NoMemory};
 
-    #[tactic(auto, unfolding(crate::specs::World::tried))]
+    #[tactic(auto, unfolding(hsr_world::specs::World::tried))]
     fn clock(&mut self, at: u64)
         ensures { tried C self.old (Clock at) ≡ Ok self.new }
     {
         self.moment = at;
     }
 
-    #[tactic(auto, unfolding(crate::specs::World::tried))]
+    #[tactic(auto, unfolding(hsr_world::specs::World::tried))]
     fn mend(&mut self, link: usize) -> Result<(), WorldFault>
         ensures ok { OnOk result (tried C self.old (Mend link) ≡ Ok self.new) }
         ensures err { IfErr result (λ f. (self.new ≡ self.old) × (tried C self.old (Mend link) ≡ Err f)) }
@@ -118,7 +118,7 @@ impl<const C: usize> Running<C> {
         Ok(())
     }
 
-    #[tactic(auto, unfolding(crate::specs::World::tried))]
+    #[tactic(auto, unfolding(hsr_world::specs::World::tried))]
     fn cut(&mut self, link: usize) -> Result<(), WorldFault>
         ensures ok { OnOk result (tried C self.old (Cut link) ≡ Ok self.new) }
         ensures err { IfErr result (λ f. (self.new ≡ self.old) × (tried C self.old (Cut link) ≡ Err f)) }
@@ -130,7 +130,7 @@ impl<const C: usize> Running<C> {
         Ok(())
     }
 
-    #[tactic(auto, unfolding(crate::specs::World::tried))]
+    #[tactic(auto, unfolding(hsr_world::specs::World::tried))]
     fn inject(&mut self, link: usize, dir: Dir, octets: &Octets) -> Result<(), WorldFault>
         ensures ok { OnOk result (tried C self.old (Inject link dir octets.now) ≡ Ok self.new) }
         ensures err { IfErr result (λ f. (self.new ≡ self.old) × ((f ≡ NoMemory) ⊎ (tried C self.old (Inject link dir octets.now) ≡ Err f))) }
@@ -147,7 +147,7 @@ impl<const C: usize> Running<C> {
         }
     }
 
-    #[tactic(auto, unfolding(crate::specs::World::tried))]
+    #[tactic(auto, unfolding(hsr_world::specs::World::tried))]
     fn take(&mut self, link: usize, dir: Dir) -> Result<(), WorldFault>
         ensures ok { OnOk result (tried C self.old (Take link dir) ≡ Ok self.new) }
         ensures err { IfErr result (λ f. (self.new ≡ self.old) × (tried C self.old (Take link dir) ≡ Err f)) }
@@ -287,7 +287,7 @@ impl<const C: usize> Running<C> {
         }
     }
 
-    #[tactic(auto, unfolding(crate::specs::World::tried))]
+    #[tactic(auto, unfolding(hsr_world::specs::World::tried))]
     fn age(&mut self, node: usize) -> Result<(), WorldFault>
         ensures ok { OnOk result (tried C self.old (Age node) ≡ Ok self.new) }
         ensures err { IfErr result (λ f. (self.new ≡ self.old) × ((f ≡ NoMemory) ⊎ (tried C self.old (Age node) ≡ Err f))) }
@@ -295,7 +295,7 @@ impl<const C: usize> Running<C> {
         self.by_main(node, Event::Age)
     }
 
-    #[tactic(auto, unfolding(crate::specs::World::tried))]
+    #[tactic(auto, unfolding(hsr_world::specs::World::tried))]
     fn supervise(&mut self, node: usize, about: About) -> Result<(), WorldFault>
         ensures ok { OnOk result (tried C self.old (Supervise node about) ≡ Ok self.new) }
         ensures err { IfErr result (λ f. (self.new ≡ self.old) × ((f ≡ NoMemory) ⊎ (tried C self.old (Supervise node about) ≡ Err f))) }
@@ -303,7 +303,7 @@ impl<const C: usize> Running<C> {
         self.by_main(node, Event::Supervise(about))
     }
 
-    #[tactic(auto, unfolding(crate::specs::World::tried))]
+    #[tactic(auto, unfolding(hsr_world::specs::World::tried))]
     fn send(
         &mut self,
         node: usize,
@@ -364,7 +364,7 @@ impl<const C: usize> Running<C> {
 impl<const C: usize> Running<C> {
     ghost use Rattle.hsr_node.specs.Counts.{counters};
     ghost use Rattle.hsr_ring.specs.Ports.{ports_in};
-    ghost use Rattle.hsr_ring.specs.World.{line_at, next_step, owner_at, record_at};
+    ghost use Rattle.hsr_world.specs.World.{line_at, next_step, owner_at, record_at};
 
     /// How many nodes there are.
     pub(crate) fn node_count(&self) -> usize
@@ -421,10 +421,10 @@ impl<const C: usize> Running<C> {
 }
 
 impl<const C: usize> Running<C> {
-    ghost use Rattle.hsr_audit.specs.Checked.{IfDisagree, IsOpen};
-    ghost use Rattle.hsr_audit.specs.Once.{IsCalm};
-    ghost use Rattle.hsr_ring.specs.Lawful.{IsEnded, finished_of};
-    ghost use Rattle.hsr_ring.specs.Reached.{IsReached};
+    ghost use Rattle.hsr_closing.specs.Checked.{IfDisagree, IsOpen};
+    ghost use Rattle.hsr_law.specs.Once.{IsCalm};
+    ghost use Rattle.hsr_world.specs.Lawful.{IsEnded, finished_of};
+    ghost use Rattle.hsr_world.specs.Reached.{IsReached};
 
     /// The finished run that a world of this topology is. Else all comes back as it was, with the first cause.
     pub(crate) fn close(

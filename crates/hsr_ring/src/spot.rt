@@ -1,13 +1,13 @@
 //! Where a port sends.
 ghost use Rattle.std.specs.Prelude.{◌≡◌, ◌<◌, map, length, option_map, ◌⊎◌, Ok, Err, OnOk, IfErr, IfSome};
-ghost use Rattle.hsr_ring.specs.Lines.{spot_from};
+ghost use Rattle.hsr_world.specs.Lines.{spot_from};
 ghost use Rattle.hsr_ring.specs.Views.{line_view, put_at_end, spot_view};
-ghost use Rattle.hsr_ring.specs.declared.step.WorldFault.TheVariants.{NoMemory};
+ghost use Rattle.hsr_step.specs.declared.step.WorldFault.TheVariants.{NoMemory};
 
 use crate::line::{Line, put_at};
-use crate::step::WorldFault;
-use hsr_audit::End;
 use hsr_link::Dir;
+use hsr_step::WorldFault;
+use hsr_topology::End;
 
 /// A direction of a link, by the number of the link.
 #[derive(Clone, Copy)]

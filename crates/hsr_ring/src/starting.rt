@@ -3,14 +3,14 @@ ghost use Rattle.std.specs.Prelude.{◌≡◌, ◌≤◌, IfOk, [], All, map, le
 ghost use Rattle.hsr_node.specs.Place.{HasOwnAddress};
 ghost use Rattle.hsr_ring.specs.Starting.{new_records};
 ghost use Rattle.hsr_ring.specs.Views.{lane_view, line_view};
-ghost use Rattle.hsr_ring.specs.World.{new_lane, new_line};
+ghost use Rattle.hsr_world.specs.World.{new_lane, new_line};
 
 use crate::line::Line;
 use crate::way::Way;
-use hsr_audit::End;
 use hsr_frame::NoMemory;
 use hsr_link::Link;
 use hsr_node::{Kept, Place};
+use hsr_topology::End;
 use std::alloc::Global;
 use std::collections::VecDeque;
 

@@ -1,9 +1,8 @@
 use super::*;
-use hsr_audit::{End, Topology};
-use hsr_frame::{Mac, Mode, SendFault};
+use hsr_frame::{About, Mac, Mode, SendFault};
 use hsr_link::Dir;
 use hsr_node::{Octets, Place, StepFault};
-use hsr_redbox::About;
+use hsr_topology::{End, Topology};
 use std::test::Fail;
 
 pub(crate) const GROUP: [u8; 6] = [1, 0, 0x5E, 0, 0, 1];

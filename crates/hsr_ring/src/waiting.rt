@@ -1,15 +1,15 @@
 //! What a drain does next.
 ghost use Rattle.std.specs.Prelude.{◌≡◌, is_some, map, not, option_map};
-ghost use Rattle.hsr_ring.specs.Lines.{lane_of};
+ghost use Rattle.hsr_world.specs.Lines.{lane_of};
 ghost use Rattle.hsr_ring.specs.Ports.{held_at, held_by, next_by, waiting_by};
 ghost use Rattle.hsr_ring.specs.Views.{line_view, spot_view};
-ghost use Rattle.hsr_ring.specs.World.{is_empty, take_from, waits_in};
+ghost use Rattle.hsr_world.specs.World.{is_empty, take_from, waits_in};
 
 use crate::line::Line;
 use crate::port::Port;
 use crate::spot::Spot;
-use crate::step::Step;
 use hsr_link::Dir;
+use hsr_step::Step;
 
 /// Whether a copy is in the hand of a direction.
 fn is_taken(line: &Line, dir: Dir) -> bool

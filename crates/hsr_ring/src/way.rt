@@ -4,9 +4,9 @@ ghost use Rattle.hsr_node.specs.Record.{probe_handled};
 ghost use Rattle.hsr_ring.specs.Giving.{IsReady, given_lane};
 ghost use Rattle.hsr_ring.specs.Views.{lane_view};
 
-use hsr_audit::End;
 use hsr_frame::NoMemory;
 use hsr_node::{Carried, Event, Octets, Place, Probe, Receipt, copy_out};
+use hsr_topology::End;
 use std::alloc::Global;
 use std::collections::VecDeque;
 use std::mem;

@@ -1,15 +1,16 @@
 //! Nodes and links in one world, and what is done with them, step by step.
 ghost use Rattle.std.specs.Prelude.{◌≡◌, ◌≤◌, ◌<◌, ◌⊎◌, Ok, Err, None, OnOk, IfErr, IfOk, length, reverse};
-ghost use Rattle.hsr_ring.specs.declared.step.WorldFault.TheVariants.{NoMemory as NoRoom};
+ghost use Rattle.hsr_step.specs.declared.step.WorldFault.TheVariants.{NoMemory as NoRoom};
 
-use crate::law::{places_fit, step_fits};
+use crate::fit::{places_fit, step_fits};
 use crate::port::Port;
 use crate::running::Running;
-use crate::step::{DrainFault, Step, WorldFault};
-use hsr_audit::{CheckFault, Closed, Topology};
+use hsr_closing::{CheckFault, Closed};
 use hsr_frame::{Counters, NoMemory};
 use hsr_link::Row;
 use hsr_node::Entry;
+use hsr_step::{DrainFault, Step, WorldFault};
+use hsr_topology::Topology;
 use std::alloc::Global;
 use std::marker::Model;
 
@@ -24,7 +25,7 @@ pub struct World<const C: usize> {
 
 impl<const C: usize> Model for World<C> {
     ghost use Rattle.hsr_ring.specs.Ports.{IsKept};
-    ghost use Rattle.hsr_ring.specs.World.{World};
+    ghost use Rattle.hsr_world.specs.World.{World};
 
     ghost Value = { World };
 
@@ -34,11 +35,11 @@ impl<const C: usize> Model for World<C> {
 }
 
 impl<const C: usize> World<C> {
-    ghost use Rattle.hsr_audit.specs.Checked.{IfDisagree, IsOpen};
-    ghost use Rattle.hsr_audit.specs.Once.{IsCalm};
-    ghost use Rattle.hsr_ring.specs.Lawful.{IsEnded, IsLawful, finished_of};
+    ghost use Rattle.hsr_closing.specs.Checked.{IfDisagree, IsOpen};
+    ghost use Rattle.hsr_law.specs.Once.{IsCalm};
+    ghost use Rattle.hsr_world.specs.Lawful.{IsEnded, IsLawful, finished_of};
     ghost use Rattle.hsr_ring.specs.Stopping.{IsDrainFault, Runs, Stops};
-    ghost use Rattle.hsr_ring.specs.World.{Drains, line_at, new_world, next_step, owner_at, record_at, tried};
+    ghost use Rattle.hsr_world.specs.World.{Drains, line_at, new_world, next_step, owner_at, record_at, tried};
     ghost use Rattle.hsr_node.specs.Counts.{counters};
 
     /// A world at moment 0 in which nothing was done, with room for `capacity` copies, 1 to 4096, in each direction of a link.

@@ -1,7 +1,7 @@
 -- The words of a fault.
 use Rattle.std.specs.Prelude.{ℕ, List, ◌++◌, codes}
 use Rattle.std.specs.Fmt.{decimal}
-use Rattle.hsr_audit.specs.Fault.{topology_fault_code}
+use Rattle.hsr_topology.specs.Fault.{topology_fault_code}
 use Rattle.hsr_scenario.specs.declared.fault.Key.{Key}
 use Rattle.hsr_scenario.specs.declared.fault.Key.TheVariants as key
 use Rattle.hsr_scenario.specs.declared.fault.Spot.{Spot}

@@ -2,9 +2,9 @@
 use Rattle.std.specs.Prelude.{ℕ, ◌^◌, nat_le, List, [], ◌∷◌, length, map, Option, Some, None, Result, Ok, Err, if◌then◌else◌}
 use Rattle.toml.specs.Data.{Members}
 use Rattle.toml.specs.Parse.{parse_document}
-use Rattle.hsr_audit.specs.Topology.{Topology, made}
-use Rattle.hsr_audit.specs.declared.end.End.{End}
-use Rattle.hsr_audit.specs.declared.fault.TopologyFault.{TopologyFault}
+use Rattle.hsr_topology.specs.Topology.{Topology, made}
+use Rattle.hsr_topology.specs.declared.end.End.{End}
+use Rattle.hsr_topology.specs.declared.fault.TopologyFault.{TopologyFault}
 use Rattle.hsr_scenario.specs.Told.{◌>>=◌, at_spot, each}
 use Rattle.hsr_scenario.specs.Tables.{between, only, optional, tables}
 use Rattle.hsr_scenario.specs.Nodes.{node_in}

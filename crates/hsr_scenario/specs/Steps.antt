@@ -1,10 +1,10 @@
 -- What the table of a step says.
 use Rattle.std.specs.Prelude.{ℕ, ℤ, pos, negsuc, nat_lt, List, [], ◌∷◌, Option, Some, None, Result, Ok, ok_or, if◌then◌else◌}
 use Rattle.toml.specs.Data.{Data, Members}
-use Rattle.hsr_redbox.specs.declared.call.About.{About}
-use Rattle.hsr_redbox.specs.declared.call.About.TheVariants.{Own, Proxied}
-use Rattle.hsr_ring.specs.declared.step.Step.{Step}
-use Rattle.hsr_ring.specs.declared.step.Step.TheVariants.{Clock, Send, Supervise, Age, Put, Take, Judge, Cut, Mend, Inject}
+use Rattle.hsr_frame.specs.declared.node.About.{About}
+use Rattle.hsr_frame.specs.declared.node.About.TheVariants.{Own, Proxied}
+use Rattle.hsr_step.specs.declared.step.Step.{Step}
+use Rattle.hsr_step.specs.declared.step.Step.TheVariants.{Clock, Send, Supervise, Age, Put, Take, Judge, Cut, Mend, Inject}
 use Rattle.hsr_scenario.specs.Told.{◌>>=◌}
 use Rattle.hsr_scenario.specs.Tables.{between, integer, moment, needed, only, optional, word}
 use Rattle.hsr_scenario.specs.Words.{deed_of, dir_of, mac_of, octets_of}

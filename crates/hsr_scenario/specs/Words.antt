@@ -5,7 +5,7 @@ use Rattle.std.specs.Result.{result_ok}
 use Rattle.std.specs.Str.{bytes_eq}
 use Rattle.hex.specs.Hex.{decode_of}
 use Rattle.hsr_frame.specs.Address.{address_of}
-use Rattle.hsr_frame.specs.Words.{cut}
+use Rattle.hsr_text.specs.Words.{cut}
 use Rattle.hsr_frame.specs.declared.node.Mode.{Mode}
 use Rattle.hsr_frame.specs.declared.node.Mode.TheVariants.{H, N}
 use Rattle.hsr_link.specs.declared.row.Dir.{Dir}

@@ -2,7 +2,7 @@
 ghost use Rattle.std.specs.Prelude.{◌≡◌, Some};
 ghost use Rattle.hsr_scenario.specs.Fault.{key_text};
 
-use hsr_audit::TopologyFault;
+use hsr_topology::TopologyFault;
 use std::error::Error;
 use std::fmt;
 

@@ -10,8 +10,8 @@ use crate::fault::{Key, What};
 use crate::nodes::Named;
 use crate::table::{needed, only, text, texts};
 use crate::words::{end_of, is_name};
-use hsr_audit::End;
 use hsr_node::Place;
+use hsr_topology::End;
 use std::alloc::Global;
 use toml::{Table, Value};
 

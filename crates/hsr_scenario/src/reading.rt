@@ -16,8 +16,8 @@ use crate::nodes::{Named, node};
 use crate::scenario::Scenario;
 use crate::steps::{Order, order_in};
 use crate::table::{between, only, tables, value};
-use hsr_audit::{End, Topology};
 use hsr_node::Place;
+use hsr_topology::{End, Topology};
 use std::alloc::Global;
 use toml::Table;
 

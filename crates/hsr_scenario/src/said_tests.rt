@@ -2,9 +2,9 @@
 use crate::tests::{NODES, joined};
 use crate::{Order, Scenario, What, read};
 use arrayvec::ArrayVec;
-use hsr_audit::End;
 use hsr_node::Place;
-use hsr_ring::Step as Deed;
+use hsr_step::Step as Deed;
+use hsr_topology::End;
 use std::alloc::Global;
 use std::test::Fail;
 

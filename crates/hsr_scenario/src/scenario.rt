@@ -2,7 +2,7 @@
 ghost use Rattle.std.specs.Prelude.{◌≤◌};
 
 use crate::steps::Order;
-use hsr_audit::Topology;
+use hsr_topology::Topology;
 
 /// What a bench is made of, and what it does.
 #[derive(Debug, Drop)]

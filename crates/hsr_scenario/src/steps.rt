@@ -6,7 +6,7 @@ ghost use Rattle.hsr_scenario.specs.Tables.{between, moment, natural, needed, op
 ghost use Rattle.hsr_scenario.specs.Words.{deed_of, dir_of, mac_of, octets_of};
 ghost use Rattle.hsr_scenario.specs.Steps.{age, at_link, at_port, clock, drain, inject, life, link_numbered, order_in, order_of, perhaps, send, stepped, take, used_link};
 ghost use Rattle.hsr_scenario.specs.declared.fault.Key.TheVariants as key;
-ghost use Rattle.hsr_ring.specs.declared.step.Step.TheVariants as step;
+ghost use Rattle.hsr_step.specs.declared.step.Step.TheVariants as step;
 
 use crate::fault::{Key, What};
 use crate::links::{used_node, used_port};
@@ -14,11 +14,10 @@ use crate::nodes::{Named, mac};
 use crate::table::{between, integer, needed, only, text, value};
 use crate::words::{Deed, deed_of, dir_of};
 use hex::FromHexError;
-use hsr_frame::Mac;
+use hsr_frame::{About, Mac};
 use hsr_link::Dir;
 use hsr_node::Octets;
-use hsr_redbox::About;
-use hsr_ring::Step;
+use hsr_step::Step;
 use std::alloc::Global;
 use toml::{Table, Value};
 

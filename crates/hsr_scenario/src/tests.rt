@@ -2,7 +2,7 @@
 use crate::Key::{Capacity, Ends, Link, Mac, Macs, Mode, Name, Node, Role, Step};
 use crate::What::{BadValue, Missing, NameTwice, NoSuchName, Text, Topology, Unknown, WrongKind};
 use crate::{ScenarioFault, Spot, What, read};
-use hsr_audit::TopologyFault::{BadNode, PortTwice, WrongPeer};
+use hsr_topology::TopologyFault::{BadNode, PortTwice, WrongPeer};
 use std::alloc::Global;
 use std::process::Abort;
 use std::test::Fail;

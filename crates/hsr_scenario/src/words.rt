@@ -1,7 +1,7 @@
 //! The words that texts of a scenario spell.
 ghost use Rattle.std.specs.Prelude.{◌≡◌, ◌++◌, option_map};
 ghost use Rattle.std.specs.List.{list_all};
-ghost use Rattle.hsr_frame.specs.Words.{cut};
+ghost use Rattle.hsr_text.specs.Words.{cut};
 ghost use Rattle.hsr_scenario.specs.Words.{deed_of, dir_of, end_of, is_name, is_name_octet, is_port_letter, mode_of, role_of};
 
 use hsr_frame::Mode;

@@ -3,7 +3,7 @@ ghost use Rattle.std.specs.Prelude.{[], ◌∷◌, ◌≡◌, ◌==◌, ◌<◌,
 ghost use Rattle.hsr_supervision.specs.Payload.{Fields, IsSaid, kind_number, kind_of, lacks_address, onto, read_of, redbox_among, result_map, spelling, tlvs_past};
 
 use arrayvec::ArrayVec;
-use hsr_frame::{Mac, put, put_pair, u16_at};
+use hsr_frame::{Mac, put, put_u16, u16_at};
 use std::marker::Model;
 use thiserror::Error;
 
@@ -209,8 +209,8 @@ fn octets_of(said: &Supervision) -> ArrayVec<u8, 46>
     ensures well_formed { IsSaid said.now }
 {
     let mut out = ArrayVec::new();
-    put_pair(&mut out, u16::from(said.path) * 4096 + said.version);
-    put_pair(&mut out, said.seq);
+    put_u16(&mut out, u16::from(said.path) * 4096 + said.version);
+    put_u16(&mut out, said.seq);
     put(&mut out, &[number_of(said.kind), 6]);
     put(&mut out, &said.about.octets());
     if let Some(mac) = said.redbox {

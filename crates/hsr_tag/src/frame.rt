@@ -4,7 +4,7 @@ ghost use Rattle.hsr_frame.specs.Grammar.{spelling};
 ghost use Rattle.hsr_tag.specs.Tag.{tag_of, untag_of, IsPlain, IsTagged, tagged_spelling};
 
 use arrayvec::ArrayVec;
-use hsr_frame::{HSR, Mac, copied, put, put_head, put_pair};
+use hsr_frame::{ETHERTYPE_HSR, Mac, copied, put, put_head, put_u16};
 use std::marker::Model;
 
 /// A frame with no HSR tag. No group sends it, and its type is that of no VLAN or HSR tag. The payload has
@@ -81,7 +81,7 @@ impl Frame {
     {
         let mut out = ArrayVec::new();
         put_head(&mut out, &self.dst, &self.src, self.vlan);
-        put_pair(&mut out, self.kind);
+        put_u16(&mut out, self.kind);
         put(&mut out, self.payload.as_slice());
         out
     }
@@ -108,10 +108,10 @@ impl Tagged {
     {
         let mut out = ArrayVec::new();
         put_head(&mut out, &self.dst, &self.src, self.vlan);
-        put_pair(&mut out, HSR);
-        put_pair(&mut out, u16::from(self.path) * 4096 + self.size);
-        put_pair(&mut out, self.seq);
-        put_pair(&mut out, self.kind);
+        put_u16(&mut out, ETHERTYPE_HSR);
+        put_u16(&mut out, u16::from(self.path) * 4096 + self.size);
+        put_u16(&mut out, self.seq);
+        put_u16(&mut out, self.kind);
         put(&mut out, self.payload.as_slice());
         out
     }

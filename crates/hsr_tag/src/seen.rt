@@ -4,7 +4,7 @@ ghost use Rattle.hsr_frame.specs.Grammar.{Fields, spelling, IsRaw};
 ghost use Rattle.hsr_tag.specs.Tag.{TaggedFields, IsPlain, IsTagged, tagged_spelling};
 
 use crate::frame::{Frame, Tagged};
-use hsr_frame::{FrameFault, HSR, Head, VLAN, copied, u16_at};
+use hsr_frame::{ETHERTYPE_HSR, ETHERTYPE_VLAN, FrameFault, Head, copied, u16_at};
 
 /// A frame that was read.
 #[derive(Drop)]
@@ -23,7 +23,7 @@ fn seen_of(head: &Head<'_>, rest: &[u8]) -> Result<Seen, FrameFault>
     ensures found { IfOk result (λ s. (tag_fault head.now ≡ None) × (s ≡ seen_in head.now)) }
     ensures fault { IfErr result (λ e. tag_fault head.now ≡ Some e) }
 {
-    if head.kind != HSR {
+    if head.kind != ETHERTYPE_HSR {
         if rest.len() > 1500 {
             return Err(FrameFault::Long);
         }
@@ -40,10 +40,10 @@ fn seen_of(head: &Head<'_>, rest: &[u8]) -> Result<Seen, FrameFault>
     }
     let first = u16_at(rest, 0);
     let kind = u16_at(rest, 4);
-    if kind == HSR {
+    if kind == ETHERTYPE_HSR {
         return Err(FrameFault::NestedTag);
     }
-    if kind == VLAN {
+    if kind == ETHERTYPE_VLAN {
         return Err(FrameFault::DoubleVlan);
     }
     Ok(Seen::Tagged(Tagged {

@@ -4,25 +4,25 @@ use Rattle.std.specs.List.{All, AllByRecursion}
 use Rattle.std.specs.Fmt.{decimal}
 use Rattle.hsr_node.specs.declared.place.Place.{Place}
 use Rattle.hsr_node.specs.declared.place.Place.TheVariants.{QuadBox}
-use Rattle.hsr_audit.proofs.Lists.{all_implied}
-use Rattle.hsr_audit.specs.Finished.{Finished, IsFinished}
-use Rattle.hsr_audit.specs.Wired.{HasAddresses, IsJoin}
-use Rattle.hsr_audit.specs.declared.end.End.{End}
-use Rattle.hsr_audit.specs.declared.planned.Planned.{Planned}
-use Rattle.hsr_transcript.proofs.Again.{IsFinishedRow}
+use Rattle.hsr_law.proofs.Lists.{all_implied}
+use Rattle.hsr_closing.specs.Finished.{Finished, IsFinished}
+use Rattle.hsr_topology.specs.Wired.{HasAddresses, IsJoin}
+use Rattle.hsr_topology.specs.declared.end.End.{End}
+use Rattle.hsr_closing.specs.declared.planned.Planned.{Planned}
+use Rattle.hsr_transcript_text.proofs.Again.{IsFinishedRow}
 use Rattle.hsr_transcript.specs.Answers.{AreShort, IsTextOf}
-use Rattle.hsr_transcript.specs.Fits.{AreEntriesFit, AreRowsFit, Fits, IsEntryFit, IsPlaceFit}
-use Rattle.hsr_transcript.specs.Form.{form_of}
-use Rattle.hsr_transcript.specs.Parsed.{entry_of, link_of, place_of, row_of, turn_of}
-use Rattle.hsr_transcript.specs.Readable.{FitEach, IsSpelled, Lacks}
-use Rattle.hsr_transcript.proofs.Roles.{IsEntryOf}
-use Rattle.hsr_transcript.specs.Spelled.{entry_text, link_text, place_text, row_text}
-use Rattle.hsr_transcript.specs.Transcript.{run_text, said_lines, said_of}
+use Rattle.hsr_transcript_text.specs.Fits.{AreEntriesFit, AreRowsFit, Fits, IsEntryFit, IsPlaceFit}
+use Rattle.hsr_transcript_text.specs.Form.{form_of}
+use Rattle.hsr_transcript_text.specs.Parsed.{entry_of, link_of, place_of, row_of, turn_of}
+use Rattle.hsr_transcript_text.specs.Readable.{FitEach, IsSpelled, Lacks}
+use Rattle.hsr_transcript_text.proofs.Roles.{IsEntryOf}
+use Rattle.hsr_transcript_text.specs.Spelled.{entry_text, link_text, place_text, row_text}
+use Rattle.hsr_transcript_text.specs.Transcript.{run_text, said_lines, said_of}
 use Rattle.hsr_transcript.proofs.OfFinished.{entries_of_role, rows_finished}
-use Rattle.hsr_transcript.proofs.Entries.{entry_spelled}
+use Rattle.hsr_transcript_text.proofs.Entries.{entry_spelled}
 use Rattle.hsr_transcript.proofs.Shorts.{AreSpelled, IsSpelledSection, are_lines}
-use Rattle.hsr_transcript.proofs.Spells.{count_spelled, decimal_lacks, fixed_spelled, link_spelled, place_spelled, row_spelled, turn_spelled}
-use Rattle.hsr_transcript.proofs.Texts.{form_again}
+use Rattle.hsr_transcript_text.proofs.Spells.{count_spelled, decimal_lacks, fixed_spelled, link_spelled, place_spelled, row_spelled, turn_spelled}
+use Rattle.hsr_transcript_text.proofs.Texts.{form_again}
 
 -- ---- all of a list
 

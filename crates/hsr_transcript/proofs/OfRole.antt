@@ -10,7 +10,7 @@ use Rattle.hsr_frame.specs.declared.fault.SendFault.{SendFault}
 use Rattle.hsr_frame.specs.declared.node.Cause.{Cause}
 use Rattle.hsr_frame.specs.declared.node.Mode.{Mode}
 use Rattle.hsr_frame.specs.declared.node.RingPort.{RingPort}
-use Rattle.hsr_redbox.specs.declared.call.About.TheVariants.{Own, Proxied}
+use Rattle.hsr_frame.specs.declared.node.About.TheVariants.{Own, Proxied}
 use Rattle.hsr_redbox.specs.declared.call.BoxPort.{BoxPort}
 use Rattle.hsr_redbox.specs.declared.wanted.Handling.{Handling}
 use Rattle.hsr_node.specs.Record.{Each, Owner, answer, handling, now, passing, remembers}
@@ -30,9 +30,9 @@ use Rattle.hsr_node.proofs.OfDanh as of_danh
 use Rattle.hsr_node.proofs.OfRedBox as of_redbox
 use Rattle.hsr_node.proofs.OfStation as of_station
 use Rattle.hsr_node.proofs.Told.{Call, Keeps, Stays}
-use Rattle.hsr_audit.proofs.Records.{Answered}
-use Rattle.hsr_audit.proofs.Views.{Came, came, judged, knows_at}
-use Rattle.hsr_transcript.proofs.Roles.{AreExitsOf, IsOutcomeOf, IsPortOf}
+use Rattle.hsr_law.proofs.Records.{Answered}
+use Rattle.hsr_law.proofs.Views.{Came, came, judged, knows_at}
+use Rattle.hsr_transcript_text.proofs.Roles.{AreExitsOf, IsOutcomeOf, IsPortOf}
 
 -- ---- the exits of each role
 

@@ -3,12 +3,12 @@ use Rattle.std.proofs.Common.{ℕ, List, [], ◌∷◌, ◌++◌, Option, length
 use Rattle.std.specs.List.{AllByRecursion}
 use Rattle.std.specs.Fmt.{decimal}
 use Rattle.hsr_transcript.specs.Answers.{AreShort}
-use Rattle.hsr_transcript.specs.Form.{only}
-use Rattle.hsr_transcript.specs.Lines.{head, lines_by, lines_each, one, section}
-use Rattle.hsr_transcript.specs.Parsed.{count_of, entry_of, link_of, place_of, row_of, turn_of}
-use Rattle.hsr_transcript.specs.Readable.{AreLines, FitEach, IsLineOf, IsReadable, IsSection, IsSpelled}
-use Rattle.hsr_transcript.specs.Spelled.{entry_text, link_text, place_text, row_text}
-use Rattle.hsr_transcript.specs.Transcript.{Said, carried_lines, first_line, record_lines, said_front, said_lines}
+use Rattle.hsr_transcript_text.specs.Form.{only}
+use Rattle.hsr_transcript_text.specs.Lines.{head, lines_by, lines_each, one, section}
+use Rattle.hsr_transcript_text.specs.Parsed.{count_of, entry_of, link_of, place_of, row_of, turn_of}
+use Rattle.hsr_transcript_text.specs.Readable.{AreLines, FitEach, IsLineOf, IsReadable, IsSection, IsSpelled}
+use Rattle.hsr_transcript_text.specs.Spelled.{entry_text, link_text, place_text, row_text}
+use Rattle.hsr_transcript_text.specs.Transcript.{Said, carried_lines, first_line, record_lines, said_front, said_lines}
 
 -- a section whose count and lines are spelled
 pub record IsSpelledSection {Y : Type 0} (name : List ℕ) (of : List ℕ → Option Y) (spelled : Y → List ℕ) (ys : List Y) : Type 0 where

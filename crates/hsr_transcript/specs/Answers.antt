@@ -7,16 +7,16 @@ use Rattle.std.specs.Global.{Global}
 use Rattle.std.specs.List.{AllByRecursion}
 use Rattle.hsr_node.specs.Kept.{Receipts}
 use Rattle.hsr_link.specs.declared.row.Row.{Row}
-use Rattle.hsr_audit.specs.Checked.{Agrees, IsFirst}
-use Rattle.hsr_audit.specs.Finished.{Finished, items_of, run_of}
-use Rattle.hsr_audit.specs.Passes.{IsToldBy}
-use Rattle.hsr_audit.specs.Receipts.{HasReceipts}
-use Rattle.hsr_audit.specs.declared.disagree.Disagree.{Disagree}
-use Rattle.hsr_transcript.specs.Form.{form_of}
+use Rattle.hsr_closing.specs.Checked.{Agrees, IsFirst}
+use Rattle.hsr_closing.specs.Finished.{Finished, items_of, run_of}
+use Rattle.hsr_closing.specs.Passes.{IsToldBy}
+use Rattle.hsr_closing.specs.Receipts.{HasReceipts}
+use Rattle.hsr_closing.specs.declared.disagree.Disagree.{Disagree}
+use Rattle.hsr_transcript_text.specs.Form.{form_of}
 use Rattle.hsr_transcript.specs.Judged.{IsRefused, Standing, Stands}
-use Rattle.hsr_transcript.specs.Transcript.{Said, run_text, said_lines, said_of}
-use Rattle.hsr_transcript.specs.declared.fault.ReadFault.{ReadFault}
-use Rattle.hsr_transcript.specs.declared.fault.ReadFault.TheVariants.{Version, BadLine, End, Disagrees, Read, NoMemory}
+use Rattle.hsr_transcript_text.specs.Transcript.{Said, run_text, said_lines, said_of}
+use Rattle.hsr_transcript_text.specs.declared.fault.ReadFault.{ReadFault}
+use Rattle.hsr_transcript_text.specs.declared.fault.ReadFault.TheVariants.{Version, BadLine, End, Disagrees, Read, NoMemory}
 
 -- no line has more than 8192 octets
 abbrev pub AreShort : List (List ℕ) → Type 0

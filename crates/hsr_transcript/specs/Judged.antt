@@ -3,15 +3,15 @@
 --     Stands        what a text that is accepted so far stands for
 use Rattle.std.specs.Prelude.{ℕ, ◌≡◌, ◌+◌, ◌⊎◌, List, length, Result, Ok, Err}
 use Rattle.hsr_node.specs.Kept.{Record}
-use Rattle.hsr_audit.specs.Topology.{Topology}
-use Rattle.hsr_audit.specs.Wired.{IsWired}
-use Rattle.hsr_audit.specs.declared.planned.Planned.{Planned}
+use Rattle.hsr_topology.specs.Topology.{Topology}
+use Rattle.hsr_topology.specs.Wired.{IsWired}
+use Rattle.hsr_closing.specs.declared.planned.Planned.{Planned}
 use Rattle.hsr_link.specs.declared.row.Row.{Row}
 use Rattle.hsr_transcript.specs.Order.{IsOrder}
 use Rattle.hsr_transcript.specs.Replay.{AreLegal, IsFirstUnlike, records_from}
-use Rattle.hsr_transcript.specs.Transcript.{Said}
-use Rattle.hsr_transcript.specs.declared.fault.ReadFault.{ReadFault}
-use Rattle.hsr_transcript.specs.declared.fault.ReadFault.TheVariants.{BadLine, NoMemory}
+use Rattle.hsr_transcript_text.specs.Transcript.{Said}
+use Rattle.hsr_transcript_text.specs.declared.fault.ReadFault.{ReadFault}
+use Rattle.hsr_transcript_text.specs.declared.fault.ReadFault.TheVariants.{BadLine, NoMemory}
 
 -- the last line of the links, and the line that says how many entries the main worker has
 abbrev pub links_end : Said → ℕ

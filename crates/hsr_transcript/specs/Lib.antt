@@ -1,17 +1,5 @@
-pub mod Spelled
-pub mod Lines
-pub mod Transcript
-pub mod Written
-pub mod Reading
-pub mod Parsed
-pub mod Form
-pub mod Items
-pub mod Plain
 pub mod Order
-pub mod Told
 pub mod Replay
 pub mod Judged
 pub mod Ready
-pub mod Readable
-pub mod Fits
 pub mod Answers

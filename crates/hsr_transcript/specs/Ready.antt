@@ -1,6 +1,6 @@
 -- What stands, as the program holds it.
 use Rattle.std.specs.Prelude.{ℕ}
-use Rattle.hsr_transcript.specs.Items.{rows_of}
+use Rattle.hsr_transcript_text.specs.Items.{rows_of}
 use Rattle.hsr_transcript.specs.Judged.{Standing}
 use Rattle.hsr_transcript.specs.declared.ready.Ready.{Ready}
 

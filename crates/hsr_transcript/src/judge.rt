@@ -1,16 +1,15 @@
 //! Judges what a text says that is in form: topology, order, and each entry.
 ghost use Rattle.std.specs.Prelude.{◌≡◌, ◌≤◌};
-ghost use Rattle.hsr_transcript.specs.Told.{seen};
+ghost use Rattle.hsr_transcript_text.specs.Told.{seen};
 ghost use Rattle.hsr_transcript.specs.Judged.{Judged};
-ghost use Rattle.hsr_transcript.specs.Plain.{plain_view};
+ghost use Rattle.hsr_transcript_text.specs.Plain.{plain_view};
 ghost use Rattle.hsr_transcript.specs.Ready.{ready_view};
 
-use crate::fault::ReadFault;
 use crate::order::plan_of;
-use crate::plain::Plain;
 use crate::ready::Ready;
 use crate::replay::replay_all;
-use hsr_audit::Topology;
+use hsr_topology::Topology;
+use hsr_transcript_text::{Plain, ReadFault};
 use std::alloc::Global;
 
 /// The topology, plan, nodes and rows that a text stands for. `BadLine` of the last line of the links where the topology is

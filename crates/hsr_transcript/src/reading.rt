@@ -1,16 +1,15 @@
 //! The closed run whose text a text is.
 ghost use Rattle.std.specs.Prelude.{◌≡◌, ◌≤◌, IfSome};
-ghost use Rattle.hsr_audit.specs.Finished.{Finished, IsFinished};
+ghost use Rattle.hsr_closing.specs.Finished.{Finished, IsFinished};
 ghost use Rattle.hsr_transcript.specs.Answers.{Answers, Closes, IsReadAs, IsTextOf};
-ghost use Rattle.hsr_transcript.specs.Fits.{Fits};
+ghost use Rattle.hsr_transcript_text.specs.Fits.{Fits};
 ghost use Rattle.hsr_transcript.specs.Ready.{ready_view};
-ghost use Rattle.hsr_transcript.specs.Told.{seen};
+ghost use Rattle.hsr_transcript_text.specs.Told.{seen};
 
-use crate::fault::ReadFault;
-use crate::form::form;
 use crate::judge::judge;
 use crate::ready::Ready;
-use hsr_audit::{CheckFault, Closed, passes_of};
+use hsr_closing::{CheckFault, Closed, passes_of};
+use hsr_transcript_text::{ReadFault, read_plain};
 use std::alloc::Global;
 use std::io::Read;
 
@@ -47,7 +46,7 @@ pub fn read<const C: usize, R: Read>(alloc: Global, reader: &mut R) -> Result<Cl
     ensures exact { IfSome (R.remaining reader.old) (Answers C (seen (λ c. c) result)) }
     ensures again { IfSome (R.remaining reader.old) (λ text. (f : Finished) → IsFinished f → Fits f → IsTextOf C f text → IsReadAs f (seen (λ c. c) result)) }
 {
-    let plain = match form(C, alloc, reader) {
+    let plain = match read_plain(C, alloc, reader) {
         Ok(plain) => plain,
         Err(fault) => return Err(fault),
     };

@@ -1,7 +1,8 @@
 //! What a text stands for, before nodes and links are compared.
-use hsr_audit::{Planned, Topology};
+use hsr_closing::Planned;
 use hsr_link::Row;
 use hsr_node::Kept;
+use hsr_topology::Topology;
 
 /// A topology, a plan, the replayed nodes, and the rows of each link.
 #[derive(Drop)]

@@ -2,7 +2,7 @@
 ghost use Rattle.std.specs.Prelude.{None};
 
 use crate::{ReadFault, WriteFault, read, write};
-use hsr_audit::Disagree;
+use hsr_closing::Disagree;
 use hsr_link::Dir;
 use std::io::{self, ErrorKind, Write};
 use std::test::Fail;

@@ -1,7 +1,7 @@
 use Rattle.std.proofs.Common.{Result, Ok, Err}
 use Rattle.std.specs.Prelude.{IfErr}
 use Rattle.hsr_audit.specs.Doubts.{IsFirstFault, IsRefused}
-use Rattle.hsr_audit.specs.Run.{Run}
+use Rattle.hsr_law.specs.Run.{Run}
 use Rattle.hsr_audit.specs.declared.doubt.AuditFault.{AuditFault}
 use Rattle.hsr_audit.proofs.Clearing.{fault_refuses}
 use Rattle.hsr_audit.proofs.auditing.audit.Goals as goal

@@ -1,7 +1,7 @@
 use Rattle.std.proofs.Common.{rules, ◌≡◌, length}
 use Rattle.hsr_audit.specs.Listed.{listed_below}
 use Rattle.hsr_audit.specs.Round.{IsClear}
-use Rattle.hsr_audit.specs.Run.{Run}
+use Rattle.hsr_law.specs.Run.{Run}
 use Rattle.hsr_audit.proofs.Clearing.{certified_is}
 use Rattle.hsr_audit.proofs.auditing.certify.Goals as goal
 

@@ -1,8 +1,8 @@
 use Rattle.std.proofs.Common.{rules, ◌≡◌, length, Some, None, arith, ap, ◌∙◌, subst}
 use Rattle.hsr_audit.specs.Logged.{IsDoubt}
-use Rattle.hsr_audit.specs.Premises.{OneLossyLink}
+use Rattle.hsr_law.specs.Premises.{OneLossyLink}
 use Rattle.hsr_audit.specs.Round.{IsOwnRing}
-use Rattle.hsr_audit.specs.Run.{Run}
+use Rattle.hsr_law.specs.Run.{Run}
 use Rattle.hsr_audit.proofs.Clearing.{nothing_forgotten, nothing_mistaken, own_many, own_nodes, record_doubt_is}
 use Rattle.hsr_audit.proofs.auditing.clear_macs.Goals as goal
 

@@ -3,7 +3,7 @@ use Rattle.std.specs.List.{list_all}
 use Rattle.std.proofs.lemmas.Bool.{false≢true}
 use Rattle.hsr_audit.specs.Doubts.{is_in_mode_h, macs_of}
 use Rattle.hsr_audit.specs.Round.{DifferBelow, IsRound, address_of}
-use Rattle.hsr_audit.specs.Run.{Run}
+use Rattle.hsr_law.specs.Run.{Run}
 use Rattle.hsr_audit.proofs.Premised.{addresses_are, all_modes, differ_of_own, modes_all, own_of_differ, ring_of_round, round_of_ring}
 use Rattle.hsr_audit.proofs.auditing.ring_macs.Goals as goal
 

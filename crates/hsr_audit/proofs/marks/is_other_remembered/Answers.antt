@@ -1,5 +1,5 @@
 use Rattle.std.proofs.Common.{sym}
-use Rattle.hsr_audit.specs.Premises.{is_mistaken}
+use Rattle.hsr_law.specs.Premises.{is_mistaken}
 use Rattle.hsr_audit.proofs.Logging.{any_remembered}
 use Rattle.hsr_audit.proofs.marks.is_other_remembered.Goals as goal
 

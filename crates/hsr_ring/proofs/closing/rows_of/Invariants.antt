@@ -1,5 +1,5 @@
 use Rattle.std.proofs.Common.{◌≡◌, take, map}
-use Rattle.hsr_audit.specs.Finished.{items_of}
+use Rattle.hsr_closing.specs.Finished.{items_of}
 use Rattle.hsr_ring.specs.Ending.{rows_in}
 use Rattle.hsr_ring.specs.Views.{line_view}
 use Rattle.hsr_ring.proofs.closing.rows_of.Given as goal

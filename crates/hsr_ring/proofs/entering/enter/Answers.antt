@@ -1,5 +1,5 @@
 use Rattle.std.proofs.Common.{List, Ok, sym, ap, ◌∙◌}
-use Rattle.hsr_ring.specs.Lines.{Line}
+use Rattle.hsr_world.specs.Lines.{Line}
 use Rattle.hsr_ring.specs.Views.{world_of}
 use Rattle.hsr_ring.proofs.Entered.{entered_ok, same_place}
 use Rattle.hsr_ring.proofs.entering.enter.Goals as goal

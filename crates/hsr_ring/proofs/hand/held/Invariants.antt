@@ -1,5 +1,5 @@
 use Rattle.std.proofs.Common.{◌≡◌, drop, map}
-use Rattle.hsr_ring.specs.Lines.{held_in, lanes_of}
+use Rattle.hsr_world.specs.Lines.{held_in, lanes_of}
 use Rattle.hsr_ring.specs.Views.{line_view}
 use Rattle.hsr_ring.proofs.hand.held.Given as goal
 

@@ -1,7 +1,7 @@
 use Rattle.std.proofs.Common.{◌≡◌, ◌-◌, ◌++◌, map}
 use Rattle.hsr_ring.specs.Ports.{port_at}
 use Rattle.hsr_ring.specs.Views.{line_view}
-use Rattle.hsr_ring.specs.World.{ports_of}
+use Rattle.hsr_world.specs.World.{ports_of}
 use Rattle.hsr_ring.proofs.port.add_ports.Given as goal
 
 abbrev pub invariant-loop-port : goal.invariant-loop-port

@@ -2,7 +2,7 @@ use Rattle.std.proofs.Common.{◌≡◌, ◌++◌, drop, map}
 use Rattle.hsr_ring.specs.Entering.{places_of}
 use Rattle.hsr_ring.specs.Ports.{port_at, ports_in}
 use Rattle.hsr_ring.specs.Views.{line_view}
-use Rattle.hsr_ring.specs.World.{ports_from}
+use Rattle.hsr_world.specs.World.{ports_from}
 use Rattle.hsr_ring.proofs.port.new_ports.Given as goal
 
 abbrev pub invariant-loop-node : goal.invariant-loop-node

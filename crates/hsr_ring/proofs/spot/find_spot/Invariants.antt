@@ -1,5 +1,5 @@
 use Rattle.std.proofs.Common.{◌≡◌, drop, map}
-use Rattle.hsr_ring.specs.Lines.{spot_from}
+use Rattle.hsr_world.specs.Lines.{spot_from}
 use Rattle.hsr_ring.specs.Views.{line_view}
 use Rattle.hsr_ring.proofs.spot.find_spot.Given as goal
 

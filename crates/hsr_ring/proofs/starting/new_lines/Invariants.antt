@@ -1,5 +1,5 @@
 use Rattle.std.proofs.Common.{◌≡◌, take, map}
-use Rattle.hsr_ring.specs.World.{new_line}
+use Rattle.hsr_world.specs.World.{new_line}
 use Rattle.hsr_ring.specs.Views.{line_view}
 use Rattle.hsr_ring.proofs.starting.new_lines.Given as goal
 

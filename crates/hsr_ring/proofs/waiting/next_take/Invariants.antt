@@ -1,6 +1,6 @@
 use Rattle.std.proofs.Common.{◌≡◌, drop, map}
 use Rattle.hsr_ring.specs.Views.{line_view}
-use Rattle.hsr_ring.specs.World.{take_from}
+use Rattle.hsr_world.specs.World.{take_from}
 use Rattle.hsr_ring.proofs.waiting.next_take.Given as goal
 
 abbrev pub invariant-loop-link : goal.invariant-loop-link

@@ -1,6 +1,6 @@
 use Rattle.std.proofs.Common.{◌≡◌, take, drop}
-use Rattle.hsr_frame.specs.Words.{cut}
-use Rattle.hsr_frame.specs.Lines.{onto}
+use Rattle.hsr_text.specs.Words.{cut}
+use Rattle.hsr_text.specs.Lines.{onto}
 use Rattle.hsr_scenario.proofs.words.split_at_dot.Given as goal
 
 abbrev pub invariant-loop-i : goal.invariant-loop-i

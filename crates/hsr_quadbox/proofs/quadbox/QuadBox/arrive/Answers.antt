@@ -5,10 +5,10 @@ use Rattle.hsr_quadbox.specs.Machine.{Machine, Notes}
 use Rattle.hsr_quadbox.proofs.Steps.{NotesAreWithin-judged, arrive-accepted, arrive-spent, copies-few}
 use Rattle.hsr_quadbox.proofs.quadbox.QuadBox.arrive.Goals as goal
 
-pub returns-then-self-eq-STEPS : goal.returns-then-self-eq-STEPS
-returns-then-self-eq-STEPS g c = rw (← c.self.view_is)
+pub returns-then-self-eq-STEP_LIMIT : goal.returns-then-self-eq-STEP_LIMIT
+returns-then-self-eq-STEP_LIMIT g c = rw (← c.self.view_is)
     (arrive-spent g.row.C (record { notes = c.self.inside.tables; counters = c.self.inside.counters; moment = c.self.inside.moment; accepted = c.self.inside.accepted })
-    c.args.at c.args.port c.args.octets.now c.if-self-eq-STEPS.true)
+    c.args.at c.args.port c.args.octets.now c.if-self-eq-STEP_LIMIT.true)
 
 pub invariant_of-self : goal.invariant_of-self
 invariant_of-self g c =

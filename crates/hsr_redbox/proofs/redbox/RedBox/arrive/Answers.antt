@@ -5,12 +5,12 @@ use Rattle.hsr_redbox.specs.declared.call.BoxPort.TheVariants.{A, B, I}
 use Rattle.hsr_redbox.proofs.Steps.{arrive-accepted, arrive-spent}
 use Rattle.hsr_redbox.proofs.redbox.RedBox.arrive.Goals as goal
 
-pub returns-then-self-eq-STEPS : goal.returns-then-self-eq-STEPS
-returns-then-self-eq-STEPS g c = rw (← c.self.view_is) (arrive-spent g.row.C _ c.args.at c.args.port c.args.octets.now c.if-self-eq-STEPS.true)
+pub returns-then-self-eq-STEP_LIMIT : goal.returns-then-self-eq-STEP_LIMIT
+returns-then-self-eq-STEP_LIMIT g c = rw (← c.self.view_is) (arrive-spent g.row.C _ c.args.at c.args.port c.args.octets.now c.if-self-eq-STEP_LIMIT.true)
 
 pub returns-in-A : goal.returns-in-A
 returns-in-A g c =
-    let some : c.self.inside.accepted < 2 ^ 62 = omega (arith, c.self.invariant.steps, c.if-self-eq-STEPS.false) in
+    let some : c.self.inside.accepted < 2 ^ 62 = omega (arith, c.self.invariant.steps, c.if-self-eq-STEP_LIMIT.false) in
     rw c.in-A.is
     (arrive-accepted g.row.C c.args.self.now c.args.at A c.args.octets.now c.classify-seen.result c.max-now.result c.from_ring.result c.from_ring.new.self
     (subst (λ (m : Machine). m.accepted < 2 ^ 62) c.self.view_is some) c.classify-seen.ensures.exact
@@ -18,7 +18,7 @@ returns-in-A g c =
 
 pub returns-in-B : goal.returns-in-B
 returns-in-B g c =
-    let some : c.self.inside.accepted < 2 ^ 62 = omega (arith, c.self.invariant.steps, c.if-self-eq-STEPS.false) in
+    let some : c.self.inside.accepted < 2 ^ 62 = omega (arith, c.self.invariant.steps, c.if-self-eq-STEP_LIMIT.false) in
     rw c.in-B.is
     (arrive-accepted g.row.C c.args.self.now c.args.at B c.args.octets.now c.classify-seen.result c.max-now.result c.from_ring-in-B.result c.from_ring-in-B.new.self
     (subst (λ (m : Machine). m.accepted < 2 ^ 62) c.self.view_is some) c.classify-seen.ensures.exact
@@ -26,7 +26,7 @@ returns-in-B g c =
 
 pub returns-in-I : goal.returns-in-I
 returns-in-I g c =
-    let some : c.self.inside.accepted < 2 ^ 62 = omega (arith, c.self.invariant.steps, c.if-self-eq-STEPS.false) in
+    let some : c.self.inside.accepted < 2 ^ 62 = omega (arith, c.self.invariant.steps, c.if-self-eq-STEP_LIMIT.false) in
     rw c.in-I.is
     (arrive-accepted g.row.C c.args.self.now c.args.at I c.args.octets.now c.classify-seen.result c.max-now.result c.from_interlink.result c.from_interlink.new.self
     (subst (λ (m : Machine). m.accepted < 2 ^ 62) c.self.view_is some) c.classify-seen.ensures.exact

@@ -1,7 +1,7 @@
 use Rattle.std.proofs.Common.{ℕ, refl, sym, ap, ◌∙◌, inr, Ok}
-use Rattle.hsr_audit.specs.declared.end.End.{End}
+use Rattle.hsr_topology.specs.declared.end.End.{End}
 use Rattle.hsr_node.specs.declared.event.Event.TheVariants as event
-use Rattle.hsr_ring.specs.World.{entered}
+use Rattle.hsr_world.specs.World.{entered}
 use Rattle.hsr_ring.proofs.Places.{or_map}
 use Rattle.hsr_ring.proofs.Entered.{judged_err, judged_none, judged_ok}
 use Rattle.hsr_ring.proofs.Tried.{judge_is, judge_refused}

@@ -1,8 +1,8 @@
 use Rattle.std.proofs.Common.{ap, ◌∙◌, map, List}
 use Rattle.hsr_ring.specs.Starting.{new_records}
 use Rattle.hsr_ring.specs.Views.{line_view, world_of}
-use Rattle.hsr_ring.specs.World.{new_line}
-use Rattle.hsr_audit.specs.declared.planned.Planned.{Planned}
+use Rattle.hsr_world.specs.World.{new_line}
+use Rattle.hsr_closing.specs.declared.planned.Planned.{Planned}
 use Rattle.hsr_ring.proofs.Started.{new_numbered, new_world_is}
 use Rattle.hsr_ring.proofs.running.Running.new.Goals as goal
 

@@ -1,7 +1,7 @@
 use Rattle.std.proofs.Common.{List, ap, map, ◌∙◌}
 use Rattle.hsr_ring.specs.Ports.{next_by}
 use Rattle.hsr_ring.specs.Views.{line_view}
-use Rattle.hsr_ring.specs.World.{World}
+use Rattle.hsr_world.specs.World.{World}
 use Rattle.hsr_ring.specs.declared.line.Line as code
 use Rattle.hsr_ring.proofs.Ports.{next_is}
 use Rattle.hsr_ring.proofs.running.Running.next.Goals as goal

@@ -1,10 +1,10 @@
 use Rattle.std.proofs.Common.{List, subst, sym}
 use Rattle.std.specs.List.{All}
 use Rattle.hsr_node.specs.declared.place.Place.{Place}
-use Rattle.hsr_ring.specs.Fit.{FitsPlace}
-use Rattle.hsr_ring.specs.Reached.{IsReached}
-use Rattle.hsr_ring.specs.World.{World}
-use Rattle.hsr_ring.proofs.Reached.{reached-new}
+use Rattle.hsr_world.specs.Fit.{FitsPlace}
+use Rattle.hsr_world.specs.Reached.{IsReached}
+use Rattle.hsr_world.specs.World.{World}
+use Rattle.hsr_world.proofs.Reached.{reached-new}
 use Rattle.hsr_ring.proofs.world.World.new.Goals as goal
 
 pub invariant_of-result : goal.invariant_of-result

@@ -1,6 +1,6 @@
 use Rattle.std.proofs.Common.{◌≡◌, ◌⊎◌, Err}
-use Rattle.hsr_ring.specs.World.{tried}
-use Rattle.hsr_ring.specs.declared.step.WorldFault.TheVariants.{NoMemory}
+use Rattle.hsr_world.specs.World.{tried}
+use Rattle.hsr_step.specs.declared.step.WorldFault.TheVariants.{NoMemory}
 use Rattle.hsr_ring.proofs.Ports.{kept-or}
 use Rattle.hsr_ring.proofs.world.World.step.Goals as goal
 

@@ -1,9 +1,0 @@
-use Rattle.std.proofs.Common.{◌≡◌, ◌++◌, ℕ, drop}
-use Rattle.hsr_audit.specs.Passes.{AreByWorker, others_of, receipts_of}
-use Rattle.hsr_audit.proofs.passes.add_others.Given as goal
-
-abbrev pub invariant-loop-node : goal.invariant-loop-node
-invariant-loop-node g l = record {
-  workers : AreByWorker 0 l.passes.items;
-  receipts : (w : ℕ) → receipts_of w l.passes.items ++ others_of w l.node (drop l.node l.kept) ≡ receipts_of w l.fn.passes.items ++ others_of w 0 l.kept;
-}

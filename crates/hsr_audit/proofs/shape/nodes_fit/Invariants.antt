@@ -1,5 +1,0 @@
-use Rattle.hsr_audit.specs.Shape.{NodesFit}
-use Rattle.hsr_audit.proofs.shape.nodes_fit.Given as goal
-
-abbrev pub invariant-loop-node : goal.invariant-loop-node
-invariant-loop-node g l = NodesFit l.fn.topology.links l.kept l.node

@@ -1,0 +1,73 @@
+//! What words choose, and which are refused.
+use crate::chosen::{OptionFault, Options};
+use crate::command_line::options;
+use hsr_engines::{NodeOptions, Table};
+use hsr_frame::{Mac, Mode};
+use std::test::Fail;
+
+/// What no words choose.
+fn defaults() -> NodeOptions {
+    NodeOptions {
+        mac: Mac::new([2, 0, 0, 0, 0, 1]),
+        mode: Mode::H,
+        table: Table::Large,
+    }
+}
+
+#[test]
+fn words_choose(rt: HostRuntime) -> Result<(), Fail> {
+    let mut small = defaults();
+    small.table = Table::Small;
+    assert!(rt;
+        options(rt.alloc(), &["node", "--table", "small"]).ok() == Some(Options::Node(small))
+    );
+    assert!(rt; options(rt.alloc(), &["node", "--mode=N", "--"]).is_ok());
+    let run = Options::Run {
+        table: Table::Small,
+        transcript: false,
+    };
+    assert!(rt; options(rt.alloc(), &["run", "--table", "small"]).ok() == Some(run));
+    let told = Options::Run {
+        table: Table::Large,
+        transcript: true,
+    };
+    assert!(rt; options(rt.alloc(), &["run", "--transcript"]).ok() == Some(told));
+    let audit = Options::Audit {
+        table: Table::Large,
+    };
+    assert!(rt; options(rt.alloc(), &["audit"]).ok() == Some(audit));
+    assert!(rt; options(rt.alloc(), &[]).ok() == Some(Options::Node(defaults())));
+    for mac in ["", "02-00", "01-00-5E-00-00-01"] {
+        match options(rt.alloc(), &["node", "--mac", mac]) {
+            Err(OptionFault::Usage { text }) => assert_eq!(rt; text.as_str(), "usage: --mac"),
+            _ => return Err("an address was read".into()),
+        }
+    }
+    Ok(())
+}
+
+#[test]
+fn words_that_clap_refuses(rt: HostRuntime) -> Result<(), Fail> {
+    let refused = [
+        ["node", "--mode", "X"].as_slice(),
+        &["node", "--mode", "H", "--mode", "H"],
+        &["node", "--help"],
+        &["--help"],
+        &["help"],
+        &["node", "-V"],
+        &["node", "--mac", "02-00", "x"],
+        &["run", "--table", "medium"],
+        &["run", "--transcript=x"],
+        &["run", "--transcript", "--transcript"],
+        &["audit", "--transcript"],
+        &["audit", "--table", "small", "--table", "small"],
+        &["threads"],
+    ];
+    for words in refused {
+        match options(rt.alloc(), words) {
+            Err(OptionFault::Usage { text }) => assert!(rt; text.len() > 20),
+            _ => return Err("the words were read".into()),
+        }
+    }
+    Ok(())
+}

@@ -1,0 +1,71 @@
+-- Parts that agree are a finished run without a storm; parts with a cause don't agree.
+use Rattle.std.proofs.Common.{◌≡◌, ℕ, false, List, [], None, length, map, Vec, sym, ◌∙◌}
+use Rattle.std.specs.Global.{Global}
+use Rattle.std.proofs.lemmas.Bool.{false≢true}
+use Rattle.hsr_node.specs.Kept.{Receipts, Record}
+use Rattle.hsr_link.specs.declared.row.Dir.TheVariants.{Forth}
+use Rattle.hsr_link.specs.declared.row.Fate.TheVariants.{Queued}
+use Rattle.hsr_link.specs.declared.row.Row.{Row}
+use Rattle.hsr_closing.specs.Checked.{Agrees, AreLegal, HasNoStorm, HasNoStranger, IsFirst, IsQuiet, PutsAgree, TakensAgree}
+use Rattle.hsr_closing.specs.Finished.{IsFinished, run_of}
+use Rattle.hsr_closing.specs.Receipts.{HasReceipts}
+use Rattle.hsr_law.specs.Run.{rows_of}
+use Rattle.hsr_closing.specs.Shape.{IsShaped}
+use Rattle.hsr_topology.specs.Topology.{Topology}
+use Rattle.hsr_topology.specs.Wired.{IsWired}
+use Rattle.hsr_closing.specs.declared.disagree.Disagree.{Disagree}
+use Rattle.hsr_closing.specs.declared.disagree.Disagree.TheVariants.{Shape, LinkPut, LinkTaken, Stranger, NotQuiet}
+use Rattle.hsr_closing.specs.declared.disagree.Disagree.TheVariants as cause
+use Rattle.hsr_closing.specs.declared.planned.Planned.{Planned}
+use Rattle.hsr_closing.proofs.Closing.{closed, known_rows, quiet_rows}
+use Rattle.hsr_law.proofs.NoStorm.{no_storm}
+use Rattle.hsr_closing.proofs.Plan.{is_planned}
+use Rattle.hsr_closing.proofs.Shaped.{from_there}
+use Rattle.hsr_law.proofs.WithoutBoxes.{boxless}
+
+any_row : Row
+any_row = record { dir = Forth; carried = record { probe = None; octets = [] }; injected = false; fate = Queued }
+
+module _ (capacity : ℕ) (topology : Topology) (kept : List Record) (rows : List (Vec Row Global)) (passes : List Receipts) (plan : List Planned) where
+  pub agrees : IsWired topology.places topology.links → IsShaped topology kept rows → AreLegal capacity kept (length kept) →
+      PutsAgree (run_of capacity topology kept rows) (length topology.links) → TakensAgree (run_of capacity topology kept rows) (length topology.links) →
+      HasNoStranger (run_of capacity topology kept rows) (length topology.links) → IsQuiet (run_of capacity topology kept rows) (length topology.links) →
+      HasReceipts kept passes plan → Agrees capacity topology kept rows passes plan
+  agrees wired shaped legal puts takens known quiet receipts = record {
+    shaped = shaped;
+    closed = closed capacity topology kept rows shaped wired legal puts takens known quiet;
+    receipts = receipts;
+  }
+
+  pub refused : (d : Disagree) → IsFirst capacity topology kept rows passes plan d → ¬ Agrees capacity topology kept rows passes plan
+  unfolding HasReceipts
+  refused Shape first all = first all.shaped
+  refused (LinkPut link dir) first all = first.1.here (all.closed.put link dir first.1.below)
+  refused (LinkTaken link dir) first all = first.1.1.here (all.closed.taken link dir first.1.1.below)
+  refused (Stranger link row) first all =
+      let run = run_of capacity topology kept rows in
+      let is = first.1.2 in
+      let settled = known_rows run (rows_of run link) (all.closed.settled link is.below) in
+      is.here.here any_row (settled row any_row is.here.below)
+  refused (NotQuiet link) first all =
+      let run = run_of capacity topology kept rows in
+      let is = first.1.3 in
+      absurd (false≢true (sym (quiet_rows run (rows_of run link) (all.closed.settled link is.below)) ∙ is.here))
+  refused (cause.Receipts worker) first all = first.1.4.here (all.receipts worker)
+
+  pub finished : IsWired topology.places topology.links → Agrees capacity topology kept rows passes plan →
+      (map (λ (r : Record). r.place) kept ≡ topology.places) × IsFinished (record { run = run_of capacity topology kept rows; plan = plan })
+  finished wired all = (
+    all.shaped.places,
+    record {
+      wired = wired;
+      closed = all.closed;
+      planned = is_planned capacity topology kept rows passes plan all.shaped all.receipts;
+    },
+  )
+
+  pub calm : IsWired topology.places topology.links → Agrees capacity topology kept rows passes plan → HasNoStorm (run_of capacity topology kept rows)
+  unfolding HasNoStorm
+  calm wired all = λ boxes.
+      let run = run_of capacity topology kept rows in
+      no_storm run (λ l dir below. from_there topology.places topology.links wired l dir below) all.closed (boxless run all.closed boxes)

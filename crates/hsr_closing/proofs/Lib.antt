@@ -1,0 +1,15 @@
+pub mod Often
+pub mod AsOften
+pub mod Decided
+pub mod Forwards
+pub mod Shaped
+pub mod Closing
+pub mod Known
+pub mod Idle
+pub mod Plan
+pub mod Agreed
+pub mod Coming
+pub mod Reaching
+pub mod Receiving
+pub mod Keeping
+pub mod MainPass

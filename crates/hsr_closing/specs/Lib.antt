@@ -1,0 +1,12 @@
+pub mod Often
+pub mod Finished
+pub mod Shape
+pub mod Receipts
+pub mod Checked
+pub mod InOrder
+pub mod Disagree
+pub mod Origin
+pub mod Workers
+pub mod Next
+pub mod Passes
+pub mod Reached

@@ -1,0 +1,83 @@
+//! Whether the parts of a run agree.
+ghost use Rattle.std.specs.Prelude.{◌≡◌, map, IfNone, IfOk, IfSome, MatchOption};
+ghost use Rattle.hsr_node.specs.Kept.{Record};
+ghost use Rattle.hsr_closing.specs.Checked.{Agrees, HasNoStorm, IfDisagree, IsFirst};
+ghost use Rattle.hsr_closing.specs.Finished.{IsFinished, run_of};
+
+use crate::agreement::Told;
+use crate::disagree::{CheckFault, Disagree};
+use crate::links_agree::{first_noisy, first_other};
+use crate::parts::Parts;
+use crate::planned::Planned;
+use crate::shape::{are_legal, is_shaped};
+use crate::strangers::first_stranger;
+use crate::workers::first_wrong;
+use hsr_frame::NoMemory;
+use hsr_link::Row;
+use hsr_node::{Kept, Pass};
+use hsr_topology::Topology;
+use std::alloc::Global;
+
+/// The first thing in which they don't agree, if there is one.
+#[tactic(auto, using(crate::proofs::Agreed::agrees))]
+pub(crate) fn disagreement<const C: usize>(
+    alloc: Global,
+    topology: &Topology,
+    kept: &[Kept<C>],
+    rows: &[Vec<Row>],
+    passes: &[Pass],
+    plan: &[Planned],
+) -> Result<Option<Disagree>, NoMemory>
+    ensures first { IfOk result (λ r. MatchOption r (Agrees C topology.now kept.now rows.now passes.now plan.now) (λ d. IsFirst C topology.now kept.now rows.now passes.now plan.now d)) }
+{
+    if !is_shaped(topology, kept, rows) {
+        return Ok(Some(Disagree::Shape));
+    }
+    are_legal(kept);
+    match first_other(alloc, Told::Put, topology, kept, rows) {
+        Err(fault) => return Err(fault),
+        Ok(Some((link, dir))) => return Ok(Some(Disagree::LinkPut { link, dir })),
+        Ok(None) => {}
+    }
+    match first_other(alloc, Told::Taken, topology, kept, rows) {
+        Err(fault) => return Err(fault),
+        Ok(Some((link, dir))) => return Ok(Some(Disagree::LinkTaken { link, dir })),
+        Ok(None) => {}
+    }
+    if let Some((link, row)) = first_stranger(topology, kept, rows) {
+        return Ok(Some(Disagree::Stranger { link, row }));
+    }
+    if let Some(link) = first_noisy(topology, kept, rows) {
+        return Ok(Some(Disagree::NotQuiet { link }));
+    }
+    match first_wrong(alloc, kept, passes, plan) {
+        Err(fault) => Err(fault),
+        Ok(Some(worker)) => Ok(Some(Disagree::Receipts { worker })),
+        Ok(None) => Ok(None),
+    }
+}
+
+/// Why they are no closed run, if they aren't. Those that are one make a finished run, in which no direction of a link
+/// carried two copies of one send.
+#[tactic(auto, using(crate::proofs::Agreed::calm, crate::proofs::Agreed::finished, crate::proofs::Agreed::refused))]
+pub(crate) fn fault_of<const C: usize>(
+    alloc: Global,
+    topology: &Topology,
+    kept: &[Kept<C>],
+    rows: &[Vec<Row>],
+    passes: &[Pass],
+    plan: &[Planned],
+) -> Option<CheckFault>
+    ensures none { IfNone result (Agrees C topology.now kept.now rows.now passes.now plan.now) }
+    ensures finished { IfNone result ((map (λ (r : Record). r.place) kept.now ≡ topology.now.places) × IsFinished (record { run = run_of C topology.now kept.now rows.now; plan = plan.now })) }
+    ensures calm { IfNone result (HasNoStorm (run_of C topology.now kept.now rows.now)) }
+    ensures first { IfSome result (λ fault. IfDisagree fault (IsFirst C topology.now kept.now rows.now passes.now plan.now)) }
+    ensures refused { IfSome result (λ fault. IfDisagree fault (λ d. ¬ Agrees C topology.now kept.now rows.now passes.now plan.now)) }
+{
+    let _ = topology.places();
+    match disagreement(alloc, topology, kept, rows, passes, plan) {
+        Err(NoMemory) => Some(CheckFault::NoMemory),
+        Ok(Some(disagree)) => Some(CheckFault::Disagree(disagree)),
+        Ok(None) => None,
+    }
+}

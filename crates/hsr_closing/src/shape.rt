@@ -1,0 +1,120 @@
+//! Whether records and rows are a topology's.
+ghost use Rattle.std.specs.Prelude.{◌≡◌, ◌↔◌, ◌<◌, length, map, IsTrue, List, Vec};
+ghost use Rattle.std.specs.Global.{Global};
+ghost use Rattle.hsr_node.specs.Kept.{Record};
+ghost use Rattle.hsr_link.specs.declared.row.Row.{Row};
+ghost use Rattle.hsr_closing.specs.Checked.{AreLegal};
+ghost use Rattle.hsr_closing.specs.Shape.{AreLinked, IsShaped, NodesFit, is_linked};
+ghost use Rattle.hsr_topology.specs.Wired.{IsWired};
+
+use hsr_frame::Mac;
+use hsr_link::Row;
+use hsr_node::{Entry, Event, Kept, Place};
+use hsr_topology::{End, Topology, is_used};
+
+/// Whether nothing came by a port without a link with this entry.
+fn is_linked(topology: &Topology, node: usize, entry: &Entry) -> bool
+    ensures { result ≡ is_linked topology.now.links node entry.now.event }
+{
+    match entry.event {
+        Event::Arrive { port, .. } => is_used(topology.links(), End { node, port }),
+        _ => true,
+    }
+}
+
+fn are_linked(topology: &Topology, node: usize, entries: &[Entry]) -> bool
+    ensures { IsTrue result ↔ AreLinked topology.now.links node entries.now (length entries.now) }
+{
+    for (i, entry) in entries.iter().enumerate() {
+        if !is_linked(topology, node, entry) {
+            return false;
+        }
+    }
+    true
+}
+
+/// Whether each record has the number of its place, and nothing came by a port without a link.
+fn nodes_fit<const C: usize>(topology: &Topology, kept: &[Kept<C>]) -> bool
+    ensures { IsTrue result ↔ NodesFit topology.now.links kept.now (length kept.now) }
+{
+    for (node, record) in kept.iter().enumerate() {
+        if record.node() != node || !are_linked(topology, node, record.entries()) {
+            return false;
+        }
+    }
+    true
+}
+
+fn are_same_macs(a: &[Mac], b: &[Mac]) -> bool
+    ensures { IsTrue result ↔ (a.now ≡ b.now) }
+{
+    a == b
+}
+
+fn is_same_place(a: &Place, b: &Place) -> bool
+    ensures { IsTrue result ↔ (a.now ≡ b.now) }
+{
+    match (a, b) {
+        (
+            Place::Danh { mac, mode },
+            Place::Danh {
+                mac: other,
+                mode: its,
+            },
+        ) => mac == other && mode == its,
+        (
+            Place::RedBox { mac, mode },
+            Place::RedBox {
+                mac: other,
+                mode: its,
+            },
+        ) => mac == other && mode == its,
+        (Place::QuadBox, Place::QuadBox) => true,
+        (Place::Station { macs }, Place::Station { macs: others }) => are_same_macs(
+            macs.as_slice(),
+            others.as_slice(),
+        ),
+        _ => false,
+    }
+}
+
+/// Whether the records are of nodes at these places.
+fn are_at<const C: usize>(places: &[Place], kept: &[Kept<C>]) -> bool
+    ensures { IsTrue result ↔ (map (λ (r : Record). r.place) kept.now ≡ places.now) }
+{
+    let mut left = places;
+    for (node, record) in kept.iter().enumerate() {
+        let Some((place, more)) = left.split_first() else {
+            return false;
+        };
+        if !is_same_place(record.place(), place) {
+            return false;
+        }
+        left = more;
+    }
+    left.is_empty()
+}
+
+/// Whether there is a record for each node, at its place, and a list of rows for each link, and nothing came by a port
+/// without one.
+pub(crate) fn is_shaped<const C: usize>(
+    topology: &Topology,
+    kept: &[Kept<C>],
+    rows: &[Vec<Row>],
+) -> bool
+    ensures shaped { IsTrue result ↔ IsShaped topology.now kept.now rows.now }
+    ensures wired { IsWired topology.now.places topology.now.links }
+{
+    are_at(topology.places(), kept)
+        && rows.len() == topology.links().len()
+        && nodes_fit(topology, kept)
+}
+
+/// Records are legal: each outcome is what the past of its node answers.
+pub(crate) fn are_legal<const C: usize>(kept: &[Kept<C>])
+    ensures { AreLegal C kept.now (length kept.now) }
+{
+    for (node, record) in kept.iter().enumerate() {
+        let _ = record.entries();
+    }
+}

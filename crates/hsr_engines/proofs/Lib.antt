@@ -1,0 +1,4 @@
+pub mod Turns
+mod Orders
+mod Said
+mod Telling

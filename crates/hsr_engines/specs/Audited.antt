@@ -1,0 +1,61 @@
+-- What `audit` tells of a transcript.
+use Rattle.std.specs.Prelude.{ℕ, ◌≡◌, List, Option, Ok, Err}
+use Rattle.std.specs.Io.KnownBytes.{Appends, Keeps}
+use Rattle.hsr_closing.specs.Finished.{Finished, IsFinished}
+use Rattle.hsr_transcript.specs.Answers.{Disagreeing, IsBadAt, IsTextOf}
+use Rattle.hsr_transcript_text.specs.Form.{form_of}
+use Rattle.hsr_transcript_text.specs.Transcript.{Said}
+use Rattle.hsr_transcript_text.specs.declared.fault.ReadFault.{ReadFault}
+use Rattle.hsr_transcript_text.specs.declared.fault.ReadFault.TheVariants as read
+use Rattle.hsr_engines.specs.Report.{report, status_of}
+use Rattle.hsr_engines.specs.Shown.{IsFound}
+use Rattle.hsr_engines.specs.declared.fault.Fault.{Fault}
+use Rattle.hsr_engines.specs.declared.fault.Fault.TheVariants.{Transcript, Check, Read, Write, Memory}
+use Rattle.hsr_engines.specs.declared.fault.Status.{Status}
+use Rattle.hsr_engines.specs.declared.fault.Status.TheVariants.{Certified, Fault as Stopped, Doubt}
+use Rattle.hsr_engines.specs.declared.fault.TranscriptFault.TheVariants.{Version, Line, End}
+use Rattle.hsr_engines.specs.declared.verdict.Verdict.{Verdict}
+
+-- the text is that of a finished run, of which this was found; and this is its report
+pub record IsAudited (capacity : ℕ) (text : List ℕ) (found : Verdict) (written : List ℕ) : Type 0 where
+  pub finished : Finished
+  pub is_text : IsTextOf capacity finished text
+  pub holds : IsFinished finished
+  pub is_found : IsFound finished.run found
+  pub is_report : written ≡ report finished.run found
+
+-- the text is that of no run, for this cause; or reading or memory failed
+abbrev pub IsUnread : ℕ → List ℕ → Fault → Type 0
+IsUnread capacity text (Transcript Version) = form_of capacity text ≡ Err read.Version
+IsUnread capacity text (Transcript (Line n)) = IsBadAt capacity text n
+IsUnread capacity text (Transcript End) = form_of capacity text ≡ Err read.End
+IsUnread capacity text (Check cause) = (t : Said) × (form_of capacity text ≡ Ok t) × Disagreeing capacity t cause
+IsUnread capacity text Read = Unit {0}
+IsUnread capacity text Memory = Unit {0}
+IsUnread capacity text _ = ⊥
+
+-- why a text isn't read, as a fault of the run
+abbrev pub transcript_fault : ReadFault → Fault
+transcript_fault read.Version = Transcript Version
+transcript_fault (read.BadLine n) = Transcript (Line n)
+transcript_fault read.End = Transcript End
+transcript_fault (read.Disagrees cause) = Check cause
+transcript_fault read.Read = Read
+transcript_fault read.NoMemory = Memory
+
+-- what was found is told by the status, and its report was written
+abbrev pub IsWritten : ℕ → List ℕ → Option (List ℕ) → Option (List ℕ) → Status → Type 0
+IsWritten capacity text held holds status =
+    (found : Verdict) × (written : List ℕ) × IsAudited capacity text found written × (status ≡ status_of found) × Appends held holds written
+
+-- there is a report to write
+abbrev pub IsReportable : ℕ → List ℕ → Type 0
+IsReportable capacity text = (found : Verdict) × (written : List ℕ) × IsAudited capacity text found written
+
+-- How `audit` ends, and what it wrote: the report of the run whose text it read; or nothing, since the text is that of no run, or
+-- reading or memory failed. Of a failed write no more is said than that there was a report to write.
+abbrev pub Audited : ℕ → List ℕ → Option (List ℕ) → Option (List ℕ) → Status → Type 0
+Audited capacity text held holds Certified = IsWritten capacity text held holds Certified
+Audited capacity text held holds Doubt = IsWritten capacity text held holds Doubt
+Audited capacity text held holds (Stopped Write) = IsReportable capacity text
+Audited capacity text held holds (Stopped fault) = IsUnread capacity text fault × Keeps held holds

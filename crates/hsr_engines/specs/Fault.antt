@@ -1,0 +1,33 @@
+-- The status of a run, and the line of a fault.
+use Rattle.std.specs.Prelude.{ℕ, List, ◌++◌, codes}
+use Rattle.std.specs.Fmt.{decimal}
+use Rattle.hsr_engines.specs.declared.fault.Fault.{Fault}
+use Rattle.hsr_closing.specs.Disagree.{disagree_code}
+use Rattle.hsr_scenario.specs.Fault.{fault_text}
+use Rattle.hsr_engines.specs.Refusal.{drain_word}
+use Rattle.hsr_engines.specs.declared.fault.Fault.TheVariants.{Line, Scenario, Step, Transcript, Check, Read, Write, Memory}
+use Rattle.hsr_engines.specs.declared.fault.Status.{Status}
+use Rattle.hsr_engines.specs.declared.fault.Status.TheVariants.{Certified, Fault as Stopped, Doubt}
+use Rattle.hsr_engines.specs.declared.fault.TranscriptFault.{TranscriptFault}
+use Rattle.hsr_engines.specs.declared.fault.TranscriptFault.TheVariants as transcript
+
+abbrev pub code_of : Status → ℕ
+code_of Certified = 0
+code_of (Stopped fault) = 1
+code_of Doubt = 2
+
+-- why a text isn't read as a transcript
+abbrev pub transcript_text : TranscriptFault → List ℕ
+transcript_text transcript.Version = codes "version"
+transcript_text (transcript.Line n) = codes "line " ++ decimal n
+transcript_text transcript.End = codes "end"
+
+abbrev pub fault_line : Fault → List ℕ
+fault_line (Line n) = codes "fault: line " ++ decimal n
+fault_line (Scenario fault) = codes "fault: scenario " ++ fault_text fault
+fault_line (Step step fault) = codes "fault: step " ++ (decimal step ++ (codes " " ++ drain_word fault))
+fault_line (Transcript fault) = codes "fault: transcript " ++ transcript_text fault
+fault_line (Check disagree) = codes "fault: check " ++ decimal (disagree_code disagree)
+fault_line Read = codes "fault: read"
+fault_line Write = codes "fault: write"
+fault_line Memory = codes "fault: memory"

@@ -1,0 +1,10 @@
+pub mod Fault
+pub mod Report
+pub mod Output
+pub mod Run
+pub mod Playing
+pub mod Text
+pub mod Refusal
+pub mod Shown
+pub mod Told
+pub mod Audited

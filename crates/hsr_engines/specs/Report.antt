@@ -1,0 +1,76 @@
+-- The report of a finished run: a line for the bench, one for each node and each link, and what the audit found.
+use Rattle.std.specs.Prelude.{ℕ, zero, suc, Bool, List, [], ◌++◌, length, count_by, codes}
+use Rattle.std.specs.Fmt.{decimal}
+use Rattle.hsr_node.specs.Counts.{counters}
+use Rattle.hsr_node.specs.declared.place.Place.{Place}
+use Rattle.hsr_node.specs.declared.place.Place.TheVariants.{Danh, RedBox, QuadBox, Station}
+use Rattle.hsr_link.specs.Rows.{is_lost, is_taken}
+use Rattle.hsr_link.specs.declared.row.Row.{Row}
+use Rattle.hsr_law.specs.Run.{Run, past_of, place_of, rows_of}
+use Rattle.hsr_audit.specs.declared.doubt.Doubt.{Doubt}
+use Rattle.hsr_audit.specs.declared.doubt.Doubt.TheVariants.{NotRing, Mode, SameAddress, TwoLinks, Forgot, Mistaken}
+use Rattle.hsr_node_text.specs.Reply.{counter_line}
+use Rattle.hsr_engines.specs.declared.fault.Status.{Status}
+use Rattle.hsr_engines.specs.declared.fault.Status.TheVariants as status
+use Rattle.hsr_engines.specs.declared.verdict.Verdict.{Verdict}
+use Rattle.hsr_engines.specs.declared.verdict.Verdict.TheVariants as verdict
+
+abbrev pub role_text : Place → List ℕ
+role_text (Danh mac mode) = codes "danh"
+role_text (RedBox mac mode) = codes "redbox"
+role_text QuadBox = codes "quadbox"
+role_text (Station macs) = codes "station"
+
+-- a node: its number, its role, and how often each thing happened there
+unfoldable pub node_line : Run → ℕ → List ℕ
+node_line run k = codes "node " ++ decimal k ++ codes " " ++ role_text (place_of run k) ++ codes " " ++ counter_line (counters (place_of run k) (past_of run k))
+
+abbrev pub is_row_taken : Row → Bool
+is_row_taken row = is_taken row.fate
+
+abbrev pub is_row_lost : Row → Bool
+is_row_lost row = is_lost row.fate
+
+-- a link: its number, and how many copies were put on it, taken and lost
+unfoldable pub link_line : ℕ → List Row → List ℕ
+link_line l rows =
+    codes "link " ++ decimal l ++ codes " put " ++ decimal (length rows) ++ codes " taken " ++ decimal (count_by is_row_taken rows)
+    ++ codes " lost " ++ decimal (count_by is_row_lost rows) ++ codes "\n"
+
+-- the lines of the first nodes and links
+abbrev pub node_lines : Run → ℕ → List ℕ
+node_lines run zero = []
+node_lines run (suc n) = node_lines run n ++ node_line run n
+
+abbrev pub link_lines : Run → ℕ → List ℕ
+link_lines run zero = []
+link_lines run (suc n) = link_lines run n ++ link_line n (rows_of run n)
+
+unfoldable pub head_line : Run → List ℕ
+head_line run =
+    codes "bench 1 table " ++ decimal run.capacity ++ codes " nodes " ++ decimal (length run.places)
+    ++ codes " links " ++ decimal (length run.links) ++ codes "\n"
+
+-- ---- what was found
+
+abbrev pub doubt_text : Doubt → List ℕ
+doubt_text NotRing = codes "not-ring"
+doubt_text Mode = codes "mode"
+doubt_text SameAddress = codes "same-address"
+doubt_text TwoLinks = codes "two-links"
+doubt_text (Forgot k place) = codes "forgot " ++ decimal k ++ codes " " ++ decimal place
+doubt_text (Mistaken k place) = codes "mistaken " ++ decimal k ++ codes " " ++ decimal place
+
+abbrev pub verdict_line : Verdict → List ℕ
+verdict_line (verdict.Certified sends) = codes "certified " ++ decimal sends ++ codes "\n"
+verdict_line (verdict.Doubt doubt) = codes "doubt " ++ doubt_text doubt ++ codes "\n"
+
+abbrev pub status_of : Verdict → Status
+status_of (verdict.Certified sends) = status.Certified
+status_of (verdict.Doubt doubt) = status.Doubt
+
+-- ---- the report
+
+unfoldable pub report : Run → Verdict → List ℕ
+report run found =
+    head_line run ++ node_lines run (length run.places) ++ link_lines run (length run.links) ++ verdict_line found

@@ -1,0 +1,100 @@
+//! Transcripts that are read and audited.
+ghost use Rattle.std.specs.Prelude.{◌≡◌, ◌≤◌, IfErr, IfOk, IfSome};
+ghost use Rattle.hsr_transcript.specs.Answers.{IsTextOf};
+ghost use Rattle.hsr_engines.specs.Audited.{Audited, IsAudited, IsUnread, transcript_fault};
+ghost use Rattle.hsr_engines.specs.Output.{capacity_of};
+
+use crate::chosen::Table;
+use crate::fault::{Fault, Status, TranscriptFault};
+use crate::report::report;
+use crate::shown::deliver;
+use crate::verdict::{Verdict, found};
+use hsr_closing::Closed;
+use hsr_transcript::{ReadFault, read};
+use std::alloc::Global;
+use std::io::{Read, Write};
+
+/// Why a text isn't read, as a fault of the run.
+fn transcript_fault(fault: ReadFault) -> Fault
+    ensures { result ≡ transcript_fault fault }
+{
+    match fault {
+        ReadFault::Version => Fault::Transcript(TranscriptFault::Version),
+        ReadFault::BadLine { number } => Fault::Transcript(TranscriptFault::Line(number)),
+        ReadFault::End => Fault::Transcript(TranscriptFault::End),
+        ReadFault::Disagrees(cause) => Fault::Check(cause),
+        ReadFault::Read => Fault::Read,
+        ReadFault::NoMemory => Fault::Memory,
+    }
+}
+
+/// The finished run whose transcript a text is.
+#[tactic(auto, using(crate::proofs::Telling::unread_as))]
+fn closed<R: Read, const C: usize>(alloc: Global, reader: &mut R) -> Result<Closed<C>, Fault>
+    requires entries { (1 ≤ C) × (C ≤ 65535) }
+    ensures ok { IfOk result (λ c. IfSome (R.remaining reader.old) (λ text. IsTextOf C c text)) }
+    ensures err { IfErr result (λ f. IfSome (R.remaining reader.old) (λ text. IsUnread C text f)) }
+{
+    match read(alloc, reader) {
+        Ok(closed) => Ok(closed),
+        Err(fault) => Err(transcript_fault(fault)),
+    }
+}
+
+/// Reads a transcript, audits its run, and forms the report.
+fn audited<R: Read, const C: usize>(
+    alloc: Global,
+    reader: &mut R,
+) -> Result<(Verdict, Vec<u8>), Fault>
+    requires entries { (1 ≤ C) × (C ≤ 65535) }
+    ensures ok { IfOk result (λ r. IfSome (R.remaining reader.old) (λ text. IsAudited C text r.0 r.1.items)) }
+    ensures err { IfErr result (λ f. IfSome (R.remaining reader.old) (λ text. IsUnread C text f)) }
+{
+    let closed = match closed::<R, C>(alloc, reader) {
+        Ok(closed) => closed,
+        Err(fault) => return Err(fault),
+    };
+    let verdict = match found(alloc, &closed) {
+        Ok(verdict) => verdict,
+        Err(fault) => return Err(fault),
+    };
+    match report(alloc, &closed, verdict) {
+        Ok(text) => Ok((verdict, text)),
+        Err(_) => Err(Fault::Memory),
+    }
+}
+
+/// The report of the transcript that a reader gives, with tables of the chosen size.
+fn audited_with<R: Read>(
+    alloc: Global,
+    reader: &mut R,
+    table: Table,
+) -> Result<(Verdict, Vec<u8>), Fault>
+    ensures ok { IfOk result (λ r. IfSome (R.remaining reader.old) (λ text. IsAudited (capacity_of table) text r.0 r.1.items)) }
+    ensures err { IfErr result (λ f. IfSome (R.remaining reader.old) (λ text. IsUnread (capacity_of table) text f)) }
+{
+    match table {
+        Table::Small => audited::<R, 4>(alloc, reader),
+        Table::Large => audited::<R, 512>(alloc, reader),
+    }
+}
+
+/// Reads a transcript of a run with tables of the chosen size, audits the run, and writes its report: the nodes with their
+/// counters, the links with what became of their copies, and what the audit found, which the status tells too. The report is
+/// formed whole before it is written. `Fault::Transcript` where the text is no run's, and `Fault::Check` where links and
+/// records of its run disagree; `Fault::Read` where the reader fails or takes over 2^40 reads, `Fault::Memory` where room is
+/// refused: then nothing is written.
+pub fn audit_run<R: Read, W: Write>(
+    alloc: Global,
+    reader: &mut R,
+    writer: &mut W,
+    table: Table,
+) -> Status
+    ensures { IfSome (R.remaining reader.old) (λ text.
+        Audited (capacity_of table) text (W.contents writer.old) (W.contents writer.new) result) }
+{
+    match audited_with(alloc, reader, table) {
+        Ok((verdict, text)) => deliver(writer, verdict, text.as_slice()),
+        Err(fault) => Status::Fault(fault),
+    }
+}

@@ -1,0 +1,176 @@
+//! The run of `node` over a reader and a writer.
+ghost use Rattle.std.specs.Prelude.{◌≡◌, ◌≢◌, ◌<◌, ◌≤◌, ℕ, IfErr, IfSome, List, OnOk, Option, length};
+ghost use Rattle.hsr_frame.specs.Address.{IsGroup};
+ghost use Rattle.hsr_text.specs.Lines.{ReadsFront, lines_of};
+ghost use Rattle.hsr_danh.specs.Machine.{new_machine};
+ghost use Rattle.hsr_engines.specs.Output.{Ended, capacity_of, output};
+ghost use Rattle.hsr_engines.specs.Run.{Finished, Ran, Served, Turned};
+ghost use Rattle.hsr_engines.specs.declared.fault.Fault.TheVariants.{Read as ReadFailed};
+
+use crate::chosen::{NodeOptions, Table};
+use crate::fault::{Fault, Status};
+use arrayvec::ArrayVec;
+use hsr_danh::Danh;
+use hsr_frame::{Mac, Mode};
+use hsr_node_text::{answer_request, put_counters, read_request};
+use hsr_text::{Front, READ_LIMIT, WordFault, next_line};
+use std::alloc::Global;
+use std::io::{Read, Write};
+
+/// Room for a line, without its line feed, and for its answer, used again for each line.
+#[derive(Drop)]
+struct Room {
+    line: ArrayVec<u8, 4096>,
+    text: Vec<u8>,
+}
+
+/// Answers one line.
+fn serve<W: Write, const C: usize>(
+    alloc: Global,
+    danh: &mut Danh<C>,
+    number: u64,
+    line: &[u8],
+    writer: &mut W,
+    text: &mut Vec<u8>,
+) -> Result<(), Fault>
+    ensures { Served C danh.old danh.new number line.now (W.contents writer.old) (W.contents writer.new) result }
+{
+    let request = match read_request(alloc, line) {
+        Ok(request) => request,
+        Err(WordFault::Bad) => return Err(Fault::Line(number)),
+        Err(WordFault::Memory) => return Err(Fault::Memory),
+    };
+    answer_request(danh, &request, text)?;
+    match writer.write_all(text.as_slice()) {
+        Ok(()) => Ok(()),
+        Err(_) => Err(Fault::Write),
+    }
+}
+
+/// Answers what was read of a text, and tells whether more may follow.
+#[tactic(auto, using(crate::proofs::Turns::turned_line, crate::proofs::Turns::turned_line_err, crate::proofs::Turns::turned_rest, crate::proofs::Turns::turned_rest_err, crate::proofs::Turns::turned_none, crate::proofs::Turns::turned_long, crate::proofs::Turns::served_told))]
+fn answer_front<W: Write, const C: usize>(
+    alloc: Global,
+    danh: &mut Danh<C>,
+    number: u64,
+    front: Front,
+    writer: &mut W,
+    room: &mut Room,
+) -> Result<bool, Fault>
+    ensures turned { (left rest : Option (List ℕ)) → ReadsFront 4096 left rest room.old.line.items front
+        → Turned left rest (W.contents writer.old) (W.contents writer.new) C danh.old danh.new number result }
+    ensures told { IfErr result (λ f. f ≢ ReadFailed) }
+{
+    let line = &room.line;
+    let text = &mut room.text;
+    match front {
+        Front::TooLong => Err(Fault::Line(number)),
+        Front::Line => match serve(alloc, danh, number, line.as_slice(), writer, text) {
+            Ok(()) => Ok(true),
+            Err(fault) => Err(fault),
+        },
+        Front::Rest => {
+            if line.is_empty() {
+                return Ok(false);
+            }
+            match serve(alloc, danh, number, line.as_slice(), writer, text) {
+                Ok(()) => Ok(false),
+                Err(fault) => Err(fault),
+            }
+        }
+    }
+}
+
+/// Reads and answers the next line, and tells whether more may follow.
+fn turn<R: Read, W: Write, const C: usize>(
+    alloc: Global,
+    danh: &mut Danh<C>,
+    number: u64,
+    reader: &mut R,
+    reads: &mut u64,
+    writer: &mut W,
+    room: &mut Room,
+) -> Result<bool, Fault>
+    ensures turned { Turned (R.remaining reader.old) (R.remaining reader.new) (W.contents writer.old) (W.contents writer.new) C danh.old danh.new number result }
+    ensures fewer { OnOk result (reads.new < reads.old) }
+    ensures bounded { reads.new ≤ reads.old }
+{
+    let front = next_line(reader, reads, &mut room.line)?;
+    answer_front(alloc, danh, number, front, writer, room)
+}
+
+/// Writes the line at the end.
+fn finish<W: Write, const C: usize>(
+    danh: &Danh<C>,
+    writer: &mut W,
+    text: &mut Vec<u8>,
+) -> Result<(), Fault>
+    ensures { Finished danh.now (W.contents writer.old) (W.contents writer.new) result }
+{
+    text.clear();
+    put_counters(text, &danh.counters())?;
+    match writer.write_all(text.as_slice()) {
+        Ok(()) => {}
+        Err(_) => return Err(Fault::Write),
+    }
+    match writer.flush() {
+        Ok(()) => Ok(()),
+        Err(_) => Err(Fault::Write),
+    }
+}
+
+/// Reads all lines, and answers each.
+#[tactic(auto, using(crate::proofs::Turns::way_begins, crate::proofs::Turns::way_on, crate::proofs::Turns::way_fails, crate::proofs::Turns::way_ends))]
+fn run<R: Read, W: Write, const C: usize>(
+    alloc: Global,
+    reader: &mut R,
+    writer: &mut W,
+    mac: Mac,
+    mode: Mode,
+) -> Result<(), Fault>
+    requires station { ¬ IsGroup mac }
+    requires entries { (1 ≤ C) × (C ≤ 65535) }
+    ensures { Ran (R.remaining reader.old) (W.contents writer.old) (W.contents writer.new) C (new_machine mac mode) result }
+{
+    let mut danh = match Danh::<C>::new(alloc, mac, mode) {
+        Ok(danh) => danh,
+        Err(_) => return Err(Fault::Memory),
+    };
+    let mut room = Room {
+        line: ArrayVec::new(),
+        text: Vec::new(alloc),
+    };
+    let mut reads = READ_LIMIT;
+    let mut number = 1u64;
+    loop {
+        match turn(
+            alloc, &mut danh, number, reader, &mut reads, writer, &mut room,
+        ) {
+            Ok(true) => number += 1,
+            Ok(false) => return finish(&danh, writer, &mut room.text),
+            Err(fault) => return Err(fault),
+        }
+    }
+}
+
+/// Answers the lines of a text by a DANH with the chosen address, mode and size of tables; moments are milliseconds. A line that
+/// is bad or has over 4096 octets ends the run as `Fault::Line`, counted from 1; what was answered stands. `Fault::Read` where
+/// the reader fails or takes over 2^40 reads, `Fault::Write`, `Fault::Memory`.
+pub fn node_run<R: Read, W: Write>(
+    alloc: Global,
+    reader: &mut R,
+    writer: &mut W,
+    chosen: &NodeOptions,
+) -> Status
+    ensures { IfSome (R.remaining reader.old) (λ text.
+        Ended (W.contents writer.old) (W.contents writer.new) (output (capacity_of chosen.now.table) (new_machine chosen.now.mac chosen.now.mode) 1 (lines_of text)) result) }
+{
+    let ran = match chosen.table {
+        Table::Small => run::<R, W, 4>(alloc, reader, writer, chosen.mac, chosen.mode),
+        Table::Large => run::<R, W, 512>(alloc, reader, writer, chosen.mac, chosen.mode),
+    };
+    match ran {
+        Ok(()) => Status::Certified,
+        Err(fault) => Status::Fault(fault),
+    }
+}

@@ -1,0 +1,29 @@
+//! What the program does: `node`, `run` and `audit`, each over a reader and a writer.
+#![tactic(auto)]
+
+mod audit;
+mod chosen;
+mod engine;
+mod fault;
+mod playing;
+mod refusal;
+mod report;
+mod scenario;
+mod shown;
+mod text;
+mod verdict;
+
+pub use audit::audit_run;
+pub use chosen::{NodeOptions, Table};
+pub use engine::node_run;
+pub use fault::{Fault, Status, TranscriptFault};
+pub use scenario::scenario_run;
+
+#[cfg(test)]
+mod rows;
+#[cfg(test)]
+mod scenario_tests;
+#[cfg(test)]
+mod tests;
+#[cfg(test)]
+mod transcript_tests;

@@ -1,0 +1,249 @@
+//! What `run` writes of scenarios, and how it ends.
+use crate::chosen::Table;
+use crate::fault::{Fault, Status};
+use crate::scenario::scenario_run;
+use crate::tests::{FailingReader, FailingWriter};
+use hsr_closing::Disagree;
+use hsr_scenario::{ScenarioFault, Spot, What};
+use hsr_step::{DrainFault, WorldFault};
+use std::alloc::{AllocError, Global};
+use std::test::Fail;
+
+pub const RING: &[u8] = b"node = [
+  {name=\"n0\", role=\"danh\", mac=\"02-00-00-00-00-01\"},
+  {name=\"n1\", role=\"danh\", mac=\"02-00-00-00-00-02\"},
+  {name=\"n2\", role=\"danh\", mac=\"02-00-00-00-00-03\"},
+]
+link = [{ends=[\"n0.B\",\"n1.A\"]}, {ends=[\"n1.B\",\"n2.A\"]}, {ends=[\"n2.B\",\"n0.A\"]}]
+";
+
+const PAIR: &[u8] = b"node = [
+  {name=\"n0\", role=\"danh\", mac=\"02-00-00-00-00-01\"},
+  {name=\"n1\", role=\"danh\", mac=\"02-00-00-00-00-02\"},
+]
+link = [{ends=[\"n0.B\",\"n1.A\"]}, {ends=[\"n1.B\",\"n0.A\"]}]
+";
+
+/// What a run of nodes and links with these steps writes, by transcript or report, and how it ends.
+pub fn run_shown(
+    alloc: Global,
+    nodes: &[u8],
+    steps: &[u8],
+    transcript: bool,
+) -> Result<(Status, Vec<u8>), AllocError> {
+    let mut text = Vec::new(alloc);
+    text.extend_from_slice(nodes)?;
+    text.extend_from_slice(b"step = [\n")?;
+    text.extend_from_slice(steps)?;
+    text.extend_from_slice(b"]\n")?;
+    let mut reader = text.as_slice();
+    let mut writer = Vec::new(alloc);
+    let status = scenario_run(alloc, &mut reader, &mut writer, Table::Large, transcript);
+    Ok((status, writer))
+}
+
+/// What a run of nodes and links with these steps reports, and how it ends.
+fn run(alloc: Global, nodes: &[u8], steps: &[u8]) -> Result<(Status, Vec<u8>), AllocError> {
+    run_shown(alloc, nodes, steps, false)
+}
+
+pub const GROUP_SEND: &[u8] =
+    b"{do=\"send\", node=\"n0\", to=\"01-00-5E-00-00-01\", type=0x0800, payload=\"AABB\"}, {do=\"drain\"},\n";
+
+/// The report of that send round the ring.
+pub const RING_REPORT: &[u8] = b"bench 1 table 512 nodes 3 links 3
+node 0 danh sent 1 life 0 up 0 forwarded 0 duplicate 0 returned 2 dropped 0
+node 1 danh sent 0 life 0 up 1 forwarded 2 duplicate 0 returned 0 dropped 0
+node 2 danh sent 0 life 0 up 1 forwarded 2 duplicate 0 returned 0 dropped 0
+link 0 put 2 taken 2 lost 0
+link 1 put 2 taken 2 lost 0
+link 2 put 2 taken 2 lost 0
+certified 1
+";
+
+#[test]
+fn group_round_a_ring(rt: HostRuntime) -> Result<(), Fail> {
+    let (status, text) = run(rt.alloc(), RING, GROUP_SEND)?;
+    assert_eq!(rt; status, Status::Certified);
+    assert!(rt; text.as_slice() == RING_REPORT);
+    Ok(())
+}
+
+#[test]
+fn two_links_lost(rt: HostRuntime) -> Result<(), Fail> {
+    let steps = b"{do=\"cut\", link=0},
+{do=\"send\", node=\"n0\", to=\"02-00-00-00-00-02\", type=0x0800, payload=\"AABB\"}, {do=\"drain\"},
+{do=\"mend\", link=0}, {do=\"cut\", link=1},
+{do=\"send\", node=\"n0\", to=\"02-00-00-00-00-02\", type=0x0800, payload=\"AABB\"}, {do=\"drain\"},
+";
+    let (status, text) = run(rt.alloc(), PAIR, steps)?;
+    let expected = b"bench 1 table 512 nodes 2 links 2
+node 0 danh sent 2 life 0 up 0 forwarded 0 duplicate 0 returned 0 dropped 0
+node 1 danh sent 0 life 0 up 2 forwarded 0 duplicate 0 returned 0 dropped 0
+link 0 put 2 taken 1 lost 1
+link 1 put 2 taken 1 lost 1
+doubt two-links
+";
+    assert_eq!(rt; status, Status::Doubt);
+    assert!(rt; text.as_slice() == expected.as_slice());
+    Ok(())
+}
+
+#[test]
+fn injected_copy(rt: HostRuntime) -> Result<(), Fail> {
+    let steps =
+        b"{do=\"inject\", link=0, dir=\"forth\", octets=\"01005E000001020000000007892F000600000800\"}, {do=\"drain\"},\n";
+    let (status, text) = run(rt.alloc(), RING, steps)?;
+    let stranger = Disagree::Stranger { link: 0, row: 0 };
+    assert_eq!(rt; status, Status::Fault(Fault::Check(stranger)));
+    assert!(rt; text.is_empty());
+    Ok(())
+}
+
+#[test]
+fn refused_step(rt: HostRuntime) -> Result<(), Fail> {
+    let (status, text) = run(rt.alloc(), RING, b"{do=\"put\", port=\"n0.A\"},\n")?;
+    let fault = DrainFault::World(WorldFault::Nothing);
+    assert_eq!(rt; status, Status::Fault(Fault::Step { step: 0, fault }));
+    assert!(rt; text.is_empty());
+    Ok(())
+}
+
+#[test]
+fn no_scenario(rt: HostRuntime) -> Result<(), Fail> {
+    let (status, text) = run(rt.alloc(), RING, b"{do=\"age\", node=\"nx\"},\n")?;
+    let fault = ScenarioFault {
+        spot: Spot::Step(0),
+        what: What::NoSuchName,
+    };
+    assert_eq!(rt; status, Status::Fault(Fault::Scenario(fault)));
+    assert!(rt; text.is_empty());
+    Ok(())
+}
+
+#[test]
+fn scenario_that_cannot_be_read(rt: HostRuntime) -> Result<(), Fail> {
+    let mut reader = FailingReader {
+        bytes: RING,
+        reads_left: 0,
+    };
+    let mut writer = Vec::new(rt.alloc());
+    let status = scenario_run(rt.alloc(), &mut reader, &mut writer, Table::Large, false);
+    assert_eq!(rt; status, Status::Fault(Fault::Read));
+    assert!(rt; writer.is_empty());
+    Ok(())
+}
+
+#[test]
+fn text_that_cannot_be_written(rt: HostRuntime) -> Result<(), Fail> {
+    for transcript in [false, true] {
+        let mut reader = RING;
+        let mut writer = FailingWriter {
+            held: Vec::new(rt.alloc()),
+            writes_left: 0,
+        };
+        let status = scenario_run(
+            rt.alloc(),
+            &mut reader,
+            &mut writer,
+            Table::Small,
+            transcript,
+        );
+        assert_eq!(rt; status, Status::Fault(Fault::Write));
+        assert!(rt; writer.held.is_empty());
+    }
+    Ok(())
+}
+
+const QUAD: &[u8] = b"node = [
+  {name=\"n0\", role=\"danh\", mac=\"02-00-00-00-00-01\"}, {name=\"n1\", role=\"danh\", mac=\"02-00-00-00-00-02\"},
+  {name=\"q0\", role=\"quadbox\"}, {name=\"q1\", role=\"quadbox\"},
+]
+link = [
+  {ends=[\"n0.B\",\"q0.A\"]}, {ends=[\"q0.B\",\"q1.A\"]}, {ends=[\"q1.B\",\"n0.A\"]},
+  {ends=[\"n1.B\",\"q0.C\"]}, {ends=[\"q0.D\",\"q1.C\"]}, {ends=[\"q1.D\",\"n1.A\"]},
+]
+";
+
+const RED: &[u8] = b"node = [
+  {name=\"n0\", role=\"danh\", mac=\"02-00-00-00-00-01\"}, {name=\"r\", role=\"redbox\", mac=\"02-00-00-00-00-09\"},
+  {name=\"s\", role=\"station\", macs=[\"02-00-00-00-00-0A\", \"02-00-00-00-00-0B\"]},
+]
+link = [{ends=[\"n0.B\",\"r.A\"]}, {ends=[\"r.B\",\"n0.A\"]}, {ends=[\"r.I\",\"s.P\"]}]
+";
+
+/// Whether a run ends so, with this last line.
+fn ends(
+    rt: &HostRuntime,
+    nodes: &[u8],
+    steps: &[u8],
+    ended: Status,
+    last: &[u8],
+) -> Result<bool, Fail> {
+    let (status, text) = run(rt.alloc(), nodes, steps)?;
+    Ok(status == ended && text.as_slice().ends_with(last))
+}
+
+#[test]
+fn cut_on_the_way(rt: HostRuntime) -> Result<(), Fail> {
+    let steps =
+        b"{do=\"send\", node=\"n0\", to=\"01-00-5E-00-00-01\", type=0x0800, payload=\"AABB\"},
+{do=\"put\", port=\"n0.B\"}, {do=\"put\", port=\"n0.A\"},
+{do=\"take\", link=0, dir=\"forth\"}, {do=\"judge\", port=\"n1.A\"}, {do=\"put\", port=\"n1.B\"},
+{do=\"take\", link=2, dir=\"back\"}, {do=\"judge\", port=\"n2.B\"}, {do=\"put\", port=\"n2.A\"},
+{do=\"cut\", link=1}, {do=\"mend\", link=1},
+{do=\"send\", node=\"n0\", to=\"02-00-00-00-00-02\", type=0x0800, payload=\"AABB\"}, {do=\"drain\"},
+";
+    assert!(rt; ends(&rt, RING, steps, Status::Certified, b"\ncertified 2\n")?);
+    Ok(())
+}
+
+#[test]
+fn overrun(rt: HostRuntime) -> Result<(), Fail> {
+    let mut narrow = Vec::new(rt.alloc());
+    narrow.extend_from_slice(b"capacity = 1\n")?;
+    narrow.extend_from_slice(RING)?;
+    let steps =
+        b"{do=\"send\", node=\"n0\", to=\"01-00-5E-00-00-01\", type=0x0800, payload=\"AABB\"}, {do=\"put\", port=\"n0.B\"},
+{do=\"send\", node=\"n0\", to=\"01-00-5E-00-00-01\", type=0x0800, payload=\"AABB\"}, {do=\"put\", port=\"n0.B\"},
+{do=\"put\", port=\"n0.A\"}, {do=\"take\", link=2, dir=\"back\"}, {do=\"judge\", port=\"n2.B\"}, {do=\"drain\"},
+";
+    assert!(rt;
+        ends(
+            &rt,
+            narrow.as_slice(),
+            steps,
+            Status::Certified,
+            b"\ncertified 2\n"
+        )?
+    );
+    Ok(())
+}
+
+#[test]
+fn quad(rt: HostRuntime) -> Result<(), Fail> {
+    assert!(rt; ends(&rt, QUAD, GROUP_SEND, Status::Doubt, b"\ndoubt not-ring\n")?);
+    Ok(())
+}
+
+#[test]
+fn red_to_and_from(rt: HostRuntime) -> Result<(), Fail> {
+    let steps =
+        b"{do=\"send\", node=\"s\", to=\"02-00-00-00-00-01\", type=0x0800, payload=\"AABB\"}, {do=\"drain\"}, {do=\"clock\", at=10},
+{do=\"send\", node=\"n0\", to=\"02-00-00-00-00-0A\", type=0x0800, payload=\"02\"}, {do=\"drain\"}, {do=\"clock\", at=60000},
+{do=\"send\", node=\"n0\", to=\"02-00-00-00-00-0A\", type=0x0800, payload=\"02\"}, {do=\"drain\"},
+";
+    assert!(rt; ends(&rt, RED, steps, Status::Doubt, b"\ndoubt not-ring\n")?);
+    Ok(())
+}
+
+#[test]
+fn red_group_and_local(rt: HostRuntime) -> Result<(), Fail> {
+    let steps =
+        b"{do=\"send\", node=\"s\", to=\"01-00-5E-00-00-01\", type=0x0800, payload=\"AABB\"}, {do=\"drain\"},
+{do=\"send\", node=\"s\", from=1, to=\"02-00-00-00-00-0A\", type=0x0800, payload=\"AABB\"}, {do=\"drain\"},
+{do=\"send\", node=\"s\", to=\"02-00-00-00-00-01\", type=0x0800, payload=\"01\"}, {do=\"drain\"},
+";
+    assert!(rt; ends(&rt, RED, steps, Status::Doubt, b"\ndoubt not-ring\n")?);
+    Ok(())
+}

@@ -1,0 +1,55 @@
+//! What is written of a finished run: its transcript or its report.
+ghost use Rattle.std.specs.Prelude.{◌≡◌, IfErr, IfOk};
+ghost use Rattle.hsr_transcript_text.specs.Transcript.{run_text};
+ghost use Rattle.hsr_engines.specs.Shown.{IsDelivered, shown};
+ghost use Rattle.hsr_engines.specs.declared.fault.Fault.TheVariants.{Memory};
+
+use crate::fault::{Fault, Status};
+use crate::report::report;
+use crate::verdict::Verdict;
+use hsr_closing::Closed;
+use hsr_transcript::write;
+use std::alloc::Global;
+use std::io::Write;
+
+/// The transcript of a finished run.
+fn run_text<const C: usize>(alloc: Global, closed: &Closed<C>) -> Result<Vec<u8>, Fault>
+    ensures ok { IfOk result (λ text. text.items ≡ run_text closed.now) }
+    ensures err { IfErr result (λ f. f ≡ Memory) }
+{
+    let mut text = Vec::new(alloc);
+    match write(alloc, closed, &mut text) {
+        Ok(()) => Ok(text),
+        // a list of octets fails for want of memory alone
+        Err(_) => Err(Fault::Memory),
+    }
+}
+
+/// The transcript of a finished run, or the report of what was found of it.
+pub fn shown<const C: usize>(
+    alloc: Global,
+    closed: &Closed<C>,
+    verdict: Verdict,
+    transcript: bool,
+) -> Result<Vec<u8>, Fault>
+    ensures ok { IfOk result (λ text. text.items ≡ shown transcript closed.now verdict) }
+    ensures err { IfErr result (λ f. f ≡ Memory) }
+{
+    if transcript {
+        return run_text(alloc, closed);
+    }
+    match report(alloc, closed, verdict) {
+        Ok(text) => Ok(text),
+        Err(_) => Err(Fault::Memory),
+    }
+}
+
+/// Writes what is shown of a run, and tells how it ended.
+pub fn deliver<W: Write>(writer: &mut W, verdict: Verdict, text: &[u8]) -> Status
+    ensures { IsDelivered (W.contents writer.old) (W.contents writer.new) verdict text.now result }
+{
+    if writer.write_all(text).is_err() || writer.flush().is_err() {
+        return Status::Fault(Fault::Write);
+    }
+    verdict.status()
+}

@@ -1,0 +1,43 @@
+//! A text that is read whole, up to a length, with a bound on the number of reads.
+ghost use Rattle.std.specs.Prelude.{◌≡◌, ◌⊎◌, IfErr, IfOk, IfSome};
+ghost use Rattle.hsr_engines.specs.Text.{IsWhole, ReadsPiece};
+ghost use Rattle.hsr_engines.specs.declared.fault.Fault.TheVariants.{Memory, Read as ReadFailed};
+
+use crate::fault::Fault;
+use hsr_text::READ_LIMIT;
+use std::alloc::Global;
+use std::io::{ErrorKind, Read};
+
+/// Reads a piece of a text, puts it behind what was read, and tells whether more may follow.
+fn read_piece<R: Read>(reader: &mut R, text: &mut Vec<u8>) -> Result<bool, Fault>
+    ensures ok { IfOk result (λ more. ReadsPiece (R.remaining reader.old) (R.remaining reader.new) text.old.items text.new.items more) }
+    ensures err { IfErr result (λ f. (f ≡ ReadFailed) ⊎ (f ≡ Memory)) }
+{
+    let mut piece = [0u8; 4096];
+    match reader.read(&mut piece) {
+        Ok(count) => {
+            text.extend_from_slice(&piece[..count])?;
+            Ok(count > 0)
+        }
+        Err(e) if e.kind() == ErrorKind::Interrupted => Ok(true),
+        Err(_) => Err(Fault::Read),
+    }
+}
+
+/// Reads a whole text, or of one with more than `most` octets a front that has more. `Fault::Read` where the reader fails or takes
+/// 2^40 reads, `Fault::Memory` where room is refused.
+pub fn read_text<R: Read>(alloc: Global, reader: &mut R, most: usize) -> Result<Vec<u8>, Fault>
+    ensures ok { IfOk result (λ text. IfSome (R.remaining reader.old) (λ all. IsWhole most all text.items)) }
+    ensures err { IfErr result (λ f. (f ≡ ReadFailed) ⊎ (f ≡ Memory)) }
+{
+    let mut text = Vec::new(alloc);
+    let mut reads = READ_LIMIT;
+    while reads > 0 {
+        reads -= 1;
+        let more = read_piece(reader, &mut text)?;
+        if !more || text.len() > most {
+            return Ok(text);
+        }
+    }
+    Err(Fault::Read)
+}

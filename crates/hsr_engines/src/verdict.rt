@@ -1,0 +1,75 @@
+//! What an audit of a run found.
+ghost use Rattle.std.specs.Prelude.{◌≡◌, ◌++◌, IfErr, IfOk, OnOk};
+ghost use Rattle.hsr_engines.specs.Report.{doubt_text, status_of, verdict_line};
+ghost use Rattle.hsr_engines.specs.Shown.{IsFound};
+ghost use Rattle.hsr_engines.specs.declared.fault.Fault.TheVariants.{Memory};
+
+use crate::fault::{Fault, Status};
+use hsr_audit::{AuditFault, Doubt, audit};
+use hsr_closing::Closed;
+use hsr_node_text::put_count;
+use std::alloc::{AllocError, Global};
+
+/// What an audit of a run found: so many sends that are certified, or a doubt.
+#[derive(Clone, Copy, Debug, PartialEq, Eq)]
+pub enum Verdict {
+    Certified(usize),
+    Doubt(Doubt),
+}
+
+impl Verdict {
+    /// How a run ends of which this was found.
+    pub fn status(self) -> Status
+        ensures { result ≡ status_of self }
+    {
+        match self {
+            Verdict::Certified(_) => Status::Certified,
+            Verdict::Doubt(_) => Status::Doubt,
+        }
+    }
+}
+
+/// What the audit of a run finds.
+pub fn found<const C: usize>(alloc: Global, closed: &Closed<C>) -> Result<Verdict, Fault>
+    ensures ok { IfOk result (λ v. IsFound closed.now.run v) }
+    ensures err { IfErr result (λ f. f ≡ Memory) }
+{
+    match audit(alloc, closed) {
+        Ok(certificate) => Ok(Verdict::Certified(certificate.sends.len())),
+        Err(AuditFault::Doubt(doubt)) => Ok(Verdict::Doubt(doubt)),
+        Err(AuditFault::NoMemory) => Err(Fault::Memory),
+    }
+}
+
+fn put_doubt(text: &mut Vec<u8>, doubt: Doubt) -> Result<(), AllocError>
+    ensures { OnOk result (text.new.items ≡ text.old.items ++ doubt_text doubt) }
+{
+    match doubt {
+        Doubt::NotRing => text.extend_from_slice(b"not-ring"),
+        Doubt::Mode => text.extend_from_slice(b"mode"),
+        Doubt::SameAddress => text.extend_from_slice(b"same-address"),
+        Doubt::TwoLinks => text.extend_from_slice(b"two-links"),
+        Doubt::Forgot { node, place } => {
+            put_count(text, b"forgot ", node as u64)?;
+            put_count(text, b" ", place as u64)
+        }
+        Doubt::Mistaken { node, place } => {
+            put_count(text, b"mistaken ", node as u64)?;
+            put_count(text, b" ", place as u64)
+        }
+    }
+}
+
+/// Puts the last line of a report.
+pub fn put_verdict_line(text: &mut Vec<u8>, verdict: Verdict) -> Result<(), AllocError>
+    ensures { OnOk result (text.new.items ≡ text.old.items ++ verdict_line verdict) }
+{
+    match verdict {
+        Verdict::Certified(sends) => put_count(text, b"certified ", sends as u64)?,
+        Verdict::Doubt(doubt) => {
+            text.extend_from_slice(b"doubt ")?;
+            put_doubt(text, doubt)?;
+        }
+    }
+    text.extend_from_slice(b"\n")
+}

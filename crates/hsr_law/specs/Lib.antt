@@ -1,0 +1,5 @@
+pub mod Run
+pub mod Closed
+pub mod Premises
+pub mod Once
+pub mod Budget

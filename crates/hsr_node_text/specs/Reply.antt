@@ -1,0 +1,112 @@
+-- The lines that answer a request, and the line of counters.
+use Rattle.std.specs.Prelude.{ℕ, Bool, List, [], ◌++◌, length, codes, Result, Ok, Err, if◌then◌else◌}
+use Rattle.std.specs.Fmt.{decimal}
+use Rattle.hex.specs.Hex.{encode_upper}
+use Rattle.hsr_frame.specs.Counters.{dropped}
+use Rattle.hsr_frame.specs.Fault.{frame_fault_code, send_fault_code}
+use Rattle.hsr_frame.specs.Grammar.{Fields, spelling}
+use Rattle.hsr_frame.specs.declared.counters.Counters.{Counters}
+use Rattle.hsr_frame.specs.declared.fault.FrameFault.{FrameFault}
+use Rattle.hsr_frame.specs.declared.fault.SendFault.{SendFault}
+use Rattle.hsr_frame.specs.declared.fault.SendFault.TheVariants.{Spent as NoneLeft}
+use Rattle.hsr_frame.specs.declared.fault.Spent.{Spent}
+use Rattle.hsr_frame.specs.declared.node.Cause.{Cause}
+use Rattle.hsr_frame.specs.declared.node.Cause.TheVariants.{Malformed}
+use Rattle.hsr_frame.specs.declared.node.Life.{Life}
+use Rattle.hsr_tag.specs.Seen.{classified}
+use Rattle.hsr_tag.specs.Tag.{tag_of, tagged_spelling, untag_of}
+use Rattle.hsr_tag.specs.declared.seen.Seen.{Seen}
+use Rattle.hsr_tag.specs.declared.seen.Seen.TheVariants.{Plain, Tagged as WithTag}
+use Rattle.hsr_danh.specs.Life.{life_fields}
+use Rattle.hsr_danh.specs.Machine.{Machine}
+use Rattle.hsr_danh.specs.Step.{age_step, arrive_step, life_step, send_step}
+use Rattle.hsr_danh.specs.declared.danh.Sent.{Sent}
+use Rattle.hsr_danh.specs.declared.danh.Verdict.{Verdict}
+use Rattle.hsr_transcript_text.specs.Spelled as spelled
+use Rattle.hsr_node_text.specs.Request.{Asked, Sending, age, arrive, life, send}
+
+-- ---- frames of the node's own
+
+-- the frame that a send asks for
+abbrev pub asked_frame : List ℕ → Sending → Fields
+asked_frame own r = record { dst = r.dst; src = own; vlan = r.vlan; kind = r.kind; rest = r.payload }
+
+-- the copies that leave by the ports: the path is 0 on A and 1 on B
+abbrev pub copies_text : Fields → ℕ → List ℕ
+copies_text frame seq =
+    codes "A " ++ encode_upper (tagged_spelling (tag_of frame 0 seq))
+    ++ codes "\nB " ++ encode_upper (tagged_spelling (tag_of frame 1 seq)) ++ codes "\n"
+
+abbrev pub refused_text : SendFault → List ℕ
+refused_text fault = codes "refused " ++ decimal (send_fault_code fault) ++ codes "\n"
+
+abbrev pub sent_text : Fields → ℕ → List ℕ
+sent_text frame seq = codes "sent " ++ decimal seq ++ codes "\n" ++ copies_text frame seq
+
+abbrev pub send_text : List ℕ → Sending → Result Sent SendFault → List ℕ
+send_text own r (Ok sent) = sent_text (asked_frame own r) sent.seq
+send_text own r (Err fault) = refused_text fault
+
+abbrev pub lived_text : List ℕ → Life → List ℕ
+lived_text own l = codes "life " ++ decimal l.seq ++ codes " " ++ decimal l.life ++ codes "\n" ++ copies_text (life_fields own l.life) l.seq
+
+abbrev pub life_text : List ℕ → Result Life Spent → List ℕ
+life_text own (Ok l) = lived_text own l
+life_text own (Err _) = refused_text NoneLeft
+
+-- ---- arrivals
+
+abbrev pub word_if : Bool → List ℕ → List ℕ
+word_if said word = if said then word else []
+
+-- why an arrival went where it did, without its egresses
+abbrev pub cause_text : Cause → List ℕ
+cause_text (Malformed fault) = codes "malformed " ++ decimal (frame_fault_code fault)
+cause_text cause = spelled.cause_text cause
+
+-- the egresses stand in the order up, A, B
+abbrev pub verdict_text : Verdict → List ℕ
+verdict_text v = cause_text v.cause ++ word_if v.up (codes " up") ++ word_if v.a (codes " A") ++ word_if v.b (codes " B") ++ codes "\n"
+
+-- what goes up is the plain frame
+abbrev pub up_text : Result Seen FrameFault → List ℕ
+up_text (Err fault) = []
+up_text (Ok (Plain frame)) = []
+up_text (Ok (WithTag frame)) = codes "up " ++ encode_upper (spelling (untag_of frame)) ++ codes "\n"
+
+abbrev pub judged_text : List ℕ → Verdict → List ℕ
+judged_text octets v = verdict_text v ++ (if v.up then up_text (classified octets) else [])
+
+abbrev pub arrival_text : List ℕ → Result Verdict Spent → List ℕ
+arrival_text octets (Ok v) = judged_text octets v
+arrival_text octets (Err _) = refused_text NoneLeft
+
+-- ---- a request
+
+-- the lines that answer a request
+unfoldable pub reply : ℕ → Machine → Asked → List ℕ
+reply capacity machine (send r) = send_text machine.own r (send_step capacity machine r.at r.dst r.kind (length r.payload)).0
+reply capacity machine (life at) = life_text machine.own (life_step capacity machine at).0
+reply capacity machine (arrive at port octets) = arrival_text octets (arrive_step capacity machine at port octets).0
+reply capacity machine (age at) = codes "aged\n"
+
+-- the node after a request
+unfoldable pub after : ℕ → Machine → Asked → Machine
+after capacity machine (send r) = (send_step capacity machine r.at r.dst r.kind (length r.payload)).1
+after capacity machine (life at) = (life_step capacity machine at).1
+after capacity machine (arrive at port octets) = (arrive_step capacity machine at port octets).1
+after capacity machine (age at) = age_step machine at
+
+-- how often a node sent, and what of what came it passed
+abbrev pub passed_text : Counters → List ℕ
+passed_text c =
+    codes "sent " ++ decimal c.sent ++ codes " life " ++ decimal c.life ++ codes " up " ++ decimal c.up ++ codes " forwarded " ++ decimal c.forwarded
+
+-- what of what came a node didn't pass
+abbrev pub stopped_text : Counters → List ℕ
+stopped_text c =
+    codes " duplicate " ++ decimal c.duplicate ++ codes " returned " ++ decimal c.returned ++ codes " dropped " ++ decimal (dropped c) ++ codes "\n"
+
+-- the last line
+unfoldable pub counter_line : Counters → List ℕ
+counter_line c = passed_text c ++ stopped_text c

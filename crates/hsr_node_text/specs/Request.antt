@@ -1,0 +1,103 @@
+-- What an input line of `node` asks for.
+use Rattle.std.specs.Prelude.{ℕ, List, [], ◌∷◌, Option, Some, None, codes}
+use Rattle.std.specs.Result.{result_ok}
+use Rattle.std.specs.Str.{bytes_eq}
+use Rattle.hsr_frame.specs.Address.{address_of}
+use Rattle.hsr_frame.specs.Cases.{first_of}
+use Rattle.hsr_text.specs.Words.{◌>>=◌, cut, word_at, decimal_of, hex_pair_of, hex_octets_of}
+use Rattle.hsr_frame.specs.declared.node.RingPort.{RingPort}
+use Rattle.hsr_frame.specs.declared.node.RingPort.TheVariants.{A, B}
+use Rattle.hsr_node_text.specs.declared.request.Request.{Request}
+use Rattle.hsr_node_text.specs.declared.request.Request.TheVariants.{Send, Life, Arrive, Age}
+
+-- a frame to be sent, without where its payload lies in memory
+pub record Sending : Type 0 where
+  pub at : ℕ
+  pub dst : List ℕ
+  pub kind : ℕ
+  pub payload : List ℕ
+  pub vlan : Option ℕ
+
+pub data Asked : Type 0 where
+  send : Sending → Asked
+  life : ℕ → Asked
+  arrive : ℕ → RingPort → List ℕ → Asked
+  age : ℕ → Asked
+
+abbrev pub view : Request → Asked
+view (Send at dst kind payload vlan) = send (record { at = at; dst = dst; kind = kind; payload = payload.items; vlan = vlan })
+view (Life at) = life at
+view (Arrive at port octets) = arrive at port octets.items
+view (Age at) = age at
+
+-- the word of a VLAN tag's control information, if there is one, and nothing behind it
+abbrev pub vlan_of : Option (List ℕ) → Option (Option ℕ)
+vlan_of None = Some None
+vlan_of (Some text) = do
+  word ← word_at (Some text)
+  control ← hex_pair_of word.0
+  elim word.1 [ None ↦ Some (Some control) | Some _ ↦ None ]
+
+-- <at> <dst> <type4> <payload> [<vlan4>]
+abbrev pub send_in : Option (List ℕ) → Option Asked
+send_in words = do
+  at ← word_at words
+  moment ← decimal_of at.0
+  dst ← word_at at.1
+  address ← result_ok (address_of dst.0)
+  type ← word_at dst.1
+  kind ← hex_pair_of type.0
+  text ← word_at type.1
+  payload ← hex_octets_of text.0
+  vlan ← vlan_of text.1
+  Some (send (record { at = moment; dst = address; kind = kind; payload = payload; vlan = vlan }))
+
+abbrev pub port_of : List ℕ → Option RingPort
+port_of letter = first_of ((bytes_eq letter (codes "A"), Some A) ∷ (bytes_eq letter (codes "B"), Some B) ∷ []) None
+
+-- a word that is the last
+abbrev pub last_word : Option (List ℕ) → Option (List ℕ)
+last_word words = do
+  word ← word_at words
+  elim word.1 [ None ↦ Some word.0 | Some _ ↦ None ]
+
+-- a number that is the last word
+abbrev pub last_decimal : Option (List ℕ) → Option ℕ
+last_decimal words = do
+  word ← last_word words
+  decimal_of word
+
+-- <at> A|B <octets>
+abbrev pub arrival_in : Option (List ℕ) → Option Asked
+arrival_in words = do
+  at ← word_at words
+  moment ← decimal_of at.0
+  letter ← word_at at.1
+  port ← port_of letter.0
+  word ← last_word letter.1
+  octets ← hex_octets_of word
+  Some (arrive moment port octets)
+
+-- <at>
+abbrev pub life_in : Option (List ℕ) → Option Asked
+life_in words = do
+  at ← last_decimal words
+  Some (life at)
+
+abbrev pub age_in : Option (List ℕ) → Option Asked
+age_in words = do
+  at ← last_decimal words
+  Some (age at)
+
+-- what a line asks for, by its first word
+unfoldable pub request_of : List ℕ → Option Asked
+request_of line =
+    let verb = (cut 32 line).0 in
+    let words = (cut 32 line).1 in
+    first_of
+    ((bytes_eq verb (codes "send"), send_in words)
+    ∷ (bytes_eq verb (codes "arrive"), arrival_in words)
+    ∷ (bytes_eq verb (codes "life"), life_in words)
+    ∷ (bytes_eq verb (codes "age"), age_in words)
+    ∷ [])
+    None

@@ -1,0 +1,112 @@
+//! What a node answers to a request.
+ghost use Rattle.std.specs.Prelude.{◌≡◌, ◌≢◌, ◌≤◌, ◌++◌, ℕ, length, OnOk};
+ghost use Rattle.hsr_frame.specs.Address.{IsGroup};
+ghost use Rattle.hsr_node_text.specs.Request.{arrive, life, send, view};
+ghost use Rattle.hsr_node_text.specs.Reply.{after, asked_frame, reply};
+
+use crate::reply::{put_judged, put_lived, put_refused, put_sent};
+use crate::request::Request;
+use hsr_danh::Danh;
+use hsr_frame::{Mac, RingPort, SendFault, copied};
+use hsr_tag::Frame;
+use std::alloc::AllocError;
+
+/// The frame that a send asks for.
+fn frame_of(own: Mac, dst: Mac, vlan: Option<u16>, kind: u16, payload: &[u8]) -> Frame
+    requires station { ¬ IsGroup own }
+    requires no_vlan { kind ≢ 0x8100 }
+    requires no_tag { kind ≢ 0x892F }
+    requires fits { length payload.now ≤ 1500 }
+    ensures { (at : ℕ) → result ≡ asked_frame own (record { at = at; dst = dst; kind = kind; payload = payload.now; vlan = vlan }) }
+{
+    Frame {
+        dst,
+        src: own,
+        vlan,
+        kind,
+        payload: copied(payload),
+    }
+}
+
+/// Sends a frame, and puts the lines that answer it.
+fn answer_send<const C: usize>(
+    danh: &mut Danh<C>,
+    at: u64,
+    dst: Mac,
+    vlan: Option<u16>,
+    kind: u16,
+    payload: &[u8],
+    text: &mut Vec<u8>,
+) -> Result<(), AllocError>
+    ensures text { OnOk result (text.new.items ≡ text.old.items ++ reply C danh.old (send (record { at = at; dst = dst; kind = kind; payload = payload.now; vlan = vlan }))) }
+    ensures after { danh.new ≡ after C danh.old (send (record { at = at; dst = dst; kind = kind; payload = payload.now; vlan = vlan })) }
+{
+    let own = danh.address();
+    match danh.send(at, dst, vlan, kind, payload) {
+        Ok(sent) => put_sent(text, &frame_of(own, dst, vlan, kind, payload), sent.seq),
+        Err(fault) => put_refused(text, fault),
+    }
+}
+
+/// Sends a supervision frame, and puts the lines that answer it.
+fn answer_life<const C: usize>(
+    danh: &mut Danh<C>,
+    at: u64,
+    text: &mut Vec<u8>,
+) -> Result<(), AllocError>
+    ensures text { OnOk result (text.new.items ≡ text.old.items ++ reply C danh.old (life at)) }
+    ensures after { danh.new ≡ after C danh.old (life at) }
+{
+    let own = danh.address();
+    match danh.supervise(at) {
+        Ok(sent) => put_lived(text, own, sent),
+        Err(_) => put_refused(text, SendFault::Spent),
+    }
+}
+
+/// Judges an arrival, and puts the lines that answer it.
+fn answer_arrival<const C: usize>(
+    danh: &mut Danh<C>,
+    at: u64,
+    port: RingPort,
+    octets: &[u8],
+    text: &mut Vec<u8>,
+) -> Result<(), AllocError>
+    ensures text { OnOk result (text.new.items ≡ text.old.items ++ reply C danh.old (arrive at port octets.now)) }
+    ensures after { danh.new ≡ after C danh.old (arrive at port octets.now) }
+{
+    match danh.arrive(at, port, octets) {
+        Ok(verdict) => put_judged(text, octets, verdict),
+        Err(_) => put_refused(text, SendFault::Spent),
+    }
+}
+
+/// Makes a text the lines that answer a request.
+#[tactic(auto, unfolding(crate::specs::Reply::reply, crate::specs::Reply::after))]
+pub fn answer_request<const C: usize>(
+    danh: &mut Danh<C>,
+    request: &Request,
+    text: &mut Vec<u8>,
+) -> Result<(), AllocError>
+    ensures text { OnOk result (text.new.items ≡ reply C danh.old (view request.now)) }
+    ensures after { danh.new ≡ after C danh.old (view request.now) }
+{
+    text.clear();
+    match request {
+        Request::Send {
+            at,
+            dst,
+            kind,
+            payload,
+            vlan,
+        } => answer_send(danh, *at, *dst, *vlan, *kind, payload.as_slice(), text),
+        Request::Life { at } => answer_life(danh, *at, text),
+        Request::Arrive { at, port, octets } => {
+            answer_arrival(danh, *at, *port, octets.as_slice(), text)
+        }
+        Request::Age { at } => {
+            danh.age(*at);
+            text.extend_from_slice(b"aged\n")
+        }
+    }
+}

@@ -1,0 +1,150 @@
+//! The lines that answer a request, and the line of counters.
+ghost use Rattle.std.specs.Prelude.{◌≡◌, ◌≢◌, ◌≤◌, ◌^◌, ◌++◌, length, OnOk};
+ghost use Rattle.std.specs.Fmt.{decimal};
+ghost use Rattle.hsr_frame.specs.Address.{IsGroup};
+ghost use Rattle.hsr_frame.specs.Counters.{AreWithin};
+ghost use Rattle.hsr_node_text.specs.Reply.{cause_text, copies_text, counter_line, judged_text, lived_text, passed_text, refused_text, sent_text, stopped_text, up_text, verdict_text, word_if};
+
+use hsr_danh::{Verdict, life_frame};
+use hsr_frame::{Cause, Counters, FrameFault, Life, Mac, SendFault};
+use hsr_tag::{Frame, Seen, classify};
+use hsr_text::{put_decimal, put_hex};
+use std::alloc::AllocError;
+
+/// Puts a name and a number.
+pub fn put_count(text: &mut Vec<u8>, name: &[u8], n: u64) -> Result<(), AllocError>
+    ensures { OnOk result (text.new.items ≡ text.old.items ++ (name.now ++ decimal n)) }
+{
+    text.extend_from_slice(name)?;
+    put_decimal(text, n)
+}
+
+/// Puts the two copies of a frame that leave by the ports.
+fn put_copies(text: &mut Vec<u8>, frame: &Frame, seq: u16) -> Result<(), AllocError>
+    ensures { OnOk result (text.new.items ≡ text.old.items ++ copies_text frame.now seq) }
+{
+    text.extend_from_slice(b"A ")?;
+    put_hex(text, frame.tag(0, seq).write().as_slice())?;
+    text.extend_from_slice(b"\nB ")?;
+    put_hex(text, frame.tag(1, seq).write().as_slice())?;
+    text.extend_from_slice(b"\n")
+}
+
+/// Puts the lines of a send that was accepted.
+pub fn put_sent(text: &mut Vec<u8>, frame: &Frame, seq: u16) -> Result<(), AllocError>
+    ensures { OnOk result (text.new.items ≡ text.old.items ++ sent_text frame.now seq) }
+{
+    put_count(text, b"sent ", u64::from(seq))?;
+    text.extend_from_slice(b"\n")?;
+    put_copies(text, frame, seq)
+}
+
+/// Puts the line of a send, supervision or arrival that was refused.
+pub fn put_refused(text: &mut Vec<u8>, fault: SendFault) -> Result<(), AllocError>
+    ensures { OnOk result (text.new.items ≡ text.old.items ++ refused_text fault) }
+{
+    put_count(text, b"refused ", u64::from(fault.code()))?;
+    text.extend_from_slice(b"\n")
+}
+
+/// Puts the lines of a supervision that was accepted.
+pub fn put_lived(text: &mut Vec<u8>, own: Mac, life: Life) -> Result<(), AllocError>
+    requires { ¬ IsGroup own }
+    ensures { OnOk result (text.new.items ≡ text.old.items ++ lived_text own life) }
+{
+    put_count(text, b"life ", u64::from(life.seq))?;
+    put_count(text, b" ", u64::from(life.life))?;
+    text.extend_from_slice(b"\n")?;
+    put_copies(text, &life_frame(own, life.life), life.seq)
+}
+
+/// Puts a word, if it is said.
+fn put_if(text: &mut Vec<u8>, said: bool, word: &[u8]) -> Result<(), AllocError>
+    ensures { OnOk result (text.new.items ≡ text.old.items ++ word_if said word.now) }
+{
+    if said {
+        return text.extend_from_slice(word);
+    }
+    Ok(())
+}
+
+/// Puts why an arrival went where it did.
+fn put_cause(text: &mut Vec<u8>, cause: Cause) -> Result<(), AllocError>
+    ensures { OnOk result (text.new.items ≡ text.old.items ++ cause_text cause) }
+{
+    match cause {
+        Cause::Passed => text.extend_from_slice(b"passed"),
+        Cause::Duplicate => text.extend_from_slice(b"duplicate"),
+        Cause::Returned => text.extend_from_slice(b"returned"),
+        Cause::Foreign => text.extend_from_slice(b"foreign"),
+        Cause::Local => text.extend_from_slice(b"local"),
+        Cause::Untagged => text.extend_from_slice(b"untagged"),
+        Cause::Tagged => text.extend_from_slice(b"tagged"),
+        Cause::Malformed(fault) => put_count(text, b"malformed ", u64::from(fault.code())),
+    }
+}
+
+/// Puts the line of an arrival.
+fn put_verdict(text: &mut Vec<u8>, verdict: Verdict) -> Result<(), AllocError>
+    ensures { OnOk result (text.new.items ≡ text.old.items ++ verdict_text verdict) }
+{
+    put_cause(text, verdict.cause)?;
+    put_if(text, verdict.up, b" up")?;
+    put_if(text, verdict.a, b" A")?;
+    put_if(text, verdict.b, b" B")?;
+    text.extend_from_slice(b"\n")
+}
+
+/// Puts the line of what goes up.
+fn put_up(text: &mut Vec<u8>, seen: &Result<Seen, FrameFault>) -> Result<(), AllocError>
+    ensures { OnOk result (text.new.items ≡ text.old.items ++ up_text seen.now) }
+{
+    if let Ok(Seen::Tagged(frame)) = seen {
+        text.extend_from_slice(b"up ")?;
+        put_hex(text, frame.untag().write().as_slice())?;
+        return text.extend_from_slice(b"\n");
+    }
+    Ok(())
+}
+
+/// Puts the lines of an arrival that was judged.
+pub fn put_judged(text: &mut Vec<u8>, octets: &[u8], verdict: Verdict) -> Result<(), AllocError>
+    ensures { OnOk result (text.new.items ≡ text.old.items ++ judged_text octets.now verdict) }
+{
+    put_verdict(text, verdict)?;
+    if verdict.up {
+        return put_up(text, &classify(octets));
+    }
+    Ok(())
+}
+
+/// Puts how often a node sent, and what of what came it passed.
+fn put_passed(text: &mut Vec<u8>, counters: &Counters) -> Result<(), AllocError>
+    ensures { OnOk result (text.new.items ≡ text.old.items ++ passed_text counters.now) }
+{
+    put_count(text, b"sent ", counters.sent)?;
+    put_count(text, b" life ", counters.life)?;
+    put_count(text, b" up ", counters.up)?;
+    put_count(text, b" forwarded ", counters.forwarded)
+}
+
+/// Puts what of what came a node didn't pass.
+fn put_stopped(text: &mut Vec<u8>, counters: &Counters) -> Result<(), AllocError>
+    requires { AreWithin counters.now (2 ^ 62) }
+    ensures { OnOk result (text.new.items ≡ text.old.items ++ stopped_text counters.now) }
+{
+    put_count(text, b" duplicate ", counters.duplicate)?;
+    put_count(text, b" returned ", counters.returned)?;
+    put_count(text, b" dropped ", counters.dropped())?;
+    text.extend_from_slice(b"\n")
+}
+
+/// Puts the line of a node's counters.
+#[tactic(auto, unfolding(crate::specs::Reply::counter_line))]
+pub fn put_counters(text: &mut Vec<u8>, counters: &Counters) -> Result<(), AllocError>
+    requires { AreWithin counters.now (2 ^ 62) }
+    ensures { OnOk result (text.new.items ≡ text.old.items ++ counter_line counters.now) }
+{
+    put_passed(text, counters)?;
+    put_stopped(text, counters)
+}

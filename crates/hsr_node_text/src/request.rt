@@ -1,0 +1,131 @@
+//! What an input line of `node` asks for.
+ghost use Rattle.std.specs.Prelude.{◌≡◌, option_map};
+ghost use Rattle.hsr_text.specs.Words.{Gives};
+ghost use Rattle.hsr_node_text.specs.Request.{age_in, arrival_in, last_decimal, life_in, port_of, request_of, send_in, view, vlan_of};
+
+use hsr_frame::{Mac, RingPort};
+use hsr_text::{WordFault, decimal, hex_octets, hex_pair, word};
+use std::alloc::Global;
+
+/// What a line asks for. Moments are in milliseconds.
+#[derive(Drop)]
+pub enum Request {
+    /// The node sends a frame of its own.
+    Send {
+        at: u64,
+        dst: Mac,
+        kind: u16,
+        payload: Vec<u8>,
+        vlan: Option<u16>,
+    },
+    /// The node sends a supervision frame.
+    Life {
+        at: u64,
+    },
+    /// Octets come to a ring port.
+    Arrive {
+        at: u64,
+        port: RingPort,
+        octets: Vec<u8>,
+    },
+    /// The node gives up what is expired.
+    Age {
+        at: u64,
+    },
+}
+
+/// The word of a VLAN tag's control information, where there is one, and nothing behind it.
+fn read_vlan(rest: Option<&[u8]>) -> Result<Option<u16>, WordFault>
+    ensures { Gives (λ v. v) result (vlan_of (option_map (λ s. s.now) rest.entry)) }
+{
+    match word(rest) {
+        None => Ok(None),
+        Some((digits, None)) => Ok(Some(hex_pair(digits).ok_or(WordFault::Bad)?)),
+        Some((_, Some(_))) => Err(WordFault::Bad),
+    }
+}
+
+/// Reads `<at> <dst> <type4> <payload> [<vlan4>]`.
+fn read_send(alloc: Global, rest: Option<&[u8]>) -> Result<Request, WordFault>
+    ensures { Gives view result (send_in (option_map (λ s. s.now) rest.entry)) }
+{
+    let (digits, rest) = word(rest).ok_or(WordFault::Bad)?;
+    let at = decimal(digits).ok_or(WordFault::Bad)?;
+    let (address, rest) = word(rest).ok_or(WordFault::Bad)?;
+    let dst = Mac::from_ascii(address).ok().ok_or(WordFault::Bad)?;
+    let (digits, rest) = word(rest).ok_or(WordFault::Bad)?;
+    let kind = hex_pair(digits).ok_or(WordFault::Bad)?;
+    let (digits, rest) = word(rest).ok_or(WordFault::Bad)?;
+    let payload = hex_octets(alloc, digits)?;
+    let vlan = read_vlan(rest)?;
+    Ok(Request::Send {
+        at,
+        dst,
+        kind,
+        payload,
+        vlan,
+    })
+}
+
+/// A ring port by its letter.
+fn read_port(letter: &[u8]) -> Option<RingPort>
+    ensures { result ≡ port_of letter.now }
+{
+    if letter == b"A".as_slice() {
+        Some(RingPort::A)
+    } else if letter == b"B".as_slice() {
+        Some(RingPort::B)
+    } else {
+        None
+    }
+}
+
+/// Reads `<at> A|B <octets>`.
+fn read_arrival(alloc: Global, rest: Option<&[u8]>) -> Result<Request, WordFault>
+    ensures { Gives view result (arrival_in (option_map (λ s. s.now) rest.entry)) }
+{
+    let (digits, rest) = word(rest).ok_or(WordFault::Bad)?;
+    let at = decimal(digits).ok_or(WordFault::Bad)?;
+    let (letter, rest) = word(rest).ok_or(WordFault::Bad)?;
+    let port = read_port(letter).ok_or(WordFault::Bad)?;
+    match word(rest) {
+        Some((digits, None)) => {
+            let octets = hex_octets(alloc, digits)?;
+            Ok(Request::Arrive { at, port, octets })
+        }
+        _ => Err(WordFault::Bad),
+    }
+}
+
+/// Reads a number that is the last word.
+fn read_last(rest: Option<&[u8]>) -> Option<u64>
+    ensures { result ≡ last_decimal (option_map (λ s. s.now) rest.entry) }
+{
+    match word(rest) {
+        Some((digits, None)) => decimal(digits),
+        _ => None,
+    }
+}
+
+/// Reads a line.
+#[tactic(auto, unfolding(crate::specs::Request::request_of))]
+pub fn read_request(alloc: Global, line: &[u8]) -> Result<Request, WordFault>
+    ensures { Gives view result (request_of line.now) }
+{
+    let (verb, rest) = word(Some(line)).ok_or(WordFault::Bad)?;
+    if verb == b"send".as_slice() {
+        return read_send(alloc, rest);
+    }
+    if verb == b"arrive".as_slice() {
+        return read_arrival(alloc, rest);
+    }
+    if verb == b"life".as_slice() {
+        let at = read_last(rest).ok_or(WordFault::Bad)?;
+        return Ok(Request::Life { at });
+    }
+    if verb == b"age".as_slice() {
+        let at = read_last(rest).ok_or(WordFault::Bad)?;
+        return Ok(Request::Age { at });
+    }
+    Err(WordFault::Bad)
+}

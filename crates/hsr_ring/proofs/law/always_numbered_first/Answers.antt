@@ -1,5 +1,0 @@
-use Rattle.hsr_ring.proofs.Closed as closed
-use Rattle.hsr_ring.proofs.law.always_numbered_first.Goals as goal
-
-pub returns : goal.returns
-returns c = closed.always_numbered_first

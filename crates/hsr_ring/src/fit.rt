@@ -1,0 +1,81 @@
+//! What the types of the code tell of steps and nodes: addresses have six octets, VLAN tags and types 16 bits.
+ghost use Rattle.std.specs.Prelude.{◌<◌, ◌^◌, ◌≡◌, length, IfSome};
+ghost use Rattle.std.specs.List.{All};
+ghost use Rattle.hsr_world.specs.Fit.{FitsPlace, FitsStep, IsFit};
+
+use hsr_frame::Mac;
+use hsr_node::Place;
+use hsr_step::Step;
+
+/// A number of this type has 16 bits.
+fn number_fits(n: u16)
+    ensures { n < 2 ^ 16 }
+{}
+
+fn tag_fits(vlan: Option<u16>)
+    ensures { IfSome vlan (λ control. control < 2 ^ 16) }
+{
+    match vlan {
+        Some(control) => number_fits(control),
+        None => {}
+    }
+}
+
+fn send_fits(dst: &Mac, vlan: Option<u16>, kind: u16)
+    ensures { IsFit dst.now vlan kind }
+{
+    let _ = dst.octets();
+    tag_fits(vlan);
+    number_fits(kind);
+}
+
+/// Any step is fit: its address has six octets, and its VLAN tag and type 16 bits.
+pub(crate) fn step_fits(step: &Step)
+    ensures { FitsStep step.now }
+{
+    match step {
+        Step::Send {
+            node: _,
+            from: _,
+            dst,
+            vlan,
+            kind,
+            payload: _,
+        } => send_fits(dst, *vlan, *kind),
+        _ => {}
+    }
+}
+
+fn address_fits(mac: &Mac)
+    ensures { length mac.now ≡ 6 }
+{
+    let _ = mac.octets();
+}
+
+fn addresses_fit(macs: &[Mac])
+    ensures { All (λ mac. length mac ≡ 6) macs.now }
+{
+    for mac in macs {
+        address_fits(mac);
+    }
+}
+
+fn place_fits(place: &Place)
+    ensures { FitsPlace place.now }
+{
+    match place {
+        Place::Danh { mac, mode: _ } => address_fits(mac),
+        Place::RedBox { mac, mode: _ } => address_fits(mac),
+        Place::QuadBox => {}
+        Place::Station { macs } => addresses_fit(macs),
+    }
+}
+
+/// Any node is fit: its addresses have six octets.
+pub(crate) fn places_fit(places: &[Place])
+    ensures { All FitsPlace places.now }
+{
+    for place in places {
+        place_fits(place);
+    }
+}

@@ -1,0 +1,6 @@
+//! The steps of a world, and why one is refused.
+#![tactic(auto)]
+
+mod step;
+
+pub use step::{DrainFault, Step, WorldFault};

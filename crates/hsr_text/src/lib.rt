@@ -1,0 +1,11 @@
+//! The lines of a text, and the words of a line.
+#![tactic(auto)]
+
+mod lines;
+mod words;
+
+pub use lines::{Front, READ_LIMIT, ReaderFault, next_line};
+pub use words::{WordFault, decimal, hex_octets, hex_pair, put_decimal, put_hex, word};
+
+#[cfg(test)]
+mod tests;

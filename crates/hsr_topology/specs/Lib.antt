@@ -1,0 +1,5 @@
+pub mod Fault
+pub mod Nodes
+pub mod Links
+pub mod Topology
+pub mod Wired

@@ -1,0 +1,53 @@
+//! The ends of links.
+ghost use Rattle.std.specs.Prelude.{◌≡◌};
+ghost use Rattle.hsr_topology.specs.Links.{faces_wrongly, has_port, is_interlink, is_same_end, is_station};
+
+use hsr_node::Place;
+
+/// An end of a link: a port of a node, each by its number.
+#[derive(Clone, Copy, Debug, PartialEq, Eq)]
+pub struct End {
+    pub node: usize,
+    pub port: u8,
+}
+
+/// Whether they are one port.
+pub fn is_same_end(a: End, b: End) -> bool
+    ensures { result ≡ is_same_end a b }
+{
+    a.node == b.node && a.port == b.port
+}
+
+/// Whether there is such a node, and it has such a port.
+pub fn has_port(places: &[Place], end: End) -> bool
+    ensures { result ≡ has_port places.now end }
+{
+    match places.get(end.node) {
+        Some(place) => end.port < place.ports(),
+        None => false,
+    }
+}
+
+/// Whether it is the interlink of a RedBox.
+fn is_interlink(places: &[Place], end: End) -> bool
+    ensures { result ≡ is_interlink places.now end }
+{
+    match places.get(end.node) {
+        Some(Place::RedBox { .. }) => end.port == 2,
+        _ => false,
+    }
+}
+
+/// Whether it is on a Station.
+fn is_station(places: &[Place], end: End) -> bool
+    ensures { result ≡ is_station places.now end }
+{
+    matches!(places.get(end.node), Some(Place::Station { .. }))
+}
+
+/// Whether it is an interlink that faces no Station.
+pub(crate) fn faces_wrongly(places: &[Place], end: End, peer: End) -> bool
+    ensures { result ≡ faces_wrongly places.now end peer }
+{
+    is_interlink(places, end) && !is_station(places, peer)
+}

@@ -1,0 +1,52 @@
+//! What the nodes of a topology may be.
+ghost use Rattle.std.specs.Prelude.{◌≡◌, drop, length};
+ghost use Rattle.hsr_topology.specs.Nodes.{has_bad_node, has_group, has_twice, is_bad_node};
+ghost use Rattle.hsr_node.specs.Station.{is_among};
+
+use hsr_frame::Mac;
+use hsr_node::Place;
+
+/// Whether a node has the address of a group, or is a Station with no address or one twice.
+fn is_bad_node(place: &Place) -> bool
+    ensures { result ≡ is_bad_node place.now }
+{
+    match place {
+        Place::Danh { mac, .. } | Place::RedBox { mac, .. } => mac.is_group(),
+        Place::QuadBox => false,
+        Place::Station { macs } => {
+            let macs = macs.as_slice();
+            macs.is_empty() || has_group(macs) || has_twice(macs)
+        }
+    }
+}
+
+/// Whether one of the nodes is such.
+pub(crate) fn has_bad_node(places: &[Place]) -> bool
+    ensures { result ≡ has_bad_node places.now }
+{
+    places.iter().any(|place| is_bad_node(place))
+}
+
+fn has_group(macs: &[Mac]) -> bool
+    ensures { result ≡ has_group macs.now }
+{
+    macs.iter().any(|mac| mac.is_group())
+}
+
+fn is_among(macs: &[Mac], mac: Mac) -> bool
+    ensures { result ≡ is_among macs.now mac }
+{
+    macs.iter().any(|other| *other == mac)
+}
+
+/// Whether an address stands twice among them.
+fn has_twice(macs: &[Mac]) -> bool
+    ensures { result ≡ has_twice macs.now }
+{
+    for (i, mac) in macs.iter().enumerate() {
+        if is_among(&macs[i + 1..], *mac) {
+            return true;
+        }
+    }
+    false
+}

@@ -1,0 +1,12 @@
+pub mod Spelled
+pub mod Lines
+pub mod Transcript
+pub mod Reading
+pub mod Parsed
+pub mod Form
+pub mod Items
+pub mod Plain
+pub mod Told
+pub mod Readable
+pub mod Fits
+pub mod Written

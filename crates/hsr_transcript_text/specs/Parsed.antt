@@ -1,0 +1,281 @@
+-- What the lines of a transcript say. Lines are read freely here: a line that says a value is that value's line only if
+-- it is spelled so, which `exactly` tests.
+use Rattle.std.specs.Prelude.{ℕ, zero, suc, ◌==◌, ◌^◌, nat_lt, Bool, false, List, [], ◌∷◌, length, Option, Some, None, option_map, if◌then◌else◌, codes, slice_index_or}
+use Rattle.std.specs.List.{list_any}
+use Rattle.std.specs.Result.{result_ok}
+use Rattle.std.specs.Str.{bytes_eq}
+use Rattle.std.specs.Fmt.{decimal}
+use Rattle.hsr_frame.specs.Address.{address_of}
+use Rattle.hsr_frame.specs.Cases.{first_of}
+use Rattle.hsr_text.specs.Words.{◌>>=◌, cut, word_at, decimal_of, hex_pair_of, hex_octets_of}
+use Rattle.hsr_frame.specs.declared.fault.FrameFault.TheVariants.{Short, Long, GroupSource, DoubleVlan, ShortTag, NestedTag}
+use Rattle.hsr_frame.specs.declared.node.Cause.{Cause}
+use Rattle.hsr_frame.specs.declared.node.Cause.TheVariants.{Passed, Duplicate, Returned, Foreign, Local, Untagged, Tagged, Malformed}
+use Rattle.hsr_frame.specs.declared.node.Mode.{Mode}
+use Rattle.hsr_frame.specs.declared.node.Mode.TheVariants.{H, N}
+use Rattle.hsr_frame.specs.declared.node.About.{About}
+use Rattle.hsr_frame.specs.declared.node.About.TheVariants.{Own, Proxied}
+use Rattle.hsr_node.specs.declared.entry.Entry.{Entry}
+use Rattle.hsr_node.specs.declared.event.Event.{Event}
+use Rattle.hsr_node.specs.declared.event.Event.TheVariants.{Send, Supervise, Arrive, Age}
+use Rattle.hsr_node.specs.declared.event.Outcome.{Outcome}
+use Rattle.hsr_node.specs.declared.event.Outcome.TheVariants.{Sent, Life, Judged, Aged}
+use Rattle.hsr_node.specs.declared.event.Probe.{Probe}
+use Rattle.hsr_node.specs.declared.place.Place.{Place}
+use Rattle.hsr_node.specs.declared.place.Place.TheVariants.{Danh, RedBox, QuadBox, Station}
+use Rattle.hsr_link.specs.declared.row.Dir.{Dir}
+use Rattle.hsr_link.specs.declared.row.Dir.TheVariants.{Forth, Back}
+use Rattle.hsr_link.specs.declared.row.Fate.{Fate}
+use Rattle.hsr_link.specs.declared.row.Fate.TheVariants.{Taken, LostDown, LostCut, LostOverrun}
+use Rattle.hsr_link.specs.declared.row.Row.{Row}
+use Rattle.hsr_node.specs.Place.{ports}
+use Rattle.hsr_topology.specs.declared.end.End.{End}
+use Rattle.hsr_transcript_text.specs.Reading.{exactly, tested}
+use Rattle.hsr_transcript_text.specs.Lines.{head}
+use Rattle.hsr_transcript_text.specs.Spelled.{entry_text, letter, link_text, place_text, row_text}
+
+-- ---- words
+
+-- what a word says, by a table of words
+abbrev pub word_of : {Y : Type 0} → List (Bool × Option Y) → Option Y
+word_of rows = first_of rows None
+
+-- a decimal number below a bound
+abbrev pub below : ℕ → List ℕ → Option ℕ
+below bound word = tested (λ n. nat_lt n bound) (decimal_of word)
+
+abbrev pub mode_said : List ℕ → Option Mode
+mode_said w = word_of ((bytes_eq w (codes "H"), Some H) ∷ (bytes_eq w (codes "N"), Some N) ∷ [])
+
+abbrev pub dir_said : List ℕ → Option Dir
+dir_said w = word_of ((bytes_eq w (codes "forth"), Some Forth) ∷ (bytes_eq w (codes "back"), Some Back) ∷ [])
+
+abbrev pub fate_said : List ℕ → Option Fate
+fate_said w = word_of
+    ((bytes_eq w (codes "taken"), Some Taken) ∷ (bytes_eq w (codes "down"), Some LostDown)
+    ∷ (bytes_eq w (codes "cut"), Some LostCut) ∷ (bytes_eq w (codes "overrun"), Some LostOverrun) ∷ [])
+
+abbrev pub malformed_said : List ℕ → Option Cause
+malformed_said w = word_of
+    ((bytes_eq w (codes "malformed-1"), Some (Malformed Short)) ∷ (bytes_eq w (codes "malformed-2"), Some (Malformed Long))
+    ∷ (bytes_eq w (codes "malformed-3"), Some (Malformed GroupSource)) ∷ (bytes_eq w (codes "malformed-4"), Some (Malformed DoubleVlan))
+    ∷ (bytes_eq w (codes "malformed-5"), Some (Malformed ShortTag)) ∷ (bytes_eq w (codes "malformed-6"), Some (Malformed NestedTag)) ∷ [])
+
+abbrev pub cause_said : List ℕ → Option Cause
+cause_said w = first_of
+    ((bytes_eq w (codes "passed"), Some Passed) ∷ (bytes_eq w (codes "duplicate"), Some Duplicate)
+    ∷ (bytes_eq w (codes "returned"), Some Returned) ∷ (bytes_eq w (codes "foreign"), Some Foreign)
+    ∷ (bytes_eq w (codes "local"), Some Local) ∷ (bytes_eq w (codes "untagged"), Some Untagged)
+    ∷ (bytes_eq w (codes "tagged"), Some Tagged) ∷ [])
+    (malformed_said w)
+
+abbrev pub vlan_said : List ℕ → Option (Option ℕ)
+vlan_said w = if bytes_eq w (codes "-") then Some None else option_map Some (hex_pair_of w)
+
+abbrev pub seq_said : List ℕ → Option (Option ℕ)
+seq_said w = if bytes_eq w (codes "-") then Some None else option_map Some (below (2 ^ 16) w)
+
+abbrev pub about_said : List ℕ → Option About
+about_said w = if bytes_eq w (codes "own") then Some Own else option_map Proxied (result_ok (address_of w))
+
+-- `<node>:<place>`
+abbrev pub probe_said : List ℕ → Option Probe
+probe_said w = do
+  node ← decimal_of (cut 58 w).0
+  rest ← (cut 58 w).1
+  place ← decimal_of rest
+  Some (record { node = node; place = place })
+
+-- the number that a letter has where it names a port
+abbrev pub port_number : ℕ → Option ℕ
+port_number c = word_of
+    ((c == 65, Some 0) ∷ (c == 66, Some 1) ∷ (c == 67, Some 2) ∷ (c == 68, Some 3) ∷ (c == 73, Some 2) ∷ (c == 80, Some 0) ∷ [])
+
+-- a port that the place has, by a word that begins with its letter
+abbrev pub port_said : Place → List ℕ → Option ℕ
+port_said place [] = None
+port_said place (c ∷ cs) = tested (λ port. nat_lt port (ports place)) (port_number c)
+
+-- ---- nodes and links
+
+-- addresses, at most so many
+unfoldable pub macs_said : ℕ → Option (List ℕ) → Option (List (List ℕ))
+macs_said n None = Some []
+macs_said zero (Some text) = None
+macs_said (suc n) (Some text) = do
+  mac ← result_ok (address_of (cut 32 text).0)
+  macs ← macs_said n (cut 32 text).1
+  Some (mac ∷ macs)
+
+-- an address and a mode
+abbrev pub ring_node_said : (List ℕ → Mode → Place) → Option (List ℕ) → Option Place
+ring_node_said node words = do
+  address ← word_at words
+  mac ← result_ok (address_of address.0)
+  word ← word_at address.1
+  mode ← mode_said word.0
+  Some (node mac mode)
+
+abbrev pub station_said : Option (List ℕ) → Option Place
+station_said words = do
+  macs ← tested (λ macs. nat_lt 0 (length macs)) (macs_said 16 words)
+  Some (Station (record { items = macs }))
+
+unfoldable pub place_said : List ℕ → Option Place
+place_said line = word_of
+    ((bytes_eq (cut 32 line).0 (codes "danh"), ring_node_said Danh (cut 32 line).1)
+    ∷ (bytes_eq (cut 32 line).0 (codes "redbox"), ring_node_said RedBox (cut 32 line).1)
+    ∷ (bytes_eq (cut 32 line).0 (codes "quadbox"), Some QuadBox)
+    ∷ (bytes_eq (cut 32 line).0 (codes "station"), station_said (cut 32 line).1) ∷ [])
+
+-- `<node>.<port>`, of a node that is there
+abbrev pub end_said : List Place → List ℕ → Option End
+end_said places w = do
+  node ← tested (λ n. nat_lt n (length places)) (decimal_of (cut 46 w).0)
+  rest ← (cut 46 w).1
+  port ← port_said (slice_index_or places node QuadBox) rest
+  Some (record { node = node; port = port })
+
+unfoldable pub link_said : List Place → List ℕ → Option (List End)
+link_said places line = do
+  first ← word_at (Some line)
+  a ← end_said places first.0
+  second ← word_at first.1
+  b ← end_said places second.0
+  Some (a ∷ b ∷ [])
+
+-- ---- entries
+
+abbrev pub send_said : Option (List ℕ) → Option (Event × Option (List ℕ))
+send_said words = do
+  first ← word_at words
+  from ← below 256 first.0
+  second ← word_at first.1
+  dst ← result_ok (address_of second.0)
+  third ← word_at second.1
+  vlan ← vlan_said third.0
+  fourth ← word_at third.1
+  kind ← hex_pair_of fourth.0
+  fifth ← word_at fourth.1
+  payload ← hex_octets_of fifth.0
+  Some (Send from dst vlan kind payload, fifth.1)
+
+abbrev pub life_said : Option (List ℕ) → Option (Event × Option (List ℕ))
+life_said words = do
+  word ← word_at words
+  about ← about_said word.0
+  Some (Supervise about, word.1)
+
+abbrev pub arrive_said : Place → Option (List ℕ) → Option (Event × Option (List ℕ))
+arrive_said place words = do
+  first ← word_at words
+  port ← port_said place first.0
+  second ← word_at first.1
+  probe ← probe_said second.0
+  third ← word_at second.1
+  octets ← hex_octets_of third.0
+  Some (Arrive port (record { probe = Some probe; octets = octets }), third.1)
+
+-- an event, and what follows it
+unfoldable pub event_said : Place → Option (List ℕ) → Option (Event × Option (List ℕ))
+event_said place words = do
+  verb ← word_at words
+  word_of
+      ((bytes_eq verb.0 (codes "send"), send_said verb.1) ∷ (bytes_eq verb.0 (codes "life"), life_said verb.1)
+      ∷ (bytes_eq verb.0 (codes "arrive"), arrive_said place verb.1) ∷ (bytes_eq verb.0 (codes "age"), Some (Age, verb.1)) ∷ [])
+
+-- whether an octet is among others
+unfoldable pub has_octet : ℕ → List ℕ → Bool
+has_octet c text = list_any (λ b. b == c) text
+
+-- whether the letter of a port that the place has is among these octets
+abbrev pub has_letter : Place → List ℕ → ℕ → Bool
+has_letter place text port = if nat_lt port (ports place) then has_octet (letter place port) text else false
+
+abbrev pub ports_said : Place → List ℕ → List Bool
+ports_said place text = has_letter place text 0 ∷ has_letter place text 1 ∷ has_letter place text 2 ∷ has_letter place text 3 ∷ []
+
+-- what follows, if something does
+abbrev pub tail_of : Option (List ℕ) → List ℕ
+tail_of None = []
+tail_of (Some text) = text
+
+abbrev pub sent_said : Place → Option (List ℕ) → Option Outcome
+sent_said place words = do
+  word ← word_at words
+  seq ← seq_said word.0
+  Some (Sent seq (ports_said place (tail_of word.1)))
+
+abbrev pub lived_said : Place → Option (List ℕ) → Option Outcome
+lived_said place words = do
+  first ← word_at words
+  seq ← below (2 ^ 16) first.0
+  second ← word_at first.1
+  life ← below (2 ^ 16) second.0
+  Some (Life seq life (ports_said place (tail_of second.1)))
+
+abbrev pub judged_said : Place → Option (List ℕ) → Option Outcome
+judged_said place words = do
+  first ← word_at words
+  cause ← cause_said first.0
+  second ← word_at first.1
+  seq ← seq_said second.0
+  Some (Judged (has_octet 117 (tail_of second.1)) (ports_said place (tail_of second.1)) seq cause)
+
+unfoldable pub outcome_said : Place → Option (List ℕ) → Option Outcome
+outcome_said place words = do
+  verb ← word_at words
+  word_of
+      ((bytes_eq verb.0 (codes "sent"), sent_said place verb.1) ∷ (bytes_eq verb.0 (codes "life"), lived_said place verb.1)
+      ∷ (bytes_eq verb.0 (codes "judged"), judged_said place verb.1) ∷ (bytes_eq verb.0 (codes "aged"), Some Aged) ∷ [])
+
+unfoldable pub entry_said : Place → List ℕ → Option Entry
+entry_said place line = do
+  first ← word_at (Some line)
+  worker ← below (2 ^ 16) first.0
+  second ← word_at first.1
+  at ← decimal_of second.0
+  event ← event_said place second.1
+  equals ← word_at event.1
+  outcome ← outcome_said place equals.1
+  Some (record { worker = worker; at = at; event = event.0; outcome = outcome })
+
+-- ---- rows
+
+unfoldable pub row_said : List ℕ → Option Row
+row_said line = do
+  first ← word_at (Some line)
+  dir ← dir_said first.0
+  second ← word_at first.1
+  probe ← probe_said second.0
+  third ← word_at second.1
+  octets ← hex_octets_of third.0
+  fourth ← word_at third.1
+  fate ← fate_said fourth.0
+  Some (record { dir = dir; carried = record { probe = Some probe; octets = octets }; injected = false; fate = fate })
+
+-- ---- lines
+
+unfoldable pub place_of : List ℕ → Option Place
+place_of line = exactly place_text place_said line
+
+unfoldable pub link_of : List Place → List ℕ → Option (List End)
+link_of places line = exactly (link_text places) (link_said places) line
+
+unfoldable pub entry_of : Place → List ℕ → Option Entry
+entry_of place line = exactly (entry_text place) (entry_said place) line
+
+unfoldable pub row_of : List ℕ → Option Row
+row_of line = exactly row_text row_said line
+
+abbrev pub number_in : Option (List ℕ) → Option ℕ
+number_in None = None
+number_in (Some word) = decimal_of word
+
+-- the number behind a name
+unfoldable pub count_of : List ℕ → List ℕ → Option ℕ
+count_of name line = exactly (head name) (λ line. number_in (cut 32 line).1) line
+
+-- a number alone
+unfoldable pub turn_of : List ℕ → Option ℕ
+turn_of line = exactly decimal decimal_of line

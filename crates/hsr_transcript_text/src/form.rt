@@ -1,0 +1,316 @@
+//! The form of a whole text, read section by section.
+ghost use Rattle.std.specs.Prelude.{◌≡◌, ◌+◌, ◌≤◌, ◌<◌, ◌^◌, ℕ, List, IfOk, length};
+ghost use Rattle.hsr_transcript_text.specs.Form.{carried_on, end_on, form_of, links_on, main_on, nodes_on, records_at, records_on, rows_at, said_at, table_on};
+ghost use Rattle.hsr_transcript_text.specs.Lines.{head, line_count};
+ghost use Rattle.hsr_transcript_text.specs.Items.{entries_of, rows_of};
+ghost use Rattle.hsr_transcript_text.specs.Plain.{plain_view};
+ghost use Rattle.hsr_transcript_text.specs.Told.{Gives, Says};
+
+use crate::fault::ReadFault;
+use crate::places::{LinkLine, NumberLine, PlaceLine};
+use crate::plain::Plain;
+use crate::records::EntryLine;
+use crate::rows::RowLine;
+use crate::sections::{Progress, fixed, nothing_more, section, version};
+use crate::words::put_number;
+use hsr_link::Row;
+use hsr_node::{Entry, Place};
+use hsr_text::READ_LIMIT;
+use hsr_topology::End;
+use std::alloc::{AllocError, Global};
+use std::io::Read;
+
+/// Reads the record of each node.
+fn records<R: Read>(
+    nodes: &[Place],
+    alloc: Global,
+    reader: &mut R,
+    progress: &mut Progress,
+) -> Result<Vec<Vec<Entry>>, ReadFault>
+    requires { progress.old.number + progress.old.reads < 2 ^ 64 }
+    ensures given { Gives entries_of (R.remaining reader.old) (R.remaining reader.new) progress.old.number progress.new.number result (records_at nodes.now) }
+    ensures counts { progress.new.number + progress.new.reads ≤ progress.old.number + progress.old.reads }
+    ensures paired { IfOk result (λ v. length v.items ≡ length nodes.now) }
+    ensures numbered { IfOk result (λ v. progress.new.number ≡ progress.old.number + line_count (entries_of v)) }
+{
+    let mut records = Vec::new(alloc);
+    for i in 0..nodes.len() {
+        let place = &nodes[i];
+        match record(place, alloc, reader, progress) {
+            Ok(record) => {
+                if records.push(record).is_err() {
+                    return Err(ReadFault::NoMemory);
+                }
+            }
+            Err(fault) => return Err(fault),
+        }
+    }
+    Ok(records)
+}
+
+/// Reads the record of a node.
+#[tactic(auto, unfolding(crate::specs::Parsed::entry_of))]
+fn record<R: Read>(
+    place: &Place,
+    alloc: Global,
+    reader: &mut R,
+    progress: &mut Progress,
+) -> Result<Vec<Entry>, ReadFault>
+    requires { progress.old.number + progress.old.reads < 2 ^ 64 }
+    ensures given { Gives (λ v. v.items) (R.remaining reader.old) (R.remaining reader.new) progress.old.number progress.new.number result (record_at place.now) }
+    ensures counts { progress.new.number + progress.new.reads ≤ progress.old.number + progress.old.reads }
+    ensures numbered { IfOk result (λ v. progress.new.number ≡ progress.old.number + 1 + length v.items) }
+{
+    section(
+        b"record",
+        &EntryLine { alloc, place },
+        alloc,
+        reader,
+        progress,
+    )
+}
+
+ghost use Rattle.hsr_transcript_text.specs.Form.{record_at, section_at};
+ghost use Rattle.hsr_transcript_text.specs.Parsed.{entry_of, row_of};
+ghost use Rattle.std.specs.Prelude.{codes};
+
+/// Reads the rows of a link.
+#[tactic(auto, unfolding(crate::specs::Parsed::row_of))]
+fn carried<R: Read>(
+    alloc: Global,
+    reader: &mut R,
+    progress: &mut Progress,
+) -> Result<Vec<Row>, ReadFault>
+    requires { progress.old.number + progress.old.reads < 2 ^ 64 }
+    ensures given { Gives (λ v. v.items) (R.remaining reader.old) (R.remaining reader.new) progress.old.number progress.new.number result (section_at (codes "carried") row_of) }
+    ensures counts { progress.new.number + progress.new.reads ≤ progress.old.number + progress.old.reads }
+{
+    section(b"carried", &RowLine, alloc, reader, progress)
+}
+
+/// Reads the rows of each link.
+fn rows<R: Read>(
+    links: &[[End; 2]],
+    alloc: Global,
+    reader: &mut R,
+    progress: &mut Progress,
+) -> Result<Vec<Vec<Row>>, ReadFault>
+    requires { progress.old.number + progress.old.reads < 2 ^ 64 }
+    ensures given { Gives rows_of (R.remaining reader.old) (R.remaining reader.new) progress.old.number progress.new.number result (rows_at links.now) }
+    ensures counts { progress.new.number + progress.new.reads ≤ progress.old.number + progress.old.reads }
+{
+    let mut rows = Vec::new(alloc);
+    for _ in links {
+        match carried(alloc, reader, progress) {
+            Ok(of_link) => {
+                if rows.push(of_link).is_err() {
+                    return Err(ReadFault::NoMemory);
+                }
+            }
+            Err(fault) => return Err(fault),
+        }
+    }
+    Ok(rows)
+}
+
+/// Reads the last line.
+#[tactic(auto, using(crate::proofs::Parts::last_told, crate::proofs::Parts::bind_fails), unfolding(crate::specs::Form::end_on))]
+fn end<R: Read>(
+    plain: Plain,
+    alloc: Global,
+    reader: &mut R,
+    progress: &mut Progress,
+) -> Result<Plain, ReadFault>
+    requires { progress.old.number + progress.old.reads < 2 ^ 64 }
+    ensures given { Gives plain_view (R.remaining reader.old) (R.remaining reader.new) progress.old.number progress.new.number result (end_on (plain_view plain)) }
+    ensures counts { progress.new.number + progress.new.reads ≤ progress.old.number + progress.old.reads }
+{
+    match fixed(b"end", alloc, reader, progress) {
+        Ok(()) => Ok(plain),
+        Err(fault) => Err(fault),
+    }
+}
+
+/// Reads what follows the records.
+#[tactic(auto, using(crate::proofs::Parts::bind_told, crate::proofs::Parts::bind_fails), unfolding(crate::specs::Form::carried_on))]
+fn behind_records<R: Read>(
+    nodes: Vec<Place>,
+    links: Vec<[End; 2]>,
+    main: Vec<u64>,
+    records: Vec<Vec<Entry>>,
+    alloc: Global,
+    reader: &mut R,
+    progress: &mut Progress,
+) -> Result<Plain, ReadFault>
+    requires reads { progress.old.number + progress.old.reads ≤ 2 ^ 40 + 1 }
+    requires lines { 6 + length nodes.items + length links.items + length main.items + line_count (entries_of records) ≤ progress.old.number }
+    requires paired { length records.items ≡ length nodes.items }
+    ensures given { Gives plain_view (R.remaining reader.old) (R.remaining reader.new) progress.old.number progress.new.number result (carried_on nodes.items links.items main.items (entries_of records)) }
+    ensures counts { progress.new.number + progress.new.reads ≤ progress.old.number + progress.old.reads }
+{
+    match rows(links.as_slice(), alloc, reader, progress) {
+        Ok(carried) => {
+            let plain = Plain {
+                nodes,
+                links,
+                main,
+                records,
+                carried,
+            };
+            end(plain, alloc, reader, progress)
+        }
+        Err(fault) => Err(fault),
+    }
+}
+
+/// Reads what follows the order of the main worker's entries.
+#[tactic(auto, using(crate::proofs::Parts::bind_told, crate::proofs::Parts::bind_fails), unfolding(crate::specs::Form::records_on))]
+fn behind_main<R: Read>(
+    nodes: Vec<Place>,
+    links: Vec<[End; 2]>,
+    main: Vec<u64>,
+    alloc: Global,
+    reader: &mut R,
+    progress: &mut Progress,
+) -> Result<Plain, ReadFault>
+    requires reads { progress.old.number + progress.old.reads ≤ 2 ^ 40 + 1 }
+    requires lines { 6 + length nodes.items + length links.items + length main.items ≤ progress.old.number }
+    ensures given { Gives plain_view (R.remaining reader.old) (R.remaining reader.new) progress.old.number progress.new.number result (records_on nodes.items links.items main.items) }
+    ensures counts { progress.new.number + progress.new.reads ≤ progress.old.number + progress.old.reads }
+{
+    match records(nodes.as_slice(), alloc, reader, progress) {
+        Ok(records) => behind_records(nodes, links, main, records, alloc, reader, progress),
+        Err(fault) => Err(fault),
+    }
+}
+
+/// Reads what follows the links.
+#[tactic(auto, using(crate::proofs::Parts::bind_told, crate::proofs::Parts::bind_fails), unfolding(crate::specs::Form::main_on, crate::specs::Parsed::turn_of))]
+fn behind_links<R: Read>(
+    nodes: Vec<Place>,
+    links: Vec<[End; 2]>,
+    alloc: Global,
+    reader: &mut R,
+    progress: &mut Progress,
+) -> Result<Plain, ReadFault>
+    requires reads { progress.old.number + progress.old.reads ≤ 2 ^ 40 + 1 }
+    requires lines { 5 + length nodes.items + length links.items ≤ progress.old.number }
+    ensures given { Gives plain_view (R.remaining reader.old) (R.remaining reader.new) progress.old.number progress.new.number result (main_on nodes.items links.items) }
+    ensures counts { progress.new.number + progress.new.reads ≤ progress.old.number + progress.old.reads }
+{
+    match section(b"main", &NumberLine, alloc, reader, progress) {
+        Ok(main) => behind_main(nodes, links, main, alloc, reader, progress),
+        Err(fault) => Err(fault),
+    }
+}
+
+/// Reads what follows the nodes.
+#[tactic(auto, using(crate::proofs::Parts::bind_told, crate::proofs::Parts::bind_fails), unfolding(crate::specs::Form::links_on, crate::specs::Parsed::link_of))]
+fn behind_nodes<R: Read>(
+    nodes: Vec<Place>,
+    alloc: Global,
+    reader: &mut R,
+    progress: &mut Progress,
+) -> Result<Plain, ReadFault>
+    requires reads { progress.old.number + progress.old.reads ≤ 2 ^ 40 + 1 }
+    requires lines { 4 + length nodes.items ≤ progress.old.number }
+    ensures given { Gives plain_view (R.remaining reader.old) (R.remaining reader.new) progress.old.number progress.new.number result (links_on nodes.items) }
+    ensures counts { progress.new.number + progress.new.reads ≤ progress.old.number + progress.old.reads }
+{
+    let places = nodes.as_slice();
+    match section(b"links", &LinkLine { places }, alloc, reader, progress) {
+        Ok(links) => behind_links(nodes, links, alloc, reader, progress),
+        Err(fault) => Err(fault),
+    }
+}
+
+/// Reads what follows the first two lines.
+#[tactic(auto, using(crate::proofs::Parts::bind_told, crate::proofs::Parts::bind_fails), unfolding(crate::specs::Form::nodes_on, crate::specs::Parsed::place_of))]
+fn behind_table<R: Read>(
+    alloc: Global,
+    reader: &mut R,
+    progress: &mut Progress,
+) -> Result<Plain, ReadFault>
+    requires reads { progress.old.number + progress.old.reads ≤ 2 ^ 40 + 1 }
+    requires lines { 3 ≤ progress.old.number }
+    ensures given { Gives plain_view (R.remaining reader.old) (R.remaining reader.new) progress.old.number progress.new.number result nodes_on }
+    ensures counts { progress.new.number + progress.new.reads ≤ progress.old.number + progress.old.reads }
+{
+    match section(b"nodes", &PlaceLine { alloc }, alloc, reader, progress) {
+        Ok(nodes) => behind_nodes(nodes, alloc, reader, progress),
+        Err(fault) => Err(fault),
+    }
+}
+
+/// The line of the tables.
+fn table_line(alloc: Global, capacity: usize) -> Result<Vec<u8>, AllocError>
+    ensures { IfOk result (λ line. line.items ≡ head (codes "table") capacity) }
+{
+    let mut line = Vec::new(alloc);
+    line.extend_from_slice(b"table")?;
+    put_number(&mut line, capacity as u64)?;
+    Ok(line)
+}
+
+/// Reads what follows the first line, of tables with so many entries.
+#[tactic(auto, using(crate::proofs::Parts::bind_told, crate::proofs::Parts::bind_fails), unfolding(crate::specs::Form::table_on))]
+fn behind_version<R: Read>(
+    capacity: usize,
+    alloc: Global,
+    reader: &mut R,
+    progress: &mut Progress,
+) -> Result<Plain, ReadFault>
+    requires reads { progress.old.number + progress.old.reads ≤ 2 ^ 40 + 1 }
+    requires lines { 2 ≤ progress.old.number }
+    ensures given { Gives plain_view (R.remaining reader.old) (R.remaining reader.new) progress.old.number progress.new.number result (table_on capacity) }
+    ensures counts { progress.new.number + progress.new.reads ≤ progress.old.number + progress.old.reads }
+{
+    let Ok(line) = table_line(alloc, capacity) else {
+        return Err(ReadFault::NoMemory);
+    };
+    match fixed(line.as_slice(), alloc, reader, progress) {
+        Ok(()) => behind_table(alloc, reader, progress),
+        Err(fault) => Err(fault),
+    }
+}
+
+/// Reads all lines of a text.
+#[tactic(auto, using(crate::proofs::Parts::bind_told, crate::proofs::Parts::bind_fails), unfolding(crate::specs::Form::said_at))]
+fn all_lines<R: Read>(
+    capacity: usize,
+    alloc: Global,
+    reader: &mut R,
+    progress: &mut Progress,
+) -> Result<Plain, ReadFault>
+    requires reads { progress.old.number + progress.old.reads ≤ 2 ^ 40 + 1 }
+    requires lines { 1 ≤ progress.old.number }
+    ensures given { Gives plain_view (R.remaining reader.old) (R.remaining reader.new) progress.old.number progress.new.number result (said_at capacity) }
+    ensures counts { progress.new.number + progress.new.reads ≤ progress.old.number + progress.old.reads }
+{
+    match version(alloc, reader, progress) {
+        Ok(()) => behind_version(capacity, alloc, reader, progress),
+        Err(fault) => Err(fault),
+    }
+}
+
+/// Reads what a whole text says that is in form, of tables with so many entries.
+#[tactic(auto, using(crate::proofs::Parts::form_told, crate::proofs::Parts::form_more, crate::proofs::Parts::form_fails))]
+pub fn read_plain<R: Read>(
+    capacity: usize,
+    alloc: Global,
+    reader: &mut R,
+) -> Result<Plain, ReadFault>
+    ensures { Says plain_view (R.remaining reader.old) result (form_of capacity) }
+{
+    let mut progress = Progress {
+        reads: READ_LIMIT,
+        number: 1,
+    };
+    match all_lines(capacity, alloc, reader, &mut progress) {
+        Ok(plain) => match nothing_more(reader, &mut progress) {
+            Ok(()) => Ok(plain),
+            Err(fault) => Err(fault),
+        },
+        Err(fault) => Err(fault),
+    }
+}

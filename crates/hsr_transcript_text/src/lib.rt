@@ -1,0 +1,21 @@
+//! The text of a finished run: how each of its lines is spelled and read, and the whole text in form.
+#![tactic(auto)]
+
+mod fault;
+mod form;
+mod law;
+mod lines;
+mod places;
+mod plain;
+mod records;
+mod rows;
+mod said;
+mod sections;
+mod words;
+mod writing;
+
+pub use fault::{ReadFault, WriteFault};
+pub use form::read_plain;
+pub use law::one_text;
+pub use plain::Plain;
+pub use writing::write;

@@ -1,0 +1,335 @@
+//! The lines of nodes, links and the main worker's order.
+ghost use Rattle.std.specs.Prelude.{◌≡◌, ◌++◌, ◌∷◌, [], OnOk, map};
+ghost use Rattle.std.specs.Fmt.{decimal};
+ghost use Rattle.std.specs.List.{AllByRecursion};
+ghost use Rattle.hsr_frame.specs.Address.{IsAddress};
+ghost use Rattle.hsr_transcript_text.specs.Fits.{IsPlaceFit};
+ghost use Rattle.hsr_transcript_text.specs.Spelled.{end_text, link_text, mac_text, mode_text, place_text, spaced};
+
+use crate::lines::LineKind;
+use crate::said::{mode_said, port_said, split_stop};
+use crate::words::{letter, mac_fits, mode_word, put_mac, put_number, put_word};
+use arrayvec::ArrayVec;
+use hsr_frame::{Mac, Mode};
+use hsr_node::Place;
+use hsr_text::{WordFault, decimal, put_decimal, word};
+use hsr_topology::End;
+use std::alloc::{AllocError, Global};
+
+/// The line of a node.
+#[derive(Clone, Copy)]
+pub(crate) struct PlaceLine {
+    pub(crate) alloc: Global,
+}
+
+/// The line of a link between two of these nodes.
+#[derive(Clone, Copy)]
+pub(crate) struct LinkLine<'a> {
+    pub(crate) places: &'a [Place],
+}
+
+/// A line of a number alone.
+#[derive(Clone, Copy)]
+pub(crate) struct NumberLine;
+
+/// A line of a name and a number.
+#[derive(Clone, Copy)]
+pub(crate) struct CountLine<'a> {
+    pub(crate) name: &'a [u8],
+}
+
+/// A line that is known.
+#[derive(Clone, Copy)]
+pub(crate) struct FixedLine<'a> {
+    pub(crate) line: &'a [u8],
+}
+
+/// Puts a word, an address and a mode.
+fn put_ring_node(
+    alloc: Global,
+    text: &mut Vec<u8>,
+    word: &[u8],
+    mac: Mac,
+    mode: Mode,
+) -> Result<(), AllocError>
+    ensures written { OnOk result (text.new.items ≡ text.old.items ++ spaced word.now (mac_text mac ∷ mode_text mode ∷ [])) }
+    ensures fits { IsAddress mac }
+{
+    mac_fits(mac);
+    text.extend_from_slice(word)?;
+    put_mac(alloc, text, mac)?;
+    put_word(text, mode_word(mode))
+}
+
+/// Puts a word and the addresses behind it.
+fn put_station(
+    alloc: Global,
+    text: &mut Vec<u8>,
+    word: &[u8],
+    macs: &[Mac],
+) -> Result<(), AllocError>
+    ensures written { OnOk result (text.new.items ≡ text.old.items ++ spaced word.now (map mac_text macs.now)) }
+    ensures fit { OnOk result (AllByRecursion IsAddress macs.now) }
+{
+    text.extend_from_slice(word)?;
+    for mac in macs {
+        mac_fits(*mac);
+        put_mac(alloc, text, *mac)?;
+    }
+    Ok(())
+}
+
+/// Puts the line of a node.
+#[tactic(auto, unfolding(crate::specs::Spelled::place_text))]
+fn put_place(alloc: Global, text: &mut Vec<u8>, place: &Place) -> Result<(), AllocError>
+    ensures written { OnOk result (text.new.items ≡ text.old.items ++ place_text place.now) }
+    ensures fits { OnOk result (IsPlaceFit place.now) }
+{
+    match place {
+        Place::Danh { mac, mode } => put_ring_node(alloc, text, b"danh", *mac, *mode),
+        Place::RedBox { mac, mode } => put_ring_node(alloc, text, b"redbox", *mac, *mode),
+        Place::QuadBox => text.extend_from_slice(b"quadbox"),
+        Place::Station { macs } => put_station(alloc, text, b"station", macs.as_slice()),
+    }
+}
+
+/// The letter of an end's port.
+fn end_letter(places: &[Place], end: End) -> u8
+    ensures { result ≡ letter (slice_index_or places.now end.node QuadBox) end.port }
+{
+    match places.get(end.node) {
+        Some(place) => letter(place, end.port),
+        None => letter(&Place::QuadBox, end.port),
+    }
+}
+
+ghost use Rattle.std.specs.Prelude.{slice_index_or};
+ghost use Rattle.hsr_node.specs.declared.place.Place.TheVariants.{QuadBox};
+ghost use Rattle.hsr_transcript_text.specs.Spelled.{letter};
+
+/// Puts an end of a link.
+fn put_end(text: &mut Vec<u8>, places: &[Place], end: End) -> Result<(), AllocError>
+    ensures { OnOk result (text.new.items ≡ text.old.items ++ end_text places.now end) }
+{
+    put_decimal(text, end.node as u64)?;
+    text.push(b'.')?;
+    text.push(end_letter(places, end))?;
+    Ok(())
+}
+
+/// Puts the line of a link.
+#[tactic(auto, unfolding(crate::specs::Spelled::link_text))]
+fn put_link(text: &mut Vec<u8>, places: &[Place], ends: &[End; 2]) -> Result<(), AllocError>
+    ensures { OnOk result (text.new.items ≡ text.old.items ++ link_text places.now ends.now) }
+{
+    let [a, b] = *ends;
+    put_end(text, places, a)?;
+    text.push(b' ')?;
+    put_end(text, places, b)
+}
+
+/// An address and a mode.
+fn ring_node_said(rest: Option<&[u8]>) -> Option<(Mac, Mode)>
+    ensures danh { option_map (λ n. Danh n.0 n.1) result ≡ ring_node_said Danh (option_map (λ s. s.now) rest.entry) }
+    ensures redbox { option_map (λ n. RedBox n.0 n.1) result ≡ ring_node_said RedBox (option_map (λ s. s.now) rest.entry) }
+{
+    let (address, rest) = word(rest)?;
+    let mac = Mac::from_ascii(address).ok()?;
+    let (mode, _) = word(rest)?;
+    let mode = mode_said(mode)?;
+    Some((mac, mode))
+}
+
+/// Addresses, at most sixteen.
+fn macs_said(rest: Option<&[u8]>) -> Option<ArrayVec<Mac, 16>>
+    ensures { option_map (λ macs. macs.items) result ≡ macs_said 16 (option_map (λ s. s.now) rest.entry) }
+{
+    let mut macs = ArrayVec::<Mac, 16>::new();
+    let mut left = rest;
+    while let Some((address, rest)) = word(left) {
+        if macs.is_full() {
+            return None;
+        }
+        macs.push(Mac::from_ascii(address).ok()?);
+        left = rest;
+    }
+    Some(macs)
+}
+
+/// The addresses of a station, of which it has at least one.
+fn station_said(rest: Option<&[u8]>) -> Option<Place>
+    ensures { result ≡ station_said (option_map (λ s. s.now) rest.entry) }
+{
+    let macs = macs_said(rest)?;
+    if macs.is_empty() {
+        return None;
+    }
+    Some(Place::Station { macs })
+}
+
+/// What the line of a node says.
+#[tactic(auto, unfolding(crate::specs::Parsed::place_said))]
+fn place_said(line: &[u8]) -> Option<Place>
+    ensures { result ≡ place_said line.now }
+{
+    let (verb, rest) = word(Some(line))?;
+    if verb == b"danh".as_slice() {
+        let (mac, mode) = ring_node_said(rest)?;
+        return Some(Place::Danh { mac, mode });
+    }
+    if verb == b"redbox".as_slice() {
+        let (mac, mode) = ring_node_said(rest)?;
+        return Some(Place::RedBox { mac, mode });
+    }
+    if verb == b"quadbox".as_slice() {
+        return Some(Place::QuadBox);
+    }
+    if verb == b"station".as_slice() {
+        return station_said(rest);
+    }
+    None
+}
+
+/// An end of a link between two of these nodes.
+fn end_said(places: &[Place], word: &[u8]) -> Option<End>
+    ensures { result ≡ end_said places.now word.now }
+{
+    let (digits, rest) = split_stop(word);
+    let node = decimal(digits)? as usize;
+    let place = places.get(node)?;
+    let port = port_said(place, rest?)?;
+    Some(End { node, port })
+}
+
+/// What the line of a link says.
+#[tactic(auto, unfolding(crate::specs::Parsed::link_said))]
+fn link_said(places: &[Place], line: &[u8]) -> Option<[End; 2]>
+    ensures { result ≡ link_said places.now line.now }
+{
+    let (first, rest) = word(Some(line))?;
+    let a = end_said(places, first)?;
+    let (second, _) = word(rest)?;
+    let b = end_said(places, second)?;
+    Some([a, b])
+}
+
+/// The number behind a name.
+fn number_behind(line: &[u8]) -> Option<u64>
+    ensures { result ≡ number_in (cut 32 line.now).1 }
+{
+    let (_, rest) = word(Some(line))?;
+    decimal(rest?)
+}
+
+ghost use Rattle.std.specs.Prelude.{option_map, Option, List, ℕ};
+ghost use Rattle.hsr_text.specs.Words.{cut, decimal_of};
+ghost use Rattle.hsr_node.specs.declared.place.Place.TheVariants.{Danh, RedBox};
+ghost use Rattle.hsr_transcript_text.specs.Parsed.{end_said, link_said, macs_said, number_in, place_said, ring_node_said, station_said};
+ghost use Rattle.hsr_transcript_text.specs.Lines.{head};
+
+impl LineKind for PlaceLine {
+    ghost use Rattle.hsr_transcript_text.specs.Fits.{IsPlaceFit};
+    ghost use Rattle.hsr_transcript_text.specs.Spelled.{place_text};
+    ghost use Rattle.hsr_transcript_text.specs.Parsed.{place_said};
+
+    type Value = Place;
+
+    ghost spelled = { λ _. place_text };
+
+    ghost said = { λ _. place_said };
+
+    ghost fits = { λ _. IsPlaceFit };
+
+    fn put(&self, text: &mut Vec<u8>, place: &Place) -> Result<(), AllocError> {
+        put_place(self.alloc, text, place)
+    }
+
+    fn parse(&self, _alloc: Global, line: &[u8]) -> Result<Place, WordFault> {
+        place_said(line).ok_or(WordFault::Bad)
+    }
+}
+
+impl<'a> LineKind for LinkLine<'a> {
+    ghost use Rattle.hsr_transcript_text.specs.Spelled.{link_text};
+    ghost use Rattle.hsr_transcript_text.specs.Parsed.{link_said};
+
+    type Value = [End; 2];
+
+    ghost spelled = { λ s. link_text s.places.now };
+
+    ghost said = { λ s. link_said s.places.now };
+
+    ghost fits = { λ _ _. Unit {0} };
+
+    fn put(&self, text: &mut Vec<u8>, ends: &[End; 2]) -> Result<(), AllocError> {
+        put_link(text, self.places, ends)
+    }
+
+    fn parse(&self, _alloc: Global, line: &[u8]) -> Result<[End; 2], WordFault> {
+        link_said(self.places, line).ok_or(WordFault::Bad)
+    }
+}
+
+impl LineKind for NumberLine {
+    ghost use Rattle.std.specs.Fmt.{decimal};
+    ghost use Rattle.hsr_text.specs.Words.{decimal_of};
+
+    type Value = u64;
+
+    ghost spelled = { λ _. decimal };
+
+    ghost said = { λ _. decimal_of };
+
+    ghost fits = { λ _ _. Unit {0} };
+
+    fn put(&self, text: &mut Vec<u8>, n: &u64) -> Result<(), AllocError> {
+        put_decimal(text, *n)
+    }
+
+    fn parse(&self, _alloc: Global, line: &[u8]) -> Result<u64, WordFault> {
+        decimal(line).ok_or(WordFault::Bad)
+    }
+}
+
+impl<'a> LineKind for CountLine<'a> {
+    ghost use Rattle.hsr_text.specs.Words.{cut};
+    ghost use Rattle.hsr_transcript_text.specs.Lines.{head};
+    ghost use Rattle.hsr_transcript_text.specs.Parsed.{number_in};
+
+    type Value = u64;
+
+    ghost spelled = { λ s. head s.name.now };
+
+    ghost said = { λ s line. number_in (cut 32 line).1 };
+
+    ghost fits = { λ _ _. Unit {0} };
+
+    fn put(&self, text: &mut Vec<u8>, n: &u64) -> Result<(), AllocError> {
+        text.extend_from_slice(self.name)?;
+        put_number(text, *n)
+    }
+
+    fn parse(&self, _alloc: Global, line: &[u8]) -> Result<u64, WordFault> {
+        number_behind(line).ok_or(WordFault::Bad)
+    }
+}
+
+impl<'a> LineKind for FixedLine<'a> {
+    ghost use Rattle.std.specs.Prelude.{Some};
+
+    type Value = ();
+
+    ghost spelled = { λ s _. s.line.now };
+
+    ghost said = { λ _ _. Some tt };
+
+    ghost fits = { λ _ _. Unit {0} };
+
+    fn put(&self, text: &mut Vec<u8>, _value: &()) -> Result<(), AllocError> {
+        text.extend_from_slice(self.line)
+    }
+
+    fn parse(&self, _alloc: Global, _line: &[u8]) -> Result<(), WordFault> {
+        Ok(())
+    }
+}

@@ -1,0 +1,377 @@
+//! The lines of entries.
+ghost use Rattle.std.specs.Prelude.{◌≡◌, ◌++◌, OnOk};
+ghost use Rattle.hsr_transcript_text.specs.Fits.{IsEntryFit, IsEventFit, IsOutcomeFit, IsSendFit};
+ghost use Rattle.hsr_transcript_text.specs.Spelled.{entry_text, event_text, outcome_text, port_text, ports_text, up_text};
+
+use crate::lines::LineKind;
+use crate::said::{
+    about_said, cause_said, has_octet, number_said, octet_said, port_said, ports_said, probe_said,
+    seq_said, tail_of, vlan_said,
+};
+use crate::words::{
+    about_fits, carried_fits, letter, mac_fits, put_about, put_cause, put_mac, put_number,
+    put_octets, put_pair, put_probe, put_seq, put_vlan, put_word,
+};
+use hsr_frame::Mac;
+use hsr_node::{Carried, Entry, Event, Octets, Outcome, Place};
+use hsr_text::{WordFault, decimal, hex_octets, hex_pair, put_decimal, word};
+use std::alloc::{AllocError, Global};
+
+/// The line of an entry of a node at this place.
+#[derive(Clone, Copy)]
+pub(crate) struct EntryLine<'a> {
+    pub(crate) alloc: Global,
+    pub(crate) place: &'a Place,
+}
+
+/// Puts an event.
+#[tactic(auto, unfolding(crate::specs::Spelled::event_text))]
+fn put_event(
+    alloc: Global,
+    text: &mut Vec<u8>,
+    place: &Place,
+    event: &Event,
+) -> Result<(), AllocError>
+    ensures { OnOk result (text.new.items ≡ text.old.items ++ event_text place.now event.now) }
+{
+    match event {
+        Event::Send {
+            from,
+            dst,
+            vlan,
+            kind,
+            payload,
+        } => {
+            text.extend_from_slice(b"send")?;
+            put_number(text, u64::from(*from))?;
+            put_mac(alloc, text, *dst)?;
+            put_vlan(text, *vlan)?;
+            put_pair(text, *kind)?;
+            put_octets(text, payload.as_slice())
+        }
+        Event::Supervise(about) => {
+            text.extend_from_slice(b"life")?;
+            put_about(alloc, text, *about)
+        }
+        Event::Arrive { port, carried } => {
+            text.extend_from_slice(b"arrive ")?;
+            text.push(letter(place, *port))?;
+            put_probe(text, carried.probe)?;
+            put_octets(text, carried.octets.as_slice())
+        }
+        Event::Age => text.extend_from_slice(b"age"),
+    }
+}
+
+/// Puts a space and the letter of a port, if something left by it.
+fn put_port(
+    text: &mut Vec<u8>,
+    place: &Place,
+    ports: &[bool; 4],
+    port: u8,
+) -> Result<(), AllocError>
+    ensures { OnOk result (text.new.items ≡ text.old.items ++ port_text place.now ports.now port) }
+{
+    if ports.get(usize::from(port)).copied().unwrap_or(false) {
+        put_word(text, &[letter(place, port)])
+    } else {
+        Ok(())
+    }
+}
+
+/// Puts the letters of the ports by which something left.
+fn put_ports(text: &mut Vec<u8>, place: &Place, ports: &[bool; 4]) -> Result<(), AllocError>
+    ensures { OnOk result (text.new.items ≡ text.old.items ++ ports_text place.now ports.now) }
+{
+    put_port(text, place, ports, 0)?;
+    put_port(text, place, ports, 1)?;
+    put_port(text, place, ports, 2)?;
+    put_port(text, place, ports, 3)
+}
+
+/// Puts whether a frame went up.
+fn put_up(text: &mut Vec<u8>, up: bool) -> Result<(), AllocError>
+    ensures { OnOk result (text.new.items ≡ text.old.items ++ up_text up) }
+{
+    if up {
+        text.extend_from_slice(b" up")
+    } else {
+        Ok(())
+    }
+}
+
+/// Puts an outcome.
+#[tactic(auto, unfolding(crate::specs::Spelled::outcome_text))]
+fn put_outcome(text: &mut Vec<u8>, place: &Place, outcome: &Outcome) -> Result<(), AllocError>
+    ensures { OnOk result (text.new.items ≡ text.old.items ++ outcome_text place.now outcome.now) }
+{
+    match outcome {
+        Outcome::Sent { seq, ports } => {
+            text.extend_from_slice(b"sent")?;
+            put_seq(text, *seq)?;
+            put_ports(text, place, ports)
+        }
+        Outcome::Life { seq, life, ports } => {
+            text.extend_from_slice(b"life")?;
+            put_number(text, u64::from(*seq))?;
+            put_number(text, u64::from(*life))?;
+            put_ports(text, place, ports)
+        }
+        Outcome::Judged {
+            up,
+            ports,
+            seq,
+            cause,
+        } => {
+            text.extend_from_slice(b"judged")?;
+            put_cause(text, *cause)?;
+            put_seq(text, *seq)?;
+            put_up(text, *up)?;
+            put_ports(text, place, ports)
+        }
+        Outcome::Aged => text.extend_from_slice(b"aged"),
+    }
+}
+
+/// Puts the line of an entry.
+#[tactic(auto, unfolding(crate::specs::Spelled::entry_text))]
+fn put_entry(
+    alloc: Global,
+    text: &mut Vec<u8>,
+    place: &Place,
+    entry: &Entry,
+) -> Result<(), AllocError>
+    ensures { OnOk result (text.new.items ≡ text.old.items ++ entry_text place.now entry.now) }
+{
+    put_decimal(text, u64::from(entry.worker))?;
+    put_number(text, entry.at)?;
+    text.push(b' ')?;
+    put_event(alloc, text, place, &entry.event)?;
+    text.extend_from_slice(b" = ")?;
+    put_outcome(text, place, &entry.outcome)
+}
+
+/// `<from> <dst> <vlan4> <type4> <payload>`
+fn send_said(alloc: Global, rest: Option<&[u8]>) -> Result<(Event, Option<&[u8]>), WordFault>
+    ensures { Gives (λ e. (e.0, option_map (λ s. s.now) e.1)) result (send_said (option_map (λ s. s.now) rest.entry)) }
+{
+    let (from, rest) = word(rest).ok_or(WordFault::Bad)?;
+    let from = octet_said(from).ok_or(WordFault::Bad)?;
+    let (dst, rest) = word(rest).ok_or(WordFault::Bad)?;
+    let dst = Mac::from_ascii(dst).ok().ok_or(WordFault::Bad)?;
+    let (vlan, rest) = word(rest).ok_or(WordFault::Bad)?;
+    let vlan = vlan_said(vlan).ok_or(WordFault::Bad)?;
+    let (kind, rest) = word(rest).ok_or(WordFault::Bad)?;
+    let kind = hex_pair(kind).ok_or(WordFault::Bad)?;
+    let (payload, rest) = word(rest).ok_or(WordFault::Bad)?;
+    let payload = Octets::new(hex_octets(alloc, payload)?);
+    let event = Event::Send {
+        from,
+        dst,
+        vlan,
+        kind,
+        payload,
+    };
+    Ok((event, rest))
+}
+
+/// `own`, or an address
+fn life_said(rest: Option<&[u8]>) -> Option<(Event, Option<&[u8]>)>
+    ensures { option_map (λ e. (e.0, option_map (λ s. s.now) e.1)) result ≡ life_said (option_map (λ s. s.now) rest.entry) }
+{
+    let (about, rest) = word(rest)?;
+    let about = about_said(about)?;
+    Some((Event::Supervise(about), rest))
+}
+
+/// `<port> <probe> <octets>`
+fn arrive_said<'a>(
+    alloc: Global,
+    place: &Place,
+    rest: Option<&'a [u8]>,
+) -> Result<(Event, Option<&'a [u8]>), WordFault>
+    ensures { Gives (λ e. (e.0, option_map (λ s. s.now) e.1)) result (arrive_said place.now (option_map (λ s. s.now) rest.entry)) }
+{
+    let (port, rest) = word(rest).ok_or(WordFault::Bad)?;
+    let port = port_said(place, port).ok_or(WordFault::Bad)?;
+    let (probe, rest) = word(rest).ok_or(WordFault::Bad)?;
+    let probe = Some(probe_said(probe).ok_or(WordFault::Bad)?);
+    let (octets, rest) = word(rest).ok_or(WordFault::Bad)?;
+    let octets = Octets::new(hex_octets(alloc, octets)?);
+    let carried = Carried { probe, octets };
+    Ok((Event::Arrive { port, carried }, rest))
+}
+
+/// What the words of an event say, and the words behind it.
+#[tactic(auto, unfolding(crate::specs::Parsed::event_said))]
+fn event_said<'a>(
+    alloc: Global,
+    place: &Place,
+    rest: Option<&'a [u8]>,
+) -> Result<(Event, Option<&'a [u8]>), WordFault>
+    ensures { Gives (λ e. (e.0, option_map (λ s. s.now) e.1)) result (event_said place.now (option_map (λ s. s.now) rest.entry)) }
+{
+    let (verb, rest) = word(rest).ok_or(WordFault::Bad)?;
+    if verb == b"send".as_slice() {
+        return send_said(alloc, rest);
+    }
+    if verb == b"life".as_slice() {
+        return life_said(rest).ok_or(WordFault::Bad);
+    }
+    if verb == b"arrive".as_slice() {
+        return arrive_said(alloc, place, rest);
+    }
+    if verb == b"age".as_slice() {
+        return Ok((Event::Age, rest));
+    }
+    Err(WordFault::Bad)
+}
+
+/// `<seq>` and ports
+fn sent_said(place: &Place, rest: Option<&[u8]>) -> Option<Outcome>
+    ensures { result ≡ sent_said place.now (option_map (λ s. s.now) rest.entry) }
+{
+    let (seq, rest) = word(rest)?;
+    let seq = seq_said(seq)?;
+    let ports = ports_said(place, tail_of(rest));
+    Some(Outcome::Sent { seq, ports })
+}
+
+/// `<seq> <life>` and ports
+fn lived_said(place: &Place, rest: Option<&[u8]>) -> Option<Outcome>
+    ensures { result ≡ lived_said place.now (option_map (λ s. s.now) rest.entry) }
+{
+    let (seq, rest) = word(rest)?;
+    let seq = number_said(seq)?;
+    let (life, rest) = word(rest)?;
+    let life = number_said(life)?;
+    let ports = ports_said(place, tail_of(rest));
+    Some(Outcome::Life { seq, life, ports })
+}
+
+/// `<cause> <seq>`, whether it went up, and ports
+fn judged_said(place: &Place, rest: Option<&[u8]>) -> Option<Outcome>
+    ensures { result ≡ judged_said place.now (option_map (λ s. s.now) rest.entry) }
+{
+    let (cause, rest) = word(rest)?;
+    let cause = cause_said(cause)?;
+    let (seq, rest) = word(rest)?;
+    let seq = seq_said(seq)?;
+    let tail = tail_of(rest);
+    let up = has_octet(b'u', tail);
+    let ports = ports_said(place, tail);
+    Some(Outcome::Judged {
+        up,
+        ports,
+        seq,
+        cause,
+    })
+}
+
+/// What the words of an outcome say.
+#[tactic(auto, unfolding(crate::specs::Parsed::outcome_said))]
+fn outcome_said(place: &Place, rest: Option<&[u8]>) -> Option<Outcome>
+    ensures { result ≡ outcome_said place.now (option_map (λ s. s.now) rest.entry) }
+{
+    let (verb, rest) = word(rest)?;
+    if verb == b"sent".as_slice() {
+        return sent_said(place, rest);
+    }
+    if verb == b"life".as_slice() {
+        return lived_said(place, rest);
+    }
+    if verb == b"judged".as_slice() {
+        return judged_said(place, rest);
+    }
+    if verb == b"aged".as_slice() {
+        return Some(Outcome::Aged);
+    }
+    None
+}
+
+/// What the line of an entry says.
+#[tactic(auto, unfolding(crate::specs::Parsed::entry_said))]
+fn entry_said(alloc: Global, place: &Place, line: &[u8]) -> Result<Entry, WordFault>
+    ensures { Gives (λ e. e) result (entry_said place.now line.now) }
+{
+    let (worker, rest) = word(Some(line)).ok_or(WordFault::Bad)?;
+    let worker = number_said(worker).ok_or(WordFault::Bad)?;
+    let (at, rest) = word(rest).ok_or(WordFault::Bad)?;
+    let at = decimal(at).ok_or(WordFault::Bad)?;
+    let (event, rest) = event_said(alloc, place, rest)?;
+    let (_, rest) = word(rest).ok_or(WordFault::Bad)?;
+    let outcome = outcome_said(place, rest).ok_or(WordFault::Bad)?;
+    Ok(Entry {
+        worker,
+        at,
+        event,
+        outcome,
+    })
+}
+
+ghost use Rattle.std.specs.Prelude.{option_map};
+ghost use Rattle.hsr_text.specs.Words.{Gives};
+ghost use Rattle.hsr_transcript_text.specs.Parsed.{arrive_said, entry_said, event_said, judged_said, life_said, lived_said, outcome_said, send_said, sent_said};
+
+/// What the types tell of a send.
+fn send_fits(from: u8, dst: Mac, vlan: Option<u16>, kind: u16, payload: &[u8])
+    ensures { IsSendFit from dst vlan kind payload.now }
+{
+    mac_fits(dst);
+}
+
+/// What the types tell of an event.
+fn event_fits(event: &Event)
+    ensures { IsEventFit event.now }
+{
+    match event {
+        Event::Send {
+            from,
+            dst,
+            vlan,
+            kind,
+            payload,
+        } => send_fits(*from, *dst, *vlan, *kind, payload.as_slice()),
+        Event::Supervise(about) => about_fits(*about),
+        Event::Arrive { port: _, carried } => carried_fits(carried),
+        Event::Age => {}
+    }
+}
+
+/// What the types tell of an outcome.
+fn outcome_fits(outcome: Outcome)
+    ensures { IsOutcomeFit outcome }
+{}
+
+/// What the types tell of an entry.
+fn entry_fits(entry: &Entry)
+    ensures { IsEntryFit entry.now }
+{
+    let _worker = entry.worker;
+    let _at = entry.at;
+    event_fits(&entry.event);
+    outcome_fits(entry.outcome);
+}
+
+impl<'a> LineKind for EntryLine<'a> {
+    ghost use Rattle.hsr_transcript_text.specs.Fits.{IsEntryFit};
+    ghost use Rattle.hsr_transcript_text.specs.Spelled.{entry_text};
+    ghost use Rattle.hsr_transcript_text.specs.Parsed.{entry_said};
+
+    type Value = Entry;
+
+    ghost spelled = { λ s. entry_text s.place.now };
+
+    ghost said = { λ s. entry_said s.place.now };
+
+    ghost fits = { λ _. IsEntryFit };
+
+    fn put(&self, text: &mut Vec<u8>, entry: &Entry) -> Result<(), AllocError> {
+        entry_fits(entry);
+        put_entry(self.alloc, text, self.place, entry)
+    }
+
+    fn parse(&self, alloc: Global, line: &[u8]) -> Result<Entry, WordFault> {
+        entry_said(alloc, self.place, line)
+    }
+}

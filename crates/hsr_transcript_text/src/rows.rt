@@ -1,0 +1,73 @@
+//! The lines of rows.
+ghost use Rattle.std.specs.Prelude.{◌≡◌, ◌++◌, OnOk};
+ghost use Rattle.hsr_transcript_text.specs.Spelled.{row_text};
+
+use crate::lines::LineKind;
+use crate::said::{dir_said, fate_said, probe_said};
+use crate::words::{carried_fits, dir_word, fate_word, put_octets, put_probe, put_word};
+use hsr_link::Row;
+use hsr_node::{Carried, Octets};
+use hsr_text::{WordFault, hex_octets, word};
+use std::alloc::{AllocError, Global};
+
+/// The line of a row.
+#[derive(Clone, Copy)]
+pub(crate) struct RowLine;
+
+/// Puts the line of a row.
+#[tactic(auto, unfolding(crate::specs::Spelled::row_text))]
+fn put_row(text: &mut Vec<u8>, row: &Row) -> Result<(), AllocError>
+    ensures { OnOk result (text.new.items ≡ text.old.items ++ row_text row.now) }
+{
+    text.extend_from_slice(dir_word(row.dir))?;
+    put_probe(text, row.carried.probe)?;
+    put_octets(text, row.carried.octets.as_slice())?;
+    put_word(text, fate_word(row.fate))
+}
+
+/// What the line of a row says.
+#[tactic(auto, unfolding(crate::specs::Parsed::row_said))]
+fn row_said(alloc: Global, line: &[u8]) -> Result<Row, WordFault>
+    ensures { Gives (λ r. r) result (row_said line.now) }
+{
+    let (dir, rest) = word(Some(line)).ok_or(WordFault::Bad)?;
+    let dir = dir_said(dir).ok_or(WordFault::Bad)?;
+    let (probe, rest) = word(rest).ok_or(WordFault::Bad)?;
+    let probe = Some(probe_said(probe).ok_or(WordFault::Bad)?);
+    let (octets, rest) = word(rest).ok_or(WordFault::Bad)?;
+    let octets = Octets::new(hex_octets(alloc, octets)?);
+    let (fate, _) = word(rest).ok_or(WordFault::Bad)?;
+    let fate = fate_said(fate).ok_or(WordFault::Bad)?;
+    Ok(Row {
+        dir,
+        carried: Carried { probe, octets },
+        injected: false,
+        fate,
+    })
+}
+
+ghost use Rattle.hsr_text.specs.Words.{Gives};
+ghost use Rattle.hsr_transcript_text.specs.Parsed.{row_said};
+
+impl LineKind for RowLine {
+    ghost use Rattle.hsr_transcript_text.specs.Fits.{IsRowFit};
+    ghost use Rattle.hsr_transcript_text.specs.Spelled.{row_text};
+    ghost use Rattle.hsr_transcript_text.specs.Parsed.{row_said};
+
+    type Value = Row;
+
+    ghost spelled = { λ _. row_text };
+
+    ghost said = { λ _. row_said };
+
+    ghost fits = { λ _. IsRowFit };
+
+    fn put(&self, text: &mut Vec<u8>, row: &Row) -> Result<(), AllocError> {
+        carried_fits(&row.carried);
+        put_row(text, row)
+    }
+
+    fn parse(&self, alloc: Global, line: &[u8]) -> Result<Row, WordFault> {
+        row_said(alloc, line)
+    }
+}

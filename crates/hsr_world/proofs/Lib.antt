@@ -1,0 +1,17 @@
+pub mod Counts
+pub mod Lanes
+pub mod Keeps
+pub mod First
+pub mod Origin
+pub mod Reached
+pub mod Lawful
+pub mod Spelled
+pub mod Passing
+pub mod Wires
+pub mod Single
+pub mod Numbering
+pub mod OfSends
+pub mod Linked
+pub mod Closed
+pub mod FitFrames
+pub mod Plans

@@ -1,0 +1,9 @@
+pub mod Lines
+pub mod World
+pub mod Law
+pub mod Origin
+pub mod Reached
+pub mod Closing
+pub mod Lawful
+pub mod Fit
+pub mod Fitting
