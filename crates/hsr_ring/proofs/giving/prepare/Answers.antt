@@ -2,7 +2,7 @@ use Rattle.std.proofs.Common.{◌∙◌, arith, length, ◌<◌}
 use Rattle.std.proofs.lemmas.List.Elements.{AllWithin-more_set}
 use Rattle.hsr_ring.specs.Giving.{IsLineReady}
 use Rattle.hsr_ring.specs.Views.{line_view}
-use Rattle.hsr_ring.proofs.Places.{map_set_same}
+use Rattle.hsr_world.proofs.Counts.{map_set_same}
 use Rattle.hsr_ring.proofs.giving.prepare.Goals as goal
 
 pub returns-in_err-prepare_line-clause-view : goal.returns-in_err-prepare_line-clause-view

@@ -1,5 +1,6 @@
 use Rattle.hsr_ring.specs.Views.{line_view, put_line}
-use Rattle.hsr_ring.proofs.Places.{err_map, in_lines_err, in_lines_ok, map_set_same, ok_map, or_map}
+use Rattle.hsr_ring.proofs.Places.{err_map, in_lines_err, in_lines_ok, ok_map, or_map}
+use Rattle.hsr_world.proofs.Counts.{map_set_same}
 use Rattle.hsr_ring.proofs.line.put_at.Goals as goal
 
 pub returns-clause-ok : goal.returns-clause-ok
