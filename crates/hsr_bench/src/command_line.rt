@@ -37,6 +37,22 @@ status 1.
 Example: echo 'send 0 02-00-00-00-00-02 0800 AABB' | hsr_bench node";
 
 const RUN_ENDS: &str = "\
+A scenario is TOML, read from standard input:
+  capacity = 64   how many copies wait in each direction of a link, 1 to 4096 (64 if it isn't there)
+  [[node]]        name, role, and by its role: danh and redbox mac, mode (H or N; H if it isn't there);
+                  quadbox nothing; station macs, a list of at most 16 addresses
+  [[link]]        ends, a list of two ends, as [\"n0.B\", \"n1.A\"]: a node's name and the letter of its port
+                  (A and B on the ring, I a redbox's interlink, C and D a quadbox's other ring, P a station's)
+  [[step]]        do, and by it: clock at; send node, to, type, payload, vlan, from; life node, about;
+                  age node; put port; judge port; take link, dir (forth or back); cut link; mend link;
+                  inject link, dir, octets; drain nothing. It brings all that is on its way to its end
+Nodes, links and steps are counted from 0, as they stand. A name has 1 to 32 small letters, digits and
+hyphens. An address is written 02-00-00-00-00-02, a moment in milliseconds, type and vlan as numbers (type
+= 0x0800), payload and octets in hexadecimal. A send's payload, vlan and from (the place among a station's
+addresses) and a life's about may be left out.
+
+docs/USING.md says what to look up where; docs/RULES.md has the rules.
+
 Status 0: every frame came exactly once to each node that it was for. Status 2: the run gives reason to
 doubt that, named in the last line of the report. Status 1: the run stopped, and one line on standard
 error says why.
@@ -45,7 +61,8 @@ With --transcript the statuses are the same, and in place of the report comes th
 and links, the order of the steps at nodes, each node's record with its arrivals and what became of
 them, and each link's copies. `audit` reads it.
 
-Example: hsr_bench run --transcript < scenario.toml | hsr_bench audit";
+Examples: hsr_bench run < plan.toml
+          hsr_bench run --transcript < plan.toml | hsr_bench audit";
 
 const AUDIT_ENDS: &str = "\
 The transcript is one that `run --transcript` wrote with a table of the same size. Each entry is done
@@ -127,7 +144,7 @@ fn run_command<'a>(alloc: Global, tables: &'a [&'a str]) -> Result<Command<'a>, 
     ensures own { IfOk result (λ c. (fields_of c).has_globals ≡ false) }
 {
     Command::new(alloc, "run")
-        .about("Runs the scenario on standard input, and reports whether it certifies delivery")
+        .about("Runs the scenario on standard input (< plan.toml), and reports whether it certifies delivery")
         .after_help(RUN_ENDS)
         .arg(table_arg(alloc, tables))?
         .arg(transcript_arg(alloc))
