@@ -2,9 +2,9 @@
 use Rattle.std.specs.Prelude.{ℕ, List, Option}
 use Rattle.hsr_text.specs.Lines.{lines_of}
 use Rattle.hsr_danh.specs.Machine.{new_machine}
-use Rattle.hsr_engines.specs.Audited.{Audited}
+use Rattle.hsr_engines.specs.AuditRun.{AuditEnds}
 use Rattle.hsr_engines.specs.Output.{Ended, capacity_of, output}
-use Rattle.hsr_engines.specs.Told.{Told, scenario_of}
+use Rattle.hsr_engines.specs.ScenarioRun.{ScenarioEnds, scenario_of}
 use Rattle.hsr_bench.specs.declared.chosen.Options.{Options}
 use Rattle.hsr_bench.specs.declared.chosen.Options.TheVariants.{Node, Run, Audit}
 use Rattle.hsr_engines.specs.declared.fault.Status.{Status}
@@ -13,5 +13,5 @@ use Rattle.hsr_engines.specs.declared.fault.Status.{Status}
 abbrev pub Performs : Options → List ℕ → Option (List ℕ) → Option (List ℕ) → Status → Type 0
 Performs (Node node) text held holds status =
     Ended held holds (output (capacity_of node.table) (new_machine node.mac node.mode) 1 (lines_of text)) status
-Performs (Run table transcript) text held holds status = Told (capacity_of table) transcript (scenario_of text) held holds status
-Performs (Audit table) text held holds status = Audited (capacity_of table) text held holds status
+Performs (Run table transcript) text held holds status = ScenarioEnds (capacity_of table) transcript (scenario_of text) held holds status
+Performs (Audit table) text held holds status = AuditEnds (capacity_of table) text held holds status

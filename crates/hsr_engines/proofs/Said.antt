@@ -8,7 +8,7 @@ use Rattle.std.proofs.lemmas.Bool.{cases_Bool, cond-false}
 use Rattle.std.proofs.lemmas.Str.{IsUtf8-from_is_utf8, is_utf8-from_IsUtf8}
 use Rattle.hsr_scenario.specs.Meaning.{Meant, document_if, meaning}
 use Rattle.hsr_engines.specs.Text.{IsWhole}
-use Rattle.hsr_scenario.specs.Told.{FailsAt}
+use Rattle.hsr_scenario.specs.ScenarioEnds.{FailsAt}
 use Rattle.hsr_scenario.specs.declared.fault.ScenarioFault.{ScenarioFault}
 use Rattle.hsr_scenario.specs.declared.fault.Spot.TheVariants as spot
 use Rattle.hsr_scenario.specs.declared.fault.What.{What}
@@ -18,7 +18,7 @@ use Rattle.hsr_step.specs.declared.step.DrainFault.{DrainFault}
 use Rattle.hsr_step.specs.declared.step.DrainFault.TheVariants as drain
 use Rattle.hsr_step.specs.declared.step.WorldFault.TheVariants as world
 use Rattle.hsr_engines.specs.Playing.{Halts}
-use Rattle.hsr_engines.specs.Told.{IsNoScenario, IsUnplayed, Said, first_of, scenario_of, step_fault, text_fault}
+use Rattle.hsr_engines.specs.ScenarioRun.{IsNoScenario, IsUnplayed, Said, first_of, scenario_of, step_fault, text_fault}
 
 pub no_text : (octets : List ℕ) → ¬ IsUtf8 octets → scenario_of octets ≡ Err (record { spot = spot.Top; what = what.Text })
 no_text octets h = ⊎_elim (λ yes. absurd (h (IsUtf8-from_is_utf8 octets yes))) (λ no. ap (λ (b : Bool). if b then meaning octets else Err (record { spot = spot.Top; what = what.Text })) no) (cases_Bool (is_utf8 octets))

@@ -5,20 +5,20 @@ use Rattle.hsr_closing.specs.Finished.{Finished, IsFinished}
 use Rattle.hsr_transcript.specs.Answers.{Answers, IsTextOf}
 use Rattle.hsr_transcript_text.specs.declared.fault.ReadFault.{ReadFault}
 use Rattle.hsr_transcript_text.specs.declared.fault.ReadFault.TheVariants as read
-use Rattle.hsr_engines.specs.Audited.{Audited, IsAudited, IsUnread, transcript_fault}
+use Rattle.hsr_engines.specs.AuditRun.{AuditEnds, IsAudited, IsUnread, transcript_fault}
 use Rattle.hsr_engines.specs.Text.{IsWhole}
 use Rattle.hsr_engines.specs.Report.{report}
 use Rattle.hsr_engines.specs.Shown.{IsDelivered, IsFound}
-use Rattle.hsr_engines.specs.Told.{IsReported, IsUnreported, Said, Told, scenario_of}
+use Rattle.hsr_engines.specs.ScenarioRun.{IsReported, IsUnreported, Said, ScenarioEnds, scenario_of}
 use Rattle.hsr_engines.specs.declared.fault.Fault.{Fault}
 use Rattle.hsr_engines.specs.declared.fault.Fault.TheVariants.{Line, Scenario, Step, Transcript, Check, Read, Write, Memory}
 use Rattle.hsr_engines.specs.declared.fault.Status.{Status}
 use Rattle.hsr_engines.specs.declared.fault.Status.TheVariants.{Certified, Fault as Stopped, Doubt}
-use Rattle.hsr_engines.specs.declared.verdict.Verdict.{Verdict}
+use Rattle.hsr_engines.specs.declared.finding.Finding.{Finding}
 use Rattle.hsr_engines.proofs.Said.{as_read}
 
-pub told_report : (capacity : ℕ) (transcript : Bool) (said : Said) (held holds : Option (List ℕ)) (found : Verdict) (text : List ℕ) (status : Status)
-    → IsReported capacity transcript said found text → IsDelivered held holds found text status → Told capacity transcript said held holds status
+pub told_report : (capacity : ℕ) (transcript : Bool) (said : Said) (held holds : Option (List ℕ)) (found : Finding) (text : List ℕ) (status : Status)
+    → IsReported capacity transcript said found text → IsDelivered held holds found text status → ScenarioEnds capacity transcript said held holds status
 told_report capacity transcript said held holds found text Certified r d = (found, text, r, d.0, d.1)
 told_report capacity transcript said held holds found text Doubt r d = (found, text, r, d.0, d.1)
 told_report capacity transcript said held holds found text (Stopped Write) r d = (found, text, r)
@@ -31,7 +31,7 @@ told_report capacity transcript said held holds found text (Stopped (Transcript 
 told_report capacity transcript said held holds found text (Stopped (Check f)) r d = absurd d
 
 pub told_fault : (capacity : ℕ) (transcript : Bool) (said : Said) (held holds : Option (List ℕ)) (fault : Fault) → IsUnreported capacity said fault → Keeps held holds
-    → Told capacity transcript said held holds (Stopped fault)
+    → ScenarioEnds capacity transcript said held holds (Stopped fault)
 told_fault capacity transcript said held holds Read u k = k
 told_fault capacity transcript said held holds Write u k = absurd u
 told_fault capacity transcript said held holds Memory u k = (u, k)
@@ -43,21 +43,21 @@ told_fault capacity transcript said held holds (Check f) u k = (u, k)
 
 -- what is told of what was read is told of the text
 pub told_text : (capacity : ℕ) (transcript : Bool) (all : Option (List ℕ)) (read : List ℕ) (held holds : Option (List ℕ)) (status : Status) → IfSome all (λ text. IsWhole (2 ^ 24) text read)
-    → Told capacity transcript (scenario_of read) held holds status → IfSome all (λ text. Told capacity transcript (scenario_of text) held holds status)
+    → ScenarioEnds capacity transcript (scenario_of read) held holds status → IfSome all (λ text. ScenarioEnds capacity transcript (scenario_of text) held holds status)
 told_text capacity transcript None read held holds status whole told = tt
-told_text capacity transcript (Some text) read held holds status whole told = subst (λ (said : Said). Told capacity transcript said held holds status) (as_read text read whole) told
+told_text capacity transcript (Some text) read held holds status whole told = subst (λ (said : Said). ScenarioEnds capacity transcript said held holds status) (as_read text read whole) told
 
 -- what is told of octets is no fault of a reader
 pub unreported_told : (capacity : ℕ) (said : Said) (fault : Fault) → IsUnreported capacity said fault → Stopped fault ≢ Stopped Read
 unreported_told capacity said fault u is = let same : fault ≡ Read = cc in subst (λ f. IsUnreported capacity said f) same u
 
-pub delivered_told : (held holds : Option (List ℕ)) (found : Verdict) (text : List ℕ) (status : Status) → IsDelivered held holds found text status → status ≢ Stopped Read
+pub delivered_told : (held holds : Option (List ℕ)) (found : Finding) (text : List ℕ) (status : Status) → IsDelivered held holds found text status → status ≢ Stopped Read
 delivered_told held holds found text status d is = subst (λ s. IsDelivered held holds found text s) is d
 
 -- ---- a transcript
 
-audited_report : (capacity : ℕ) (text : List ℕ) (held holds : Option (List ℕ)) (found : Verdict) (written : List ℕ) (status : Status) → IsAudited capacity text found written
-    → IsDelivered held holds found written status → Audited capacity text held holds status
+audited_report : (capacity : ℕ) (text : List ℕ) (held holds : Option (List ℕ)) (found : Finding) (written : List ℕ) (status : Status) → IsAudited capacity text found written
+    → IsDelivered held holds found written status → AuditEnds capacity text held holds status
 audited_report capacity text held holds found written Certified r d = (found, written, r, d.0, d.1)
 audited_report capacity text held holds found written Doubt r d = (found, written, r, d.0, d.1)
 audited_report capacity text held holds found written (Stopped Write) r d = (found, written, r)
@@ -70,7 +70,7 @@ audited_report capacity text held holds found written (Stopped (Transcript f)) r
 audited_report capacity text held holds found written (Stopped (Check f)) r d = absurd d
 
 audited_fault : (capacity : ℕ) (text : List ℕ) (held holds : Option (List ℕ)) (fault : Fault) → IsUnread capacity text fault → Keeps held holds
-    → Audited capacity text held holds (Stopped fault)
+    → AuditEnds capacity text held holds (Stopped fault)
 audited_fault capacity text held holds Read u k = (u, k)
 audited_fault capacity text held holds Write u k = absurd u
 audited_fault capacity text held holds Memory u k = (u, k)
@@ -80,17 +80,17 @@ audited_fault capacity text held holds (Step n f) u k = (u, k)
 audited_fault capacity text held holds (Transcript f) u k = (u, k)
 audited_fault capacity text held holds (Check f) u k = (u, k)
 
-pub audited_known : (capacity : ℕ) (all held holds : Option (List ℕ)) (found : Verdict) (written : List ℕ) (status : Status) → IfSome all (λ text. IsAudited capacity text found written)
-    → IsDelivered held holds found written status → IfSome all (λ text. Audited capacity text held holds status)
+pub audited_known : (capacity : ℕ) (all held holds : Option (List ℕ)) (found : Finding) (written : List ℕ) (status : Status) → IfSome all (λ text. IsAudited capacity text found written)
+    → IsDelivered held holds found written status → IfSome all (λ text. AuditEnds capacity text held holds status)
 audited_known capacity None held holds found written status r d = tt
 audited_known capacity (Some text) held holds found written status r d = audited_report capacity text held holds found written status r d
 
 pub unread_known : (capacity : ℕ) (all held holds : Option (List ℕ)) (fault : Fault) → IfSome all (λ text. IsUnread capacity text fault) → Keeps held holds
-    → IfSome all (λ text. Audited capacity text held holds (Stopped fault))
+    → IfSome all (λ text. AuditEnds capacity text held holds (Stopped fault))
 unread_known capacity None held holds fault u k = tt
 unread_known capacity (Some text) held holds fault u k = audited_fault capacity text held holds fault u k
 
-pub audited_run : (capacity : ℕ) (all : Option (List ℕ)) (f : Finished) (found : Verdict) (written : List ℕ) → IfSome all (λ text. IsTextOf capacity f text) → IsFinished f → IsFound f.run found
+pub audited_run : (capacity : ℕ) (all : Option (List ℕ)) (f : Finished) (found : Finding) (written : List ℕ) → IfSome all (λ text. IsTextOf capacity f text) → IsFinished f → IsFound f.run found
     → written ≡ report f.run found → IfSome all (λ text. IsAudited capacity text found written)
 audited_run capacity None f found written text holds is_found is_report = tt
 audited_run capacity (Some text) f found written is_text holds is_found is_report =

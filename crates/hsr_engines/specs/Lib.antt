@@ -6,5 +6,5 @@ pub mod Playing
 pub mod Text
 pub mod Refusal
 pub mod Shown
-pub mod Told
-pub mod Audited
+pub mod ScenarioRun
+pub mod AuditRun

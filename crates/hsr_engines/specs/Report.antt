@@ -12,8 +12,8 @@ use Rattle.hsr_audit.specs.declared.doubt.Doubt.TheVariants.{NotRing, Mode, Same
 use Rattle.hsr_node_text.specs.Reply.{counter_line}
 use Rattle.hsr_engines.specs.declared.fault.Status.{Status}
 use Rattle.hsr_engines.specs.declared.fault.Status.TheVariants as status
-use Rattle.hsr_engines.specs.declared.verdict.Verdict.{Verdict}
-use Rattle.hsr_engines.specs.declared.verdict.Verdict.TheVariants as verdict
+use Rattle.hsr_engines.specs.declared.finding.Finding.{Finding}
+use Rattle.hsr_engines.specs.declared.finding.Finding.TheVariants as finding
 
 abbrev pub role_text : Place → List ℕ
 role_text (Danh mac mode) = codes "danh"
@@ -61,16 +61,16 @@ doubt_text TwoLinks = codes "two-links"
 doubt_text (Forgot k place) = codes "forgot " ++ decimal k ++ codes " " ++ decimal place
 doubt_text (Mistaken k place) = codes "mistaken " ++ decimal k ++ codes " " ++ decimal place
 
-abbrev pub verdict_line : Verdict → List ℕ
-verdict_line (verdict.Certified sends) = codes "certified " ++ decimal sends ++ codes "\n"
-verdict_line (verdict.Doubt doubt) = codes "doubt " ++ doubt_text doubt ++ codes "\n"
+abbrev pub finding_line : Finding → List ℕ
+finding_line (finding.Certified sends) = codes "certified " ++ decimal sends ++ codes "\n"
+finding_line (finding.Doubt doubt) = codes "doubt " ++ doubt_text doubt ++ codes "\n"
 
-abbrev pub status_of : Verdict → Status
-status_of (verdict.Certified sends) = status.Certified
-status_of (verdict.Doubt doubt) = status.Doubt
+abbrev pub status_of : Finding → Status
+status_of (finding.Certified sends) = status.Certified
+status_of (finding.Doubt doubt) = status.Doubt
 
 -- ---- the report
 
-unfoldable pub report : Run → Verdict → List ℕ
+unfoldable pub report : Run → Finding → List ℕ
 report run found =
-    head_line run ++ node_lines run (length run.places) ++ link_lines run (length run.links) ++ verdict_line found
+    head_line run ++ node_lines run (length run.places) ++ link_lines run (length run.links) ++ finding_line found

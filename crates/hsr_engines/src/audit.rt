@@ -1,14 +1,14 @@
 //! Transcripts that are read and audited.
 ghost use Rattle.std.specs.Prelude.{◌≡◌, ◌≤◌, IfErr, IfOk, IfSome};
 ghost use Rattle.hsr_transcript.specs.Answers.{IsTextOf};
-ghost use Rattle.hsr_engines.specs.Audited.{Audited, IsAudited, IsUnread, transcript_fault};
+ghost use Rattle.hsr_engines.specs.AuditRun.{AuditEnds, IsAudited, IsUnread, transcript_fault};
 ghost use Rattle.hsr_engines.specs.Output.{capacity_of};
 
 use crate::chosen::Table;
 use crate::fault::{Fault, Status, TranscriptFault};
 use crate::report::report;
 use crate::shown::deliver;
-use crate::verdict::{Verdict, found};
+use crate::finding::{Finding, found};
 use hsr_closing::Closed;
 use hsr_transcript::{ReadFault, read};
 use std::alloc::Global;
@@ -45,7 +45,7 @@ fn closed<R: Read, const C: usize>(alloc: Global, reader: &mut R) -> Result<Clos
 fn audited<R: Read, const C: usize>(
     alloc: Global,
     reader: &mut R,
-) -> Result<(Verdict, Vec<u8>), Fault>
+) -> Result<(Finding, Vec<u8>), Fault>
     requires entries { (1 ≤ C) × (C ≤ 65535) }
     ensures ok { IfOk result (λ r. IfSome (R.remaining reader.old) (λ text. IsAudited C text r.0 r.1.items)) }
     ensures err { IfErr result (λ f. IfSome (R.remaining reader.old) (λ text. IsUnread C text f)) }
@@ -54,12 +54,12 @@ fn audited<R: Read, const C: usize>(
         Ok(closed) => closed,
         Err(fault) => return Err(fault),
     };
-    let verdict = match found(alloc, &closed) {
-        Ok(verdict) => verdict,
+    let finding = match found(alloc, &closed) {
+        Ok(finding) => finding,
         Err(fault) => return Err(fault),
     };
-    match report(alloc, &closed, verdict) {
-        Ok(text) => Ok((verdict, text)),
+    match report(alloc, &closed, finding) {
+        Ok(text) => Ok((finding, text)),
         Err(_) => Err(Fault::Memory),
     }
 }
@@ -69,7 +69,7 @@ fn audited_with<R: Read>(
     alloc: Global,
     reader: &mut R,
     table: Table,
-) -> Result<(Verdict, Vec<u8>), Fault>
+) -> Result<(Finding, Vec<u8>), Fault>
     ensures ok { IfOk result (λ r. IfSome (R.remaining reader.old) (λ text. IsAudited (capacity_of table) text r.0 r.1.items)) }
     ensures err { IfErr result (λ f. IfSome (R.remaining reader.old) (λ text. IsUnread (capacity_of table) text f)) }
 {
@@ -91,10 +91,10 @@ pub fn audit_run<R: Read, W: Write>(
     table: Table,
 ) -> Status
     ensures { IfSome (R.remaining reader.old) (λ text.
-        Audited (capacity_of table) text (W.contents writer.old) (W.contents writer.new) result) }
+        AuditEnds (capacity_of table) text (W.contents writer.old) (W.contents writer.new) result) }
 {
     match audited_with(alloc, reader, table) {
-        Ok((verdict, text)) => deliver(writer, verdict, text.as_slice()),
+        Ok((finding, text)) => deliver(writer, finding, text.as_slice()),
         Err(fault) => Status::Fault(fault),
     }
 }

@@ -5,13 +5,13 @@ mod audit;
 mod chosen;
 mod engine;
 mod fault;
+mod finding;
 mod playing;
 mod refusal;
 mod report;
 mod scenario;
 mod shown;
 mod text;
-mod verdict;
 
 pub use audit::audit_run;
 pub use chosen::{NodeOptions, Table};

@@ -4,7 +4,7 @@ ghost use Rattle.hsr_closing.specs.Finished.{IsFinished};
 ghost use Rattle.hsr_law.specs.Run.{place_of};
 ghost use Rattle.hsr_engines.specs.Report.{head_line, is_row_lost, is_row_taken, link_line, link_lines, node_line, node_lines, report, role_text};
 
-use crate::verdict::{Verdict, put_verdict_line};
+use crate::finding::{Finding, put_finding};
 use hsr_closing::Closed;
 use hsr_link::{Fate, Row};
 use hsr_node::Place;
@@ -111,15 +111,15 @@ fn put_links<const C: usize>(text: &mut Vec<u8>, closed: &Closed<C>) -> Result<(
 pub fn report<const C: usize>(
     alloc: Global,
     closed: &Closed<C>,
-    verdict: Verdict,
+    finding: Finding,
 ) -> Result<Vec<u8>, AllocError>
-    ensures text { IfOk result (λ text. text.items ≡ report closed.now.run verdict) }
+    ensures text { IfOk result (λ text. text.items ≡ report closed.now.run finding) }
     ensures finished { IsFinished closed.now }
 {
     let mut text = Vec::new(alloc);
     put_head(&mut text, closed)?;
     put_nodes(&mut text, closed)?;
     put_links(&mut text, closed)?;
-    put_verdict_line(&mut text, verdict)?;
+    put_finding(&mut text, finding)?;
     Ok(text)
 }

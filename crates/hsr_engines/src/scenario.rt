@@ -2,7 +2,7 @@
 ghost use Rattle.std.specs.Prelude.{◌≡◌, ◌≢◌, ◌≤◌, IfErr, IfOk, IfSome, Ok, Err};
 ghost use Rattle.hsr_world.specs.Lawful.{IsEnded, finished_of};
 ghost use Rattle.hsr_scenario.specs.Meaning.{scenario_view};
-ghost use Rattle.hsr_engines.specs.Told.{IsNoScenario, IsPlayed, IsReported, IsUnclosed, IsUnplayed, IsUnreported, Told, scenario_of, step_fault, text_fault};
+ghost use Rattle.hsr_engines.specs.ScenarioRun.{IsNoScenario, IsPlayed, IsReported, IsUnclosed, IsUnplayed, IsUnreported, ScenarioEnds, scenario_of, step_fault, text_fault};
 ghost use Rattle.hsr_engines.specs.Output.{capacity_of};
 ghost use Rattle.hsr_engines.specs.declared.fault.Fault.TheVariants.{Read as ReadFailed};
 ghost use Rattle.hsr_engines.specs.declared.fault.Status.TheVariants.{Fault as Stopped};
@@ -12,7 +12,7 @@ use crate::fault::{Fault, Status};
 use crate::playing::play;
 use crate::shown::{deliver, shown};
 use crate::text::read_text;
-use crate::verdict::{Verdict, found};
+use crate::finding::{Finding, found};
 use hsr_closing::{CheckFault, Closed};
 use hsr_ring::World;
 use hsr_scenario::{Scenario, ScenarioFault, Spot, What, read};
@@ -99,7 +99,7 @@ fn reported<const C: usize>(
     alloc: Global,
     octets: &[u8],
     transcript: bool,
-) -> Result<(Verdict, Vec<u8>), Fault>
+) -> Result<(Finding, Vec<u8>), Fault>
     requires entries { (1 ≤ C) × (C ≤ 65535) }
     ensures ok { IfOk result (λ r. IsReported C transcript (scenario_of octets.now) r.0 r.1.items) }
     ensures err { IfErr result (λ f. IsUnreported C (scenario_of octets.now) f) }
@@ -112,12 +112,12 @@ fn reported<const C: usize>(
         Ok(closed) => closed,
         Err(fault) => return Err(fault),
     };
-    let verdict = match found(alloc, &closed) {
-        Ok(verdict) => verdict,
+    let finding = match found(alloc, &closed) {
+        Ok(finding) => finding,
         Err(fault) => return Err(fault),
     };
-    match shown(alloc, &closed, verdict, transcript) {
-        Ok(text) => Ok((verdict, text)),
+    match shown(alloc, &closed, finding, transcript) {
+        Ok(text) => Ok((finding, text)),
         Err(fault) => Err(fault),
     }
 }
@@ -128,7 +128,7 @@ fn reported_with(
     octets: &[u8],
     table: Table,
     transcript: bool,
-) -> Result<(Verdict, Vec<u8>), Fault>
+) -> Result<(Finding, Vec<u8>), Fault>
     ensures ok { IfOk result (λ r. IsReported (capacity_of table) transcript (scenario_of octets.now) r.0 r.1.items) }
     ensures err { IfErr result (λ f. IsUnreported (capacity_of table) (scenario_of octets.now) f) }
 {
@@ -147,11 +147,11 @@ fn tell<W: Write>(
     table: Table,
     transcript: bool,
 ) -> Status
-    ensures shown { Told (capacity_of table) transcript (scenario_of octets.now) (W.contents writer.old) (W.contents writer.new) result }
+    ensures shown { ScenarioEnds (capacity_of table) transcript (scenario_of octets.now) (W.contents writer.old) (W.contents writer.new) result }
     ensures told { result ≢ Stopped ReadFailed }
 {
     match reported_with(alloc, octets, table, transcript) {
-        Ok((verdict, text)) => deliver(writer, verdict, text.as_slice()),
+        Ok((finding, text)) => deliver(writer, finding, text.as_slice()),
         Err(fault) => Status::Fault(fault),
     }
 }
@@ -169,7 +169,7 @@ pub fn scenario_run<R: Read, W: Write>(
     transcript: bool,
 ) -> Status
     ensures { IfSome (R.remaining reader.old) (λ octets.
-        Told (capacity_of table) transcript (scenario_of octets) (W.contents writer.old) (W.contents writer.new) result) }
+        ScenarioEnds (capacity_of table) transcript (scenario_of octets) (W.contents writer.old) (W.contents writer.new) result) }
 {
     match read_text(alloc, reader, MOST_OCTETS) {
         Ok(octets) => tell(alloc, octets.as_slice(), writer, table, transcript),

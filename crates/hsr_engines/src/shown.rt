@@ -6,7 +6,7 @@ ghost use Rattle.hsr_engines.specs.declared.fault.Fault.TheVariants.{Memory};
 
 use crate::fault::{Fault, Status};
 use crate::report::report;
-use crate::verdict::Verdict;
+use crate::finding::Finding;
 use hsr_closing::Closed;
 use hsr_transcript::write;
 use std::alloc::Global;
@@ -29,27 +29,27 @@ fn run_text<const C: usize>(alloc: Global, closed: &Closed<C>) -> Result<Vec<u8>
 pub fn shown<const C: usize>(
     alloc: Global,
     closed: &Closed<C>,
-    verdict: Verdict,
+    finding: Finding,
     transcript: bool,
 ) -> Result<Vec<u8>, Fault>
-    ensures ok { IfOk result (λ text. text.items ≡ shown transcript closed.now verdict) }
+    ensures ok { IfOk result (λ text. text.items ≡ shown transcript closed.now finding) }
     ensures err { IfErr result (λ f. f ≡ Memory) }
 {
     if transcript {
         return run_text(alloc, closed);
     }
-    match report(alloc, closed, verdict) {
+    match report(alloc, closed, finding) {
         Ok(text) => Ok(text),
         Err(_) => Err(Fault::Memory),
     }
 }
 
 /// Writes what is shown of a run, and tells how it ended.
-pub fn deliver<W: Write>(writer: &mut W, verdict: Verdict, text: &[u8]) -> Status
-    ensures { IsDelivered (W.contents writer.old) (W.contents writer.new) verdict text.now result }
+pub fn deliver<W: Write>(writer: &mut W, finding: Finding, text: &[u8]) -> Status
+    ensures { IsDelivered (W.contents writer.old) (W.contents writer.new) finding text.now result }
 {
     if writer.write_all(text).is_err() || writer.flush().is_err() {
         return Status::Fault(Fault::Write);
     }
-    verdict.status()
+    finding.status()
 }

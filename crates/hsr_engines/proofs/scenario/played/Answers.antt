@@ -3,7 +3,7 @@ use Rattle.hsr_world.specs.World.{World}
 use Rattle.hsr_scenario.specs.Meaning.{scenario_view}
 use Rattle.hsr_scenario.specs.declared.steps.Order.{Order}
 use Rattle.hsr_engines.specs.Playing.{Halts}
-use Rattle.hsr_engines.specs.Told.{IsUnplayed, scenario_of}
+use Rattle.hsr_engines.specs.ScenarioRun.{IsUnplayed, scenario_of}
 use Rattle.hsr_engines.proofs.Said.{unplayed}
 use Rattle.hsr_engines.proofs.scenario.played.Goals as goal
 

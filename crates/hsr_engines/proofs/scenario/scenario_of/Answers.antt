@@ -1,5 +1,5 @@
 use Rattle.std.proofs.Common.{◌∙◌, subst, sym}
-use Rattle.hsr_engines.specs.Told.{IsNoScenario, scenario_of}
+use Rattle.hsr_engines.specs.ScenarioRun.{IsNoScenario, scenario_of}
 use Rattle.hsr_engines.proofs.Said.{a_text, no_text, unread}
 use Rattle.hsr_engines.proofs.scenario.scenario_of.Goals as goal
 

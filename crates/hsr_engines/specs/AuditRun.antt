@@ -14,10 +14,10 @@ use Rattle.hsr_engines.specs.declared.fault.Fault.TheVariants.{Transcript, Check
 use Rattle.hsr_engines.specs.declared.fault.Status.{Status}
 use Rattle.hsr_engines.specs.declared.fault.Status.TheVariants.{Certified, Fault as Stopped, Doubt}
 use Rattle.hsr_engines.specs.declared.fault.TranscriptFault.TheVariants.{Version, Line, End}
-use Rattle.hsr_engines.specs.declared.verdict.Verdict.{Verdict}
+use Rattle.hsr_engines.specs.declared.finding.Finding.{Finding}
 
 -- the text is that of a finished run, of which this was found; and this is its report
-pub record IsAudited (capacity : ℕ) (text : List ℕ) (found : Verdict) (written : List ℕ) : Type 0 where
+pub record IsAudited (capacity : ℕ) (text : List ℕ) (found : Finding) (written : List ℕ) : Type 0 where
   pub finished : Finished
   pub is_text : IsTextOf capacity finished text
   pub holds : IsFinished finished
@@ -46,16 +46,16 @@ transcript_fault read.NoMemory = Memory
 -- what was found is told by the status, and its report was written
 abbrev pub IsWritten : ℕ → List ℕ → Option (List ℕ) → Option (List ℕ) → Status → Type 0
 IsWritten capacity text held holds status =
-    (found : Verdict) × (written : List ℕ) × IsAudited capacity text found written × (status ≡ status_of found) × Appends held holds written
+    (found : Finding) × (written : List ℕ) × IsAudited capacity text found written × (status ≡ status_of found) × Appends held holds written
 
 -- there is a report to write
 abbrev pub IsReportable : ℕ → List ℕ → Type 0
-IsReportable capacity text = (found : Verdict) × (written : List ℕ) × IsAudited capacity text found written
+IsReportable capacity text = (found : Finding) × (written : List ℕ) × IsAudited capacity text found written
 
 -- How `audit` ends, and what it wrote: the report of the run whose text it read; or nothing, since the text is that of no run, or
 -- reading or memory failed. Of a failed write no more is said than that there was a report to write.
-abbrev pub Audited : ℕ → List ℕ → Option (List ℕ) → Option (List ℕ) → Status → Type 0
-Audited capacity text held holds Certified = IsWritten capacity text held holds Certified
-Audited capacity text held holds Doubt = IsWritten capacity text held holds Doubt
-Audited capacity text held holds (Stopped Write) = IsReportable capacity text
-Audited capacity text held holds (Stopped fault) = IsUnread capacity text fault × Keeps held holds
+abbrev pub AuditEnds : ℕ → List ℕ → Option (List ℕ) → Option (List ℕ) → Status → Type 0
+AuditEnds capacity text held holds Certified = IsWritten capacity text held holds Certified
+AuditEnds capacity text held holds Doubt = IsWritten capacity text held holds Doubt
+AuditEnds capacity text held holds (Stopped Write) = IsReportable capacity text
+AuditEnds capacity text held holds (Stopped fault) = IsUnread capacity text fault × Keeps held holds

@@ -1,6 +1,6 @@
 //! What an audit of a run found.
 ghost use Rattle.std.specs.Prelude.{◌≡◌, ◌++◌, IfErr, IfOk, OnOk};
-ghost use Rattle.hsr_engines.specs.Report.{doubt_text, status_of, verdict_line};
+ghost use Rattle.hsr_engines.specs.Report.{doubt_text, status_of, finding_line};
 ghost use Rattle.hsr_engines.specs.Shown.{IsFound};
 ghost use Rattle.hsr_engines.specs.declared.fault.Fault.TheVariants.{Memory};
 
@@ -12,31 +12,31 @@ use std::alloc::{AllocError, Global};
 
 /// What an audit of a run found: so many sends that are certified, or a doubt.
 #[derive(Clone, Copy, Debug, PartialEq, Eq)]
-pub enum Verdict {
+pub enum Finding {
     Certified(usize),
     Doubt(Doubt),
 }
 
-impl Verdict {
+impl Finding {
     /// How a run ends of which this was found.
     pub fn status(self) -> Status
         ensures { result ≡ status_of self }
     {
         match self {
-            Verdict::Certified(_) => Status::Certified,
-            Verdict::Doubt(_) => Status::Doubt,
+            Finding::Certified(_) => Status::Certified,
+            Finding::Doubt(_) => Status::Doubt,
         }
     }
 }
 
 /// What the audit of a run finds.
-pub fn found<const C: usize>(alloc: Global, closed: &Closed<C>) -> Result<Verdict, Fault>
+pub fn found<const C: usize>(alloc: Global, closed: &Closed<C>) -> Result<Finding, Fault>
     ensures ok { IfOk result (λ v. IsFound closed.now.run v) }
     ensures err { IfErr result (λ f. f ≡ Memory) }
 {
     match audit(alloc, closed) {
-        Ok(certificate) => Ok(Verdict::Certified(certificate.sends.len())),
-        Err(AuditFault::Doubt(doubt)) => Ok(Verdict::Doubt(doubt)),
+        Ok(certificate) => Ok(Finding::Certified(certificate.sends.len())),
+        Err(AuditFault::Doubt(doubt)) => Ok(Finding::Doubt(doubt)),
         Err(AuditFault::NoMemory) => Err(Fault::Memory),
     }
 }
@@ -61,12 +61,12 @@ fn put_doubt(text: &mut Vec<u8>, doubt: Doubt) -> Result<(), AllocError>
 }
 
 /// Puts the last line of a report.
-pub fn put_verdict_line(text: &mut Vec<u8>, verdict: Verdict) -> Result<(), AllocError>
-    ensures { OnOk result (text.new.items ≡ text.old.items ++ verdict_line verdict) }
+pub fn put_finding(text: &mut Vec<u8>, finding: Finding) -> Result<(), AllocError>
+    ensures { OnOk result (text.new.items ≡ text.old.items ++ finding_line finding) }
 {
-    match verdict {
-        Verdict::Certified(sends) => put_count(text, b"certified ", sends as u64)?,
-        Verdict::Doubt(doubt) => {
+    match finding {
+        Finding::Certified(sends) => put_count(text, b"certified ", sends as u64)?,
+        Finding::Doubt(doubt) => {
             text.extend_from_slice(b"doubt ")?;
             put_doubt(text, doubt)?;
         }

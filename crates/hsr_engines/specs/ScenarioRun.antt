@@ -21,7 +21,7 @@ use Rattle.hsr_engines.specs.declared.fault.Fault.{Fault}
 use Rattle.hsr_engines.specs.declared.fault.Fault.TheVariants.{Scenario, Step, Check, Read, Write, Memory}
 use Rattle.hsr_engines.specs.declared.fault.Status.{Status}
 use Rattle.hsr_engines.specs.declared.fault.Status.TheVariants.{Certified, Fault as Stopped, Doubt}
-use Rattle.hsr_engines.specs.declared.verdict.Verdict.{Verdict}
+use Rattle.hsr_engines.specs.declared.finding.Finding.{Finding}
 
 -- ---- the scenario
 
@@ -81,7 +81,7 @@ IsUnclosed capacity w _ = ⊥
 -- ---- what was found
 
 -- the scenario is played, its world ends and is a finished run, of which this was found; and this is shown of it
-pub record IsReported (capacity : ℕ) (transcript : Bool) (said : Said) (found : Verdict) (text : List ℕ) : Type 0 where
+pub record IsReported (capacity : ℕ) (transcript : Bool) (said : Said) (found : Finding) (text : List ℕ) : Type 0 where
   pub world : World
   pub played : IsPlayed capacity said world
   pub ended : IsEnded world
@@ -96,17 +96,17 @@ IsUnreported capacity said fault = IsUnplayed capacity said fault
 -- what was found is told by the status, and what is shown of the run was written
 abbrev pub IsWritten : ℕ → Bool → Said → Option (List ℕ) → Option (List ℕ) → Status → Type 0
 IsWritten capacity transcript said held holds status =
-    (found : Verdict) × (text : List ℕ) × IsReported capacity transcript said found text × (status ≡ status_of found) × Appends held holds text
+    (found : Finding) × (text : List ℕ) × IsReported capacity transcript said found text × (status ≡ status_of found) × Appends held holds text
 
 -- there is something to write of the run
 abbrev pub IsShowable : ℕ → Bool → Said → Type 0
-IsShowable capacity transcript said = (found : Verdict) × (text : List ℕ) × IsReported capacity transcript said found text
+IsShowable capacity transcript said = (found : Finding) × (text : List ℕ) × IsReported capacity transcript said found text
 
 -- How `run` ends, and what it wrote: the transcript or the report of the run; or nothing, since there is none, or reading or
 -- memory failed. Of a failed write no more is said than that there was something to write.
-abbrev pub Told : ℕ → Bool → Said → Option (List ℕ) → Option (List ℕ) → Status → Type 0
-Told capacity transcript said held holds Certified = IsWritten capacity transcript said held holds Certified
-Told capacity transcript said held holds Doubt = IsWritten capacity transcript said held holds Doubt
-Told capacity transcript said held holds (Stopped Read) = Keeps held holds
-Told capacity transcript said held holds (Stopped Write) = IsShowable capacity transcript said
-Told capacity transcript said held holds (Stopped fault) = IsUnreported capacity said fault × Keeps held holds
+abbrev pub ScenarioEnds : ℕ → Bool → Said → Option (List ℕ) → Option (List ℕ) → Status → Type 0
+ScenarioEnds capacity transcript said held holds Certified = IsWritten capacity transcript said held holds Certified
+ScenarioEnds capacity transcript said held holds Doubt = IsWritten capacity transcript said held holds Doubt
+ScenarioEnds capacity transcript said held holds (Stopped Read) = Keeps held holds
+ScenarioEnds capacity transcript said held holds (Stopped Write) = IsShowable capacity transcript said
+ScenarioEnds capacity transcript said held holds (Stopped fault) = IsUnreported capacity said fault × Keeps held holds
