@@ -3,3 +3,4 @@ pub mod Cells
 pub mod Texts
 pub mod Raws
 pub mod Counting
+mod Spelled

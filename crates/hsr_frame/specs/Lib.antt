@@ -1,6 +1,7 @@
 pub mod Cases
 pub mod Cause
 pub mod Fault
+pub mod Words
 pub mod Address
 pub mod Grammar
 pub mod Egress

@@ -9,6 +9,7 @@ mod node;
 mod octets;
 mod raw;
 mod send;
+mod words;
 
 pub use counters::Counters;
 pub use egress::{ETHERTYPE_SUPERVISION, Exits, Wants, is_supervision};
