@@ -8,3 +8,4 @@ pub mod Refused
 pub mod Replayed
 pub mod Holding
 pub mod SameOutcome
+mod Spelled

@@ -7,3 +7,4 @@ pub mod Counts
 pub mod Flow
 pub mod Kept
 pub mod Holds
+pub mod Words

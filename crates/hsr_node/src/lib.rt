@@ -12,6 +12,7 @@ mod pass;
 mod place;
 mod quadbox;
 mod redbox;
+mod role;
 mod sending;
 mod side;
 mod station;
@@ -24,6 +25,7 @@ pub use node::Node;
 pub use octets::Octets;
 pub use pass::Pass;
 pub use place::Place;
+pub use role::Role;
 pub use sending::{Sending, sent_by};
 pub use station::Station;
 

@@ -5,7 +5,7 @@ mod lines;
 mod words;
 
 pub use lines::{Front, READ_LIMIT, ReaderFault, next_line};
-pub use words::{WordFault, decimal, hex_octets, hex_pair, put_decimal, put_hex, word};
+pub use words::{WordFault, decimal, hex_octets, hex_pair, put_decimal, put_hex, split_at, word};
 
 #[cfg(test)]
 mod tests;

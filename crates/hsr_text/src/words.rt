@@ -17,12 +17,12 @@ pub enum WordFault {
     Memory,
 }
 
-/// What stands before the first space, and what follows it.
-fn split_word(text: &[u8]) -> (&[u8], Option<&[u8]>)
-    ensures { cut 32 text.now ≡ (result.0.now, option_map (λ s. s.now) result.1) }
+/// What stands before the first separator, and what follows it, if it is there.
+pub fn split_at(text: &[u8], separator: u8) -> (&[u8], Option<&[u8]>)
+    ensures { cut separator text.now ≡ (result.0.now, option_map (λ s. s.now) result.1) }
 {
     for (i, b) in text.iter().enumerate() {
-        if *b == b' ' {
+        if *b == separator {
             return (&text[..i], Some(&text[i + 1..]));
         }
     }
@@ -34,7 +34,7 @@ pub fn word(rest: Option<&[u8]>) -> Option<(&[u8], Option<&[u8]>)>
     ensures { option_map (λ w. (w.0.now, option_map (λ s. s.now) w.1)) result ≡ word_at (option_map (λ s. s.now) rest.entry) }
 {
     match rest {
-        Some(text) => Some(split_word(text)),
+        Some(text) => Some(split_at(text, b' ')),
         None => None,
     }
 }
