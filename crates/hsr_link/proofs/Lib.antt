@@ -2,3 +2,4 @@ pub mod Waiting
 pub mod Lost
 pub mod Sound
 pub mod Order
+mod Spelled

@@ -2,3 +2,4 @@ pub mod Rows
 pub mod Queue
 pub mod Link
 pub mod Calls
+pub mod Words

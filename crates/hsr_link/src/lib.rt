@@ -4,6 +4,7 @@
 mod link;
 mod queue;
 mod row;
+mod words;
 
 pub use link::{Link, takes_in_order};
 pub use row::{Dir, Fate, Row};
