@@ -28,7 +28,8 @@ use Rattle.hsr_duptable.proofs.Within.{IsWithin-age, IsWithin-empty}
 use Rattle.hsr_tables.specs.Known.{known}
 use Rattle.hsr_tables.specs.Nodes.{Hearing, Nodes, heard, no_nodes}
 use Rattle.hsr_danh.specs.Machine.{AreWithin, Machine, new_machine}
-use Rattle.hsr_danh.specs.Step.{after_arrival, after_numbered, age_step, arrive_or_spent, arrive_step, counted_with, heard_of, judged, key_of, life_or_spent, life_step, now_at, send_or_refuse, send_step, verdict_of}
+use Rattle.hsr_role.specs.Arrival.{counted_with, heard_of, key_of}
+use Rattle.hsr_danh.specs.Step.{after_arrival, after_numbered, age_step, arrive_or_spent, arrive_step, copies_of, judged, life_or_spent, life_step, now_at, send_or_refuse, send_step, verdict_of}
 use Rattle.hsr_danh.specs.Wanted.{wanted}
 use Rattle.hsr_danh.specs.Past as deeds
 use Rattle.hsr_danh.specs.Past.{Answer, Call, Deed, Did, count_of, counters_of, done, gave_up, hearings_of, is_step, is_unreadable, judged_frame, log_of, number_after, moment_of, passes_from, past_step, remembers_of, sent_frame, sent_life, step, verdict_from}
@@ -171,7 +172,7 @@ two_more false true m n = omega arith
 two_more false false m n = omega arith
 
 counted-same : (own : List ℕ) (past : List Deed) (now : ℕ) (x : RingPort) (seen : Result Seen FrameFault) (verdict : Verdict) (readable : Bool) → not readable ≡ is_unreadable own (judged_frame x seen verdict)
-    → counted_with (counters_of own past) verdict readable ≡ counters_of own (record { now = now; did = judged_frame x seen verdict } ∷ past)
+    → counted_with (counters_of own past) verdict.cause verdict.up (copies_of verdict) readable ≡ counters_of own (record { now = now; did = judged_frame x seen verdict } ∷ past)
 counted-same own past now x seen verdict readable bad = by_cause verdict.cause
   where
     ups : (counters_of own past).up + bit verdict.up ≡ count_of (deeds.has (λ v. v.up)) (record { now = now; did = judged_frame x seen verdict } ∷ past)
@@ -183,7 +184,7 @@ counted-same own past now x seen verdict readable bad = by_cause verdict.cause
     bads : (counters_of own past).bad_life + bit (not readable) ≡ count_of (is_unreadable own) (record { now = now; did = judged_frame x seen verdict } ∷ past)
     bads = ap (λ p. (counters_of own past).bad_life + bit p) bad ∙ one-more (is_unreadable own (judged_frame x seen verdict)) (counters_of own past).bad_life
 
-    by_cause : (k : Cause) → counted_with (counters_of own past) (record verdict { cause = k }) readable
+    by_cause : (k : Cause) → counted_with (counters_of own past) k verdict.up (copies_of verdict) readable
         ≡ record (counters_of own (record { now = now; did = judged_frame x seen (record verdict { cause = k }) } ∷ past)) { bad_life = (counters_of own (record { now = now; did = judged_frame x seen verdict } ∷ past)).bad_life }
     by_cause (cause.Malformed fault) = λ i. record (counted_cause (counters_of own past) (cause.Malformed fault)) { up = ups i; forwarded = forwards i; bad_life = bads i }
     by_cause cause.Passed = λ i. record (counted_cause (counters_of own past) cause.Passed) { up = ups i; forwarded = forwards i; bad_life = bads i }
@@ -219,7 +220,7 @@ arrive-case capacity machine past at x octets false r =
         nodes = told.0 ∙ ap (λ (n : Nodes). fold heard n (deeds.heard_by machine.own now (judged_frame x seen verdict))) r.nodes
             ∙ sym (fold-append heard no_nodes (hearings_of machine.own past) (deeds.heard_by machine.own now (judged_frame x seen verdict)));
         next = r.next;
-        counters = ap (λ (c : Counters). counted_with c verdict (heard_of machine.own machine.nodes x seen now).0) r.counters
+        counters = ap (λ (c : Counters). counted_with c verdict.cause verdict.up (copies_of verdict) (heard_of machine.own machine.nodes x seen now).0) r.counters
             ∙ counted-same machine.own past now x seen verdict (heard_of machine.own machine.nodes x seen now).0 told.1;
         moment = refl;
         accepted = ap (λ n. n + 1) r.accepted;

@@ -1,6 +1,5 @@
 -- What the program does in a step is the step of the definition, and keeps what holds of each DANH.
-use Rattle.std.proofs.Common.{◌≡◌, ℕ, ◌+◌, ◌%◌, ◌<◌, ◌≤◌, ◌^◌, ◌==◌, Bool, true, false, not, List, [], ◌∷◌, Some, None, Result, Ok, Err, ap, ap₂, sym, arith, ◌∙◌}
-use Rattle.std.proofs.lemmas.Bool.Decides.{nat_tests}
+use Rattle.std.proofs.Common.{◌≡◌, ℕ, ◌+◌, ◌%◌, ◌<◌, ◌≤◌, ◌^◌, Bool, true, false, not, List, [], ◌∷◌, Some, None, Result, Ok, Err, ap, ap₂, sym, arith, ◌∙◌}
 use Rattle.hsr_frame.specs.Counters.{AreWithin as CountersWithin, bit}
 use Rattle.hsr_frame.proofs.Counting.{AreWithin-counted_bad}
 use Rattle.hsr_frame.specs.Egress.{a, b, exits_of}
@@ -10,15 +9,16 @@ use Rattle.hsr_frame.specs.declared.egress.Exits.{Exits}
 use Rattle.hsr_frame.specs.declared.fault.FrameFault.{FrameFault}
 use Rattle.hsr_frame.specs.declared.fault.SendFault.{SendFault}
 use Rattle.hsr_frame.specs.declared.node.RingPort.{RingPort}
-use Rattle.hsr_tag.specs.Seen.{classified, is_told, payload_in}
+use Rattle.hsr_tag.specs.Seen.{classified}
 use Rattle.hsr_tag.specs.declared.seen.Seen.{Seen}
 use Rattle.hsr_tag.specs.declared.seen.Seen.TheVariants.{Plain, Tagged}
 use Rattle.hsr_duptable.specs.Key.{Key}
 use Rattle.hsr_duptable.proofs.Within.{IsWithin-more, IsWithin-pass}
 use Rattle.hsr_tables.specs.Nodes.{Nodes}
-use Rattle.hsr_tables.proofs.NodeLaws.{listened-last}
 use Rattle.hsr_danh.specs.Machine.{AreWithin, Machine, Notes}
-use Rattle.hsr_danh.specs.Step.{after_arrival, after_passes, arrive_or_spent, arrive_step, counted_with, heard_of, judged, key_of, life_or_spent, life_step, now_at, passes_of, send_or_refuse, send_step, verdict_of}
+use Rattle.hsr_role.specs.Arrival.{counted_with, heard_of, key_of}
+use Rattle.hsr_role.proofs.Spending.{spent, unspent}
+use Rattle.hsr_danh.specs.Step.{after_arrival, after_passes, arrive_or_spent, arrive_step, copies_of, judged, life_or_spent, life_step, now_at, passes_of, send_or_refuse, send_step, verdict_of}
 use Rattle.hsr_danh.specs.Wanted.{wanted}
 use Rattle.hsr_danh.specs.declared.danh.Verdict.{Verdict}
 
@@ -35,12 +35,6 @@ pub send-accepted : (capacity : ℕ) (machine : Machine) (at : ℕ) (dst : List 
     ≡ send_step capacity machine at dst kind len
 unfolding send_step
 send-accepted capacity machine at dst kind len notes now e at_now noted = rw (noted, at_now) (ap (send_or_refuse capacity machine (now_at machine at)) e)
-
-unspent : (accepted : ℕ) → accepted < 2 ^ 62 → (accepted == 2 ^ 62) ≡ false
-unspent accepted lt = grind (arith, nat_tests)
-
-pub spent : (accepted : ℕ) → accepted ≡ 2 ^ 62 → true ≡ (accepted == 2 ^ 62)
-spent accepted e = grind (arith, nat_tests)
 
 pub life-spent : (capacity : ℕ) (machine : Machine) (at : ℕ) → machine.accepted ≡ 2 ^ 62 → (Err (record {}), machine) ≡ life_step capacity machine at
 unfolding life_step
@@ -64,7 +58,7 @@ pub arrive-accepted : (capacity : ℕ) (machine : Machine) (at : ℕ) (x : RingP
     → (passes, notes) ≡ judged capacity machine.notes (wanted machine.own machine.mode x seen).exits seen now
     → (readable, nodes) ≡ heard_of machine.own machine.nodes x seen now
     → let verdict = verdict_of (wanted machine.own machine.mode x seen) passes in
-    (Ok verdict, record machine { notes = notes; nodes = nodes; counters = counted_with machine.counters verdict readable; moment = now; accepted = machine.accepted + 1 })
+    (Ok verdict, record machine { notes = notes; nodes = nodes; counters = counted_with machine.counters verdict.cause verdict.up (copies_of verdict) readable; moment = now; accepted = machine.accepted + 1 })
     ≡ arrive_step capacity machine at x octets
 unfolding arrive_step
 arrive-accepted capacity machine at x octets seen passes notes readable nodes now some read at_now outcome hearing =
@@ -74,7 +68,7 @@ arrive-accepted capacity machine at x octets seen passes notes readable nodes no
       record machine {
         notes = o.1;
         nodes = h.1;
-        counters = counted_with machine.counters (verdict_of wants o.0) h.0;
+        counters = let verdict = verdict_of wants o.0 in counted_with machine.counters verdict.cause verdict.up (copies_of verdict) h.0;
         moment = now;
         accepted = machine.accepted + 1;
       },
@@ -103,12 +97,9 @@ AreWithin-judged capacity notes exits (Err fault) moment now accepted h w = note
 AreWithin-judged capacity notes exits (Ok (Plain frame)) moment now accepted h w = notes-left notes moment now accepted h w
 AreWithin-judged capacity notes exits (Ok (Tagged frame)) moment now accepted h w = notes-passed capacity notes (passes_of notes exits (key_of frame) now) (key_of frame) moment now accepted h w
 
-pub heard_of-last : (own : List ℕ) (nodes : Nodes) (x : RingPort) (seen : Result Seen FrameFault) (now : ℕ) → nodes.last ≤ now → (heard_of own nodes x seen now).1.last ≤ now
-heard_of-last own nodes x seen now h = listened-last (is_told own seen) (payload_in seen) nodes x now h
-
-pub CountersWithin-arrived : (counters : Counters) (verdict : Verdict) (readable : Bool) (accepted : ℕ) → CountersWithin counters accepted → CountersWithin (counted_with counters verdict readable) (accepted + 1)
+pub CountersWithin-arrived : (counters : Counters) (verdict : Verdict) (readable : Bool) (accepted : ℕ) → CountersWithin counters accepted → CountersWithin (counted_with counters verdict.cause verdict.up (copies_of verdict) readable) (accepted + 1)
 CountersWithin-arrived counters verdict readable accepted w =
-    AreWithin-counted_bad counters verdict.cause verdict.up (not readable) (bit verdict.a + bit verdict.b) accepted (two verdict.a verdict.b) w
+    AreWithin-counted_bad counters verdict.cause verdict.up (not readable) (copies_of verdict) accepted (two verdict.a verdict.b) w
   where
     two : (a b : Bool) → bit a + bit b ≤ 3
     two true true = omega arith

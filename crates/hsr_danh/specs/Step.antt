@@ -1,6 +1,6 @@
 -- One step of a DANH: the answer to a call, and what the node holds after it.
-use Rattle.std.specs.Prelude.{ℕ, ◌+◌, ◌%◌, ◌^◌, ◌==◌, ◌&&◌, not, max, Bool, true, false, List, [], ◌∷◌, Option, Some, None, Result, Ok, Err, if◌then◌else◌}
-use Rattle.hsr_frame.specs.Counters.{bit, counted}
+use Rattle.std.specs.Prelude.{ℕ, ◌+◌, ◌%◌, ◌^◌, ◌==◌, ◌&&◌, not, max, Bool, true, false, List, [], ◌∷◌, Option, Some, None, Result, Ok, Err}
+use Rattle.hsr_frame.specs.Counters.{bit}
 use Rattle.hsr_frame.specs.Egress.{cause_of, exits_of}
 use Rattle.hsr_frame.specs.Egress as egress
 use Rattle.hsr_frame.specs.Send.{send_refusal}
@@ -12,13 +12,11 @@ use Rattle.hsr_frame.specs.declared.fault.SendFault.{SendFault}
 use Rattle.hsr_frame.specs.declared.fault.Spent.{Spent}
 use Rattle.hsr_frame.specs.declared.node.Life.{Life}
 use Rattle.hsr_frame.specs.declared.node.RingPort.{RingPort}
-use Rattle.hsr_tag.specs.Tag.{TaggedFields}
-use Rattle.hsr_tag.specs.Seen.{classified, is_told, payload_in}
+use Rattle.hsr_tag.specs.Seen.{classified}
 use Rattle.hsr_tag.specs.declared.seen.Seen.{Seen}
-use Rattle.hsr_tag.specs.declared.seen.Seen.TheVariants.{Plain, Tagged}
 use Rattle.hsr_duptable.specs.Key.{Key}
 use Rattle.hsr_duptable.specs.Table.{after_age, after_pass, remembers}
-use Rattle.hsr_tables.specs.Nodes.{Nodes, listened}
+use Rattle.hsr_role.specs.Arrival.{counted_with, heard_of, judged_by, key_in}
 use Rattle.hsr_danh.specs.Wanted.{wanted}
 use Rattle.hsr_danh.specs.Machine.{Machine, Notes}
 use Rattle.hsr_danh.specs.declared.danh.Sent.{Sent}
@@ -69,9 +67,6 @@ life_step capacity machine at = life_or_spent capacity machine (now_at machine a
 
 -- ---- an arrival
 
-abbrev pub key_of : TaggedFields → Key
-key_of frame = record { src = frame.src; seq = frame.seq }
-
 -- a wanted frame passes where it isn't remembered
 abbrev pub passes_of : Notes → Exits → Key → ℕ → Exits
 passes_of notes exits key now = record exits {
@@ -82,23 +77,15 @@ passes_of notes exits key now = record exits {
 
 -- where an arrival passes, and the tables after that: only a tagged one is looked for and noted
 abbrev pub judged : ℕ → Notes → Exits → Result Seen FrameFault → ℕ → Exits × Notes
-judged capacity notes exits (Err fault) now = (exits, notes)
-judged capacity notes exits (Ok (Plain frame)) now = (exits, notes)
-judged capacity notes exits (Ok (Tagged frame)) now =
-    let passes = passes_of notes exits (key_of frame) now in (passes, after_passes capacity notes passes (key_of frame) now)
-
--- a tagged supervision frame of another node is heard, duplicates too; whether it could be read, and the nodes after it
-abbrev pub heard_of : List ℕ → Nodes → RingPort → Result Seen FrameFault → ℕ → Bool × Nodes
-heard_of own nodes x seen now = if is_told own seen then listened nodes (payload_in seen) x now else (true, nodes)
+judged capacity notes exits seen now =
+    judged_by (λ key. let passes = passes_of notes exits key now in (passes, after_passes capacity notes passes key now)) (exits, notes) (key_in seen)
 
 abbrev pub verdict_of : Wants → Exits → Verdict
 verdict_of wants passes = record { up = passes.up; a = passes.a; b = passes.b; cause = cause_of wants passes }
 
--- the counters after a verdict, and after a supervision payload that could be read or not
-abbrev pub counted_with : Counters → Verdict → Bool → Counters
-counted_with counters verdict readable =
-    let arrived = counted counters verdict.cause verdict.up (bit verdict.a + bit verdict.b) in
-    record arrived { bad_life = arrived.bad_life + bit (not readable) }
+-- how many ports passed an arrival
+abbrev pub copies_of : Verdict → ℕ
+copies_of verdict = bit verdict.a + bit verdict.b
 
 -- what came to ring port x, at the effective moment
 abbrev pub after_arrival : ℕ → Machine → ℕ → RingPort → Result Seen FrameFault → Verdict × Machine
@@ -111,7 +98,7 @@ after_arrival capacity machine now x seen =
       record machine {
         notes = outcome.1;
         nodes = hearing.1;
-        counters = counted_with machine.counters verdict hearing.0;
+        counters = counted_with machine.counters verdict.cause verdict.up (copies_of verdict) hearing.0;
         moment = now;
         accepted = machine.accepted + 1;
       },

@@ -6,11 +6,12 @@ use crate::wanted::wants_of;
 use arrayvec::ArrayVec;
 use hsr_duptable::Key;
 use hsr_frame::{
-    Cause, Counters, Exits, FrameFault, Life, Mac, Mode, NoMemory, RingPort, STEP_LIMIT, SendFault,
-    Spent, Wants, is_supervision, send_fault,
+    Cause, Counters, Exits, Life, Mac, Mode, NoMemory, RingPort, STEP_LIMIT, SendFault, Spent,
+    Wants, send_fault,
 };
+use hsr_role::{count, hear};
 use hsr_tables::{NodeRow, NodeTable};
-use hsr_tag::{Seen, classify};
+use hsr_tag::classify;
 use std::alloc::Global;
 use std::marker::Model;
 
@@ -144,7 +145,14 @@ impl<const C: usize> Danh<C> {
         let passes = self.tables.judge(wants.exits, &seen, now);
         let verdict = verdict_on(wants, passes);
         let readable = hear(&mut self.nodes, self.own, port, &seen, now);
-        count(&mut self.counters, verdict, readable);
+        let copies = copies_of(verdict);
+        count(
+            &mut self.counters,
+            verdict.cause,
+            verdict.up,
+            copies,
+            readable,
+        );
         self.moment = now;
         self.accepted += 1;
         Ok(verdict)
@@ -183,8 +191,7 @@ impl<const C: usize> Danh<C> {
     }
 }
 
-ghost use Rattle.hsr_frame.specs.Counters.{AreWithin};
-ghost use Rattle.hsr_danh.specs.Step.{counted_with, heard_of, verdict_of};
+ghost use Rattle.hsr_danh.specs.Step.{copies_of, verdict_of};
 
 /// The verdict on what these of the egresses that want it pass.
 fn verdict_on(wants: Wants, passes: Exits) -> Verdict
@@ -198,33 +205,12 @@ fn verdict_on(wants: Wants, passes: Exits) -> Verdict
     }
 }
 
-/// Hears a supervision frame of another node, and tells whether what it says could be read.
-fn hear(
-    nodes: &mut NodeTable,
-    own: Mac,
-    port: RingPort,
-    seen: &Result<Seen, FrameFault>,
-    now: u64,
-) -> bool
-    requires { nodes.old.last ≤ now }
-    ensures { (result, nodes.new) ≡ heard_of own nodes.old port seen.now now }
+/// How many ports passed an arrival.
+fn copies_of(verdict: Verdict) -> u64
+    ensures value { result ≡ copies_of verdict }
+    ensures few { result ≤ 3 }
 {
-    match seen {
-        Ok(Seen::Tagged(frame)) if is_supervision(frame.dst, frame.kind) && frame.src != own => {
-            nodes.listen(frame.payload.as_slice(), port, now)
-        }
-        _ => true,
-    }
-}
-
-/// Counts an arrival, and a supervision payload that could not be read.
-fn count(counters: &mut Counters, verdict: Verdict, readable: bool)
-    requires { AreWithin counters.old (2 ^ 62) }
-    ensures { counters.new ≡ counted_with counters.old verdict readable }
-{
-    let copies = u64::from(verdict.a) + u64::from(verdict.b);
-    counters.count(verdict.cause, verdict.up, copies);
-    counters.bad_life += u64::from(!readable);
+    u64::from(verdict.a) + u64::from(verdict.b)
 }
 
 ghost use Rattle.hsr_danh.specs.Past.{AnswersAsPast};

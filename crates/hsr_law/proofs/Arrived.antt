@@ -6,7 +6,7 @@ use Rattle.hsr_frame.specs.Egress.{Egress}
 use Rattle.hsr_tag.specs.Tag.{TaggedFields}
 use Rattle.hsr_tag.specs.declared.seen.Seen.TheVariants.{Tagged}
 use Rattle.hsr_duptable.specs.Key.{is_same_key}
-use Rattle.hsr_danh.specs.Step.{key_of}
+use Rattle.hsr_role.specs.Arrival.{key_of}
 use Rattle.hsr_node.specs.Flow.{arrivals, copy_at, wants}
 use Rattle.hsr_node.specs.Record.{Each, Noted, Owner, answer, key_in, leaves, note_of, notes, now, remembered, remembers}
 use Rattle.hsr_node.specs.declared.entry.Entry.{Entry}

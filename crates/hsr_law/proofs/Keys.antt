@@ -6,7 +6,7 @@ use Rattle.hsr_frame.specs.Grammar.{Fields}
 use Rattle.hsr_tag.specs.Tag.{TaggedFields, untag_of}
 use Rattle.hsr_tag.specs.declared.seen.Seen.TheVariants.{Plain, Tagged}
 use Rattle.hsr_duptable.specs.Key.{Key}
-use Rattle.hsr_danh.specs.Step.{key_of}
+use Rattle.hsr_role.specs.Arrival.{key_of}
 use Rattle.hsr_node.specs.Copies.{plain_in}
 use Rattle.hsr_node.specs.Flow.{arrivals, send_at}
 use Rattle.hsr_node.specs.declared.sending.Sending.{Sending}

@@ -7,7 +7,7 @@ use Rattle.hsr_frame.specs.Grammar.{Fields}
 use Rattle.hsr_tag.specs.Tag.{TaggedFields, untag_of}
 use Rattle.hsr_tag.specs.declared.seen.Seen.TheVariants.{Tagged}
 use Rattle.hsr_duptable.specs.Key.{Key, is_same_key}
-use Rattle.hsr_danh.specs.Step.{key_of}
+use Rattle.hsr_role.specs.Arrival.{key_of}
 use Rattle.hsr_redbox.specs.Step.{number_of}
 use Rattle.hsr_node.specs.Flow.{wants}
 use Rattle.hsr_node.specs.Record.{Each, Noted, Owner, answer, handling, has_key, leaves, next_number, notes, now, remembered, remembers}

@@ -8,7 +8,7 @@ use Rattle.hsr_frame.specs.declared.node.Cause.{Cause}
 use Rattle.hsr_tag.specs.Tag.{TaggedFields}
 use Rattle.hsr_tag.specs.declared.seen.Seen.TheVariants.{Plain, Tagged}
 use Rattle.hsr_duptable.specs.Key.{Key}
-use Rattle.hsr_danh.specs.Step.{key_of}
+use Rattle.hsr_role.specs.Arrival.{key_of}
 use Rattle.hsr_redbox.specs.Step.{number_of}
 use Rattle.hsr_redbox.specs.declared.wanted.Handling.{Handling}
 use Rattle.hsr_node.specs.Record.{Owner, Noted, answer, handling, has_left, is_noted, noted_on, judged_as, key_handled, key_in, leaves, next_number, note_if, note_of, now, passing, ports, probe_handled, remembers, station_wanted, box_handling}

@@ -12,7 +12,7 @@ use Rattle.hsr_frame.specs.declared.node.Cause.TheVariants as cause
 use Rattle.hsr_frame.specs.declared.node.RingPort.{RingPort}
 use Rattle.hsr_tag.specs.Tag.{untag_of}
 use Rattle.hsr_tag.specs.declared.seen.Seen.TheVariants.{Plain, Tagged}
-use Rattle.hsr_danh.specs.Step.{key_of}
+use Rattle.hsr_role.specs.Arrival.{key_of}
 use Rattle.hsr_danh.specs.Wanted as of_danh
 use Rattle.hsr_redbox.specs.Step.{number_of}
 use Rattle.hsr_redbox.specs.Wanted.{numbered, unnumbered}

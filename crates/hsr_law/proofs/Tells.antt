@@ -9,7 +9,7 @@ use Rattle.hsr_frame.specs.declared.node.Mode.TheVariants.{H}
 use Rattle.hsr_tag.specs.Tag.{TaggedFields}
 use Rattle.hsr_tag.specs.declared.seen.Seen.TheVariants.{Plain, Tagged}
 use Rattle.hsr_duptable.specs.Key.{Key, is_same_key}
-use Rattle.hsr_danh.specs.Step.{key_of}
+use Rattle.hsr_role.specs.Arrival.{key_of}
 use Rattle.hsr_node.specs.Flow.{send_at}
 use Rattle.hsr_node.specs.Record.{Each, Noted, Owner, answer, key_in, next_number, notes, now, own_key, remembered}
 use Rattle.hsr_node.specs.declared.entry.Entry.{Entry}

@@ -9,7 +9,7 @@ use Rattle.hsr_tag.specs.Tag.{TaggedFields}
 use Rattle.hsr_tag.specs.declared.seen.Seen.{Seen}
 use Rattle.hsr_tag.specs.declared.seen.Seen.TheVariants.{Plain, Tagged}
 use Rattle.hsr_duptable.specs.Key.{Key}
-use Rattle.hsr_danh.specs.Step.{key_of}
+use Rattle.hsr_role.specs.Arrival.{key_of}
 use Rattle.hsr_redbox.specs.declared.wanted.Handling.{Handling}
 use Rattle.hsr_node.specs.Flow.{wants, wanted_at}
 use Rattle.hsr_node.specs.Record.{Owner, answer, arrive_answer, handling, judged_as, knows, leaves, next_number, passing, remembers, steps}

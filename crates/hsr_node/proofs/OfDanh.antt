@@ -33,7 +33,8 @@ use Rattle.hsr_tables.specs.Nodes.{Hearing}
 use Rattle.hsr_danh.specs.Machine.{Machine, new_machine}
 use Rattle.hsr_danh.specs.Past as deeds
 use Rattle.hsr_danh.specs.Past.{Answer, Deed, done, gave_up, judged_frame, sent_frame, sent_life}
-use Rattle.hsr_danh.specs.Step.{arrive_step, key_of, life_step, send_step}
+use Rattle.hsr_role.specs.Arrival.{key_of}
+use Rattle.hsr_danh.specs.Step.{arrive_step, life_step, send_step}
 use Rattle.hsr_danh.specs.Wanted.{wanted}
 use Rattle.hsr_danh.specs.declared.danh.Sent.{Sent as DanhSent}
 use Rattle.hsr_danh.specs.declared.danh.Verdict.{Verdict}

@@ -23,7 +23,8 @@ use Rattle.hsr_redbox.specs.Wanted.{unnumbered}
 use Rattle.hsr_quadbox.specs.Machine.{Machine, new_machine}
 use Rattle.hsr_quadbox.specs.Past as deeds
 use Rattle.hsr_quadbox.specs.Past.{Answer, Deed, IsTold, Judged, aged, judged, judgement, verdict_on}
-use Rattle.hsr_quadbox.specs.Step.{arrive_step, copies_of, key_of}
+use Rattle.hsr_role.specs.Arrival.{key_of}
+use Rattle.hsr_quadbox.specs.Step.{arrive_step, copies_of}
 use Rattle.hsr_quadbox.specs.Wanted.{wanted}
 use Rattle.hsr_quadbox.specs.declared.quadbox.QuadVerdict.{QuadVerdict}
 use Rattle.hsr_quadbox.specs.declared.wanted.QuadPort.{QuadPort}

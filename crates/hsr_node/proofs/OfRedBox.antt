@@ -35,7 +35,8 @@ use Rattle.hsr_tables.specs.Nodes.{Hearing}
 use Rattle.hsr_redbox.specs.Machine.{Machine, new_machine}
 use Rattle.hsr_redbox.specs.Past as deeds
 use Rattle.hsr_redbox.specs.Past.{Answer, Deed, Did, done, gave_up, judged_interlink, judged_ring, linked, sent_frame, sent_life, source_in}
-use Rattle.hsr_redbox.specs.Step.{arrive_step, key_of, life_refusal, life_step, number_of, send_step, sent_of, verdict_of}
+use Rattle.hsr_role.specs.Arrival.{key_of}
+use Rattle.hsr_redbox.specs.Step.{arrive_step, life_refusal, life_step, number_of, send_step, sent_of, verdict_of}
 use Rattle.hsr_redbox.specs.Wanted.{handling_interlink, handling_plain, handling_send, interlink, numbered, unnumbered, wanted}
 use Rattle.hsr_frame.specs.declared.node.About.{About}
 use Rattle.hsr_redbox.specs.declared.call.BoxPort.{BoxPort}

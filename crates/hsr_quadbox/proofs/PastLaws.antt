@@ -22,7 +22,8 @@ use Rattle.hsr_duptable.proofs.LogLaws.{StandsFor-age, StandsFor-new, remembers-
 use Rattle.hsr_duptable.proofs.Within.{IsWithin-age, IsWithin-empty}
 use Rattle.hsr_quadbox.specs.Wanted.{wanted}
 use Rattle.hsr_quadbox.specs.Machine.{Machine, Notes, NotesAreWithin, new_machine}
-use Rattle.hsr_quadbox.specs.Step.{after_arrival, age_step, arrive_or_spent, arrive_step, copies_of, judged as judged_notes, key_of, now_at, verdict_of}
+use Rattle.hsr_role.specs.Arrival.{key_of}
+use Rattle.hsr_quadbox.specs.Step.{after_arrival, age_step, arrive_or_spent, arrive_step, copies_of, judged as judged_notes, now_at, verdict_of}
 use Rattle.hsr_quadbox.specs.Past.{AnswersAsPast, Answer, IsTold, StandForLogs, Call, arriving, ageing, Deed, judged, aged, Judged, answers_of, arrivals, counts, greatest, judgement, judge_or_spent, log, machine_call, passes_in, past_call, verdict_on}
 use Rattle.hsr_quadbox.specs.declared.quadbox.QuadVerdict.{QuadVerdict}
 use Rattle.hsr_quadbox.specs.declared.wanted.QuadPort.{QuadPort}

@@ -14,7 +14,8 @@ use Rattle.hsr_duptable.specs.Table.{remembers}
 use Rattle.hsr_duptable.proofs.Within.{IsWithin-more, IsWithin-pass}
 use Rattle.hsr_quadbox.specs.Wanted.{wanted}
 use Rattle.hsr_quadbox.specs.Machine.{Machine, Notes, NotesAreWithin}
-use Rattle.hsr_quadbox.specs.Step.{after_passes, arrive_step, copies_of, judged, key_of, now_at, passes_of, verdict_of}
+use Rattle.hsr_role.specs.Arrival.{key_of}
+use Rattle.hsr_quadbox.specs.Step.{after_passes, arrive_step, copies_of, judged, now_at, passes_of, verdict_of}
 use Rattle.hsr_quadbox.specs.declared.quadbox.QuadVerdict.{QuadVerdict}
 use Rattle.hsr_quadbox.specs.declared.wanted.QuadPort.{QuadPort}
 use Rattle.hsr_quadbox.specs.declared.wanted.QuadPort.TheVariants.{A, B, C, D}

@@ -17,7 +17,8 @@ use Rattle.hsr_duptable.specs.Notes.{has_key, entry_forget, note_if}
 use Rattle.hsr_duptable.specs.declared.note.Note.{Note}
 use Rattle.hsr_quadbox.specs.Wanted.{wanted}
 use Rattle.hsr_quadbox.specs.Machine.{Machine, Notes, NotesAreWithin, new_machine}
-use Rattle.hsr_quadbox.specs.Step.{age_step, arrive_step, copies_of, key_of, verdict_of}
+use Rattle.hsr_role.specs.Arrival.{key_of}
+use Rattle.hsr_quadbox.specs.Step.{age_step, arrive_step, copies_of, verdict_of}
 use Rattle.hsr_quadbox.specs.declared.quadbox.QuadVerdict.{QuadVerdict}
 use Rattle.hsr_quadbox.specs.declared.wanted.QuadPort.{QuadPort}
 use Rattle.hsr_quadbox.specs.declared.wanted.QuadPort.TheVariants.{A, B, C, D}

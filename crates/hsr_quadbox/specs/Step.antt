@@ -6,12 +6,11 @@ use Rattle.hsr_frame.specs.declared.egress.Exits.{Exits}
 use Rattle.hsr_frame.specs.declared.egress.Wants.{Wants}
 use Rattle.hsr_frame.specs.declared.fault.FrameFault.{FrameFault}
 use Rattle.hsr_frame.specs.declared.fault.Spent.{Spent}
-use Rattle.hsr_tag.specs.Tag.{TaggedFields}
 use Rattle.hsr_tag.specs.Seen.{classified}
 use Rattle.hsr_tag.specs.declared.seen.Seen.{Seen}
-use Rattle.hsr_tag.specs.declared.seen.Seen.TheVariants.{Plain, Tagged}
 use Rattle.hsr_duptable.specs.Key.{Key}
 use Rattle.hsr_duptable.specs.Table.{after_age, after_pass, remembers}
+use Rattle.hsr_role.specs.Arrival.{judged_by, key_in}
 use Rattle.hsr_quadbox.specs.Wanted.{wanted}
 use Rattle.hsr_quadbox.specs.Machine.{Machine, Notes}
 use Rattle.hsr_quadbox.specs.declared.quadbox.QuadVerdict.{QuadVerdict}
@@ -22,9 +21,6 @@ abbrev pub now_at : Machine → ℕ → ℕ
 now_at machine at = max machine.moment at
 
 -- ---- an arrival
-
-abbrev pub key_of : TaggedFields → Key
-key_of frame = record { src = frame.src; seq = frame.seq }
 
 -- a wanted frame passes where it isn't remembered
 abbrev pub passes_of : Notes → Exits → Key → ℕ → Exits
@@ -46,10 +42,8 @@ after_passes capacity notes passes key now = record {
 
 -- where an arrival passes, and the tables after that: only a tagged one is looked for and noted
 abbrev pub judged : ℕ → Notes → Exits → Result Seen FrameFault → ℕ → Exits × Notes
-judged capacity notes exits (Err fault) now = (exits, notes)
-judged capacity notes exits (Ok (Plain frame)) now = (exits, notes)
-judged capacity notes exits (Ok (Tagged frame)) now =
-    let passes = passes_of notes exits (key_of frame) now in (passes, after_passes capacity notes passes (key_of frame) now)
+judged capacity notes exits seen now =
+    judged_by (λ key. let passes = passes_of notes exits key now in (passes, after_passes capacity notes passes key now)) (exits, notes) (key_in seen)
 
 abbrev pub verdict_of : Wants → Exits → QuadVerdict
 verdict_of wants passes = record { out = passes.a ∷ passes.b ∷ passes.c ∷ passes.d ∷ []; cause = cause_of wants passes }

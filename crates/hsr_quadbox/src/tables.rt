@@ -3,6 +3,7 @@ ghost use Rattle.std.specs.Prelude.{◌≡◌, ◌≤◌, IfOk};
 
 use hsr_duptable::{DupTable, ENTRY_FORGET, Key};
 use hsr_frame::{Exits, FrameFault, NoMemory};
+use hsr_role::key_in;
 use hsr_tag::Seen;
 use std::alloc::Global;
 use std::marker::Model;
@@ -46,15 +47,9 @@ impl<const C: usize> PortTables<C> {
         requires room { AreRoomy self.old }
         ensures { (result, self.new) ≡ judged C self.old exits seen.now now }
     {
-        match seen {
-            Ok(Seen::Tagged(frame)) => {
-                let key = Key {
-                    src: frame.src,
-                    seq: frame.seq,
-                };
-                self.pass(exits, key, now)
-            }
-            _ => exits,
+        match key_in(seen) {
+            Some(key) => self.pass(exits, key, now),
+            None => exits,
         }
     }
 

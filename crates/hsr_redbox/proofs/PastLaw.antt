@@ -35,10 +35,11 @@ use Rattle.hsr_tables.specs.Proxies.{Proxies, is_known, learned, no_proxies}
 use Rattle.hsr_tables.proofs.NodeLaws.{rows_of_latest, listened-if}
 use Rattle.hsr_tables.proofs.ProxyLaws.{knows_latest}
 use Rattle.hsr_redbox.specs.Machine.{AreWithin, Machine, Notes, new_machine}
-use Rattle.hsr_redbox.specs.Step.{after_arrival, after_frame, after_interlink, after_marks, after_ring, age_step, aged, arrive_or_spent, arrive_step, counted_with, heard_from, heard_of, judged, key_of, life_or_refuse, life_refusal, life_step, now_at, send_or_refuse, send_step, sent_of, verdict_of}
+use Rattle.hsr_role.specs.Arrival.{counted_with, heard_of, key_of}
+use Rattle.hsr_redbox.specs.Step.{after_arrival, after_frame, after_interlink, after_marks, after_ring, age_step, aged, arrive_or_spent, arrive_step, copies_of, heard_from, judged, life_or_refuse, life_refusal, life_step, now_at, send_or_refuse, send_step, sent_of, verdict_of}
 use Rattle.hsr_redbox.specs.Wanted.{handling_interlink, handling_send, interlink, wanted}
 use Rattle.hsr_redbox.specs.Past as deeds
-use Rattle.hsr_redbox.specs.Past.{Answer, Call, Deed, Did, count_of, counters_of, done, gave_up, hearings_of, is_step, is_unreadable, judged_interlink, judged_ring, knows_among, known_among, linked, log_of, mark_if, moment_of, noted_by, now_after, number_after, passes_from, past_step, ports_of, remembers_of, sent_frame, sent_life, source_in, sources_of, step}
+use Rattle.hsr_redbox.specs.Past.{Answer, Call, Deed, Did, count_of, counters_of, done, gave_up, hearings_of, is_step, is_unreadable, judged_interlink, judged_ring, knows_among, known_among, linked, log_of, mark_if, moment_of, noted_by, now_after, number_after, passes_from, past_step, remembers_of, sent_frame, sent_life, source_in, sources_of, step}
 use Rattle.hsr_redbox.specs.declared.wanted.Handling.{Handling}
 use Rattle.hsr_redbox.specs.declared.call.BoxPort.{BoxPort}
 use Rattle.hsr_redbox.specs.declared.call.BoxPort.TheVariants.{A, B, I}
@@ -125,7 +126,7 @@ counts_plus k verdict bad = record {
   sent = k.sent;
   life = k.life;
   up = if verdict.up then k.up + 1 else k.up;
-  forwarded = k.forwarded + ports_of verdict;
+  forwarded = k.forwarded + copies_of verdict;
   duplicate = if is_duplicate verdict.cause then k.duplicate + 1 else k.duplicate;
   returned = if is_returned verdict.cause then k.returned + 1 else k.returned;
   foreign = if is_foreign verdict.cause then k.foreign + 1 else k.foreign;
@@ -136,7 +137,7 @@ counts_plus k verdict bad = record {
   bad_life = if bad then k.bad_life + 1 else k.bad_life;
 }
 
-counted-plus : (k : Counters) (verdict : BoxVerdict) (readable bad : Bool) → not readable ≡ bad → counted_with k verdict readable ≡ counts_plus k verdict bad
+counted-plus : (k : Counters) (verdict : BoxVerdict) (readable bad : Bool) → not readable ≡ bad → counted_with k verdict.cause verdict.up (copies_of verdict) readable ≡ counts_plus k verdict bad
 counted-plus k verdict readable bad e = by_cause verdict.cause
   where
     ups : k.up + bit verdict.up ≡ (if verdict.up then k.up + 1 else k.up)
@@ -145,15 +146,15 @@ counted-plus k verdict readable bad e = by_cause verdict.cause
     bads : k.bad_life + bit (not readable) ≡ (if bad then k.bad_life + 1 else k.bad_life)
     bads = ap (λ p. k.bad_life + bit p) e ∙ one-more bad k.bad_life
 
-    by_cause : (why : Cause) → counted_with k (record verdict { cause = why }) readable ≡ counts_plus k (record verdict { cause = why }) bad
-    by_cause (cause.Malformed fault) = λ i. record (counted_cause k (cause.Malformed fault)) { up = ups i; forwarded = k.forwarded + ports_of verdict; bad_life = bads i }
-    by_cause cause.Passed = λ i. record (counted_cause k cause.Passed) { up = ups i; forwarded = k.forwarded + ports_of verdict; bad_life = bads i }
-    by_cause cause.Duplicate = λ i. record (counted_cause k cause.Duplicate) { up = ups i; forwarded = k.forwarded + ports_of verdict; bad_life = bads i }
-    by_cause cause.Returned = λ i. record (counted_cause k cause.Returned) { up = ups i; forwarded = k.forwarded + ports_of verdict; bad_life = bads i }
-    by_cause cause.Foreign = λ i. record (counted_cause k cause.Foreign) { up = ups i; forwarded = k.forwarded + ports_of verdict; bad_life = bads i }
-    by_cause cause.Local = λ i. record (counted_cause k cause.Local) { up = ups i; forwarded = k.forwarded + ports_of verdict; bad_life = bads i }
-    by_cause cause.Untagged = λ i. record (counted_cause k cause.Untagged) { up = ups i; forwarded = k.forwarded + ports_of verdict; bad_life = bads i }
-    by_cause cause.Tagged = λ i. record (counted_cause k cause.Tagged) { up = ups i; forwarded = k.forwarded + ports_of verdict; bad_life = bads i }
+    by_cause : (why : Cause) → counted_with k why verdict.up (copies_of verdict) readable ≡ counts_plus k (record verdict { cause = why }) bad
+    by_cause (cause.Malformed fault) = λ i. record (counted_cause k (cause.Malformed fault)) { up = ups i; forwarded = k.forwarded + copies_of verdict; bad_life = bads i }
+    by_cause cause.Passed = λ i. record (counted_cause k cause.Passed) { up = ups i; forwarded = k.forwarded + copies_of verdict; bad_life = bads i }
+    by_cause cause.Duplicate = λ i. record (counted_cause k cause.Duplicate) { up = ups i; forwarded = k.forwarded + copies_of verdict; bad_life = bads i }
+    by_cause cause.Returned = λ i. record (counted_cause k cause.Returned) { up = ups i; forwarded = k.forwarded + copies_of verdict; bad_life = bads i }
+    by_cause cause.Foreign = λ i. record (counted_cause k cause.Foreign) { up = ups i; forwarded = k.forwarded + copies_of verdict; bad_life = bads i }
+    by_cause cause.Local = λ i. record (counted_cause k cause.Local) { up = ups i; forwarded = k.forwarded + copies_of verdict; bad_life = bads i }
+    by_cause cause.Untagged = λ i. record (counted_cause k cause.Untagged) { up = ups i; forwarded = k.forwarded + copies_of verdict; bad_life = bads i }
+    by_cause cause.Tagged = λ i. record (counted_cause k cause.Tagged) { up = ups i; forwarded = k.forwarded + copies_of verdict; bad_life = bads i }
 
 -- ---- what is known on the interlink
 
@@ -243,9 +244,9 @@ interlink-case capacity machine past now seen later r =
     let after = after_interlink capacity machine now seen in
     let by : (List ℕ → Bool) → ℕ → BoxVerdict × List Deed = λ knows n. (linked (handling_interlink machine.own knows seen) n, done past now (judged_interlink seen (handling_interlink machine.own knows seen) n)) in
     let h = handling_interlink machine.own (is_known now proxies.heard) seen in
-    let counters : Counters = counted_with machine.counters (linked h machine.next) true in
+    let counters : Counters = let v = linked h machine.next in counted_with machine.counters v.cause v.up (copies_of v) true in
     let counted : counters ≡ counters_of machine.own (done past now (judged_interlink seen h machine.next)) =
-    ap (λ (k : Counters). counted_with k (linked h machine.next) true) r.counters ∙ counted-plus (counters_of machine.own past) (linked h machine.next) true false refl in
+    ap (λ (k : Counters). let v = linked h machine.next in counted_with k v.cause v.up (copies_of v) true) r.counters ∙ counted-plus (counters_of machine.own past) (linked h machine.next) true false refl in
     subst (λ knows. Kept capacity machine after (by knows (number_after past))) (knows-latest proxies sources now learnt)
     (subst (λ n. Kept capacity machine after (by (is_known now proxies.heard) n)) r.next (
       refl,
@@ -299,7 +300,7 @@ ring-case capacity machine past now x seen later r =
         nodes = told.0 ∙ ap (λ (n : Nodes). fold heard n more) r.nodes ∙ sym (fold-append heard no_nodes (hearings_of machine.own past) more);
         proxies = learned-same machine.proxies (sources_of machine.own past) r.proxies;
         next = r.next;
-        counters = ap (λ (k : Counters). counted_with k verdict hearing.0) r.counters
+        counters = ap (λ (k : Counters). counted_with k verdict.cause verdict.up (copies_of verdict) hearing.0) r.counters
             ∙ counted-plus (counters_of machine.own past) verdict hearing.0 (is_unreadable machine.own (judged_ring x seen verdict)) told.1;
         moment = refl;
         accepted = ap (λ n. n + 1) r.accepted;

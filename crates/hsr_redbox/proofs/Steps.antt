@@ -1,6 +1,5 @@
 -- What the program does in a step is the step of the definition, and keeps what holds of each RedBox.
-use Rattle.std.proofs.Common.{◌≡◌, ℕ, ◌+◌, ◌%◌, ◌<◌, ◌≤◌, ◌^◌, ◌==◌, Bool, true, false, not, List, [], ◌∷◌, Option, Some, None, Result, Ok, Err, ap, sym, refl, arith, ◌∙◌}
-use Rattle.std.proofs.lemmas.Bool.Decides.{nat_tests}
+use Rattle.std.proofs.Common.{◌≡◌, ℕ, ◌+◌, ◌%◌, ◌<◌, ◌≤◌, ◌^◌, Bool, true, false, not, List, [], ◌∷◌, Option, Some, None, Result, Ok, Err, ap, sym, refl, arith, ◌∙◌}
 use Rattle.hsr_frame.specs.Counters.{AreWithin as CountersWithin, bit}
 use Rattle.hsr_frame.proofs.Counting.{AreWithin-counted_bad}
 use Rattle.hsr_frame.specs.Send.{send_refusal}
@@ -14,14 +13,15 @@ use Rattle.hsr_tag.specs.declared.seen.Seen.TheVariants.{Plain, Tagged}
 use Rattle.hsr_duptable.specs.Key.{Key}
 use Rattle.hsr_duptable.proofs.Within.{IsWithin-more, IsWithin-pass}
 use Rattle.hsr_tables.specs.Nodes.{Nodes}
-use Rattle.hsr_tables.proofs.NodeLaws.{listened-last}
 use Rattle.hsr_redbox.specs.Machine.{AreWithin, Machine, Notes}
 use Rattle.hsr_frame.specs.Egress.{a, b, exits_of, with_exit}
 use Rattle.hsr_frame.specs.declared.egress.Wants.{Wants}
-use Rattle.hsr_tag.specs.Seen.{classified, is_told, payload_in}
+use Rattle.hsr_tag.specs.Seen.{classified}
 use Rattle.hsr_tables.specs.Proxies.{Proxies, is_known}
 use Rattle.hsr_redbox.specs.Wanted.{handling_interlink, handling_send, interlink, wanted}
-use Rattle.hsr_redbox.specs.Step.{after_arrival, after_frame, after_handling, after_interlink, after_marks, after_passes, after_ring, arrive_or_spent, arrive_step, counted_with, heard_from, heard_of, judged, key_of, life_or_refuse, life_refusal, life_step, now_at, number_of, passes_of, send_or_refuse, send_step, sent_of, verdict_of}
+use Rattle.hsr_role.specs.Arrival.{counted_with, heard_of, key_of}
+use Rattle.hsr_role.proofs.Spending.{spent, unspent}
+use Rattle.hsr_redbox.specs.Step.{after_arrival, after_frame, after_handling, after_interlink, after_marks, after_passes, after_ring, arrive_or_spent, arrive_step, copies_of, heard_from, judged, life_or_refuse, life_refusal, life_step, now_at, number_of, passes_of, send_or_refuse, send_step, sent_of, verdict_of}
 use Rattle.hsr_frame.specs.declared.node.About.{About}
 use Rattle.hsr_redbox.specs.declared.call.BoxPort.{BoxPort}
 use Rattle.hsr_redbox.specs.declared.call.BoxVerdict.{BoxVerdict}
@@ -64,9 +64,9 @@ bit-le : (b : Bool) → bit b ≤ 1
 bit-le true = omega arith
 bit-le false = omega arith
 
-pub counters-counted : (counters : Counters) (verdict : BoxVerdict) (readable : Bool) (accepted : ℕ) → CountersWithin counters accepted → CountersWithin (counted_with counters verdict readable) (accepted + 1)
+pub counters-counted : (counters : Counters) (verdict : BoxVerdict) (readable : Bool) (accepted : ℕ) → CountersWithin counters accepted → CountersWithin (counted_with counters verdict.cause verdict.up (copies_of verdict) readable) (accepted + 1)
 counters-counted counters verdict readable accepted w =
-    AreWithin-counted_bad counters verdict.cause verdict.up (not readable) (bit verdict.a + bit verdict.b + bit verdict.interlink) accepted (three verdict.a verdict.b verdict.interlink) w
+    AreWithin-counted_bad counters verdict.cause verdict.up (not readable) (copies_of verdict) accepted (three verdict.a verdict.b verdict.interlink) w
   where
     three : (x y z : Bool) → bit x + bit y + bit z ≤ 3
     three x y z = let p = bit-le x in let q = bit-le y in let r = bit-le z in omega (arith, p, q, r)
@@ -103,12 +103,6 @@ life-accepted capacity machine at about now new at_now e left = rw (left, at_now
 
 -- ---- arrivals
 
-unspent : (accepted : ℕ) → accepted < 2 ^ 62 → (accepted == 2 ^ 62) ≡ false
-unspent accepted lt = grind (arith, nat_tests)
-
-spent : (accepted : ℕ) → accepted ≡ 2 ^ 62 → true ≡ (accepted == 2 ^ 62)
-spent accepted e = grind (arith, nat_tests)
-
 pub arrive-spent : (capacity : ℕ) (machine : Machine) (at : ℕ) (port : BoxPort) (octets : List ℕ) → machine.accepted ≡ 2 ^ 62 → (Err (record {}), machine) ≡ arrive_step capacity machine at port octets
 unfolding arrive_step
 arrive-spent capacity machine at port octets e = ap (arrive_or_spent capacity machine (now_at machine at) port octets) (spent machine.accepted e)
@@ -120,16 +114,12 @@ unfolding arrive_step
 arrive-accepted capacity machine at port octets seen now verdict new some read at_now step =
     ap (λ (p : BoxVerdict × Machine). (Ok p.0, p.1)) (step ∙ rw (at_now, read) refl) ∙ ap (arrive_or_spent capacity machine (now_at machine at) port octets) (sym (unspent machine.accepted some))
 
--- a hearing sets the moment of the nodes that are heard
-pub heard_of-last : (own : List ℕ) (nodes : Nodes) (x : RingPort) (seen : Result Seen FrameFault) (now : ℕ) → nodes.last ≤ now → (heard_of own nodes x seen now).1.last ≤ now
-heard_of-last own nodes x seen now h = listened-last (is_told own seen) (payload_in seen) nodes x now h
-
 pub ring-step : (capacity : ℕ) (machine : Machine) (now : ℕ) (x : RingPort) (seen : Result Seen FrameFault) (wants : Wants) (passes : Exits) (notes : Notes) (readable : Bool) (nodes : Nodes) (verdict : BoxVerdict) (counters : Counters)
     → wants ≡ wanted machine.own machine.mode (is_known now machine.proxies.heard) x seen
     → (passes, notes) ≡ judged capacity machine.notes wants.exits seen now
     → (readable, nodes) ≡ heard_of machine.own machine.nodes x seen now
     → verdict ≡ verdict_of wants passes None
-    → counters ≡ counted_with machine.counters verdict readable
+    → counters ≡ counted_with machine.counters verdict.cause verdict.up (copies_of verdict) readable
     → (verdict, record machine { notes = notes; nodes = nodes; counters = counters; moment = now; accepted = machine.accepted + 1 }) ≡ after_ring capacity machine now x seen
 ring-step capacity machine now x seen wants passes notes readable nodes verdict counters wanted_is outcome hearing verdict_is count =
     let whole : Wants → Exits × Notes → Bool × Nodes → BoxVerdict × Machine = λ w o h. (
@@ -137,7 +127,7 @@ ring-step capacity machine now x seen wants passes notes readable nodes verdict 
       record machine {
         notes = o.1;
         nodes = h.1;
-        counters = counted_with machine.counters (verdict_of w o.0 None) h.0;
+        counters = let v = verdict_of w o.0 None in counted_with machine.counters v.cause v.up (copies_of v) h.0;
         moment = now;
         accepted = machine.accepted + 1;
       },
@@ -145,7 +135,7 @@ ring-step capacity machine now x seen wants passes notes readable nodes verdict 
     let wanted_here = wanted machine.own machine.mode (is_known now machine.proxies.heard) x seen in
     let tail : BoxVerdict → Counters → BoxVerdict × Machine = λ v k. (v, record machine { notes = notes; nodes = nodes; counters = k; moment = now; accepted = machine.accepted + 1 }) in
     ap (λ k. tail verdict k) count
-    ∙ ap (λ v. tail v (counted_with machine.counters v readable)) verdict_is
+    ∙ ap (λ v. tail v (counted_with machine.counters v.cause v.up (copies_of v) readable)) verdict_is
     ∙ ap (λ o. whole wants o (readable, nodes)) outcome
     ∙ ap (λ w. whole w (judged capacity machine.notes w.exits seen now) (readable, nodes)) wanted_is
     ∙ ap (λ h. whole wanted_here (judged capacity machine.notes wanted_here.exits seen now) h) hearing
@@ -154,9 +144,9 @@ pub interlink-step : (capacity : ℕ) (machine : Machine) (now : ℕ) (seen : Re
     → proxies ≡ heard_from machine.own machine.proxies seen now
     → h ≡ handling_interlink machine.own (is_known now proxies.heard) seen
     → verdict ≡ verdict_of h.wants h.wants.exits (number_of h.source machine.next)
-    → new ≡ after_frame capacity (record machine { proxies = proxies; moment = now }) now (with_exit interlink h.wants.exits) h.source (counted_with machine.counters verdict true)
+    → new ≡ after_frame capacity (record machine { proxies = proxies; moment = now }) now (with_exit interlink h.wants.exits) h.source (counted_with machine.counters verdict.cause verdict.up (copies_of verdict) true)
     → (verdict, new) ≡ after_interlink capacity machine now seen
 interlink-step capacity machine now seen proxies h verdict new heard handled judged left =
     let after : Proxies → Handling → BoxVerdict × Machine = λ p k. after_handling capacity (record machine { proxies = p }) now k in
-    let tail : BoxVerdict → BoxVerdict × Machine = λ v. (v, after_frame capacity (record machine { proxies = proxies; moment = now }) now (with_exit interlink h.wants.exits) h.source (counted_with machine.counters v true)) in
+    let tail : BoxVerdict → BoxVerdict × Machine = λ v. (v, after_frame capacity (record machine { proxies = proxies; moment = now }) now (with_exit interlink h.wants.exits) h.source (counted_with machine.counters v.cause v.up (copies_of v) true)) in
     ap (λ m. (verdict, m)) left ∙ ap tail judged ∙ ap (λ k. after proxies k) handled ∙ ap (λ p. after p (handling_interlink machine.own (is_known now p.heard) seen)) heard

@@ -3,7 +3,6 @@ use Rattle.std.specs.Prelude.{◌≡◌, ℕ, ◌+◌, ◌%◌, ◌^◌, ◌==�
 use Rattle.std.specs.List.{list_any}
 use Rattle.hsr_frame.specs.Address.{is_same_address}
 use Rattle.hsr_frame.specs.Cause.{is_duplicate, is_returned, is_foreign, is_local, is_untagged, is_tagged, is_malformed}
-use Rattle.hsr_frame.specs.Counters.{bit}
 use Rattle.hsr_frame.specs.Egress.{Egress, up, a, b, c, d, exits_of, with_exit, has_exit}
 use Rattle.hsr_frame.specs.Send.{send_refusal}
 use Rattle.hsr_frame.specs.declared.counters.Counters.{Counters}
@@ -27,7 +26,8 @@ use Rattle.hsr_tables.specs.Known.{known, latest_64}
 use Rattle.hsr_tables.specs.Nodes.{Hearing, hearing_if, rows_known}
 use Rattle.hsr_tables.specs.declared.nodes.NodeRow.{NodeRow}
 use Rattle.hsr_redbox.specs.Machine.{Machine, new_machine}
-use Rattle.hsr_redbox.specs.Step.{age_step, arrive_step, key_of, life_refusal, life_step, number_of, send_step, sent_of, verdict_of}
+use Rattle.hsr_role.specs.Arrival.{key_of}
+use Rattle.hsr_redbox.specs.Step.{age_step, arrive_step, copies_of, life_refusal, life_step, number_of, send_step, sent_of, verdict_of}
 use Rattle.hsr_redbox.specs.Wanted.{handling_interlink, handling_send, interlink, wanted}
 use Rattle.hsr_redbox.specs.declared.wanted.Handling.{Handling}
 use Rattle.hsr_frame.specs.declared.node.About.{About}
@@ -198,12 +198,9 @@ has p (judged_ring x seen verdict) = p verdict
 has p (judged_interlink seen handling seq) = p (linked handling seq)
 has p _ = false
 
-abbrev pub ports_of : BoxVerdict → ℕ
-ports_of verdict = bit verdict.a + bit verdict.b + bit verdict.interlink
-
 abbrev pub copies : Did → ℕ
-copies (judged_ring x seen verdict) = ports_of verdict
-copies (judged_interlink seen handling seq) = ports_of (linked handling seq)
+copies (judged_ring x seen verdict) = copies_of verdict
+copies (judged_interlink seen handling seq) = copies_of (linked handling seq)
 copies _ = 0
 
 abbrev pub counters_of : List ℕ → List Deed → Counters

@@ -2,7 +2,7 @@
 use Rattle.std.specs.Prelude.{ℕ, ◌+◌, ◌%◌, ◌^◌, ◌==◌, ◌&&◌, not, max, Bool, true, false, List, [], ◌∷◌, Option, Some, None, option_map, is_some, Result, Ok, Err, if◌then◌else◌}
 use Rattle.hsr_frame.specs.Address.{is_same_address}
 use Rattle.hsr_frame.specs.Cases.{first_of}
-use Rattle.hsr_frame.specs.Counters.{bit, counted}
+use Rattle.hsr_frame.specs.Counters.{bit}
 use Rattle.hsr_frame.specs.Egress.{a, b, cause_of, exits_of, with_exit}
 use Rattle.hsr_frame.specs.Send.{send_refusal}
 use Rattle.hsr_frame.specs.declared.counters.Counters.{Counters}
@@ -14,14 +14,13 @@ use Rattle.hsr_frame.specs.declared.fault.Spent.{Spent}
 use Rattle.hsr_frame.specs.declared.node.Life.{Life}
 use Rattle.hsr_frame.specs.declared.node.RingPort.{RingPort}
 use Rattle.hsr_frame.specs.declared.node.RingPort.TheVariants as ring
-use Rattle.hsr_tag.specs.Tag.{TaggedFields}
-use Rattle.hsr_tag.specs.Seen.{classified, is_told, payload_in}
+use Rattle.hsr_tag.specs.Seen.{classified}
 use Rattle.hsr_tag.specs.declared.seen.Seen.{Seen}
 use Rattle.hsr_tag.specs.declared.seen.Seen.TheVariants.{Plain, Tagged}
 use Rattle.hsr_duptable.specs.Key.{Key}
 use Rattle.hsr_duptable.specs.Table.{after_age, after_pass, remembers}
-use Rattle.hsr_tables.specs.Nodes.{Nodes, listened}
 use Rattle.hsr_tables.specs.Proxies.{Proxies, is_known, learned}
+use Rattle.hsr_role.specs.Arrival.{counted_with, heard_of, judged_by, key_in}
 use Rattle.hsr_redbox.specs.Wanted.{handling_interlink, handling_send, interlink, wanted}
 use Rattle.hsr_redbox.specs.Machine.{Machine, Notes}
 use Rattle.hsr_redbox.specs.declared.wanted.Handling.{Handling}
@@ -121,16 +120,11 @@ life_step capacity machine at about =
 abbrev pub verdict_of : Wants → Exits → Option ℕ → BoxVerdict
 verdict_of wants passes seq = record { up = passes.up; a = passes.a; b = passes.b; interlink = passes.c; seq = seq; cause = cause_of wants passes }
 
--- the counters after a verdict, and after a supervision payload that could be read or not
-abbrev pub counted_with : Counters → BoxVerdict → Bool → Counters
-counted_with counters verdict readable =
-    let arrived = counted counters verdict.cause verdict.up (bit verdict.a + bit verdict.b + bit verdict.interlink) in
-    record arrived { bad_life = arrived.bad_life + bit (not readable) }
+-- how many ports passed an arrival
+abbrev pub copies_of : BoxVerdict → ℕ
+copies_of verdict = bit verdict.a + bit verdict.b + bit verdict.interlink
 
 -- ---- an arrival at a ring port
-
-abbrev pub key_of : TaggedFields → Key
-key_of frame = record { src = frame.src; seq = frame.seq }
 
 -- a wanted frame passes where it isn't remembered
 abbrev pub passes_of : Notes → Exits → Key → ℕ → Exits
@@ -143,14 +137,8 @@ passes_of notes exits key now = record exits {
 
 -- where an arrival passes, and the tables after that: only a tagged one is looked for and noted
 abbrev pub judged : ℕ → Notes → Exits → Result Seen FrameFault → ℕ → Exits × Notes
-judged capacity notes exits (Err fault) now = (exits, notes)
-judged capacity notes exits (Ok (Plain frame)) now = (exits, notes)
-judged capacity notes exits (Ok (Tagged frame)) now =
-    let passes = passes_of notes exits (key_of frame) now in (passes, after_passes capacity notes passes (key_of frame) now)
-
--- a tagged supervision frame of another node is heard, duplicates too; whether it could be read, and the nodes after it
-abbrev pub heard_of : List ℕ → Nodes → RingPort → Result Seen FrameFault → ℕ → Bool × Nodes
-heard_of own nodes x seen now = if is_told own seen then listened nodes (payload_in seen) x now else (true, nodes)
+judged capacity notes exits seen now =
+    judged_by (λ key. let passes = passes_of notes exits key now in (passes, after_passes capacity notes passes key now)) (exits, notes) (key_in seen)
 
 -- what came to ring port x, at the effective moment
 abbrev pub after_ring : ℕ → Machine → ℕ → RingPort → Result Seen FrameFault → BoxVerdict × Machine
@@ -163,7 +151,7 @@ after_ring capacity machine now x seen =
       record machine {
         notes = outcome.1;
         nodes = hearing.1;
-        counters = counted_with machine.counters verdict hearing.0;
+        counters = counted_with machine.counters verdict.cause verdict.up (copies_of verdict) hearing.0;
         moment = now;
         accepted = machine.accepted + 1;
       },
@@ -181,7 +169,7 @@ heard_from own proxies (Ok (Plain frame)) now = if is_same_address frame.src own
 abbrev pub after_handling : ℕ → Machine → ℕ → Handling → BoxVerdict × Machine
 after_handling capacity machine now handling =
     let verdict = verdict_of handling.wants handling.wants.exits (number_of handling.source machine.next) in
-    (verdict, after_frame capacity machine now (with_exit interlink handling.wants.exits) handling.source (counted_with machine.counters verdict true))
+    (verdict, after_frame capacity machine now (with_exit interlink handling.wants.exits) handling.source (counted_with machine.counters verdict.cause verdict.up (copies_of verdict) true))
 
 -- what came to the interlink, at the effective moment: its source is heard before it is decided
 abbrev pub after_interlink : ℕ → Machine → ℕ → Result Seen FrameFault → BoxVerdict × Machine

@@ -7,8 +7,9 @@ use crate::wanted::{interlink_handling, ring_wants, send_handling};
 use arrayvec::ArrayVec;
 use hsr_frame::{
     About, Counters, Exits, FrameFault, Life, Mac, Mode, NoMemory, RingPort, STEP_LIMIT, SendFault,
-    Spent, Wants, is_supervision, send_fault,
+    Spent, Wants, send_fault,
 };
+use hsr_role::{count, hear};
 use hsr_tables::{NodeRow, NodeTable, ProxyTable};
 use hsr_tag::{Seen, classify};
 use std::alloc::Global;
@@ -157,7 +158,14 @@ impl<const C: usize> RedBox<C> {
         let passes = self.tables.judge(wants.exits, seen, now);
         let readable = hear(&mut self.nodes, self.own, x, seen, now);
         let verdict = verdict_on(wants, passes, None);
-        count(&mut self.counters, verdict, readable);
+        let copies = copies_of(verdict);
+        count(
+            &mut self.counters,
+            verdict.cause,
+            verdict.up,
+            copies,
+            readable,
+        );
         self.moment = now;
         self.accepted += 1;
         verdict
@@ -176,7 +184,8 @@ impl<const C: usize> RedBox<C> {
         let seq = number_of(handling.source, self.next);
         let verdict = verdict_on(handling.wants, exits, seq);
         let mut counters = self.counters;
-        count(&mut counters, verdict, true);
+        let copies = copies_of(verdict);
+        count(&mut counters, verdict.cause, verdict.up, copies, true);
         // noted on the interlink too, so that no copy that comes back is given back
         self.leave(Exits { c: true, ..exits }, handling.source, counters, now);
         verdict
@@ -239,7 +248,7 @@ impl<const C: usize> RedBox<C> {
 
 ghost use Rattle.hsr_frame.specs.Counters.{AreWithin};
 ghost use Rattle.hsr_tables.specs.Proxies.{is_known};
-ghost use Rattle.hsr_redbox.specs.Step.{counted_with, heard_from, heard_of, life_refusal, number_of, speaks_for, verdict_of};
+ghost use Rattle.hsr_redbox.specs.Step.{copies_of, heard_from, life_refusal, number_of, speaks_for, verdict_of};
 
 /// The number that a frame gets, if it has a source to get it for.
 fn number_of(source: Option<Mac>, next: u16) -> Option<u16>
@@ -292,25 +301,6 @@ fn verdict_on(wants: Wants, passes: Exits, seq: Option<u16>) -> BoxVerdict
     }
 }
 
-/// Hears a supervision frame of another node, and tells whether what it says could be read.
-fn hear(
-    nodes: &mut NodeTable,
-    own: Mac,
-    x: RingPort,
-    seen: &Result<Seen, FrameFault>,
-    now: u64,
-) -> bool
-    requires { nodes.old.last ≤ now }
-    ensures { (result, nodes.new) ≡ heard_of own nodes.old x seen.now now }
-{
-    match seen {
-        Ok(Seen::Tagged(frame)) if is_supervision(frame.dst, frame.kind) && frame.src != own => {
-            nodes.listen(frame.payload.as_slice(), x, now)
-        }
-        _ => true,
-    }
-}
-
 /// Hears the source of a plain frame, but for the own address.
 fn learn(proxies: &mut ProxyTable, own: Mac, seen: &Result<Seen, FrameFault>, now: u64)
     requires { proxies.old.last ≤ now }
@@ -323,14 +313,12 @@ fn learn(proxies: &mut ProxyTable, own: Mac, seen: &Result<Seen, FrameFault>, no
     }
 }
 
-/// Counts an arrival, and a supervision payload that could not be read.
-fn count(counters: &mut Counters, verdict: BoxVerdict, readable: bool)
-    requires { AreWithin counters.old (2 ^ 62) }
-    ensures { counters.new ≡ counted_with counters.old verdict readable }
+/// How many ports passed an arrival.
+fn copies_of(verdict: BoxVerdict) -> u64
+    ensures value { result ≡ copies_of verdict }
+    ensures few { result ≤ 3 }
 {
-    let copies = u64::from(verdict.a) + u64::from(verdict.b) + u64::from(verdict.interlink);
-    counters.count(verdict.cause, verdict.up, copies);
-    counters.bad_life += u64::from(!readable);
+    u64::from(verdict.a) + u64::from(verdict.b) + u64::from(verdict.interlink)
 }
 
 ghost use Rattle.hsr_redbox.specs.Past.{AnswersAsPast};

@@ -12,7 +12,7 @@ leave-requires g c =
         omega (arith, some),
         (
           omega arith,
-          rw c.count.ensures (counters-counted c.self.inside.counters c.verdict_on-verdict.result true c.self.inside.accepted c.self.invariant.counters),
+          rw (c.count.ensures, c.copies_of-copies.ensures.value) (counters-counted c.self.inside.counters c.verdict_on-verdict.result true c.self.inside.accepted c.self.invariant.counters),
         ),
       ),
     )
@@ -22,4 +22,4 @@ returns g c =
     let machine : Machine = record { own = c.self.inside.own; mode = c.self.inside.mode; notes = c.self.inside.tables; proxies = c.self.inside.proxies; nodes = c.self.inside.nodes; next = c.self.inside.next; counters = c.self.inside.counters; moment = c.self.inside.moment; accepted = c.self.inside.accepted } in
     subst (λ (m : Machine). (c.verdict_on-verdict.result, c.leave.new.self) ≡ after_interlink g.row.C m c.args.now c.args.seen.now) c.self.view_is
     (interlink-step g.row.C machine c.args.now c.args.seen.now c.learn.new.proxies c.interlink_handling-handling.result c.verdict_on-verdict.result c.leave.new.self
-    c.learn.ensures.heard c.interlink_handling-handling.ensures (rw c.number_of-seq.ensures at c.verdict_on-verdict.ensures) (rw c.count.ensures at c.leave.ensures))
+    c.learn.ensures.heard c.interlink_handling-handling.ensures (rw c.number_of-seq.ensures at c.verdict_on-verdict.ensures) (rw (c.count.ensures, c.copies_of-copies.ensures.value) at c.leave.ensures))

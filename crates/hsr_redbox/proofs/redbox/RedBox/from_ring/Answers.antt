@@ -3,7 +3,8 @@ use Rattle.hsr_frame.specs.declared.egress.Exits.{Exits}
 use Rattle.hsr_tables.specs.Nodes.{Nodes}
 use Rattle.hsr_redbox.specs.Machine.{Machine, Notes}
 use Rattle.hsr_redbox.specs.Step.{after_ring}
-use Rattle.hsr_redbox.proofs.Steps.{counters-counted, heard_of-last, notes-judged, ring-step}
+use Rattle.hsr_role.proofs.Arrivals.{heard_of-last}
+use Rattle.hsr_redbox.proofs.Steps.{counters-counted, notes-judged, ring-step}
 use Rattle.hsr_redbox.proofs.redbox.RedBox.from_ring.Goals as goal
 
 pub invariant_of-self : goal.invariant_of-self
@@ -17,7 +18,7 @@ invariant_of-self g c =
       nodes = rw (ap (λ (h : Bool × Nodes). h.1) c.hear-readable.ensures)
           (heard_of-last c.self.inside.own c.self.inside.nodes c.args.x c.args.seen.now c.args.now (omega (arith, c.self.invariant.nodes)));
       steps = let some = rw (← c.self.view_is) at c.requires.steps in omega (arith, some);
-      counters = rw c.count.ensures (counters-counted c.self.inside.counters c.verdict_on-verdict.result c.hear-readable.result c.self.inside.accepted c.self.invariant.counters);
+      counters = rw (c.count.ensures, c.copies_of-copies.ensures.value) (counters-counted c.self.inside.counters c.verdict_on-verdict.result c.hear-readable.result c.self.inside.accepted c.self.invariant.counters);
     }
 
 pub returns : goal.returns
@@ -27,4 +28,4 @@ returns g c =
     subst (λ (m : Machine). (c.verdict_on-verdict.result, new) ≡ after_ring g.row.C m c.args.now c.args.x c.args.seen.now) c.self.view_is
     (ring-step g.row.C machine c.args.now c.args.x c.args.seen.now c.ring_wants-wants.result c.judge-passes.result c.judge-passes.new.self c.hear-readable.result c.hear-readable.new.nodes
     c.verdict_on-verdict.result c.count.new.counters
-    c.ring_wants-wants.ensures c.judge-passes.ensures c.hear-readable.ensures c.verdict_on-verdict.ensures c.count.ensures)
+    c.ring_wants-wants.ensures c.judge-passes.ensures c.hear-readable.ensures c.verdict_on-verdict.ensures (rw c.copies_of-copies.ensures.value at c.count.ensures))

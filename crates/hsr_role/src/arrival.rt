@@ -1,0 +1,53 @@
+//! The key, the hearing and the count of what came to a port.
+ghost use Rattle.std.specs.Prelude.{◌≡◌, ◌≤◌, ◌^◌};
+ghost use Rattle.hsr_frame.specs.Counters.{AreWithin};
+ghost use Rattle.hsr_role.specs.Arrival.{counted_with, heard_of, key_in};
+
+use hsr_duptable::Key;
+use hsr_frame::{Cause, Counters, FrameFault, Mac, RingPort, is_supervision};
+use hsr_tables::NodeTable;
+use hsr_tag::Seen;
+
+/// The source and number of a tagged frame. Of what is none there is nothing to look for in a duplicate table.
+pub fn key_in(seen: &Result<Seen, FrameFault>) -> Option<Key>
+    ensures { result ≡ key_in seen.now }
+{
+    match seen {
+        Ok(Seen::Tagged(frame)) => Some(Key {
+            src: frame.src,
+            seq: frame.seq,
+        }),
+        _ => None,
+    }
+}
+
+/// Hears a tagged supervision frame of another node on a ring port, at a moment in milliseconds, and tells whether what
+/// it says could be read. A duplicate is heard too: it tells that its ring port is reached (IEC 62439-3 clause 5.7).
+pub fn hear(
+    nodes: &mut NodeTable,
+    own: Mac,
+    port: RingPort,
+    seen: &Result<Seen, FrameFault>,
+    now: u64,
+) -> bool
+    requires { nodes.old.last ≤ now }
+    ensures { (result, nodes.new) ≡ heard_of own nodes.old port seen.now now }
+{
+    match seen {
+        Ok(Seen::Tagged(frame)) if is_supervision(frame.dst, frame.kind) && frame.src != own => {
+            nodes.listen(frame.payload.as_slice(), port, now)
+        }
+        _ => true,
+    }
+}
+
+/// Counts an arrival by its cause, whether it went up and how many copies left by ports, and a supervision payload that
+/// could not be read.
+pub fn count(counters: &mut Counters, cause: Cause, up: bool, copies: u64, readable: bool)
+    requires within { AreWithin counters.old (2 ^ 62) }
+    requires few { copies ≤ 3 }
+    ensures { counters.new ≡ counted_with counters.old cause up copies readable }
+{
+    counters.count(cause, up, copies);
+    counters.bad_life += u64::from(!readable);
+}
