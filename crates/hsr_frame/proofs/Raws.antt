@@ -7,6 +7,7 @@ use Rattle.hsr_frame.specs.declared.fault.FrameFault.{FrameFault}
 use Rattle.hsr_frame.specs.declared.raw.Raw.{Raw}
 use Rattle.hsr_frame.proofs.Cells.{cells_of_6}
 use Rattle.hsr_frame.specs.Address.{IsGroup}
+use Rattle.hsr_frame.specs.Layout.{ethertype_vlan, max_rest}
 use Rattle.hsr_frame.specs.Grammar.{Fields, spelling, IsRaw, raw_fault, fields_of}
 
 abbrev pub of_cells : (d s : List ℕ) (vlan : Option ℕ) (kind : ℕ) (rest : List ℕ) → Fields
@@ -21,22 +22,22 @@ of_cells d s vlan kind rest = record {
 pair_number : (n : ℕ) → n < 2 ^ 16 → n / 256 % 256 * 256 + n % 256 ≡ n
 pair_number n lt = omega arith
 
-plain_fault : (d s : List ℕ) (kind : ℕ) (rest : List ℕ) → ¬ IsGroup s → kind < 2 ^ 16 → kind ≢ 0x8100 → length rest ≤ 1506 → raw_fault (spelling (of_cells d s None kind rest)) ≡ None
+plain_fault : (d s : List ℕ) (kind : ℕ) (rest : List ℕ) → ¬ IsGroup s → kind < 2 ^ 16 → kind ≢ ethertype_vlan → length rest ≤ max_rest → raw_fault (spelling (of_cells d s None kind rest)) ≡ None
 plain_fault d s kind rest station fits one len = grind (arith, nat_tests)
 
-tagged_fault : (d s : List ℕ) (control kind : ℕ) (rest : List ℕ) → ¬ IsGroup s → kind < 2 ^ 16 → kind ≢ 0x8100 → length rest ≤ 1506 → raw_fault (spelling (of_cells d s (Some control) kind rest)) ≡ None
+tagged_fault : (d s : List ℕ) (control kind : ℕ) (rest : List ℕ) → ¬ IsGroup s → kind < 2 ^ 16 → kind ≢ ethertype_vlan → length rest ≤ max_rest → raw_fault (spelling (of_cells d s (Some control) kind rest)) ≡ None
 tagged_fault d s control kind rest station fits one len = grind (arith, nat_tests)
 
-plain_fields : (d s : List ℕ) (kind : ℕ) (rest : List ℕ) → kind < 2 ^ 16 → kind ≢ 0x8100 → fields_of (spelling (of_cells d s None kind rest)) ≡ of_cells d s None kind rest
+plain_fields : (d s : List ℕ) (kind : ℕ) (rest : List ℕ) → kind < 2 ^ 16 → kind ≢ ethertype_vlan → fields_of (spelling (of_cells d s None kind rest)) ≡ of_cells d s None kind rest
 plain_fields d s kind rest fits one =
     let number = pair_number kind fits in
-    let plain = ne_eqb (kind / 256 % 256 * 256 + kind % 256) 0x8100 (λ e. one (omega arith)) in
+    let plain = ne_eqb (kind / 256 % 256 * 256 + kind % 256) ethertype_vlan (λ e. one (omega arith)) in
     rw (plain, number) refl
 
 tagged_fields : (d s : List ℕ) (control kind : ℕ) (rest : List ℕ) → control < 2 ^ 16 → kind < 2 ^ 16 → fields_of (spelling (of_cells d s (Some control) kind rest)) ≡ of_cells d s (Some control) kind rest
 tagged_fields d s control kind rest small fits = rw (pair_number control small, pair_number kind fits) refl
 
-by_cells : (d s : List ℕ) (vlan : Option ℕ) (kind : ℕ) (rest : List ℕ) → IfSome vlan (λ control. control < 2 ^ 16) → ¬ IsGroup s → kind < 2 ^ 16 → kind ≢ 0x8100 → length rest ≤ 1506
+by_cells : (d s : List ℕ) (vlan : Option ℕ) (kind : ℕ) (rest : List ℕ) → IfSome vlan (λ control. control < 2 ^ 16) → ¬ IsGroup s → kind < 2 ^ 16 → kind ≢ ethertype_vlan → length rest ≤ max_rest
     → (raw_fault (spelling (of_cells d s vlan kind rest)) ≡ None) × (fields_of (spelling (of_cells d s vlan kind rest)) ≡ of_cells d s vlan kind rest)
 by_cells d s None kind rest small station fits one len = (plain_fault d s kind rest station fits one len, plain_fields d s kind rest fits one)
 by_cells d s (Some control) kind rest small station fits one len = (tagged_fault d s control kind rest station fits one len, tagged_fields d s control kind rest small fits)

@@ -1,6 +1,7 @@
 -- Where a frame can leave a node, and which of these places pass it.
 use Rattle.std.specs.Prelude.{ℕ, ◌==◌, ◌&&◌, ◌||◌, Bool, true, false, List, [], ◌∷◌, if◌then◌else◌}
 use Rattle.hsr_frame.specs.Address.{is_same_address, supervision_address}
+use Rattle.hsr_frame.specs.Layout.{ethertype_supervision}
 use Rattle.hsr_frame.specs.declared.node.Cause.{Cause}
 use Rattle.hsr_frame.specs.declared.node.Cause.TheVariants.{Passed, Duplicate, Foreign}
 use Rattle.hsr_frame.specs.declared.node.Mode.{Mode}
@@ -67,4 +68,4 @@ cause_of wants passes = if is_any passes then Passed else (if is_any wants.exits
 
 -- supervision frames go to their own group, and have a type of their own
 abbrev pub is_supervision : List ℕ → ℕ → Bool
-is_supervision dst kind = is_same_address dst supervision_address && kind == 0x88FB
+is_supervision dst kind = is_same_address dst supervision_address && kind == ethertype_supervision

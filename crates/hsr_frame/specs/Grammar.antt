@@ -5,6 +5,7 @@ use Rattle.hsr_frame.specs.declared.fault.FrameFault.{FrameFault}
 use Rattle.hsr_frame.specs.declared.fault.FrameFault.TheVariants.{Short, Long, GroupSource, DoubleVlan}
 use Rattle.hsr_frame.specs.Address.{IsGroup}
 use Rattle.hsr_frame.specs.Cases.{first_of, unless}
+use Rattle.hsr_frame.specs.Layout.{control_at, ethertype_vlan, max_rest, plain_head, source_at, type_at, vlan_head}
 
 -- a frame, without where it lies in memory
 pub record Fields : Type 0 where
@@ -20,7 +21,7 @@ pair n = to_be_bytes w16 n
 
 abbrev pub vlan_tag : Option ℕ → List ℕ
 vlan_tag None = []
-vlan_tag (Some control) = pair 0x8100 ++ pair control
+vlan_tag (Some control) = pair ethertype_vlan ++ pair control
 
 -- the one spelling of a frame
 abbrev pub spelling : Fields → List ℕ
@@ -32,28 +33,28 @@ pub record IsRaw (f : Fields) : Type 0 where
   pub src : length f.src ≡ 6
   pub vlan : IfSome f.vlan (λ control. control < 2 ^ 16)
   pub kind : f.kind < 2 ^ 16
-  pub rest : length f.rest ≤ 1506
+  pub rest : length f.rest ≤ max_rest
   pub station : ¬ IsGroup f.src
-  pub one_tag : f.kind ≢ 0x8100
+  pub one_tag : f.kind ≢ ethertype_vlan
 
 -- the number of 16 bits at a place
 abbrev pub number_at : ℕ → List ℕ → ℕ
 number_at i octets = slice_index octets i * 256 + slice_index octets (i + 1)
 
 abbrev pub has_vlan : List ℕ → Bool
-has_vlan octets = number_at 12 octets == 0x8100
+has_vlan octets = number_at type_at octets == ethertype_vlan
 
 -- how many octets there are up to the (last) type, with it
 abbrev pub head_len : List ℕ → ℕ
-head_len octets = if has_vlan octets then 18 else 14
+head_len octets = if has_vlan octets then vlan_head else plain_head
 
 -- what is wrong, the first that applies
 abbrev pub raw_fault : List ℕ → Option FrameFault
 raw_fault octets = first_of
-    ((nat_lt (length octets) 14 || (has_vlan octets && nat_lt (length octets) 18), Some Short)
-    ∷ (nat_lt (head_len octets + 1506) (length octets), Some Long)
-    ∷ (slice_index octets 6 % 2 == 1, Some GroupSource)
-    ∷ (has_vlan octets && (number_at 16 octets == 0x8100), Some DoubleVlan)
+    ((nat_lt (length octets) plain_head || (has_vlan octets && nat_lt (length octets) vlan_head), Some Short)
+    ∷ (nat_lt (head_len octets + max_rest) (length octets), Some Long)
+    ∷ (slice_index octets source_at % 2 == 1, Some GroupSource)
+    ∷ (has_vlan octets && (number_at (vlan_head - 2) octets == ethertype_vlan), Some DoubleVlan)
     ∷ [])
     None
 
@@ -61,8 +62,8 @@ raw_fault octets = first_of
 abbrev pub fields_of : List ℕ → Fields
 fields_of octets = record {
   dst = take 6 octets;
-  src = take 6 (drop 6 octets);
-  vlan = if has_vlan octets then Some (number_at 14 octets) else None;
+  src = take 6 (drop source_at octets);
+  vlan = if has_vlan octets then Some (number_at control_at octets) else None;
   kind = number_at (head_len octets - 2) octets;
   rest = drop (head_len octets) octets;
 }

@@ -2,6 +2,7 @@ pub mod Cases
 pub mod Cause
 pub mod Fault
 pub mod Words
+pub mod Layout
 pub mod Address
 pub mod Grammar
 pub mod Egress

@@ -2,6 +2,7 @@
 use Rattle.std.specs.Prelude.{ℕ, ◌^◌, ◌==◌, ◌||◌, nat_lt, List, [], ◌∷◌, Option, Some, None}
 use Rattle.hsr_frame.specs.Cases.{first_of}
 use Rattle.hsr_frame.specs.Address.{is_same_address}
+use Rattle.hsr_frame.specs.Layout.{ethertype_hsr, ethertype_vlan, max_payload}
 use Rattle.hsr_frame.specs.declared.fault.SendFault.{SendFault}
 use Rattle.hsr_frame.specs.declared.fault.SendFault.TheVariants.{SelfAddressed, ReservedType, TooLong, Spent}
 
@@ -9,8 +10,8 @@ use Rattle.hsr_frame.specs.declared.fault.SendFault.TheVariants.{SelfAddressed, 
 abbrev pub send_refusal : List ℕ → ℕ → List ℕ → ℕ → ℕ → Option SendFault
 send_refusal src accepted dst kind len = first_of
     ((is_same_address dst src, Some SelfAddressed)
-    ∷ (kind == 0x892F || kind == 0x8100, Some ReservedType)
+    ∷ (kind == ethertype_hsr || kind == ethertype_vlan, Some ReservedType)
     ∷ (accepted == 2 ^ 62, Some Spent)
-    ∷ (nat_lt 1500 len, Some TooLong)
+    ∷ (nat_lt max_payload len, Some TooLong)
     ∷ [])
     None

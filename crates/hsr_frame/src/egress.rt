@@ -2,11 +2,9 @@
 ghost use Rattle.std.specs.Prelude.{[], ◌∷◌, ◌≡◌};
 ghost use Rattle.hsr_frame.specs.Egress.{a, b, cause_of, exits_of, is_any, is_supervision, no_exits, nowhere};
 
+use crate::layout::ETHERTYPE_SUPERVISION;
 use crate::mac::Mac;
 use crate::node::Cause;
-
-/// The type of supervision frames (IEC 62439-3 clause 5.7).
-pub const ETHERTYPE_SUPERVISION: u16 = 0x88FB;
 
 /// A set of egresses: up, and ports. `c` is port C of a QuadBox, or a RedBox's interlink.
 #[derive(Clone, Copy, Debug, PartialEq, Eq)]

@@ -2,7 +2,7 @@
 ghost use Rattle.std.specs.Prelude.{◌≡◌};
 ghost use Rattle.hsr_frame.specs.Fault.{frame_fault_code, send_fault_code};
 
-use std::alloc::AllocError;
+use std::alloc::{AllocError, AllocFailed};
 use thiserror::Error;
 
 /// Why a text is no address.
@@ -58,7 +58,7 @@ pub enum SendFault {
     ReservedType,
     /// The node has accepted as many steps as it may.
     Spent,
-    /// The payload has more than 1500 octets.
+    /// The payload has more octets than `MAX_PAYLOAD`.
     TooLong,
 }
 
@@ -85,7 +85,13 @@ pub struct Spent;
 pub struct NoMemory;
 
 impl From<AllocError> for NoMemory {
-    fn from(_e: AllocError) -> NoMemory {
+    fn from(_refused: AllocError) -> NoMemory {
+        NoMemory
+    }
+}
+
+impl<T: Drop> From<AllocFailed<T>> for NoMemory {
+    fn from(_refused: AllocFailed<T>) -> NoMemory {
         NoMemory
     }
 }

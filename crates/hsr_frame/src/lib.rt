@@ -4,6 +4,7 @@
 mod counters;
 mod egress;
 mod fault;
+mod layout;
 mod mac;
 mod node;
 mod octets;
@@ -12,11 +13,14 @@ mod send;
 mod words;
 
 pub use counters::Counters;
-pub use egress::{ETHERTYPE_SUPERVISION, Exits, Wants, is_supervision};
+pub use egress::{Exits, Wants, is_supervision};
 pub use fault::{FrameFault, MacFault, NoMemory, SendFault, Spent};
+pub use layout::{
+    ETHERTYPE_HSR, ETHERTYPE_SUPERVISION, ETHERTYPE_VLAN, MAX_FRAME, MAX_PAYLOAD, MAX_REST, TAG_LEN,
+};
 pub use mac::Mac;
 pub use node::{About, Cause, Life, Mode, RingPort, STEP_LIMIT};
-pub use octets::{ETHERTYPE_HSR, ETHERTYPE_VLAN, copied, put, put_head, put_u16, u16_at};
+pub use octets::{copied, put, put_head, put_u16, u16_at};
 pub use raw::{Head, Raw};
 pub use send::send_fault;
 

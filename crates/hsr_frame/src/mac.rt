@@ -83,7 +83,7 @@ fn octet_at(text: &[u8], at: usize) -> u8
 
 /// Reads the text of an address.
 #[tactic(auto, unfolding(crate::specs::Address::address_of))]
-fn read_text(text: &[u8]) -> Result<Mac, MacFault>
+fn read_mac(text: &[u8]) -> Result<Mac, MacFault>
     ensures exact { result ≡ address_of text.now }
     ensures found { IfOk result (λ m. upper_text text.now ≡ address_text m) }
     ensures fault { IfErr result (λ e. IsTextFault text.now e) }
@@ -163,7 +163,7 @@ impl Mac {
         ensures reads { (o : List ℕ) → IsAddress o → upper_text text.now ≡ address_text o → result ≡ Ok o }
         ensures fault { IfErr result (λ e. IsTextFault text.now e) }
     {
-        read_text(text)
+        read_mac(text)
     }
 }
 

@@ -3,15 +3,10 @@ ghost use Rattle.std.specs.Prelude.{[], ◌^◌, IfSome, ◌≡◌, ◌+◌, ◌
 ghost use Rattle.arrayvec.specs.ArrayVec.{array_vec_len};
 ghost use Rattle.hsr_frame.specs.Grammar.{pair, vlan_tag, number_at};
 
+use crate::layout::ETHERTYPE_VLAN;
 use crate::mac::Mac;
 use arrayvec::ArrayVec;
 use byteorder::{BigEndian, ByteOrder};
-
-/// The type of a VLAN tag (IEEE 802.1Q clause 9.5).
-pub const ETHERTYPE_VLAN: u16 = 0x8100;
-
-/// The type of an HSR tag (IEC 62439-3 clause 5.6).
-pub const ETHERTYPE_HSR: u16 = 0x892F;
 
 /// The number of 16 bits at a place, the high octet first.
 pub fn u16_at(octets: &[u8], at: usize) -> u16

@@ -3,8 +3,11 @@ ghost use Rattle.std.specs.Prelude.{◌≡◌, ◌≢◌, ◌+◌, ◌*◌, ◌<
 ghost use Rattle.hsr_frame.specs.Grammar.{Fields, spelling, IsRaw, fields_of, raw_fault, raw_of};
 
 use crate::fault::FrameFault;
+use crate::layout::{
+    CONTROL_AT, ETHERTYPE_VLAN, HEAD_LEN, MAX_FRAME, MAX_REST, SOURCE_AT, TYPE_AT, VLAN_HEAD_LEN,
+};
 use crate::mac::Mac;
-use crate::octets::{ETHERTYPE_VLAN, copied, put, put_head, put_u16, u16_at};
+use crate::octets::{copied, put, put_head, put_u16, u16_at};
 use arrayvec::ArrayVec;
 use std::marker::Model;
 
@@ -16,19 +19,20 @@ pub struct Raw {
     pub src: Mac,
     pub vlan: Option<u16>,
     pub kind: u16,
-    pub rest: ArrayVec<u8, 1506>,
+    pub rest: ArrayVec<u8, MAX_REST>,
 }
 
 impl Model for Raw {
     ghost use Rattle.std.specs.Prelude.{◌≢◌};
     ghost use Rattle.hsr_frame.specs.Address.{IsGroup};
     ghost use Rattle.hsr_frame.specs.Grammar.{Fields};
+    ghost use Rattle.hsr_frame.specs.Layout.{ethertype_vlan};
 
     ghost Value = { Fields };
 
     ghost view = { λ r. record { dst = r.dst; src = r.src; vlan = r.vlan; kind = r.kind; rest = r.rest.items } };
 
-    ghost invariant = { λ r. (¬ IsGroup r.src) × (r.kind ≢ 0x8100) };
+    ghost invariant = { λ r. (¬ IsGroup r.src) × (r.kind ≢ ethertype_vlan) };
 }
 
 /// A frame, before any HSR tag is looked for, whose rest stands in the octets that were read: as `Raw`, with
@@ -46,12 +50,13 @@ impl<'a> Model for Head<'a> {
     ghost use Rattle.std.specs.Prelude.{◌≢◌, ◌≤◌, length};
     ghost use Rattle.hsr_frame.specs.Address.{IsGroup};
     ghost use Rattle.hsr_frame.specs.Grammar.{Fields};
+    ghost use Rattle.hsr_frame.specs.Layout.{ethertype_vlan, max_rest};
 
     ghost Value = { Fields };
 
     ghost view = { λ h. record { dst = h.dst; src = h.src; vlan = h.vlan; kind = h.kind; rest = h.rest.now } };
 
-    ghost invariant = { λ h. (¬ IsGroup h.src) × (h.kind ≢ 0x8100) × (length h.rest.now ≤ 1506) };
+    ghost invariant = { λ h. (¬ IsGroup h.src) × (h.kind ≢ ethertype_vlan) × (length h.rest.now ≤ max_rest) };
 }
 
 /// The address at a place.
@@ -64,29 +69,29 @@ fn mac_at(octets: &[u8], at: usize) -> Mac
 }
 
 /// The frame by its places, or the first of the faults.
-fn read(octets: &[u8]) -> Result<Head<'_>, FrameFault>
+fn read_head(octets: &[u8]) -> Result<Head<'_>, FrameFault>
     ensures found { IfOk result (λ r. (raw_fault octets.now ≡ None) × (r ≡ fields_of octets.now)) }
     ensures fault { IfErr result (λ e. raw_fault octets.now ≡ Some e) }
 {
-    if octets.len() < 14 {
+    if octets.len() < HEAD_LEN {
         return Err(FrameFault::Short);
     }
-    let first = u16_at(octets, 12);
-    let tagged = first == ETHERTYPE_VLAN;
-    if tagged && octets.len() < 18 {
+    let first = u16_at(octets, TYPE_AT);
+    let has_vlan = first == ETHERTYPE_VLAN;
+    if has_vlan && octets.len() < VLAN_HEAD_LEN {
         return Err(FrameFault::Short);
     }
-    let head = if tagged { 18 } else { 14 };
+    let head = if has_vlan { VLAN_HEAD_LEN } else { HEAD_LEN };
     let rest = &octets[head..];
-    if rest.len() > 1506 {
+    if rest.len() > MAX_REST {
         return Err(FrameFault::Long);
     }
-    let src = mac_at(octets, 6);
+    let src = mac_at(octets, SOURCE_AT);
     if src.is_group() {
         return Err(FrameFault::GroupSource);
     }
-    let vlan = if tagged {
-        Some(u16_at(octets, 14))
+    let vlan = if has_vlan {
+        Some(u16_at(octets, CONTROL_AT))
     } else {
         None
     };
@@ -113,7 +118,7 @@ impl<'a> Head<'a> {
         // What is spelled so is read.
         ensures only { (f : Fields) → IsRaw f → octets.now ≡ spelling f → result ≡ Ok f }
     {
-        read(octets)
+        read_head(octets)
     }
 }
 
@@ -136,8 +141,8 @@ impl Raw {
         })
     }
 
-    /// The octets of the frame: at most 1524.
-    pub fn write(&self) -> ArrayVec<u8, 1524>
+    /// The octets of the frame: `MAX_FRAME` at most.
+    pub fn write(&self) -> ArrayVec<u8, MAX_FRAME>
         ensures octets { result.items ≡ spelling self.now }
         ensures well_formed { IsRaw self.now }
     {

@@ -1,19 +1,20 @@
 //! Why a node refuses to send.
 ghost use Rattle.std.specs.Prelude.{◌≡◌, ◌≢◌, ◌≤◌, ◌<◌, ◌^◌, IfNone};
+ghost use Rattle.hsr_frame.specs.Layout.{ethertype_hsr, ethertype_vlan, max_payload};
 ghost use Rattle.hsr_frame.specs.Send.{send_refusal};
 
 use crate::fault::SendFault;
+use crate::layout::{ETHERTYPE_HSR, ETHERTYPE_VLAN, MAX_PAYLOAD};
 use crate::mac::Mac;
 use crate::node::STEP_LIMIT;
-use crate::octets::{ETHERTYPE_HSR, ETHERTYPE_VLAN};
 
 /// Why a send is refused, if it is: it goes to its own source, its type is that of a VLAN or HSR tag, as
-/// many steps as a node accepts are spent, or its payload has over 1500 octets. The first reason counts.
+/// many steps as a node accepts are spent, or its payload has more than `MAX_PAYLOAD` octets. The first reason counts.
 pub fn send_fault(src: Mac, accepted: u64, dst: Mac, kind: u16, len: usize) -> Option<SendFault>
     requires { accepted ≤ 2 ^ 62 }
     ensures fault { result ≡ send_refusal src accepted dst kind len }
     ensures room { IfNone result (accepted < 2 ^ 62) }
-    ensures formed { IfNone result ((kind ≢ 0x8100) × (kind ≢ 0x892F) × (len ≤ 1500)) }
+    ensures formed { IfNone result ((kind ≢ ethertype_vlan) × (kind ≢ ethertype_hsr) × (len ≤ max_payload)) }
 {
     if dst == src {
         Some(SendFault::SelfAddressed)
@@ -21,7 +22,7 @@ pub fn send_fault(src: Mac, accepted: u64, dst: Mac, kind: u16, len: usize) -> O
         Some(SendFault::ReservedType)
     } else if accepted == STEP_LIMIT {
         Some(SendFault::Spent)
-    } else if len > 1500 {
+    } else if len > MAX_PAYLOAD {
         Some(SendFault::TooLong)
     } else {
         None

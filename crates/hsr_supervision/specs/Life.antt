@@ -2,6 +2,7 @@
 use Rattle.std.specs.Prelude.{ℕ, List, Option, None}
 use Rattle.hsr_frame.specs.Address.{supervision_address}
 use Rattle.hsr_frame.specs.Grammar as frame
+use Rattle.hsr_frame.specs.Layout.{ethertype_supervision}
 use Rattle.hsr_supervision.specs.Payload.{Fields, spelling}
 use Rattle.hsr_supervision.specs.declared.payload.SupKind.TheVariants.{Hsr}
 
@@ -11,4 +12,4 @@ life_said about redbox life = record { path = 0; version = 1; seq = life; kind =
 
 -- the frame with this payload: from the node's own address to the group of supervision frames, with no VLAN tag
 abbrev pub life_frame : List ℕ → Fields → frame.Fields
-life_frame own said = record { dst = supervision_address; src = own; vlan = None; kind = 0x88FB; rest = spelling said }
+life_frame own said = record { dst = supervision_address; src = own; vlan = None; kind = ethertype_supervision; rest = spelling said }

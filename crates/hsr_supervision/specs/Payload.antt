@@ -1,11 +1,19 @@
 -- Supervision payloads: which octets say what, what is wrong with octets that say nothing, and the octets of what is said.
-use Rattle.std.specs.Prelude.{◌==◌, ◌<◌, ◌+◌, ◌*◌, ◌/◌, ◌%◌, ◌^◌, ◌&&◌, ◌≡◌, IfSome, ℕ, suc, zero, Bool, not, nat_lt, if◌then◌else◌, List, [], ◌∷◌, ◌++◌, length, slice_index, take, drop, find, replicate, Result, Ok, Err, Option, Some, None, is_none, option_map, unwrap_or}
+use Rattle.std.specs.Prelude.{◌==◌, ◌<◌, ◌+◌, ◌-◌, ◌*◌, ◌/◌, ◌%◌, ◌^◌, ◌&&◌, ◌≡◌, IfSome, ℕ, suc, zero, Bool, not, nat_lt, if◌then◌else◌, List, [], ◌∷◌, ◌++◌, length, slice_index, take, drop, find, replicate, Result, Ok, Err, Option, Some, None, is_none, option_map, unwrap_or}
 use Rattle.hsr_frame.specs.Cases.{first_of}
 use Rattle.hsr_frame.specs.Grammar.{pair, number_at}
 use Rattle.hsr_supervision.specs.declared.payload.SupFault.{SupFault}
 use Rattle.hsr_supervision.specs.declared.payload.SupFault.TheVariants.{Truncated, FirstKind, FirstLength, RedBoxLength}
 use Rattle.hsr_supervision.specs.declared.payload.SupKind.{SupKind}
 use Rattle.hsr_supervision.specs.declared.payload.SupKind.TheVariants.{PrpDiscard, PrpAccept, Hsr}
+
+-- the octets of the shortest payload
+abbrev pub min_payload : ℕ
+min_payload = 46
+
+-- those up to the end of TLV1
+abbrev pub first_len : ℕ
+first_len = 12
 
 -- what a payload says
 pub record Fields : Type 0 where
@@ -81,22 +89,22 @@ read_of octets = first_of
     ((nat_lt (length octets) 6, Err Truncated)
     ∷ (is_none (kind_of (slice_index octets 4)), Err FirstKind)
     ∷ (not (slice_index octets 5 == 6), Err FirstLength)
-    ∷ (nat_lt (length octets) 12, Err Truncated)
+    ∷ (nat_lt (length octets) first_len, Err Truncated)
     ∷ [])
-    (result_map (fields_with octets) (tlvs_past 0 (drop 12 octets)))
+    (result_map (fields_with octets) (tlvs_past 0 (drop first_len octets)))
 
 -- ---- octets that are written
 
-abbrev pub kind_number : SupKind → ℕ
-kind_number PrpDiscard = 20
-kind_number PrpAccept = 21
-kind_number Hsr = 23
+abbrev pub kind_code : SupKind → ℕ
+kind_code PrpDiscard = 20
+kind_code PrpAccept = 21
+kind_code Hsr = 23
 
--- the RedBox TLV, if there is one, the end TLV, and zeros up to 46 octets
+-- the RedBox TLV of 8 octets, if there is one, the end TLV, and zeros up to the shortest payload
 abbrev pub tail : Option (List ℕ) → List ℕ
-tail None = replicate 34 0
-tail (Some mac) = 30 ∷ 6 ∷ mac ++ replicate 26 0
+tail None = replicate (min_payload - first_len) 0
+tail (Some mac) = 30 ∷ 6 ∷ mac ++ replicate (min_payload - first_len - 8) 0
 
 -- the octets of what is said
 abbrev pub spelling : Fields → List ℕ
-spelling s = pair (s.path * 4096 + s.version) ++ pair s.seq ++ kind_number s.kind ∷ 6 ∷ s.about ++ tail s.redbox
+spelling s = pair (s.path * 4096 + s.version) ++ pair s.seq ++ kind_code s.kind ∷ 6 ∷ s.about ++ tail s.redbox

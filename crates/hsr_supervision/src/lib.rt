@@ -3,7 +3,7 @@
 
 mod payload;
 
-pub use payload::{SupFault, SupKind, Supervision};
+pub use payload::{MIN_PAYLOAD, SupFault, SupKind, Supervision};
 
 #[cfg(test)]
 mod tests;

@@ -1,6 +1,6 @@
 //! The payload of a supervision frame.
 ghost use Rattle.std.specs.Prelude.{[], ◌∷◌, ◌≡◌, ◌==◌, ◌<◌, ◌≤◌, length, take, drop, if◌then◌else◌, IfErr, IfNone, IfOk, IfSome};
-ghost use Rattle.hsr_supervision.specs.Payload.{Fields, IsSaid, kind_number, kind_of, lacks_address, onto, read_of, redbox_among, result_map, spelling, tlvs_past};
+ghost use Rattle.hsr_supervision.specs.Payload.{Fields, IsSaid, kind_code, kind_of, lacks_address, onto, read_of, redbox_among, result_map, spelling, tlvs_past};
 
 use arrayvec::ArrayVec;
 use hsr_frame::{Mac, put, put_u16, u16_at};
@@ -58,10 +58,10 @@ impl Model for Supervision {
 }
 
 /// The kind that a type of TLV1 names.
-fn kind_at(number: u8) -> Option<SupKind>
-    ensures { result ≡ kind_of number }
+fn kind_of(code: u8) -> Option<SupKind>
+    ensures { result ≡ kind_of code }
 {
-    match number {
+    match code {
         20 => Some(SupKind::PrpDiscard),
         21 => Some(SupKind::PrpAccept),
         23 => Some(SupKind::Hsr),
@@ -70,8 +70,8 @@ fn kind_at(number: u8) -> Option<SupKind>
 }
 
 /// The type of TLV1 that names a kind.
-fn number_of(kind: SupKind) -> u8
-    ensures { result ≡ kind_number kind }
+fn code_of(kind: SupKind) -> u8
+    ensures { result ≡ kind_code kind }
 {
     match kind {
         SupKind::PrpDiscard => 20,
@@ -85,6 +85,21 @@ const END: u8 = 0;
 
 /// The type of a RedBox TLV.
 const REDBOX: u8 = 30;
+
+/// The length of the value of a TLV that names a node: of an address.
+const NAME_LEN: u8 = 6;
+
+/// What a payload has up to the end of TLV1: path and version, number, and TLV1 with an address.
+const FIRST_LEN: usize = 12;
+
+/// The shortest payload (IEC 62439-3 clause 5.7).
+pub const MIN_PAYLOAD: usize = 46;
+
+/// The zeros behind TLV1.
+const ZEROS: usize = MIN_PAYLOAD - FIRST_LEN;
+
+/// The zeros behind a RedBox TLV, which has 8 octets.
+const ZEROS_BEHIND_REDBOX: usize = ZEROS - 8;
 
 /// The address in the first six octets.
 fn mac_at(o: &[u8]) -> Mac
@@ -106,7 +121,7 @@ fn after(octets: &[u8], n: usize) -> &[u8]
 fn is_wrong_redbox(kind: u8, len: u8) -> bool
     ensures { result ≡ lacks_address kind len }
 {
-    kind == REDBOX && len != 6
+    kind == REDBOX && len != NAME_LEN
 }
 
 /// A TLV, and the octets behind it.
@@ -178,21 +193,21 @@ fn redbox_in(octets: &[u8]) -> Result<Option<Mac>, SupFault>
 
 /// What octets say, or the first of the faults.
 #[tactic(auto, using(crate::proofs::Tlvs::fault_before))]
-fn read_octets(octets: &[u8]) -> Result<Supervision, SupFault>
+fn read_said(octets: &[u8]) -> Result<Supervision, SupFault>
     ensures { result ≡ read_of octets.now }
 {
     if octets.len() < 6 {
         return Err(SupFault::Truncated);
     }
-    let kind = kind_at(octets[4]).ok_or(SupFault::FirstKind)?;
-    if octets[5] != 6 {
+    let kind = kind_of(octets[4]).ok_or(SupFault::FirstKind)?;
+    if octets[5] != NAME_LEN {
         return Err(SupFault::FirstLength);
     }
-    if octets.len() < 12 {
+    if octets.len() < FIRST_LEN {
         return Err(SupFault::Truncated);
     }
     let first = u16_at(octets, 0);
-    let redbox = redbox_in(after(octets, 12))?;
+    let redbox = redbox_in(after(octets, FIRST_LEN))?;
     Ok(Supervision {
         path: (first / 4096) as u8,
         version: first % 4096,
@@ -203,22 +218,22 @@ fn read_octets(octets: &[u8]) -> Result<Supervision, SupFault>
     })
 }
 
-/// The octets of a payload, with zeros up to 46.
-fn octets_of(said: &Supervision) -> ArrayVec<u8, 46>
+/// The octets of a payload, with zeros up to `MIN_PAYLOAD`.
+fn octets_of(said: &Supervision) -> ArrayVec<u8, MIN_PAYLOAD>
     ensures octets { result.items ≡ spelling said.now }
     ensures well_formed { IsSaid said.now }
 {
     let mut out = ArrayVec::new();
     put_u16(&mut out, u16::from(said.path) * 4096 + said.version);
     put_u16(&mut out, said.seq);
-    put(&mut out, &[number_of(said.kind), 6]);
+    put(&mut out, &[code_of(said.kind), NAME_LEN]);
     put(&mut out, &said.about.octets());
     if let Some(mac) = said.redbox {
-        put(&mut out, &[REDBOX, 6]);
+        put(&mut out, &[REDBOX, NAME_LEN]);
         put(&mut out, &mac.octets());
-        put(&mut out, &[0; 26]);
+        put(&mut out, &[0; ZEROS_BEHIND_REDBOX]);
     } else {
-        put(&mut out, &[0; 34]);
+        put(&mut out, &[0; ZEROS]);
     }
     out
 }
@@ -234,12 +249,12 @@ impl Supervision {
         // What is spelled so is read.
         ensures only { (s : Fields) → IsSaid s → octets.now ≡ spelling s → result ≡ Ok s }
     {
-        read_octets(octets)
+        read_said(octets)
     }
 
-    /// The octets of the payload, with zeros up to 46: the first two of them are the end TLV.
+    /// The octets of the payload, with zeros up to `MIN_PAYLOAD`: the first two of them are the end TLV.
     #[tactic(auto, using(crate::proofs::Again::again))]
-    pub fn write(&self) -> ArrayVec<u8, 46>
+    pub fn write(&self) -> ArrayVec<u8, MIN_PAYLOAD>
         ensures octets { result.items ≡ spelling self.now }
         ensures well_formed { IsSaid self.now }
         // What is written is read back.

@@ -7,6 +7,7 @@ use Rattle.hsr_frame.specs.declared.fault.FrameFault.{FrameFault}
 use Rattle.hsr_frame.specs.declared.fault.FrameFault.TheVariants.{Long, ShortTag, NestedTag, DoubleVlan}
 use Rattle.hsr_frame.specs.Cases.{first_of, unless}
 use Rattle.hsr_frame.specs.Grammar.{Fields, spelling, number_at, raw_fault, fields_of}
+use Rattle.hsr_frame.specs.Layout.{ethertype_hsr, ethertype_vlan, max_payload, tag_len}
 use Rattle.hsr_tag.specs.Tag.{TaggedFields, IsPlain, IsTagged, tagged_spelling, with_tag}
 use Rattle.hsr_tag.specs.declared.seen.Seen.{Seen}
 use Rattle.hsr_tag.specs.declared.seen.Seen.TheVariants.{Plain, Tagged}
@@ -14,20 +15,20 @@ use Rattle.hsr_tag.specs.declared.seen.Seen.TheVariants.{Plain, Tagged}
 -- what is wrong from the type on, the first that applies
 abbrev pub tag_fault : Fields → Option FrameFault
 tag_fault f =
-    if f.kind == 0x892F
+    if f.kind == ethertype_hsr
     then first_of
-    ((nat_lt (length f.rest) 6, Some ShortTag)
-    ∷ (number_at 4 f.rest == 0x892F, Some NestedTag)
-    ∷ (number_at 4 f.rest == 0x8100, Some DoubleVlan)
+    ((nat_lt (length f.rest) tag_len, Some ShortTag)
+    ∷ (number_at 4 f.rest == ethertype_hsr, Some NestedTag)
+    ∷ (number_at 4 f.rest == ethertype_vlan, Some DoubleVlan)
     ∷ [])
     None
-    else first_of ((nat_lt 1500 (length f.rest), Some Long) ∷ []) None
+    else first_of ((nat_lt max_payload (length f.rest), Some Long) ∷ []) None
 
 -- what is wrong with octets, the first that applies
 abbrev pub frame_fault : List ℕ → Option FrameFault
 frame_fault octets = option_or (raw_fault octets) (tag_fault (fields_of octets))
 
--- the tagged frame by its places after the type 892F
+-- the tagged frame by its places after the type of an HSR tag
 abbrev pub tagged_of : Fields → TaggedFields
 tagged_of f = record {
   dst = f.dst;
@@ -37,11 +38,11 @@ tagged_of f = record {
   size = number_at 0 f.rest % 4096;
   seq = number_at 2 f.rest;
   kind = number_at 4 f.rest;
-  payload = drop 6 f.rest;
+  payload = drop tag_len f.rest;
 }
 
 abbrev pub seen_in : Fields → Seen
-seen_in f = if f.kind == 0x892F then Tagged (tagged_of f) else Plain f
+seen_in f = if f.kind == ethertype_hsr then Tagged (tagged_of f) else Plain f
 
 -- what octets are: a frame, tagged or not, or the first fault
 unfoldable pub classified : List ℕ → Result Seen FrameFault

@@ -2,12 +2,13 @@
 use Rattle.std.specs.Prelude.{◌≡◌, ◌≢◌, ◌≤◌, ◌<◌, ◌+◌, ◌*◌, ◌^◌, ℕ, List, ◌++◌, length, Option, IfSome}
 use Rattle.hsr_frame.specs.Address.{IsGroup}
 use Rattle.hsr_frame.specs.Grammar.{Fields, pair, spelling, IsRaw}
+use Rattle.hsr_frame.specs.Layout.{ethertype_hsr, ethertype_vlan, max_payload, tag_len}
 
 -- a frame with no tag: what stands after its type is its payload
 pub record IsPlain (f : Fields) : Type 0 where
   pub raw : IsRaw f
-  pub no_tag : f.kind ≢ 0x892F
-  pub payload : length f.rest ≤ 1500
+  pub no_tag : f.kind ≢ ethertype_hsr
+  pub payload : length f.rest ≤ max_payload
 
 -- a frame with an HSR tag
 pub record TaggedFields : Type 0 where
@@ -20,13 +21,13 @@ pub record TaggedFields : Type 0 where
   pub kind : ℕ
   pub payload : List ℕ
 
--- the octets after the type 892F: path and size, sequence number, the frame's own type, payload
+-- the octets after the type of an HSR tag: path and size, sequence number, the frame's own type, payload
 abbrev pub tag_octets : TaggedFields → List ℕ
 tag_octets t = pair (t.path * 4096 + t.size) ++ pair t.seq ++ pair t.kind ++ t.payload
 
--- a tagged frame is a frame of type 892F
+-- a tagged frame is a frame of that type
 abbrev pub with_tag : TaggedFields → Fields
-with_tag t = record { dst = t.dst; src = t.src; vlan = t.vlan; kind = 0x892F; rest = tag_octets t }
+with_tag t = record { dst = t.dst; src = t.src; vlan = t.vlan; kind = ethertype_hsr; rest = tag_octets t }
 
 -- the one spelling of a tagged frame
 abbrev pub tagged_spelling : TaggedFields → List ℕ
@@ -41,14 +42,14 @@ pub record IsTagged (t : TaggedFields) : Type 0 where
   pub size : t.size < 4096
   pub seq : t.seq < 2 ^ 16
   pub kind : t.kind < 2 ^ 16
-  pub payload : length t.payload ≤ 1500
+  pub payload : length t.payload ≤ max_payload
   pub station : ¬ IsGroup t.src
-  pub one_vlan : t.kind ≢ 0x8100
-  pub one_tag : t.kind ≢ 0x892F
+  pub one_vlan : t.kind ≢ ethertype_vlan
+  pub one_tag : t.kind ≢ ethertype_hsr
 
--- the frame with this path and number; its size counts the tag's own six octets
+-- the frame with this path and number; its size counts the tag's own octets
 abbrev pub tag_of : Fields → ℕ → ℕ → TaggedFields
-tag_of f path seq = record { dst = f.dst; src = f.src; vlan = f.vlan; path = path; size = length f.rest + 6; seq = seq; kind = f.kind; payload = f.rest }
+tag_of f path seq = record { dst = f.dst; src = f.src; vlan = f.vlan; path = path; size = length f.rest + tag_len; seq = seq; kind = f.kind; payload = f.rest }
 
 -- the frame without path, size and number
 abbrev pub untag_of : TaggedFields → Fields

@@ -4,30 +4,33 @@ ghost use Rattle.hsr_frame.specs.Grammar.{spelling};
 ghost use Rattle.hsr_tag.specs.Tag.{tag_of, untag_of, IsPlain, IsTagged, tagged_spelling};
 
 use arrayvec::ArrayVec;
-use hsr_frame::{ETHERTYPE_HSR, Mac, copied, put, put_head, put_u16};
+use hsr_frame::{
+    ETHERTYPE_HSR, MAX_FRAME, MAX_PAYLOAD, Mac, TAG_LEN, copied, put, put_head, put_u16,
+};
 use std::marker::Model;
 
-/// A frame with no HSR tag. No group sends it, and its type is that of no VLAN or HSR tag. The payload has
-/// at most 1500 octets; a length field in place of a type is kept as a number (IEEE 802.3 clause 3).
+/// A frame with no HSR tag. No group sends it, and its type is that of no VLAN or HSR tag. A length field in place of a
+/// type is kept as a number (IEEE 802.3 clause 3).
 #[derive(Drop)]
 pub struct Frame {
     pub dst: Mac,
     pub src: Mac,
     pub vlan: Option<u16>,
     pub kind: u16,
-    pub payload: ArrayVec<u8, 1500>,
+    pub payload: ArrayVec<u8, MAX_PAYLOAD>,
 }
 
 impl Model for Frame {
     ghost use Rattle.std.specs.Prelude.{◌≢◌};
     ghost use Rattle.hsr_frame.specs.Address.{IsGroup};
     ghost use Rattle.hsr_frame.specs.Grammar.{Fields};
+    ghost use Rattle.hsr_frame.specs.Layout.{ethertype_hsr, ethertype_vlan};
 
     ghost Value = { Fields };
 
     ghost view = { λ r. record { dst = r.dst; src = r.src; vlan = r.vlan; kind = r.kind; rest = r.payload.items } };
 
-    ghost invariant = { λ r. (¬ IsGroup r.src) × (r.kind ≢ 0x8100) × (r.kind ≢ 0x892F) };
+    ghost invariant = { λ r. (¬ IsGroup r.src) × (r.kind ≢ ethertype_vlan) × (r.kind ≢ ethertype_hsr) };
 }
 
 /// A frame with its HSR tag (IEC 62439-3 clause 5.6): path below 16, size below 4096, as they came.
@@ -40,19 +43,20 @@ pub struct Tagged {
     pub size: u16,
     pub seq: u16,
     pub kind: u16,
-    pub payload: ArrayVec<u8, 1500>,
+    pub payload: ArrayVec<u8, MAX_PAYLOAD>,
 }
 
 impl Model for Tagged {
     ghost use Rattle.std.specs.Prelude.{◌≢◌, ◌<◌};
     ghost use Rattle.hsr_frame.specs.Address.{IsGroup};
+    ghost use Rattle.hsr_frame.specs.Layout.{ethertype_hsr, ethertype_vlan};
     ghost use Rattle.hsr_tag.specs.Tag.{TaggedFields};
 
     ghost Value = { TaggedFields };
 
     ghost view = { λ r. record { dst = r.dst; src = r.src; vlan = r.vlan; path = r.path; size = r.size; seq = r.seq; kind = r.kind; payload = r.payload.items } };
 
-    ghost invariant = { λ r. (¬ IsGroup r.src) × (r.kind ≢ 0x8100) × (r.kind ≢ 0x892F) × (r.path < 16) × (r.size < 4096) };
+    ghost invariant = { λ r. (¬ IsGroup r.src) × (r.kind ≢ ethertype_vlan) × (r.kind ≢ ethertype_hsr) × (r.path < 16) × (r.size < 4096) };
 }
 
 impl Frame {
@@ -67,15 +71,15 @@ impl Frame {
             src: self.src,
             vlan: self.vlan,
             path,
-            size: self.payload.len() as u16 + 6,
+            size: (self.payload.len() + TAG_LEN) as u16,
             seq,
             kind: self.kind,
             payload: copied(self.payload.as_slice()),
         }
     }
 
-    /// The octets of the frame: at most 1524.
-    pub fn write(&self) -> ArrayVec<u8, 1524>
+    /// The octets of the frame: `MAX_FRAME` at most.
+    pub fn write(&self) -> ArrayVec<u8, MAX_FRAME>
         ensures octets { result.items ≡ spelling self.now }
         ensures well_formed { IsPlain self.now }
     {
@@ -101,8 +105,8 @@ impl Tagged {
         }
     }
 
-    /// The octets of the frame: at most 1524.
-    pub fn write(&self) -> ArrayVec<u8, 1524>
+    /// The octets of the frame: `MAX_FRAME` at most.
+    pub fn write(&self) -> ArrayVec<u8, MAX_FRAME>
         ensures octets { result.items ≡ tagged_spelling self.now }
         ensures well_formed { IsTagged self.now }
     {

@@ -4,7 +4,9 @@ ghost use Rattle.hsr_frame.specs.Grammar.{Fields, spelling, IsRaw};
 ghost use Rattle.hsr_tag.specs.Tag.{TaggedFields, IsPlain, IsTagged, tagged_spelling};
 
 use crate::frame::{Frame, Tagged};
-use hsr_frame::{ETHERTYPE_HSR, ETHERTYPE_VLAN, FrameFault, Head, copied, u16_at};
+use hsr_frame::{
+    ETHERTYPE_HSR, ETHERTYPE_VLAN, FrameFault, Head, MAX_PAYLOAD, TAG_LEN, copied, u16_at,
+};
 
 /// A frame that was read.
 #[derive(Drop)]
@@ -24,7 +26,7 @@ fn seen_of(head: &Head<'_>, rest: &[u8]) -> Result<Seen, FrameFault>
     ensures fault { IfErr result (λ e. tag_fault head.now ≡ Some e) }
 {
     if head.kind != ETHERTYPE_HSR {
-        if rest.len() > 1500 {
+        if rest.len() > MAX_PAYLOAD {
             return Err(FrameFault::Long);
         }
         return Ok(Seen::Plain(Frame {
@@ -35,7 +37,7 @@ fn seen_of(head: &Head<'_>, rest: &[u8]) -> Result<Seen, FrameFault>
             payload: copied(rest),
         }));
     }
-    if rest.len() < 6 {
+    if rest.len() < TAG_LEN {
         return Err(FrameFault::ShortTag);
     }
     let first = u16_at(rest, 0);
@@ -54,12 +56,12 @@ fn seen_of(head: &Head<'_>, rest: &[u8]) -> Result<Seen, FrameFault>
         size: first % 4096,
         seq: u16_at(rest, 2),
         kind,
-        payload: copied(&rest[6..]),
+        payload: copied(&rest[TAG_LEN..]),
     }))
 }
 
 /// Reads octets.
-fn read(octets: &[u8]) -> Result<Seen, FrameFault>
+fn read_seen(octets: &[u8]) -> Result<Seen, FrameFault>
     ensures exact { result ≡ classified octets.now }
     ensures found { IfOk result (λ s. Spells octets.now s) }
     ensures only_plain { (f : Fields) → IsPlain f → octets.now ≡ spelling f → result ≡ Ok (Seen.Plain f) }
@@ -81,5 +83,5 @@ pub fn classify(octets: &[u8]) -> Result<Seen, FrameFault>
     // Whatever the octets are, they are read in one way.
     ensures one_way { IsReadOneWay octets.now }
 {
-    read(octets)
+    read_seen(octets)
 }

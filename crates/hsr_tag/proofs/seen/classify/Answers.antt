@@ -3,4 +3,4 @@ use Rattle.hsr_tag.proofs.seen.classify.Goals as goal
 
 pub returns-clause-one_way : goal.returns-clause-one_way
 returns-clause-one_way c =
-    read_one_way c.args.octets.now c.read.result c.read.ensures.exact c.read.ensures.found c.read.ensures.only_plain c.read.ensures.only_tagged
+    read_one_way c.args.octets.now c.read_seen.result c.read_seen.ensures.exact c.read_seen.ensures.found c.read_seen.ensures.only_plain c.read_seen.ensures.only_tagged

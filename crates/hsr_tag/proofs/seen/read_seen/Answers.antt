@@ -5,7 +5,7 @@ use Rattle.hsr_frame.specs.Cases.{unless}
 use Rattle.hsr_tag.specs.Tag.{with_tag}
 use Rattle.hsr_tag.specs.Seen.{seen_in, tag_fault}
 use Rattle.hsr_tag.proofs.Frames.{classified-err, classified-ok, seen-tagged, seen_answer, spells, tagged_raw}
-use Rattle.hsr_tag.proofs.seen.read.Goals as goal
+use Rattle.hsr_tag.proofs.seen.read_seen.Goals as goal
 
 pub returns-in_err-head-clause-exact : goal.returns-in_err-head-clause-exact
 returns-in_err-head-clause-exact c =

@@ -1,6 +1,6 @@
 use Rattle.std.proofs.Common.{[], ◌∷◌, arith}
 use Rattle.hsr_frame.proofs.Texts.{spelled}
-use Rattle.hsr_frame.proofs.mac.read_text.Goals as goal
+use Rattle.hsr_frame.proofs.mac.read_mac.Goals as goal
 
 pub returns-clause-found : goal.returns-clause-found
 returns-clause-found c =
