@@ -6,7 +6,7 @@ top=$(cd "$(dirname "${BASH_SOURCE[0]}")/.." && pwd)
 most=${1:-50000}
 work=$(mktemp -d); trap 'rm -rf "$work"' EXIT
 mkdir -p "$work/crates"
-crates=$(grep -oE '^hsr_[a-z]+' "$top/crates.txt" | sed '/hsr_scenario/q')
+crates=$(grep -oE '^hsr_[a-z_]+' "$top/crates.txt" | sed '/^hsr_scenario$/q')
 for crate in $crates; do cp -r "$top/crates/$crate" "$work/crates"; done
 mkdir -p "$work/crates/scenario/src"
 cp "$top/bench/scenario.rt.txt" "$work/crates/scenario/src/main.rt" # the gate takes sources of crates alone
