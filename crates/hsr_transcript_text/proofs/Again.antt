@@ -18,10 +18,11 @@ use Rattle.hsr_link.specs.declared.row.Fate.TheVariants.{Queued, Taken, LostDown
 use Rattle.hsr_link.specs.declared.row.Row.{Row}
 use Rattle.std.proofs.lemmas.Slice.Eq.{bytes_eq-Decides}
 use Rattle.hsr_transcript_text.proofs.WordTexts.{lacks_word, own, word_octets}
-use Rattle.hsr_transcript_text.specs.Parsed.{dir_said, fate_said, probe_said, row_of, row_said, turn_of}
+use Rattle.hsr_transcript_text.specs.Parsed.{fate_said, probe_said, row_of, row_said, turn_of}
+use Rattle.hsr_link.specs.Words.{dir_of, dir_word, fate_word}
 use Rattle.hsr_transcript_text.specs.Reading.{checked, exactly}
 use Rattle.hsr_transcript_text.specs.Readable.{Lacks}
-use Rattle.hsr_transcript_text.specs.Spelled.{dir_text, fate_text, octets_text, probe_text, row_text}
+use Rattle.hsr_transcript_text.specs.Spelled.{octets_text, probe_text, row_text}
 use Rattle.hsr_transcript_text.proofs.CutWords.{cut_word, cut_end, lacks_more}
 
 -- ---- numbers
@@ -80,11 +81,11 @@ pub record IsFinishedRow (row : Row) : Type 0 where
   pub put : row.injected ≡ false
   pub gone : IsGone row.fate
 
-dir_again : (d : Dir) → (dir_said (dir_text d) ≡ Some d) × Lacks 32 (dir_text d)
+dir_again : (d : Dir) → (dir_of (dir_word d) ≡ Some d) × Lacks 32 (dir_word d)
 dir_again Forth = (refl, (refl, (refl, (refl, (refl, (refl, tt))))))
 dir_again Back = (refl, (refl, (refl, (refl, (refl, tt)))))
 
-fate_again : (f : Fate) → IsGone f → (fate_said (fate_text f) ≡ Some f) × Lacks 32 (fate_text f)
+fate_again : (f : Fate) → IsGone f → (fate_said (fate_word f) ≡ Some f) × Lacks 32 (fate_word f)
 fate_again Queued h = absurd h
 fate_again Taken h = (refl, (refl, (refl, (refl, (refl, (refl, tt))))))
 fate_again LostDown h = (refl, (refl, (refl, (refl, (refl, tt)))))
@@ -106,11 +107,11 @@ unfolding row_said row_text
 row_again d p octets f node place bytes gone =
     let dir = dir_again d in
     let fate = fate_again f gone in
-    let rest = octets_text octets ++ 32 ∷ fate_text f in
-    let cut_fate : cut 32 (fate_text f) ≡ (fate_text f, None) = cut_end 32 (fate_text f) fate.1 in
-    let cut_octets : cut 32 (octets_text octets ++ 32 ∷ fate_text f) ≡ (octets_text octets, Some (fate_text f)) = cut_word 32 (octets_text octets) (fate_text f) (lacks_word 32 (octets_text octets) (omega arith) (word_octets octets bytes)) in
+    let rest = octets_text octets ++ 32 ∷ fate_word f in
+    let cut_fate : cut 32 (fate_word f) ≡ (fate_word f, None) = cut_end 32 (fate_word f) fate.1 in
+    let cut_octets : cut 32 (octets_text octets ++ 32 ∷ fate_word f) ≡ (octets_text octets, Some (fate_word f)) = cut_word 32 (octets_text octets) (fate_word f) (lacks_word 32 (octets_text octets) (omega arith) (word_octets octets bytes)) in
     let cut_probe : cut 32 (probe_text (Some p) ++ 32 ∷ rest) ≡ (probe_text (Some p), Some rest) = cut_word 32 (probe_text (Some p)) rest (probe_lacks p node place) in
-    let cut_dir : cut 32 (dir_text d ++ 32 ∷ (probe_text (Some p) ++ 32 ∷ rest)) ≡ (dir_text d, Some (probe_text (Some p) ++ 32 ∷ rest)) = cut_word 32 (dir_text d) (probe_text (Some p) ++ 32 ∷ rest) dir.1 in
+    let cut_dir : cut 32 (dir_word d ++ 32 ∷ (probe_text (Some p) ++ 32 ∷ rest)) ≡ (dir_word d, Some (probe_text (Some p) ++ 32 ∷ rest)) = cut_word 32 (dir_word d) (probe_text (Some p) ++ 32 ∷ rest) dir.1 in
     rw (cut_dir, dir.0, cut_probe, probe_again p node place, cut_octets, octets_again octets bytes, cut_fate, fate.0) refl
 
 -- what is spelled is read exactly where it is read freely

@@ -17,7 +17,8 @@ use Rattle.hsr_transcript_text.specs.Fits.{IsEventFit, IsProbeFit, IsSendFit}
 use Rattle.hsr_transcript_text.specs.Parsed.{arrive_said, below, event_said, port_said, probe_said, send_said, vlan_said}
 use Rattle.hsr_transcript_text.specs.Readable.{Lacks}
 use Rattle.hsr_transcript_text.proofs.Roles.{IsEventOf, IsPortOf}
-use Rattle.hsr_transcript_text.specs.Spelled.{about_text, event_text, letter, mac_text, octets_text, probe_text, spaced, vlan_text}
+use Rattle.hsr_transcript_text.specs.Spelled.{about_text, event_text, mac_text, octets_text, probe_text, spaced, vlan_text}
+use Rattle.hsr_node.specs.Words.{letter}
 use Rattle.hsr_transcript_text.proofs.Addressed.{mac_said, word_mac}
 use Rattle.hsr_transcript_text.proofs.Again.{octets_again, probe_again}
 use Rattle.hsr_transcript_text.proofs.CutWords.{cut_word}

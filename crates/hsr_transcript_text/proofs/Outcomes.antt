@@ -10,7 +10,8 @@ use Rattle.hsr_transcript_text.specs.Fits.{IsOutcomeFit}
 use Rattle.hsr_transcript_text.specs.Parsed.{below, cause_said, has_octet, judged_said, lived_said, outcome_said, ports_said, sent_said, seq_said, tail_of}
 use Rattle.hsr_transcript_text.specs.Readable.{Lacks}
 use Rattle.hsr_transcript_text.proofs.Roles.{IsOutcomeOf}
-use Rattle.hsr_transcript_text.specs.Spelled.{cause_text, outcome_text, ports_text, seq_text, up_text}
+use Rattle.hsr_transcript_text.specs.Spelled.{outcome_text, ports_text, seq_text, up_text}
+use Rattle.hsr_frame.specs.Words.{cause_text}
 use Rattle.hsr_transcript_text.proofs.CutWords.{lacks_more}
 use Rattle.hsr_transcript_text.proofs.Events.{cut_first}
 use Rattle.hsr_transcript_text.proofs.Ports.{behind_space, cut_tail, opens, ports_behind, ports_behind_up, ports_lack, ports_open, up_line, up_open, up_told}
@@ -48,7 +49,7 @@ outcome_again place (Life seq life ports) f h =
     (ports_behind place ports f.2 h)
 outcome_again place (Judged up ports seq cause) f h =
     let why = cause_again cause in
-    judged_words place (cause_text cause) (seq_text seq) (up_text up ++ ports_text place ports) up ports seq cause
+    judged_words place (cause_text (codes "-") cause) (seq_text seq) (up_text up ++ ports_text place ports) up ports seq cause
     why.1 (word_seq seq f.0) (up_open up place ports) why.0 (seq_again seq f.0) (up_told up place ports) (ports_behind_up up place ports f.1 h)
 outcome_again place Aged f h = refl
 
@@ -64,7 +65,7 @@ outcome_line place (Life seq life ports) f =
     (lacks_more 10 (decimal life) _ (line_end (decimal life) (word_decimal life (let l = f.1 in omega arith))) (ports_lack 10 place ports refl refl)))
 outcome_line place (Judged up ports seq cause) f =
     line_more (codes "judged") _ refl
-    (line_more (cause_text cause) _ (cause_again cause).1
+    (line_more (cause_text (codes "-") cause) _ (cause_again cause).1
     (lacks_more 10 (seq_text seq) _ (line_end (seq_text seq) (word_seq seq f.0))
     (lacks_more 10 (up_text up) _ (up_line up) (ports_lack 10 place ports refl refl))))
 outcome_line place Aged f = line_end (codes "aged") refl

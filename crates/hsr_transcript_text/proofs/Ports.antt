@@ -11,7 +11,8 @@ use Rattle.hsr_node.specs.declared.place.Place.TheVariants.{Danh, RedBox, QuadBo
 use Rattle.hsr_transcript_text.specs.Parsed.{has_octet, ports_said, tail_of}
 use Rattle.hsr_transcript_text.specs.Readable.{Lacks}
 use Rattle.hsr_transcript_text.proofs.Roles.{AreExitsOf}
-use Rattle.hsr_transcript_text.specs.Spelled.{letter, port_text, ports_text, up_text}
+use Rattle.hsr_transcript_text.specs.Spelled.{port_text, ports_text, up_text}
+use Rattle.hsr_node.specs.Words.{letter}
 use Rattle.hsr_transcript_text.proofs.CutWords.{cut_end, cut_word, lacks_more}
 use Rattle.hsr_transcript_text.proofs.WordTexts.{is_word, lacks_word}
 

@@ -22,9 +22,12 @@ use Rattle.hsr_transcript_text.proofs.WordTexts.{line_end, word_octets}
 use Rattle.hsr_transcript_text.specs.Fits.{IsPlaceFit}
 use Rattle.hsr_transcript_text.specs.Form.{only}
 use Rattle.hsr_transcript_text.specs.Lines.{head}
-use Rattle.hsr_transcript_text.specs.Parsed.{count_of, end_said, link_of, link_said, mode_said, number_in, place_of, place_said, port_said, row_of, turn_of}
+use Rattle.hsr_transcript_text.specs.Parsed.{count_of, end_said, link_of, link_said, number_in, place_of, place_said, port_said, row_of, turn_of}
+use Rattle.hsr_frame.specs.Words.{mode_of, mode_word}
 use Rattle.hsr_transcript_text.specs.Readable.{IsSpelled, Lacks}
-use Rattle.hsr_transcript_text.specs.Spelled.{dir_text, end_text, fate_text, letter, link_text, mac_text, mode_text, octets_text, place_text, probe_text, row_text, spaced}
+use Rattle.hsr_transcript_text.specs.Spelled.{end_text, link_text, mac_text, octets_text, place_text, probe_text, row_text, spaced}
+use Rattle.hsr_node.specs.Words.{letter}
+use Rattle.hsr_link.specs.Words.{dir_word, fate_word}
 use Rattle.hsr_transcript_text.proofs.Again.{IsFinishedRow, exactly_again, lacks_decimal, number_again, row_read, turn_read}
 use Rattle.hsr_transcript_text.proofs.CutWords.{cut_end, cut_word, lacks_more}
 use Rattle.hsr_transcript_text.proofs.Addressed.{mac_again, mac_lacks, macs_again}
@@ -56,11 +59,11 @@ count_spelled name n h l k = record { read = count_read name n h k; line = lacks
 
 -- ---- rows
 
-dir_lacks : (d : Dir) → Lacks 10 (dir_text d)
+dir_lacks : (d : Dir) → Lacks 10 (dir_word d)
 dir_lacks Forth = (refl, (refl, (refl, (refl, (refl, tt)))))
 dir_lacks Back = (refl, (refl, (refl, (refl, tt))))
 
-fate_lacks : (f : Fate) → Lacks 10 (fate_text f)
+fate_lacks : (f : Fate) → Lacks 10 (fate_word f)
 fate_lacks Queued = (refl, (refl, (refl, (refl, (refl, (refl, tt))))))
 fate_lacks Taken = (refl, (refl, (refl, (refl, (refl, tt)))))
 fate_lacks LostDown = (refl, (refl, (refl, (refl, tt))))
@@ -74,24 +77,24 @@ row_lacks : (row : Row) → IsFinishedRow row → Lacks 10 (row_text row)
 unfolding row_text
 row_lacks row f =
     let probe = subst (λ p. Lacks 10 (probe_text p)) (sym f.named) (probe_lacks f.probe f.node f.place) in
-    lacks_spaced (dir_text row.dir) (probe_text row.carried.probe ∷ octets_text row.carried.octets ∷ fate_text row.fate ∷ []) (dir_lacks row.dir) (probe, (line_end (octets_text row.carried.octets) (word_octets row.carried.octets f.octets), (fate_lacks row.fate, tt)))
+    lacks_spaced (dir_word row.dir) (probe_text row.carried.probe ∷ octets_text row.carried.octets ∷ fate_word row.fate ∷ []) (dir_lacks row.dir) (probe, (line_end (octets_text row.carried.octets) (word_octets row.carried.octets f.octets), (fate_lacks row.fate, tt)))
 
 pub row_spelled : (row : Row) → IsFinishedRow row → IsSpelled row_of row_text row
 row_spelled row f = record { read = row_read row f; line = row_lacks row f }
 
 -- ---- nodes
 
-mode_again : (mode : Mode) → mode_said (cut 32 (mode_text mode)).0 ≡ Some mode
+mode_again : (mode : Mode) → mode_of (cut 32 (mode_word mode)).0 ≡ Some mode
 mode_again H = refl
 mode_again N = refl
 
-mode_lacks : (mode : Mode) → Lacks 10 (mode_text mode)
+mode_lacks : (mode : Mode) → Lacks 10 (mode_word mode)
 mode_lacks H = (refl, tt)
 mode_lacks N = (refl, tt)
 
 -- an address and a mode, as they stand behind a node's name
-mac_first : (mac : List ℕ) (mode : Mode) → cut 32 (mac_text mac ++ 32 ∷ mode_text mode) ≡ (mac_text mac, Some (mode_text mode))
-mac_first mac mode = cut_word 32 (mac_text mac) (mode_text mode) (mac_lacks 32 mac (omega arith))
+mac_first : (mac : List ℕ) (mode : Mode) → cut 32 (mac_text mac ++ 32 ∷ mode_word mode) ≡ (mac_text mac, Some (mode_word mode))
+mac_first mac mode = cut_word 32 (mac_text mac) (mode_word mode) (mac_lacks 32 mac (omega arith))
 
 -- a station's addresses
 station_again : (macs : List (List ℕ)) → AllByRecursion IsAddress macs → length macs ≤ 16 → 0 < length macs
@@ -116,9 +119,9 @@ macs_lack (mac ∷ macs) = (mac_lacks 10 mac (omega arith), macs_lack macs)
 place_lacks : (place : Place) → Lacks 10 (place_text place)
 unfolding place_text
 place_lacks (Danh mac mode) =
-    lacks_spaced (codes "danh") (mac_text mac ∷ mode_text mode ∷ []) (refl, (refl, (refl, (refl, tt)))) (mac_lacks 10 mac (omega arith), (mode_lacks mode, tt))
+    lacks_spaced (codes "danh") (mac_text mac ∷ mode_word mode ∷ []) (refl, (refl, (refl, (refl, tt)))) (mac_lacks 10 mac (omega arith), (mode_lacks mode, tt))
 place_lacks (RedBox mac mode) =
-    lacks_spaced (codes "redbox") (mac_text mac ∷ mode_text mode ∷ []) (refl, (refl, (refl, (refl, (refl, (refl, tt)))))) (mac_lacks 10 mac (omega arith), (mode_lacks mode, tt))
+    lacks_spaced (codes "redbox") (mac_text mac ∷ mode_word mode ∷ []) (refl, (refl, (refl, (refl, (refl, (refl, tt)))))) (mac_lacks 10 mac (omega arith), (mode_lacks mode, tt))
 place_lacks QuadBox = (refl, (refl, (refl, (refl, (refl, (refl, (refl, tt)))))))
 place_lacks (Station macs) =
     lacks_spaced (codes "station") (map mac_text macs.items) (refl, (refl, (refl, (refl, (refl, (refl, (refl, tt))))))) (macs_lack macs.items)

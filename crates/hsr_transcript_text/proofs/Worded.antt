@@ -26,7 +26,9 @@ use Rattle.hsr_transcript_text.specs.Fits.{IsAboutFit, IsNumberFit, IsProbeFit}
 use Rattle.hsr_transcript_text.specs.Parsed.{about_said, below, cause_said, port_said, seq_said, vlan_said}
 use Rattle.hsr_transcript_text.specs.Reading.{tested}
 use Rattle.hsr_transcript_text.proofs.Roles.{IsPortOf}
-use Rattle.hsr_transcript_text.specs.Spelled.{about_text, cause_text, letter, mac_text, probe_text, seq_text, vlan_text}
+use Rattle.hsr_transcript_text.specs.Spelled.{about_text, mac_text, probe_text, seq_text, vlan_text}
+use Rattle.hsr_node.specs.Words.{letter}
+use Rattle.hsr_frame.specs.Words.{cause_text}
 use Rattle.hsr_transcript_text.proofs.Addressed.{mac_said, not_own, word_mac}
 use Rattle.hsr_transcript_text.proofs.Again.{lacks_decimal, number_again}
 use Rattle.hsr_transcript_text.proofs.WordTexts.{is_word, no_hyphen, word_decimal, word_hex, word_more}
@@ -126,7 +128,7 @@ fault_again DoubleVlan = (refl, refl)
 fault_again ShortTag = (refl, refl)
 fault_again NestedTag = (refl, refl)
 
-pub cause_again : (cause : Cause) → (cause_said (cause_text cause) ≡ Some cause) × (is_word (cause_text cause) ≡ true)
+pub cause_again : (cause : Cause) → (cause_said (cause_text (codes "-") cause) ≡ Some cause) × (is_word (cause_text (codes "-") cause) ≡ true)
 cause_again Passed = (refl, refl)
 cause_again Duplicate = (refl, refl)
 cause_again Returned = (refl, refl)
@@ -135,5 +137,5 @@ cause_again Local = (refl, refl)
 cause_again Untagged = (refl, refl)
 cause_again Tagged = (refl, refl)
 cause_again (Malformed fault) =
-    let text : cause_text (Malformed fault) ≡ codes "malformed-" ++ (48 + frame_fault_code fault) ∷ [] = ap (λ digits. codes "malformed-" ++ digits) (fault_digit fault) in
+    let text : cause_text (codes "-") (Malformed fault) ≡ codes "malformed-" ++ (48 + frame_fault_code fault) ∷ [] = ap (λ digits. codes "malformed-" ++ digits) (fault_digit fault) in
     (ap cause_said text ∙ (fault_again fault).0, ap is_word text ∙ (fault_again fault).1)

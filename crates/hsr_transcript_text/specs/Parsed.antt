@@ -1,6 +1,6 @@
 -- What the lines of a transcript say. Lines are read freely here: a line that says a value is that value's line only if
 -- it is spelled so, which `exactly` tests.
-use Rattle.std.specs.Prelude.{ℕ, zero, suc, ◌==◌, ◌^◌, nat_lt, Bool, false, List, [], ◌∷◌, length, Option, Some, None, option_map, if◌then◌else◌, codes, slice_index_or}
+use Rattle.std.specs.Prelude.{ℕ, zero, suc, ◌==◌, ◌^◌, nat_lt, not, Bool, false, List, [], ◌∷◌, length, Option, Some, None, option_map, if◌then◌else◌, codes, slice_index_or}
 use Rattle.std.specs.List.{list_any}
 use Rattle.std.specs.Result.{result_ok}
 use Rattle.std.specs.Str.{bytes_eq}
@@ -8,11 +8,10 @@ use Rattle.std.specs.Fmt.{decimal}
 use Rattle.hsr_frame.specs.Address.{address_of}
 use Rattle.hsr_frame.specs.Cases.{first_of}
 use Rattle.hsr_text.specs.Words.{◌>>=◌, cut, word_at, decimal_of, hex_pair_of, hex_octets_of}
-use Rattle.hsr_frame.specs.declared.fault.FrameFault.TheVariants.{Short, Long, GroupSource, DoubleVlan, ShortTag, NestedTag}
+use Rattle.hsr_frame.specs.Words.{cause_of, fault_of, mode_of}
+use Rattle.hsr_frame.specs.declared.fault.FrameFault.{FrameFault}
 use Rattle.hsr_frame.specs.declared.node.Cause.{Cause}
-use Rattle.hsr_frame.specs.declared.node.Cause.TheVariants.{Passed, Duplicate, Returned, Foreign, Local, Untagged, Tagged, Malformed}
 use Rattle.hsr_frame.specs.declared.node.Mode.{Mode}
-use Rattle.hsr_frame.specs.declared.node.Mode.TheVariants.{H, N}
 use Rattle.hsr_frame.specs.declared.node.About.{About}
 use Rattle.hsr_frame.specs.declared.node.About.TheVariants.{Own, Proxied}
 use Rattle.hsr_node.specs.declared.entry.Entry.{Entry}
@@ -23,16 +22,18 @@ use Rattle.hsr_node.specs.declared.event.Outcome.TheVariants.{Sent, Life, Judged
 use Rattle.hsr_node.specs.declared.event.Probe.{Probe}
 use Rattle.hsr_node.specs.declared.place.Place.{Place}
 use Rattle.hsr_node.specs.declared.place.Place.TheVariants.{Danh, RedBox, QuadBox, Station}
-use Rattle.hsr_link.specs.declared.row.Dir.{Dir}
-use Rattle.hsr_link.specs.declared.row.Dir.TheVariants.{Forth, Back}
+use Rattle.hsr_node.specs.declared.role.Role.{Role}
+use Rattle.hsr_node.specs.declared.role.Role.TheVariants as role
+use Rattle.hsr_link.specs.Rows.{is_queued}
+use Rattle.hsr_link.specs.Words.{dir_of, fate_of}
 use Rattle.hsr_link.specs.declared.row.Fate.{Fate}
-use Rattle.hsr_link.specs.declared.row.Fate.TheVariants.{Taken, LostDown, LostCut, LostOverrun}
 use Rattle.hsr_link.specs.declared.row.Row.{Row}
 use Rattle.hsr_node.specs.Place.{ports}
+use Rattle.hsr_node.specs.Words.{letter, port_of, role_of}
 use Rattle.hsr_topology.specs.declared.end.End.{End}
 use Rattle.hsr_transcript_text.specs.Reading.{exactly, tested}
 use Rattle.hsr_transcript_text.specs.Lines.{head}
-use Rattle.hsr_transcript_text.specs.Spelled.{entry_text, letter, link_text, place_text, row_text}
+use Rattle.hsr_transcript_text.specs.Spelled.{entry_text, link_text, place_text, row_text}
 
 -- ---- words
 
@@ -44,30 +45,19 @@ word_of rows = first_of rows None
 abbrev pub below : ℕ → List ℕ → Option ℕ
 below bound word = tested (λ n. nat_lt n bound) (decimal_of word)
 
-abbrev pub mode_said : List ℕ → Option Mode
-mode_said w = word_of ((bytes_eq w (codes "H"), Some H) ∷ (bytes_eq w (codes "N"), Some N) ∷ [])
-
-abbrev pub dir_said : List ℕ → Option Dir
-dir_said w = word_of ((bytes_eq w (codes "forth"), Some Forth) ∷ (bytes_eq w (codes "back"), Some Back) ∷ [])
-
+-- the fate of a copy that waits no more
 abbrev pub fate_said : List ℕ → Option Fate
-fate_said w = word_of
-    ((bytes_eq w (codes "taken"), Some Taken) ∷ (bytes_eq w (codes "down"), Some LostDown)
-    ∷ (bytes_eq w (codes "cut"), Some LostCut) ∷ (bytes_eq w (codes "overrun"), Some LostOverrun) ∷ [])
+fate_said w = tested (λ fate. not (is_queued fate)) (fate_of w)
 
-abbrev pub malformed_said : List ℕ → Option Cause
-malformed_said w = word_of
-    ((bytes_eq w (codes "malformed-1"), Some (Malformed Short)) ∷ (bytes_eq w (codes "malformed-2"), Some (Malformed Long))
-    ∷ (bytes_eq w (codes "malformed-3"), Some (Malformed GroupSource)) ∷ (bytes_eq w (codes "malformed-4"), Some (Malformed DoubleVlan))
-    ∷ (bytes_eq w (codes "malformed-5"), Some (Malformed ShortTag)) ∷ (bytes_eq w (codes "malformed-6"), Some (Malformed NestedTag)) ∷ [])
+-- the fault behind a cause's hyphen, if there is one
+abbrev pub fault_said : Option (List ℕ) → Option (Option FrameFault)
+fault_said None = Some None
+fault_said (Some digits) = option_map Some (decimal_of digits >>= fault_of)
 
 abbrev pub cause_said : List ℕ → Option Cause
-cause_said w = first_of
-    ((bytes_eq w (codes "passed"), Some Passed) ∷ (bytes_eq w (codes "duplicate"), Some Duplicate)
-    ∷ (bytes_eq w (codes "returned"), Some Returned) ∷ (bytes_eq w (codes "foreign"), Some Foreign)
-    ∷ (bytes_eq w (codes "local"), Some Local) ∷ (bytes_eq w (codes "untagged"), Some Untagged)
-    ∷ (bytes_eq w (codes "tagged"), Some Tagged) ∷ [])
-    (malformed_said w)
+cause_said w = do
+  fault ← fault_said (cut 45 w).1
+  cause_of (cut 45 w).0 fault
 
 abbrev pub vlan_said : List ℕ → Option (Option ℕ)
 vlan_said w = if bytes_eq w (codes "-") then Some None else option_map Some (hex_pair_of w)
@@ -86,15 +76,10 @@ probe_said w = do
   place ← decimal_of rest
   Some (record { node = node; place = place })
 
--- the number that a letter has where it names a port
-abbrev pub port_number : ℕ → Option ℕ
-port_number c = word_of
-    ((c == 65, Some 0) ∷ (c == 66, Some 1) ∷ (c == 67, Some 2) ∷ (c == 68, Some 3) ∷ (c == 73, Some 2) ∷ (c == 80, Some 0) ∷ [])
-
 -- a port that the place has, by a word that begins with its letter
 abbrev pub port_said : Place → List ℕ → Option ℕ
 port_said place [] = None
-port_said place (c ∷ cs) = tested (λ port. nat_lt port (ports place)) (port_number c)
+port_said place (c ∷ cs) = port_of place c
 
 -- ---- nodes and links
 
@@ -113,7 +98,7 @@ ring_node_said node words = do
   address ← word_at words
   mac ← result_ok (address_of address.0)
   word ← word_at address.1
-  mode ← mode_said word.0
+  mode ← mode_of word.0
   Some (node mac mode)
 
 abbrev pub station_said : Option (List ℕ) → Option Place
@@ -121,12 +106,16 @@ station_said words = do
   macs ← tested (λ macs. nat_lt 0 (length macs)) (macs_said 16 words)
   Some (Station (record { items = macs }))
 
+abbrev pub words_said : Role → Option (List ℕ) → Option Place
+words_said role.Danh words = ring_node_said Danh words
+words_said role.RedBox words = ring_node_said RedBox words
+words_said role.QuadBox words = Some QuadBox
+words_said role.Station words = station_said words
+
 unfoldable pub place_said : List ℕ → Option Place
-place_said line = word_of
-    ((bytes_eq (cut 32 line).0 (codes "danh"), ring_node_said Danh (cut 32 line).1)
-    ∷ (bytes_eq (cut 32 line).0 (codes "redbox"), ring_node_said RedBox (cut 32 line).1)
-    ∷ (bytes_eq (cut 32 line).0 (codes "quadbox"), Some QuadBox)
-    ∷ (bytes_eq (cut 32 line).0 (codes "station"), station_said (cut 32 line).1) ∷ [])
+place_said line = do
+  role ← role_of (cut 32 line).0
+  words_said role (cut 32 line).1
 
 -- `<node>.<port>`, of a node that is there
 abbrev pub end_said : List Place → List ℕ → Option End
@@ -245,7 +234,7 @@ entry_said place line = do
 unfoldable pub row_said : List ℕ → Option Row
 row_said line = do
   first ← word_at (Some line)
-  dir ← dir_said first.0
+  dir ← dir_of first.0
   second ← word_at first.1
   probe ← probe_said second.0
   third ← word_at second.1

@@ -8,15 +8,12 @@ use Rattle.std.specs.Prelude.{ℕ, Bool, List, [], ◌∷◌, ◌++◌, map, cod
 use Rattle.std.specs.Fmt.{decimal}
 use Rattle.hex.specs.Hex.{encode_upper}
 use Rattle.hsr_frame.specs.Address.{address_text}
-use Rattle.hsr_frame.specs.Fault.{frame_fault_code}
 use Rattle.hsr_frame.specs.Grammar.{pair}
-use Rattle.hsr_frame.specs.declared.node.Cause.{Cause}
-use Rattle.hsr_frame.specs.declared.node.Cause.TheVariants.{Passed, Duplicate, Returned, Foreign, Local, Untagged, Tagged, Malformed}
-use Rattle.hsr_frame.specs.declared.node.Mode.{Mode}
-use Rattle.hsr_frame.specs.declared.node.Mode.TheVariants.{H, N}
+use Rattle.hsr_frame.specs.Words.{cause_text, mode_word}
 use Rattle.hsr_frame.specs.declared.node.About.{About}
 use Rattle.hsr_frame.specs.declared.node.About.TheVariants.{Own, Proxied}
 use Rattle.hsr_node.specs.Record.{has_port}
+use Rattle.hsr_node.specs.Words.{letter, role_word}
 use Rattle.hsr_node.specs.declared.entry.Entry.{Entry}
 use Rattle.hsr_node.specs.declared.event.Event.{Event}
 use Rattle.hsr_node.specs.declared.event.Event.TheVariants.{Send, Supervise, Arrive, Age}
@@ -25,10 +22,9 @@ use Rattle.hsr_node.specs.declared.event.Outcome.TheVariants.{Sent, Life, Judged
 use Rattle.hsr_node.specs.declared.event.Probe.{Probe}
 use Rattle.hsr_node.specs.declared.place.Place.{Place}
 use Rattle.hsr_node.specs.declared.place.Place.TheVariants.{Danh, RedBox, QuadBox, Station}
-use Rattle.hsr_link.specs.declared.row.Dir.{Dir}
-use Rattle.hsr_link.specs.declared.row.Dir.TheVariants.{Forth, Back}
-use Rattle.hsr_link.specs.declared.row.Fate.{Fate}
-use Rattle.hsr_link.specs.declared.row.Fate.TheVariants.{Queued, Taken, LostDown, LostCut, LostOverrun}
+use Rattle.hsr_node.specs.declared.role.Role.TheVariants as role
+use Rattle.hsr_link.specs.Words.{dir_word, fate_word}
+use Rattle.hsr_link.specs.declared.row.Dir.TheVariants.{Forth}
 use Rattle.hsr_link.specs.declared.row.Row.{Row}
 use Rattle.hsr_law.specs.Run.{from_end, to_end}
 use Rattle.hsr_topology.specs.declared.end.End.{End}
@@ -43,21 +39,6 @@ spaced word (next ∷ others) = word ++ 32 ∷ spaced next others
 -- the text of an address
 unfoldable pub mac_text : List ℕ → List ℕ
 mac_text mac = address_text mac
-
--- the letters of a place's ports, in the order of their numbers
-abbrev pub letters : Place → List ℕ
-letters (Danh mac mode) = codes "AB"
-letters (RedBox mac mode) = codes "ABI"
-letters QuadBox = codes "ABCD"
-letters (Station macs) = codes "P"
-
--- the letter of a port; one that isn't there has a question mark, which no text of a closed run holds
-abbrev pub letter : Place → ℕ → ℕ
-letter place port = slice_index_or (letters place) port 63
-
-abbrev pub mode_text : Mode → List ℕ
-mode_text H = codes "H"
-mode_text N = codes "N"
 
 abbrev pub octets_text : List ℕ → List ℕ
 octets_text [] = codes "-"
@@ -81,34 +62,13 @@ abbrev pub about_text : About → List ℕ
 about_text Own = codes "own"
 about_text (Proxied mac) = mac_text mac
 
-abbrev pub cause_text : Cause → List ℕ
-cause_text Passed = codes "passed"
-cause_text Duplicate = codes "duplicate"
-cause_text Returned = codes "returned"
-cause_text Foreign = codes "foreign"
-cause_text Local = codes "local"
-cause_text Untagged = codes "untagged"
-cause_text Tagged = codes "tagged"
-cause_text (Malformed fault) = codes "malformed-" ++ decimal (frame_fault_code fault)
-
-abbrev pub dir_text : Dir → List ℕ
-dir_text Forth = codes "forth"
-dir_text Back = codes "back"
-
-abbrev pub fate_text : Fate → List ℕ
-fate_text Queued = codes "queued"
-fate_text Taken = codes "taken"
-fate_text LostDown = codes "down"
-fate_text LostCut = codes "cut"
-fate_text LostOverrun = codes "overrun"
-
 -- ---- nodes and links
 
 unfoldable pub place_text : Place → List ℕ
-place_text (Danh mac mode) = spaced (codes "danh") (mac_text mac ∷ mode_text mode ∷ [])
-place_text (RedBox mac mode) = spaced (codes "redbox") (mac_text mac ∷ mode_text mode ∷ [])
-place_text QuadBox = codes "quadbox"
-place_text (Station macs) = spaced (codes "station") (map mac_text macs.items)
+place_text (Danh mac mode) = spaced (role_word role.Danh) (mac_text mac ∷ mode_word mode ∷ [])
+place_text (RedBox mac mode) = spaced (role_word role.RedBox) (mac_text mac ∷ mode_word mode ∷ [])
+place_text QuadBox = role_word role.QuadBox
+place_text (Station macs) = spaced (role_word role.Station) (map mac_text macs.items)
 
 -- `<node>.<port>`
 abbrev pub end_text : List Place → End → List ℕ
@@ -141,7 +101,7 @@ unfoldable pub outcome_text : Place → Outcome → List ℕ
 outcome_text place (Sent seq ports) = codes "sent " ++ (seq_text seq ++ ports_text place ports)
 outcome_text place (Life seq life ports) = codes "life " ++ (decimal seq ++ 32 ∷ (decimal life ++ ports_text place ports))
 outcome_text place (Judged up ports seq cause) =
-    codes "judged " ++ (cause_text cause ++ 32 ∷ (seq_text seq ++ (up_text up ++ ports_text place ports)))
+    codes "judged " ++ (cause_text (codes "-") cause ++ 32 ∷ (seq_text seq ++ (up_text up ++ ports_text place ports)))
 outcome_text place Aged = codes "aged"
 
 unfoldable pub entry_text : Place → Entry → List ℕ
@@ -152,4 +112,4 @@ entry_text place entry =
 
 unfoldable pub row_text : Row → List ℕ
 row_text row =
-    spaced (dir_text row.dir) (probe_text row.carried.probe ∷ octets_text row.carried.octets ∷ fate_text row.fate ∷ [])
+    spaced (dir_word row.dir) (probe_text row.carried.probe ∷ octets_text row.carried.octets ∷ fate_word row.fate ∷ [])

@@ -4,15 +4,17 @@ ghost use Rattle.std.specs.Fmt.{decimal};
 ghost use Rattle.std.specs.List.{AllByRecursion};
 ghost use Rattle.hsr_frame.specs.Address.{IsAddress};
 ghost use Rattle.hsr_transcript_text.specs.Fits.{IsPlaceFit};
-ghost use Rattle.hsr_transcript_text.specs.Spelled.{end_text, link_text, mac_text, mode_text, place_text, spaced};
+ghost use Rattle.hsr_transcript_text.specs.Spelled.{end_text, link_text, mac_text, place_text, spaced};
+ghost use Rattle.hsr_frame.specs.Words.{mode_word};
+ghost use Rattle.hsr_node.specs.Words.{role_word};
 
 use crate::lines::LineKind;
-use crate::said::{mode_said, port_said, split_stop};
-use crate::words::{letter, mac_fits, mode_word, put_mac, put_number, put_word};
+use crate::said::port_said;
+use crate::words::{mac_fits, put_mac, put_number, put_word};
 use arrayvec::ArrayVec;
 use hsr_frame::{Mac, Mode};
-use hsr_node::Place;
-use hsr_text::{WordFault, decimal, put_decimal, word};
+use hsr_node::{Place, Role};
+use hsr_text::{WordFault, decimal, put_decimal, split_at, word};
 use hsr_topology::End;
 use std::alloc::{AllocError, Global};
 
@@ -44,21 +46,21 @@ pub(crate) struct FixedLine<'a> {
     pub(crate) line: &'a [u8],
 }
 
-/// Puts a word, an address and a mode.
+/// Puts a role, an address and a mode.
 fn put_ring_node(
     alloc: Global,
     text: &mut Vec<u8>,
-    word: &[u8],
+    role: Role,
     mac: Mac,
     mode: Mode,
 ) -> Result<(), AllocError>
-    ensures written { OnOk result (text.new.items ≡ text.old.items ++ spaced word.now (mac_text mac ∷ mode_text mode ∷ [])) }
+    ensures written { OnOk result (text.new.items ≡ text.old.items ++ spaced (role_word role) (mac_text mac ∷ mode_word mode ∷ [])) }
     ensures fits { IsAddress mac }
 {
     mac_fits(mac);
-    text.extend_from_slice(word)?;
+    text.extend_from_slice(role.word().as_bytes())?;
     put_mac(alloc, text, mac)?;
-    put_word(text, mode_word(mode))
+    put_word(text, mode.word().as_bytes())
 }
 
 /// Puts a word and the addresses behind it.
@@ -86,10 +88,10 @@ fn put_place(alloc: Global, text: &mut Vec<u8>, place: &Place) -> Result<(), All
     ensures fits { OnOk result (IsPlaceFit place.now) }
 {
     match place {
-        Place::Danh { mac, mode } => put_ring_node(alloc, text, b"danh", *mac, *mode),
-        Place::RedBox { mac, mode } => put_ring_node(alloc, text, b"redbox", *mac, *mode),
-        Place::QuadBox => text.extend_from_slice(b"quadbox"),
-        Place::Station { macs } => put_station(alloc, text, b"station", macs.as_slice()),
+        Place::Danh { mac, mode } => put_ring_node(alloc, text, Role::Danh, *mac, *mode),
+        Place::RedBox { mac, mode } => put_ring_node(alloc, text, Role::RedBox, *mac, *mode),
+        Place::QuadBox => text.extend_from_slice(Role::QuadBox.word().as_bytes()),
+        Place::Station { macs } => put_station(alloc, text, Role::Station.word().as_bytes(), macs.as_slice()),
     }
 }
 
@@ -98,14 +100,14 @@ fn end_letter(places: &[Place], end: End) -> u8
     ensures { result ≡ letter (slice_index_or places.now end.node QuadBox) end.port }
 {
     match places.get(end.node) {
-        Some(place) => letter(place, end.port),
-        None => letter(&Place::QuadBox, end.port),
+        Some(place) => place.letter(end.port),
+        None => Place::QuadBox.letter(end.port),
     }
 }
 
 ghost use Rattle.std.specs.Prelude.{slice_index_or};
 ghost use Rattle.hsr_node.specs.declared.place.Place.TheVariants.{QuadBox};
-ghost use Rattle.hsr_transcript_text.specs.Spelled.{letter};
+ghost use Rattle.hsr_node.specs.Words.{letter};
 
 /// Puts an end of a link.
 fn put_end(text: &mut Vec<u8>, places: &[Place], end: End) -> Result<(), AllocError>
@@ -136,7 +138,7 @@ fn ring_node_said(rest: Option<&[u8]>) -> Option<(Mac, Mode)>
     let (address, rest) = word(rest)?;
     let mac = Mac::from_ascii(address).ok()?;
     let (mode, _) = word(rest)?;
-    let mode = mode_said(mode)?;
+    let mode = Mode::from_word(mode)?;
     Some((mac, mode))
 }
 
@@ -172,29 +174,26 @@ fn station_said(rest: Option<&[u8]>) -> Option<Place>
 fn place_said(line: &[u8]) -> Option<Place>
     ensures { result ≡ place_said line.now }
 {
-    let (verb, rest) = word(Some(line))?;
-    if verb == b"danh".as_slice() {
-        let (mac, mode) = ring_node_said(rest)?;
-        return Some(Place::Danh { mac, mode });
+    let (role, rest) = word(Some(line))?;
+    match Role::from_word(role)? {
+        Role::Danh => {
+            let (mac, mode) = ring_node_said(rest)?;
+            Some(Place::Danh { mac, mode })
+        }
+        Role::RedBox => {
+            let (mac, mode) = ring_node_said(rest)?;
+            Some(Place::RedBox { mac, mode })
+        }
+        Role::QuadBox => Some(Place::QuadBox),
+        Role::Station => station_said(rest),
     }
-    if verb == b"redbox".as_slice() {
-        let (mac, mode) = ring_node_said(rest)?;
-        return Some(Place::RedBox { mac, mode });
-    }
-    if verb == b"quadbox".as_slice() {
-        return Some(Place::QuadBox);
-    }
-    if verb == b"station".as_slice() {
-        return station_said(rest);
-    }
-    None
 }
 
 /// An end of a link between two of these nodes.
 fn end_said(places: &[Place], word: &[u8]) -> Option<End>
     ensures { result ≡ end_said places.now word.now }
 {
-    let (digits, rest) = split_stop(word);
+    let (digits, rest) = split_at(word, b'.');
     let node = decimal(digits)? as usize;
     let place = places.get(node)?;
     let port = port_said(place, rest?)?;

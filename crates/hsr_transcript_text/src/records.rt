@@ -9,8 +9,8 @@ use crate::said::{
     seq_said, tail_of, vlan_said,
 };
 use crate::words::{
-    about_fits, carried_fits, letter, mac_fits, put_about, put_cause, put_mac, put_number,
-    put_octets, put_pair, put_probe, put_seq, put_vlan, put_word,
+    about_fits, carried_fits, mac_fits, put_about, put_cause, put_mac, put_number,
+    put_octets, put_hex_u16, put_probe, put_seq, put_vlan, put_word,
 };
 use hsr_frame::Mac;
 use hsr_node::{Carried, Entry, Event, Octets, Outcome, Place};
@@ -46,7 +46,7 @@ fn put_event(
             put_number(text, u64::from(*from))?;
             put_mac(alloc, text, *dst)?;
             put_vlan(text, *vlan)?;
-            put_pair(text, *kind)?;
+            put_hex_u16(text, *kind)?;
             put_octets(text, payload.as_slice())
         }
         Event::Supervise(about) => {
@@ -55,7 +55,7 @@ fn put_event(
         }
         Event::Arrive { port, carried } => {
             text.extend_from_slice(b"arrive ")?;
-            text.push(letter(place, *port))?;
+            text.push(place.letter(*port))?;
             put_probe(text, carried.probe)?;
             put_octets(text, carried.octets.as_slice())
         }
@@ -73,7 +73,7 @@ fn put_port(
     ensures { OnOk result (text.new.items ≡ text.old.items ++ port_text place.now ports.now port) }
 {
     if ports.get(usize::from(port)).copied().unwrap_or(false) {
-        put_word(text, &[letter(place, port)])
+        put_word(text, &[place.letter(port)])
     } else {
         Ok(())
     }

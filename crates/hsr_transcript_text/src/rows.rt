@@ -3,9 +3,9 @@ ghost use Rattle.std.specs.Prelude.{◌≡◌, ◌++◌, OnOk};
 ghost use Rattle.hsr_transcript_text.specs.Spelled.{row_text};
 
 use crate::lines::LineKind;
-use crate::said::{dir_said, fate_said, probe_said};
-use crate::words::{carried_fits, dir_word, fate_word, put_octets, put_probe, put_word};
-use hsr_link::Row;
+use crate::said::{fate_said, probe_said};
+use crate::words::{carried_fits, put_octets, put_probe, put_word};
+use hsr_link::{Dir, Row};
 use hsr_node::{Carried, Octets};
 use hsr_text::{WordFault, hex_octets, word};
 use std::alloc::{AllocError, Global};
@@ -19,10 +19,10 @@ pub(crate) struct RowLine;
 fn put_row(text: &mut Vec<u8>, row: &Row) -> Result<(), AllocError>
     ensures { OnOk result (text.new.items ≡ text.old.items ++ row_text row.now) }
 {
-    text.extend_from_slice(dir_word(row.dir))?;
+    text.extend_from_slice(row.dir.word().as_bytes())?;
     put_probe(text, row.carried.probe)?;
     put_octets(text, row.carried.octets.as_slice())?;
-    put_word(text, fate_word(row.fate))
+    put_word(text, row.fate.word().as_bytes())
 }
 
 /// What the line of a row says.
@@ -31,7 +31,7 @@ fn row_said(alloc: Global, line: &[u8]) -> Result<Row, WordFault>
     ensures { Gives (λ r. r) result (row_said line.now) }
 {
     let (dir, rest) = word(Some(line)).ok_or(WordFault::Bad)?;
-    let dir = dir_said(dir).ok_or(WordFault::Bad)?;
+    let dir = Dir::from_word(dir).ok_or(WordFault::Bad)?;
     let (probe, rest) = word(rest).ok_or(WordFault::Bad)?;
     let probe = Some(probe_said(probe).ok_or(WordFault::Bad)?);
     let (octets, rest) = word(rest).ok_or(WordFault::Bad)?;

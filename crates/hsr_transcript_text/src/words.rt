@@ -1,69 +1,17 @@
 //! The words of lines, written.
-ghost use Rattle.std.specs.Prelude.{◌≡◌, ◌++◌, ◌∷◌, OnOk, IfOk, IfSome, string_bytes};
+ghost use Rattle.std.specs.Prelude.{◌≡◌, ◌++◌, ◌∷◌, OnOk, IfOk, IfSome, codes, string_bytes};
 ghost use Rattle.std.specs.Fmt.{decimal};
 ghost use Rattle.hex.specs.Hex.{IsBytes, encode_upper};
 ghost use Rattle.hsr_frame.specs.Address.{IsAddress};
 ghost use Rattle.hsr_frame.specs.Grammar.{pair};
+ghost use Rattle.hsr_frame.specs.Words.{cause_text, fault_text};
 ghost use Rattle.hsr_transcript_text.specs.Fits.{IsAboutFit, IsCarriedFit, IsProbeFit};
-ghost use Rattle.hsr_transcript_text.specs.Spelled.{about_text, cause_text, dir_text, fate_text, letter, letters, mac_text, mode_text, octets_text, probe_text, seq_text, vlan_text};
+ghost use Rattle.hsr_transcript_text.specs.Spelled.{about_text, mac_text, octets_text, probe_text, seq_text, vlan_text};
 
-use hsr_frame::{About, Cause, Mac, Mode};
-use hsr_link::{Dir, Fate};
-use hsr_node::{Carried, Place, Probe};
+use hsr_frame::{About, Cause, FrameFault, Mac};
+use hsr_node::{Carried, Probe};
 use hsr_text::{put_decimal, put_hex};
 use std::alloc::{AllocError, Global};
-
-/// The letters of a place's ports, in the order of their numbers.
-pub(crate) fn letters(place: &Place) -> &'static [u8]
-    ensures { result.now ≡ letters place.now }
-{
-    match place {
-        Place::Danh { .. } => b"AB",
-        Place::RedBox { .. } => b"ABI",
-        Place::QuadBox => b"ABCD",
-        Place::Station { .. } => b"P",
-    }
-}
-
-/// The letter of a port.
-pub(crate) fn letter(place: &Place, port: u8) -> u8
-    ensures { result ≡ letter place.now port }
-{
-    letters(place)
-        .get(usize::from(port))
-        .copied()
-        .unwrap_or(b'?')
-}
-
-pub(crate) fn mode_word(mode: Mode) -> &'static [u8]
-    ensures { result.now ≡ mode_text mode }
-{
-    match mode {
-        Mode::H => b"H",
-        Mode::N => b"N",
-    }
-}
-
-pub(crate) fn dir_word(dir: Dir) -> &'static [u8]
-    ensures { result.now ≡ dir_text dir }
-{
-    match dir {
-        Dir::Forth => b"forth",
-        Dir::Back => b"back",
-    }
-}
-
-pub(crate) fn fate_word(fate: Fate) -> &'static [u8]
-    ensures { result.now ≡ fate_text fate }
-{
-    match fate {
-        Fate::Queued => b"queued",
-        Fate::Taken => b"taken",
-        Fate::LostDown => b"down",
-        Fate::LostCut => b"cut",
-        Fate::LostOverrun => b"overrun",
-    }
-}
 
 /// Puts a space and a number.
 pub(crate) fn put_number(text: &mut Vec<u8>, n: u64) -> Result<(), AllocError>
@@ -110,7 +58,7 @@ pub(crate) fn put_octets(text: &mut Vec<u8>, octets: &[u8]) -> Result<(), AllocE
 }
 
 /// Puts a space and the four digits of a number of 16 bits.
-pub(crate) fn put_pair(text: &mut Vec<u8>, n: u16) -> Result<(), AllocError>
+pub(crate) fn put_hex_u16(text: &mut Vec<u8>, n: u16) -> Result<(), AllocError>
     ensures { OnOk result (text.new.items ≡ text.old.items ++ 32 ∷ encode_upper (pair n)) }
 {
     text.push(b' ')?;
@@ -123,7 +71,7 @@ pub(crate) fn put_vlan(text: &mut Vec<u8>, vlan: Option<u16>) -> Result<(), Allo
 {
     match vlan {
         None => text.extend_from_slice(b" -"),
-        Some(control) => put_pair(text, control),
+        Some(control) => put_hex_u16(text, control),
     }
 }
 
@@ -159,23 +107,29 @@ pub(crate) fn put_about(alloc: Global, text: &mut Vec<u8>, about: About) -> Resu
     }
 }
 
-/// Puts a space and why an arrival went where it did.
-pub(crate) fn put_cause(text: &mut Vec<u8>, cause: Cause) -> Result<(), AllocError>
-    ensures { OnOk result (text.new.items ≡ text.old.items ++ 32 ∷ cause_text cause) }
+/// Puts a separator and the number of a fault, if there is one.
+fn put_fault(
+    text: &mut Vec<u8>,
+    separator: &[u8],
+    fault: Option<FrameFault>,
+) -> Result<(), AllocError>
+    ensures { OnOk result (text.new.items ≡ text.old.items ++ fault_text separator.now fault) }
 {
-    match cause {
-        Cause::Passed => text.extend_from_slice(b" passed"),
-        Cause::Duplicate => text.extend_from_slice(b" duplicate"),
-        Cause::Returned => text.extend_from_slice(b" returned"),
-        Cause::Foreign => text.extend_from_slice(b" foreign"),
-        Cause::Local => text.extend_from_slice(b" local"),
-        Cause::Untagged => text.extend_from_slice(b" untagged"),
-        Cause::Tagged => text.extend_from_slice(b" tagged"),
-        Cause::Malformed(fault) => {
-            text.extend_from_slice(b" malformed-")?;
+    match fault {
+        None => Ok(()),
+        Some(fault) => {
+            text.extend_from_slice(separator)?;
             put_decimal(text, u64::from(fault.code()))
         }
     }
+}
+
+/// Puts a space and why an arrival went where it did.
+pub(crate) fn put_cause(text: &mut Vec<u8>, cause: Cause) -> Result<(), AllocError>
+    ensures { OnOk result (text.new.items ≡ text.old.items ++ 32 ∷ cause_text (codes "-") cause) }
+{
+    put_word(text, cause.word().as_bytes())?;
+    put_fault(text, b"-", cause.fault())
 }
 
 // What the types of values tell, which contracts learn from the clauses of these functions; they do nothing else.
