@@ -22,6 +22,3 @@ pub use next::next_place;
 pub use parts::Parts;
 pub use passes::passes_of;
 pub use planned::Planned;
-
-#[cfg(test)]
-mod check_tests;

@@ -18,12 +18,3 @@ pub use chosen::{NodeOptions, Table};
 pub use engine::node_run;
 pub use fault::{Fault, Status, TranscriptFault};
 pub use scenario::scenario_run;
-
-#[cfg(test)]
-mod rows;
-#[cfg(test)]
-mod scenario_tests;
-#[cfg(test)]
-mod tests;
-#[cfg(test)]
-mod transcript_tests;

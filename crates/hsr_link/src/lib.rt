@@ -8,6 +8,3 @@ mod words;
 
 pub use link::{Link, takes_in_order};
 pub use row::{Dir, Fate, Row};
-
-#[cfg(test)]
-mod tests;

@@ -28,6 +28,3 @@ pub use place::Place;
 pub use role::Role;
 pub use sending::{Sending, sent_by};
 pub use station::Station;
-
-#[cfg(test)]
-mod tests;

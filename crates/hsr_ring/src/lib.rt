@@ -22,10 +22,3 @@ pub use hsr_world::{
     fit_frames, only_quiet_closes, step_placed,
 };
 pub use world::World;
-
-#[cfg(test)]
-mod closing_tests;
-#[cfg(test)]
-mod rows;
-#[cfg(test)]
-mod tests;

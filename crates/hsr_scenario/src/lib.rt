@@ -15,10 +15,3 @@ pub use fault::{Key, ScenarioFault, Spot, What};
 pub use reading::read;
 pub use scenario::Scenario;
 pub use steps::Order;
-
-#[cfg(test)]
-mod said_tests;
-#[cfg(test)]
-mod step_tests;
-#[cfg(test)]
-mod tests;

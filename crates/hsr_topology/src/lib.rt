@@ -11,6 +11,3 @@ pub use end::{End, has_port, is_same_end};
 pub use fault::TopologyFault;
 pub use links::is_used;
 pub use topology::Topology;
-
-#[cfg(test)]
-mod tests;

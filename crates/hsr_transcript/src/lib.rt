@@ -9,6 +9,3 @@ mod replay;
 
 pub use hsr_transcript_text::{ReadFault, WriteFault, one_text, write};
 pub use reading::read;
-
-#[cfg(test)]
-mod tests;

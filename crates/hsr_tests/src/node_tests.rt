@@ -1,40 +1,12 @@
+//! What nodes of each kind make of events, and how a node keeps its record.
 ghost use Rattle.hsr_node.specs.Place.{HasOwnAddress};
 
-use super::*;
-use arrayvec::ArrayVec;
-use hsr_frame::{About, Cause, Mac, Mode, NoMemory, SendFault};
-use hsr_text::hex_octets;
+use crate::fixtures::{
+    PAYLOAD, Tag, arrival, danh, group, mac, octets, plain, redbox, send_event, station, tagged,
+};
+use hsr_frame::{About, Cause, Mac, NoMemory, SendFault};
+use hsr_node::{Event, Kept, Node, Octets, Outcome, Pass, Place, StepFault, copy_out, up_out};
 use std::test::Fail;
-
-/// The node of the ring that the tests speak of, and the node next to it.
-const NODE: [u8; 6] = [2, 0, 0, 0, 0, 1];
-
-const OTHER: [u8; 6] = [2, 0, 0, 0, 0, 2];
-/// The addresses of a station.
-const FIRST: [u8; 6] = [2, 0, 0, 0, 0, 10];
-
-/// The address of a RedBox.
-const BOX: [u8; 6] = [2, 0, 0, 0, 0, 9];
-
-const SECOND: [u8; 6] = [2, 0, 0, 0, 0, 11];
-
-fn danh() -> Place
-    ensures { HasOwnAddress result }
-{
-    Place::Danh {
-        mac: Mac::new(NODE),
-        mode: Mode::H,
-    }
-}
-
-fn station() -> Place
-    ensures { HasOwnAddress result }
-{
-    let mut macs = ArrayVec::new();
-    macs.push(Mac::new(FIRST));
-    macs.push(Mac::new(SECOND));
-    Place::Station { macs }
-}
 
 /// A node with large tables.
 fn node(rt: &HostRuntime, place: &Place) -> Result<Node<512>, Fail>
@@ -43,22 +15,9 @@ fn node(rt: &HostRuntime, place: &Place) -> Result<Node<512>, Fail>
     Ok(Node::new(rt.alloc(), place)?)
 }
 
-fn octets(rt: &HostRuntime, text: &str) -> Result<Octets, Fail> {
-    let bytes = hex_octets(rt.alloc(), text.as_bytes())
-        .ok()
-        .ok_or("octets")?;
-    Ok(Octets::new(bytes))
-}
-
-/// A send from the address at a place.
-fn send(rt: &HostRuntime, from: u8, dst: [u8; 6], payload: &str) -> Result<Event, Fail> {
-    Ok(Event::Send {
-        from,
-        dst: Mac::new(dst),
-        vlan: None,
-        kind: 0x0800,
-        payload: octets(rt, payload)?,
-    })
+/// A send of the usual payload from the address at a place.
+fn send(rt: &HostRuntime, from: u8, dst: Mac) -> Result<Event, Fail> {
+    send_event(rt, from, dst, &PAYLOAD)
 }
 
 /// Whether a new node takes an event and then these octets leave by a port.
@@ -67,11 +26,10 @@ fn leaves(
     place: &Place,
     event: &Event,
     port: u8,
-    text: &str,
+    told: &Octets,
 ) -> Result<bool, Fail>
     requires { HasOwnAddress place.now }
 {
-    let told = octets(rt, text)?;
     let mut node = node(rt, place)?;
     let Ok(outcome) = node.apply(0, event) else {
         return Ok(false);
@@ -90,38 +48,45 @@ fn is_wrong(rt: &HostRuntime, place: &Place, event: &Event) -> Result<bool, Fail
     Ok(node.apply(0, event) == Err(StepFault::WrongEvent))
 }
 
+/// The copy that a node which ends in 01 puts on a path of its first send, to the other node.
+fn first_copy(rt: &HostRuntime, path: u8) -> Result<Octets, Fail> {
+    let tag = Tag {
+        path,
+        size: 8,
+        number: 0,
+    };
+    tagged(rt, mac(2), mac(1), tag, &PAYLOAD)
+}
+
 #[test]
 fn one_send(rt: HostRuntime) -> Result<(), Fail> {
-    let event = send(&rt, 0, OTHER, "AABB")?;
-    let on_a = "020000000002020000000001892F000800000800AABB";
-    assert!(rt; leaves(&rt, &danh(), &event, 0, on_a)?);
-    let on_b = "020000000002020000000001892F100800000800AABB";
-    assert!(rt; leaves(&rt, &danh(), &event, 1, on_b)?);
+    let event = send(&rt, 0, mac(2))?;
+    assert!(rt; leaves(&rt, &danh(1), &event, 0, &first_copy(&rt, 0)?)?);
+    assert!(rt; leaves(&rt, &danh(1), &event, 1, &first_copy(&rt, 1)?)?);
     Ok(())
 }
 
 #[test]
 fn sent_by_a_station(rt: HostRuntime) -> Result<(), Fail> {
-    let event = send(&rt, 1, NODE, "AABB")?;
-    let plain = "02000000000102000000000B0800AABB";
-    assert!(rt; leaves(&rt, &station(), &event, 0, plain)?);
+    let event = send(&rt, 1, mac(1))?;
+    let frame = plain(&rt, mac(1), mac(11), &PAYLOAD)?;
+    assert!(rt; leaves(&rt, &station(), &event, 0, &frame)?);
     Ok(())
 }
 
 #[test]
 fn source_that_is_none(rt: HostRuntime) -> Result<(), Fail> {
-    let event = send(&rt, 2, NODE, "AABB")?;
+    let event = send(&rt, 2, mac(1))?;
     assert!(rt; is_wrong(&rt, &station(), &event)?);
-    assert!(rt; is_wrong(&rt, &danh(), &event)?);
+    assert!(rt; is_wrong(&rt, &danh(1), &event)?);
     Ok(())
 }
 
-/// Whether a new node takes what comes to a port, and then these octets go up.
-fn delivers(rt: &HostRuntime, place: &Place, text: &str, plain: &str) -> Result<bool, Fail>
+/// Whether a new node takes what comes to its first port, and then this frame goes up.
+fn delivers(rt: &HostRuntime, place: &Place, octets: Octets, told: &Octets) -> Result<bool, Fail>
     requires { HasOwnAddress place.now }
 {
-    let told = octets(rt, plain)?;
-    let event = arrive(rt, 0, text)?;
+    let event = arrival(0, octets);
     let mut node = node(rt, place)?;
     let Ok(outcome) = node.apply(0, &event) else {
         return Ok(false);
@@ -132,34 +97,35 @@ fn delivers(rt: &HostRuntime, place: &Place, text: &str, plain: &str) -> Result<
     })
 }
 
-/// Octets come to a port.
-fn arrive(rt: &HostRuntime, port: u8, text: &str) -> Result<Event, Fail> {
-    let carried = Carried {
-        probe: Some(Probe { node: 3, place: 4 }),
-        octets: octets(rt, text)?,
-    };
-    Ok(Event::Arrive { port, carried })
-}
-
 #[test]
 fn delivered(rt: HostRuntime) -> Result<(), Fail> {
-    let plain = "0200000000010200000000020800AABB";
-    let tagged = "020000000001020000000002892F000800070800AABB";
-    assert!(rt; delivers(&rt, &danh(), tagged, plain)?);
-    let plain = "02000000000A0200000000010800AABB";
-    assert!(rt; delivers(&rt, &station(), plain, plain)?);
-    let own = "02000000000A02000000000B0800AABB";
-    assert!(rt; !delivers(&rt, &station(), own, own)?);
+    let tag = Tag {
+        path: 0,
+        size: 8,
+        number: 7,
+    };
+    let copy = tagged(&rt, mac(1), mac(2), tag, &PAYLOAD)?;
+    let frame = plain(&rt, mac(1), mac(2), &PAYLOAD)?;
+    assert!(rt; delivers(&rt, &danh(1), copy, &frame)?);
+    let frame = plain(&rt, mac(10), mac(1), &PAYLOAD)?;
+    assert!(rt; delivers(&rt, &station(), frame.clone()?, &frame)?);
+    let own = plain(&rt, mac(10), mac(11), &PAYLOAD)?;
+    assert!(rt; !delivers(&rt, &station(), own.clone()?, &own)?);
     Ok(())
 }
 
 #[test]
 fn forwarded_as_it_came(rt: HostRuntime) -> Result<(), Fail> {
     // the size in its tag isn't that of its payload
-    let octets = "01005E000001020000000002892F000600090800AABB";
-    let event = arrive(&rt, 0, octets)?;
-    assert!(rt; leaves(&rt, &danh(), &event, 1, octets)?);
-    assert!(rt; leaves(&rt, &Place::QuadBox, &event, 3, octets)?);
+    let tag = Tag {
+        path: 0,
+        size: 6,
+        number: 9,
+    };
+    let octets = tagged(&rt, group(), mac(2), tag, &PAYLOAD)?;
+    let event = arrival(0, octets.clone()?);
+    assert!(rt; leaves(&rt, &danh(1), &event, 1, &octets)?);
+    assert!(rt; leaves(&rt, &Place::QuadBox, &event, 3, &octets)?);
     Ok(())
 }
 
@@ -172,8 +138,8 @@ fn kept(rt: &HostRuntime, place: Place) -> Result<Kept<512>, Fail>
 
 #[test]
 fn kept_send(rt: HostRuntime) -> Result<(), Fail> {
-    let mut kept = kept(&rt, danh())?;
-    let event = send(&rt, 0, OTHER, "AABB")?;
+    let mut kept = kept(&rt, danh(1))?;
+    let event = send(&rt, 0, mac(2))?;
     let Ok(receipt) = kept.step(0, 0, event) else {
         return Err("refused".into());
     };
@@ -200,20 +166,20 @@ fn hands_back(rt: &HostRuntime, kept: &mut Kept<512>, event: Event) -> Result<bo
 
 #[test]
 fn refused_event_comes_back(rt: HostRuntime) -> Result<(), Fail> {
-    let mut kept = kept(&rt, danh())?;
-    let sent = kept.step(0, 0, send(&rt, 0, OTHER, "AABB")?);
+    let mut kept = kept(&rt, danh(1))?;
+    let sent = kept.step(0, 0, send(&rt, 0, mac(2))?);
     assert!(rt; sent.is_ok());
-    let event = send(&rt, 1, OTHER, "AABB")?;
+    let event = send(&rt, 1, mac(2))?;
     assert!(rt; hands_back(&rt, &mut kept, event)?);
-    let event = arrive(&rt, 2, "00")?;
+    let event = arrival(2, octets(&rt, "00")?);
     assert!(rt; hands_back(&rt, &mut kept, event)?);
     Ok(())
 }
 
 #[test]
 fn receipts_of_a_worker(rt: HostRuntime) -> Result<(), Fail> {
-    let mut kept = kept(&rt, danh())?;
-    let event = send(&rt, 0, OTHER, "AABB")?;
+    let mut kept = kept(&rt, danh(1))?;
+    let event = send(&rt, 0, mac(2))?;
     let Ok(receipt) = kept.step(0, 0, event) else {
         return Err("refused".into());
     };
@@ -228,8 +194,8 @@ fn receipts_of_a_worker(rt: HostRuntime) -> Result<(), Fail> {
 }
 
 /// What a new station answers to a send.
-fn station_sends(rt: &HostRuntime, dst: [u8; 6]) -> Result<Result<Outcome, StepFault>, Fail> {
-    let event = send(rt, 0, dst, "AABB")?;
+fn station_sends(rt: &HostRuntime, dst: Mac) -> Result<Result<Outcome, StepFault>, Fail> {
+    let event = send(rt, 0, dst)?;
     let mut node = node(rt, &station())?;
     Ok(node.apply(0, &event))
 }
@@ -237,15 +203,21 @@ fn station_sends(rt: &HostRuntime, dst: [u8; 6]) -> Result<Result<Outcome, StepF
 #[test]
 fn station_to_its_own_addresses(rt: HostRuntime) -> Result<(), Fail> {
     let fault = StepFault::Send(SendFault::SelfAddressed);
-    assert!(rt; station_sends(&rt, FIRST)? == Err(fault));
+    assert!(rt; station_sends(&rt, mac(10))? == Err(fault));
     let ports = [true, false, false, false];
-    assert!(rt; station_sends(&rt, SECOND)? == Ok(Outcome::Sent { seq: None, ports }));
+    assert!(rt; station_sends(&rt, mac(11))? == Ok(Outcome::Sent { seq: None, ports }));
     Ok(())
 }
 
-/// Whether a new station judges what comes to its port to go up or not, for this cause.
-fn station_judges(rt: &HostRuntime, text: &str, up: bool, cause: Cause) -> Result<bool, Fail> {
-    let event = arrive(rt, 0, text)?;
+/// Whether a new station judges a frame without payload to go up or not, for this cause.
+fn station_judges(
+    rt: &HostRuntime,
+    dst: Mac,
+    src: Mac,
+    up: bool,
+    cause: Cause,
+) -> Result<bool, Fail> {
+    let event = arrival(0, plain(rt, dst, src, &[])?);
     let mut node = node(rt, &station())?;
     let ports = [false, false, false, false];
     let judged = Outcome::Judged {
@@ -259,30 +231,39 @@ fn station_judges(rt: &HostRuntime, text: &str, up: bool, cause: Cause) -> Resul
 
 #[test]
 fn arrivals_at_a_station(rt: HostRuntime) -> Result<(), Fail> {
-    assert!(rt; station_judges(&rt, "02000000000A0200000000010800", true, Cause::Passed)?);
-    assert!(rt; station_judges(&rt, "02000000000A02000000000B0800", false, Cause::Returned)?);
-    assert!(rt; station_judges(&rt, "0200000000020200000000010800", false, Cause::Foreign)?);
+    assert!(rt; station_judges(&rt, mac(10), mac(1), true, Cause::Passed)?);
+    assert!(rt; station_judges(&rt, mac(10), mac(11), false, Cause::Returned)?);
+    assert!(rt; station_judges(&rt, mac(2), mac(1), false, Cause::Foreign)?);
     Ok(())
 }
 
 /// A RedBox whose interlink heard the first station.
-fn redbox(rt: &HostRuntime) -> Result<Kept<512>, Fail> {
-    let place = Place::RedBox {
-        mac: Mac::new(BOX),
-        mode: Mode::H,
-    };
-    let mut kept = Kept::new(rt.alloc(), 0, place)?;
-    let heard = kept.step(1, 0, arrive(rt, 2, "02000000000902000000000A0800")?);
+fn redbox_that_heard(rt: &HostRuntime) -> Result<Kept<512>, Fail> {
+    let mut kept = kept(rt, redbox())?;
+    let frame = plain(rt, mac(9), mac(10), &[])?;
+    let heard = kept.step(1, 0, arrival(2, frame));
     if heard.is_err() {
         return Err("not heard".into());
     }
     Ok(kept)
 }
 
+/// The supervision frame of a RedBox that ends in 09 about a station that ends in 0A, up to its padding.
+const PROXIED: &str = concat!(
+    "01154E000100",
+    "020000000009",
+    "892F00340000",
+    "88FB00010000",
+    "170602000000000A",
+    "1E06020000000009",
+    "0000",
+    "0000",
+);
+
 #[test]
 fn proxied_supervision(rt: HostRuntime) -> Result<(), Fail> {
-    let mut kept = redbox(&rt)?;
-    let event = Event::Supervise(About::Proxied(Mac::new(FIRST)));
+    let mut kept = redbox_that_heard(&rt)?;
+    let event = Event::Supervise(About::Proxied(mac(10)));
     let Ok(receipt) = kept.step(0, 0, event) else {
         return Err("refused".into());
     };
@@ -290,10 +271,7 @@ fn proxied_supervision(rt: HostRuntime) -> Result<(), Fail> {
     let Some(left) = copy_out(kept.place(), &entry.event, &entry.outcome, 0) else {
         return Err("nothing left".into());
     };
-    let head = octets(
-        &rt,
-        "01154E000100020000000009892F0034000088FB00010000170602000000000A1E0602000000000900000000",
-    )?;
+    let head = octets(&rt, PROXIED)?;
     assert!(rt; left.as_slice().starts_with(head.as_slice()));
     assert!(rt; left.len() == 66);
     Ok(())
@@ -301,8 +279,8 @@ fn proxied_supervision(rt: HostRuntime) -> Result<(), Fail> {
 
 #[test]
 fn supervision_for_a_stranger(rt: HostRuntime) -> Result<(), Fail> {
-    let mut kept = redbox(&rt)?;
-    let event = Event::Supervise(About::Proxied(Mac::new(SECOND)));
+    let mut kept = redbox_that_heard(&rt)?;
+    let event = Event::Supervise(About::Proxied(mac(11)));
     let refused = kept.step(0, 0, event);
     assert!(rt; refused.is_err_and(|e| e.1 == StepFault::NotProxied));
     Ok(())
@@ -310,17 +288,17 @@ fn supervision_for_a_stranger(rt: HostRuntime) -> Result<(), Fail> {
 
 /// A send, and a node to send it; where room is refused, it is asked for again.
 fn asked_again(rt: &HostRuntime) -> Result<(Event, Kept<512>), Fail> {
-    let payload = match Octets::from_slice(rt.alloc(), &[0xAA, 0xBB]) {
+    let payload = match Octets::from_slice(rt.alloc(), &PAYLOAD) {
         Ok(payload) => payload,
-        Err(_refused) => Octets::from_slice(rt.alloc(), &[0xAA, 0xBB])?,
+        Err(_refused) => Octets::from_slice(rt.alloc(), &PAYLOAD)?,
     };
-    let node = match Kept::new(rt.alloc(), 0, danh()) {
+    let node = match Kept::new(rt.alloc(), 0, danh(1)) {
         Ok(node) => node,
-        Err(_refused) => Kept::new(rt.alloc(), 0, danh())?,
+        Err(_refused) => Kept::new(rt.alloc(), 0, danh(1))?,
     };
     let event = Event::Send {
         from: 0,
-        dst: Mac::new(OTHER),
+        dst: mac(2),
         vlan: None,
         kind: 0x0800,
         payload,

@@ -1,68 +1,26 @@
-use super::*;
-use hsr_frame::{About, Mac, Mode, SendFault};
+//! What worlds of three DANHs in a ring do, and which steps they refuse.
+use crate::fixtures::{group, judge, mac, put, ring3, send, take, world};
+use hsr_frame::{About, SendFault};
 use hsr_link::Dir;
-use hsr_node::{Octets, Place, StepFault};
-use hsr_topology::{End, Topology};
+use hsr_node::{Octets, StepFault};
+use hsr_ring::{DrainFault, Step, World, WorldFault};
 use std::test::Fail;
 
-pub(crate) const GROUP: [u8; 6] = [1, 0, 0x5E, 0, 0, 1];
-
-pub(crate) fn danh(number: u8) -> Place {
-    Place::Danh {
-        mac: Mac::new([2, 0, 0, 0, 0, number]),
-        mode: Mode::H,
-    }
-}
-
-/// B of a node and A of the next.
-fn link(node: usize, next: usize) -> [End; 2] {
-    [
-        End { node, port: 1 },
-        End {
-            node: next,
-            port: 0,
-        },
-    ]
-}
-
 /// Three DANHs in a ring.
-pub(crate) fn ring(rt: &HostRuntime) -> Result<World<512>, Fail> {
-    let mut places = Vec::new(rt.alloc());
-    let mut links = Vec::new(rt.alloc());
-    for node in 0..3 {
-        places.push(danh(node as u8 + 1))?;
-        links.push(link(node, (node + 1) % 3))?;
-    }
-    let Ok(topology) = Topology::new(places, links) else {
-        return Err("topology".into());
-    };
-    Ok(World::new(rt.alloc(), topology, 64)?)
+fn ring(rt: &HostRuntime) -> Result<World<512>, Fail> {
+    world(rt, ring3(rt)?)
 }
 
 /// Node 0 sends to the group.
-pub(crate) fn send(rt: &HostRuntime) -> Result<Step, Fail> {
-    send_to(rt, GROUP)
-}
-
-/// Node 0 sends to this address.
-fn send_to(rt: &HostRuntime, dst: [u8; 6]) -> Result<Step, Fail> {
-    Ok(Step::Send {
-        node: 0,
-        from: 0,
-        dst: Mac::new(dst),
-        vlan: None,
-        kind: 0x0800,
-        payload: Octets::from_slice(rt.alloc(), &[0xAA, 0xBB])?,
-    })
+fn send_to_group(rt: &HostRuntime) -> Result<Step, Fail> {
+    send(rt, 0, group())
 }
 
 #[test]
 fn what_is_not_there(rt: HostRuntime) -> Result<(), Fail> {
     let mut world = ring(&rt)?;
-    let put = Step::Put { node: 3, port: 0 };
-    assert!(rt; world.step(&put) == Err(WorldFault::NoSuchNode));
-    let put = Step::Put { node: 0, port: 2 };
-    assert!(rt; world.step(&put) == Err(WorldFault::NoSuchPort));
+    assert!(rt; world.step(&put(3, 0)) == Err(WorldFault::NoSuchNode));
+    assert!(rt; world.step(&put(0, 2)) == Err(WorldFault::NoSuchPort));
     assert!(rt; world.step(&Step::Cut { link: 3 }) == Err(WorldFault::NoSuchLink));
     Ok(())
 }
@@ -70,33 +28,23 @@ fn what_is_not_there(rt: HostRuntime) -> Result<(), Fail> {
 #[test]
 fn what_is_empty(rt: HostRuntime) -> Result<(), Fail> {
     let mut world = ring(&rt)?;
-    let judge = Step::Judge { node: 1, port: 0 };
-    assert!(rt; world.step(&judge) == Err(WorldFault::Nothing));
-    let put = Step::Put { node: 0, port: 0 };
-    assert!(rt; world.step(&put) == Err(WorldFault::Nothing));
-    let take = Step::Take {
-        link: 0,
-        dir: Dir::Forth,
-    };
-    assert!(rt; world.step(&take) == Err(WorldFault::Nothing));
+    assert!(rt; world.step(&judge(1, 0)) == Err(WorldFault::Nothing));
+    assert!(rt; world.step(&put(0, 0)) == Err(WorldFault::Nothing));
+    assert!(rt; world.step(&take(0, Dir::Forth)) == Err(WorldFault::Nothing));
     Ok(())
 }
 
 #[test]
 fn one_copy_in_a_hand(rt: HostRuntime) -> Result<(), Fail> {
     let mut world = ring(&rt)?;
-    let put = Step::Put { node: 0, port: 1 };
     for _ in 0..2 {
-        assert!(rt; world.step(&send(&rt)?) == Ok(()));
-        assert!(rt; world.step(&put) == Ok(()));
+        assert!(rt; world.step(&send_to_group(&rt)?) == Ok(()));
+        assert!(rt; world.step(&put(0, 1)) == Ok(()));
     }
-    let take = Step::Take {
-        link: 0,
-        dir: Dir::Forth,
-    };
+    let take = take(0, Dir::Forth);
     assert!(rt; world.step(&take) == Ok(()));
     assert!(rt; world.step(&take) == Err(WorldFault::Busy));
-    assert!(rt; world.step(&Step::Judge { node: 1, port: 0 }) == Ok(()));
+    assert!(rt; world.step(&judge(1, 0)) == Ok(()));
     assert!(rt; world.step(&take) == Ok(()));
     Ok(())
 }
@@ -124,7 +72,7 @@ fn links_and_time(rt: HostRuntime) -> Result<(), Fail> {
 #[test]
 fn group_round_a_ring(rt: HostRuntime) -> Result<(), Fail> {
     let mut world = ring(&rt)?;
-    assert!(rt; world.step(&send(&rt)?) == Ok(()));
+    assert!(rt; world.step(&send_to_group(&rt)?) == Ok(()));
     assert!(rt; world.drain(18) == Ok(18));
     assert!(rt; world.node_count() == 3);
     let sender = world.counters(0);
@@ -139,7 +87,7 @@ fn group_round_a_ring(rt: HostRuntime) -> Result<(), Fail> {
 #[test]
 fn a_drain_that_is_too_short(rt: HostRuntime) -> Result<(), Fail> {
     let mut world = ring(&rt)?;
-    assert!(rt; world.step(&send(&rt)?) == Ok(()));
+    assert!(rt; world.step(&send_to_group(&rt)?) == Ok(()));
     assert!(rt; world.drain(17) == Err(DrainFault::Unsettled));
     Ok(())
 }
@@ -159,11 +107,7 @@ fn a_run_that_stops(rt: HostRuntime) -> Result<(), Fail> {
 #[test]
 fn a_run_of_refused_steps(rt: HostRuntime) -> Result<(), Fail> {
     let mut world = ring(&rt)?;
-    let steps = [
-        Step::Put { node: 3, port: 0 },
-        Step::Cut { link: 3 },
-        Step::Put { node: 0, port: 2 },
-    ];
+    let steps = [put(3, 0), Step::Cut { link: 3 }, put(0, 2)];
     assert!(rt; world.run(&steps) == Err((0, WorldFault::NoSuchNode)));
     Ok(())
 }
@@ -188,10 +132,10 @@ fn injected_at_most(rt: HostRuntime) -> Result<(), Fail> {
 #[test]
 fn what_a_node_refuses(rt: HostRuntime) -> Result<(), Fail> {
     let mut world = ring(&rt)?;
-    let own = send_to(&rt, [2, 0, 0, 0, 0, 1])?;
+    let own = send(&rt, 0, mac(1))?;
     let fault = StepFault::Send(SendFault::SelfAddressed);
     assert!(rt; world.step(&own) == Err(WorldFault::Node(fault)));
-    let about = About::Proxied(Mac::new([2, 0, 0, 0, 0, 9]));
+    let about = About::Proxied(mac(9));
     let proxied = Step::Supervise { node: 0, about };
     assert!(rt; world.step(&proxied) == Err(WorldFault::Node(StepFault::WrongEvent)));
     Ok(())

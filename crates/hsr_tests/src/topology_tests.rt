@@ -1,36 +1,10 @@
-use super::*;
+//! Which nodes and links are a topology, and why others aren't.
+use crate::fixtures::{danh, link, mac, red, redbox, ring3};
 use arrayvec::ArrayVec;
 use hsr_frame::{Mac, Mode};
 use hsr_node::Place;
+use hsr_topology::{End, Topology, TopologyFault};
 use std::test::Fail;
-
-/// A node on a ring, whose address ends in this octet.
-fn danh(octet: u8) -> Place {
-    Place::Danh {
-        mac: Mac::new([2, 0, 0, 0, 0, octet]),
-        mode: Mode::H,
-    }
-}
-
-fn redbox() -> Place {
-    Place::RedBox {
-        mac: Mac::new([2, 0, 0, 0, 0, 9]),
-        mode: Mode::H,
-    }
-}
-
-/// A link from a port of a node to a port of another.
-fn link(a: usize, a_port: u8, b: usize, b_port: u8) -> [End; 2] {
-    let a = End {
-        node: a,
-        port: a_port,
-    };
-    let b = End {
-        node: b,
-        port: b_port,
-    };
-    [a, b]
-}
 
 /// Why three nodes of a ring with these links are no topology.
 fn fault_of(rt: &HostRuntime, links: Vec<[End; 2]>) -> Result<Option<TopologyFault>, Fail> {
@@ -49,12 +23,6 @@ fn fault_of_pair(rt: &HostRuntime, link: [End; 2]) -> Result<Option<TopologyFaul
 fn fault_alone(rt: &HostRuntime, place: Place) -> Result<Option<TopologyFault>, Fail> {
     let places = vec![in rt.alloc(); place]?;
     Ok(Topology::new(places, Vec::new(rt.alloc())).err())
-}
-
-fn ring3(rt: &HostRuntime) -> Result<Topology, Fail> {
-    let places = vec![in rt.alloc(); danh(1), danh(2), danh(3)]?;
-    let links = vec![in rt.alloc(); link(0, 1, 1, 0), link(1, 1, 2, 0), link(2, 1, 0, 0)]?;
-    Ok(Topology::new(places, links).ok().ok_or("ring3")?)
 }
 
 #[test]
@@ -95,8 +63,8 @@ fn fault_of_station(
     second: u8,
 ) -> Result<Option<TopologyFault>, Fail> {
     let mut macs = ArrayVec::new();
-    macs.push(Mac::new([2, 0, 0, 0, 0, first]));
-    macs.push(Mac::new([2, 0, 0, 0, 0, second]));
+    macs.push(mac(first));
+    macs.push(mac(second));
     fault_alone(rt, Place::Station { macs })
 }
 
@@ -148,12 +116,6 @@ fn wrong_peers(rt: HostRuntime) -> Result<(), Fail> {
 /// A RedBox between a ring and a station with two addresses.
 #[test]
 fn station_at_an_interlink(rt: HostRuntime) -> Result<(), Fail> {
-    let mut macs = ArrayVec::new();
-    macs.push(Mac::new([2, 0, 0, 0, 0, 10]));
-    macs.push(Mac::new([2, 0, 0, 0, 0, 11]));
-    let places = vec![in rt.alloc(); danh(1), redbox(), Place::Station { macs }]?;
-    let links = vec![in rt.alloc(); link(0, 1, 1, 0), link(1, 1, 0, 0), link(1, 2, 2, 0)]?;
-    let topology = Topology::new(places, links).ok().ok_or("red")?;
-    assert_eq!(rt; topology.links().len(), 3);
+    assert_eq!(rt; red(&rt)?.links().len(), 3);
     Ok(())
 }

@@ -1,8 +1,8 @@
 //! What `run` writes of scenarios, and how it ends.
-use crate::chosen::Table;
-use crate::fault::{Fault, Status};
-use crate::scenario::scenario_run;
-use crate::tests::{FailingReader, FailingWriter};
+use hsr_engines::Table;
+use hsr_engines::{Fault, Status};
+use hsr_engines::scenario_run;
+use crate::node_run_tests::{FailingReader, FailingWriter};
 use hsr_closing::Disagree;
 use hsr_scenario::{ScenarioFault, Spot, What};
 use hsr_step::{DrainFault, WorldFault};

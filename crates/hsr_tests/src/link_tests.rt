@@ -1,5 +1,6 @@
-use super::*;
+//! What becomes of copies that are put on a link, also where room is refused.
 use hsr_frame::NoMemory;
+use hsr_link::{Dir, Fate, Link, Row};
 use hsr_node::{Carried, Octets};
 use std::test::Fail;
 

@@ -1,9 +1,9 @@
 //! What `node` writes, and how it stops.
 ghost use Rattle.std.specs.Prelude.{Some};
 
-use crate::chosen::{NodeOptions, Table};
-use crate::engine::node_run;
-use crate::fault::{Fault, Status, TranscriptFault};
+use hsr_engines::{NodeOptions, Table};
+use hsr_engines::node_run;
+use hsr_engines::{Fault, Status, TranscriptFault};
 use hsr_frame::{Mac, Mode};
 use std::alloc::{AllocError, Global};
 use std::io;

@@ -1,52 +1,18 @@
+//! Which records, rows and receipts agree, and the first cause why others don't.
 ghost use Rattle.std.specs.Prelude.{◌≤◌};
-ghost use Rattle.hsr_node.specs.Place.{HasOwnAddress};
 
-use super::*;
-use hsr_frame::{Mac, Mode};
+use crate::fixtures::{
+    PAYLOAD, Tag, arrival, danh, group, mac, ring3, send_event, tagged, topology,
+};
+use hsr_closing::{CheckFault, Closed, Disagree, Planned, passes_of};
 use hsr_link::{Dir, Fate, Row};
-use hsr_node::{Carried, Event, Kept, Octets, Pass, Place, Probe, copy_out};
-use hsr_text::hex_octets;
+use hsr_node::{Carried, Event, Kept, Octets, Pass, Probe, Receipt, copy_out};
+use hsr_topology::{End, Topology};
 use std::test::Fail;
-
-const GROUP: [u8; 6] = [1, 0, 0x5E, 0, 0, 1];
-
-/// A node on a ring, whose address ends in this octet.
-fn danh(octet: u8) -> Place
-    ensures { HasOwnAddress result }
-{
-    Place::Danh {
-        mac: Mac::new([2, 0, 0, 0, 0, octet]),
-        mode: Mode::H,
-    }
-}
-
-/// Three nodes round a ring: B of each is joined with A of the next.
-fn ring(rt: &HostRuntime) -> Result<Topology, Fail> {
-    let mut places = Vec::new(rt.alloc());
-    let mut links = Vec::new(rt.alloc());
-    for node in 0..3 {
-        places.push(danh(node as u8 + 1))?;
-        let next = (node + 1) % 3;
-        links.push([
-            End { node, port: 1 },
-            End {
-                node: next,
-                port: 0,
-            },
-        ])?;
-    }
-    Ok(Topology::new(places, links).ok().ok_or("ring")?)
-}
 
 /// A frame to a group.
 fn send(rt: &HostRuntime) -> Result<Event, Fail> {
-    Ok(Event::Send {
-        from: 0,
-        dst: Mac::new(GROUP),
-        vlan: None,
-        kind: 0x0800,
-        payload: Octets::from_slice(rt.alloc(), &[0xAA, 0xBB])?,
-    })
+    send_event(rt, 0, group(), &PAYLOAD)
 }
 
 /// The plan that node 0 sends it.
@@ -88,7 +54,7 @@ fn begun(rt: &HostRuntime, count: usize) -> Result<Making, Fail>
     })
 }
 
-fn keep(pass: &mut Pass, receipt: hsr_node::Receipt) -> Result<(), Fail> {
+fn keep(pass: &mut Pass, receipt: Receipt) -> Result<(), Fail> {
     match pass.keep(receipt) {
         Ok(()) => Ok(()),
         Err(_) => Err("keep".into()),
@@ -207,14 +173,14 @@ fn check(
 
 #[test]
 fn group_round_a_ring_is_closed(rt: HostRuntime) -> Result<(), Fail> {
-    let cause = check(&rt, ring(&rt)?, plan(&rt)?, round(&rt)?)?;
+    let cause = check(&rt, ring3(&rt)?, plan(&rt)?, round(&rt)?)?;
     assert!(rt; cause.is_none());
     Ok(())
 }
 
 #[test]
 fn an_empty_plan(rt: HostRuntime) -> Result<(), Fail> {
-    let cause = check(&rt, ring(&rt)?, Vec::new(rt.alloc()), round(&rt)?)?;
+    let cause = check(&rt, ring3(&rt)?, Vec::new(rt.alloc()), round(&rt)?)?;
     assert!(rt; cause == Some(Disagree::Receipts { worker: 0 }));
     assert_eq!(rt; Disagree::Shape.code(), 6);
     Ok(())
@@ -225,7 +191,7 @@ fn passes_of_records(rt: HostRuntime) -> Result<(), Fail> {
     let Making { kept, rows, .. } = round(&rt)?;
     let plan = plan(&rt)?;
     let passes = passes_of(rt.alloc(), kept.as_slice(), plan.as_slice())?;
-    let closed = Closed::check(rt.alloc(), ring(&rt)?, plan, kept, rows, passes);
+    let closed = Closed::check(rt.alloc(), ring3(&rt)?, plan, kept, rows, passes);
     assert!(rt; closed.is_ok());
     Ok(())
 }
@@ -254,7 +220,7 @@ fn a_copy_that_was_injected(rt: HostRuntime) -> Result<(), Fail> {
         return Err("link".into());
     };
     rows.push(row)?;
-    let cause = check(&rt, ring(&rt)?, plan(&rt)?, making)?;
+    let cause = check(&rt, ring3(&rt)?, plan(&rt)?, making)?;
     assert!(rt; cause == Some(Disagree::Stranger { link: 0, row: 2 }));
     Ok(())
 }
@@ -270,7 +236,7 @@ fn with_fate(rt: &HostRuntime, fate: Fate) -> Result<Option<Disagree>, Fail> {
         return Err("row".into());
     };
     *first = row;
-    check(rt, ring(rt)?, plan(rt)?, making)
+    check(rt, ring3(rt)?, plan(rt)?, making)
 }
 
 #[test]
@@ -291,7 +257,7 @@ fn copies_that_wait(rt: HostRuntime) -> Result<(), Fail> {
     let b = End { node: 0, port: 1 };
     let _ = leave(&rt, &mut making, a, 2, Dir::Back, Fate::Queued)?;
     let _ = leave(&rt, &mut making, b, 0, Dir::Forth, Fate::Queued)?;
-    let cause = check(&rt, ring(&rt)?, plan(&rt)?, making)?;
+    let cause = check(&rt, ring3(&rt)?, plan(&rt)?, making)?;
     assert!(rt; cause == Some(Disagree::NotQuiet { link: 0 }));
     Ok(())
 }
@@ -302,7 +268,7 @@ fn copies_that_were_not_put(rt: HostRuntime) -> Result<(), Fail> {
     step(&mut making, 0, 0, send(&rt)?)?;
     let b = End { node: 0, port: 1 };
     let _ = leave(&rt, &mut making, b, 0, Dir::Forth, Fate::LostCut)?;
-    let cause = check(&rt, ring(&rt)?, plan(&rt)?, making)?;
+    let cause = check(&rt, ring3(&rt)?, plan(&rt)?, making)?;
     let dir = Dir::Back;
     assert!(rt; cause == Some(Disagree::LinkPut { link: 2, dir }));
     Ok(())
@@ -311,22 +277,16 @@ fn copies_that_were_not_put(rt: HostRuntime) -> Result<(), Fail> {
 /// One node without a link that heard a copy.
 #[test]
 fn an_arrival_without_a_link(rt: HostRuntime) -> Result<(), Fail> {
-    let places = vec![in rt.alloc(); danh(1)]?;
-    let topology = Topology::new(places, Vec::new(rt.alloc()))
-        .ok()
-        .ok_or("one")?;
+    let topology = topology(vec![in rt.alloc(); danh(1)]?, Vec::new(rt.alloc()))?;
     let mut making = begun(&rt, 1)?;
     step(&mut making, 0, 0, send(&rt)?)?;
-    let text = "020000000001020000000002892F000800070800AABB";
-    let bytes = hex_octets(rt.alloc(), text.as_bytes())
-        .ok()
-        .ok_or("octets")?;
-    let octets = Octets::new(bytes);
-    let carried = Carried {
-        probe: None,
-        octets,
+    let tag = Tag {
+        path: 0,
+        size: 8,
+        number: 7,
     };
-    step(&mut making, 0, 1, Event::Arrive { port: 0, carried })?;
+    let copy = tagged(&rt, mac(1), mac(2), tag, &PAYLOAD)?;
+    step(&mut making, 0, 1, arrival(0, copy))?;
     making.rows = Vec::new(rt.alloc());
     let cause = check(&rt, topology, plan(&rt)?, making)?;
     assert!(rt; cause == Some(Disagree::Shape));

@@ -1,6 +1,6 @@
 //! What documents say, and the words of faults.
-use crate::tests::{NODES, joined};
-use crate::{Order, Scenario, What, read};
+use crate::scenario_tests::{NODES, joined};
+use hsr_scenario::{Order, Scenario, What, read};
 use arrayvec::ArrayVec;
 use hsr_node::Place;
 use hsr_step::Step as Deed;
@@ -133,11 +133,11 @@ fn steps_of_nodes(rt: HostRuntime) -> Result<(), Fail> {
         Order::Step(send),
         Order::Step(Deed::Supervise {
             node: 1,
-            about: hsr_redbox::About::Own
+            about: hsr_frame::About::Own
         }),
         Order::Step(Deed::Supervise {
             node: 1,
-            about: hsr_redbox::About::Proxied(mac(10))
+            about: hsr_frame::About::Proxied(mac(10))
         }),
         Order::Step(Deed::Age { node: 3 }),
     ]?;

@@ -1,7 +1,7 @@
 //! Transcripts of a send and of a group frame round a ring, and texts that differ from them.
 ghost use Rattle.std.specs.Prelude.{None};
 
-use crate::{ReadFault, WriteFault, read, write};
+use hsr_transcript::{ReadFault, WriteFault, read, write};
 use hsr_closing::Disagree;
 use hsr_link::Dir;
 use std::io::{self, ErrorKind, Write};

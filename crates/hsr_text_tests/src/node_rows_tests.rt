@@ -1,8 +1,8 @@
 //! The worked rows of `node`: what goes in, and what comes out.
-use crate::chosen::{NodeOptions, Table};
-use crate::engine::node_run;
-use crate::fault::Status;
-use crate::tests::defaults;
+use hsr_engines::{NodeOptions, Table};
+use hsr_engines::node_run;
+use hsr_engines::Status;
+use crate::node_run_tests::defaults;
 use hsr_frame::Mode;
 use std::test::Fail;
 

@@ -1,7 +1,7 @@
 //! One document for each fault and key of a document, its nodes and its links.
-use crate::Key::{Capacity, Ends, Link, Mac, Macs, Mode, Name, Node, Role, Step};
-use crate::What::{BadValue, Missing, NameTwice, NoSuchName, Text, Topology, Unknown, WrongKind};
-use crate::{ScenarioFault, Spot, What, read};
+use hsr_scenario::Key::{Capacity, Ends, Link, Mac, Macs, Mode, Name, Node, Role, Step};
+use hsr_scenario::What::{BadValue, Missing, NameTwice, NoSuchName, Text, Topology, Unknown, WrongKind};
+use hsr_scenario::{ScenarioFault, Spot, What, read};
 use hsr_topology::TopologyFault::{BadNode, PortTwice, WrongPeer};
 use std::alloc::Global;
 use std::process::Abort;

@@ -1,9 +1,9 @@
 //! What `run --transcript` writes, and what `audit` makes of it.
-use crate::audit::audit_run;
-use crate::chosen::Table;
-use crate::fault::{Fault, Status, TranscriptFault};
-use crate::scenario_tests::{GROUP_SEND, RING, RING_REPORT, run_shown};
-use crate::tests::{FailingReader, FailingWriter};
+use hsr_engines::audit_run;
+use hsr_engines::Table;
+use hsr_engines::{Fault, Status, TranscriptFault};
+use crate::scenario_run_tests::{GROUP_SEND, RING, RING_REPORT, run_shown};
+use crate::node_run_tests::{FailingReader, FailingWriter};
 use hsr_closing::Disagree;
 use hsr_link::Dir;
 use std::alloc::Global;

@@ -1,10 +1,10 @@
 //! One document for each fault and key of a step.
-use crate::Key::{
+use hsr_scenario::Key::{
     About, At, Dir, Do, From, Kind, Link, Node, Octets, Payload, Port, Step, To, Vlan,
 };
-use crate::What::{BadValue, Missing, NoSuchName, Unknown, WrongKind};
-use crate::tests::{LINKS, NODES, check_rows, joined};
-use crate::{Spot, What};
+use hsr_scenario::What::{BadValue, Missing, NoSuchName, Unknown, WrongKind};
+use crate::scenario_tests::{LINKS, NODES, check_rows, joined};
+use hsr_scenario::{Spot, What};
 use std::alloc::Global;
 use std::process::Abort;
 use std::test::Fail;

@@ -1,21 +1,20 @@
-use crate::tests::{ring, send};
-use crate::*;
+//! Which worlds close, and the first cause why others don't.
+use crate::fixtures::{Tag, group, mac, put, ring3, run, send, tagged, world};
 use hsr_closing::{CheckFault, Disagree};
 use hsr_link::Dir;
-use hsr_node::Octets;
+use hsr_ring::{Step, World};
 use std::test::Fail;
 
-/// A tagged frame to the group, from an address that no node has.
-const FOREIGN: [u8; 20] = [
-    1, 0, 0x5E, 0, 0, 1, 2, 0, 0, 0, 0, 7, 0x89, 0x2F, 0, 6, 0, 0, 8, 0,
-];
+/// Three DANHs in a ring, of which node 0 sent to the group.
+fn sent(rt: &HostRuntime) -> Result<World<512>, Fail> {
+    let mut world = world(rt, ring3(rt)?)?;
+    run(&mut world, &[send(rt, 0, group())?])?;
+    Ok(world)
+}
 
 /// Three DANHs in a ring, when a frame to the group went round.
 fn settled(rt: &HostRuntime) -> Result<World<512>, Fail> {
-    let mut world = ring(rt)?;
-    let Ok(()) = world.step(&send(rt)?) else {
-        return Err("send".into());
-    };
+    let mut world = sent(rt)?;
     match world.drain(18) {
         Ok(_steps) => Ok(world),
         Err(_fault) => Err("drain".into()),
@@ -24,8 +23,7 @@ fn settled(rt: &HostRuntime) -> Result<World<512>, Fail> {
 
 #[test]
 fn a_copy_that_was_not_put(rt: HostRuntime) -> Result<(), Fail> {
-    let mut world = ring(&rt)?;
-    assert!(rt; world.step(&send(&rt)?) == Ok(()));
+    let world = sent(&rt)?;
     let Err((mut world, fault)) = world.close() else {
         return Err("closed".into());
     };
@@ -37,10 +35,8 @@ fn a_copy_that_was_not_put(rt: HostRuntime) -> Result<(), Fail> {
 
 #[test]
 fn a_copy_that_was_not_taken(rt: HostRuntime) -> Result<(), Fail> {
-    let mut world = ring(&rt)?;
-    assert!(rt; world.step(&send(&rt)?) == Ok(()));
-    assert!(rt; world.step(&Step::Put { node: 0, port: 1 }) == Ok(()));
-    assert!(rt; world.step(&Step::Put { node: 0, port: 0 }) == Ok(()));
+    let mut world = sent(&rt)?;
+    run(&mut world, &[put(0, 1), put(0, 0)])?;
     let Err((world, fault)) = world.close() else {
         return Err("closed".into());
     };
@@ -51,13 +47,19 @@ fn a_copy_that_was_not_taken(rt: HostRuntime) -> Result<(), Fail> {
     Ok(())
 }
 
+/// A tagged frame to the group, from an address that no node has, is injected.
 #[test]
 fn an_injected_copy(rt: HostRuntime) -> Result<(), Fail> {
-    let mut world = ring(&rt)?;
+    let mut world = world(&rt, ring3(&rt)?)?;
+    let tag = Tag {
+        path: 0,
+        size: 6,
+        number: 0,
+    };
     let inject = Step::Inject {
         link: 0,
         dir: Dir::Forth,
-        octets: Octets::from_slice(rt.alloc(), &FOREIGN)?,
+        octets: tagged(&rt, group(), mac(7), tag, &[])?,
     };
     assert!(rt; world.step(&inject) == Ok(()));
     assert!(rt; world.drain(11) == Ok(11));

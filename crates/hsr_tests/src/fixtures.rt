@@ -1,0 +1,239 @@
+//! The nodes, networks, frames and steps that the tests share.
+ghost use Rattle.hsr_frame.specs.Address.{IsGroup};
+ghost use Rattle.hsr_node.specs.Place.{HasOwnAddress};
+
+use arrayvec::ArrayVec;
+use hsr_frame::{Mac, Mode};
+use hsr_link::Dir;
+use hsr_node::{Carried, Event, Octets, Place};
+use hsr_ring::{Step, World};
+use hsr_text::hex_octets;
+use hsr_topology::{End, Topology};
+use std::test::Fail;
+
+/// The payload of most sends.
+pub const PAYLOAD: [u8; 2] = [0xAA, 0xBB];
+
+/// How many steps a drain may take.
+const LIMIT: u64 = 1_000_000;
+
+// ---- addresses
+
+/// The address of one station or node, which ends in this octet.
+pub fn mac(octet: u8) -> Mac
+    ensures { ¬ IsGroup result }
+{
+    Mac::new([2, 0, 0, 0, 0, octet])
+}
+
+/// The address of a group.
+pub fn group() -> Mac {
+    Mac::new([1, 0, 0x5E, 0, 0, 1])
+}
+
+// ---- nodes and links
+
+/// A DANH in mode H, whose address ends in this octet.
+pub fn danh(octet: u8) -> Place
+    ensures { HasOwnAddress result }
+{
+    Place::Danh {
+        mac: mac(octet),
+        mode: Mode::H,
+    }
+}
+
+/// A RedBox in mode H, whose address ends in 09.
+pub fn redbox() -> Place
+    ensures { HasOwnAddress result }
+{
+    Place::RedBox {
+        mac: mac(9),
+        mode: Mode::H,
+    }
+}
+
+/// A station with two addresses, which end in 0A and 0B.
+pub fn station() -> Place
+    ensures { HasOwnAddress result }
+{
+    let mut macs = ArrayVec::new();
+    macs.push(mac(10));
+    macs.push(mac(11));
+    Place::Station { macs }
+}
+
+/// A link from a port of a node to a port of another.
+pub fn link(a: usize, a_port: u8, b: usize, b_port: u8) -> [End; 2] {
+    let a = End {
+        node: a,
+        port: a_port,
+    };
+    let b = End {
+        node: b,
+        port: b_port,
+    };
+    [a, b]
+}
+
+/// A link from B of a node to A of another.
+pub fn joint(node: usize, next: usize) -> [End; 2] {
+    link(node, 1, next, 0)
+}
+
+// ---- networks
+
+pub fn topology(places: Vec<Place>, links: Vec<[End; 2]>) -> Result<Topology, Fail> {
+    Ok(Topology::new(places, links).ok().ok_or("topology")?)
+}
+
+/// Three DANHs in a ring. Link i goes from B of node i to A of the next.
+pub fn ring3(rt: &HostRuntime) -> Result<Topology, Fail> {
+    let places = vec![in rt.alloc(); danh(1), danh(2), danh(3)]?;
+    topology(
+        places,
+        vec![in rt.alloc(); joint(0, 1), joint(1, 2), joint(2, 0)]?,
+    )
+}
+
+/// Two DANHs in a ring.
+pub fn ring2(rt: &HostRuntime) -> Result<Topology, Fail> {
+    let places = vec![in rt.alloc(); danh(1), danh(2)]?;
+    topology(places, vec![in rt.alloc(); joint(0, 1), joint(1, 0)]?)
+}
+
+/// A DANH and a RedBox in a ring, and a station on the RedBox's interlink.
+pub fn red(rt: &HostRuntime) -> Result<Topology, Fail> {
+    let places = vec![in rt.alloc(); danh(1), redbox(), station()]?;
+    topology(
+        places,
+        vec![in rt.alloc(); joint(0, 1), joint(1, 0), link(1, 2, 2, 0)]?,
+    )
+}
+
+/// Two rings of one DANH each, joined by two QuadBoxes.
+pub fn quad_net(rt: &HostRuntime) -> Result<Topology, Fail> {
+    let places = vec![in rt.alloc(); danh(1), danh(2), Place::QuadBox, Place::QuadBox]?;
+    let mut links = vec![in rt.alloc(); joint(0, 2), joint(2, 3), joint(3, 0)]?;
+    links.push(link(1, 1, 2, 2))?;
+    links.push(link(2, 3, 3, 2))?;
+    links.push(link(3, 3, 1, 0))?;
+    topology(places, links)
+}
+
+/// A world in which nothing was done. In each direction of a link 64 copies may wait.
+pub fn world(rt: &HostRuntime, topology: Topology) -> Result<World<512>, Fail> {
+    Ok(World::new(rt.alloc(), topology, 64)?)
+}
+
+// ---- octets
+
+/// The octets that a text of hexadecimal digits tells.
+pub fn octets(rt: &HostRuntime, text: &str) -> Result<Octets, Fail> {
+    let bytes = hex_octets(rt.alloc(), text.as_bytes())
+        .ok()
+        .ok_or("octets")?;
+    Ok(Octets::new(bytes))
+}
+
+/// What a tag tells, of which all numbers are small.
+#[derive(Clone, Copy)]
+pub struct Tag {
+    pub path: u8,
+    pub size: u8,
+    pub number: u8,
+}
+
+/// A frame of type 0800: its addresses, its tag if it has one, its type and its payload.
+fn frame(rt: &HostRuntime, dst: Mac, src: Mac, tag: &[u8], payload: &[u8]) -> Result<Octets, Fail> {
+    let mut bytes = Vec::new(rt.alloc());
+    bytes.extend_from_slice(&dst.octets())?;
+    bytes.extend_from_slice(&src.octets())?;
+    bytes.extend_from_slice(tag)?;
+    bytes.extend_from_slice(&[8, 0])?;
+    bytes.extend_from_slice(payload)?;
+    Ok(Octets::new(bytes))
+}
+
+/// A plain frame of type 0800.
+pub fn plain(rt: &HostRuntime, dst: Mac, src: Mac, payload: &[u8]) -> Result<Octets, Fail> {
+    frame(rt, dst, src, &[], payload)
+}
+
+/// A tagged frame of type 0800.
+pub fn tagged(
+    rt: &HostRuntime,
+    dst: Mac,
+    src: Mac,
+    tag: Tag,
+    payload: &[u8],
+) -> Result<Octets, Fail> {
+    let tag = [0x89, 0x2F, tag.path << 4, tag.size, 0, tag.number];
+    frame(rt, dst, src, &tag, payload)
+}
+
+/// Octets that come to a port, of no send.
+pub fn arrival(port: u8, octets: Octets) -> Event {
+    let carried = Carried {
+        probe: None,
+        octets,
+    };
+    Event::Arrive { port, carried }
+}
+
+// ---- sends and steps
+
+/// A send of type 0800 from the address at a place.
+pub fn send_event(rt: &HostRuntime, from: u8, dst: Mac, payload: &[u8]) -> Result<Event, Fail> {
+    Ok(Event::Send {
+        from,
+        dst,
+        vlan: None,
+        kind: 0x0800,
+        payload: Octets::from_slice(rt.alloc(), payload)?,
+    })
+}
+
+/// The same as a step of a node.
+pub fn send_from(
+    rt: &HostRuntime,
+    node: usize,
+    from: u8,
+    dst: Mac,
+    payload: &[u8],
+) -> Result<Step, Fail> {
+    Ok(Step::Send {
+        node,
+        from,
+        dst,
+        vlan: None,
+        kind: 0x0800,
+        payload: Octets::from_slice(rt.alloc(), payload)?,
+    })
+}
+
+/// A send of the usual payload from a node's first address.
+pub fn send(rt: &HostRuntime, node: usize, dst: Mac) -> Result<Step, Fail> {
+    send_from(rt, node, 0, dst, &PAYLOAD)
+}
+
+pub fn put(node: usize, port: u8) -> Step {
+    Step::Put { node, port }
+}
+
+pub fn take(link: usize, dir: Dir) -> Step {
+    Step::Take { link, dir }
+}
+
+pub fn judge(node: usize, port: u8) -> Step {
+    Step::Judge { node, port }
+}
+
+pub fn run<const C: usize>(world: &mut World<C>, steps: &[Step]) -> Result<(), Fail> {
+    Ok(world.run(steps).ok().ok_or("a step was refused")?)
+}
+
+pub fn drain<const C: usize>(world: &mut World<C>) -> Result<(), Fail> {
+    let _steps = world.drain(LIMIT).ok().ok_or("a drain was refused")?;
+    Ok(())
+}
