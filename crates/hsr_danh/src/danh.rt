@@ -212,11 +212,3 @@ fn copies_of(verdict: Verdict) -> u64
 {
     u64::from(verdict.a) + u64::from(verdict.b)
 }
-
-ghost use Rattle.hsr_danh.specs.Past.{AnswersAsPast};
-
-/// After any list of calls a node has answered as the machine does that keeps its whole past and filters it, and its
-/// counters and the nodes that it knows are those of that past.
-pub fn answers_as_past<const C: usize>()
-    ensures { AnswersAsPast C }
-{}

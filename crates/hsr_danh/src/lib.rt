@@ -1,13 +1,22 @@
 //! A DANH: a node with one address and two ring ports.
+//!
+//! Its modules, in the order in which to read them:
+//! - `wanted`: which egresses want an arrival
+//! - `tables`: what each egress remembers
+//! - `danh`: the node, its calls
+//! - `past`: the law over any calls
+//! - `life`: its supervision frame
 #![tactic(auto)]
 
 mod danh;
 mod life;
+mod past;
 mod tables;
 mod wanted;
 
-pub use danh::{Danh, Sent, Verdict, answers_as_past};
+pub use danh::{Danh, Sent, Verdict};
 pub use life::life_frame;
+pub use past::answers_as_past;
 
 #[cfg(test)]
 mod tests;

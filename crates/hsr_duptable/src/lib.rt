@@ -1,4 +1,8 @@
 //! The duplicate table of an egress: which frames passed there lately (IEC 62439-3 clause 5.3).
+//!
+//! Its modules, in the order in which to read them:
+//! - `note`: what a table holds
+//! - `table`: the table, and its law
 #![tactic(auto)]
 
 mod note;

@@ -29,7 +29,7 @@ use Rattle.hsr_quadbox.specs.Wanted.{wanted}
 use Rattle.hsr_quadbox.specs.declared.quadbox.QuadVerdict.{QuadVerdict}
 use Rattle.hsr_quadbox.specs.declared.wanted.QuadPort.{QuadPort}
 use Rattle.hsr_quadbox.specs.declared.wanted.QuadPort.TheVariants as quad
-use Rattle.hsr_quadbox.proofs.PastLaws as law
+use Rattle.hsr_quadbox.proofs.PastLaw as law
 use Rattle.hsr_node.specs.Counts.{counters}
 use Rattle.hsr_node.specs.Record.{Noted, Owner, arrive_answer, is_noted, judged_as, key_in, next_number, note_if, notes, now, oldest_first, passing, remembers, steps}
 use Rattle.hsr_node.specs.Step.{quad_judged, quad_port, quadbox_arrive, quadbox_step, spent, told}

@@ -1,4 +1,10 @@
 //! A QuadBox: a node with two ports in each of two rings, that has no address.
+//!
+//! Its modules, in the order in which to read them:
+//! - `wanted`: which ports want an arrival
+//! - `tables`: what each port remembers
+//! - `quadbox`: the node, its calls
+//! - `past`: the law over any calls
 #![tactic(auto)]
 
 mod past;
@@ -6,7 +12,7 @@ mod quadbox;
 mod tables;
 mod wanted;
 
-pub use past::answers_as_its_past;
+pub use past::answers_as_past;
 pub use quadbox::{QuadBox, QuadVerdict};
 pub use wanted::QuadPort;
 

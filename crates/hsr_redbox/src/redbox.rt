@@ -320,11 +320,3 @@ fn copies_of(verdict: BoxVerdict) -> u64
 {
     u64::from(verdict.a) + u64::from(verdict.b) + u64::from(verdict.interlink)
 }
-
-ghost use Rattle.hsr_redbox.specs.Past.{AnswersAsPast};
-
-/// After any list of calls a RedBox has answered as the machine does that keeps its whole past and filters it, and its
-/// counters, and the nodes and addresses that it knows, are those of that past.
-pub fn answers_as_past<const C: usize>()
-    ensures { AnswersAsPast C }
-{}

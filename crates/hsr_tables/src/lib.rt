@@ -1,4 +1,9 @@
 //! The tables of addresses that were heard: those behind a RedBox, and the nodes of the ring.
+//!
+//! Its modules, in the order in which to read them:
+//! - `times`: how long an address is known
+//! - `proxies`: the addresses behind a RedBox
+//! - `nodes`: the nodes of the ring
 #![tactic(auto)]
 
 mod nodes;

@@ -1,5 +1,5 @@
 use Rattle.hsr_redbox.proofs.PastLaw.{answers_as_past}
-use Rattle.hsr_redbox.proofs.redbox.answers_as_past.Goals as goal
+use Rattle.hsr_redbox.proofs.past.answers_as_past.Goals as goal
 
 pub returns : goal.returns
 returns g c = answers_as_past g.row.C
