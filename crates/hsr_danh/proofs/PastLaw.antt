@@ -3,7 +3,7 @@ use Rattle.std.proofs.Common.{◌≡◌, ℕ, ◌+◌, ◌%◌, ◌≤◌, ◌^�
 use Rattle.std.specs.Prelude.{max, fold}
 use Rattle.std.proofs.lemmas.List.{append-nil}
 use Rattle.std.proofs.lemmas.List.Sums.{fold-append}
-use Rattle.hsr_frame.specs.Counters.{bit, counted_cause}
+use Rattle.hsr_frame.specs.Counters.{bit, counted_cause, step_limit}
 use Rattle.hsr_frame.specs.Egress.{Egress, up, a, b, exits_of}
 use Rattle.hsr_frame.specs.Send.{send_refusal}
 use Rattle.hsr_frame.specs.declared.counters.Counters.{Counters}
@@ -29,6 +29,7 @@ use Rattle.hsr_tables.specs.Known.{known}
 use Rattle.hsr_tables.specs.Nodes.{Hearing, Nodes, heard, no_nodes}
 use Rattle.hsr_danh.specs.Machine.{AreWithin, Machine, new_machine}
 use Rattle.hsr_role.specs.Arrival.{counted_with, heard_of, key_of}
+use Rattle.hsr_role.specs.Numbers.{number_range}
 use Rattle.hsr_danh.specs.Step.{after_arrival, after_numbered, age_step, arrive_or_spent, arrive_step, copies_of, judged, life_or_spent, life_step, now_at, send_or_refuse, send_step, verdict_of}
 use Rattle.hsr_danh.specs.Wanted.{wanted}
 use Rattle.hsr_danh.specs.Past as deeds
@@ -105,7 +106,7 @@ life-case capacity machine past at true r = (refl, r, refl, refl)
 life-case capacity machine past at false r =
     let deed : record { now = now_at machine at; did = sent_life machine.next } ≡ record { now = max (moment_of past) at; did = sent_life (number_after past) }
     = λ i. record { now = max (r.moment i) at; did = sent_life (r.next i) } in (
-      ap₂ (λ n (c : Counters). deeds.lived (Ok (record { seq = n; life = c.life % 65536 }))) r.next r.counters,
+      ap₂ (λ n (c : Counters). deeds.lived (Ok (record { seq = n; life = c.life % number_range }))) r.next r.counters,
       subst (λ (d : Deed). IsPastOf capacity (after_numbered capacity machine (now_at machine at) (record machine.counters { life = machine.counters.life + 1 })) (d ∷ past)) deed
           (numbered capacity machine past (now_at machine at) (record machine.counters { life = machine.counters.life + 1 }) (sent_life machine.next) (later-max machine.moment at) r (λ egress. refl) refl refl refl
           (ap (λ (c : Counters). record c { life = c.life + 1 }) r.counters)),
@@ -260,11 +261,11 @@ kept capacity machine past (deeds.sending at dst kind len) r =
     subst (λ n. Kept capacity machine (step capacity machine (deeds.sending at dst kind len)) (deeds.send_from past at (send_refusal machine.own n dst kind len))) r.accepted
     (send-case capacity machine past at (send_refusal machine.own machine.accepted dst kind len) r)
 kept capacity machine past (deeds.supervising at) r =
-    subst (λ n. Kept capacity machine (step capacity machine (deeds.supervising at)) (deeds.life_from past at (n == 2 ^ 62))) r.accepted
-    (life-case capacity machine past at (machine.accepted == 2 ^ 62) r)
+    subst (λ n. Kept capacity machine (step capacity machine (deeds.supervising at)) (deeds.life_from past at (n == step_limit))) r.accepted
+    (life-case capacity machine past at (machine.accepted == step_limit) r)
 kept capacity machine past (deeds.arriving at x octets) r =
-    subst (λ n. Kept capacity machine (step capacity machine (deeds.arriving at x octets)) (deeds.arrive_from capacity machine.own machine.mode past at x (classified octets) (n == 2 ^ 62))) r.accepted
-    (arrive-case capacity machine past at x octets (machine.accepted == 2 ^ 62) r)
+    subst (λ n. Kept capacity machine (step capacity machine (deeds.arriving at x octets)) (deeds.arrive_from capacity machine.own machine.mode past at x (classified octets) (n == step_limit))) r.accepted
+    (arrive-case capacity machine past at x octets (machine.accepted == step_limit) r)
 kept capacity machine past (deeds.ageing at) r = (refl, age-case capacity machine past at r, refl, refl)
 
 runs : (capacity : ℕ) (own : List ℕ) (mode : Mode) (machine : Machine) (past : List Deed) (calls : List Call) → machine.own ≡ own → machine.mode ≡ mode → IsPastOf capacity machine past

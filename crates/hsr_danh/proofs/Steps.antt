@@ -1,6 +1,6 @@
 -- What the program does in a step is the step of the definition, and keeps what holds of each DANH.
 use Rattle.std.proofs.Common.{◌≡◌, ℕ, ◌+◌, ◌%◌, ◌<◌, ◌≤◌, ◌^◌, Bool, true, false, not, List, [], ◌∷◌, Some, None, Result, Ok, Err, ap, ap₂, sym, arith, ◌∙◌}
-use Rattle.hsr_frame.specs.Counters.{AreWithin as CountersWithin, bit}
+use Rattle.hsr_frame.specs.Counters.{AreWithin as CountersWithin, bit, step_limit}
 use Rattle.hsr_frame.proofs.Counting.{AreWithin-counted_bad}
 use Rattle.hsr_frame.specs.Egress.{a, b, exits_of}
 use Rattle.hsr_frame.specs.Send.{send_refusal}
@@ -17,6 +17,7 @@ use Rattle.hsr_duptable.proofs.Within.{IsWithin-more, IsWithin-pass}
 use Rattle.hsr_tables.specs.Nodes.{Nodes}
 use Rattle.hsr_danh.specs.Machine.{AreWithin, Machine, Notes}
 use Rattle.hsr_role.specs.Arrival.{counted_with, heard_of, key_of}
+use Rattle.hsr_role.specs.Numbers.{number_range}
 use Rattle.hsr_role.proofs.Spending.{spent, unspent}
 use Rattle.hsr_danh.specs.Step.{after_arrival, after_passes, arrive_or_spent, arrive_step, copies_of, judged, life_or_spent, life_step, now_at, passes_of, send_or_refuse, send_step, verdict_of}
 use Rattle.hsr_danh.specs.Wanted.{wanted}
@@ -31,30 +32,30 @@ send-refused capacity machine at dst kind len fault e = ap (send_or_refuse capac
 
 pub send-accepted : (capacity : ℕ) (machine : Machine) (at : ℕ) (dst : List ℕ) (kind len : ℕ) (notes : Notes) (now : ℕ) → None ≡ send_refusal machine.own machine.accepted dst kind len
     → now ≡ now_at machine at → notes ≡ after_passes capacity machine.notes (exits_of (a ∷ b ∷ [])) (record { src = machine.own; seq = machine.next }) now
-    → (Ok (record { seq = machine.next }), record machine { notes = notes; next = (machine.next + 1) % 65536; counters = record machine.counters { sent = machine.counters.sent + 1 }; moment = now; accepted = machine.accepted + 1 })
+    → (Ok (record { seq = machine.next }), record machine { notes = notes; next = (machine.next + 1) % number_range; counters = record machine.counters { sent = machine.counters.sent + 1 }; moment = now; accepted = machine.accepted + 1 })
     ≡ send_step capacity machine at dst kind len
 unfolding send_step
 send-accepted capacity machine at dst kind len notes now e at_now noted = rw (noted, at_now) (ap (send_or_refuse capacity machine (now_at machine at)) e)
 
-pub life-spent : (capacity : ℕ) (machine : Machine) (at : ℕ) → machine.accepted ≡ 2 ^ 62 → (Err (record {}), machine) ≡ life_step capacity machine at
+pub life-spent : (capacity : ℕ) (machine : Machine) (at : ℕ) → machine.accepted ≡ step_limit → (Err (record {}), machine) ≡ life_step capacity machine at
 unfolding life_step
 life-spent capacity machine at e = ap (life_or_spent capacity machine (now_at machine at)) (spent machine.accepted e)
 
-pub life-accepted : (capacity : ℕ) (machine : Machine) (at : ℕ) (notes : Notes) (now : ℕ) → machine.accepted < 2 ^ 62
+pub life-accepted : (capacity : ℕ) (machine : Machine) (at : ℕ) (notes : Notes) (now : ℕ) → machine.accepted < step_limit
     → now ≡ now_at machine at → notes ≡ after_passes capacity machine.notes (exits_of (a ∷ b ∷ [])) (record { src = machine.own; seq = machine.next }) now
-    → (Ok (record { seq = machine.next; life = machine.counters.life % 65536 }), record machine { notes = notes; next = (machine.next + 1) % 65536; counters = record machine.counters { life = machine.counters.life + 1 }; moment = now; accepted = machine.accepted + 1 })
+    → (Ok (record { seq = machine.next; life = machine.counters.life % number_range }), record machine { notes = notes; next = (machine.next + 1) % number_range; counters = record machine.counters { life = machine.counters.life + 1 }; moment = now; accepted = machine.accepted + 1 })
     ≡ life_step capacity machine at
 unfolding life_step
 life-accepted capacity machine at notes now some at_now noted = rw (noted, at_now) (ap (life_or_spent capacity machine (now_at machine at)) (sym (unspent machine.accepted some)))
 
 -- ---- arrivals
 
-pub arrive-spent : (capacity : ℕ) (machine : Machine) (at : ℕ) (x : RingPort) (octets : List ℕ) → machine.accepted ≡ 2 ^ 62 → (Err (record {}), machine) ≡ arrive_step capacity machine at x octets
+pub arrive-spent : (capacity : ℕ) (machine : Machine) (at : ℕ) (x : RingPort) (octets : List ℕ) → machine.accepted ≡ step_limit → (Err (record {}), machine) ≡ arrive_step capacity machine at x octets
 unfolding arrive_step
 arrive-spent capacity machine at x octets e = ap (arrive_or_spent capacity machine (now_at machine at) x octets) (spent machine.accepted e)
 
 pub arrive-accepted : (capacity : ℕ) (machine : Machine) (at : ℕ) (x : RingPort) (octets : List ℕ) (seen : Result Seen FrameFault) (passes : Exits) (notes : Notes) (readable : Bool) (nodes : Nodes) (now : ℕ)
-    → machine.accepted < 2 ^ 62 → seen ≡ classified octets → now ≡ now_at machine at
+    → machine.accepted < step_limit → seen ≡ classified octets → now ≡ now_at machine at
     → (passes, notes) ≡ judged capacity machine.notes (wanted machine.own machine.mode x seen).exits seen now
     → (readable, nodes) ≡ heard_of machine.own machine.nodes x seen now
     → let verdict = verdict_of (wanted machine.own machine.mode x seen) passes in

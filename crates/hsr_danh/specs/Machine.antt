@@ -1,7 +1,7 @@
 -- What a contract sees of a DANH: all that it holds.
 use Rattle.std.specs.Prelude.{ℕ, List, ◌≤◌, ◌<◌, ◌^◌}
 use Rattle.hsr_frame.specs.Address.{IsGroup}
-use Rattle.hsr_frame.specs.Counters.{no_counts, AreWithin as CountersWithin}
+use Rattle.hsr_frame.specs.Counters.{AreWithin as CountersWithin, no_counts, step_limit}
 use Rattle.hsr_frame.specs.declared.counters.Counters.{Counters}
 use Rattle.hsr_frame.specs.declared.node.Mode.{Mode}
 use Rattle.hsr_duptable.specs.Notes.{entry_forget}
@@ -45,7 +45,7 @@ pub record IsSound (machine : Machine) : Type 0 where
   pub station : ¬ IsGroup machine.own
   pub notes : AreWithin machine.notes machine.moment machine.accepted
   pub nodes : machine.nodes.last ≤ machine.moment
-  pub steps : machine.accepted ≤ 2 ^ 62
+  pub steps : machine.accepted ≤ step_limit
   pub counters : CountersWithin machine.counters machine.accepted
 
 -- a step can be noted at this moment
@@ -53,9 +53,9 @@ pub record AreReady (notes : Notes) (now : ℕ) : Type 0 where
   pub up : notes.up.last ≤ now
   pub a : notes.a.last ≤ now
   pub b : notes.b.last ≤ now
-  pub up_room : notes.up.noted < 2 ^ 62
-  pub a_room : notes.a.noted < 2 ^ 62
-  pub b_room : notes.b.noted < 2 ^ 62
+  pub up_room : notes.up.noted < step_limit
+  pub a_room : notes.a.noted < step_limit
+  pub b_room : notes.b.noted < step_limit
 
 -- ageing can be done at this moment
 pub record AreEarlier (notes : Notes) (now : ℕ) : Type 0 where

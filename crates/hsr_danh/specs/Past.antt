@@ -1,5 +1,6 @@
 -- The machine that keeps its whole past, and answers by filtering it.
 use Rattle.std.specs.Prelude.{◌≡◌, ℕ, ◌+◌, ◌%◌, ◌^◌, ◌==◌, ◌&&◌, not, max, Bool, true, false, List, [], ◌∷◌, ◌++◌, map, reverse, Option, Some, None, Result, Ok, Err, if◌then◌else◌, is_err}
+use Rattle.hsr_frame.specs.Counters.{step_limit}
 use Rattle.hsr_frame.specs.Cause.{is_duplicate, is_returned, is_foreign, is_local, is_untagged, is_tagged, is_malformed}
 use Rattle.hsr_frame.specs.Egress.{Egress, up, a, b, c, d}
 use Rattle.hsr_frame.specs.Send.{send_refusal}
@@ -24,6 +25,7 @@ use Rattle.hsr_tables.specs.Nodes.{Hearing, hearing_if, rows_known}
 use Rattle.hsr_tables.specs.declared.nodes.NodeRow.{NodeRow}
 use Rattle.hsr_danh.specs.Machine.{Machine, new_machine}
 use Rattle.hsr_role.specs.Arrival.{key_of}
+use Rattle.hsr_role.specs.Numbers.{number_range}
 use Rattle.hsr_danh.specs.Step.{age_step, arrive_step, life_step, send_step, verdict_of}
 use Rattle.hsr_danh.specs.Wanted.{wanted}
 use Rattle.hsr_danh.specs.declared.danh.Sent.{Sent}
@@ -105,7 +107,7 @@ is_numbered gave_up = false
 
 -- the number of the next frame
 abbrev pub number_after : List Deed → ℕ
-number_after past = count_of is_numbered past % 65536
+number_after past = count_of is_numbered past % number_range
 
 -- ---- the log of an egress: a note for each numbered frame that it passed, the oldest first, never shortened
 
@@ -197,7 +199,7 @@ send_from past at None = (sent (Ok (record { seq = number_after past })), done p
 abbrev pub life_from : List Deed → ℕ → Bool → Answer × List Deed
 life_from past at true = (lived (Err (record {})), past)
 life_from past at false =
-    (lived (Ok (record { seq = number_after past; life = count_of is_life past % 65536 })), done past at (sent_life (number_after past)))
+    (lived (Ok (record { seq = number_after past; life = count_of is_life past % number_range })), done past at (sent_life (number_after past)))
 
 -- a tagged frame passes where it is wanted and not remembered
 abbrev pub passes_from : ℕ → List ℕ → List Deed → ℕ → Exits → Result Seen FrameFault → Exits
@@ -219,8 +221,8 @@ arrive_from capacity own mode past at x seen false =
 
 abbrev pub past_step : ℕ → List ℕ → Mode → List Deed → Call → Answer × List Deed
 past_step capacity own mode past (sending at dst kind len) = send_from past at (send_refusal own (count_of is_step past) dst kind len)
-past_step capacity own mode past (supervising at) = life_from past at (count_of is_step past == 2 ^ 62)
-past_step capacity own mode past (arriving at x octets) = arrive_from capacity own mode past at x (classified octets) (count_of is_step past == 2 ^ 62)
+past_step capacity own mode past (supervising at) = life_from past at (count_of is_step past == step_limit)
+past_step capacity own mode past (arriving at x octets) = arrive_from capacity own mode past at x (classified octets) (count_of is_step past == step_limit)
 past_step capacity own mode past (ageing at) = (aged, done past at gave_up)
 
 abbrev pub past_answers : ℕ → List ℕ → Mode → List Deed → List Call → List Answer

@@ -1,6 +1,6 @@
 -- One step of a DANH: the answer to a call, and what the node holds after it.
 use Rattle.std.specs.Prelude.{ℕ, ◌+◌, ◌%◌, ◌^◌, ◌==◌, ◌&&◌, not, max, Bool, true, false, List, [], ◌∷◌, Option, Some, None, Result, Ok, Err}
-use Rattle.hsr_frame.specs.Counters.{bit}
+use Rattle.hsr_frame.specs.Counters.{bit, step_limit}
 use Rattle.hsr_frame.specs.Egress.{cause_of, exits_of}
 use Rattle.hsr_frame.specs.Egress as egress
 use Rattle.hsr_frame.specs.Send.{send_refusal}
@@ -17,6 +17,7 @@ use Rattle.hsr_tag.specs.declared.seen.Seen.{Seen}
 use Rattle.hsr_duptable.specs.Key.{Key}
 use Rattle.hsr_duptable.specs.Table.{after_age, after_pass, remembers}
 use Rattle.hsr_role.specs.Arrival.{counted_with, heard_of, judged_by, key_in}
+use Rattle.hsr_role.specs.Numbers.{number_range}
 use Rattle.hsr_danh.specs.Wanted.{wanted}
 use Rattle.hsr_danh.specs.Machine.{Machine, Notes}
 use Rattle.hsr_danh.specs.declared.danh.Sent.{Sent}
@@ -40,7 +41,7 @@ after_passes capacity notes passes key now = record {
 abbrev pub after_numbered : ℕ → Machine → ℕ → Counters → Machine
 after_numbered capacity machine now counters = record machine {
   notes = after_passes capacity machine.notes (exits_of (egress.a ∷ egress.b ∷ [])) (record { src = machine.own; seq = machine.next }) now;
-  next = (machine.next + 1) % 65536;
+  next = (machine.next + 1) % number_range;
   counters = counters;
   moment = now;
   accepted = machine.accepted + 1;
@@ -59,11 +60,11 @@ send_step capacity machine at dst kind len =
 abbrev pub life_or_spent : ℕ → Machine → ℕ → Bool → Result Life Spent × Machine
 life_or_spent capacity machine now true = (Err (record {}), machine)
 life_or_spent capacity machine now false =
-    (Ok (record { seq = machine.next; life = machine.counters.life % 65536 }), after_numbered capacity machine now (record machine.counters { life = machine.counters.life + 1 }))
+    (Ok (record { seq = machine.next; life = machine.counters.life % number_range }), after_numbered capacity machine now (record machine.counters { life = machine.counters.life + 1 }))
 
 -- a supervision frame
 unfoldable pub life_step : ℕ → Machine → ℕ → Result Life Spent × Machine
-life_step capacity machine at = life_or_spent capacity machine (now_at machine at) (machine.accepted == 2 ^ 62)
+life_step capacity machine at = life_or_spent capacity machine (now_at machine at) (machine.accepted == step_limit)
 
 -- ---- an arrival
 
@@ -109,7 +110,7 @@ arrive_or_spent capacity machine now x octets true = (Err (record {}), machine)
 arrive_or_spent capacity machine now x octets false = let after = after_arrival capacity machine now x (classified octets) in (Ok after.0, after.1)
 
 unfoldable pub arrive_step : ℕ → Machine → ℕ → RingPort → List ℕ → Result Verdict Spent × Machine
-arrive_step capacity machine at x octets = arrive_or_spent capacity machine (now_at machine at) x octets (machine.accepted == 2 ^ 62)
+arrive_step capacity machine at x octets = arrive_or_spent capacity machine (now_at machine at) x octets (machine.accepted == step_limit)
 
 -- ---- ageing, which isn't counted as a step
 

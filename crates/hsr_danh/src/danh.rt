@@ -1,5 +1,6 @@
 //! A node with two ring ports, its tables and its counters.
 ghost use Rattle.std.specs.Prelude.{◌≡◌, ◌≢◌, ◌≤◌, ◌<◌, ◌^◌, length, map, IfOk, OnOk};
+ghost use Rattle.hsr_frame.specs.Counters.{step_limit};
 
 use crate::tables::Tables;
 use crate::wanted::wants_of;
@@ -9,7 +10,7 @@ use hsr_frame::{
     Cause, Counters, Exits, Life, Mac, Mode, NoMemory, RingPort, STEP_LIMIT, SendFault, Spent,
     Wants, send_fault,
 };
-use hsr_role::{count, hear};
+use hsr_role::{NUMBER_RANGE, count, hear};
 use hsr_tables::{NodeRow, NodeTable};
 use hsr_tag::classify;
 use std::alloc::Global;
@@ -111,7 +112,7 @@ impl<const C: usize> Danh<C> {
     }
 
     /// Numbers a supervision frame and sends it by both ports (IEC 62439-3 clause 5.7); `life` counts the
-    /// earlier ones, modulo 65536. Where `STEP_LIMIT` steps are spent it changes nothing.
+    /// earlier ones, modulo `NUMBER_RANGE`. Where `STEP_LIMIT` steps are spent it changes nothing.
     pub fn supervise(&mut self, at: u64) -> Result<Life, Spent>
         ensures { (result, self.new) ≡ life_step C self.old at }
     {
@@ -120,7 +121,7 @@ impl<const C: usize> Danh<C> {
         }
         let now = self.moment.max(at);
         let seq = self.next;
-        let life = (self.counters.life % 65536) as u16;
+        let life = (self.counters.life % NUMBER_RANGE) as u16;
         self.tables
             .mark(Exits::both_ports(), Key { src: self.own, seq }, now);
         self.next = seq.wrapping_add(1);
@@ -178,7 +179,7 @@ impl<const C: usize> Danh<C> {
     /// How often each thing happened here.
     pub fn counters(&self) -> Counters
         ensures value { result ≡ self.now.counters }
-        ensures within { AreWithin result (2 ^ 62) }
+        ensures within { AreWithin result step_limit }
     {
         self.counters
     }

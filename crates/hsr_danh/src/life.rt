@@ -8,7 +8,7 @@ use hsr_supervision::{SupKind, Supervision};
 use hsr_tag::Frame;
 
 /// The frame by which a node tells that it is there (IEC 62439-3 clause 5.7), before it is tagged; `life` counts the
-/// node's earlier ones, modulo 65536.
+/// node's earlier ones, modulo `hsr_role::NUMBER_RANGE`.
 #[tactic(auto, unfolding(crate::specs::Life::life_fields))]
 pub fn life_frame(own: Mac, life: u16) -> Frame
     requires { ¬ IsGroup own }

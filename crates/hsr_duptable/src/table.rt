@@ -1,5 +1,6 @@
 //! The duplicate table in its plain form: a ring of notes that is searched from its youngest end.
 ghost use Rattle.std.specs.Prelude.{◌≡◌, ◌&&◌, not, ℕ, ◌^◌, ◌<◌, ◌≤◌, length, IfOk};
+ghost use Rattle.hsr_frame.specs.Counters.{step_limit};
 ghost use Rattle.circular_buffer.specs.Buffer.{buffer};
 ghost use Rattle.hsr_duptable.specs.Notes.{has_key, unexpired_notes, IsRising};
 ghost use Rattle.hsr_duptable.specs.Log.{AnswersAsLog};
@@ -82,7 +83,7 @@ impl<const C: usize> DupTable<C> {
     /// Notes that the frame passed at a moment, in milliseconds; a full table gives up its oldest note.
     pub fn note(&mut self, key: Key, at: u64)
         requires later { self.old.last ≤ at }
-        requires room { self.old.noted < 2 ^ 62 }
+        requires room { self.old.noted < step_limit }
         ensures { self.new ≡ after_note C self.old key at }
     {
         self.ring.push_back(Note { key, moment: at });
@@ -94,7 +95,7 @@ impl<const C: usize> DupTable<C> {
     /// the moment is in milliseconds (IEC 62439-3 clause 5.3).
     pub fn pass(&mut self, wanted: bool, key: Key, at: u64) -> bool
         requires later { self.old.last ≤ at }
-        requires room { self.old.noted < 2 ^ 62 }
+        requires room { self.old.noted < step_limit }
         ensures passes { result ≡ (wanted && not (remembers self.old key at)) }
         ensures noted { self.new ≡ after_pass C self.old result key at }
     {
@@ -106,7 +107,7 @@ impl<const C: usize> DupTable<C> {
     /// Notes a frame if it passes without a look, at a moment in milliseconds.
     pub fn mark(&mut self, passes: bool, key: Key, at: u64)
         requires later { self.old.last ≤ at }
-        requires room { self.old.noted < 2 ^ 62 }
+        requires room { self.old.noted < step_limit }
         ensures { self.new ≡ after_pass C self.old passes key at }
     {
         if passes {

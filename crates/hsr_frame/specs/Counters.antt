@@ -1,8 +1,12 @@
 -- How a node counts.
-use Rattle.std.specs.Prelude.{ℕ, ◌+◌, ◌*◌, ◌≤◌, Bool, if◌then◌else◌}
+use Rattle.std.specs.Prelude.{ℕ, ◌+◌, ◌*◌, ◌^◌, ◌≤◌, Bool, if◌then◌else◌}
 use Rattle.hsr_frame.specs.declared.node.Cause.{Cause}
 use Rattle.hsr_frame.specs.declared.node.Cause.TheVariants.{Passed, Duplicate, Returned, Foreign, Local, Untagged, Tagged, Malformed}
 use Rattle.hsr_frame.specs.declared.counters.Counters.{Counters}
+
+-- how many steps a node accepts, so that no counter overflows
+abbrev pub step_limit : ℕ
+step_limit = 2 ^ 62
 
 abbrev pub no_counts : Counters
 no_counts = record { sent = 0; life = 0; up = 0; forwarded = 0; duplicate = 0; returned = 0; foreign = 0; local = 0; untagged = 0; tagged = 0; malformed = 0; bad_life = 0 }

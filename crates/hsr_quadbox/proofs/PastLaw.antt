@@ -4,7 +4,7 @@ use Rattle.std.specs.Prelude.{max}
 use Rattle.std.specs.List.{sum_by}
 use Rattle.std.proofs.lemmas.List.Sums.{sum_by-cons}
 use Rattle.hsr_frame.specs.Cause.{is_duplicate, is_malformed, is_untagged}
-use Rattle.hsr_frame.specs.Counters.{counted, no_counts}
+use Rattle.hsr_frame.specs.Counters.{counted, no_counts, step_limit}
 use Rattle.hsr_frame.specs.Egress.{cause_of, is_any}
 use Rattle.hsr_frame.specs.declared.egress.Exits.{Exits}
 use Rattle.hsr_frame.specs.declared.fault.FrameFault.{FrameFault}
@@ -189,11 +189,11 @@ pub told-call : (capacity : ℕ) (machine : Machine) (past : List Deed) (call : 
     → IsSame capacity (machine_call capacity machine call) (past_call capacity past call)
 unfolding arrive_step
 told-call capacity machine past (arriving at x octets) told =
-    let step : ℕ → ℕ → Answer × Machine = λ moment accepted. let s = arrive_or_spent capacity machine (max moment at) x octets (accepted == 2 ^ 62) in (Some s.0, s.1) in
+    let step : ℕ → ℕ → Answer × Machine = λ moment accepted. let s = arrive_or_spent capacity machine (max moment at) x octets (accepted == step_limit) in (Some s.0, s.1) in
     let kept = past_call capacity past (arriving at x octets) in
     subst (λ (m : ℕ). IsSame capacity (step m machine.accepted) kept) (sym told.moment)
     (subst (λ (n : ℕ). IsSame capacity (step (greatest past) n) kept) (sym told.accepted)
-    (told-arriving capacity machine past at x octets (length (arrivals past) == 2 ^ 62) told))
+    (told-arriving capacity machine past at x octets (length (arrivals past) == step_limit) told))
 told-call capacity machine past (ageing at) told = (refl, told-aged capacity machine past at told)
 
 -- ---- any calls

@@ -1,6 +1,6 @@
 -- What one step of a QuadBox keeps.
 use Rattle.std.proofs.Common.{◌≡◌, ℕ, ◌+◌, ◌≤◌, ◌<◌, ◌^◌, ◌==◌, Bool, true, false, not, ap, refl, arith, rules, Result, Ok, Err, List}
-use Rattle.hsr_frame.specs.Counters.{bit, counted}
+use Rattle.hsr_frame.specs.Counters.{bit, counted, step_limit}
 use Rattle.hsr_frame.specs.Egress.{cause_of}
 use Rattle.hsr_frame.specs.declared.counters.Counters.{Counters}
 use Rattle.hsr_frame.specs.declared.egress.Exits.{Exits}
@@ -65,23 +65,23 @@ copies-few capacity notes x (Ok (Tagged frame)) now =
     ]
 
 -- a spent box changes nothing
-pub arrive-spent : (capacity : ℕ) (machine : Machine) (at : ℕ) (x : QuadPort) (octets : List ℕ) → machine.accepted ≡ 2 ^ 62
+pub arrive-spent : (capacity : ℕ) (machine : Machine) (at : ℕ) (x : QuadPort) (octets : List ℕ) → machine.accepted ≡ step_limit
     → (Err (record {}), machine) ≡ arrive_step capacity machine at x octets
 unfolding arrive_step
 arrive-spent capacity machine at x octets spent =
-    let full : (machine.accepted == 2 ^ 62) ≡ true = search (rules, arith) in
+    let full : (machine.accepted == step_limit) ≡ true = search (rules, arith) in
     rw full refl
 
 -- an arrival that is judged and counted is the step
 pub arrive-accepted : (capacity : ℕ) (machine : Machine) (at : ℕ) (x : QuadPort) (octets : List ℕ) (passes : Exits) (notes : Notes) (counters : Counters)
-    → machine.accepted < 2 ^ 62
+    → machine.accepted < step_limit
     → (passes, notes) ≡ judged capacity machine.notes (wanted x (classified octets)).exits (classified octets) (now_at machine at)
     → counters ≡ counted machine.counters (cause_of (wanted x (classified octets)) passes) false (copies_of passes)
     → (Ok (verdict_of (wanted x (classified octets)) passes), record machine { notes = notes; counters = counters; moment = now_at machine at; accepted = machine.accepted + 1 })
     ≡ arrive_step capacity machine at x octets
 unfolding arrive_step
 arrive-accepted capacity machine at x octets passes notes counters some outcome count =
-    let left : (machine.accepted == 2 ^ 62) ≡ false = search (rules, arith) in
+    let left : (machine.accepted == step_limit) ≡ false = search (rules, arith) in
     let wants = wanted x (classified octets) in
     let step : Exits × Notes → Result QuadVerdict Spent × Machine = λ o. (
       Ok (verdict_of wants o.0),

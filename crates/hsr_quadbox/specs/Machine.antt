@@ -1,6 +1,6 @@
 -- What a contract sees of a QuadBox: all that it holds.
 use Rattle.std.specs.Prelude.{ℕ, ◌≤◌, ◌<◌, ◌^◌}
-use Rattle.hsr_frame.specs.Counters.{no_counts}
+use Rattle.hsr_frame.specs.Counters.{no_counts, step_limit}
 use Rattle.hsr_frame.specs.declared.counters.Counters.{Counters}
 use Rattle.hsr_duptable.specs.Notes.{entry_forget}
 use Rattle.hsr_duptable.specs.Table.{IsWithin, Table, empty_table}
@@ -42,7 +42,7 @@ pub record AreEarlier (notes : Notes) (now : ℕ) : Type 0 where
 
 -- there is room for one note more
 pub record AreRoomy (notes : Notes) : Type 0 where
-  pub a : notes.a.noted < 2 ^ 62
-  pub b : notes.b.noted < 2 ^ 62
-  pub c : notes.c.noted < 2 ^ 62
-  pub d : notes.d.noted < 2 ^ 62
+  pub a : notes.a.noted < step_limit
+  pub b : notes.b.noted < step_limit
+  pub c : notes.c.noted < step_limit
+  pub d : notes.d.noted < step_limit

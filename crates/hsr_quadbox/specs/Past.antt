@@ -2,7 +2,7 @@
 use Rattle.std.specs.Prelude.{ℕ, ◌≡◌, ◌^◌, ◌==◌, ◌&&◌, not, max, Bool, true, false, List, [], ◌∷◌, ◌++◌, length, filter, Option, Some, None, Result, Ok, Err}
 use Rattle.std.specs.List.{sum_by}
 use Rattle.hsr_frame.specs.Cause.{is_duplicate, is_malformed, is_untagged}
-use Rattle.hsr_frame.specs.Counters.{no_counts}
+use Rattle.hsr_frame.specs.Counters.{no_counts, step_limit}
 use Rattle.hsr_frame.specs.declared.counters.Counters.{Counters}
 use Rattle.hsr_frame.specs.declared.egress.Exits.{Exits}
 use Rattle.hsr_frame.specs.declared.fault.FrameFault.{FrameFault}
@@ -148,7 +148,7 @@ judge_or_spent capacity past at x seen false = let j = judgement capacity past a
 
 -- a call to one that keeps its past
 abbrev pub past_call : ℕ → List Deed → Call → Answer × List Deed
-past_call capacity past (arriving at x octets) = judge_or_spent capacity past at x (classified octets) (length (arrivals past) == 2 ^ 62)
+past_call capacity past (arriving at x octets) = judge_or_spent capacity past at x (classified octets) (length (arrivals past) == step_limit)
 past_call capacity past (ageing at) = (None, aged at ∷ past)
 
 -- the answers to some calls, and what is held after them

@@ -1,6 +1,6 @@
 -- One step of a QuadBox: the answer to a call, and what the box holds after it.
 use Rattle.std.specs.Prelude.{ℕ, ◌+◌, ◌^◌, ◌==◌, ◌&&◌, not, max, Bool, true, false, List, [], ◌∷◌, Result, Ok, Err}
-use Rattle.hsr_frame.specs.Counters.{bit, counted}
+use Rattle.hsr_frame.specs.Counters.{bit, counted, step_limit}
 use Rattle.hsr_frame.specs.Egress.{cause_of}
 use Rattle.hsr_frame.specs.declared.egress.Exits.{Exits}
 use Rattle.hsr_frame.specs.declared.egress.Wants.{Wants}
@@ -73,7 +73,7 @@ arrive_or_spent capacity machine now x octets false = let after = after_arrival 
 
 -- Spent only where 2^62 arrivals were accepted
 unfoldable pub arrive_step : ℕ → Machine → ℕ → QuadPort → List ℕ → Result QuadVerdict Spent × Machine
-arrive_step capacity machine at x octets = arrive_or_spent capacity machine (now_at machine at) x octets (machine.accepted == 2 ^ 62)
+arrive_step capacity machine at x octets = arrive_or_spent capacity machine (now_at machine at) x octets (machine.accepted == step_limit)
 
 -- ---- ageing, which isn't counted as a step
 

@@ -1,5 +1,6 @@
 //! A node with two ports in each of two rings.
 ghost use Rattle.std.specs.Prelude.{◌≡◌, ◌≤◌, ◌^◌, IfOk};
+ghost use Rattle.hsr_frame.specs.Counters.{step_limit};
 ghost use Rattle.hsr_quadbox.specs.Step.{copies_of, verdict_of};
 
 use crate::tables::PortTables;
@@ -28,15 +29,15 @@ pub struct QuadBox<const C: usize> {
 }
 
 impl<const C: usize> Model for QuadBox<C> {
-    ghost use Rattle.std.specs.Prelude.{◌≤◌, ◌^◌};
-    ghost use Rattle.hsr_frame.specs.Counters.{AreWithin};
+    ghost use Rattle.std.specs.Prelude.{◌≤◌};
+    ghost use Rattle.hsr_frame.specs.Counters.{AreWithin, step_limit};
     ghost use Rattle.hsr_quadbox.specs.Machine.{Machine, NotesAreWithin};
 
     ghost Value = { Machine };
 
     ghost view = { λ q. record { notes = q.tables; counters = q.counters; moment = q.moment; accepted = q.accepted } };
 
-    ghost invariant = { λ q. NotesAreWithin q.tables q.moment q.accepted × (q.accepted ≤ 2 ^ 62) × AreWithin q.counters q.accepted };
+    ghost invariant = { λ q. NotesAreWithin q.tables q.moment q.accepted × (q.accepted ≤ step_limit) × AreWithin q.counters q.accepted };
 }
 
 impl<const C: usize> QuadBox<C> {
@@ -90,7 +91,7 @@ impl<const C: usize> QuadBox<C> {
     /// How often each thing happened here.
     pub fn counters(&self) -> Counters
         ensures value { result ≡ self.now.counters }
-        ensures within { AreWithin result (2 ^ 62) }
+        ensures within { AreWithin result step_limit }
     {
         self.counters
     }

@@ -6,7 +6,7 @@ use Rattle.std.proofs.lemmas.List.{append-nil}
 use Rattle.std.proofs.lemmas.List.Sums.{fold-append}
 use Rattle.hsr_frame.specs.Address.{is_same_address}
 use Rattle.hsr_frame.specs.Cause.{is_duplicate, is_returned, is_foreign, is_local, is_untagged, is_tagged, is_malformed}
-use Rattle.hsr_frame.specs.Counters.{bit, counted_cause}
+use Rattle.hsr_frame.specs.Counters.{bit, counted_cause, step_limit}
 use Rattle.hsr_frame.specs.Egress.{Egress, up, a, b, exits_of, with_exit, has_exit}
 use Rattle.hsr_frame.specs.Send.{send_refusal}
 use Rattle.hsr_frame.specs.declared.counters.Counters.{Counters}
@@ -36,6 +36,7 @@ use Rattle.hsr_tables.proofs.NodeLaws.{rows_of_latest, listened-if}
 use Rattle.hsr_tables.proofs.ProxyLaws.{knows_latest}
 use Rattle.hsr_redbox.specs.Machine.{AreWithin, Machine, Notes, new_machine}
 use Rattle.hsr_role.specs.Arrival.{counted_with, heard_of, key_of}
+use Rattle.hsr_role.specs.Numbers.{number_range}
 use Rattle.hsr_redbox.specs.Step.{after_arrival, after_frame, after_interlink, after_marks, after_ring, age_step, aged, arrive_or_spent, arrive_step, copies_of, heard_from, judged, life_or_refuse, life_refusal, life_step, now_at, send_or_refuse, send_step, sent_of, verdict_of}
 use Rattle.hsr_redbox.specs.Wanted.{handling_interlink, handling_send, interlink, wanted}
 use Rattle.hsr_redbox.specs.Past as deeds
@@ -108,7 +109,7 @@ logs-judged capacity own notes log wants x (Ok (Tagged frame)) moment now accept
 
 -- ---- numbers and counters
 
-numbered-same : (source : Option (List ℕ)) (next count : ℕ) → next ≡ count % 65536 → (next + bit (is_some source)) % 65536 ≡ (if is_some source then count + 1 else count) % 65536
+numbered-same : (source : Option (List ℕ)) (next count : ℕ) → next ≡ count % number_range → (next + bit (is_some source)) % number_range ≡ (if is_some source then count + 1 else count) % number_range
 numbered-same None next count e = omega (arith, e)
 numbered-same (Some src) next count e = omega (arith, e)
 
@@ -227,7 +228,7 @@ life-case capacity machine past now None later r =
     let counters : Counters = record machine.counters { life = machine.counters.life + 1 } in
     let k : Counters = counters_of machine.own past in
     let after = after_frame capacity machine now (exits_of (a ∷ b ∷ [])) (Some machine.own) counters in (
-      ap₂ (λ n (k : Counters). deeds.lived (Ok (record { seq = n; life = k.life % 65536 }))) r.next r.counters,
+      ap₂ (λ n (k : Counters). deeds.lived (Ok (record { seq = n; life = k.life % number_range }))) r.next r.counters,
       subst (λ n. IsPastOf capacity after (record { now = now; did = sent_life n } ∷ past)) r.next
           (marked capacity machine past now machine.proxies (exits_of (a ∷ b ∷ [])) (Some machine.own) counters (sent_life machine.next) later r (λ egress. refl) refl refl refl
           (learned-same machine.proxies (sources_of machine.own past) r.proxies) (ap (λ (k : Counters). record k { life = k.life + 1 }) r.counters ∙ (λ i. record k { life = k.life + 1; forwarded = still k.forwarded i }))),
@@ -373,9 +374,9 @@ kept capacity machine past (deeds.supervising at about) r =
     (life-case capacity machine past now (life_refusal (is_known now machine.proxies.heard) machine.accepted about) (later-max machine.moment at) r)))
 kept capacity machine past (deeds.arriving at port octets) r =
     let after = step capacity machine (deeds.arriving at port octets) in
-    subst (λ m. Kept capacity machine after (deeds.arrive_from capacity machine.own machine.mode past (max m at) port (classified octets) (count_of is_step past == 2 ^ 62))) r.moment
-    (subst (λ n. Kept capacity machine after (deeds.arrive_from capacity machine.own machine.mode past (now_at machine at) port (classified octets) (n == 2 ^ 62))) r.accepted
-    (arrive-case capacity machine past (now_at machine at) port octets (machine.accepted == 2 ^ 62) (later-max machine.moment at) r))
+    subst (λ m. Kept capacity machine after (deeds.arrive_from capacity machine.own machine.mode past (max m at) port (classified octets) (count_of is_step past == step_limit))) r.moment
+    (subst (λ n. Kept capacity machine after (deeds.arrive_from capacity machine.own machine.mode past (now_at machine at) port (classified octets) (n == step_limit))) r.accepted
+    (arrive-case capacity machine past (now_at machine at) port octets (machine.accepted == step_limit) (later-max machine.moment at) r))
 kept capacity machine past (deeds.ageing at) r =
     (refl, subst (λ m. IsPastOf capacity (age_step machine at) (done past (max m at) gave_up)) r.moment (age-case capacity machine past (now_at machine at) (later-max machine.moment at) r), refl, refl)
 

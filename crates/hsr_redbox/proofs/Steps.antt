@@ -1,6 +1,6 @@
 -- What the program does in a step is the step of the definition, and keeps what holds of each RedBox.
 use Rattle.std.proofs.Common.{◌≡◌, ℕ, ◌+◌, ◌%◌, ◌<◌, ◌≤◌, ◌^◌, Bool, true, false, not, List, [], ◌∷◌, Option, Some, None, Result, Ok, Err, ap, sym, refl, arith, ◌∙◌}
-use Rattle.hsr_frame.specs.Counters.{AreWithin as CountersWithin, bit}
+use Rattle.hsr_frame.specs.Counters.{AreWithin as CountersWithin, bit, step_limit}
 use Rattle.hsr_frame.proofs.Counting.{AreWithin-counted_bad}
 use Rattle.hsr_frame.specs.Send.{send_refusal}
 use Rattle.hsr_frame.specs.declared.counters.Counters.{Counters}
@@ -20,6 +20,7 @@ use Rattle.hsr_tag.specs.Seen.{classified}
 use Rattle.hsr_tables.specs.Proxies.{Proxies, is_known}
 use Rattle.hsr_redbox.specs.Wanted.{handling_interlink, handling_send, interlink, wanted}
 use Rattle.hsr_role.specs.Arrival.{counted_with, heard_of, key_of}
+use Rattle.hsr_role.specs.Numbers.{number_range}
 use Rattle.hsr_role.proofs.Spending.{spent, unspent}
 use Rattle.hsr_redbox.specs.Step.{after_arrival, after_frame, after_handling, after_interlink, after_marks, after_passes, after_ring, arrive_or_spent, arrive_step, copies_of, heard_from, judged, life_or_refuse, life_refusal, life_step, now_at, number_of, passes_of, send_or_refuse, send_step, sent_of, verdict_of}
 use Rattle.hsr_frame.specs.declared.node.About.{About}
@@ -97,18 +98,18 @@ life-refused capacity machine at about now fault at_now e = ap (life_or_refuse c
 pub life-accepted : (capacity : ℕ) (machine : Machine) (at : ℕ) (about : About) (now : ℕ) (new : Machine) → now ≡ now_at machine at
     → None ≡ life_refusal (is_known now machine.proxies.heard) machine.accepted about
     → new ≡ after_frame capacity machine now (exits_of (a ∷ b ∷ [])) (Some machine.own) (record machine.counters { life = machine.counters.life + 1 })
-    → (Ok (record { seq = machine.next; life = machine.counters.life % 65536 }), new) ≡ life_step capacity machine at about
+    → (Ok (record { seq = machine.next; life = machine.counters.life % number_range }), new) ≡ life_step capacity machine at about
 unfolding life_step
 life-accepted capacity machine at about now new at_now e left = rw (left, at_now) (ap (life_or_refuse capacity machine (now_at machine at)) (rw at_now at e))
 
 -- ---- arrivals
 
-pub arrive-spent : (capacity : ℕ) (machine : Machine) (at : ℕ) (port : BoxPort) (octets : List ℕ) → machine.accepted ≡ 2 ^ 62 → (Err (record {}), machine) ≡ arrive_step capacity machine at port octets
+pub arrive-spent : (capacity : ℕ) (machine : Machine) (at : ℕ) (port : BoxPort) (octets : List ℕ) → machine.accepted ≡ step_limit → (Err (record {}), machine) ≡ arrive_step capacity machine at port octets
 unfolding arrive_step
 arrive-spent capacity machine at port octets e = ap (arrive_or_spent capacity machine (now_at machine at) port octets) (spent machine.accepted e)
 
 pub arrive-accepted : (capacity : ℕ) (machine : Machine) (at : ℕ) (port : BoxPort) (octets : List ℕ) (seen : Result Seen FrameFault) (now : ℕ) (verdict : BoxVerdict) (new : Machine)
-    → machine.accepted < 2 ^ 62 → seen ≡ classified octets → now ≡ now_at machine at → (verdict, new) ≡ after_arrival capacity machine now port seen
+    → machine.accepted < step_limit → seen ≡ classified octets → now ≡ now_at machine at → (verdict, new) ≡ after_arrival capacity machine now port seen
     → (Ok verdict, new) ≡ arrive_step capacity machine at port octets
 unfolding arrive_step
 arrive-accepted capacity machine at port octets seen now verdict new some read at_now step =

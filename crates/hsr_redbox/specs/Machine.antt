@@ -1,7 +1,7 @@
 -- What a contract sees of a RedBox: all that it holds.
 use Rattle.std.specs.Prelude.{ℕ, List, ◌≤◌, ◌<◌, ◌^◌}
 use Rattle.hsr_frame.specs.Address.{IsGroup}
-use Rattle.hsr_frame.specs.Counters.{AreWithin as CountersWithin, no_counts}
+use Rattle.hsr_frame.specs.Counters.{AreWithin as CountersWithin, no_counts, step_limit}
 use Rattle.hsr_frame.specs.declared.counters.Counters.{Counters}
 use Rattle.hsr_frame.specs.declared.node.Mode.{Mode}
 use Rattle.hsr_duptable.specs.Notes.{entry_forget}
@@ -65,10 +65,10 @@ pub record AreEarlier (notes : Notes) (now : ℕ) : Type 0 where
 -- a frame can be noted at this moment
 pub record AreReady (notes : Notes) (now : ℕ) : Type 0 where
   pub earlier : AreEarlier notes now
-  pub up : notes.up.noted < 2 ^ 62
-  pub a : notes.a.noted < 2 ^ 62
-  pub b : notes.b.noted < 2 ^ 62
-  pub interlink : notes.interlink.noted < 2 ^ 62
+  pub up : notes.up.noted < step_limit
+  pub a : notes.a.noted < step_limit
+  pub b : notes.b.noted < step_limit
+  pub interlink : notes.interlink.noted < step_limit
 
 -- what holds of each RedBox
 pub record IsSound (machine : Machine) : Type 0 where
@@ -76,5 +76,5 @@ pub record IsSound (machine : Machine) : Type 0 where
   pub notes : AreWithin machine.notes machine.moment machine.accepted
   pub proxies : machine.proxies.last ≤ machine.moment
   pub nodes : machine.nodes.last ≤ machine.moment
-  pub steps : machine.accepted ≤ 2 ^ 62
+  pub steps : machine.accepted ≤ step_limit
   pub counters : CountersWithin machine.counters machine.accepted

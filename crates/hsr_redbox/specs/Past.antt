@@ -1,6 +1,7 @@
 -- The machine that keeps its whole past, and answers by filtering it.
 use Rattle.std.specs.Prelude.{◌≡◌, ℕ, ◌+◌, ◌%◌, ◌^◌, ◌==◌, ◌&&◌, not, max, Bool, true, false, List, [], ◌∷◌, ◌++◌, map, reverse, Option, Some, None, is_some, is_err, Result, Ok, Err, if◌then◌else◌}
 use Rattle.std.specs.List.{list_any}
+use Rattle.hsr_frame.specs.Counters.{step_limit}
 use Rattle.hsr_frame.specs.Address.{is_same_address}
 use Rattle.hsr_frame.specs.Cause.{is_duplicate, is_returned, is_foreign, is_local, is_untagged, is_tagged, is_malformed}
 use Rattle.hsr_frame.specs.Egress.{Egress, up, a, b, c, d, exits_of, with_exit, has_exit}
@@ -27,6 +28,7 @@ use Rattle.hsr_tables.specs.Nodes.{Hearing, hearing_if, rows_known}
 use Rattle.hsr_tables.specs.declared.nodes.NodeRow.{NodeRow}
 use Rattle.hsr_redbox.specs.Machine.{Machine, new_machine}
 use Rattle.hsr_role.specs.Arrival.{key_of}
+use Rattle.hsr_role.specs.Numbers.{number_range}
 use Rattle.hsr_redbox.specs.Step.{age_step, arrive_step, copies_of, life_refusal, life_step, number_of, send_step, sent_of, verdict_of}
 use Rattle.hsr_redbox.specs.Wanted.{handling_interlink, handling_send, interlink, wanted}
 use Rattle.hsr_redbox.specs.declared.wanted.Handling.{Handling}
@@ -114,7 +116,7 @@ is_numbered gave_up = false
 
 -- the number of the next frame
 abbrev pub number_after : List Deed → ℕ
-number_after past = count_of is_numbered past % 65536
+number_after past = count_of is_numbered past % number_range
 
 -- ---- the log of an egress: a note for each numbered frame that it passed or that was marked there, the oldest first, never shortened
 
@@ -234,7 +236,7 @@ send_from past now handling None = (sent (Ok (sent_of handling (number_after pas
 abbrev pub life_from : List Deed → ℕ → Option LifeFault → Answer × List Deed
 life_from past now (Some fault) = (lived (Err fault), past)
 life_from past now None =
-    (lived (Ok (record { seq = number_after past; life = count_of is_life past % 65536 })), done past now (sent_life (number_after past)))
+    (lived (Ok (record { seq = number_after past; life = count_of is_life past % number_range })), done past now (sent_life (number_after past)))
 
 -- a tagged frame of the ring passes where it is wanted and not remembered
 abbrev pub passes_from : ℕ → List ℕ → List Deed → ℕ → Exits → Result Seen FrameFault → Exits
@@ -279,7 +281,7 @@ past_step capacity own mode past (supervising at about) =
     let now = now_after past at in
     life_from past now (life_refusal (knows_among (sources_of own past) now) (count_of is_step past) about)
 past_step capacity own mode past (arriving at port octets) =
-    arrive_from capacity own mode past (now_after past at) port (classified octets) (count_of is_step past == 2 ^ 62)
+    arrive_from capacity own mode past (now_after past at) port (classified octets) (count_of is_step past == step_limit)
 past_step capacity own mode past (ageing at) = (aged, done past (now_after past at) gave_up)
 
 abbrev pub past_answers : ℕ → List ℕ → Mode → List Deed → List Call → List Answer

@@ -2,7 +2,7 @@
 use Rattle.std.specs.Prelude.{ℕ, ◌+◌, ◌%◌, ◌^◌, ◌==◌, ◌&&◌, not, max, Bool, true, false, List, [], ◌∷◌, Option, Some, None, option_map, is_some, Result, Ok, Err, if◌then◌else◌}
 use Rattle.hsr_frame.specs.Address.{is_same_address}
 use Rattle.hsr_frame.specs.Cases.{first_of}
-use Rattle.hsr_frame.specs.Counters.{bit}
+use Rattle.hsr_frame.specs.Counters.{bit, step_limit}
 use Rattle.hsr_frame.specs.Egress.{a, b, cause_of, exits_of, with_exit}
 use Rattle.hsr_frame.specs.Send.{send_refusal}
 use Rattle.hsr_frame.specs.declared.counters.Counters.{Counters}
@@ -21,6 +21,7 @@ use Rattle.hsr_duptable.specs.Key.{Key}
 use Rattle.hsr_duptable.specs.Table.{after_age, after_pass, remembers}
 use Rattle.hsr_tables.specs.Proxies.{Proxies, is_known, learned}
 use Rattle.hsr_role.specs.Arrival.{counted_with, heard_of, judged_by, key_in}
+use Rattle.hsr_role.specs.Numbers.{number_range}
 use Rattle.hsr_redbox.specs.Wanted.{handling_interlink, handling_send, interlink, wanted}
 use Rattle.hsr_redbox.specs.Machine.{Machine, Notes}
 use Rattle.hsr_redbox.specs.declared.wanted.Handling.{Handling}
@@ -52,7 +53,7 @@ abbrev pub number_of : Option (List ℕ) → ℕ → Option ℕ
 number_of source next = option_map (λ src. next) source
 
 abbrev pub after_number : Option (List ℕ) → ℕ → ℕ
-after_number source next = (next + bit (is_some source)) % 65536
+after_number source next = (next + bit (is_some source)) % number_range
 
 -- a frame with a number is noted at these egresses, without a look
 abbrev pub after_marks : ℕ → Notes → Exits → Option (List ℕ) → ℕ → ℕ → Notes
@@ -99,14 +100,14 @@ speaks_for knows (Proxied mac) = knows mac
 abbrev pub life_refusal : (List ℕ → Bool) → ℕ → About → Option LifeFault
 life_refusal knows accepted about = first_of
     ((not (speaks_for knows about), Some refused.NotProxied)
-    ∷ (accepted == 2 ^ 62, Some refused.Spent)
+    ∷ (accepted == step_limit, Some refused.Spent)
     ∷ [])
     None
 
 abbrev pub life_or_refuse : ℕ → Machine → ℕ → Option LifeFault → Result Life LifeFault × Machine
 life_or_refuse capacity machine now (Some fault) = (Err fault, machine)
 life_or_refuse capacity machine now None = (
-  Ok (record { seq = machine.next; life = machine.counters.life % 65536 }),
+  Ok (record { seq = machine.next; life = machine.counters.life % number_range }),
   after_frame capacity machine now (exits_of (a ∷ b ∷ [])) (Some machine.own) (record machine.counters { life = machine.counters.life + 1 }),
 )
 
@@ -189,7 +190,7 @@ arrive_or_spent capacity machine now port octets true = (Err (record {}), machin
 arrive_or_spent capacity machine now port octets false = let after = after_arrival capacity machine now port (classified octets) in (Ok after.0, after.1)
 
 unfoldable pub arrive_step : ℕ → Machine → ℕ → BoxPort → List ℕ → Result BoxVerdict Spent × Machine
-arrive_step capacity machine at port octets = arrive_or_spent capacity machine (now_at machine at) port octets (machine.accepted == 2 ^ 62)
+arrive_step capacity machine at port octets = arrive_or_spent capacity machine (now_at machine at) port octets (machine.accepted == step_limit)
 
 -- ---- ageing, which isn't counted as a step
 

@@ -9,7 +9,7 @@ use hsr_frame::{
     About, Counters, Exits, FrameFault, Life, Mac, Mode, NoMemory, RingPort, STEP_LIMIT, SendFault,
     Spent, Wants, send_fault,
 };
-use hsr_role::{count, hear};
+use hsr_role::{NUMBER_RANGE, count, hear};
 use hsr_tables::{NodeRow, NodeTable, ProxyTable};
 use hsr_tag::{Seen, classify};
 use std::alloc::Global;
@@ -106,7 +106,7 @@ impl<const C: usize> RedBox<C> {
     }
 
     /// Numbers a supervision frame about this node or a station of its interlink, and sends it by both ring ports
-    /// under its own address (IEC 62439-3 clause 5.7); `life` counts the earlier ones, modulo 65536. It refuses one
+    /// under its own address (IEC 62439-3 clause 5.7); `life` counts the earlier ones, modulo `NUMBER_RANGE`. It refuses one
     /// about an address that isn't known at this moment, and any where `STEP_LIMIT` steps are spent, in this order; a
     /// refusal changes nothing.
     pub fn supervise(&mut self, at: u64, about: About) -> Result<Life, LifeFault>
@@ -118,7 +118,7 @@ impl<const C: usize> RedBox<C> {
         }
         let life = Life {
             seq: self.next,
-            life: (self.counters.life % 65536) as u16,
+            life: (self.counters.life % NUMBER_RANGE) as u16,
         };
         let counters = Counters {
             life: self.counters.life + 1,
@@ -150,7 +150,7 @@ impl<const C: usize> RedBox<C> {
 
     /// Judges what came to a ring port, at the effective moment.
     fn from_ring(&mut self, x: RingPort, seen: &Result<Seen, FrameFault>, now: u64) -> BoxVerdict
-        requires steps { self.old.accepted < 2 ^ 62 }
+        requires steps { self.old.accepted < step_limit }
         requires later { self.old.moment ≤ now }
         ensures { (result, self.new) ≡ after_ring C self.old now x seen.now }
     {
@@ -173,7 +173,7 @@ impl<const C: usize> RedBox<C> {
 
     /// Judges what came to the interlink, at the effective moment.
     fn from_interlink(&mut self, seen: &Result<Seen, FrameFault>, now: u64) -> BoxVerdict
-        requires steps { self.old.accepted < 2 ^ 62 }
+        requires steps { self.old.accepted < step_limit }
         requires later { self.old.moment ≤ now }
         ensures { (result, self.new) ≡ after_interlink C self.old now seen.now }
     {
@@ -193,7 +193,7 @@ impl<const C: usize> RedBox<C> {
 
     /// Takes one more step, in which a frame leaves by these egresses: one with a number is noted there.
     fn leave(&mut self, exits: Exits, source: Option<Mac>, counters: Counters, now: u64)
-        requires steps { self.old.accepted < 2 ^ 62 }
+        requires steps { self.old.accepted < step_limit }
         requires later { self.old.moment ≤ now }
         requires within { AreWithin counters (self.old.accepted + 1) }
         ensures { self.new ≡ after_frame C self.old now exits source counters }
@@ -225,7 +225,7 @@ impl<const C: usize> RedBox<C> {
     /// How often each thing happened here.
     pub fn counters(&self) -> Counters
         ensures value { result ≡ self.now.counters }
-        ensures within { AreWithin result (2 ^ 62) }
+        ensures within { AreWithin result step_limit }
     {
         self.counters
     }
@@ -246,7 +246,7 @@ impl<const C: usize> RedBox<C> {
     }
 }
 
-ghost use Rattle.hsr_frame.specs.Counters.{AreWithin};
+ghost use Rattle.hsr_frame.specs.Counters.{AreWithin, step_limit};
 ghost use Rattle.hsr_tables.specs.Proxies.{is_known};
 ghost use Rattle.hsr_redbox.specs.Step.{copies_of, heard_from, life_refusal, number_of, speaks_for, verdict_of};
 
@@ -274,9 +274,9 @@ fn speaks_for(proxies: &ProxyTable, about: About, now: u64) -> bool
 /// Why a supervision is refused, if it is.
 fn life_fault(proxies: &ProxyTable, accepted: u64, about: About, now: u64) -> Option<LifeFault>
     requires later { proxies.now.last ≤ now }
-    requires steps { accepted ≤ 2 ^ 62 }
+    requires steps { accepted ≤ step_limit }
     ensures fault { result ≡ life_refusal (is_known now proxies.now.heard) accepted about }
-    ensures room { IfNone result (accepted < 2 ^ 62) }
+    ensures room { IfNone result (accepted < step_limit) }
 {
     if !speaks_for(proxies, about, now) {
         Some(LifeFault::NotProxied)

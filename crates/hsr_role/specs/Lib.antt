@@ -1,1 +1,2 @@
 pub mod Arrival
+pub mod Numbers

@@ -1,6 +1,6 @@
 //! The key, the hearing and the count of what came to a port.
 ghost use Rattle.std.specs.Prelude.{◌≡◌, ◌≤◌, ◌^◌};
-ghost use Rattle.hsr_frame.specs.Counters.{AreWithin};
+ghost use Rattle.hsr_frame.specs.Counters.{AreWithin, step_limit};
 ghost use Rattle.hsr_role.specs.Arrival.{counted_with, heard_of, key_in};
 
 use hsr_duptable::Key;
@@ -44,7 +44,7 @@ pub fn hear(
 /// Counts an arrival by its cause, whether it went up and how many copies left by ports, and a supervision payload that
 /// could not be read.
 pub fn count(counters: &mut Counters, cause: Cause, up: bool, copies: u64, readable: bool)
-    requires within { AreWithin counters.old (2 ^ 62) }
+    requires within { AreWithin counters.old step_limit }
     requires few { copies ≤ 3 }
     ensures { counters.new ≡ counted_with counters.old cause up copies readable }
 {

@@ -1,4 +1,5 @@
 use Rattle.std.proofs.Common.{◌<◌, ◌^◌, ◌≡◌, arith, subst}
+use Rattle.hsr_frame.specs.Counters.{step_limit}
 use Rattle.hsr_redbox.specs.Machine.{Machine}
 use Rattle.hsr_redbox.specs.Step.{now_at}
 use Rattle.hsr_redbox.specs.declared.call.BoxPort.TheVariants.{A, B, I}
@@ -10,24 +11,24 @@ returns-then-self-eq-STEP_LIMIT g c = rw (← c.self.view_is) (arrive-spent g.ro
 
 pub returns-in-A : goal.returns-in-A
 returns-in-A g c =
-    let some : c.self.inside.accepted < 2 ^ 62 = omega (arith, c.self.invariant.steps, c.if-self-eq-STEP_LIMIT.false) in
+    let some : c.self.inside.accepted < step_limit = omega (arith, c.self.invariant.steps, c.if-self-eq-STEP_LIMIT.false) in
     rw c.in-A.is
     (arrive-accepted g.row.C c.args.self.now c.args.at A c.args.octets.now c.classify-seen.result c.max-now.result c.from_ring.result c.from_ring.new.self
-    (subst (λ (m : Machine). m.accepted < 2 ^ 62) c.self.view_is some) c.classify-seen.ensures.exact
+    (subst (λ (m : Machine). m.accepted < step_limit) c.self.view_is some) c.classify-seen.ensures.exact
     (subst (λ (m : Machine). c.max-now.result ≡ now_at m c.args.at) c.self.view_is c.max-now.ensures) c.from_ring.ensures)
 
 pub returns-in-B : goal.returns-in-B
 returns-in-B g c =
-    let some : c.self.inside.accepted < 2 ^ 62 = omega (arith, c.self.invariant.steps, c.if-self-eq-STEP_LIMIT.false) in
+    let some : c.self.inside.accepted < step_limit = omega (arith, c.self.invariant.steps, c.if-self-eq-STEP_LIMIT.false) in
     rw c.in-B.is
     (arrive-accepted g.row.C c.args.self.now c.args.at B c.args.octets.now c.classify-seen.result c.max-now.result c.from_ring-in-B.result c.from_ring-in-B.new.self
-    (subst (λ (m : Machine). m.accepted < 2 ^ 62) c.self.view_is some) c.classify-seen.ensures.exact
+    (subst (λ (m : Machine). m.accepted < step_limit) c.self.view_is some) c.classify-seen.ensures.exact
     (subst (λ (m : Machine). c.max-now.result ≡ now_at m c.args.at) c.self.view_is c.max-now.ensures) c.from_ring-in-B.ensures)
 
 pub returns-in-I : goal.returns-in-I
 returns-in-I g c =
-    let some : c.self.inside.accepted < 2 ^ 62 = omega (arith, c.self.invariant.steps, c.if-self-eq-STEP_LIMIT.false) in
+    let some : c.self.inside.accepted < step_limit = omega (arith, c.self.invariant.steps, c.if-self-eq-STEP_LIMIT.false) in
     rw c.in-I.is
     (arrive-accepted g.row.C c.args.self.now c.args.at I c.args.octets.now c.classify-seen.result c.max-now.result c.from_interlink.result c.from_interlink.new.self
-    (subst (λ (m : Machine). m.accepted < 2 ^ 62) c.self.view_is some) c.classify-seen.ensures.exact
+    (subst (λ (m : Machine). m.accepted < step_limit) c.self.view_is some) c.classify-seen.ensures.exact
     (subst (λ (m : Machine). c.max-now.result ≡ now_at m c.args.at) c.self.view_is c.max-now.ensures) c.from_interlink.ensures)

@@ -1,4 +1,5 @@
 use Rattle.std.proofs.Common.{◌<◌, ◌^◌, ◌≡◌, arith, subst, true}
+use Rattle.hsr_frame.specs.Counters.{step_limit}
 use Rattle.hsr_redbox.specs.Machine.{Machine}
 use Rattle.hsr_redbox.specs.Step.{after_interlink}
 use Rattle.hsr_redbox.proofs.Steps.{counters-counted, interlink-step}
@@ -6,7 +7,7 @@ use Rattle.hsr_redbox.proofs.redbox.RedBox.from_interlink.Goals as goal
 
 pub leave-requires : goal.leave-requires
 leave-requires g c =
-    let some : c.self.inside.accepted < 2 ^ 62 = rw (← c.self.view_is) at c.requires.steps in (
+    let some : c.self.inside.accepted < step_limit = rw (← c.self.view_is) at c.requires.steps in (
       omega arith,
       (
         omega (arith, some),
