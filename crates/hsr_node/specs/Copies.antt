@@ -2,6 +2,7 @@
 use Rattle.std.specs.Prelude.{ℕ, ◌==◌, ◌||◌, ◌&&◌, Bool, true, false, nat_lt, List, [], length, slice_get, unwrap_or, Option, Some, None, option_map, Result, Ok, Err, if◌then◌else◌}
 use Rattle.hsr_frame.specs.Address.{is_group}
 use Rattle.hsr_frame.specs.Grammar.{Fields, spelling}
+use Rattle.hsr_frame.specs.Layout.{ethertype_hsr, ethertype_vlan, max_frame, max_payload}
 use Rattle.hsr_frame.specs.declared.fault.FrameFault.{FrameFault}
 use Rattle.hsr_frame.specs.declared.node.RingPort.{RingPort}
 use Rattle.hsr_frame.specs.declared.node.RingPort.TheVariants.{A, B}
@@ -51,7 +52,7 @@ path_of B = 1
 
 -- the frame with these fields, where there is one: no group sends it, its type is no tag's, and its payload fits
 abbrev pub frame_of : Fields → Option Fields
-frame_of f = if is_group f.src || (f.kind == 0x892F) || (f.kind == 0x8100) || nat_lt 1500 (length f.rest) then None else Some f
+frame_of f = if is_group f.src || (f.kind == ethertype_hsr) || (f.kind == ethertype_vlan) || nat_lt max_payload (length f.rest) then None else Some f
 
 -- the address of a node on a ring
 abbrev pub ring_address : Place → Option (List ℕ)
@@ -84,11 +85,15 @@ life_frame (Some own) about life = frame_of (supervision.life_frame own (life_sa
 
 -- ---- what leaves by a port
 
+-- on a ring a frame has its number, and the path of the port
+abbrev pub ring_octets : RingPort → ℕ → Fields → List ℕ
+ring_octets port seq frame = tagged_spelling (tag_of frame (path_of port) seq)
+
 -- a frame leaves plain at an edge, and on a ring with its number
 abbrev pub octets_at : Side → Option ℕ → Fields → Option (List ℕ)
 octets_at Edge seq frame = Some (spelling frame)
 octets_at (Ring port) None frame = None
-octets_at (Ring port) (Some seq) frame = Some (tagged_spelling (tag_of frame (path_of port) seq))
+octets_at (Ring port) (Some seq) frame = Some (ring_octets port seq frame)
 
 abbrev pub written : Option Side → Option ℕ → Option Fields → Option (List ℕ)
 written None seq frame = None
@@ -101,9 +106,13 @@ plain_in (Err fault) = None
 plain_in (Ok (Plain frame)) = Some frame
 plain_in (Ok (Tagged frame)) = Some (untag_of frame)
 
--- the octets as they came; a frame has 1524 at most
+-- the octets of that frame
+abbrev pub plain_octets : List ℕ → Option (List ℕ)
+plain_octets octets = option_map spelling (plain_in (classified octets))
+
+-- the octets as they came, where a frame may have so many
 abbrev pub as_came : List ℕ → Option (List ℕ)
-as_came octets = if nat_lt 1524 (length octets) then None else Some octets
+as_came octets = if nat_lt max_frame (length octets) then None else Some octets
 
 -- what came to one port leaves by another: from ring to ring as it came, else as the plain frame that leaves there
 abbrev pub forwarded : Option Side → Option Side → Option ℕ → List ℕ → Option (List ℕ)
@@ -145,7 +154,7 @@ copy_octets place event outcome port =
 
 -- what goes up is the plain frame
 abbrev pub raised : List ℕ → Outcome → Option (List ℕ)
-raised octets (Judged up ports seq cause) = if up then option_map spelling (plain_in (classified octets)) else None
+raised octets (Judged up ports seq cause) = if up then plain_octets octets else None
 raised octets _ = None
 
 unfoldable pub up_octets : Event → Outcome → Option (List ℕ)

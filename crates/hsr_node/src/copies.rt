@@ -1,34 +1,41 @@
 //! What leaves a node by a port, and what goes up.
 ghost use Rattle.std.specs.Prelude.{◌≡◌, Option, Result, option_map};
-ghost use Rattle.hsr_node.specs.Copies.{as_came, copy_octets, forwarded, octets_at, passed_octets, plain_in, ports_of, up_octets, written};
+ghost use Rattle.hsr_node.specs.Copies.{as_came, copy_octets, forwarded, octets_at, passed_octets, plain_in, plain_octets, ports_of, ring_octets, up_octets, written};
 
 use crate::event::{Event, Outcome};
 use crate::place::Place;
 use crate::sending::sent_by;
 use crate::side::{Side, is_ring, path_of, side_of};
 use arrayvec::ArrayVec;
-use hsr_frame::{FrameFault, copied};
+use hsr_frame::{FrameFault, MAX_FRAME, RingPort, copied};
 use hsr_tag::{Frame, Seen, classify};
 
 /// The octets of a frame.
-type Octets = ArrayVec<u8, 1524>;
+pub type FrameOctets = ArrayVec<u8, MAX_FRAME>;
+
+/// The octets of a frame as it leaves by a ring port, with its number and the port's path (IEC 62439-3 clause 5.6).
+pub fn ring_octets(port: RingPort, seq: u16, frame: &Frame) -> FrameOctets
+    ensures { result.items ≡ ring_octets port seq frame.now }
+{
+    frame.tag(path_of(port), seq).write()
+}
 
 /// The octets of a frame of the node's own, or of one that it numbers or untags: plain at an edge, and on a ring with
 /// its number (IEC 62439-3 clause 5.6).
-fn octets_at(side: Side, seq: Option<u16>, frame: &Frame) -> Option<Octets>
+fn octets_at(side: Side, seq: Option<u16>, frame: &Frame) -> Option<FrameOctets>
     ensures { option_map (λ o. o.items) result ≡ octets_at side seq frame.now }
 {
     match side {
         Side::Edge => Some(frame.write()),
         Side::Ring(port) => match seq {
-            Some(seq) => Some(frame.tag(path_of(port), seq).write()),
+            Some(seq) => Some(ring_octets(port, seq, frame)),
             None => None,
         },
     }
 }
 
 /// The octets of a frame, if there is one, that leaves by a port, if there is one.
-fn written(side: Option<Side>, seq: Option<u16>, frame: Option<Frame>) -> Option<Octets>
+fn written(side: Option<Side>, seq: Option<u16>, frame: Option<Frame>) -> Option<FrameOctets>
     ensures { option_map (λ o. o.items) result ≡ written side seq frame }
 {
     match side {
@@ -51,11 +58,19 @@ fn plain_in(seen: Result<Seen, FrameFault>) -> Option<Frame>
     }
 }
 
+/// The octets of the frame that came, without its tag; `None` where no frame came.
+pub fn plain_octets(octets: &[u8]) -> Option<FrameOctets>
+    ensures { option_map (λ o. o.items) result ≡ plain_octets octets.now }
+{
+    let frame = plain_in(classify(octets))?;
+    Some(frame.write())
+}
+
 /// The octets as they came, which are no more than a frame has.
-fn as_came(octets: &[u8]) -> Option<Octets>
+fn as_came(octets: &[u8]) -> Option<FrameOctets>
     ensures { option_map (λ o. o.items) result ≡ as_came octets.now }
 {
-    if octets.len() > 1524 {
+    if octets.len() > MAX_FRAME {
         None
     } else {
         Some(copied(octets))
@@ -69,7 +84,7 @@ fn forwarded(
     to: Option<Side>,
     seq: Option<u16>,
     octets: &[u8],
-) -> Option<Octets>
+) -> Option<FrameOctets>
     ensures { option_map (λ o. o.items) result ≡ forwarded from to seq octets.now }
 {
     let (Some(from), Some(to)) = (from, to) else {
@@ -99,7 +114,7 @@ ghost use Rattle.std.specs.Prelude.{slice_get, unwrap_or, false};
 
 /// What leaves by a port by which something does.
 #[tactic(auto, unfolding(crate::specs::Copies::passed_octets))]
-fn passed(place: &Place, event: &Event, outcome: &Outcome, port: u8) -> Option<Octets>
+fn passed(place: &Place, event: &Event, outcome: &Outcome, port: u8) -> Option<FrameOctets>
     ensures { option_map (λ o. o.items) result ≡ passed_octets place.now event.now outcome.now port }
 {
     let side = side_of(place, port);
@@ -121,12 +136,7 @@ fn passed(place: &Place, event: &Event, outcome: &Outcome, port: u8) -> Option<O
 /// and of one between an interlink and a ring, those of the frame as it leaves there; from ring to ring the octets as
 /// they came (IEC 62439-3 clause 5.3).
 #[tactic(auto, unfolding(crate::specs::Copies::copy_octets))]
-pub fn copy_out(
-    place: &Place,
-    event: &Event,
-    outcome: &Outcome,
-    port: u8,
-) -> Option<ArrayVec<u8, 1524>>
+pub fn copy_out(place: &Place, event: &Event, outcome: &Outcome, port: u8) -> Option<FrameOctets>
     ensures { option_map (λ o. o.items) result ≡ copy_octets place.now event.now outcome.now port }
 {
     if is_left_by(outcome, port) {
@@ -138,7 +148,7 @@ pub fn copy_out(
 
 /// The octets of the plain frame that goes up after an event with this outcome, if one does.
 #[tactic(auto, unfolding(crate::specs::Copies::up_octets))]
-pub fn up_out(event: &Event, outcome: &Outcome) -> Option<ArrayVec<u8, 1524>>
+pub fn up_out(event: &Event, outcome: &Outcome) -> Option<FrameOctets>
     ensures { option_map (λ o. o.items) result ≡ up_octets event.now outcome.now }
 {
     let Event::Arrive { port: _, carried } = event else {
@@ -147,6 +157,5 @@ pub fn up_out(event: &Event, outcome: &Outcome) -> Option<ArrayVec<u8, 1524>>
     let Outcome::Judged { up: true, .. } = outcome else {
         return None;
     };
-    let frame = plain_in(classify(carried.octets.as_slice()))?;
-    Some(frame.write())
+    plain_octets(carried.octets.as_slice())
 }

@@ -5,7 +5,9 @@ ghost use Rattle.hsr_node.specs.Flow.{sending_of, sent_by};
 
 use crate::event::{Event, Outcome};
 use crate::place::Place;
-use hsr_frame::{About, ETHERTYPE_HSR, ETHERTYPE_SUPERVISION, ETHERTYPE_VLAN, Mac, copied};
+use hsr_frame::{
+    About, ETHERTYPE_HSR, ETHERTYPE_SUPERVISION, ETHERTYPE_VLAN, MAX_PAYLOAD, Mac, copied,
+};
 use hsr_supervision::{SupKind, Supervision};
 use hsr_tag::Frame;
 
@@ -17,11 +19,15 @@ pub struct Sending {
 }
 
 /// The frame with these fields, where there is one: no group sends it, its type is that of no VLAN or HSR tag, and its
-/// payload has at most 1500 octets.
+/// payload has at most `MAX_PAYLOAD` octets.
 fn frame_of(src: Mac, dst: Mac, vlan: Option<u16>, kind: u16, payload: &[u8]) -> Option<Frame>
     ensures { result ≡ frame_of (record { dst = dst; src = src; vlan = vlan; kind = kind; rest = payload.now }) }
 {
-    if src.is_group() || kind == ETHERTYPE_HSR || kind == ETHERTYPE_VLAN || payload.len() > 1500 {
+    if src.is_group()
+        || kind == ETHERTYPE_HSR
+        || kind == ETHERTYPE_VLAN
+        || payload.len() > MAX_PAYLOAD
+    {
         return None;
     }
     Some(Frame {
@@ -55,8 +61,9 @@ fn address_at(place: &Place, from: u8) -> Option<Mac>
     }
 }
 
-/// The frame that a send asks for, by its source.
-fn asked_frame(
+/// The frame that a send asks for, by its source: `None` where there is no source, or it is a group's, where the type is
+/// that of a VLAN or HSR tag, and where the payload has more than `MAX_PAYLOAD` octets.
+pub fn asked_frame(
     src: Option<Mac>,
     dst: Mac,
     vlan: Option<u16>,
@@ -87,8 +94,9 @@ fn life_said(own: Mac, about: About, life: u16) -> Supervision
     }
 }
 
-/// The supervision frame of a node with this address.
-fn life_frame(own: Option<Mac>, about: About, life: u16) -> Option<Frame>
+/// The supervision frame of a node with this address, before it is tagged (IEC 62439-3 clause 5.7); `life` counts the node's
+/// earlier ones, modulo 65536. `None` where there is no address, or it is a group's.
+pub fn life_frame(own: Option<Mac>, about: About, life: u16) -> Option<Frame>
     ensures { result ≡ life_frame own about life }
 {
     let own = own?;
@@ -115,7 +123,7 @@ fn sending_of(seq: Option<u16>, frame: Option<Frame>) -> Option<Sending>
 /// What a node of this place sends of its own in an event with this outcome: the frame of an accepted send, or the
 /// supervision frame (IEC 62439-3 clause 5.7). `None` where the event is an arrival or an ageing, where the outcome isn't
 /// that of such an event, and where there is no such frame: the place has no such address, or it is a group's, the type is
-/// that of a VLAN or HSR tag, or the payload has over 1500 octets.
+/// that of a VLAN or HSR tag, or the payload has more than `MAX_PAYLOAD` octets.
 pub fn sent_by(place: &Place, event: &Event, outcome: &Outcome) -> Option<Sending>
     ensures { result ≡ sent_by place.now event.now outcome.now }
 {

@@ -51,7 +51,7 @@ impl Station {
     }
 
     /// Sends a plain frame from the address at a place among its own. `WrongEvent` where none stands there; else it
-    /// refuses as every node does: a frame to its source, a reserved type, steps spent, a payload over 1500 octets. A
+    /// refuses as every node does: a frame to its source, a reserved type, steps spent, a payload over `MAX_PAYLOAD` octets. A
     /// refusal changes nothing.
     #[tactic(auto, unfolding(crate::specs::Station::after_send))]
     fn send(
