@@ -137,7 +137,7 @@ abbrev pub log_of : List ℕ → Egress → List Deed → List Note
 log_of own egress [] = []
 log_of own egress (deed ∷ past) = log_of own egress past ++ noted_by own egress deed.now deed.did
 
--- an egress remembers a frame: of its last notes, as many as a table has entries, one is younger than 400 milliseconds and has the key
+-- an egress remembers a frame: of its last notes, as many as a table has entries, one is younger than `entry_forget` milliseconds and has the key
 abbrev pub remembers_of : ℕ → List ℕ → List Deed → ℕ → Key → Egress → Bool
 remembers_of capacity own past now key egress = has_key key (remembered capacity entry_forget (log_of own egress past) now)
 

@@ -1,6 +1,7 @@
 //! A node with two ring ports, its tables and its counters.
 ghost use Rattle.std.specs.Prelude.{◌≡◌, ◌≢◌, ◌≤◌, ◌<◌, ◌^◌, length, map, IfOk, OnOk};
 ghost use Rattle.hsr_frame.specs.Counters.{step_limit};
+ghost use Rattle.hsr_frame.specs.Layout.{ethertype_hsr, ethertype_vlan, max_payload};
 
 use crate::tables::Tables;
 use crate::wanted::wants_of;
@@ -11,7 +12,7 @@ use hsr_frame::{
     Wants, send_fault,
 };
 use hsr_role::{NUMBER_RANGE, count, hear};
-use hsr_tables::{NodeRow, NodeTable};
+use hsr_tables::{NodeRow, NodeTable, ROW_LIMIT};
 use hsr_tag::classify;
 use std::alloc::Global;
 use std::marker::Model;
@@ -83,8 +84,8 @@ impl<const C: usize> Danh<C> {
     }
 
     /// Numbers a frame of this node's own and sends it by both ports (IEC 62439-3 clause 5.3). It refuses a
-    /// frame to itself, one of the type of a VLAN or HSR tag, any where `STEP_LIMIT` steps are spent, and one of over
-    /// 1500 octets of payload, in this order; a refusal changes nothing.
+    /// frame to itself, one of the type of a VLAN or HSR tag, any where `STEP_LIMIT` steps are spent, and one whose
+    /// payload has more than `MAX_PAYLOAD` octets, in this order; a refusal changes nothing.
     pub fn send(
         &mut self,
         at: u64,
@@ -95,7 +96,7 @@ impl<const C: usize> Danh<C> {
     ) -> Result<Sent, SendFault>
         ensures step { (result, self.new) ≡ send_step C self.old at dst kind (length payload.now) }
         // What is sent is a frame.
-        ensures formed { OnOk result ((kind ≢ 0x8100) × (kind ≢ 0x892F) × (length payload.now ≤ 1500)) }
+        ensures formed { OnOk result ((kind ≢ ethertype_vlan) × (kind ≢ ethertype_hsr) × (length payload.now ≤ max_payload)) }
     {
         if let Some(fault) = send_fault(self.own, self.accepted, dst, kind, payload.len()) {
             return Err(fault);
@@ -185,7 +186,7 @@ impl<const C: usize> Danh<C> {
     }
 
     /// The nodes that were heard less than `NODE_FORGET` milliseconds ago, the latest first.
-    pub fn nodes(&self, at: u64) -> ArrayVec<NodeRow, 64>
+    pub fn nodes(&self, at: u64) -> ArrayVec<NodeRow, ROW_LIMIT>
         ensures { result.items ≡ map (λ r. r.0) (known (now_at self.now at) self.now.nodes.rows) }
     {
         self.nodes.rows(self.moment.max(at))

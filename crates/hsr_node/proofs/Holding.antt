@@ -8,7 +8,7 @@ use Rattle.hsr_duptable.specs.Notes.{unexpired_notes, entry_forget}
 use Rattle.hsr_duptable.specs.Table.{IsWithin, Table}
 use Rattle.hsr_duptable.specs.declared.note.Note.{Note}
 use Rattle.hsr_duptable.proofs.LogLaws.{unexpired_notes-StandsFor}
-use Rattle.hsr_tables.specs.Known.{known, latest_64}
+use Rattle.hsr_tables.specs.Known.{known, latest_heard}
 use Rattle.hsr_tables.specs.Nodes as nodes
 use Rattle.hsr_tables.specs.Nodes.{Hearing, Nodes, no_nodes, rows_known}
 use Rattle.hsr_tables.specs.Proxies.{Proxies}
@@ -79,7 +79,7 @@ holds capacity owner past n h = by_kind owner.number owner.place n h
           on_interlink = is-remembered capacity o past c machine.notes.interlink (box_deeds.log_of machine.own c h.did) machine.moment machine.accepted r.within.interlink moment r.logs.on_interlink (logs c);
           nodes = λ at. rows-told machine.nodes (box_deeds.hearings_of machine.own h.did) _ at r.nodes (ap (λ (own : List ℕ). reverse (box_deeds.hearings_of own h.did)) h.own ∙ h.tells.hearing);
           stations = λ at. ap (λ (t : Proxies). known at t.heard) r.proxies ∙ knows_latest (box_deeds.sources_of machine.own h.did) at
-              ∙ ap (λ (xs : List (List ℕ × ℕ)). known at (latest_64 (λ h. h.0) xs)) (ap (λ (own : List ℕ). reverse (box_deeds.sources_of own h.did)) h.own ∙ h.tells.sources);
+              ∙ ap (λ (xs : List (List ℕ × ℕ)). known at (latest_heard (λ h. h.0) xs)) (ap (λ (own : List ℕ). reverse (box_deeds.sources_of own h.did)) h.own ∙ h.tells.sources);
           next = r.next ∙ ap (λ k. k % 65536) h.tells.numbered;
           moment = moment;
           counted = redbox.counters-held capacity number mac mode machine past h;

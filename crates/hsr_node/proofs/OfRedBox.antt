@@ -30,7 +30,7 @@ use Rattle.hsr_duptable.specs.Key.{Key}
 use Rattle.hsr_duptable.specs.Log.{remembered}
 use Rattle.hsr_duptable.specs.Notes.{has_key, entry_forget, note_if as noted_if}
 use Rattle.hsr_supervision.specs.Payload.{read_of}
-use Rattle.hsr_tables.specs.Known.{known, latest_64}
+use Rattle.hsr_tables.specs.Known.{known, latest_heard}
 use Rattle.hsr_tables.specs.Nodes.{Hearing}
 use Rattle.hsr_redbox.specs.Machine.{Machine, new_machine}
 use Rattle.hsr_redbox.specs.Past as deeds
@@ -383,7 +383,7 @@ interlink-tells number mac mode did past worker at port seq copy known is_i t =
 knows-same : (number : ℕ) (mac : List ℕ) (mode : Mode) (did : List Deed) (past : List Entry) (at : ℕ) → Tells number mac mode did past
     → deeds.knows_among (deeds.sources_of mac did) at ≡ knows (place.RedBox mac mode) past at Age
 knows-same number mac mode did past at t =
-    ap {B = List ℕ → Bool} (λ (xs : List (List ℕ × ℕ)) mac. list_any (λ h. is_same_address h.0 mac) (known at (latest_64 (λ h. h.0) xs))) t.sources
+    ap {B = List ℕ → Bool} (λ (xs : List (List ℕ × ℕ)) mac. list_any (λ h. is_same_address h.0 mac) (known at (latest_heard (λ h. h.0) xs))) t.sources
 
 -- ---- verdicts
 
@@ -534,7 +534,7 @@ life-case capacity number worker at about machine did past s None t k =
 knows-ring : (mac : List ℕ) (mode : Mode) (past : List Entry) (at port : ℕ) (y : BoxPort) (copy : Carried) → box_port port ≡ Some y → is_some_ring (Some y) ≡ true
     → knows (place.RedBox mac mode) past at (Arrive port copy) ≡ knows (place.RedBox mac mode) past at Age
 knows-ring mac mode past at port y copy is_y is_ring =
-    ap {B = List ℕ → Bool} (λ (xs : List (List ℕ × ℕ)) m. list_any (λ h. is_same_address h.0 m) (known at (latest_64 (λ h. h.0) (xs ++ heard (place.RedBox mac mode) past))))
+    ap {B = List ℕ → Bool} (λ (xs : List (List ℕ × ℕ)) m. list_any (λ h. is_same_address h.0 m) (known at (latest_heard (λ h. h.0) (xs ++ heard (place.RedBox mac mode) past))))
     (ap (λ (found : Option BoxPort). source_at found mac at (classified copy.octets)) is_y ∙ quiet y is_ring)
   where
     quiet : (y : BoxPort) → is_some_ring (Some y) ≡ true → source_at (Some y) mac at (classified copy.octets) ≡ []
@@ -546,7 +546,7 @@ knows-ring mac mode past at port y copy is_y is_ring =
 knows-interlink : (number : ℕ) (mac : List ℕ) (mode : Mode) (did : List Deed) (past : List Entry) (at port : ℕ) (copy : Carried) → box_port port ≡ Some I → Tells number mac mode did past
     → deeds.knows_among (deeds.sources_of mac did ++ source_in mac at (classified copy.octets)) at ≡ knows (place.RedBox mac mode) past at (Arrive port copy)
 knows-interlink number mac mode did past at port copy is_i t =
-    ap {B = List ℕ → Bool} (λ (xs : List (List ℕ × ℕ)) m. list_any (λ h. is_same_address h.0 m) (known at (latest_64 (λ h. h.0) xs)))
+    ap {B = List ℕ → Bool} (λ (xs : List (List ℕ × ℕ)) m. list_any (λ h. is_same_address h.0 m) (known at (latest_heard (λ h. h.0) xs)))
     (reverse-append (deeds.sources_of mac did) (source_in mac at (classified copy.octets))
     ∙ ap₂ (λ (xs ys : List (List ℕ × ℕ)). xs ++ ys) (same (classified copy.octets)) t.sources
     ∙ ap (λ (found : Option BoxPort). source_at found mac at (classified copy.octets) ++ heard (place.RedBox mac mode) past) (sym is_i))

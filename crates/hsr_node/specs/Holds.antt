@@ -3,7 +3,7 @@ use Rattle.std.specs.Prelude.{ℕ, ◌≡◌, ◌≤◌, List, map}
 use Rattle.hsr_frame.specs.Egress.{Egress, up, a, b, c, d}
 use Rattle.hsr_duptable.specs.Notes.{unexpired_notes, entry_forget}
 use Rattle.hsr_duptable.specs.Table.{Table}
-use Rattle.hsr_tables.specs.Known.{known, latest_64}
+use Rattle.hsr_tables.specs.Known.{known, latest_heard}
 use Rattle.hsr_danh.specs.Machine as danh
 use Rattle.hsr_redbox.specs.Machine as redbox
 use Rattle.hsr_quadbox.specs.Machine as quadbox
@@ -37,7 +37,7 @@ pub record RedBoxHolds (capacity : ℕ) (owner : Owner) (past : List Entry) (mac
   pub on_interlink : IsRemembered capacity owner past c machine.notes.interlink
   pub nodes : (at : ℕ) → map (λ r. r.0) (known at machine.nodes.rows) ≡ rows owner.place past at
   -- the addresses that are known on the interlink
-  pub stations : (at : ℕ) → known at machine.proxies.heard ≡ known at (latest_64 (λ h. h.0) (heard owner.place past))
+  pub stations : (at : ℕ) → known at machine.proxies.heard ≡ known at (latest_heard (λ h. h.0) (heard owner.place past))
   pub next : machine.next ≡ next_number past
   pub moment : machine.moment ≡ now past
   pub counted : machine.counters ≡ counters owner.place past

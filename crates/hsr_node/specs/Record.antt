@@ -27,7 +27,7 @@ use Rattle.hsr_duptable.specs.Key.{Key, is_same_key}
 use Rattle.hsr_duptable.specs.Notes.{entry_forget}
 use Rattle.hsr_duptable.specs.declared.note.Note.{Note}
 use Rattle.hsr_supervision.specs.Payload.{read_of}
-use Rattle.hsr_tables.specs.Known.{known, latest_64}
+use Rattle.hsr_tables.specs.Known.{known, latest_heard}
 use Rattle.hsr_tables.specs.Nodes.{Hearing, hearing_if, rows_known}
 use Rattle.hsr_tables.specs.declared.nodes.NodeRow.{NodeRow}
 use Rattle.hsr_role.specs.Arrival.{key_of}
@@ -213,11 +213,11 @@ abbrev pub heard : Place → List Entry → List (List ℕ × ℕ)
 heard place [] = []
 heard place (x ∷ past) = heard_from place (now (x ∷ past)) x.event ++ heard place past
 
--- an address is known where it is among the 64 heard latest, and was heard less than 60000 milliseconds ago; what comes
+-- an address is known where it is among the `row_limit` heard latest, and was heard less than `node_forget` milliseconds ago; what comes
 -- now is heard before it is decided
 abbrev pub knows : Place → List Entry → ℕ → Event → List ℕ → Bool
 knows place past at event mac =
-    list_any (λ h. is_same_address h.0 mac) (known at (latest_64 (λ h. h.0) (heard_from place at event ++ heard place past)))
+    list_any (λ h. is_same_address h.0 mac) (known at (latest_heard (λ h. h.0) (heard_from place at event ++ heard place past)))
 
 -- ---- the nodes that were heard on the ring
 

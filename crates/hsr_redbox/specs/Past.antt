@@ -23,7 +23,7 @@ use Rattle.hsr_duptable.specs.Key.{Key}
 use Rattle.hsr_duptable.specs.Notes.{has_key, entry_forget, note_if}
 use Rattle.hsr_duptable.specs.Log.{remembered}
 use Rattle.hsr_duptable.specs.declared.note.Note.{Note}
-use Rattle.hsr_tables.specs.Known.{known, latest_64}
+use Rattle.hsr_tables.specs.Known.{known, latest_heard}
 use Rattle.hsr_tables.specs.Nodes.{Hearing, hearing_if, rows_known}
 use Rattle.hsr_tables.specs.declared.nodes.NodeRow.{NodeRow}
 use Rattle.hsr_redbox.specs.Machine.{Machine, new_machine}
@@ -145,7 +145,7 @@ abbrev pub log_of : List ℕ → Egress → List Deed → List Note
 log_of own egress [] = []
 log_of own egress (deed ∷ past) = log_of own egress past ++ noted_by own egress deed.now deed.did
 
--- an egress remembers a frame: of its last notes, as many as a table has entries, one is younger than 400 milliseconds and has the key
+-- an egress remembers a frame: of its last notes, as many as a table has entries, one is younger than `entry_forget` milliseconds and has the key
 abbrev pub remembers_of : ℕ → List ℕ → List Deed → ℕ → Key → Egress → Bool
 remembers_of capacity own past now key egress = has_key key (remembered capacity entry_forget (log_of own egress past) now)
 
@@ -182,9 +182,9 @@ abbrev pub sources_of : List ℕ → List Deed → List (List ℕ × ℕ)
 sources_of own [] = []
 sources_of own (deed ∷ past) = sources_of own past ++ source_by own deed.now deed.did
 
--- the addresses that are known at a moment, of the 64 heard latest, the latest first
+-- the addresses that are known at a moment, of the `row_limit` heard latest, the latest first
 abbrev pub known_among : List (List ℕ × ℕ) → ℕ → List (List ℕ × ℕ)
-known_among sources at = known at (latest_64 (λ h. h.0) (reverse sources))
+known_among sources at = known at (latest_heard (λ h. h.0) (reverse sources))
 
 abbrev pub knows_among : List (List ℕ × ℕ) → ℕ → List ℕ → Bool
 knows_among sources at mac = list_any (λ h. is_same_address h.0 mac) (known_among sources at)

@@ -1,5 +1,7 @@
 //! A node with two ring ports and an interlink, its tables and its counters.
 ghost use Rattle.std.specs.Prelude.{◌≡◌, ◌≢◌, ◌+◌, ◌-◌, ◌≤◌, ◌<◌, ◌^◌, length, map, true, IfOk, OnOk, IfNone, Option, Result};
+ghost use Rattle.hsr_frame.specs.Counters.{step_limit};
+ghost use Rattle.hsr_frame.specs.Layout.{ethertype_hsr, ethertype_vlan, max_payload};
 
 use crate::call::{BoxPort, BoxSent, BoxVerdict, LifeFault};
 use crate::tables::Tables;
@@ -10,7 +12,7 @@ use hsr_frame::{
     Spent, Wants, send_fault,
 };
 use hsr_role::{NUMBER_RANGE, count, hear};
-use hsr_tables::{NodeRow, NodeTable, ProxyTable};
+use hsr_tables::{NodeRow, NodeTable, ProxyTable, ROW_LIMIT};
 use hsr_tag::{Seen, classify};
 use std::alloc::Global;
 use std::marker::Model;
@@ -71,8 +73,8 @@ impl<const C: usize> RedBox<C> {
     /// Sends a frame of this node's own (IEC 62439-3 clause 5.3): to a station of the interlink with no number and
     /// by the interlink alone; any other with the next number by both ring ports, and one to a group by the interlink
     /// too unless it is a supervision frame. It refuses a frame to itself, one of the type of a VLAN or HSR tag, any
-    /// where `STEP_LIMIT` steps are spent, and one of over 1500 octets of payload, in this order; a refusal changes
-    /// nothing.
+    /// where `STEP_LIMIT` steps are spent, and one whose payload has more than `MAX_PAYLOAD` octets, in this order; a
+    /// refusal changes nothing.
     pub fn send(
         &mut self,
         at: u64,
@@ -83,7 +85,7 @@ impl<const C: usize> RedBox<C> {
     ) -> Result<BoxSent, SendFault>
         ensures step { (result, self.new) ≡ send_step C self.old at dst kind (length payload.now) }
         // What is sent is a frame.
-        ensures formed { OnOk result ((kind ≢ 0x8100) × (kind ≢ 0x892F) × (length payload.now ≤ 1500)) }
+        ensures formed { OnOk result ((kind ≢ ethertype_vlan) × (kind ≢ ethertype_hsr) × (length payload.now ≤ max_payload)) }
     {
         if let Some(fault) = send_fault(self.own, self.accepted, dst, kind, payload.len()) {
             return Err(fault);
@@ -231,7 +233,7 @@ impl<const C: usize> RedBox<C> {
     }
 
     /// The nodes that were heard on the ring less than `NODE_FORGET` milliseconds ago, the latest first.
-    pub fn nodes(&self, at: u64) -> ArrayVec<NodeRow, 64>
+    pub fn nodes(&self, at: u64) -> ArrayVec<NodeRow, ROW_LIMIT>
         ensures { result.items ≡ map (λ r. r.0) (known (now_at self.now at) self.now.nodes.rows) }
     {
         self.nodes.rows(self.moment.max(at))
@@ -239,14 +241,13 @@ impl<const C: usize> RedBox<C> {
 
     /// The addresses that were heard on the interlink less than `NODE_FORGET` milliseconds ago, each with the
     /// moment when it was heard last, the latest first.
-    pub fn proxies(&self, at: u64) -> ArrayVec<(Mac, u64), 64>
+    pub fn proxies(&self, at: u64) -> ArrayVec<(Mac, u64), ROW_LIMIT>
         ensures { result.items ≡ known (now_at self.now at) self.now.proxies.heard }
     {
         self.proxies.list(self.moment.max(at))
     }
 }
 
-ghost use Rattle.hsr_frame.specs.Counters.{AreWithin, step_limit};
 ghost use Rattle.hsr_tables.specs.Proxies.{is_known};
 ghost use Rattle.hsr_redbox.specs.Step.{copies_of, heard_from, life_refusal, number_of, speaks_for, verdict_of};
 

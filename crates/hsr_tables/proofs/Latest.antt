@@ -1,11 +1,11 @@
--- The 64 latest, kept step by step.
+-- The latest heard, kept step by step.
 use Rattle.std.proofs.Common.{◌≡◌, ℕ, zero, suc, Bool, true, false, cond, not, ◌&&◌, ◌||◌, List, [], ◌∷◌, ◌++◌, filter, take, ap, refl, ◌∙◌, subst, append_assoc, append-nil}
 use Rattle.std.specs.Prelude.{fold, reverse}
 use Rattle.std.specs.List.{list_any}
 use Rattle.std.proofs.lemmas.Slice.Eq.{bytes_eq-Decides}
 use Rattle.std.proofs.lemmas.List.{reverse-append}
 use Rattle.hsr_frame.specs.Address.{is_same_address}
-use Rattle.hsr_tables.specs.Known.{latest_64, latest_of_each, others, put_first}
+use Rattle.hsr_tables.specs.Known.{latest_heard, latest_of_each, others, put_first}
 
 -- one that passes both tests
 pub any-filter : {X : Type 0} (p q : X → Bool) (xs : List X) → list_any p (filter q xs) ≡ list_any (λ x. q x && p x) xs
@@ -103,9 +103,9 @@ take-others {X} mac_of k mac (x ∷ xs) p = by_case (is_same_address (mac_of x) 
     by_case false e (suc j) rest = ap (λ ys. x ∷ ys) (rest j)
 
 -- those behind the one that is put first
-pub behind_first : {X : Type 0} (mac_of : X → List ℕ) (mac : List ℕ) (past : List X) → take 63 (others mac_of mac (latest_64 mac_of past)) ≡ take 63 (others mac_of mac (latest_of_each mac_of past))
+pub behind_first : {X : Type 0} (mac_of : X → List ℕ) (mac : List ℕ) (past : List X) → take 63 (others mac_of mac (latest_heard mac_of past)) ≡ take 63 (others mac_of mac (latest_of_each mac_of past))
 behind_first mac_of mac past = take-others mac_of 63 mac (latest_of_each mac_of past) (Apart-latest mac_of past)
 
 -- one more hearing
-pub latest_64-step : {X : Type 0} (mac_of : X → List ℕ) (x : X) (past : List X) → put_first mac_of x (latest_64 mac_of past) ≡ latest_64 mac_of (x ∷ past)
-latest_64-step mac_of x past = ap (λ ys. x ∷ ys) (behind_first mac_of (mac_of x) past)
+pub latest_heard-step : {X : Type 0} (mac_of : X → List ℕ) (x : X) (past : List X) → put_first mac_of x (latest_heard mac_of past) ≡ latest_heard mac_of (x ∷ past)
+latest_heard-step mac_of x past = ap (λ ys. x ∷ ys) (behind_first mac_of (mac_of x) past)

@@ -9,7 +9,7 @@ use Rattle.hsr_frame.specs.declared.node.RingPort.TheVariants.{A, B}
 use Rattle.hsr_supervision.specs.Payload.{Fields, read_of}
 use Rattle.hsr_supervision.specs.declared.payload.SupFault.{SupFault}
 use Rattle.hsr_tables.specs.declared.nodes.NodeRow.{NodeRow}
-use Rattle.hsr_tables.specs.Known.{is_young, known, latest_64, latest_of_each, others, put_first}
+use Rattle.hsr_tables.specs.Known.{is_young, known, latest_heard, latest_of_each, others, put_first}
 use Rattle.hsr_tables.specs.Nodes.{Hearing, Nodes, RowsOfLatest, heard, is_known, known_row, last_run, latest_on, no_nodes, row_after, row_on, heard_if, hearing_if, listened}
 use Rattle.hsr_tables.proofs.Latest.{NoneOf, NoneOf-take, behind_first, fold_stands, none_left, same-equal, same-other, same-refl}
 
@@ -24,7 +24,7 @@ abbrev entry : List Hearing → Hearing → NodeRow × ℕ
 entry past h = (row_after past h, h.at)
 
 abbrev entries : List Hearing → List (NodeRow × ℕ)
-entries past = map (entry past) (latest_64 mac_of past)
+entries past = map (entry past) (latest_heard mac_of past)
 
 -- the rows of other addresses
 others-map : (past : List Hearing) (mac : List ℕ) (hs : List Hearing) → others row_mac mac (map (entry past) hs) ≡ map (entry past) (others mac_of mac hs)
@@ -67,13 +67,13 @@ finds past mac at (h ∷ hs) = by_case (is_same_address h.said.about mac) (is_yo
 
 -- what was heard on a port before
 before_a : (past : List Hearing) (mac : List ℕ) (at : ℕ) → option_and_then (λ r. r.0.heard_a) (known_row at mac (entries past)) ≡ latest_on A (if is_known at mac past then last_run mac past else [])
-before_a past mac at = elim (finds past mac at (latest_64 mac_of past)) [
+before_a past mac at = elim (finds past mac at (latest_heard mac_of past)) [
   | inl none ↦ rw (none.0, none.1) refl
   | inr one ↦ rw (one.1, one.2) (ap (λ m. latest_on A (last_run m past)) one.3)
 ]
 
 before_b : (past : List Hearing) (mac : List ℕ) (at : ℕ) → option_and_then (λ r. r.0.heard_b) (known_row at mac (entries past)) ≡ latest_on B (if is_known at mac past then last_run mac past else [])
-before_b past mac at = elim (finds past mac at (latest_64 mac_of past)) [
+before_b past mac at = elim (finds past mac at (latest_heard mac_of past)) [
   | inl none ↦ rw (none.0, none.1) refl
   | inr one ↦ rw (one.1, one.2) (ap (λ m. latest_on B (last_run m past)) one.3)
 ]
@@ -92,8 +92,8 @@ rows-behind : (h : Hearing) (past : List Hearing) → take 63 (others row_mac h.
 rows-behind h past =
     let mac = h.said.about in
     let latest = latest_of_each mac_of past in
-    ap (take 63) (others-map past mac (latest_64 mac_of past))
-    ∙ take-map past 63 (others mac_of mac (latest_64 mac_of past))
+    ap (take 63) (others-map past mac (latest_heard mac_of past))
+    ∙ take-map past 63 (others mac_of mac (latest_heard mac_of past))
     ∙ ap (map (entry past)) (behind_first mac_of mac past)
     ∙ entries-other h past (take 63 (others mac_of mac latest)) (NoneOf-take mac_of mac 63 (others mac_of mac latest) (none_left mac_of mac latest))
 
@@ -117,7 +117,7 @@ pub rows_of_latest : RowsOfLatest
 rows_of_latest hearings at =
     let past = reverse hearings in
     ap (λ rows. map (λ r. r.0) (known at rows)) (fold_stands heard HasRows step no_nodes refl hearings)
-    ∙ known-map past at (latest_64 mac_of past)
+    ∙ known-map past at (latest_heard mac_of past)
 
 -- a payload that is heard, or not: what the table hears of it, and whether it could be read
 pub listened-if : (told : Bool) (payload : List ℕ) (table : Nodes) (port : RingPort) (at : ℕ)

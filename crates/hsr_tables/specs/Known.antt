@@ -6,15 +6,19 @@ use Rattle.hsr_frame.specs.Address.{is_same_address}
 abbrev pub others : {X : Type 0} → (X → List ℕ) → List ℕ → List X → List X
 others mac_of mac xs = filter (λ x. not (is_same_address (mac_of x) mac)) xs
 
--- What is heard goes first. What the list had of its address goes, and so does the 65th.
+-- of how many addresses a list keeps what was heard
+abbrev pub row_limit : ℕ
+row_limit = 64
+
+-- What is heard goes first. What the list had of its address goes, and so does what the list has no room for.
 abbrev pub put_first : {X : Type 0} → (X → List ℕ) → X → List X → List X
-put_first mac_of x xs = take 64 (x ∷ others mac_of (mac_of x) xs)
+put_first mac_of x xs = take row_limit (x ∷ others mac_of (mac_of x) xs)
 
 -- for how many milliseconds an address is known: the NodeForgetTime and ProxyNodeTableForgetTime of IEC 62439-3 clause 5.8
 abbrev pub node_forget : ℕ
 node_forget = 60000
 
--- heard less than 60000 milliseconds ago
+-- heard less than `node_forget` milliseconds ago
 abbrev pub is_young : ℕ → ℕ → Bool
 is_young at heard = nat_lt (at - heard) node_forget
 
@@ -27,6 +31,6 @@ abbrev pub latest_of_each : {X : Type 0} → (X → List ℕ) → List X → Lis
 latest_of_each mac_of [] = []
 latest_of_each mac_of (x ∷ past) = x ∷ others mac_of (mac_of x) (latest_of_each mac_of past)
 
--- the 64 addresses with the latest hearings, each with its latest
-abbrev pub latest_64 : {X : Type 0} → (X → List ℕ) → List X → List X
-latest_64 mac_of past = take 64 (latest_of_each mac_of past)
+-- the addresses with the latest hearings, as many as a list keeps, each with its latest
+abbrev pub latest_heard : {X : Type 0} → (X → List ℕ) → List X → List X
+latest_heard mac_of past = take row_limit (latest_of_each mac_of past)

@@ -8,7 +8,7 @@ use Rattle.hsr_frame.specs.declared.node.RingPort.TheVariants.{A, B}
 use Rattle.hsr_supervision.specs.Payload.{Fields, read_of}
 use Rattle.hsr_supervision.specs.declared.payload.SupFault.{SupFault}
 use Rattle.hsr_tables.specs.declared.nodes.NodeRow.{NodeRow}
-use Rattle.hsr_tables.specs.Known.{is_young, known, latest_64, put_first}
+use Rattle.hsr_tables.specs.Known.{is_young, known, latest_heard, put_first}
 
 -- the rows, each with the moment of its latest hearing, and the latest moment of all
 pub record Nodes : Type 0 where
@@ -58,7 +58,7 @@ listened table payload port at = heard_if table port at (read_of payload)
 
 -- whether an address is known at a moment
 abbrev pub is_known : ℕ → List ℕ → List Hearing → Bool
-is_known at mac past = list_any (λ h. is_same_address h.said.about mac && is_young at h.at) (latest_64 (λ h. h.said.about) past)
+is_known at mac past = list_any (λ h. is_same_address h.said.about mac && is_young at h.at) (latest_heard (λ h. h.said.about) past)
 
 -- the longest run of last hearings of an address in which each but the first found the address known
 abbrev pub last_run : List ℕ → List Hearing → List Hearing
@@ -86,12 +86,12 @@ row_after past h = record {
   heard_b = latest_on B (last_run h.said.about past);
 }
 
--- the rows of the nodes that are known at a moment: of the 64 addresses with the latest hearings those that aren't forgotten
+-- the rows of the nodes that are known at a moment: of the `row_limit` addresses with the latest hearings those that aren't forgotten
 abbrev pub rows_known : List Hearing → ℕ → List NodeRow
-rows_known past at = map (row_after past) (filter (λ h. is_young at h.at) (latest_64 (λ h. h.said.about) past))
+rows_known past at = map (row_after past) (filter (λ h. is_young at h.at) (latest_heard (λ h. h.said.about) past))
 
--- Over any list of hearings a table has the rows of the 64 addresses with the latest hearings, the latest
--- first, of these the ones that were heard less than 60000 milliseconds ago.
+-- Over any list of hearings a table has the rows of the `row_limit` addresses with the latest hearings, the latest
+-- first, of these the ones that were heard less than `node_forget` milliseconds ago.
 abbrev pub RowsOfLatest : Type 0
 RowsOfLatest = (hearings : List Hearing) (at : ℕ)
     → map (λ r. r.0) (known at (fold heard no_nodes hearings).rows) ≡ rows_known (reverse hearings) at

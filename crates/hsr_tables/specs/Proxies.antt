@@ -2,7 +2,7 @@
 use Rattle.std.specs.Prelude.{◌≡◌, ℕ, Bool, List, [], fold, reverse}
 use Rattle.std.specs.List.{list_any}
 use Rattle.hsr_frame.specs.Address.{is_same_address}
-use Rattle.hsr_tables.specs.Known.{known, latest_64, put_first}
+use Rattle.hsr_tables.specs.Known.{known, latest_heard, put_first}
 
 -- the addresses, each with the moment of its latest hearing, and the latest moment of all
 pub record Proxies : Type 0 where
@@ -19,8 +19,8 @@ learned table h = record { heard = put_first (λ x. x.0) h table.heard; last = h
 abbrev pub is_known : ℕ → List (List ℕ × ℕ) → List ℕ → Bool
 is_known at heard mac = list_any (λ h. is_same_address h.0 mac) (known at heard)
 
--- Over any list of hearings a table knows the 64 addresses with the latest hearings, the latest first, of
--- these the ones that were heard less than 60000 milliseconds ago.
+-- Over any list of hearings a table knows the `row_limit` addresses with the latest hearings, the latest first, of
+-- these the ones that were heard less than `node_forget` milliseconds ago.
 abbrev pub KnowsLatest : Type 0
 KnowsLatest = (hearings : List (List ℕ × ℕ)) (at : ℕ)
-    → known at (fold learned no_proxies hearings).heard ≡ known at (latest_64 (λ h. h.0) (reverse hearings))
+    → known at (fold learned no_proxies hearings).heard ≡ known at (latest_heard (λ h. h.0) (reverse hearings))

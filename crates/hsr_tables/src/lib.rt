@@ -1,7 +1,7 @@
 //! The tables of addresses that were heard: those behind a RedBox, and the nodes of the ring.
 //!
 //! Its modules, in the order in which to read them:
-//! - `times`: how long an address is known
+//! - `times`: how many addresses are known, and for how long
 //! - `proxies`: the addresses behind a RedBox
 //! - `nodes`: the nodes of the ring
 #![tactic(auto)]
@@ -12,7 +12,7 @@ mod times;
 
 pub use nodes::{NodeRow, NodeTable, known_nodes};
 pub use proxies::{ProxyTable, known_proxies};
-pub use times::{LIFE_CHECK, NODE_FORGET};
+pub use times::{LIFE_CHECK, NODE_FORGET, ROW_LIMIT};
 
 #[cfg(test)]
 mod tests;

@@ -2,7 +2,7 @@
 ghost use Rattle.std.specs.Prelude.{◌≡◌, ◌≤◌, map};
 ghost use Rattle.hsr_tables.specs.Known.{known, others};
 
-use crate::times::is_known_at;
+use crate::times::{ROW_LIMIT, is_known_at};
 use arrayvec::ArrayVec;
 use hsr_frame::{Mac, RingPort};
 use hsr_supervision::{SupKind, Supervision};
@@ -20,11 +20,11 @@ pub struct NodeRow {
     pub heard_b: Option<u64>,
 }
 
-/// The 64 nodes that were heard latest (the NodesTable of IEC 62439-3 clause 5), each known for `NODE_FORGET`
+/// The `ROW_LIMIT` nodes that were heard latest (the NodesTable of IEC 62439-3 clause 5), each known for `NODE_FORGET`
 /// milliseconds after it was heard last.
 #[derive(Drop)]
 pub struct NodeTable {
-    rows: ArrayVec<(NodeRow, u64), 64>,
+    rows: ArrayVec<(NodeRow, u64), ROW_LIMIT>,
     last: u64,
 }
 
@@ -57,7 +57,7 @@ impl NodeTable {
     }
 
     /// Puts the node that a payload is about first, as heard on a port at this moment in milliseconds,
-    /// and gives up the 65th.
+    /// and gives up what there is no room for.
     pub fn hear(&mut self, said: &Supervision, port: RingPort, at: u64)
         requires { self.old.last ≤ at }
         ensures { self.new ≡ heard self.old (record { said = said.now; port = port; at = at }) }
@@ -65,8 +65,8 @@ impl NodeTable {
         let earlier = find_known(self.rows.as_slice(), said.about, at);
         let row = row_of(said, port, at, earlier);
         keep_others(&mut self.rows, row.mac);
-        // one place is left for the new row
-        self.rows.truncate(63);
+        // One place is left for the new row.
+        self.rows.truncate(ROW_LIMIT - 1);
         self.rows.insert(0, (row, at));
         self.last = at;
     }
@@ -87,7 +87,7 @@ impl NodeTable {
     }
 
     /// The nodes that aren't forgotten at this moment in milliseconds, the latest heard first.
-    pub fn rows(&self, at: u64) -> ArrayVec<NodeRow, 64>
+    pub fn rows(&self, at: u64) -> ArrayVec<NodeRow, ROW_LIMIT>
         requires { self.now.last ≤ at }
         ensures { result.items ≡ map (λ r. r.0) (known at self.now.rows) }
     {
@@ -116,7 +116,7 @@ fn find_known(rows: &[(NodeRow, u64)], mac: Mac, at: u64) -> Option<(NodeRow, u6
 }
 
 /// Removes the row of an address.
-fn keep_others(rows: &mut ArrayVec<(NodeRow, u64), 64>, mac: Mac)
+fn keep_others(rows: &mut ArrayVec<(NodeRow, u64), ROW_LIMIT>, mac: Mac)
     ensures { rows.new.items ≡ others (λ r. r.0.mac) mac rows.old.items }
 {
     rows.retain(|row| row.0.mac != mac);
@@ -143,8 +143,8 @@ fn row_of(said: &Supervision, port: RingPort, at: u64, earlier: Option<(NodeRow,
     }
 }
 
-/// The law of `NodeTable`, for the proofs of callers: over any list of hearings its rows are those of the 64
-/// addresses heard latest, but for the forgotten.
+/// The law of `NodeTable`, for the proofs of callers: over any list of hearings its rows are those of the
+/// `ROW_LIMIT` addresses heard latest, but for the forgotten.
 pub fn known_nodes()
     ensures { RowsOfLatest }
 {}

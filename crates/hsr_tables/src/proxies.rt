@@ -5,16 +5,16 @@ ghost use Rattle.hsr_frame.specs.Address.{is_same_address};
 ghost use Rattle.hsr_tables.specs.Known.{is_young, known, others};
 ghost use Rattle.hsr_tables.specs.Proxies.{KnowsLatest, is_known, learned, no_proxies};
 
-use crate::times::is_known_at;
+use crate::times::{ROW_LIMIT, is_known_at};
 use arrayvec::ArrayVec;
 use hsr_frame::Mac;
 use std::marker::Model;
 
-/// The 64 addresses that a RedBox heard latest on its interlink (the ProxyNodeTable of IEC 62439-3 clause
+/// The `ROW_LIMIT` addresses that a RedBox heard latest on its interlink (the ProxyNodeTable of IEC 62439-3 clause
 /// 5), each known for `NODE_FORGET` milliseconds after it was heard last.
 #[derive(Drop)]
 pub struct ProxyTable {
-    rows: ArrayVec<(Mac, u64), 64>,
+    rows: ArrayVec<(Mac, u64), ROW_LIMIT>,
     last: u64,
 }
 
@@ -44,14 +44,14 @@ impl ProxyTable {
         self.last
     }
 
-    /// Puts an address first, as heard at this moment in milliseconds, and gives up the 65th.
+    /// Puts an address first, as heard at this moment in milliseconds, and gives up what there is no room for.
     pub fn learn(&mut self, mac: Mac, at: u64)
         requires { self.old.last ≤ at }
         ensures { self.new ≡ learned self.old (mac, at) }
     {
         keep_others(&mut self.rows, mac);
-        // one place is left for the new row
-        self.rows.truncate(63);
+        // One place is left for the new row.
+        self.rows.truncate(ROW_LIMIT - 1);
         self.rows.insert(0, (mac, at));
         self.last = at;
     }
@@ -66,7 +66,7 @@ impl ProxyTable {
 
     /// The addresses that aren't forgotten at this moment, each with the moment when it was heard last,
     /// the latest first; moments are in milliseconds.
-    pub fn list(&self, at: u64) -> ArrayVec<(Mac, u64), 64>
+    pub fn list(&self, at: u64) -> ArrayVec<(Mac, u64), ROW_LIMIT>
         requires { self.now.last ≤ at }
         ensures { result.items ≡ known at self.now.heard }
     {
@@ -81,7 +81,7 @@ impl ProxyTable {
 }
 
 /// Removes the row of an address.
-fn keep_others(rows: &mut ArrayVec<(Mac, u64), 64>, mac: Mac)
+fn keep_others(rows: &mut ArrayVec<(Mac, u64), ROW_LIMIT>, mac: Mac)
     ensures { rows.new.items ≡ others (λ h. h.0) mac rows.old.items }
 {
     rows.retain(|row| row.0 != mac);
@@ -95,8 +95,8 @@ fn has_known(rows: &[(Mac, u64)], mac: Mac, at: u64) -> bool
         .any(|row| is_known_at(row.1, at) && row.0 == mac)
 }
 
-/// The law of `ProxyTable`, for the proofs of callers: over any list of hearings it knows the 64 addresses
-/// heard latest, but for the forgotten.
+/// The law of `ProxyTable`, for the proofs of callers: over any list of hearings it knows the
+/// `ROW_LIMIT` addresses heard latest, but for the forgotten.
 pub fn known_proxies()
     ensures { KnowsLatest }
 {}
