@@ -8,3 +8,4 @@ pub mod Grammar
 pub mod Egress
 pub mod Counters
 pub mod Send
+pub mod Refusal

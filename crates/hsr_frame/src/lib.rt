@@ -9,6 +9,7 @@ mod mac;
 mod node;
 mod octets;
 mod raw;
+mod refusal;
 mod send;
 mod words;
 

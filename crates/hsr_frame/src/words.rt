@@ -22,6 +22,7 @@ impl Mode {
     pub fn from_word(word: &[u8]) -> Option<Mode>
         ensures value { result ≡ mode_of word.now }
         ensures again { (mode : Mode) → mode_of (mode_word mode) ≡ Some mode }
+        ensures exact { IfSome result (λ mode. word.now ≡ mode_word mode) }
     {
         if word == b"H".as_slice() {
             Some(Mode::H)
