@@ -1,6 +1,7 @@
 -- A reply is made from the node's step.
 use Rattle.std.proofs.Common.{◌≡◌, ◌<◌, ◌++◌, List, ℕ, length, Result, Ok, Err, ap, arith, codes}
 use Rattle.std.proofs.lemmas.List.{length-append}
+use Rattle.hsr_frame.specs.Words.{cause_text}
 use Rattle.hsr_frame.specs.declared.counters.Counters.{Counters}
 use Rattle.hsr_frame.specs.declared.fault.SendFault.{SendFault}
 use Rattle.hsr_frame.specs.declared.fault.Spent.{Spent}
@@ -11,7 +12,7 @@ use Rattle.hsr_danh.specs.Step.{arrive_step, life_step, send_step}
 use Rattle.hsr_danh.specs.declared.danh.Sent.{Sent}
 use Rattle.hsr_danh.specs.declared.danh.Verdict.{Verdict}
 use Rattle.hsr_node_text.specs.Request.{Asked, Sending, age, arrive, life, send}
-use Rattle.hsr_node_text.specs.Reply.{after, arrival_text, cause_text, counter_line, life_text, passed_text, reply, send_text, verdict_text, word_if}
+use Rattle.hsr_node_text.specs.Reply.{after, arrival_text, counter_line, life_text, passed_text, reply, send_text, verdict_text, word_if}
 
 pub reply-send : (capacity : ℕ) (machine new : Machine) (r : Sending) (sent : Result Sent SendFault) → (sent, new) ≡ send_step capacity machine r.at r.dst r.kind (length r.payload)
     → (send_text machine.own r sent ≡ reply capacity machine (send r)) × (new ≡ after capacity machine (send r))
@@ -49,7 +50,7 @@ life_some own (Err _) = some_before (codes "refused ") _ (omega arith)
 
 verdict_some : (v : Verdict) → 0 < length (verdict_text v)
 verdict_some v =
-    some_behind (cause_text v.cause ++ word_if v.up (codes " up") ++ word_if v.a (codes " A") ++ word_if v.b (codes " B")) (codes "\n") (omega arith)
+    some_behind (cause_text (codes " ") v.cause ++ word_if v.up (codes " up") ++ word_if v.a (codes " A") ++ word_if v.b (codes " B")) (codes "\n") (omega arith)
 
 arrival_some : (octets : List ℕ) (judged : Result Verdict Spent) → 0 < length (arrival_text octets judged)
 arrival_some octets (Ok v) = some_before (verdict_text v) _ (verdict_some v)

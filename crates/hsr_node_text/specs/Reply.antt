@@ -1,18 +1,18 @@
 -- The lines that answer a request, and the line of counters.
-use Rattle.std.specs.Prelude.{ℕ, Bool, List, [], ◌++◌, length, codes, Result, Ok, Err, if◌then◌else◌}
+use Rattle.std.specs.Prelude.{ℕ, Bool, List, [], ◌∷◌, ◌++◌, length, codes, Result, Ok, Err, if◌then◌else◌}
 use Rattle.std.specs.Fmt.{decimal}
 use Rattle.hex.specs.Hex.{encode_upper}
 use Rattle.hsr_frame.specs.Counters.{dropped}
-use Rattle.hsr_frame.specs.Fault.{frame_fault_code, send_fault_code}
+use Rattle.hsr_frame.specs.Fault.{send_fault_code}
 use Rattle.hsr_frame.specs.Grammar.{Fields, spelling}
+use Rattle.hsr_frame.specs.Words.{cause_text, port_word}
 use Rattle.hsr_frame.specs.declared.counters.Counters.{Counters}
 use Rattle.hsr_frame.specs.declared.fault.FrameFault.{FrameFault}
 use Rattle.hsr_frame.specs.declared.fault.SendFault.{SendFault}
 use Rattle.hsr_frame.specs.declared.fault.SendFault.TheVariants.{Spent as NoneLeft}
 use Rattle.hsr_frame.specs.declared.fault.Spent.{Spent}
-use Rattle.hsr_frame.specs.declared.node.Cause.{Cause}
-use Rattle.hsr_frame.specs.declared.node.Cause.TheVariants.{Malformed}
 use Rattle.hsr_frame.specs.declared.node.Life.{Life}
+use Rattle.hsr_frame.specs.declared.node.RingPort.TheVariants.{A, B}
 use Rattle.hsr_tag.specs.Seen.{classified}
 use Rattle.hsr_tag.specs.Tag.{tag_of, tagged_spelling, untag_of}
 use Rattle.hsr_tag.specs.declared.seen.Seen.{Seen}
@@ -22,7 +22,6 @@ use Rattle.hsr_danh.specs.Machine.{Machine}
 use Rattle.hsr_danh.specs.Step.{age_step, arrive_step, life_step, send_step}
 use Rattle.hsr_danh.specs.declared.danh.Sent.{Sent}
 use Rattle.hsr_danh.specs.declared.danh.Verdict.{Verdict}
-use Rattle.hsr_transcript_text.specs.Spelled as spelled
 use Rattle.hsr_node_text.specs.Request.{Asked, Sending, age, arrive, life, send}
 
 -- ---- frames of the node's own
@@ -59,14 +58,10 @@ life_text own (Err _) = refused_text NoneLeft
 abbrev pub word_if : Bool → List ℕ → List ℕ
 word_if said word = if said then word else []
 
--- why an arrival went where it did, without its egresses
-abbrev pub cause_text : Cause → List ℕ
-cause_text (Malformed fault) = codes "malformed " ++ decimal (frame_fault_code fault)
-cause_text cause = spelled.cause_text cause
-
 -- the egresses stand in the order up, A, B
 abbrev pub verdict_text : Verdict → List ℕ
-verdict_text v = cause_text v.cause ++ word_if v.up (codes " up") ++ word_if v.a (codes " A") ++ word_if v.b (codes " B") ++ codes "\n"
+verdict_text v =
+    cause_text (codes " ") v.cause ++ word_if v.up (codes " up") ++ word_if v.a (32 ∷ port_word A) ++ word_if v.b (32 ∷ port_word B) ++ codes "\n"
 
 -- what goes up is the plain frame
 abbrev pub up_text : Result Seen FrameFault → List ℕ

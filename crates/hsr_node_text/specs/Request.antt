@@ -4,9 +4,9 @@ use Rattle.std.specs.Result.{result_ok}
 use Rattle.std.specs.Str.{bytes_eq}
 use Rattle.hsr_frame.specs.Address.{address_of}
 use Rattle.hsr_frame.specs.Cases.{first_of}
+use Rattle.hsr_frame.specs.Words.{port_of}
 use Rattle.hsr_text.specs.Words.{◌>>=◌, cut, word_at, decimal_of, hex_pair_of, hex_octets_of}
 use Rattle.hsr_frame.specs.declared.node.RingPort.{RingPort}
-use Rattle.hsr_frame.specs.declared.node.RingPort.TheVariants.{A, B}
 use Rattle.hsr_node_text.specs.declared.request.Request.{Request}
 use Rattle.hsr_node_text.specs.declared.request.Request.TheVariants.{Send, Life, Arrive, Age}
 
@@ -51,9 +51,6 @@ send_in words = do
   payload ← hex_octets_of text.0
   vlan ← vlan_of text.1
   Some (send (record { at = moment; dst = address; kind = kind; payload = payload; vlan = vlan }))
-
-abbrev pub port_of : List ℕ → Option RingPort
-port_of letter = first_of ((bytes_eq letter (codes "A"), Some A) ∷ (bytes_eq letter (codes "B"), Some B) ∷ []) None
 
 -- a word that is the last
 abbrev pub last_word : Option (List ℕ) → Option (List ℕ)

@@ -1,12 +1,13 @@
 //! The lines that answer a request, and the line of counters.
-ghost use Rattle.std.specs.Prelude.{◌≡◌, ◌≢◌, ◌≤◌, ◌^◌, ◌++◌, length, OnOk};
+ghost use Rattle.std.specs.Prelude.{◌≡◌, ◌≢◌, ◌≤◌, ◌^◌, ◌++◌, ◌∷◌, codes, length, OnOk};
 ghost use Rattle.std.specs.Fmt.{decimal};
 ghost use Rattle.hsr_frame.specs.Address.{IsGroup};
 ghost use Rattle.hsr_frame.specs.Counters.{AreWithin};
-ghost use Rattle.hsr_node_text.specs.Reply.{cause_text, copies_text, counter_line, judged_text, lived_text, passed_text, refused_text, sent_text, stopped_text, up_text, verdict_text, word_if};
+ghost use Rattle.hsr_frame.specs.Words.{cause_text, fault_text, port_word};
+ghost use Rattle.hsr_node_text.specs.Reply.{copies_text, counter_line, judged_text, lived_text, passed_text, refused_text, sent_text, stopped_text, up_text, verdict_text, word_if};
 
 use hsr_danh::{Verdict, life_frame};
-use hsr_frame::{Cause, Counters, FrameFault, Life, Mac, SendFault};
+use hsr_frame::{Cause, Counters, FrameFault, Life, Mac, RingPort, SendFault};
 use hsr_tag::{Frame, Seen, classify};
 use hsr_text::{put_decimal, put_hex};
 use std::alloc::AllocError;
@@ -68,20 +69,33 @@ fn put_if(text: &mut Vec<u8>, said: bool, word: &[u8]) -> Result<(), AllocError>
     Ok(())
 }
 
+/// Puts the letter of a ring port, if something leaves by it.
+fn put_port_if(text: &mut Vec<u8>, leaves: bool, port: RingPort) -> Result<(), AllocError>
+    ensures { OnOk result (text.new.items ≡ text.old.items ++ word_if leaves (32 ∷ port_word port)) }
+{
+    if leaves {
+        text.push(b' ')?;
+        return text.extend_from_slice(port.word().as_bytes());
+    }
+    Ok(())
+}
+
+/// Puts the number of a fault behind a space, if there is one.
+fn put_fault(text: &mut Vec<u8>, fault: Option<FrameFault>) -> Result<(), AllocError>
+    ensures { OnOk result (text.new.items ≡ text.old.items ++ fault_text (codes " ") fault) }
+{
+    match fault {
+        None => Ok(()),
+        Some(fault) => put_count(text, b" ", u64::from(fault.code())),
+    }
+}
+
 /// Puts why an arrival went where it did.
 fn put_cause(text: &mut Vec<u8>, cause: Cause) -> Result<(), AllocError>
-    ensures { OnOk result (text.new.items ≡ text.old.items ++ cause_text cause) }
+    ensures { OnOk result (text.new.items ≡ text.old.items ++ cause_text (codes " ") cause) }
 {
-    match cause {
-        Cause::Passed => text.extend_from_slice(b"passed"),
-        Cause::Duplicate => text.extend_from_slice(b"duplicate"),
-        Cause::Returned => text.extend_from_slice(b"returned"),
-        Cause::Foreign => text.extend_from_slice(b"foreign"),
-        Cause::Local => text.extend_from_slice(b"local"),
-        Cause::Untagged => text.extend_from_slice(b"untagged"),
-        Cause::Tagged => text.extend_from_slice(b"tagged"),
-        Cause::Malformed(fault) => put_count(text, b"malformed ", u64::from(fault.code())),
-    }
+    text.extend_from_slice(cause.word().as_bytes())?;
+    put_fault(text, cause.fault())
 }
 
 /// Puts the line of an arrival.
@@ -90,8 +104,8 @@ fn put_verdict(text: &mut Vec<u8>, verdict: Verdict) -> Result<(), AllocError>
 {
     put_cause(text, verdict.cause)?;
     put_if(text, verdict.up, b" up")?;
-    put_if(text, verdict.a, b" A")?;
-    put_if(text, verdict.b, b" B")?;
+    put_port_if(text, verdict.a, RingPort::A)?;
+    put_port_if(text, verdict.b, RingPort::B)?;
     text.extend_from_slice(b"\n")
 }
 

@@ -1,7 +1,7 @@
 //! What an input line of `node` asks for.
 ghost use Rattle.std.specs.Prelude.{◌≡◌, option_map};
 ghost use Rattle.hsr_text.specs.Words.{Gives};
-ghost use Rattle.hsr_node_text.specs.Request.{age_in, arrival_in, last_decimal, life_in, port_of, request_of, send_in, view, vlan_of};
+ghost use Rattle.hsr_node_text.specs.Request.{age_in, arrival_in, last_decimal, life_in, request_of, send_in, view, vlan_of};
 
 use hsr_frame::{Mac, RingPort};
 use hsr_text::{WordFault, decimal, hex_octets, hex_pair, word};
@@ -67,19 +67,6 @@ fn read_send(alloc: Global, rest: Option<&[u8]>) -> Result<Request, WordFault>
     })
 }
 
-/// A ring port by its letter.
-fn read_port(letter: &[u8]) -> Option<RingPort>
-    ensures { result ≡ port_of letter.now }
-{
-    if letter == b"A".as_slice() {
-        Some(RingPort::A)
-    } else if letter == b"B".as_slice() {
-        Some(RingPort::B)
-    } else {
-        None
-    }
-}
-
 /// Reads `<at> A|B <octets>`.
 fn read_arrival(alloc: Global, rest: Option<&[u8]>) -> Result<Request, WordFault>
     ensures { Gives view result (arrival_in (option_map (λ s. s.now) rest.entry)) }
@@ -87,7 +74,7 @@ fn read_arrival(alloc: Global, rest: Option<&[u8]>) -> Result<Request, WordFault
     let (digits, rest) = word(rest).ok_or(WordFault::Bad)?;
     let at = decimal(digits).ok_or(WordFault::Bad)?;
     let (letter, rest) = word(rest).ok_or(WordFault::Bad)?;
-    let port = read_port(letter).ok_or(WordFault::Bad)?;
+    let port = RingPort::from_word(letter).ok_or(WordFault::Bad)?;
     match word(rest) {
         Some((digits, None)) => {
             let octets = hex_octets(alloc, digits)?;

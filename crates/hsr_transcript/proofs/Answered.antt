@@ -19,7 +19,7 @@ use Rattle.hsr_transcript_text.specs.Lines.{text_of}
 use Rattle.hsr_transcript.specs.Order.{IsOrder, OrderTold}
 use Rattle.hsr_transcript_text.specs.Readable.{AreLines, FitEach}
 use Rattle.hsr_transcript.specs.Replay.{ReplayedAll}
-use Rattle.hsr_transcript_text.specs.Told.{ToldWhole}
+use Rattle.hsr_transcript_text.specs.CodeReads.{ToldWhole}
 use Rattle.hsr_transcript_text.specs.Transcript.{Said, said_lines, said_of}
 use Rattle.hsr_transcript_text.specs.declared.fault.ReadFault.{ReadFault}
 use Rattle.hsr_transcript_text.specs.declared.fault.ReadFault.TheVariants.{Version, BadLine, End, Disagrees, Read, NoMemory}

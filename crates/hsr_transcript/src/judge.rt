@@ -1,6 +1,6 @@
 //! Judges what a text says that is in form: topology, order, and each entry.
 ghost use Rattle.std.specs.Prelude.{◌≡◌, ◌≤◌};
-ghost use Rattle.hsr_transcript_text.specs.Told.{seen};
+ghost use Rattle.hsr_transcript_text.specs.CodeReads.{seen};
 ghost use Rattle.hsr_transcript.specs.Judged.{Judged};
 ghost use Rattle.hsr_transcript_text.specs.Plain.{plain_view};
 ghost use Rattle.hsr_transcript.specs.Ready.{ready_view};

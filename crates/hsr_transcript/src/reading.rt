@@ -4,7 +4,7 @@ ghost use Rattle.hsr_closing.specs.Finished.{Finished, IsFinished};
 ghost use Rattle.hsr_transcript.specs.Answers.{Answers, Closes, IsReadAs, IsTextOf};
 ghost use Rattle.hsr_transcript_text.specs.Fits.{Fits};
 ghost use Rattle.hsr_transcript.specs.Ready.{ready_view};
-ghost use Rattle.hsr_transcript_text.specs.Told.{seen};
+ghost use Rattle.hsr_transcript_text.specs.CodeReads.{seen};
 
 use crate::judge::judge;
 use crate::ready::Ready;

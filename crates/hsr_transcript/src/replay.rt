@@ -1,7 +1,7 @@
 //! Records that are replayed, entry by entry.
 ghost use Rattle.std.specs.Prelude.{◌≡◌, ◌+◌, ◌≤◌, ◌<◌, ◌^◌, IfOk, length, map};
 ghost use Rattle.std.specs.List.{All};
-ghost use Rattle.hsr_transcript_text.specs.Told.{seen};
+ghost use Rattle.hsr_transcript_text.specs.CodeReads.{seen};
 ghost use Rattle.hsr_node.specs.Place.{HasOwnAddress};
 ghost use Rattle.hsr_transcript_text.specs.Items.{entry_items};
 ghost use Rattle.hsr_transcript_text.specs.Lines.{line_count};

@@ -10,7 +10,7 @@ use Rattle.std.specs.Str.{bytes_eq}
 use Rattle.hsr_frame.specs.Address.{IsAddress, address_of, address_text, hex_digit, hex_digits, upper_digit, upper_text}
 use Rattle.hsr_frame.proofs.Texts.{address_of-printed}
 use Rattle.hsr_text.specs.Words.{cut}
-use Rattle.hsr_transcript_text.specs.Parsed.{macs_said}
+use Rattle.hsr_transcript_text.specs.Parsed.{read_macs}
 use Rattle.hsr_transcript_text.specs.Readable.{Lacks}
 use Rattle.hsr_transcript_text.specs.Spelled.{mac_text, spaced}
 use Rattle.hsr_transcript_text.proofs.CutWords.{cut_end, cut_word}
@@ -74,8 +74,8 @@ not_own mac = and_right _ _ (and_right _ _ refl)
 
 -- addresses, one after another
 pub macs_again : (n : ℕ) (mac : List ℕ) (macs : List (List ℕ)) → AllByRecursion IsAddress (mac ∷ macs) → length (mac ∷ macs) ≤ n
-    → macs_said n (Some (spaced (mac_text mac) (map mac_text macs))) ≡ Some (mac ∷ macs)
-unfolding macs_said
+    → read_macs n (Some (spaced (mac_text mac) (map mac_text macs))) ≡ Some (mac ∷ macs)
+unfolding read_macs
 macs_again zero mac macs a h = absurd (omega arith)
 macs_again (suc n) mac [] a h =
     let word : cut 32 (mac_text mac) ≡ (mac_text mac, None) = cut_end 32 (mac_text mac) (mac_lacks 32 mac (omega arith)) in

@@ -18,7 +18,7 @@ use Rattle.hsr_link.specs.declared.row.Fate.TheVariants.{Queued, Taken, LostDown
 use Rattle.hsr_link.specs.declared.row.Row.{Row}
 use Rattle.std.proofs.lemmas.Slice.Eq.{bytes_eq-Decides}
 use Rattle.hsr_transcript_text.proofs.WordTexts.{lacks_word, own, word_octets}
-use Rattle.hsr_transcript_text.specs.Parsed.{fate_said, probe_said, row_of, row_said, turn_of}
+use Rattle.hsr_transcript_text.specs.Parsed.{read_fate, read_probe, row_of, read_row, turn_of}
 use Rattle.hsr_link.specs.Words.{dir_of, dir_word, fate_word}
 use Rattle.hsr_transcript_text.specs.Reading.{checked, exactly}
 use Rattle.hsr_transcript_text.specs.Readable.{Lacks}
@@ -85,7 +85,7 @@ dir_again : (d : Dir) → (dir_of (dir_word d) ≡ Some d) × Lacks 32 (dir_word
 dir_again Forth = (refl, (refl, (refl, (refl, (refl, (refl, tt))))))
 dir_again Back = (refl, (refl, (refl, (refl, (refl, tt)))))
 
-fate_again : (f : Fate) → IsGone f → (fate_said (fate_word f) ≡ Some f) × Lacks 32 (fate_word f)
+fate_again : (f : Fate) → IsGone f → (read_fate (fate_word f) ≡ Some f) × Lacks 32 (fate_word f)
 fate_again Queued h = absurd h
 fate_again Taken h = (refl, (refl, (refl, (refl, (refl, (refl, tt))))))
 fate_again LostDown h = (refl, (refl, (refl, (refl, (refl, tt)))))
@@ -95,15 +95,15 @@ fate_again LostOverrun h = (refl, (refl, (refl, (refl, (refl, (refl, (refl, (ref
 probe_lacks : (p : Probe) → p.node < 2 ^ 64 → p.place < 2 ^ 64 → Lacks 32 (probe_text (Some p))
 probe_lacks p h k = lacks_more 32 _ _ (lacks_decimal 32 p.node h (inl (omega arith))) (refl, lacks_decimal 32 p.place k (inl (omega arith)))
 
-pub probe_again : (p : Probe) → p.node < 2 ^ 64 → p.place < 2 ^ 64 → probe_said (probe_text (Some p)) ≡ Some p
+pub probe_again : (p : Probe) → p.node < 2 ^ 64 → p.place < 2 ^ 64 → read_probe (probe_text (Some p)) ≡ Some p
 probe_again p h k =
     let c : cut 58 (decimal p.node ++ 58 ∷ decimal p.place) ≡ (decimal p.node, Some (decimal p.place)) = cut_word 58 (decimal p.node) (decimal p.place) (lacks_decimal 58 p.node h (inr (omega arith))) in
     rw (c, number_again p.node h, number_again p.place k) refl
 
 row_again : (d : Dir) (p : Probe) (octets : List ℕ) (f : Fate) → p.node < 2 ^ 64 → p.place < 2 ^ 64 → IsBytes octets → IsGone f
-    → row_said (row_text (record { dir = d; carried = record { probe = Some p; octets = octets }; injected = false; fate = f }))
+    → read_row (row_text (record { dir = d; carried = record { probe = Some p; octets = octets }; injected = false; fate = f }))
     ≡ Some (record { dir = d; carried = record { probe = Some p; octets = octets }; injected = false; fate = f })
-unfolding row_said row_text
+unfolding read_row row_text
 row_again d p octets f node place bytes gone =
     let dir = dir_again d in
     let fate = fate_again f gone in
@@ -124,7 +124,7 @@ row_read r f =
     let again = row_again r.dir f.probe r.carried.octets r.fate f.node f.place f.octets f.gone in
     let whole : record { dir = r.dir; carried = record { probe = Some f.probe; octets = r.carried.octets }; injected = false; fate = r.fate } ≡ r
     = λ i. record { dir = r.dir; carried = record { probe = sym f.named i; octets = r.carried.octets }; injected = sym f.put i; fate = r.fate } in
-    exactly_again row_text row_said r (subst (λ (x : Row). row_said (row_text x) ≡ Some x) whole again)
+    exactly_again row_text read_row r (subst (λ (x : Row). read_row (row_text x) ≡ Some x) whole again)
 
 pub turn_read : (n : ℕ) → n < 2 ^ 64 → turn_of (decimal n) ≡ Some n
 unfolding turn_of

@@ -2,7 +2,7 @@
 use Rattle.std.proofs.Common.{◌≡◌, ℕ, List, [], ◌∷◌, ◌++◌, ◌∙◌, Option, Some, None, Ok, Err, IfSome, sym, ap, subst}
 use Rattle.std.proofs.lemmas.List.{append-nil}
 use Rattle.hsr_transcript_text.specs.Reading.{Reader, on_with, gives, each, ◌>>=◌}
-use Rattle.hsr_transcript_text.specs.Told.{Gives}
+use Rattle.hsr_transcript_text.specs.CodeReads.{Gives}
 use Rattle.hsr_transcript_text.specs.declared.fault.ReadFault.{ReadFault}
 use Rattle.hsr_transcript_text.proofs.Parts.{with_front, with_front_more, passed_at}
 

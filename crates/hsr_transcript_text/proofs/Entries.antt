@@ -8,7 +8,7 @@ use Rattle.hsr_node.specs.declared.event.Event.{Event}
 use Rattle.hsr_node.specs.declared.event.Outcome.{Outcome}
 use Rattle.hsr_node.specs.declared.place.Place.{Place}
 use Rattle.hsr_transcript_text.specs.Fits.{IsEntryFit}
-use Rattle.hsr_transcript_text.specs.Parsed.{below, entry_of, entry_said, event_said, outcome_said}
+use Rattle.hsr_transcript_text.specs.Parsed.{below, entry_of, read_entry, read_event, read_outcome}
 use Rattle.hsr_transcript_text.specs.Readable.{IsSpelled, Lacks}
 use Rattle.hsr_transcript_text.proofs.Roles.{IsEntryOf}
 use Rattle.hsr_transcript_text.specs.Spelled.{entry_text, event_text, outcome_text, spaced}
@@ -21,14 +21,14 @@ use Rattle.hsr_transcript_text.proofs.Worded.{below_again}
 
 entry_words : (place : Place) (a b e o : List ℕ) (worker at : ℕ) (event : Event) (outcome : Outcome)
     → is_word a ≡ true → is_word b ≡ true → below (2 ^ 16) a ≡ Some worker → decimal_of b ≡ Some at
-    → event_said place (Some (e ++ 32 ∷ (codes "=" ++ 32 ∷ o))) ≡ Some (event, Some (codes "=" ++ 32 ∷ o))
-    → outcome_said place (Some o) ≡ Some outcome
-    → entry_said place (spaced a (b ∷ e ∷ codes "=" ∷ o ∷ [])) ≡ Some (record { worker = worker; at = at; event = event; outcome = outcome })
-unfolding entry_said
+    → read_event place (Some (e ++ 32 ∷ (codes "=" ++ 32 ∷ o))) ≡ Some (event, Some (codes "=" ++ 32 ∷ o))
+    → read_outcome place (Some o) ≡ Some outcome
+    → read_entry place (spaced a (b ∷ e ∷ codes "=" ∷ o ∷ [])) ≡ Some (record { worker = worker; at = at; event = event; outcome = outcome })
+unfolding read_entry
 entry_words place a b e o worker at event outcome wa wb who when what so =
     rw (cut_first a (spaced b (e ∷ codes "=" ∷ o ∷ [])) wa, who, cut_first b (spaced e (codes "=" ∷ o ∷ [])) wb, when, what, so) refl
 
-entry_again : (place : Place) (x : Entry) → IsEntryFit x → IsEntryOf place x → entry_said place (entry_text place x) ≡ Some x
+entry_again : (place : Place) (x : Entry) → IsEntryFit x → IsEntryOf place x → read_entry place (entry_text place x) ≡ Some x
 unfolding entry_text
 entry_again place x f h =
     entry_words place (decimal x.worker) (decimal x.at) (event_text place x.event) (outcome_text place x.outcome) x.worker x.at x.event x.outcome
@@ -48,6 +48,6 @@ entry_line place x f h =
 pub entry_spelled : (place : Place) (x : Entry) → IsEntryFit x → IsEntryOf place x → IsSpelled (entry_of place) (entry_text place) x
 unfolding entry_of
 entry_spelled place x f h = record {
-  read = exactly_again (entry_text place) (entry_said place) x (entry_again place x f h);
+  read = exactly_again (entry_text place) (read_entry place) x (entry_again place x f h);
   line = entry_line place x f h;
 }

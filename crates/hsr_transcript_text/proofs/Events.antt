@@ -14,7 +14,7 @@ use Rattle.hsr_node.specs.declared.event.Event.TheVariants.{Send, Supervise, Arr
 use Rattle.hsr_node.specs.declared.event.Probe.{Probe}
 use Rattle.hsr_node.specs.declared.place.Place.{Place}
 use Rattle.hsr_transcript_text.specs.Fits.{IsEventFit, IsProbeFit, IsSendFit}
-use Rattle.hsr_transcript_text.specs.Parsed.{arrive_said, below, event_said, port_said, probe_said, send_said, vlan_said}
+use Rattle.hsr_transcript_text.specs.Parsed.{read_arrive, below, read_event, read_port, read_probe, read_send, read_vlan}
 use Rattle.hsr_transcript_text.specs.Readable.{Lacks}
 use Rattle.hsr_transcript_text.proofs.Roles.{IsEventOf, IsPortOf}
 use Rattle.hsr_transcript_text.specs.Spelled.{about_text, event_text, mac_text, octets_text, probe_text, spaced, vlan_text}
@@ -34,8 +34,8 @@ cut_first w rest h = cut_word 32 w rest (lacks_word 32 w (omega arith) h)
 
 send_words : (a b c d e rest : List ℕ) (from : ℕ) (dst : List ℕ) (vlan : Option ℕ) (kind : ℕ) (payload : List ℕ)
     → is_word a ≡ true → is_word b ≡ true → is_word c ≡ true → is_word d ≡ true → is_word e ≡ true
-    → below 256 a ≡ Some from → result_ok (address_of b) ≡ Some dst → vlan_said c ≡ Some vlan → hex_pair_of d ≡ Some kind → hex_octets_of e ≡ Some payload
-    → send_said (Some (spaced a (b ∷ c ∷ d ∷ e ∷ []) ++ 32 ∷ rest)) ≡ Some (Send from dst vlan kind payload, Some rest)
+    → below 256 a ≡ Some from → result_ok (address_of b) ≡ Some dst → read_vlan c ≡ Some vlan → hex_pair_of d ≡ Some kind → hex_octets_of e ≡ Some payload
+    → read_send (Some (spaced a (b ∷ c ∷ d ∷ e ∷ []) ++ 32 ∷ rest)) ≡ Some (Send from dst vlan kind payload, Some rest)
 send_words a b c d e rest from dst vlan kind payload wa wb wc wd we source address tag type octets =
     rw (
       cut_on a (spaced b (c ∷ d ∷ e ∷ [])) (32 ∷ rest) wa,
@@ -51,46 +51,46 @@ send_words a b c d e rest from dst vlan kind payload wa wb wc wd we source addre
     ) refl
 
 send_again : (place : Place) (from : ℕ) (dst : List ℕ) (vlan : Option ℕ) (kind : ℕ) (payload rest : List ℕ) → IsSendFit from dst vlan kind payload
-    → event_said place (Some (event_text place (Send from dst vlan kind payload) ++ 32 ∷ rest)) ≡ Some (Send from dst vlan kind payload, Some rest)
-unfolding event_said event_text
+    → read_event place (Some (event_text place (Send from dst vlan kind payload) ++ 32 ∷ rest)) ≡ Some (Send from dst vlan kind payload, Some rest)
+unfolding read_event event_text
 send_again place from dst vlan kind payload rest f =
     send_words (decimal from) (mac_text dst) (vlan_text vlan) (encode_upper (pair kind)) (octets_text payload) rest from dst vlan kind payload
     (word_decimal from (let h = f.source in omega arith)) (word_mac dst) (word_vlan vlan) (word_pair kind) (word_octets payload f.octets)
     (below_again 256 from f.source (let h = f.source in omega arith)) (mac_said dst f.address) (vlan_again vlan f.tag) (hex_pair_again kind f.type) (octets_again payload f.octets)
 
 life_again : (place : Place) (about : About) (rest : List ℕ) → IsEventFit (Supervise about)
-    → event_said place (Some (event_text place (Supervise about) ++ 32 ∷ rest)) ≡ Some (Supervise about, Some rest)
-unfolding event_said event_text
+    → read_event place (Some (event_text place (Supervise about) ++ 32 ∷ rest)) ≡ Some (Supervise about, Some rest)
+unfolding read_event event_text
 life_again place about rest f = rw (cut_first (about_text about) rest (word_about about), about_again about f) refl
 
 arrive_words : (place : Place) (a b c rest : List ℕ) (port : ℕ) (p : Probe) (octets : List ℕ)
     → is_word a ≡ true → is_word b ≡ true → is_word c ≡ true
-    → port_said place a ≡ Some port → probe_said b ≡ Some p → hex_octets_of c ≡ Some octets
-    → arrive_said place (Some (spaced a (b ∷ c ∷ []) ++ 32 ∷ rest)) ≡ Some (Arrive port (record { probe = Some p; octets = octets }), Some rest)
+    → read_port place a ≡ Some port → read_probe b ≡ Some p → hex_octets_of c ≡ Some octets
+    → read_arrive place (Some (spaced a (b ∷ c ∷ []) ++ 32 ∷ rest)) ≡ Some (Arrive port (record { probe = Some p; octets = octets }), Some rest)
 arrive_words place a b c rest port p octets wa wb wc at sent said =
     rw (cut_on a (spaced b (c ∷ [])) (32 ∷ rest) wa, at, cut_on b c (32 ∷ rest) wb, sent, cut_first c rest wc, said) refl
 
 arrive_again : (place : Place) (port : ℕ) (p : Probe) (octets rest : List ℕ) → IsPortOf place port → IsProbeFit p → IsBytes octets
-    → event_said place (Some (event_text place (Arrive port (record { probe = Some p; octets = octets })) ++ 32 ∷ rest))
+    → read_event place (Some (event_text place (Arrive port (record { probe = Some p; octets = octets })) ++ 32 ∷ rest))
     ≡ Some (Arrive port (record { probe = Some p; octets = octets }), Some rest)
-unfolding event_said event_text
+unfolding read_event event_text
 arrive_again place port p octets rest at fit bytes =
     let here = port_again place port at in
     arrive_words place (letter place port ∷ []) (probe_text (Some p)) (octets_text octets) rest port p octets
     here.1 (word_probe p fit) (word_octets octets bytes) here.0 (probe_again p fit.0 fit.1) (octets_again octets bytes)
 
-age_again : (place : Place) (rest : List ℕ) → event_said place (Some (event_text place Age ++ 32 ∷ rest)) ≡ Some (Age, Some rest)
-unfolding event_said event_text
+age_again : (place : Place) (rest : List ℕ) → read_event place (Some (event_text place Age ++ 32 ∷ rest)) ≡ Some (Age, Some rest)
+unfolding read_event event_text
 age_again place rest = refl
 
 pub event_again : (place : Place) (e : Event) (rest : List ℕ) → IsEventFit e → IsEventOf place e
-    → event_said place (Some (event_text place e ++ 32 ∷ rest)) ≡ Some (e, Some rest)
+    → read_event place (Some (event_text place e ++ 32 ∷ rest)) ≡ Some (e, Some rest)
 event_again place (Send from dst vlan kind payload) rest f o = send_again place from dst vlan kind payload rest f
 event_again place (Supervise about) rest f o = life_again place about rest f
 event_again place (Arrive port carried) rest f o =
     let named = o.1.named in
     let whole : ◌≡◌ {A = Carried} (record { probe = Some o.1.send; octets = carried.octets }) carried = λ i. record { probe = sym named i; octets = carried.octets } in
-    subst (λ (c : Carried). event_said place (Some (event_text place (Arrive port c) ++ 32 ∷ rest)) ≡ Some (Arrive port c, Some rest)) whole
+    subst (λ (c : Carried). read_event place (Some (event_text place (Arrive port c) ++ 32 ∷ rest)) ≡ Some (Arrive port c, Some rest)) whole
     (arrive_again place port o.1.send carried.octets rest o.0 (subst (λ (q : Option Probe). IfSome q IsProbeFit) named f.probe) f.octets)
 event_again place Age rest f o = age_again place rest
 

@@ -7,7 +7,7 @@ use Rattle.hsr_node.specs.declared.event.Outcome.{Outcome}
 use Rattle.hsr_node.specs.declared.event.Outcome.TheVariants.{Sent, Life, Judged, Aged}
 use Rattle.hsr_node.specs.declared.place.Place.{Place}
 use Rattle.hsr_transcript_text.specs.Fits.{IsOutcomeFit}
-use Rattle.hsr_transcript_text.specs.Parsed.{below, cause_said, has_octet, judged_said, lived_said, outcome_said, ports_said, sent_said, seq_said, tail_of}
+use Rattle.hsr_transcript_text.specs.Parsed.{below, read_cause, has_octet, read_judged, read_lived, read_outcome, read_ports, read_sent, read_seq, tail_of}
 use Rattle.hsr_transcript_text.specs.Readable.{Lacks}
 use Rattle.hsr_transcript_text.proofs.Roles.{IsOutcomeOf}
 use Rattle.hsr_transcript_text.specs.Spelled.{outcome_text, ports_text, seq_text, up_text}
@@ -19,26 +19,26 @@ use Rattle.hsr_transcript_text.proofs.WordTexts.{is_word, line_end, line_more, w
 use Rattle.hsr_transcript_text.proofs.Worded.{below_again, cause_again, seq_again, word_seq}
 
 sent_words : (place : Place) (a tail : List ℕ) (seq : Option ℕ) (ports : List Bool)
-    → is_word a ≡ true → opens tail ≡ true → seq_said a ≡ Some seq → ports_said place (tail_of (behind_space tail)) ≡ ports
-    → sent_said place (Some (a ++ tail)) ≡ Some (Sent seq ports)
+    → is_word a ≡ true → opens tail ≡ true → read_seq a ≡ Some seq → read_ports place (tail_of (behind_space tail)) ≡ ports
+    → read_sent place (Some (a ++ tail)) ≡ Some (Sent seq ports)
 sent_words place a tail seq ports wa apart number exits = rw (cut_tail a tail wa apart, number) (ap (λ p. Some (Sent seq p)) exits)
 
 lived_words : (place : Place) (a b tail : List ℕ) (seq life : ℕ) (ports : List Bool)
     → is_word a ≡ true → is_word b ≡ true → opens tail ≡ true → below (2 ^ 16) a ≡ Some seq → below (2 ^ 16) b ≡ Some life
-    → ports_said place (tail_of (behind_space tail)) ≡ ports
-    → lived_said place (Some (a ++ 32 ∷ (b ++ tail))) ≡ Some (Life seq life ports)
+    → read_ports place (tail_of (behind_space tail)) ≡ ports
+    → read_lived place (Some (a ++ 32 ∷ (b ++ tail))) ≡ Some (Life seq life ports)
 lived_words place a b tail seq life ports wa wb apart number count exits =
     rw (cut_first a (b ++ tail) wa, number, cut_tail b tail wb apart, count) (ap (λ p. Some (Life seq life p)) exits)
 
 judged_words : (place : Place) (a b tail : List ℕ) (up : Bool) (ports : List Bool) (seq : Option ℕ) (cause : Cause)
-    → is_word a ≡ true → is_word b ≡ true → opens tail ≡ true → cause_said a ≡ Some cause → seq_said b ≡ Some seq
-    → has_octet 117 (tail_of (behind_space tail)) ≡ up → ports_said place (tail_of (behind_space tail)) ≡ ports
-    → judged_said place (Some (a ++ 32 ∷ (b ++ tail))) ≡ Some (Judged up ports seq cause)
+    → is_word a ≡ true → is_word b ≡ true → opens tail ≡ true → read_cause a ≡ Some cause → read_seq b ≡ Some seq
+    → has_octet 117 (tail_of (behind_space tail)) ≡ up → read_ports place (tail_of (behind_space tail)) ≡ ports
+    → read_judged place (Some (a ++ 32 ∷ (b ++ tail))) ≡ Some (Judged up ports seq cause)
 judged_words place a b tail up ports seq cause wa wb apart why number taken exits =
     rw (cut_first a (b ++ tail) wa, why, cut_tail b tail wb apart, number) (ap₂ (λ u p. Some (Judged u p seq cause)) taken exits)
 
-pub outcome_again : (place : Place) (o : Outcome) → IsOutcomeFit o → IsOutcomeOf place o → outcome_said place (Some (outcome_text place o)) ≡ Some o
-unfolding outcome_said outcome_text
+pub outcome_again : (place : Place) (o : Outcome) → IsOutcomeFit o → IsOutcomeOf place o → read_outcome place (Some (outcome_text place o)) ≡ Some o
+unfolding read_outcome outcome_text
 outcome_again place (Sent seq ports) f h =
     sent_words place (seq_text seq) (ports_text place ports) seq ports
     (word_seq seq f.0) (ports_open place ports) (seq_again seq f.0) (ports_behind place ports f.1 h)

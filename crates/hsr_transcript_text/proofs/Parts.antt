@@ -6,7 +6,7 @@ use Rattle.hsr_text.specs.Words.{cut}
 use Rattle.hsr_text.specs.declared.lines.Front.TheVariants.{Line, Rest, TooLong}
 use Rattle.hsr_transcript_text.specs.Reading.{At, Reader, on_with, gives, behind, line_at, taken, line_or, line_of, many, ◌>>=◌, closes, whole}
 use Rattle.hsr_transcript_text.specs.Form.{as_version, form_of, only, only_at, said_at, version_at}
-use Rattle.hsr_transcript_text.specs.Told.{Told, Gives, Ends, Says, ToldWhole, ends_at}
+use Rattle.hsr_transcript_text.specs.CodeReads.{Told, Gives, Ends, Says, ToldWhole, ends_at}
 use Rattle.hsr_transcript_text.specs.Transcript.{Said, first_line}
 use Rattle.hsr_transcript_text.specs.declared.fault.ReadFault.{ReadFault}
 use Rattle.hsr_transcript_text.specs.declared.fault.ReadFault.TheVariants.{Version, BadLine, End, Disagrees, Read, NoMemory}

@@ -8,7 +8,7 @@ use Rattle.hsr_frame.specs.declared.node.Mode.{Mode}
 use Rattle.hsr_node.specs.Record.{has_port}
 use Rattle.hsr_node.specs.declared.place.Place.{Place}
 use Rattle.hsr_node.specs.declared.place.Place.TheVariants.{Danh, RedBox, QuadBox, Station}
-use Rattle.hsr_transcript_text.specs.Parsed.{has_octet, ports_said, tail_of}
+use Rattle.hsr_transcript_text.specs.Parsed.{has_octet, read_ports, tail_of}
 use Rattle.hsr_transcript_text.specs.Readable.{Lacks}
 use Rattle.hsr_transcript_text.proofs.Roles.{AreExitsOf}
 use Rattle.hsr_transcript_text.specs.Spelled.{port_text, ports_text, up_text}
@@ -85,7 +85,7 @@ ports_open place ports =
 -- ---- what the letters tell
 
 abbrev IsTold : Place → Bool → Bool → Bool → Bool → Type 0
-IsTold place a b c d = ports_said place (ports_text place (a ∷ b ∷ c ∷ d ∷ [])) ≡ a ∷ b ∷ c ∷ d ∷ []
+IsTold place a b c d = read_ports place (ports_text place (a ∷ b ∷ c ∷ d ∷ [])) ≡ a ∷ b ∷ c ∷ d ∷ []
 
 danh_told : (mac : List ℕ) (mode : Mode) (a b : Bool) → IsTold (Danh mac mode) a b false false
 unfolding has_octet
@@ -141,7 +141,7 @@ exits_told (Station macs) a false true d h = let no = h 2 refl in absurd (omega 
 exits_told (Station macs) a false false true h = let no = h 3 refl in absurd (omega arith)
 exits_told (Station macs) a false false false h = station_told macs a
 
-pub ports_told : (place : Place) (ports : List Bool) → length ports ≡ 4 → AreExitsOf place ports → ports_said place (ports_text place ports) ≡ ports
+pub ports_told : (place : Place) (ports : List Bool) → length ports ≡ 4 → AreExitsOf place ports → read_ports place (ports_text place ports) ≡ ports
 ports_told place [] four h = absurd (omega arith)
 ports_told place (a ∷ []) four h = absurd (omega arith)
 ports_told place (a ∷ b ∷ []) four h = absurd (omega arith)
@@ -151,25 +151,25 @@ ports_told place (a ∷ b ∷ c ∷ d ∷ e ∷ more) four h = absurd (omega ari
 
 -- ---- `up` and a space tell of no port
 
-past_space : (place : Place) (text : List ℕ) → ports_said place text ≡ ports_said place (32 ∷ text)
+past_space : (place : Place) (text : List ℕ) → read_ports place text ≡ read_ports place (32 ∷ text)
 unfolding has_octet
 past_space (Danh mac mode) text = refl
 past_space (RedBox mac mode) text = refl
 past_space QuadBox text = refl
 past_space (Station macs) text = refl
 
-past_up : (place : Place) (text : List ℕ) → ports_said place (117 ∷ 112 ∷ text) ≡ ports_said place text
+past_up : (place : Place) (text : List ℕ) → read_ports place (117 ∷ 112 ∷ text) ≡ read_ports place text
 unfolding has_octet
 past_up (Danh mac mode) text = refl
 past_up (RedBox mac mode) text = refl
 past_up QuadBox text = refl
 past_up (Station macs) text = refl
 
-said_behind : (place : Place) (tail : List ℕ) → opens tail ≡ true → ports_said place (tail_of (behind_space tail)) ≡ ports_said place tail
+said_behind : (place : Place) (tail : List ℕ) → opens tail ≡ true → read_ports place (tail_of (behind_space tail)) ≡ read_ports place tail
 said_behind place [] h = refl
-said_behind place (b ∷ bs) h = past_space place bs ∙ ap (λ b. ports_said place (b ∷ bs)) (sym (eqb-true b 32 h))
+said_behind place (b ∷ bs) h = past_space place bs ∙ ap (λ b. read_ports place (b ∷ bs)) (sym (eqb-true b 32 h))
 
-pub ports_behind : (place : Place) (ports : List Bool) → length ports ≡ 4 → AreExitsOf place ports → ports_said place (tail_of (behind_space (ports_text place ports))) ≡ ports
+pub ports_behind : (place : Place) (ports : List Bool) → length ports ≡ 4 → AreExitsOf place ports → read_ports place (tail_of (behind_space (ports_text place ports))) ≡ ports
 ports_behind place ports four h = said_behind place (ports_text place ports) (ports_open place ports) ∙ ports_told place ports four h
 
 pub up_open : (up : Bool) (place : Place) (ports : List Bool) → opens (up_text up ++ ports_text place ports) ≡ true
@@ -177,7 +177,7 @@ up_open true place ports = refl
 up_open false place ports = ports_open place ports
 
 pub ports_behind_up : (up : Bool) (place : Place) (ports : List Bool) → length ports ≡ 4 → AreExitsOf place ports
-    → ports_said place (tail_of (behind_space (up_text up ++ ports_text place ports))) ≡ ports
+    → read_ports place (tail_of (behind_space (up_text up ++ ports_text place ports))) ≡ ports
 ports_behind_up true place ports four h = past_up place (ports_text place ports) ∙ ports_told place ports four h
 ports_behind_up false place ports four h = ports_behind place ports four h
 

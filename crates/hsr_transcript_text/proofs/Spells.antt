@@ -22,7 +22,7 @@ use Rattle.hsr_transcript_text.proofs.WordTexts.{line_end, word_octets}
 use Rattle.hsr_transcript_text.specs.Fits.{IsPlaceFit}
 use Rattle.hsr_transcript_text.specs.Form.{only}
 use Rattle.hsr_transcript_text.specs.Lines.{head}
-use Rattle.hsr_transcript_text.specs.Parsed.{count_of, end_said, link_of, link_said, number_in, place_of, place_said, port_said, row_of, turn_of}
+use Rattle.hsr_transcript_text.specs.Parsed.{count_of, read_end, link_of, read_link, number_in, place_of, read_place, read_port, row_of, turn_of}
 use Rattle.hsr_frame.specs.Words.{mode_of, mode_word}
 use Rattle.hsr_transcript_text.specs.Readable.{IsSpelled, Lacks}
 use Rattle.hsr_transcript_text.specs.Spelled.{end_text, link_text, mac_text, octets_text, place_text, probe_text, row_text, spaced}
@@ -98,15 +98,15 @@ mac_first mac mode = cut_word 32 (mac_text mac) (mode_word mode) (mac_lacks 32 m
 
 -- a station's addresses
 station_again : (macs : List (List ℕ)) → AllByRecursion IsAddress macs → length macs ≤ 16 → 0 < length macs
-    → place_said (place_text (Station (record { items = macs }))) ≡ Some (Station (record { items = macs }))
-unfolding place_said place_text
+    → read_place (place_text (Station (record { items = macs }))) ≡ Some (Station (record { items = macs }))
+unfolding read_place place_text
 station_again [] a h k = absurd (omega arith)
 station_again (mac ∷ macs) a h k =
     let some : nat_lt 0 (length (mac ∷ macs)) ≡ true = grind (arith, nat_tests) in
     rw (macs_again 16 mac macs a h, some) refl
 
-place_again : (place : Place) → IsPlaceFit place → HasAddresses place → place_said (place_text place) ≡ Some place
-unfolding place_said place_text
+place_again : (place : Place) → IsPlaceFit place → HasAddresses place → read_place (place_text place) ≡ Some place
+unfolding read_place place_text
 place_again (Danh mac mode) a h = rw (mac_first mac mode, mac_again mac a, mode_again mode) refl
 place_again (RedBox mac mode) a h = rw (mac_first mac mode, mac_again mac a, mode_again mode) refl
 place_again QuadBox a h = refl
@@ -128,7 +128,7 @@ place_lacks (Station macs) =
 
 place_read : (place : Place) → IsPlaceFit place → HasAddresses place → place_of (place_text place) ≡ Some place
 unfolding place_of
-place_read place a h = exactly_again place_text place_said place (place_again place a h)
+place_read place a h = exactly_again place_text read_place place (place_again place a h)
 
 pub place_spelled : (place : Place) → IsPlaceFit place → HasAddresses place → IsSpelled place_of place_text place
 place_spelled place a h = record { read = place_read place a h; line = place_lacks place }
@@ -137,7 +137,7 @@ place_spelled place a h = record { read = place_read place a h; line = place_lac
 
 -- a port's letter names it, and parts no words or lines
 record IsLetter (place : Place) (port : ℕ) : Type 0 where
-  read : port_said place (letter place port ∷ []) ≡ Some port
+  read : read_port place (letter place port ∷ []) ≡ Some port
   space : (letter place port == 32) ≡ false
   feed : (letter place port == 10) ≡ false
 
@@ -159,7 +159,7 @@ letter_known (Station macs) (suc n) h = absurd (omega arith)
 
 -- an end's word is read again, and parts no words or lines
 record IsEndWord (places : List Place) (end : End) : Type 0 where
-  read : end_said places (end_text places end) ≡ Some end
+  read : read_end places (end_text places end) ≡ Some end
   space : Lacks 32 (end_text places end)
   feed : Lacks 10 (end_text places end)
 
@@ -179,8 +179,8 @@ end_word places end few node port =
       feed = lacks_more 10 (decimal end.node) (46 ∷ word) (lacks_decimal 10 end.node big (inl (omega arith))) (refl, (known.feed, tt));
     }
 
-link_again : (places : List Place) (a b : End) → IsEndWord places a → IsEndWord places b → link_said places (link_text places (a ∷ b ∷ [])) ≡ Some (a ∷ b ∷ [])
-unfolding link_said link_text
+link_again : (places : List Place) (a b : End) → IsEndWord places a → IsEndWord places b → read_link places (link_text places (a ∷ b ∷ [])) ≡ Some (a ∷ b ∷ [])
+unfolding read_link link_text
 link_again places a b first second =
     let first_cut : cut 32 (end_text places a ++ 32 ∷ end_text places b) ≡ (end_text places a, Some (end_text places b)) = cut_word 32 (end_text places a) (end_text places b) first.space in
     let second_cut : cut 32 (end_text places b) ≡ (end_text places b, None) = cut_end 32 (end_text places b) second.space in
@@ -190,9 +190,9 @@ link_lacks : (places : List Place) (a b : End) → IsEndWord places a → IsEndW
 unfolding link_text
 link_lacks places a b first second = lacks_spaced (end_text places a) (end_text places b ∷ []) first.feed (second.feed, tt)
 
-link_read : (places : List Place) (ends : List End) → link_said places (link_text places ends) ≡ Some ends → link_of places (link_text places ends) ≡ Some ends
+link_read : (places : List Place) (ends : List End) → read_link places (link_text places ends) ≡ Some ends → link_of places (link_text places ends) ≡ Some ends
 unfolding link_of
-link_read places ends e = exactly_again (link_text places) (link_said places) ends e
+link_read places ends e = exactly_again (link_text places) (read_link places) ends e
 
 pub link_spelled : (places : List Place) (ends : List End) → length places ≤ 64 → IsJoin places ends → IsSpelled (link_of places) (link_text places) ends
 link_spelled places [] few h = absurd h

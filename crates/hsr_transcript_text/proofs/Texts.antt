@@ -8,7 +8,7 @@ use Rattle.hsr_node.specs.declared.place.Place.{Place}
 use Rattle.hsr_topology.specs.declared.end.End.{End}
 use Rattle.hsr_transcript_text.specs.Form.{carried_at, carried_on, end_on, form_of, links_on, main_on, nodes_on, only, only_at, record_at, records_at, records_on, rows_at, said_at, section_at, table_on, version_at}
 use Rattle.hsr_transcript_text.specs.Lines.{head, lines_counted, lines_each, one, section, text_of}
-use Rattle.hsr_transcript_text.specs.Parsed.{count_of, entry_of, link_of, number_in, place_of, row_of, turn_of, entry_said, link_said, place_said, row_said}
+use Rattle.hsr_transcript_text.specs.Parsed.{count_of, entry_of, link_of, number_in, place_of, row_of, turn_of, read_entry, read_link, read_place, read_row}
 use Rattle.hsr_text.specs.Words.{cut, decimal_of}
 use Rattle.hsr_transcript_text.specs.Reading.{line_of, line_or}
 use Rattle.hsr_transcript_text.specs.Readable.{AreLines, FitEach, IsFixed, IsLineOf, IsSection}
@@ -23,11 +23,11 @@ use Rattle.hsr_transcript_text.proofs.Readers.{bind_both, both_by, counted_both,
 
 place_kind : Kind place_of place_text
 unfolding place_of
-place_kind = exactly_kind place_text place_said
+place_kind = exactly_kind place_text read_place
 
 link_kind : (places : List Place) → Kind (link_of places) (link_text places)
 unfolding link_of
-link_kind places = exactly_kind (link_text places) (link_said places)
+link_kind places = exactly_kind (link_text places) (read_link places)
 
 turn_kind : Kind turn_of decimal
 unfolding turn_of
@@ -35,11 +35,11 @@ turn_kind = exactly_kind decimal decimal_of
 
 entry_kind : (place : Place) → Kind (entry_of place) (entry_text place)
 unfolding entry_of
-entry_kind place = exactly_kind (entry_text place) (entry_said place)
+entry_kind place = exactly_kind (entry_text place) (read_entry place)
 
 row_kind : Kind row_of row_text
 unfolding row_of
-row_kind = exactly_kind row_text row_said
+row_kind = exactly_kind row_text read_row
 
 count_kind : (name : List ℕ) → Kind (count_of name) (head name)
 unfolding count_of

@@ -23,7 +23,7 @@ use Rattle.hsr_node.specs.declared.event.Probe.{Probe}
 use Rattle.hsr_node.specs.declared.place.Place.{Place}
 use Rattle.hsr_node.specs.declared.place.Place.TheVariants.{Danh, RedBox, QuadBox, Station}
 use Rattle.hsr_transcript_text.specs.Fits.{IsAboutFit, IsNumberFit, IsProbeFit}
-use Rattle.hsr_transcript_text.specs.Parsed.{about_said, below, cause_said, port_said, seq_said, vlan_said}
+use Rattle.hsr_transcript_text.specs.Parsed.{read_about, below, read_cause, read_port, read_seq, read_vlan}
 use Rattle.hsr_transcript_text.specs.Reading.{tested}
 use Rattle.hsr_transcript_text.proofs.Roles.{IsPortOf}
 use Rattle.hsr_transcript_text.specs.Spelled.{about_text, mac_text, probe_text, seq_text, vlan_text}
@@ -40,7 +40,7 @@ below_again bound n h k =
     let small : nat_lt n bound ≡ true = grind (arith, nat_tests, h) in
     ap (tested (λ n. nat_lt n bound)) (number_again n k) ∙ cond-true (nat_lt n bound) (Some n) None small
 
-pub seq_again : (seq : Option ℕ) → IsNumberFit seq → seq_said (seq_text seq) ≡ Some seq
+pub seq_again : (seq : Option ℕ) → IsNumberFit seq → read_seq (seq_text seq) ≡ Some seq
 seq_again None h = refl
 seq_again (Some n) h =
     cond-false (bytes_eq (decimal n) (codes "-")) (Some None) _ (no_hyphen (decimal n) (lacks_decimal 45 n (omega arith) (inl (omega arith))))
@@ -70,7 +70,7 @@ four_digits : (n : ℕ) → bytes_eq (encode_upper (pair n)) (codes "-") ≡ fal
 unfolding encode_with
 four_digits n = and_right _ _ refl
 
-pub vlan_again : (vlan : Option ℕ) → IfSome vlan (λ control. control < 2 ^ 16) → vlan_said (vlan_text vlan) ≡ Some vlan
+pub vlan_again : (vlan : Option ℕ) → IfSome vlan (λ control. control < 2 ^ 16) → read_vlan (vlan_text vlan) ≡ Some vlan
 vlan_again None h = refl
 vlan_again (Some control) h =
     cond-false (bytes_eq (encode_upper (pair control)) (codes "-")) (Some None) _ (four_digits control)
@@ -82,7 +82,7 @@ word_vlan (Some control) = word_pair control
 
 -- ---- about whom a supervision frame tells
 
-pub about_again : (about : About) → IsAboutFit about → about_said (about_text about) ≡ Some about
+pub about_again : (about : About) → IsAboutFit about → read_about (about_text about) ≡ Some about
 about_again Own h = refl
 about_again (Proxied mac) h =
     cond-false (bytes_eq (mac_text mac) (codes "own")) (Some Own) _ (not_own mac) ∙ ap (option_map Proxied) (mac_said mac h)
@@ -93,7 +93,7 @@ word_about (Proxied mac) = word_mac mac
 
 -- ---- ports, probes and causes
 
-pub port_again : (place : Place) (port : ℕ) → IsPortOf place port → (port_said place (letter place port ∷ []) ≡ Some port) × (is_word (letter place port ∷ []) ≡ true)
+pub port_again : (place : Place) (port : ℕ) → IsPortOf place port → (read_port place (letter place port ∷ []) ≡ Some port) × (is_word (letter place port ∷ []) ≡ true)
 port_again (Danh mac mode) zero h = (refl, refl)
 port_again (Danh mac mode) (suc zero) h = (refl, refl)
 port_again (Danh mac mode) (suc (suc n)) h = absurd (omega arith)
@@ -120,7 +120,7 @@ fault_digit DoubleVlan = decimal_digit 4 (omega arith)
 fault_digit ShortTag = decimal_digit 5 (omega arith)
 fault_digit NestedTag = decimal_digit 6 (omega arith)
 
-fault_again : (fault : FrameFault) → (cause_said (codes "malformed-" ++ (48 + frame_fault_code fault) ∷ []) ≡ Some (Malformed fault)) × (is_word (codes "malformed-" ++ (48 + frame_fault_code fault) ∷ []) ≡ true)
+fault_again : (fault : FrameFault) → (read_cause (codes "malformed-" ++ (48 + frame_fault_code fault) ∷ []) ≡ Some (Malformed fault)) × (is_word (codes "malformed-" ++ (48 + frame_fault_code fault) ∷ []) ≡ true)
 fault_again Short = (refl, refl)
 fault_again Long = (refl, refl)
 fault_again GroupSource = (refl, refl)
@@ -128,7 +128,7 @@ fault_again DoubleVlan = (refl, refl)
 fault_again ShortTag = (refl, refl)
 fault_again NestedTag = (refl, refl)
 
-pub cause_again : (cause : Cause) → (cause_said (cause_text (codes "-") cause) ≡ Some cause) × (is_word (cause_text (codes "-") cause) ≡ true)
+pub cause_again : (cause : Cause) → (read_cause (cause_text (codes "-") cause) ≡ Some cause) × (is_word (cause_text (codes "-") cause) ≡ true)
 cause_again Passed = (refl, refl)
 cause_again Duplicate = (refl, refl)
 cause_again Returned = (refl, refl)
@@ -138,4 +138,4 @@ cause_again Untagged = (refl, refl)
 cause_again Tagged = (refl, refl)
 cause_again (Malformed fault) =
     let text : cause_text (codes "-") (Malformed fault) ≡ codes "malformed-" ++ (48 + frame_fault_code fault) ∷ [] = ap (λ digits. codes "malformed-" ++ digits) (fault_digit fault) in
-    (ap cause_said text ∙ (fault_again fault).0, ap is_word text ∙ (fault_again fault).1)
+    (ap read_cause text ∙ (fault_again fault).0, ap is_word text ∙ (fault_again fault).1)

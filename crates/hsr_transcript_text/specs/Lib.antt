@@ -6,7 +6,7 @@ pub mod Parsed
 pub mod Form
 pub mod Items
 pub mod Plain
-pub mod Told
+pub mod CodeReads
 pub mod Readable
 pub mod Fits
 pub mod Written

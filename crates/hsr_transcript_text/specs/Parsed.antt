@@ -46,132 +46,132 @@ abbrev pub below : ℕ → List ℕ → Option ℕ
 below bound word = tested (λ n. nat_lt n bound) (decimal_of word)
 
 -- the fate of a copy that waits no more
-abbrev pub fate_said : List ℕ → Option Fate
-fate_said w = tested (λ fate. not (is_queued fate)) (fate_of w)
+abbrev pub read_fate : List ℕ → Option Fate
+read_fate w = tested (λ fate. not (is_queued fate)) (fate_of w)
 
 -- the fault behind a cause's hyphen, if there is one
-abbrev pub fault_said : Option (List ℕ) → Option (Option FrameFault)
-fault_said None = Some None
-fault_said (Some digits) = option_map Some (decimal_of digits >>= fault_of)
+abbrev pub read_fault : Option (List ℕ) → Option (Option FrameFault)
+read_fault None = Some None
+read_fault (Some digits) = option_map Some (decimal_of digits >>= fault_of)
 
-abbrev pub cause_said : List ℕ → Option Cause
-cause_said w = do
-  fault ← fault_said (cut 45 w).1
+abbrev pub read_cause : List ℕ → Option Cause
+read_cause w = do
+  fault ← read_fault (cut 45 w).1
   cause_of (cut 45 w).0 fault
 
-abbrev pub vlan_said : List ℕ → Option (Option ℕ)
-vlan_said w = if bytes_eq w (codes "-") then Some None else option_map Some (hex_pair_of w)
+abbrev pub read_vlan : List ℕ → Option (Option ℕ)
+read_vlan w = if bytes_eq w (codes "-") then Some None else option_map Some (hex_pair_of w)
 
-abbrev pub seq_said : List ℕ → Option (Option ℕ)
-seq_said w = if bytes_eq w (codes "-") then Some None else option_map Some (below (2 ^ 16) w)
+abbrev pub read_seq : List ℕ → Option (Option ℕ)
+read_seq w = if bytes_eq w (codes "-") then Some None else option_map Some (below (2 ^ 16) w)
 
-abbrev pub about_said : List ℕ → Option About
-about_said w = if bytes_eq w (codes "own") then Some Own else option_map Proxied (result_ok (address_of w))
+abbrev pub read_about : List ℕ → Option About
+read_about w = if bytes_eq w (codes "own") then Some Own else option_map Proxied (result_ok (address_of w))
 
 -- `<node>:<place>`
-abbrev pub probe_said : List ℕ → Option Probe
-probe_said w = do
+abbrev pub read_probe : List ℕ → Option Probe
+read_probe w = do
   node ← decimal_of (cut 58 w).0
   rest ← (cut 58 w).1
   place ← decimal_of rest
   Some (record { node = node; place = place })
 
 -- a port that the place has, by a word that begins with its letter
-abbrev pub port_said : Place → List ℕ → Option ℕ
-port_said place [] = None
-port_said place (c ∷ cs) = port_of place c
+abbrev pub read_port : Place → List ℕ → Option ℕ
+read_port place [] = None
+read_port place (c ∷ cs) = port_of place c
 
 -- ---- nodes and links
 
 -- addresses, at most so many
-unfoldable pub macs_said : ℕ → Option (List ℕ) → Option (List (List ℕ))
-macs_said n None = Some []
-macs_said zero (Some text) = None
-macs_said (suc n) (Some text) = do
+unfoldable pub read_macs : ℕ → Option (List ℕ) → Option (List (List ℕ))
+read_macs n None = Some []
+read_macs zero (Some text) = None
+read_macs (suc n) (Some text) = do
   mac ← result_ok (address_of (cut 32 text).0)
-  macs ← macs_said n (cut 32 text).1
+  macs ← read_macs n (cut 32 text).1
   Some (mac ∷ macs)
 
 -- an address and a mode
-abbrev pub ring_node_said : (List ℕ → Mode → Place) → Option (List ℕ) → Option Place
-ring_node_said node words = do
+abbrev pub read_ring_node : (List ℕ → Mode → Place) → Option (List ℕ) → Option Place
+read_ring_node node words = do
   address ← word_at words
   mac ← result_ok (address_of address.0)
   word ← word_at address.1
   mode ← mode_of word.0
   Some (node mac mode)
 
-abbrev pub station_said : Option (List ℕ) → Option Place
-station_said words = do
-  macs ← tested (λ macs. nat_lt 0 (length macs)) (macs_said 16 words)
+abbrev pub read_station : Option (List ℕ) → Option Place
+read_station words = do
+  macs ← tested (λ macs. nat_lt 0 (length macs)) (read_macs 16 words)
   Some (Station (record { items = macs }))
 
-abbrev pub words_said : Role → Option (List ℕ) → Option Place
-words_said role.Danh words = ring_node_said Danh words
-words_said role.RedBox words = ring_node_said RedBox words
-words_said role.QuadBox words = Some QuadBox
-words_said role.Station words = station_said words
+abbrev pub read_words : Role → Option (List ℕ) → Option Place
+read_words role.Danh words = read_ring_node Danh words
+read_words role.RedBox words = read_ring_node RedBox words
+read_words role.QuadBox words = Some QuadBox
+read_words role.Station words = read_station words
 
-unfoldable pub place_said : List ℕ → Option Place
-place_said line = do
+unfoldable pub read_place : List ℕ → Option Place
+read_place line = do
   role ← role_of (cut 32 line).0
-  words_said role (cut 32 line).1
+  read_words role (cut 32 line).1
 
 -- `<node>.<port>`, of a node that is there
-abbrev pub end_said : List Place → List ℕ → Option End
-end_said places w = do
+abbrev pub read_end : List Place → List ℕ → Option End
+read_end places w = do
   node ← tested (λ n. nat_lt n (length places)) (decimal_of (cut 46 w).0)
   rest ← (cut 46 w).1
-  port ← port_said (slice_index_or places node QuadBox) rest
+  port ← read_port (slice_index_or places node QuadBox) rest
   Some (record { node = node; port = port })
 
-unfoldable pub link_said : List Place → List ℕ → Option (List End)
-link_said places line = do
+unfoldable pub read_link : List Place → List ℕ → Option (List End)
+read_link places line = do
   first ← word_at (Some line)
-  a ← end_said places first.0
+  a ← read_end places first.0
   second ← word_at first.1
-  b ← end_said places second.0
+  b ← read_end places second.0
   Some (a ∷ b ∷ [])
 
 -- ---- entries
 
-abbrev pub send_said : Option (List ℕ) → Option (Event × Option (List ℕ))
-send_said words = do
+abbrev pub read_send : Option (List ℕ) → Option (Event × Option (List ℕ))
+read_send words = do
   first ← word_at words
   from ← below 256 first.0
   second ← word_at first.1
   dst ← result_ok (address_of second.0)
   third ← word_at second.1
-  vlan ← vlan_said third.0
+  vlan ← read_vlan third.0
   fourth ← word_at third.1
   kind ← hex_pair_of fourth.0
   fifth ← word_at fourth.1
   payload ← hex_octets_of fifth.0
   Some (Send from dst vlan kind payload, fifth.1)
 
-abbrev pub life_said : Option (List ℕ) → Option (Event × Option (List ℕ))
-life_said words = do
+abbrev pub read_life : Option (List ℕ) → Option (Event × Option (List ℕ))
+read_life words = do
   word ← word_at words
-  about ← about_said word.0
+  about ← read_about word.0
   Some (Supervise about, word.1)
 
-abbrev pub arrive_said : Place → Option (List ℕ) → Option (Event × Option (List ℕ))
-arrive_said place words = do
+abbrev pub read_arrive : Place → Option (List ℕ) → Option (Event × Option (List ℕ))
+read_arrive place words = do
   first ← word_at words
-  port ← port_said place first.0
+  port ← read_port place first.0
   second ← word_at first.1
-  probe ← probe_said second.0
+  probe ← read_probe second.0
   third ← word_at second.1
   octets ← hex_octets_of third.0
   Some (Arrive port (record { probe = Some probe; octets = octets }), third.1)
 
 -- an event, and what follows it
-unfoldable pub event_said : Place → Option (List ℕ) → Option (Event × Option (List ℕ))
-event_said place words = do
+unfoldable pub read_event : Place → Option (List ℕ) → Option (Event × Option (List ℕ))
+read_event place words = do
   verb ← word_at words
   word_of
-      ((bytes_eq verb.0 (codes "send"), send_said verb.1) ∷ (bytes_eq verb.0 (codes "life"), life_said verb.1)
-      ∷ (bytes_eq verb.0 (codes "arrive"), arrive_said place verb.1) ∷ (bytes_eq verb.0 (codes "age"), Some (Age, verb.1)) ∷ [])
+      ((bytes_eq verb.0 (codes "send"), read_send verb.1) ∷ (bytes_eq verb.0 (codes "life"), read_life verb.1)
+      ∷ (bytes_eq verb.0 (codes "arrive"), read_arrive place verb.1) ∷ (bytes_eq verb.0 (codes "age"), Some (Age, verb.1)) ∷ [])
 
 -- whether an octet is among others
 unfoldable pub has_octet : ℕ → List ℕ → Bool
@@ -181,81 +181,81 @@ has_octet c text = list_any (λ b. b == c) text
 abbrev pub has_letter : Place → List ℕ → ℕ → Bool
 has_letter place text port = if nat_lt port (ports place) then has_octet (letter place port) text else false
 
-abbrev pub ports_said : Place → List ℕ → List Bool
-ports_said place text = has_letter place text 0 ∷ has_letter place text 1 ∷ has_letter place text 2 ∷ has_letter place text 3 ∷ []
+abbrev pub read_ports : Place → List ℕ → List Bool
+read_ports place text = has_letter place text 0 ∷ has_letter place text 1 ∷ has_letter place text 2 ∷ has_letter place text 3 ∷ []
 
 -- what follows, if something does
 abbrev pub tail_of : Option (List ℕ) → List ℕ
 tail_of None = []
 tail_of (Some text) = text
 
-abbrev pub sent_said : Place → Option (List ℕ) → Option Outcome
-sent_said place words = do
+abbrev pub read_sent : Place → Option (List ℕ) → Option Outcome
+read_sent place words = do
   word ← word_at words
-  seq ← seq_said word.0
-  Some (Sent seq (ports_said place (tail_of word.1)))
+  seq ← read_seq word.0
+  Some (Sent seq (read_ports place (tail_of word.1)))
 
-abbrev pub lived_said : Place → Option (List ℕ) → Option Outcome
-lived_said place words = do
+abbrev pub read_lived : Place → Option (List ℕ) → Option Outcome
+read_lived place words = do
   first ← word_at words
   seq ← below (2 ^ 16) first.0
   second ← word_at first.1
   life ← below (2 ^ 16) second.0
-  Some (Life seq life (ports_said place (tail_of second.1)))
+  Some (Life seq life (read_ports place (tail_of second.1)))
 
-abbrev pub judged_said : Place → Option (List ℕ) → Option Outcome
-judged_said place words = do
+abbrev pub read_judged : Place → Option (List ℕ) → Option Outcome
+read_judged place words = do
   first ← word_at words
-  cause ← cause_said first.0
+  cause ← read_cause first.0
   second ← word_at first.1
-  seq ← seq_said second.0
-  Some (Judged (has_octet 117 (tail_of second.1)) (ports_said place (tail_of second.1)) seq cause)
+  seq ← read_seq second.0
+  Some (Judged (has_octet 117 (tail_of second.1)) (read_ports place (tail_of second.1)) seq cause)
 
-unfoldable pub outcome_said : Place → Option (List ℕ) → Option Outcome
-outcome_said place words = do
+unfoldable pub read_outcome : Place → Option (List ℕ) → Option Outcome
+read_outcome place words = do
   verb ← word_at words
   word_of
-      ((bytes_eq verb.0 (codes "sent"), sent_said place verb.1) ∷ (bytes_eq verb.0 (codes "life"), lived_said place verb.1)
-      ∷ (bytes_eq verb.0 (codes "judged"), judged_said place verb.1) ∷ (bytes_eq verb.0 (codes "aged"), Some Aged) ∷ [])
+      ((bytes_eq verb.0 (codes "sent"), read_sent place verb.1) ∷ (bytes_eq verb.0 (codes "life"), read_lived place verb.1)
+      ∷ (bytes_eq verb.0 (codes "judged"), read_judged place verb.1) ∷ (bytes_eq verb.0 (codes "aged"), Some Aged) ∷ [])
 
-unfoldable pub entry_said : Place → List ℕ → Option Entry
-entry_said place line = do
+unfoldable pub read_entry : Place → List ℕ → Option Entry
+read_entry place line = do
   first ← word_at (Some line)
   worker ← below (2 ^ 16) first.0
   second ← word_at first.1
   at ← decimal_of second.0
-  event ← event_said place second.1
+  event ← read_event place second.1
   equals ← word_at event.1
-  outcome ← outcome_said place equals.1
+  outcome ← read_outcome place equals.1
   Some (record { worker = worker; at = at; event = event.0; outcome = outcome })
 
 -- ---- rows
 
-unfoldable pub row_said : List ℕ → Option Row
-row_said line = do
+unfoldable pub read_row : List ℕ → Option Row
+read_row line = do
   first ← word_at (Some line)
   dir ← dir_of first.0
   second ← word_at first.1
-  probe ← probe_said second.0
+  probe ← read_probe second.0
   third ← word_at second.1
   octets ← hex_octets_of third.0
   fourth ← word_at third.1
-  fate ← fate_said fourth.0
+  fate ← read_fate fourth.0
   Some (record { dir = dir; carried = record { probe = Some probe; octets = octets }; injected = false; fate = fate })
 
 -- ---- lines
 
 unfoldable pub place_of : List ℕ → Option Place
-place_of line = exactly place_text place_said line
+place_of line = exactly place_text read_place line
 
 unfoldable pub link_of : List Place → List ℕ → Option (List End)
-link_of places line = exactly (link_text places) (link_said places) line
+link_of places line = exactly (link_text places) (read_link places) line
 
 unfoldable pub entry_of : Place → List ℕ → Option Entry
-entry_of place line = exactly (entry_text place) (entry_said place) line
+entry_of place line = exactly (entry_text place) (read_entry place) line
 
 unfoldable pub row_of : List ℕ → Option Row
-row_of line = exactly row_text row_said line
+row_of line = exactly row_text read_row line
 
 abbrev pub number_in : Option (List ℕ) → Option ℕ
 number_in None = None

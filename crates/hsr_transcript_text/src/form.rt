@@ -4,7 +4,7 @@ ghost use Rattle.hsr_transcript_text.specs.Form.{carried_on, end_on, form_of, li
 ghost use Rattle.hsr_transcript_text.specs.Lines.{head, line_count};
 ghost use Rattle.hsr_transcript_text.specs.Items.{entries_of, rows_of};
 ghost use Rattle.hsr_transcript_text.specs.Plain.{plain_view};
-ghost use Rattle.hsr_transcript_text.specs.Told.{Gives, Says};
+ghost use Rattle.hsr_transcript_text.specs.CodeReads.{Gives, Says};
 
 use crate::fault::ReadFault;
 use crate::places::{LinkLine, NumberLine, PlaceLine};

@@ -9,7 +9,7 @@ ghost use Rattle.hsr_frame.specs.Words.{mode_word};
 ghost use Rattle.hsr_node.specs.Words.{role_word};
 
 use crate::lines::LineKind;
-use crate::said::port_said;
+use crate::parsing::read_port;
 use crate::words::{mac_fits, put_mac, put_number, put_word};
 use arrayvec::ArrayVec;
 use hsr_frame::{Mac, Mode};
@@ -91,7 +91,12 @@ fn put_place(alloc: Global, text: &mut Vec<u8>, place: &Place) -> Result<(), All
         Place::Danh { mac, mode } => put_ring_node(alloc, text, Role::Danh, *mac, *mode),
         Place::RedBox { mac, mode } => put_ring_node(alloc, text, Role::RedBox, *mac, *mode),
         Place::QuadBox => text.extend_from_slice(Role::QuadBox.word().as_bytes()),
-        Place::Station { macs } => put_station(alloc, text, Role::Station.word().as_bytes(), macs.as_slice()),
+        Place::Station { macs } => put_station(
+            alloc,
+            text,
+            Role::Station.word().as_bytes(),
+            macs.as_slice(),
+        ),
     }
 }
 
@@ -131,9 +136,9 @@ fn put_link(text: &mut Vec<u8>, places: &[Place], ends: &[End; 2]) -> Result<(),
 }
 
 /// An address and a mode.
-fn ring_node_said(rest: Option<&[u8]>) -> Option<(Mac, Mode)>
-    ensures danh { option_map (λ n. Danh n.0 n.1) result ≡ ring_node_said Danh (option_map (λ s. s.now) rest.entry) }
-    ensures redbox { option_map (λ n. RedBox n.0 n.1) result ≡ ring_node_said RedBox (option_map (λ s. s.now) rest.entry) }
+fn read_ring_node(rest: Option<&[u8]>) -> Option<(Mac, Mode)>
+    ensures danh { option_map (λ n. Danh n.0 n.1) result ≡ read_ring_node Danh (option_map (λ s. s.now) rest.entry) }
+    ensures redbox { option_map (λ n. RedBox n.0 n.1) result ≡ read_ring_node RedBox (option_map (λ s. s.now) rest.entry) }
 {
     let (address, rest) = word(rest)?;
     let mac = Mac::from_ascii(address).ok()?;
@@ -143,8 +148,8 @@ fn ring_node_said(rest: Option<&[u8]>) -> Option<(Mac, Mode)>
 }
 
 /// Addresses, at most sixteen.
-fn macs_said(rest: Option<&[u8]>) -> Option<ArrayVec<Mac, 16>>
-    ensures { option_map (λ macs. macs.items) result ≡ macs_said 16 (option_map (λ s. s.now) rest.entry) }
+fn read_macs(rest: Option<&[u8]>) -> Option<ArrayVec<Mac, 16>>
+    ensures { option_map (λ macs. macs.items) result ≡ read_macs 16 (option_map (λ s. s.now) rest.entry) }
 {
     let mut macs = ArrayVec::<Mac, 16>::new();
     let mut left = rest;
@@ -159,10 +164,10 @@ fn macs_said(rest: Option<&[u8]>) -> Option<ArrayVec<Mac, 16>>
 }
 
 /// The addresses of a station, of which it has at least one.
-fn station_said(rest: Option<&[u8]>) -> Option<Place>
-    ensures { result ≡ station_said (option_map (λ s. s.now) rest.entry) }
+fn read_station(rest: Option<&[u8]>) -> Option<Place>
+    ensures { result ≡ read_station (option_map (λ s. s.now) rest.entry) }
 {
-    let macs = macs_said(rest)?;
+    let macs = read_macs(rest)?;
     if macs.is_empty() {
         return None;
     }
@@ -170,45 +175,45 @@ fn station_said(rest: Option<&[u8]>) -> Option<Place>
 }
 
 /// What the line of a node says.
-#[tactic(auto, unfolding(crate::specs::Parsed::place_said))]
-fn place_said(line: &[u8]) -> Option<Place>
-    ensures { result ≡ place_said line.now }
+#[tactic(auto, unfolding(crate::specs::Parsed::read_place))]
+fn read_place(line: &[u8]) -> Option<Place>
+    ensures { result ≡ read_place line.now }
 {
     let (role, rest) = word(Some(line))?;
     match Role::from_word(role)? {
         Role::Danh => {
-            let (mac, mode) = ring_node_said(rest)?;
+            let (mac, mode) = read_ring_node(rest)?;
             Some(Place::Danh { mac, mode })
         }
         Role::RedBox => {
-            let (mac, mode) = ring_node_said(rest)?;
+            let (mac, mode) = read_ring_node(rest)?;
             Some(Place::RedBox { mac, mode })
         }
         Role::QuadBox => Some(Place::QuadBox),
-        Role::Station => station_said(rest),
+        Role::Station => read_station(rest),
     }
 }
 
 /// An end of a link between two of these nodes.
-fn end_said(places: &[Place], word: &[u8]) -> Option<End>
-    ensures { result ≡ end_said places.now word.now }
+fn read_end(places: &[Place], word: &[u8]) -> Option<End>
+    ensures { result ≡ read_end places.now word.now }
 {
     let (digits, rest) = split_at(word, b'.');
     let node = decimal(digits)? as usize;
     let place = places.get(node)?;
-    let port = port_said(place, rest?)?;
+    let port = read_port(place, rest?)?;
     Some(End { node, port })
 }
 
 /// What the line of a link says.
-#[tactic(auto, unfolding(crate::specs::Parsed::link_said))]
-fn link_said(places: &[Place], line: &[u8]) -> Option<[End; 2]>
-    ensures { result ≡ link_said places.now line.now }
+#[tactic(auto, unfolding(crate::specs::Parsed::read_link))]
+fn read_link(places: &[Place], line: &[u8]) -> Option<[End; 2]>
+    ensures { result ≡ read_link places.now line.now }
 {
     let (first, rest) = word(Some(line))?;
-    let a = end_said(places, first)?;
+    let a = read_end(places, first)?;
     let (second, _) = word(rest)?;
-    let b = end_said(places, second)?;
+    let b = read_end(places, second)?;
     Some([a, b])
 }
 
@@ -223,19 +228,19 @@ fn number_behind(line: &[u8]) -> Option<u64>
 ghost use Rattle.std.specs.Prelude.{option_map, Option, List, ℕ};
 ghost use Rattle.hsr_text.specs.Words.{cut, decimal_of};
 ghost use Rattle.hsr_node.specs.declared.place.Place.TheVariants.{Danh, RedBox};
-ghost use Rattle.hsr_transcript_text.specs.Parsed.{end_said, link_said, macs_said, number_in, place_said, ring_node_said, station_said};
+ghost use Rattle.hsr_transcript_text.specs.Parsed.{read_end, read_link, read_macs, number_in, read_place, read_ring_node, read_station};
 ghost use Rattle.hsr_transcript_text.specs.Lines.{head};
 
 impl LineKind for PlaceLine {
     ghost use Rattle.hsr_transcript_text.specs.Fits.{IsPlaceFit};
     ghost use Rattle.hsr_transcript_text.specs.Spelled.{place_text};
-    ghost use Rattle.hsr_transcript_text.specs.Parsed.{place_said};
+    ghost use Rattle.hsr_transcript_text.specs.Parsed.{read_place};
 
     type Value = Place;
 
     ghost spelled = { λ _. place_text };
 
-    ghost said = { λ _. place_said };
+    ghost said = { λ _. read_place };
 
     ghost fits = { λ _. IsPlaceFit };
 
@@ -244,19 +249,19 @@ impl LineKind for PlaceLine {
     }
 
     fn parse(&self, _alloc: Global, line: &[u8]) -> Result<Place, WordFault> {
-        place_said(line).ok_or(WordFault::Bad)
+        read_place(line).ok_or(WordFault::Bad)
     }
 }
 
 impl<'a> LineKind for LinkLine<'a> {
     ghost use Rattle.hsr_transcript_text.specs.Spelled.{link_text};
-    ghost use Rattle.hsr_transcript_text.specs.Parsed.{link_said};
+    ghost use Rattle.hsr_transcript_text.specs.Parsed.{read_link};
 
     type Value = [End; 2];
 
     ghost spelled = { λ s. link_text s.places.now };
 
-    ghost said = { λ s. link_said s.places.now };
+    ghost said = { λ s. read_link s.places.now };
 
     ghost fits = { λ _ _. Unit {0} };
 
@@ -265,7 +270,7 @@ impl<'a> LineKind for LinkLine<'a> {
     }
 
     fn parse(&self, _alloc: Global, line: &[u8]) -> Result<[End; 2], WordFault> {
-        link_said(self.places, line).ok_or(WordFault::Bad)
+        read_link(self.places, line).ok_or(WordFault::Bad)
     }
 }
 

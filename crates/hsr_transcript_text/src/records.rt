@@ -4,13 +4,13 @@ ghost use Rattle.hsr_transcript_text.specs.Fits.{IsEntryFit, IsEventFit, IsOutco
 ghost use Rattle.hsr_transcript_text.specs.Spelled.{entry_text, event_text, outcome_text, port_text, ports_text, up_text};
 
 use crate::lines::LineKind;
-use crate::said::{
-    about_said, cause_said, has_octet, number_said, octet_said, port_said, ports_said, probe_said,
-    seq_said, tail_of, vlan_said,
+use crate::parsing::{
+    has_octet, read_about, read_cause, read_number, read_octet, read_port, read_ports, read_probe,
+    read_seq, read_vlan, tail_of,
 };
 use crate::words::{
-    about_fits, carried_fits, mac_fits, put_about, put_cause, put_mac, put_number,
-    put_octets, put_hex_u16, put_probe, put_seq, put_vlan, put_word,
+    about_fits, carried_fits, mac_fits, put_about, put_cause, put_hex_u16, put_mac, put_number,
+    put_octets, put_probe, put_seq, put_vlan, put_word,
 };
 use hsr_frame::Mac;
 use hsr_node::{Carried, Entry, Event, Octets, Outcome, Place};
@@ -152,15 +152,15 @@ fn put_entry(
 }
 
 /// `<from> <dst> <vlan4> <type4> <payload>`
-fn send_said(alloc: Global, rest: Option<&[u8]>) -> Result<(Event, Option<&[u8]>), WordFault>
-    ensures { Gives (λ e. (e.0, option_map (λ s. s.now) e.1)) result (send_said (option_map (λ s. s.now) rest.entry)) }
+fn read_send(alloc: Global, rest: Option<&[u8]>) -> Result<(Event, Option<&[u8]>), WordFault>
+    ensures { Gives (λ e. (e.0, option_map (λ s. s.now) e.1)) result (read_send (option_map (λ s. s.now) rest.entry)) }
 {
     let (from, rest) = word(rest).ok_or(WordFault::Bad)?;
-    let from = octet_said(from).ok_or(WordFault::Bad)?;
+    let from = read_octet(from).ok_or(WordFault::Bad)?;
     let (dst, rest) = word(rest).ok_or(WordFault::Bad)?;
     let dst = Mac::from_ascii(dst).ok().ok_or(WordFault::Bad)?;
     let (vlan, rest) = word(rest).ok_or(WordFault::Bad)?;
-    let vlan = vlan_said(vlan).ok_or(WordFault::Bad)?;
+    let vlan = read_vlan(vlan).ok_or(WordFault::Bad)?;
     let (kind, rest) = word(rest).ok_or(WordFault::Bad)?;
     let kind = hex_pair(kind).ok_or(WordFault::Bad)?;
     let (payload, rest) = word(rest).ok_or(WordFault::Bad)?;
@@ -176,26 +176,26 @@ fn send_said(alloc: Global, rest: Option<&[u8]>) -> Result<(Event, Option<&[u8]>
 }
 
 /// `own`, or an address
-fn life_said(rest: Option<&[u8]>) -> Option<(Event, Option<&[u8]>)>
-    ensures { option_map (λ e. (e.0, option_map (λ s. s.now) e.1)) result ≡ life_said (option_map (λ s. s.now) rest.entry) }
+fn read_life(rest: Option<&[u8]>) -> Option<(Event, Option<&[u8]>)>
+    ensures { option_map (λ e. (e.0, option_map (λ s. s.now) e.1)) result ≡ read_life (option_map (λ s. s.now) rest.entry) }
 {
     let (about, rest) = word(rest)?;
-    let about = about_said(about)?;
+    let about = read_about(about)?;
     Some((Event::Supervise(about), rest))
 }
 
 /// `<port> <probe> <octets>`
-fn arrive_said<'a>(
+fn read_arrive<'a>(
     alloc: Global,
     place: &Place,
     rest: Option<&'a [u8]>,
 ) -> Result<(Event, Option<&'a [u8]>), WordFault>
-    ensures { Gives (λ e. (e.0, option_map (λ s. s.now) e.1)) result (arrive_said place.now (option_map (λ s. s.now) rest.entry)) }
+    ensures { Gives (λ e. (e.0, option_map (λ s. s.now) e.1)) result (read_arrive place.now (option_map (λ s. s.now) rest.entry)) }
 {
     let (port, rest) = word(rest).ok_or(WordFault::Bad)?;
-    let port = port_said(place, port).ok_or(WordFault::Bad)?;
+    let port = read_port(place, port).ok_or(WordFault::Bad)?;
     let (probe, rest) = word(rest).ok_or(WordFault::Bad)?;
-    let probe = Some(probe_said(probe).ok_or(WordFault::Bad)?);
+    let probe = Some(read_probe(probe).ok_or(WordFault::Bad)?);
     let (octets, rest) = word(rest).ok_or(WordFault::Bad)?;
     let octets = Octets::new(hex_octets(alloc, octets)?);
     let carried = Carried { probe, octets };
@@ -203,23 +203,23 @@ fn arrive_said<'a>(
 }
 
 /// What the words of an event say, and the words behind it.
-#[tactic(auto, unfolding(crate::specs::Parsed::event_said))]
-fn event_said<'a>(
+#[tactic(auto, unfolding(crate::specs::Parsed::read_event))]
+fn read_event<'a>(
     alloc: Global,
     place: &Place,
     rest: Option<&'a [u8]>,
 ) -> Result<(Event, Option<&'a [u8]>), WordFault>
-    ensures { Gives (λ e. (e.0, option_map (λ s. s.now) e.1)) result (event_said place.now (option_map (λ s. s.now) rest.entry)) }
+    ensures { Gives (λ e. (e.0, option_map (λ s. s.now) e.1)) result (read_event place.now (option_map (λ s. s.now) rest.entry)) }
 {
     let (verb, rest) = word(rest).ok_or(WordFault::Bad)?;
     if verb == b"send".as_slice() {
-        return send_said(alloc, rest);
+        return read_send(alloc, rest);
     }
     if verb == b"life".as_slice() {
-        return life_said(rest).ok_or(WordFault::Bad);
+        return read_life(rest).ok_or(WordFault::Bad);
     }
     if verb == b"arrive".as_slice() {
-        return arrive_said(alloc, place, rest);
+        return read_arrive(alloc, place, rest);
     }
     if verb == b"age".as_slice() {
         return Ok((Event::Age, rest));
@@ -228,38 +228,38 @@ fn event_said<'a>(
 }
 
 /// `<seq>` and ports
-fn sent_said(place: &Place, rest: Option<&[u8]>) -> Option<Outcome>
-    ensures { result ≡ sent_said place.now (option_map (λ s. s.now) rest.entry) }
+fn read_sent(place: &Place, rest: Option<&[u8]>) -> Option<Outcome>
+    ensures { result ≡ read_sent place.now (option_map (λ s. s.now) rest.entry) }
 {
     let (seq, rest) = word(rest)?;
-    let seq = seq_said(seq)?;
-    let ports = ports_said(place, tail_of(rest));
+    let seq = read_seq(seq)?;
+    let ports = read_ports(place, tail_of(rest));
     Some(Outcome::Sent { seq, ports })
 }
 
 /// `<seq> <life>` and ports
-fn lived_said(place: &Place, rest: Option<&[u8]>) -> Option<Outcome>
-    ensures { result ≡ lived_said place.now (option_map (λ s. s.now) rest.entry) }
+fn read_lived(place: &Place, rest: Option<&[u8]>) -> Option<Outcome>
+    ensures { result ≡ read_lived place.now (option_map (λ s. s.now) rest.entry) }
 {
     let (seq, rest) = word(rest)?;
-    let seq = number_said(seq)?;
+    let seq = read_number(seq)?;
     let (life, rest) = word(rest)?;
-    let life = number_said(life)?;
-    let ports = ports_said(place, tail_of(rest));
+    let life = read_number(life)?;
+    let ports = read_ports(place, tail_of(rest));
     Some(Outcome::Life { seq, life, ports })
 }
 
 /// `<cause> <seq>`, whether it went up, and ports
-fn judged_said(place: &Place, rest: Option<&[u8]>) -> Option<Outcome>
-    ensures { result ≡ judged_said place.now (option_map (λ s. s.now) rest.entry) }
+fn read_judged(place: &Place, rest: Option<&[u8]>) -> Option<Outcome>
+    ensures { result ≡ read_judged place.now (option_map (λ s. s.now) rest.entry) }
 {
     let (cause, rest) = word(rest)?;
-    let cause = cause_said(cause)?;
+    let cause = read_cause(cause)?;
     let (seq, rest) = word(rest)?;
-    let seq = seq_said(seq)?;
+    let seq = read_seq(seq)?;
     let tail = tail_of(rest);
     let up = has_octet(b'u', tail);
-    let ports = ports_said(place, tail);
+    let ports = read_ports(place, tail);
     Some(Outcome::Judged {
         up,
         ports,
@@ -269,19 +269,19 @@ fn judged_said(place: &Place, rest: Option<&[u8]>) -> Option<Outcome>
 }
 
 /// What the words of an outcome say.
-#[tactic(auto, unfolding(crate::specs::Parsed::outcome_said))]
-fn outcome_said(place: &Place, rest: Option<&[u8]>) -> Option<Outcome>
-    ensures { result ≡ outcome_said place.now (option_map (λ s. s.now) rest.entry) }
+#[tactic(auto, unfolding(crate::specs::Parsed::read_outcome))]
+fn read_outcome(place: &Place, rest: Option<&[u8]>) -> Option<Outcome>
+    ensures { result ≡ read_outcome place.now (option_map (λ s. s.now) rest.entry) }
 {
     let (verb, rest) = word(rest)?;
     if verb == b"sent".as_slice() {
-        return sent_said(place, rest);
+        return read_sent(place, rest);
     }
     if verb == b"life".as_slice() {
-        return lived_said(place, rest);
+        return read_lived(place, rest);
     }
     if verb == b"judged".as_slice() {
-        return judged_said(place, rest);
+        return read_judged(place, rest);
     }
     if verb == b"aged".as_slice() {
         return Some(Outcome::Aged);
@@ -290,17 +290,17 @@ fn outcome_said(place: &Place, rest: Option<&[u8]>) -> Option<Outcome>
 }
 
 /// What the line of an entry says.
-#[tactic(auto, unfolding(crate::specs::Parsed::entry_said))]
-fn entry_said(alloc: Global, place: &Place, line: &[u8]) -> Result<Entry, WordFault>
-    ensures { Gives (λ e. e) result (entry_said place.now line.now) }
+#[tactic(auto, unfolding(crate::specs::Parsed::read_entry))]
+fn read_entry(alloc: Global, place: &Place, line: &[u8]) -> Result<Entry, WordFault>
+    ensures { Gives (λ e. e) result (read_entry place.now line.now) }
 {
     let (worker, rest) = word(Some(line)).ok_or(WordFault::Bad)?;
-    let worker = number_said(worker).ok_or(WordFault::Bad)?;
+    let worker = read_number(worker).ok_or(WordFault::Bad)?;
     let (at, rest) = word(rest).ok_or(WordFault::Bad)?;
     let at = decimal(at).ok_or(WordFault::Bad)?;
-    let (event, rest) = event_said(alloc, place, rest)?;
+    let (event, rest) = read_event(alloc, place, rest)?;
     let (_, rest) = word(rest).ok_or(WordFault::Bad)?;
-    let outcome = outcome_said(place, rest).ok_or(WordFault::Bad)?;
+    let outcome = read_outcome(place, rest).ok_or(WordFault::Bad)?;
     Ok(Entry {
         worker,
         at,
@@ -311,7 +311,7 @@ fn entry_said(alloc: Global, place: &Place, line: &[u8]) -> Result<Entry, WordFa
 
 ghost use Rattle.std.specs.Prelude.{option_map};
 ghost use Rattle.hsr_text.specs.Words.{Gives};
-ghost use Rattle.hsr_transcript_text.specs.Parsed.{arrive_said, entry_said, event_said, judged_said, life_said, lived_said, outcome_said, send_said, sent_said};
+ghost use Rattle.hsr_transcript_text.specs.Parsed.{read_arrive, read_entry, read_event, read_judged, read_life, read_lived, read_outcome, read_send, read_sent};
 
 /// What the types tell of a send.
 fn send_fits(from: u8, dst: Mac, vlan: Option<u16>, kind: u16, payload: &[u8])
@@ -356,13 +356,13 @@ fn entry_fits(entry: &Entry)
 impl<'a> LineKind for EntryLine<'a> {
     ghost use Rattle.hsr_transcript_text.specs.Fits.{IsEntryFit};
     ghost use Rattle.hsr_transcript_text.specs.Spelled.{entry_text};
-    ghost use Rattle.hsr_transcript_text.specs.Parsed.{entry_said};
+    ghost use Rattle.hsr_transcript_text.specs.Parsed.{read_entry};
 
     type Value = Entry;
 
     ghost spelled = { λ s. entry_text s.place.now };
 
-    ghost said = { λ s. entry_said s.place.now };
+    ghost said = { λ s. read_entry s.place.now };
 
     ghost fits = { λ _. IsEntryFit };
 
@@ -372,6 +372,6 @@ impl<'a> LineKind for EntryLine<'a> {
     }
 
     fn parse(&self, alloc: Global, line: &[u8]) -> Result<Entry, WordFault> {
-        entry_said(alloc, self.place, line)
+        read_entry(alloc, self.place, line)
     }
 }

@@ -3,7 +3,7 @@ ghost use Rattle.std.specs.Prelude.{◌≡◌, ◌++◌, OnOk};
 ghost use Rattle.hsr_transcript_text.specs.Spelled.{row_text};
 
 use crate::lines::LineKind;
-use crate::said::{fate_said, probe_said};
+use crate::parsing::{read_fate, read_probe};
 use crate::words::{carried_fits, put_octets, put_probe, put_word};
 use hsr_link::{Dir, Row};
 use hsr_node::{Carried, Octets};
@@ -26,18 +26,18 @@ fn put_row(text: &mut Vec<u8>, row: &Row) -> Result<(), AllocError>
 }
 
 /// What the line of a row says.
-#[tactic(auto, unfolding(crate::specs::Parsed::row_said))]
-fn row_said(alloc: Global, line: &[u8]) -> Result<Row, WordFault>
-    ensures { Gives (λ r. r) result (row_said line.now) }
+#[tactic(auto, unfolding(crate::specs::Parsed::read_row))]
+fn read_row(alloc: Global, line: &[u8]) -> Result<Row, WordFault>
+    ensures { Gives (λ r. r) result (read_row line.now) }
 {
     let (dir, rest) = word(Some(line)).ok_or(WordFault::Bad)?;
     let dir = Dir::from_word(dir).ok_or(WordFault::Bad)?;
     let (probe, rest) = word(rest).ok_or(WordFault::Bad)?;
-    let probe = Some(probe_said(probe).ok_or(WordFault::Bad)?);
+    let probe = Some(read_probe(probe).ok_or(WordFault::Bad)?);
     let (octets, rest) = word(rest).ok_or(WordFault::Bad)?;
     let octets = Octets::new(hex_octets(alloc, octets)?);
     let (fate, _) = word(rest).ok_or(WordFault::Bad)?;
-    let fate = fate_said(fate).ok_or(WordFault::Bad)?;
+    let fate = read_fate(fate).ok_or(WordFault::Bad)?;
     Ok(Row {
         dir,
         carried: Carried { probe, octets },
@@ -47,18 +47,18 @@ fn row_said(alloc: Global, line: &[u8]) -> Result<Row, WordFault>
 }
 
 ghost use Rattle.hsr_text.specs.Words.{Gives};
-ghost use Rattle.hsr_transcript_text.specs.Parsed.{row_said};
+ghost use Rattle.hsr_transcript_text.specs.Parsed.{read_row};
 
 impl LineKind for RowLine {
     ghost use Rattle.hsr_transcript_text.specs.Fits.{IsRowFit};
     ghost use Rattle.hsr_transcript_text.specs.Spelled.{row_text};
-    ghost use Rattle.hsr_transcript_text.specs.Parsed.{row_said};
+    ghost use Rattle.hsr_transcript_text.specs.Parsed.{read_row};
 
     type Value = Row;
 
     ghost spelled = { λ _. row_text };
 
-    ghost said = { λ _. row_said };
+    ghost said = { λ _. read_row };
 
     ghost fits = { λ _. IsRowFit };
 
@@ -68,6 +68,6 @@ impl LineKind for RowLine {
     }
 
     fn parse(&self, alloc: Global, line: &[u8]) -> Result<Row, WordFault> {
-        row_said(alloc, line)
+        read_row(alloc, line)
     }
 }

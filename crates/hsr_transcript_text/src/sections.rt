@@ -2,7 +2,7 @@
 ghost use Rattle.std.specs.Prelude.{◌≡◌, ◌+◌, ◌≤◌, ◌<◌, ◌^◌, List, Option, ℕ, codes, length, IfOk, OnOk};
 ghost use Rattle.hsr_transcript_text.specs.Form.{only_at, section_at, version_at};
 ghost use Rattle.hsr_transcript_text.specs.Reading.{exactly, line_at, line_of, many as many_at};
-ghost use Rattle.hsr_transcript_text.specs.Told.{Ends, Gives};
+ghost use Rattle.hsr_transcript_text.specs.CodeReads.{Ends, Gives};
 ghost use Rattle.hsr_transcript_text.specs.declared.fault.ReadFault.TheVariants.{BadLine, Version};
 
 use crate::fault::ReadFault;
@@ -12,6 +12,9 @@ use arrayvec::ArrayVec;
 use hsr_text::{Front, WordFault, next_line};
 use std::alloc::Global;
 use std::io::Read;
+
+/// The most octets of a line, without its line feed.
+const LINE_LIMIT: usize = 8192;
 
 /// How many reads are left, and the number of the next line.
 #[derive(Clone, Copy, Debug)]
@@ -25,7 +28,7 @@ pub(crate) struct Progress {
 fn next<R: Read>(
     reader: &mut R,
     progress: &mut Progress,
-    line: &mut ArrayVec<u8, 8192>,
+    line: &mut ArrayVec<u8, LINE_LIMIT>,
 ) -> Result<(), ReadFault>
     requires { progress.old.number + progress.old.reads < 2 ^ 64 }
     ensures given { Gives (λ _. line.new.items) (R.remaining reader.old) (R.remaining reader.new) progress.old.number progress.new.number result (line_at BadLine) }
@@ -64,7 +67,7 @@ pub(crate) fn one<R: Read, K: LineKind>(
     ensures numbered { OnOk result (progress.new.number ≡ progress.old.number + 1) }
 {
     let number = progress.number;
-    let mut text = ArrayVec::<u8, 8192>::new();
+    let mut text = ArrayVec::<u8, LINE_LIMIT>::new();
     match next(reader, progress, &mut text) {
         Ok(()) => match read_line(kind, alloc, text.as_slice()) {
             Ok(value) => Ok(value),

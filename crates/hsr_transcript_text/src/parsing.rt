@@ -1,6 +1,6 @@
 //! The words of lines, read.
 ghost use Rattle.std.specs.Prelude.{◌≡◌, ◌<◌, ◌++◌, ◌^◌, ℕ, length, option_map};
-ghost use Rattle.hsr_transcript_text.specs.Parsed.{about_said, below, cause_said, fate_said, fault_said, has_letter, has_octet, port_said, ports_said, probe_said, seq_said, tail_of, vlan_said};
+ghost use Rattle.hsr_transcript_text.specs.Parsed.{read_about, below, read_cause, read_fate, read_fault, has_letter, has_octet, read_port, read_ports, read_probe, read_seq, tail_of, read_vlan};
 
 use hsr_frame::{About, Cause, FrameFault, Mac};
 use hsr_link::Fate;
@@ -8,7 +8,7 @@ use hsr_node::{Place, Probe};
 use hsr_text::{decimal, hex_pair, split_at};
 
 /// A number of 16 bits.
-pub(crate) fn number_said(word: &[u8]) -> Option<u16>
+pub(crate) fn read_number(word: &[u8]) -> Option<u16>
     ensures { result ≡ below (2 ^ 16) word.now }
 {
     let n = decimal(word)?;
@@ -16,7 +16,7 @@ pub(crate) fn number_said(word: &[u8]) -> Option<u16>
 }
 
 /// A number of 8 bits.
-pub(crate) fn octet_said(word: &[u8]) -> Option<u8>
+pub(crate) fn read_octet(word: &[u8]) -> Option<u8>
     ensures { result ≡ below 256 word.now }
 {
     let n = decimal(word)?;
@@ -24,8 +24,8 @@ pub(crate) fn octet_said(word: &[u8]) -> Option<u8>
 }
 
 /// The fate of a copy that waits no more.
-pub(crate) fn fate_said(word: &[u8]) -> Option<Fate>
-    ensures { result ≡ fate_said word.now }
+pub(crate) fn read_fate(word: &[u8]) -> Option<Fate>
+    ensures { result ≡ read_fate word.now }
 {
     match Fate::from_word(word)? {
         Fate::Queued => None,
@@ -34,8 +34,8 @@ pub(crate) fn fate_said(word: &[u8]) -> Option<Fate>
 }
 
 /// The fault behind a cause's hyphen, if there is one.
-fn fault_said(digits: Option<&[u8]>) -> Option<Option<FrameFault>>
-    ensures { result ≡ fault_said (option_map (λ s. s.now) digits.entry) }
+fn read_fault(digits: Option<&[u8]>) -> Option<Option<FrameFault>>
+    ensures { result ≡ read_fault (option_map (λ s. s.now) digits.entry) }
 {
     match digits {
         None => Some(None),
@@ -47,16 +47,16 @@ fn fault_said(digits: Option<&[u8]>) -> Option<Option<FrameFault>>
 }
 
 /// Why an arrival went where it did.
-pub(crate) fn cause_said(word: &[u8]) -> Option<Cause>
-    ensures { result ≡ cause_said word.now }
+pub(crate) fn read_cause(word: &[u8]) -> Option<Cause>
+    ensures { result ≡ read_cause word.now }
 {
     let (word, digits) = split_at(word, b'-');
-    Cause::from_word(word, fault_said(digits)?)
+    Cause::from_word(word, read_fault(digits)?)
 }
 
 /// A VLAN tag's control information, or a hyphen.
-pub(crate) fn vlan_said(word: &[u8]) -> Option<Option<u16>>
-    ensures { result ≡ vlan_said word.now }
+pub(crate) fn read_vlan(word: &[u8]) -> Option<Option<u16>>
+    ensures { result ≡ read_vlan word.now }
 {
     if word == b"-".as_slice() {
         return Some(None);
@@ -66,19 +66,19 @@ pub(crate) fn vlan_said(word: &[u8]) -> Option<Option<u16>>
 }
 
 /// The number of a frame, or a hyphen.
-pub(crate) fn seq_said(word: &[u8]) -> Option<Option<u16>>
-    ensures { result ≡ seq_said word.now }
+pub(crate) fn read_seq(word: &[u8]) -> Option<Option<u16>>
+    ensures { result ≡ read_seq word.now }
 {
     if word == b"-".as_slice() {
         return Some(None);
     }
-    let seq = number_said(word)?;
+    let seq = read_number(word)?;
     Some(Some(seq))
 }
 
 /// The node that a supervision frame is about.
-pub(crate) fn about_said(word: &[u8]) -> Option<About>
-    ensures { result ≡ about_said word.now }
+pub(crate) fn read_about(word: &[u8]) -> Option<About>
+    ensures { result ≡ read_about word.now }
 {
     if word == b"own".as_slice() {
         return Some(About::Own);
@@ -88,8 +88,8 @@ pub(crate) fn about_said(word: &[u8]) -> Option<About>
 }
 
 /// The entry of a send.
-pub(crate) fn probe_said(word: &[u8]) -> Option<Probe>
-    ensures { result ≡ probe_said word.now }
+pub(crate) fn read_probe(word: &[u8]) -> Option<Probe>
+    ensures { result ≡ read_probe word.now }
 {
     let (node, rest) = split_at(word, b':');
     let node = decimal(node)?;
@@ -101,8 +101,8 @@ pub(crate) fn probe_said(word: &[u8]) -> Option<Probe>
 }
 
 /// A port of this place, by a word that begins with its letter.
-pub(crate) fn port_said(place: &Place, word: &[u8]) -> Option<u8>
-    ensures { result ≡ port_said place.now word.now }
+pub(crate) fn read_port(place: &Place, word: &[u8]) -> Option<u8>
+    ensures { result ≡ read_port place.now word.now }
 {
     place.port(*word.first()?)
 }
@@ -127,8 +127,8 @@ fn has_letter(place: &Place, text: &[u8], port: u8) -> bool
 }
 
 /// The ports of this place whose letters are among these octets.
-pub(crate) fn ports_said(place: &Place, text: &[u8]) -> [bool; 4]
-    ensures { result ≡ ports_said place.now text.now }
+pub(crate) fn read_ports(place: &Place, text: &[u8]) -> [bool; 4]
+    ensures { result ≡ read_ports place.now text.now }
 {
     [
         has_letter(place, text, 0),

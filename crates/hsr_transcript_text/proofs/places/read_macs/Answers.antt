@@ -3,7 +3,7 @@ use Rattle.std.proofs.lemmas.Bool.Decides.{nat_tests}
 use Rattle.std.specs.Result.{result_ok}
 use Rattle.hsr_frame.specs.Address.{address_of}
 use Rattle.hsr_transcript_text.proofs.Macs.{macs_full, macs_bad, macs_more, macs_done}
-use Rattle.hsr_transcript_text.proofs.places.macs_said.Goals as goal
+use Rattle.hsr_transcript_text.proofs.places.read_macs.Goals as goal
 
 pub returns-then-is_full : goal.returns-then-is_full
 returns-then-is_full c =
