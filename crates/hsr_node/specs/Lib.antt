@@ -8,3 +8,4 @@ pub mod Flow
 pub mod Kept
 pub mod Holds
 pub mod Words
+pub mod Refusal

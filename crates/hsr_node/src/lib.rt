@@ -12,6 +12,7 @@ mod pass;
 mod place;
 mod quadbox;
 mod redbox;
+mod refusal;
 mod role;
 mod sending;
 mod side;

@@ -1,4 +1,6 @@
 //! The lines of a text, and the words of a line.
+//!
+//! Its modules, in the order to read them: `lines`, `words`.
 #![tactic(auto)]
 
 mod lines;
