@@ -1,4 +1,6 @@
 //! A finished run as text, written and read again.
+//!
+//! Its modules, in the order to read them: `reading`, `order`, `replay`, `ready`, `judge`.
 #![tactic(auto)]
 
 mod judge;

@@ -151,7 +151,7 @@ fn put_entry(
     put_outcome(text, place, &entry.outcome)
 }
 
-/// `<from> <dst> <vlan4> <type4> <payload>`
+/// What the words of a send say, `<from> <dst> <vlan4> <type4> <payload>`, and the words behind them.
 fn read_send(alloc: Global, rest: Option<&[u8]>) -> Result<(Event, Option<&[u8]>), WordFault>
     ensures { Gives (λ e. (e.0, option_map (λ s. s.now) e.1)) result (read_send (option_map (λ s. s.now) rest.entry)) }
 {
@@ -175,7 +175,7 @@ fn read_send(alloc: Global, rest: Option<&[u8]>) -> Result<(Event, Option<&[u8]>
     Ok((event, rest))
 }
 
-/// `own`, or an address
+/// What the word of a supervision says, `own` or an address, and the words behind it.
 fn read_life(rest: Option<&[u8]>) -> Option<(Event, Option<&[u8]>)>
     ensures { option_map (λ e. (e.0, option_map (λ s. s.now) e.1)) result ≡ read_life (option_map (λ s. s.now) rest.entry) }
 {
@@ -184,7 +184,7 @@ fn read_life(rest: Option<&[u8]>) -> Option<(Event, Option<&[u8]>)>
     Some((Event::Supervise(about), rest))
 }
 
-/// `<port> <probe> <octets>`
+/// What the words of an arrival at this place say, `<port> <probe> <octets>`, and the words behind them.
 fn read_arrive<'a>(
     alloc: Global,
     place: &Place,
@@ -227,7 +227,7 @@ fn read_event<'a>(
     Err(WordFault::Bad)
 }
 
-/// `<seq>` and ports
+/// What the words of a send's outcome say: `<seq>` and the ports.
 fn read_sent(place: &Place, rest: Option<&[u8]>) -> Option<Outcome>
     ensures { result ≡ read_sent place.now (option_map (λ s. s.now) rest.entry) }
 {
@@ -237,7 +237,7 @@ fn read_sent(place: &Place, rest: Option<&[u8]>) -> Option<Outcome>
     Some(Outcome::Sent { seq, ports })
 }
 
-/// `<seq> <life>` and ports
+/// What the words of a supervision's outcome say: `<seq> <life>` and the ports.
 fn read_lived(place: &Place, rest: Option<&[u8]>) -> Option<Outcome>
     ensures { result ≡ read_lived place.now (option_map (λ s. s.now) rest.entry) }
 {
@@ -249,7 +249,7 @@ fn read_lived(place: &Place, rest: Option<&[u8]>) -> Option<Outcome>
     Some(Outcome::Life { seq, life, ports })
 }
 
-/// `<cause> <seq>`, whether it went up, and ports
+/// What the words of an arrival's outcome say: `<cause> <seq>`, whether it went up, and the ports.
 fn read_judged(place: &Place, rest: Option<&[u8]>) -> Option<Outcome>
     ensures { result ≡ read_judged place.now (option_map (λ s. s.now) rest.entry) }
 {
