@@ -5,7 +5,7 @@ use Rattle.toml.specs.Data.{Members}
 use Rattle.toml.specs.View.{table_view}
 use Rattle.toml.specs.declared.value.Value.{Value}
 use Rattle.hsr_topology.specs.declared.end.End.{End}
-use Rattle.hsr_scenario.specs.Told.{◌>>=◌, FailsAt, Gives, GivesAt, at_spot, each}
+use Rattle.hsr_scenario.specs.Fallible.{◌>>=◌, FailsAt, Gives, GivesAt, at_spot, each}
 use Rattle.hsr_scenario.specs.Nodes.{node_in}
 use Rattle.hsr_scenario.specs.Links.{link_in}
 use Rattle.hsr_scenario.specs.Steps.{order_in}

@@ -1,5 +1,5 @@
 pub mod Fault
-pub mod Told
+pub mod Fallible
 pub mod Tables
 pub mod Words
 pub mod Nodes

@@ -1,11 +1,10 @@
 -- What the table of a link says.
-use Rattle.std.specs.Prelude.{ℕ, ◌==◌, List, [], ◌∷◌, Option, Some, None, option_map, Result, ok_or, if◌then◌else◌, position, slice_get}
+use Rattle.std.specs.Prelude.{ℕ, List, [], ◌∷◌, Option, Some, None, option_map, Result, ok_or, if◌then◌else◌, position, slice_get}
 use Rattle.std.specs.Str.{bytes_eq}
 use Rattle.toml.specs.Data.{Data, Members}
 use Rattle.hsr_topology.specs.declared.end.End.{End}
-use Rattle.hsr_node.specs.declared.place.Place.{Place}
-use Rattle.hsr_node.specs.declared.place.Place.TheVariants.{Danh, RedBox, QuadBox, Station}
-use Rattle.hsr_scenario.specs.Told.{◌>>=◌}
+use Rattle.hsr_node.specs.Words.{port_of}
+use Rattle.hsr_scenario.specs.Fallible.{◌>>=◌}
 use Rattle.hsr_scenario.specs.Tables.{each_of, needed, only, texts, word}
 use Rattle.hsr_scenario.specs.Words.{end_of, name_of}
 use Rattle.hsr_scenario.specs.declared.fault.Key.{Key}
@@ -19,17 +18,6 @@ use Rattle.hsr_scenario.specs.declared.nodes.Named.{Named}
 -- the number of the node that has the name
 abbrev pub node_named : List Named → List ℕ → Option ℕ
 node_named nodes name = position (λ node. bytes_eq node.name name) nodes
-
--- A and B are the ring ports
-abbrev pub ring_port : ℕ → Option ℕ
-ring_port letter = if letter == 65 then Some 0 else (if letter == 66 then Some 1 else None)
-
--- the number of the port that a role has under a letter: I is a RedBox's, C and D are a QuadBox's, P is a Station's
-abbrev pub port_of : Place → ℕ → Option ℕ
-port_of (Danh mac mode) letter = ring_port letter
-port_of (RedBox mac mode) letter = if letter == 73 then Some 2 else ring_port letter
-port_of QuadBox letter = if letter == 67 then Some 2 else (if letter == 68 then Some 3 else ring_port letter)
-port_of (Station macs) letter = if letter == 80 then Some 0 else None
 
 abbrev pub port_at : Option Named → ℕ → Option ℕ
 port_at None letter = None

@@ -5,7 +5,7 @@ use Rattle.toml.specs.Parse.{parse_document}
 use Rattle.hsr_topology.specs.Topology.{Topology, made}
 use Rattle.hsr_topology.specs.declared.end.End.{End}
 use Rattle.hsr_topology.specs.declared.fault.TopologyFault.{TopologyFault}
-use Rattle.hsr_scenario.specs.Told.{◌>>=◌, at_spot, each}
+use Rattle.hsr_scenario.specs.Fallible.{◌>>=◌, at_spot, each}
 use Rattle.hsr_scenario.specs.Tables.{between, only, optional, tables}
 use Rattle.hsr_scenario.specs.Nodes.{node_in}
 use Rattle.hsr_scenario.specs.Links.{link_in}

@@ -3,20 +3,22 @@ use Rattle.std.specs.Prelude.{ℕ, nat_le, Bool, List, [], ◌∷◌, length, Op
 use Rattle.std.specs.List.{list_any}
 use Rattle.std.specs.Str.{bytes_eq}
 use Rattle.toml.specs.Data.{Data, Members}
+use Rattle.hsr_frame.specs.Words.{mode_of}
 use Rattle.hsr_frame.specs.declared.node.Mode.{Mode}
 use Rattle.hsr_frame.specs.declared.node.Mode.TheVariants.{H}
+use Rattle.hsr_node.specs.Words.{role_of}
 use Rattle.hsr_node.specs.declared.place.Place.{Place}
 use Rattle.hsr_node.specs.declared.place.Place.TheVariants.{Danh, RedBox, QuadBox, Station}
-use Rattle.hsr_scenario.specs.Told.{◌>>=◌}
+use Rattle.hsr_scenario.specs.Fallible.{◌>>=◌}
 use Rattle.hsr_scenario.specs.Tables.{each_of, needed, only, optional, texts, word}
-use Rattle.hsr_scenario.specs.Words.{mac_of, mode_of, name_of, role_of}
+use Rattle.hsr_scenario.specs.Words.{mac_of, name_of}
 use Rattle.hsr_scenario.specs.declared.fault.Key.{Key}
 use Rattle.hsr_scenario.specs.declared.fault.Key.TheVariants as key
 use Rattle.hsr_scenario.specs.declared.fault.What.{What}
 use Rattle.hsr_scenario.specs.declared.fault.What.TheVariants.{BadValue, NameTwice}
 use Rattle.hsr_scenario.specs.declared.nodes.Named.{Named}
-use Rattle.hsr_scenario.specs.declared.words.Role.{Role}
-use Rattle.hsr_scenario.specs.declared.words.Role.TheVariants as role
+use Rattle.hsr_node.specs.declared.role.Role.{Role}
+use Rattle.hsr_node.specs.declared.role.Role.TheVariants as role
 
 -- one of the nodes has the name
 abbrev pub is_taken : List Named → List ℕ → Bool

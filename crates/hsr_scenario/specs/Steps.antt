@@ -5,9 +5,10 @@ use Rattle.hsr_frame.specs.declared.node.About.{About}
 use Rattle.hsr_frame.specs.declared.node.About.TheVariants.{Own, Proxied}
 use Rattle.hsr_step.specs.declared.step.Step.{Step}
 use Rattle.hsr_step.specs.declared.step.Step.TheVariants.{Clock, Send, Supervise, Age, Put, Take, Judge, Cut, Mend, Inject}
-use Rattle.hsr_scenario.specs.Told.{◌>>=◌}
+use Rattle.hsr_scenario.specs.Fallible.{◌>>=◌}
 use Rattle.hsr_scenario.specs.Tables.{between, integer, moment, needed, only, optional, word}
-use Rattle.hsr_scenario.specs.Words.{deed_of, dir_of, mac_of, octets_of}
+use Rattle.hsr_scenario.specs.Words.{deed_of, mac_of, octets_of}
+use Rattle.hsr_link.specs.Words.{dir_of}
 use Rattle.hsr_scenario.specs.Links.{used_end, used_name}
 use Rattle.hsr_scenario.specs.declared.fault.Key.{Key}
 use Rattle.hsr_scenario.specs.declared.fault.Key.TheVariants as key

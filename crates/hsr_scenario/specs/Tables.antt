@@ -4,7 +4,7 @@ use Rattle.std.specs.List.{list_any}
 use Rattle.std.specs.Str.{bytes_eq}
 use Rattle.toml.specs.Data.{Data, Members, no_members, member, Items, no_items, item, get_member, as_str, as_integer, as_array, as_table}
 use Rattle.hsr_scenario.specs.Fault.{key_text}
-use Rattle.hsr_scenario.specs.Told.{◌>>=◌, guard}
+use Rattle.hsr_scenario.specs.Fallible.{◌>>=◌, guard}
 use Rattle.hsr_scenario.specs.declared.fault.Key.{Key}
 use Rattle.hsr_scenario.specs.declared.fault.What.{What}
 use Rattle.hsr_scenario.specs.declared.fault.What.TheVariants.{Missing, Unknown, WrongKind, BadValue}

@@ -6,14 +6,8 @@ use Rattle.std.specs.Str.{bytes_eq}
 use Rattle.hex.specs.Hex.{decode_of}
 use Rattle.hsr_frame.specs.Address.{address_of}
 use Rattle.hsr_text.specs.Words.{cut}
-use Rattle.hsr_frame.specs.declared.node.Mode.{Mode}
-use Rattle.hsr_frame.specs.declared.node.Mode.TheVariants.{H, N}
-use Rattle.hsr_link.specs.declared.row.Dir.{Dir}
-use Rattle.hsr_link.specs.declared.row.Dir.TheVariants.{Forth, Back}
 use Rattle.hsr_scenario.specs.declared.words.Deed.{Deed}
 use Rattle.hsr_scenario.specs.declared.words.Deed.TheVariants as deed
-use Rattle.hsr_scenario.specs.declared.words.Role.{Role}
-use Rattle.hsr_scenario.specs.declared.words.Role.TheVariants as role
 
 -- ---- names
 
@@ -44,16 +38,6 @@ end_of s = end_if (cut 46 s).0 (cut 46 s).1
 abbrev pub spelled : {A : Type 0} → List (List ℕ × A) → List ℕ → Option A
 spelled [] s = None
 spelled (row ∷ rows) s = if bytes_eq s row.0 then Some row.1 else spelled rows s
-
-abbrev pub role_of : List ℕ → Option Role
-role_of s = spelled (
-    (codes "danh", role.Danh) ∷ (codes "redbox", role.RedBox) ∷ (codes "quadbox", role.QuadBox) ∷ (codes "station", role.Station) ∷ []) s
-
-abbrev pub mode_of : List ℕ → Option Mode
-mode_of s = spelled ((codes "H", H) ∷ (codes "N", N) ∷ []) s
-
-abbrev pub dir_of : List ℕ → Option Dir
-dir_of s = spelled ((codes "forth", Forth) ∷ (codes "back", Back) ∷ []) s
 
 abbrev pub deed_of : List ℕ → Option Deed
 deed_of s = spelled (

@@ -1,4 +1,6 @@
 //! Scenarios: the nodes and links of a bench and the steps that it takes, written in TOML.
+//!
+//! Its modules, in the order to read them: `fault`, `table`, `words`, `name`, `nodes`, `links`, `steps`, `scenario`, `reading`.
 #![tactic(auto)]
 
 mod fault;
@@ -12,6 +14,6 @@ mod table;
 mod words;
 
 pub use fault::{Key, ScenarioFault, Spot, What};
-pub use reading::read;
+pub use reading::{TEXT_LIMIT, read};
 pub use scenario::Scenario;
 pub use steps::Order;

@@ -1,16 +1,15 @@
 //! The links of a scenario, and the names of nodes and ends that are used.
 ghost use Rattle.std.specs.Prelude.{◌≡◌, ◌∷◌, []};
 ghost use Rattle.toml.specs.View.{view, table_view};
-ghost use Rattle.hsr_scenario.specs.Told.{Gives};
+ghost use Rattle.hsr_scenario.specs.Fallible.{Gives};
 ghost use Rattle.hsr_scenario.specs.Tables.{needed};
-ghost use Rattle.hsr_scenario.specs.Links.{end_named, ends, ends_of, link_in, node_named, port_of, ring_port, used_end, used_name};
+ghost use Rattle.hsr_scenario.specs.Links.{end_named, ends, ends_of, link_in, node_named, used_end, used_name};
 ghost use Rattle.hsr_scenario.specs.declared.fault.Key.TheVariants as key;
 
 use crate::fault::{Key, What};
 use crate::nodes::Named;
 use crate::table::{needed, only, text, texts};
 use crate::words::{end_of, is_name};
-use hsr_node::Place;
 use hsr_topology::End;
 use std::alloc::Global;
 use toml::{Table, Value};
@@ -22,40 +21,13 @@ fn node_named(nodes: &[Named], name: &[u8]) -> Option<usize>
     nodes.iter().position(|node| node.name.as_bytes() == name)
 }
 
-/// The number of a port on the ring.
-fn ring_port(letter: u8) -> Option<u8>
-    ensures { result ≡ ring_port letter }
-{
-    match letter {
-        b'A' => Some(0),
-        b'B' => Some(1),
-        _ => None,
-    }
-}
-
-/// The number of the port that has the letter, of a node of that kind.
-fn port_of(place: &Place, letter: u8) -> Option<u8>
-    ensures { result ≡ port_of place.now letter }
-{
-    match (place, letter) {
-        (Place::Danh { .. }, _) => ring_port(letter),
-        (Place::RedBox { .. }, b'I') => Some(2),
-        (Place::RedBox { .. }, _) => ring_port(letter),
-        (Place::QuadBox, b'C') => Some(2),
-        (Place::QuadBox, b'D') => Some(3),
-        (Place::QuadBox, _) => ring_port(letter),
-        (Place::Station { .. }, b'P') => Some(0),
-        (Place::Station { .. }, _) => None,
-    }
-}
-
 /// The port of that letter, of the node that has the name.
 fn end_named(nodes: &[Named], name: &[u8], letter: u8) -> Option<End>
     ensures { result ≡ end_named nodes.now (name.now, letter) }
 {
     match node_named(nodes, name) {
         Some(node) => match nodes.get(node) {
-            Some(named) => match port_of(&named.place, letter) {
+            Some(named) => match named.place.port(letter) {
                 Some(port) => Some(End { node, port }),
                 None => None,
             },

@@ -1,6 +1,6 @@
 //! The names of nodes.
 ghost use Rattle.std.specs.Prelude.{◌≡◌};
-ghost use Rattle.hsr_scenario.specs.Told.{Gives};
+ghost use Rattle.hsr_scenario.specs.Fallible.{Gives};
 
 use crate::fault::What;
 use std::alloc::Global;

@@ -1,9 +1,11 @@
 //! The nodes of a scenario.
 ghost use Rattle.std.specs.Prelude.{◌≡◌, ◌≤◌, ◌++◌, ◌∷◌, [], length, map, take, option_map};
 ghost use Rattle.toml.specs.View.{view, table_view};
-ghost use Rattle.hsr_scenario.specs.Told.{Gives};
+ghost use Rattle.hsr_scenario.specs.Fallible.{Gives};
 ghost use Rattle.hsr_scenario.specs.Tables.{each_of, needed, optional, word};
-ghost use Rattle.hsr_scenario.specs.Words.{mac_of, mode_of, role_of};
+ghost use Rattle.hsr_frame.specs.Words.{mode_of};
+ghost use Rattle.hsr_node.specs.Words.{role_of};
+ghost use Rattle.hsr_scenario.specs.Words.{mac_of};
 ghost use Rattle.hsr_scenario.specs.Nodes.{is_taken, macs, macs_of, new_name, node_in, quadbox, ring_node, station};
 ghost use Rattle.hsr_scenario.specs.declared.fault.Key.TheVariants as key;
 ghost use Rattle.hsr_node.specs.declared.place.Place.TheVariants as place;
@@ -12,10 +14,10 @@ ghost use Rattle.hsr_frame.specs.declared.node.Mode.TheVariants.{H};
 use crate::fault::{Key, What};
 use crate::name::Name;
 use crate::table::{needed, only, text, texts, value};
-use crate::words::{Role, is_name, mode_of, role_of};
+use crate::words::is_name;
 use arrayvec::ArrayVec;
 use hsr_frame::{Mac, Mode};
-use hsr_node::Place;
+use hsr_node::{Place, Role};
 use std::alloc::Global;
 use toml::{Table, Value};
 
@@ -70,7 +72,7 @@ fn mode(table: &Table) -> Result<Mode, What>
 {
     match value(table, Key::Mode) {
         None => Ok(Mode::H),
-        Some(value) => match mode_of(text(Key::Mode, value)?) {
+        Some(value) => match Mode::from_word(text(Key::Mode, value)?.as_bytes()) {
             Some(mode) => Ok(mode),
             None => Err(What::BadValue(Key::Mode)),
         },
@@ -170,7 +172,7 @@ fn station(alloc: Global, nodes: &[Named], table: &Table) -> Result<Named, What>
 fn role(table: &Table) -> Result<Role, What>
     ensures { Gives (λ r. r) result (needed key.Role (word role_of) (table_view table.now)) }
 {
-    match role_of(text(Key::Role, needed(table, Key::Role)?)?) {
+    match Role::from_word(text(Key::Role, needed(table, Key::Role)?)?.as_bytes()) {
         Some(role) => Ok(role),
         None => Err(What::BadValue(Key::Role)),
     }

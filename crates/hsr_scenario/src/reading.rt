@@ -1,7 +1,7 @@
 //! How a text is read as a scenario.
 ghost use Rattle.std.specs.Prelude.{◌≡◌, ◌≤◌, [], map, length, IfOk, Ok};
 ghost use Rattle.toml.specs.View.{table_view};
-ghost use Rattle.hsr_scenario.specs.Told.{Gives, GivesAt, at_spot, each};
+ghost use Rattle.hsr_scenario.specs.Fallible.{Gives, GivesAt, at_spot, each};
 ghost use Rattle.hsr_scenario.specs.Tables.{between, optional, tables};
 ghost use Rattle.hsr_scenario.specs.Nodes.{node_in};
 ghost use Rattle.hsr_scenario.specs.Links.{link_in};
@@ -22,10 +22,13 @@ use std::alloc::Global;
 use toml::Table;
 
 /// The most octets of a text: 16 MiB.
-const MOST_OCTETS: usize = 1 << 24;
+pub const TEXT_LIMIT: usize = 1 << 24;
 
 /// How many copies wait in each direction of a link, where a text doesn't say.
 const CAPACITY: usize = 64;
+
+/// How many copies may wait in each direction of a link.
+const CAPACITY_LIMIT: u64 = 4096;
 
 /// A fault with its place.
 fn at_spot<T>(spot: Spot, told: Result<T, What>) -> Result<T, ScenarioFault>
@@ -248,7 +251,7 @@ fn capacity(table: &Table) -> Result<usize, What>
     match value(table, Key::Capacity) {
         None => Ok(CAPACITY),
         Some(value) => {
-            let capacity = between(1, 4096, Key::Capacity, value)?;
+            let capacity = between(1, CAPACITY_LIMIT, Key::Capacity, value)?;
             Ok(capacity as usize)
         }
     }
@@ -304,7 +307,7 @@ fn text_fault(what: What) -> Result<Scenario, ScenarioFault>
 pub fn read(alloc: Global, text: &str) -> Result<Scenario, ScenarioFault>
     ensures { GivesAt scenario_view result (meaning text.now) }
 {
-    if text.len() > MOST_OCTETS {
+    if text.len() > TEXT_LIMIT {
         return text_fault(What::Text);
     }
     match toml::table_from_str(alloc, text) {

@@ -1,9 +1,10 @@
 //! The steps of a scenario.
 ghost use Rattle.std.specs.Prelude.{◌≡◌, ◌≤◌, [], IfOk, None, option_map};
 ghost use Rattle.toml.specs.View.{view, table_view};
-ghost use Rattle.hsr_scenario.specs.Told.{Gives};
+ghost use Rattle.hsr_scenario.specs.Fallible.{Gives};
 ghost use Rattle.hsr_scenario.specs.Tables.{between, moment, natural, needed, optional, word};
-ghost use Rattle.hsr_scenario.specs.Words.{deed_of, dir_of, mac_of, octets_of};
+ghost use Rattle.hsr_scenario.specs.Words.{deed_of, mac_of, octets_of};
+ghost use Rattle.hsr_link.specs.Words.{dir_of};
 ghost use Rattle.hsr_scenario.specs.Steps.{age, at_link, at_port, clock, drain, inject, life, link_numbered, order_in, order_of, perhaps, send, stepped, take, used_link};
 ghost use Rattle.hsr_scenario.specs.declared.fault.Key.TheVariants as key;
 ghost use Rattle.hsr_step.specs.declared.step.Step.TheVariants as step;
@@ -12,7 +13,7 @@ use crate::fault::{Key, What};
 use crate::links::{used_node, used_port};
 use crate::nodes::{Named, mac};
 use crate::table::{between, integer, needed, only, text, value};
-use crate::words::{Deed, deed_of, dir_of};
+use crate::words::{Deed, deed_of};
 use hex::FromHexError;
 use hsr_frame::{About, Mac};
 use hsr_link::Dir;
@@ -68,7 +69,7 @@ fn used_link(links: usize, table: &Table) -> Result<usize, What>
 fn dir(table: &Table) -> Result<Dir, What>
     ensures { Gives (λ d. d) result (needed key.Dir (word dir_of) (table_view table.now)) }
 {
-    match dir_of(text(Key::Dir, needed(table, Key::Dir)?)?) {
+    match Dir::from_word(text(Key::Dir, needed(table, Key::Dir)?)?.as_bytes()) {
         Some(dir) => Ok(dir),
         None => Err(What::BadValue(Key::Dir)),
     }

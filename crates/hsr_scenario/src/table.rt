@@ -5,7 +5,7 @@ ghost use Rattle.std.specs.List.{list_all, list_any};
 ghost use Rattle.std.specs.Map.{keys_of};
 ghost use Rattle.toml.specs.View.{view, array_view, table_view};
 ghost use Rattle.hsr_scenario.specs.Fault.{key_text};
-ghost use Rattle.hsr_scenario.specs.Told.{Gives};
+ghost use Rattle.hsr_scenario.specs.Fallible.{Gives};
 ghost use Rattle.hsr_scenario.specs.Tables.{at_key, between, has_only, in_range, integer, items, only, present, tables, text, texts};
 
 use crate::fault::{Key, What};

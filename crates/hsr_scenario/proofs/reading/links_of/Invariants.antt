@@ -1,6 +1,6 @@
 use Rattle.std.proofs.Common.{◌≡◌, [], drop, map}
 use Rattle.toml.specs.View.{table_view}
-use Rattle.hsr_scenario.specs.Told.{each}
+use Rattle.hsr_scenario.specs.Fallible.{each}
 use Rattle.hsr_scenario.specs.Links.{link_in}
 use Rattle.hsr_scenario.specs.declared.fault.Spot.TheVariants.{Link}
 use Rattle.hsr_scenario.proofs.reading.links_of.Given as goal

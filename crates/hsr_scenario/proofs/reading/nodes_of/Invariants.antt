@@ -1,6 +1,6 @@
 use Rattle.std.proofs.Common.{◌≡◌, [], drop, map}
 use Rattle.toml.specs.View.{table_view}
-use Rattle.hsr_scenario.specs.Told.{each}
+use Rattle.hsr_scenario.specs.Fallible.{each}
 use Rattle.hsr_scenario.specs.Nodes.{node_in}
 use Rattle.hsr_scenario.specs.declared.fault.Spot.TheVariants.{Node}
 use Rattle.hsr_scenario.proofs.reading.nodes_of.Given as goal

@@ -1,4 +1,4 @@
--- Steps that may fail, and what code told of them.
+-- Readings that may fail, one after another, and what code gives of them.
 use Rattle.std.specs.Prelude.{◌≡◌, ℕ, Bool, ⊤, List, [], ◌∷◌, ◌++◌, length, Result, Ok, Err, if◌then◌else◌}
 use Rattle.toml.specs.Data.{Members}
 use Rattle.hsr_scenario.specs.declared.fault.Spot.{Spot}
