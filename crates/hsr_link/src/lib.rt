@@ -1,4 +1,9 @@
 //! Links: two queues of copies, and what became of each copy that was put on them.
+//!
+//! Its modules, in the order in which to read them:
+//! - `row`: what a link tells of each copy
+//! - `queue`: the copies that wait in one direction
+//! - `link`: the link and its calls
 #![tactic(auto)]
 
 mod link;

@@ -63,7 +63,8 @@ impl Link {
         self.add(dir, carried, false)
     }
 
-    /// Puts a copy that no port sent: as `put`, but its row says that it was injected.
+    /// Puts a copy that no port sent, whose row says so, and tells what became of it: Queued, LostDown on a cut link, or
+    /// LostOverrun where its queue is full. `NoMemory` where room is refused: then nothing changes, and the copy comes back.
     pub fn inject(&mut self, dir: Dir, carried: Carried) -> Result<Fate, (Carried, NoMemory)>
         ensures ok { IfOk result (λ fate. (fate, self.new) ≡ inject_step self.old dir carried) }
         ensures err { IfErr result (λ e. (self.new ≡ self.old) × (e.0 ≡ carried)) }
@@ -71,6 +72,7 @@ impl Link {
         self.add(dir, carried, true)
     }
 
+    /// Adds the row of a copy that was put or injected, and lets the copy wait if it is Queued.
     fn add(
         &mut self,
         dir: Dir,

@@ -1,4 +1,20 @@
 //! One type for all kinds of node: where a node stands, what happens to it, and what leaves it by each port.
+//!
+//! Its modules, in the order in which to read them:
+//! - `place`: what kind of node stands at a place
+//! - `octets`: octets that are owned
+//! - `event`: what happens to a node, and what it answers
+//! - `entry`: what a record holds
+//! - `station`: a node that sends plain frames
+//! - `danh`: the events of a DANH
+//! - `redbox`: the events of a RedBox
+//! - `quadbox`: the events of a QuadBox
+//! - `node`: a node of any kind
+//! - `side`: what the ports of a place lead to
+//! - `sending`: the frames that a node sends of its own
+//! - `copies`: what leaves a node by a port, and what goes up
+//! - `kept`: a node with its record
+//! - `pass`: what a worker was answered
 #![tactic(auto)]
 
 mod copies;

@@ -1,53 +1,48 @@
 -- The lines that answer a request, and the line of counters.
-use Rattle.std.specs.Prelude.{ℕ, Bool, List, [], ◌∷◌, ◌++◌, length, codes, Result, Ok, Err, if◌then◌else◌}
+use Rattle.std.specs.Prelude.{ℕ, Bool, List, [], ◌∷◌, ◌++◌, length, codes, Option, Some, None, Result, Ok, Err, if◌then◌else◌}
 use Rattle.std.specs.Fmt.{decimal}
 use Rattle.hex.specs.Hex.{encode_upper}
 use Rattle.hsr_frame.specs.Counters.{dropped}
 use Rattle.hsr_frame.specs.Fault.{send_fault_code}
-use Rattle.hsr_frame.specs.Grammar.{Fields, spelling}
+use Rattle.hsr_frame.specs.Grammar.{Fields}
 use Rattle.hsr_frame.specs.Words.{cause_text, port_word}
 use Rattle.hsr_frame.specs.declared.counters.Counters.{Counters}
-use Rattle.hsr_frame.specs.declared.fault.FrameFault.{FrameFault}
 use Rattle.hsr_frame.specs.declared.fault.SendFault.{SendFault}
 use Rattle.hsr_frame.specs.declared.fault.SendFault.TheVariants.{Spent as NoneLeft}
 use Rattle.hsr_frame.specs.declared.fault.Spent.{Spent}
+use Rattle.hsr_frame.specs.declared.node.About.TheVariants.{Own}
 use Rattle.hsr_frame.specs.declared.node.Life.{Life}
 use Rattle.hsr_frame.specs.declared.node.RingPort.TheVariants.{A, B}
-use Rattle.hsr_tag.specs.Seen.{classified}
-use Rattle.hsr_tag.specs.Tag.{tag_of, tagged_spelling, untag_of}
-use Rattle.hsr_tag.specs.declared.seen.Seen.{Seen}
-use Rattle.hsr_tag.specs.declared.seen.Seen.TheVariants.{Plain, Tagged as WithTag}
-use Rattle.hsr_danh.specs.Life.{life_fields}
 use Rattle.hsr_danh.specs.Machine.{Machine}
 use Rattle.hsr_danh.specs.Step.{age_step, arrive_step, life_step, send_step}
 use Rattle.hsr_danh.specs.declared.danh.Sent.{Sent}
 use Rattle.hsr_danh.specs.declared.danh.Verdict.{Verdict}
+use Rattle.hsr_node.specs.Copies.{asked_frame, life_frame, plain_octets, ring_octets}
 use Rattle.hsr_node_text.specs.Request.{Asked, Sending, age, arrive, life, send}
 
 -- ---- frames of the node's own
 
--- the frame that a send asks for
-abbrev pub asked_frame : List ℕ → Sending → Fields
-asked_frame own r = record { dst = r.dst; src = own; vlan = r.vlan; kind = r.kind; rest = r.payload }
+-- the copies of a frame, as they leave by the ports A and B
+abbrev pub both_text : Fields → ℕ → List ℕ
+both_text frame seq =
+    codes "A " ++ encode_upper (ring_octets A seq frame) ++ codes "\nB " ++ encode_upper (ring_octets B seq frame) ++ codes "\n"
 
--- the copies that leave by the ports: the path is 0 on A and 1 on B
-abbrev pub copies_text : Fields → ℕ → List ℕ
-copies_text frame seq =
-    codes "A " ++ encode_upper (tagged_spelling (tag_of frame 0 seq))
-    ++ codes "\nB " ++ encode_upper (tagged_spelling (tag_of frame 1 seq)) ++ codes "\n"
+abbrev pub copies_text : Option Fields → ℕ → List ℕ
+copies_text None seq = []
+copies_text (Some frame) seq = both_text frame seq
 
 abbrev pub refused_text : SendFault → List ℕ
 refused_text fault = codes "refused " ++ decimal (send_fault_code fault) ++ codes "\n"
 
-abbrev pub sent_text : Fields → ℕ → List ℕ
+abbrev pub sent_text : Option Fields → ℕ → List ℕ
 sent_text frame seq = codes "sent " ++ decimal seq ++ codes "\n" ++ copies_text frame seq
 
 abbrev pub send_text : List ℕ → Sending → Result Sent SendFault → List ℕ
-send_text own r (Ok sent) = sent_text (asked_frame own r) sent.seq
+send_text own r (Ok sent) = sent_text (asked_frame (Some own) r.dst r.vlan r.kind r.payload) sent.seq
 send_text own r (Err fault) = refused_text fault
 
 abbrev pub lived_text : List ℕ → Life → List ℕ
-lived_text own l = codes "life " ++ decimal l.seq ++ codes " " ++ decimal l.life ++ codes "\n" ++ copies_text (life_fields own l.life) l.seq
+lived_text own l = codes "life " ++ decimal l.seq ++ codes " " ++ decimal l.life ++ codes "\n" ++ copies_text (life_frame (Some own) Own l.life) l.seq
 
 abbrev pub life_text : List ℕ → Result Life Spent → List ℕ
 life_text own (Ok l) = lived_text own l
@@ -64,13 +59,12 @@ verdict_text v =
     cause_text (codes " ") v.cause ++ word_if v.up (codes " up") ++ word_if v.a (32 ∷ port_word A) ++ word_if v.b (32 ∷ port_word B) ++ codes "\n"
 
 -- what goes up is the plain frame
-abbrev pub up_text : Result Seen FrameFault → List ℕ
-up_text (Err fault) = []
-up_text (Ok (Plain frame)) = []
-up_text (Ok (WithTag frame)) = codes "up " ++ encode_upper (spelling (untag_of frame)) ++ codes "\n"
+abbrev pub up_text : Option (List ℕ) → List ℕ
+up_text None = []
+up_text (Some octets) = codes "up " ++ encode_upper octets ++ codes "\n"
 
 abbrev pub judged_text : List ℕ → Verdict → List ℕ
-judged_text octets v = verdict_text v ++ (if v.up then up_text (classified octets) else [])
+judged_text octets v = verdict_text v ++ (if v.up then up_text (plain_octets octets) else [])
 
 abbrev pub arrival_text : List ℕ → Result Verdict Spent → List ℕ
 arrival_text octets (Ok v) = judged_text octets v

@@ -1,32 +1,14 @@
 //! What a node answers to a request.
-ghost use Rattle.std.specs.Prelude.{◌≡◌, ◌≢◌, ◌≤◌, ◌++◌, ℕ, length, OnOk};
-ghost use Rattle.hsr_frame.specs.Address.{IsGroup};
+ghost use Rattle.std.specs.Prelude.{◌≡◌, ◌++◌, OnOk};
 ghost use Rattle.hsr_node_text.specs.Request.{arrive, life, send, view};
-ghost use Rattle.hsr_node_text.specs.Reply.{after, asked_frame, reply};
+ghost use Rattle.hsr_node_text.specs.Reply.{after, reply};
 
 use crate::reply::{put_judged, put_lived, put_refused, put_sent};
 use crate::request::Request;
 use hsr_danh::Danh;
-use hsr_frame::{Mac, RingPort, SendFault, copied};
-use hsr_tag::Frame;
+use hsr_frame::{Mac, RingPort, SendFault};
+use hsr_node::asked_frame;
 use std::alloc::AllocError;
-
-/// The frame that a send asks for.
-fn frame_of(own: Mac, dst: Mac, vlan: Option<u16>, kind: u16, payload: &[u8]) -> Frame
-    requires station { ¬ IsGroup own }
-    requires no_vlan { kind ≢ 0x8100 }
-    requires no_tag { kind ≢ 0x892F }
-    requires fits { length payload.now ≤ 1500 }
-    ensures { (at : ℕ) → result ≡ asked_frame own (record { at = at; dst = dst; kind = kind; payload = payload.now; vlan = vlan }) }
-{
-    Frame {
-        dst,
-        src: own,
-        vlan,
-        kind,
-        payload: copied(payload),
-    }
-}
 
 /// Sends a frame, and puts the lines that answer it.
 fn answer_send<const C: usize>(
@@ -43,7 +25,10 @@ fn answer_send<const C: usize>(
 {
     let own = danh.address();
     match danh.send(at, dst, vlan, kind, payload) {
-        Ok(sent) => put_sent(text, &frame_of(own, dst, vlan, kind, payload), sent.seq),
+        Ok(sent) => {
+            let frame = asked_frame(Some(own), dst, vlan, kind, payload);
+            put_sent(text, frame, sent.seq)
+        },
         Err(fault) => put_refused(text, fault),
     }
 }

@@ -1,14 +1,15 @@
 //! The lines that answer a request, and the line of counters.
 ghost use Rattle.std.specs.Prelude.{◌≡◌, ◌≢◌, ◌≤◌, ◌^◌, ◌++◌, ◌∷◌, codes, length, OnOk};
 ghost use Rattle.std.specs.Fmt.{decimal};
-ghost use Rattle.hsr_frame.specs.Address.{IsGroup};
 ghost use Rattle.hsr_frame.specs.Counters.{AreWithin};
 ghost use Rattle.hsr_frame.specs.Words.{cause_text, fault_text, port_word};
-ghost use Rattle.hsr_node_text.specs.Reply.{copies_text, counter_line, judged_text, lived_text, passed_text, refused_text, sent_text, stopped_text, up_text, verdict_text, word_if};
+ghost use Rattle.hsr_node.specs.Copies.{plain_octets};
+ghost use Rattle.hsr_node_text.specs.Reply.{both_text, copies_text, counter_line, judged_text, lived_text, passed_text, refused_text, sent_text, stopped_text, up_text, verdict_text, word_if};
 
-use hsr_danh::{Verdict, life_frame};
-use hsr_frame::{Cause, Counters, FrameFault, Life, Mac, RingPort, SendFault};
-use hsr_tag::{Frame, Seen, classify};
+use hsr_danh::Verdict;
+use hsr_frame::{About, Cause, Counters, FrameFault, Life, Mac, RingPort, SendFault};
+use hsr_node::{life_frame, plain_octets, ring_octets};
+use hsr_tag::Frame;
 use hsr_text::{put_decimal, put_hex};
 use std::alloc::AllocError;
 
@@ -21,19 +22,29 @@ pub fn put_count(text: &mut Vec<u8>, name: &[u8], n: u64) -> Result<(), AllocErr
 }
 
 /// Puts the two copies of a frame that leave by the ports.
-fn put_copies(text: &mut Vec<u8>, frame: &Frame, seq: u16) -> Result<(), AllocError>
-    ensures { OnOk result (text.new.items ≡ text.old.items ++ copies_text frame.now seq) }
+fn put_both(text: &mut Vec<u8>, frame: &Frame, seq: u16) -> Result<(), AllocError>
+    ensures { OnOk result (text.new.items ≡ text.old.items ++ both_text frame.now seq) }
 {
     text.extend_from_slice(b"A ")?;
-    put_hex(text, frame.tag(0, seq).write().as_slice())?;
+    put_hex(text, ring_octets(RingPort::A, seq, frame).as_slice())?;
     text.extend_from_slice(b"\nB ")?;
-    put_hex(text, frame.tag(1, seq).write().as_slice())?;
+    put_hex(text, ring_octets(RingPort::B, seq, frame).as_slice())?;
     text.extend_from_slice(b"\n")
 }
 
+/// Puts the copies of a frame, if there is one.
+fn put_copies(text: &mut Vec<u8>, frame: Option<Frame>, seq: u16) -> Result<(), AllocError>
+    ensures { OnOk result (text.new.items ≡ text.old.items ++ copies_text frame seq) }
+{
+    match frame {
+        Some(frame) => put_both(text, &frame, seq),
+        None => Ok(()),
+    }
+}
+
 /// Puts the lines of a send that was accepted.
-pub fn put_sent(text: &mut Vec<u8>, frame: &Frame, seq: u16) -> Result<(), AllocError>
-    ensures { OnOk result (text.new.items ≡ text.old.items ++ sent_text frame.now seq) }
+pub fn put_sent(text: &mut Vec<u8>, frame: Option<Frame>, seq: u16) -> Result<(), AllocError>
+    ensures { OnOk result (text.new.items ≡ text.old.items ++ sent_text frame seq) }
 {
     put_count(text, b"sent ", u64::from(seq))?;
     text.extend_from_slice(b"\n")?;
@@ -50,13 +61,12 @@ pub fn put_refused(text: &mut Vec<u8>, fault: SendFault) -> Result<(), AllocErro
 
 /// Puts the lines of a supervision that was accepted.
 pub fn put_lived(text: &mut Vec<u8>, own: Mac, life: Life) -> Result<(), AllocError>
-    requires { ¬ IsGroup own }
     ensures { OnOk result (text.new.items ≡ text.old.items ++ lived_text own life) }
 {
     put_count(text, b"life ", u64::from(life.seq))?;
     put_count(text, b" ", u64::from(life.life))?;
     text.extend_from_slice(b"\n")?;
-    put_copies(text, &life_frame(own, life.life), life.seq)
+    put_copies(text, life_frame(Some(own), About::Own, life.life), life.seq)
 }
 
 /// Puts a word, if it is said.
@@ -110,15 +120,15 @@ fn put_verdict(text: &mut Vec<u8>, verdict: Verdict) -> Result<(), AllocError>
 }
 
 /// Puts the line of what goes up.
-fn put_up(text: &mut Vec<u8>, seen: &Result<Seen, FrameFault>) -> Result<(), AllocError>
-    ensures { OnOk result (text.new.items ≡ text.old.items ++ up_text seen.now) }
+fn put_up(text: &mut Vec<u8>, octets: &[u8]) -> Result<(), AllocError>
+    ensures { OnOk result (text.new.items ≡ text.old.items ++ up_text (plain_octets octets.now)) }
 {
-    if let Ok(Seen::Tagged(frame)) = seen {
-        text.extend_from_slice(b"up ")?;
-        put_hex(text, frame.untag().write().as_slice())?;
-        return text.extend_from_slice(b"\n");
-    }
-    Ok(())
+    let Some(plain) = plain_octets(octets) else {
+        return Ok(());
+    };
+    text.extend_from_slice(b"up ")?;
+    put_hex(text, plain.as_slice())?;
+    text.extend_from_slice(b"\n")
 }
 
 /// Puts the lines of an arrival that was judged.
@@ -127,7 +137,7 @@ pub fn put_judged(text: &mut Vec<u8>, octets: &[u8], verdict: Verdict) -> Result
 {
     put_verdict(text, verdict)?;
     if verdict.up {
-        return put_up(text, &classify(octets));
+        return put_up(text, octets);
     }
     Ok(())
 }

@@ -15,6 +15,17 @@ min_payload = 46
 abbrev pub first_len : ℕ
 first_len = 12
 
+-- the types of the TLV that ends a payload and of the one that names a RedBox
+abbrev pub end_type : ℕ
+end_type = 0
+
+abbrev pub redbox_type : ℕ
+redbox_type = 30
+
+-- the value of a TLV that names a node is an address
+abbrev pub name_len : ℕ
+name_len = 6
+
 -- what a payload says
 pub record Fields : Type 0 where
   pub path : ℕ
@@ -45,7 +56,7 @@ kind_of n = if n == 20 then Some PrpDiscard else (if n == 21 then Some PrpAccept
 
 -- the value of a RedBox TLV is an address
 abbrev pub lacks_address : ℕ → ℕ → Bool
-lacks_address kind len = kind == 30 && not (len == 6)
+lacks_address kind len = kind == redbox_type && not (len == name_len)
 
 -- what was read, made into something else
 abbrev pub result_map : {A B : Type 0} → (A → B) → Result A SupFault → Result B SupFault
@@ -56,13 +67,13 @@ result_map f (Err fault) = Err fault
 abbrev pub onto : ℕ → List ℕ → Result (List Tlv) SupFault → Result (List Tlv) SupFault
 onto kind value others = result_map (λ tlvs. record { kind = kind; value = value } ∷ tlvs) others
 
--- The TLVs up to the end TLV, which has type 0, or else to the last octet. So many octets of a value,
+-- The TLVs up to the one that ends the payload, or else to the last octet. So many octets of a value,
 -- which its TLV has taken, are stepped over first.
 abbrev pub tlvs_past : ℕ → List ℕ → Result (List Tlv) SupFault
 tlvs_past zero [] = Ok []
 tlvs_past zero (kind ∷ []) = Err Truncated
 tlvs_past zero (kind ∷ len ∷ octets) =
-    if kind == 0 then Ok [] else
+    if kind == end_type then Ok [] else
     (if lacks_address kind len then Err RedBoxLength else
     onto kind (take len octets) (tlvs_past len octets))
 tlvs_past (suc n) [] = Err Truncated
@@ -70,7 +81,7 @@ tlvs_past (suc n) (octet ∷ octets) = tlvs_past n octets
 
 -- the RedBox, which the first RedBox TLV names
 abbrev pub redbox_among : List Tlv → Option (List ℕ)
-redbox_among tlvs = option_map (λ t. t.value) (find (λ t. t.kind == 30) tlvs)
+redbox_among tlvs = option_map (λ t. t.value) (find (λ t. t.kind == redbox_type) tlvs)
 
 -- the fields by their places
 abbrev pub fields_with : List ℕ → List Tlv → Fields
@@ -88,7 +99,7 @@ abbrev pub read_of : List ℕ → Result Fields SupFault
 read_of octets = first_of
     ((nat_lt (length octets) 6, Err Truncated)
     ∷ (is_none (kind_of (slice_index octets 4)), Err FirstKind)
-    ∷ (not (slice_index octets 5 == 6), Err FirstLength)
+    ∷ (not (slice_index octets 5 == name_len), Err FirstLength)
     ∷ (nat_lt (length octets) first_len, Err Truncated)
     ∷ [])
     (result_map (fields_with octets) (tlvs_past 0 (drop first_len octets)))
@@ -103,8 +114,8 @@ kind_code Hsr = 23
 -- the RedBox TLV of 8 octets, if there is one, the end TLV, and zeros up to the shortest payload
 abbrev pub tail : Option (List ℕ) → List ℕ
 tail None = replicate (min_payload - first_len) 0
-tail (Some mac) = 30 ∷ 6 ∷ mac ++ replicate (min_payload - first_len - 8) 0
+tail (Some mac) = redbox_type ∷ name_len ∷ mac ++ replicate (min_payload - first_len - 8) 0
 
 -- the octets of what is said
 abbrev pub spelling : Fields → List ℕ
-spelling s = pair (s.path * 4096 + s.version) ++ pair s.seq ++ kind_code s.kind ∷ 6 ∷ s.about ++ tail s.redbox
+spelling s = pair (s.path * 4096 + s.version) ++ pair s.seq ++ kind_code s.kind ∷ name_len ∷ s.about ++ tail s.redbox

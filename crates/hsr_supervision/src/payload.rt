@@ -1,6 +1,6 @@
 //! The payload of a supervision frame.
 ghost use Rattle.std.specs.Prelude.{[], ◌∷◌, ◌≡◌, ◌==◌, ◌<◌, ◌≤◌, length, take, drop, if◌then◌else◌, IfErr, IfNone, IfOk, IfSome};
-ghost use Rattle.hsr_supervision.specs.Payload.{Fields, IsSaid, kind_code, kind_of, lacks_address, onto, read_of, redbox_among, result_map, spelling, tlvs_past};
+ghost use Rattle.hsr_supervision.specs.Payload.{Fields, IsSaid, kind_code, kind_of, lacks_address, name_len, onto, read_of, redbox_among, redbox_type, result_map, spelling, tlvs_past};
 
 use arrayvec::ArrayVec;
 use hsr_frame::{Mac, put, put_u16, u16_at};
@@ -138,7 +138,7 @@ fn first_tlv(octets: &[u8]) -> Result<Option<FirstTlv<'_>>, SupFault>
     ensures fault { IfErr result (λ e. tlvs_past 0 octets.now ≡ Err e) }
     ensures end { IfOk result (λ o. IfNone o (tlvs_past 0 octets.now ≡ Ok [])) }
     ensures tlv { IfOk result (λ o. IfSome o (λ t. tlvs_past 0 octets.now ≡ onto t.kind t.value.now (tlvs_past 0 t.behind.now))) }
-    ensures redbox { IfOk result (λ o. IfSome o (λ t. t.kind ≡ 30 → length t.value.now ≡ 6)) }
+    ensures redbox { IfOk result (λ o. IfSome o (λ t. t.kind ≡ redbox_type → length t.value.now ≡ name_len)) }
     ensures shorter { IfOk result (λ o. IfSome o (λ t. length t.behind.now < length octets.now)) }
 {
     let (kind, len) = match octets {
@@ -167,8 +167,8 @@ fn first_tlv(octets: &[u8]) -> Result<Option<FirstTlv<'_>>, SupFault>
 
 /// The address that a RedBox TLV has, if it is one.
 fn redbox_of(tlv: FirstTlv<'_>) -> Option<Mac>
-    requires { tlv.kind ≡ 30 → length tlv.value.now ≡ 6 }
-    ensures { result ≡ (if tlv.entry.kind == 30 then Some tlv.entry.value.now else None) }
+    requires { tlv.kind ≡ redbox_type → length tlv.value.now ≡ name_len }
+    ensures { result ≡ (if tlv.entry.kind == redbox_type then Some tlv.entry.value.now else None) }
 {
     if tlv.kind == REDBOX {
         Some(mac_at(tlv.value))

@@ -71,8 +71,9 @@ fn read_seen(octets: &[u8]) -> Result<Seen, FrameFault>
     seen_of(&head, head.rest)
 }
 
-/// The frame that the octets spell, or the first of the faults: those of `Head::parse`, and then a tag that
-/// is too short, a tag or VLAN tag behind it, a plain frame that is too long (IEC 62439-3 clause 5.6).
+/// The frame that the octets spell, or the first of the faults: too short, too long, from a group, with two VLAN tags;
+/// then an HSR tag that is too short, an HSR tag or VLAN tag behind it, a plain frame that is too long (IEC 62439-3
+/// clause 5.6).
 pub fn classify(octets: &[u8]) -> Result<Seen, FrameFault>
     ensures exact { result ≡ classified octets.now }
     // What is read is spelled so.

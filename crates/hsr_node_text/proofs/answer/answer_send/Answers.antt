@@ -1,14 +1,15 @@
-use Rattle.std.proofs.Common.{◌++◌, ◌∙◌, List, ℕ, Ok, Err, ap}
+use Rattle.std.proofs.Common.{◌++◌, ◌∙◌, List, ℕ, Some, Ok, Err, ap}
 use Rattle.std.proofs.lemmas.Result.{on_ok_weaker}
 use Rattle.hsr_node_text.specs.Request.{Sending}
-use Rattle.hsr_node_text.specs.Reply.{asked_frame, sent_text}
+use Rattle.hsr_node.specs.Copies.{asked_frame}
+use Rattle.hsr_node_text.specs.Reply.{sent_text}
 use Rattle.hsr_node_text.proofs.Replies.{reply-send}
 use Rattle.hsr_node_text.proofs.answer.answer_send.Goals as goal
 
 pub returns-in-Ok-clause-text : goal.returns-in-Ok-clause-text
 returns-in-Ok-clause-text g c =
     let r : Sending = record { at = c.args.at; dst = c.args.dst; kind = c.args.kind; payload = c.args.payload.now; vlan = c.args.vlan } in
-    let frame = c.frame_of.ensures c.args.at ∙ ap (λ (own : List ℕ). asked_frame own r) c.address-own.ensures.own in
+    let frame = c.asked_frame-frame.ensures ∙ ap (λ (own : List ℕ). asked_frame (Some own) r.dst r.vlan r.kind r.payload) c.address-own.ensures.own in
     let said = ap (λ f. sent_text f c.in-Ok.sent.seq) frame ∙ (reply-send g.row.C c.args.danh.now c.send.new.self r (Ok c.in-Ok.sent) c.in-Ok.ensures.step).0 in
     on_ok_weaker c.put_sent.result (λ e. e ∙ ap (λ (l : List ℕ). c.args.text.now.items ++ l) said) c.put_sent.ensures
 
