@@ -4,5 +4,4 @@ pub use Rattle.hsr_frame.specs.Counters
 pub mod Wanted
 pub mod Machine
 pub mod Step
-pub mod Life
 pub mod Past

@@ -5,17 +5,14 @@
 //! - `tables`: what each egress remembers
 //! - `danh`: the node, its calls
 //! - `past`: the law over any calls
-//! - `life`: its supervision frame
 #![tactic(auto)]
 
 mod danh;
-mod life;
 mod past;
 mod tables;
 mod wanted;
 
 pub use danh::{Danh, Sent, Verdict};
-pub use life::life_frame;
 pub use past::answers_as_past;
 
 #[cfg(test)]

@@ -15,12 +15,19 @@ pub struct Counters {
     pub up: u64,
     /// Copies of arrivals that were passed to ports.
     pub forwarded: u64,
+    /// Arrivals that each egress which wanted them remembered.
     pub duplicate: u64,
+    /// Arrivals from an address of the node itself.
     pub returned: u64,
+    /// Arrivals that no egress wanted.
     pub foreign: u64,
+    /// Arrivals from one known station to another.
     pub local: u64,
+    /// Arrivals at a ring port without an HSR tag.
     pub untagged: u64,
+    /// Arrivals at an interlink or a station with an HSR tag.
     pub tagged: u64,
+    /// Arrivals that were no frame.
     pub malformed: u64,
     /// Supervision frames whose payload could not be read.
     pub bad_life: u64,

@@ -1,4 +1,16 @@
 //! Addresses, the octets of frames, and the small types that all nodes share.
+//!
+//! Its modules, in the order in which to read them:
+//! - `mac`: addresses and their text
+//! - `layout`: where the parts of a frame stand, and how long they are
+//! - `fault`: why a text is no address, octets are no frame, a send is refused
+//! - `octets`: octets at a place, and octets put at the end
+//! - `raw`: frames before any HSR tag is looked for
+//! - `node`: what all kinds of node share
+//! - `words`: the words that texts have for modes, ring ports and causes
+//! - `egress`: where a frame can leave a node
+//! - `counters`: what a node counts
+//! - `send`: why a node refuses to send
 #![tactic(auto)]
 
 mod counters;

@@ -105,7 +105,7 @@ impl Mac {
         octets: [0x01, 0x15, 0x4E, 0x00, 0x01, 0x00],
     };
 
-    /// The same group, for clauses, which can't name a constant of this type.
+    /// The group to which supervision frames are sent, for clauses, which can't name a constant of this type.
     pub fn supervision() -> Mac
         ensures { result ≡ supervision_address }
     {
@@ -156,7 +156,9 @@ impl Mac {
         Mac::from_ascii(text.as_bytes())
     }
 
-    /// The same of octets that may be no text.
+    /// The address that octets spell, which may be no text: 17 of them, digits of either case parted by hyphens. `Length`
+    /// where there is another number of them; else, by the leftmost wrong octet, `Digit` where a digit is wanted and
+    /// `Separator` where a hyphen is.
     pub fn from_ascii(text: &[u8]) -> Result<Mac, MacFault>
         ensures exact { result ≡ address_of text.now }
         ensures found { IfOk result (λ m. upper_text text.now ≡ address_text m) }

@@ -7,7 +7,7 @@ use crate::mac::Mac;
 pub enum Mode {
     /// Every frame but its own, one to itself alone, and, of a RedBox, one to a known station.
     H,
-    /// None.
+    /// No frame.
     N,
 }
 

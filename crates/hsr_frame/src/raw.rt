@@ -35,8 +35,8 @@ impl Model for Raw {
     ghost invariant = { λ r. (¬ IsGroup r.src) × (r.kind ≢ ethertype_vlan) };
 }
 
-/// A frame, before any HSR tag is looked for, whose rest stands in the octets that were read: as `Raw`, with
-/// no copy.
+/// A frame, before any HSR tag is looked for, whose rest stands in the octets that were read. No group sends it,
+/// and its type is not that of a VLAN tag (IEEE 802.3 clause 3, IEEE 802.1Q clause 9).
 #[derive(Drop)]
 pub struct Head<'a> {
     pub dst: Mac,
@@ -123,7 +123,8 @@ impl<'a> Head<'a> {
 }
 
 impl Raw {
-    /// As `Head::parse`, with a copy of the rest.
+    /// The frame that the octets spell, with a copy of its rest, or the first of the faults: too short, too long, from a
+    /// group, with two VLAN tags.
     pub fn parse(octets: &[u8]) -> Result<Raw, FrameFault>
         ensures exact { result ≡ raw_of octets.now }
         // What is read is spelled so.

@@ -2,6 +2,7 @@
 //!
 //! Its modules, in the order in which to read them:
 //! - `row`: what a link tells of each copy
+//! - `words`: the words that texts have for directions and fates
 //! - `queue`: the copies that wait in one direction
 //! - `link`: the link and its calls
 #![tactic(auto)]

@@ -2,6 +2,7 @@
 //!
 //! Its modules, in the order in which to read them:
 //! - `place`: what kind of node stands at a place
+//! - `role`: the roles of places, and the letters of their ports
 //! - `octets`: octets that are owned
 //! - `event`: what happens to a node, and what it answers
 //! - `entry`: what a record holds
