@@ -1,5 +1,5 @@
 //! What an audit certifies of small runs, and what it doubts first.
-ghost use Rattle.std.specs.Prelude.{◌×◌, ◌≤◌};
+ghost use Rattle.std.specs.Prelude.{◌≤◌};
 
 use crate::fixtures::{
     danh, drain, group, joint, judge, mac, put, ring2, ring3, run, send, take, topology, world,

@@ -1,70 +1,15 @@
 //! What `run --transcript` writes, and what `audit` makes of it.
-use hsr_engines::audit_run;
-use hsr_engines::Table;
-use hsr_engines::{Fault, Status, TranscriptFault};
-use crate::scenario_run_tests::{GROUP_SEND, RING, RING_REPORT, run_shown};
-use crate::node_run_tests::{FailingReader, FailingWriter};
+use crate::fixtures::{FailingReader, FailingWriter, ONE_NODE, ONE_SEND, RING, RING_TRANSCRIPT};
+use crate::scenario_run_tests::{GROUP_SEND, RING_REPORT, run_shown};
 use hsr_closing::Disagree;
+use hsr_engines::{Fault, Status, Table, TranscriptFault, audit_run};
 use hsr_link::Dir;
 use std::alloc::Global;
 use std::test::Fail;
 
-const ONE_NODE: &[u8] = b"node = [{name=\"n0\", role=\"danh\", mac=\"02-00-00-00-00-01\"}]\n";
-
-const SEND: &[u8] =
-    b"{do=\"send\", node=\"n0\", to=\"02-00-00-00-00-02\", type=0x0800, payload=\"AABB\"},\n";
-
-/// One DANH without a link that sent one frame.
-const ONE_SEND: &str = "hsr-bench 1
-table 512
-nodes 1
-danh 02-00-00-00-00-01 H
-links 0
-main 1
-0
-record 1
-0 0 send 0 02-00-00-00-00-02 - 0800 AABB = sent 0 A B
-end
-";
-
-/// One frame to a group round a ring of three.
-const RING_TRANSCRIPT: &str = "hsr-bench 1
-table 512
-nodes 3
-danh 02-00-00-00-00-01 H
-danh 02-00-00-00-00-02 H
-danh 02-00-00-00-00-03 H
-links 3
-0.B 1.A
-1.B 2.A
-2.B 0.A
-main 1
-0
-record 3
-0 0 send 0 01-00-5E-00-00-01 - 0800 AABB = sent 0 A B
-1 0 arrive A 0:0 01005E000001020000000001892F100800000800AABB = judged returned -
-2 0 arrive B 0:0 01005E000001020000000001892F000800000800AABB = judged returned -
-record 2
-9 0 arrive A 0:0 01005E000001020000000001892F100800000800AABB = judged passed - up B
-10 0 arrive B 0:0 01005E000001020000000001892F000800000800AABB = judged passed - A
-record 2
-17 0 arrive A 0:0 01005E000001020000000001892F100800000800AABB = judged passed - up B
-18 0 arrive B 0:0 01005E000001020000000001892F000800000800AABB = judged passed - A
-carried 2
-forth 0:0 01005E000001020000000001892F100800000800AABB taken
-back 0:0 01005E000001020000000001892F000800000800AABB taken
-carried 2
-forth 0:0 01005E000001020000000001892F100800000800AABB taken
-back 0:0 01005E000001020000000001892F000800000800AABB taken
-carried 2
-back 0:0 01005E000001020000000001892F000800000800AABB taken
-forth 0:0 01005E000001020000000001892F100800000800AABB taken
-end
-";
-
 /// What the audit of a text writes, and how it ends.
-fn audited(alloc: Global, text: &[u8]) -> (Status, Vec<u8>) {
-    let mut reader = text;
+fn audited(alloc: Global, text: &str) -> (Status, Vec<u8>) {
+    let mut reader = text.as_bytes();
     let mut writer = Vec::new(alloc);
     let status = audit_run(alloc, &mut reader, &mut writer, Table::Large);
     (status, writer)
@@ -73,7 +18,7 @@ fn audited(alloc: Global, text: &[u8]) -> (Status, Vec<u8>) {
 /// How the audit of a text with one of its parts replaced ends, without a word written.
 fn ended(rt: &HostRuntime, text: &str, old: &str, new: &str) -> Result<Status, Fail> {
     let changed = text.replace(rt.alloc(), old, new)?;
-    let (status, written) = audited(rt.alloc(), changed.as_bytes());
+    let (status, written) = audited(rt.alloc(), changed.as_str());
     if !written.is_empty() {
         return Err("something was written".into());
     }
@@ -82,7 +27,10 @@ fn ended(rt: &HostRuntime, text: &str, old: &str, new: &str) -> Result<Status, F
 
 #[test]
 fn transcript_of_one_send(rt: HostRuntime) -> Result<(), Fail> {
-    let (status, text) = run_shown(rt.alloc(), ONE_NODE, SEND, true)?;
+    let steps = r#"
+{do="send", node="n0", to="02-00-00-00-00-02", type=0x0800, payload="AABB"},
+"#;
+    let (status, text) = run_shown(rt.alloc(), ONE_NODE, steps, true)?;
     assert_eq!(rt; status, Status::Doubt);
     assert!(rt; text.as_slice() == ONE_SEND.as_bytes());
     Ok(())
@@ -90,13 +38,13 @@ fn transcript_of_one_send(rt: HostRuntime) -> Result<(), Fail> {
 
 #[test]
 fn audit_of_one_send(rt: HostRuntime) {
-    let (status, text) = audited(rt.alloc(), ONE_SEND.as_bytes());
-    let expected = b"bench 1 table 512 nodes 1 links 0
+    let (status, text) = audited(rt.alloc(), ONE_SEND);
+    let expected = "bench 1 table 512 nodes 1 links 0
 node 0 danh sent 1 life 0 up 0 forwarded 0 duplicate 0 returned 0 dropped 0
 doubt not-ring
 ";
     assert_eq!(rt; status, Status::Doubt);
-    assert!(rt; text.as_slice() == expected.as_slice());
+    assert!(rt; text.as_slice() == expected.as_bytes());
 }
 
 #[test]
@@ -109,9 +57,9 @@ fn transcript_of_a_group_round_a_ring(rt: HostRuntime) -> Result<(), Fail> {
 
 #[test]
 fn audit_of_a_group_round_a_ring(rt: HostRuntime) {
-    let (status, text) = audited(rt.alloc(), RING_TRANSCRIPT.as_bytes());
+    let (status, text) = audited(rt.alloc(), RING_TRANSCRIPT);
     assert_eq!(rt; status, Status::Certified);
-    assert!(rt; text.as_slice() == RING_REPORT);
+    assert!(rt; text.as_slice() == RING_REPORT.as_bytes());
 }
 
 #[test]
@@ -158,10 +106,12 @@ fn other_table(rt: HostRuntime) -> Result<(), Fail> {
 /// The first copy of link 0 came to node 1, and is said to be cut.
 #[test]
 fn altered_fate(rt: HostRuntime) -> Result<(), Fail> {
-    let taken =
-        "= judged passed - A\ncarried 2\nforth 0:0 01005E000001020000000001892F100800000800AABB taken";
-    let cut =
-        "= judged passed - A\ncarried 2\nforth 0:0 01005E000001020000000001892F100800000800AABB cut";
+    let taken = "= judged passed - A
+carried 2
+forth 0:0 01005E000001020000000001892F100800000800AABB taken";
+    let cut = "= judged passed - A
+carried 2
+forth 0:0 01005E000001020000000001892F100800000800AABB cut";
     let cause = Disagree::LinkTaken {
         link: 0,
         dir: Dir::Forth,

@@ -4,6 +4,8 @@
 #[cfg(test)]
 mod audit_run_tests;
 #[cfg(test)]
+mod fixtures;
+#[cfg(test)]
 mod node_rows_tests;
 #[cfg(test)]
 mod node_run_tests;

@@ -1,57 +1,39 @@
 //! What `run` writes of scenarios, and how it ends.
-use hsr_engines::Table;
-use hsr_engines::{Fault, Status};
-use hsr_engines::scenario_run;
-use crate::node_run_tests::{FailingReader, FailingWriter};
+use crate::fixtures::{FailingReader, FailingWriter, PAIR, QUAD, RED, RING, joined};
 use hsr_closing::Disagree;
+use hsr_engines::{Fault, Status, Table, scenario_run};
 use hsr_scenario::{ScenarioFault, Spot, What};
 use hsr_step::{DrainFault, WorldFault};
 use std::alloc::{AllocError, Global};
 use std::test::Fail;
 
-pub const RING: &[u8] = b"node = [
-  {name=\"n0\", role=\"danh\", mac=\"02-00-00-00-00-01\"},
-  {name=\"n1\", role=\"danh\", mac=\"02-00-00-00-00-02\"},
-  {name=\"n2\", role=\"danh\", mac=\"02-00-00-00-00-03\"},
-]
-link = [{ends=[\"n0.B\",\"n1.A\"]}, {ends=[\"n1.B\",\"n2.A\"]}, {ends=[\"n2.B\",\"n0.A\"]}]
-";
-
-const PAIR: &[u8] = b"node = [
-  {name=\"n0\", role=\"danh\", mac=\"02-00-00-00-00-01\"},
-  {name=\"n1\", role=\"danh\", mac=\"02-00-00-00-00-02\"},
-]
-link = [{ends=[\"n0.B\",\"n1.A\"]}, {ends=[\"n1.B\",\"n0.A\"]}]
-";
-
 /// What a run of nodes and links with these steps writes, by transcript or report, and how it ends.
 pub fn run_shown(
     alloc: Global,
-    nodes: &[u8],
-    steps: &[u8],
+    nodes: &str,
+    steps: &str,
     transcript: bool,
 ) -> Result<(Status, Vec<u8>), AllocError> {
-    let mut text = Vec::new(alloc);
-    text.extend_from_slice(nodes)?;
-    text.extend_from_slice(b"step = [\n")?;
-    text.extend_from_slice(steps)?;
-    text.extend_from_slice(b"]\n")?;
-    let mut reader = text.as_slice();
+    let text = joined(alloc, &[nodes, "step = [\n", steps, "]\n"])?;
+    let mut reader = text.as_bytes();
     let mut writer = Vec::new(alloc);
     let status = scenario_run(alloc, &mut reader, &mut writer, Table::Large, transcript);
     Ok((status, writer))
 }
 
 /// What a run of nodes and links with these steps reports, and how it ends.
-fn run(alloc: Global, nodes: &[u8], steps: &[u8]) -> Result<(Status, Vec<u8>), AllocError> {
+fn run(alloc: Global, nodes: &str, steps: &str) -> Result<(Status, Vec<u8>), AllocError> {
     run_shown(alloc, nodes, steps, false)
 }
 
-pub const GROUP_SEND: &[u8] =
-    b"{do=\"send\", node=\"n0\", to=\"01-00-5E-00-00-01\", type=0x0800, payload=\"AABB\"}, {do=\"drain\"},\n";
+/// The first node sends to a group.
+pub const GROUP_SEND: &str = r#"
+{do="send", node="n0", to="01-00-5E-00-00-01", type=0x0800, payload="AABB"},
+{do="drain"},
+"#;
 
 /// The report of that send round the ring.
-pub const RING_REPORT: &[u8] = b"bench 1 table 512 nodes 3 links 3
+pub const RING_REPORT: &str = "bench 1 table 512 nodes 3 links 3
 node 0 danh sent 1 life 0 up 0 forwarded 0 duplicate 0 returned 2 dropped 0
 node 1 danh sent 0 life 0 up 1 forwarded 2 duplicate 0 returned 0 dropped 0
 node 2 danh sent 0 life 0 up 1 forwarded 2 duplicate 0 returned 0 dropped 0
@@ -65,19 +47,23 @@ certified 1
 fn group_round_a_ring(rt: HostRuntime) -> Result<(), Fail> {
     let (status, text) = run(rt.alloc(), RING, GROUP_SEND)?;
     assert_eq!(rt; status, Status::Certified);
-    assert!(rt; text.as_slice() == RING_REPORT);
+    assert!(rt; text.as_slice() == RING_REPORT.as_bytes());
     Ok(())
 }
 
 #[test]
 fn two_links_lost(rt: HostRuntime) -> Result<(), Fail> {
-    let steps = b"{do=\"cut\", link=0},
-{do=\"send\", node=\"n0\", to=\"02-00-00-00-00-02\", type=0x0800, payload=\"AABB\"}, {do=\"drain\"},
-{do=\"mend\", link=0}, {do=\"cut\", link=1},
-{do=\"send\", node=\"n0\", to=\"02-00-00-00-00-02\", type=0x0800, payload=\"AABB\"}, {do=\"drain\"},
-";
+    let steps = r#"
+{do="cut", link=0},
+{do="send", node="n0", to="02-00-00-00-00-02", type=0x0800, payload="AABB"},
+{do="drain"},
+{do="mend", link=0},
+{do="cut", link=1},
+{do="send", node="n0", to="02-00-00-00-00-02", type=0x0800, payload="AABB"},
+{do="drain"},
+"#;
     let (status, text) = run(rt.alloc(), PAIR, steps)?;
-    let expected = b"bench 1 table 512 nodes 2 links 2
+    let expected = "bench 1 table 512 nodes 2 links 2
 node 0 danh sent 2 life 0 up 0 forwarded 0 duplicate 0 returned 0 dropped 0
 node 1 danh sent 0 life 0 up 2 forwarded 0 duplicate 0 returned 0 dropped 0
 link 0 put 2 taken 1 lost 1
@@ -85,14 +71,16 @@ link 1 put 2 taken 1 lost 1
 doubt two-links
 ";
     assert_eq!(rt; status, Status::Doubt);
-    assert!(rt; text.as_slice() == expected.as_slice());
+    assert!(rt; text.as_slice() == expected.as_bytes());
     Ok(())
 }
 
 #[test]
 fn injected_copy(rt: HostRuntime) -> Result<(), Fail> {
-    let steps =
-        b"{do=\"inject\", link=0, dir=\"forth\", octets=\"01005E000001020000000007892F000600000800\"}, {do=\"drain\"},\n";
+    let steps = r#"
+{do="inject", link=0, dir="forth", octets="01005E000001020000000007892F000600000800"},
+{do="drain"},
+"#;
     let (status, text) = run(rt.alloc(), RING, steps)?;
     let stranger = Disagree::Stranger { link: 0, row: 0 };
     assert_eq!(rt; status, Status::Fault(Fault::Check(stranger)));
@@ -102,7 +90,7 @@ fn injected_copy(rt: HostRuntime) -> Result<(), Fail> {
 
 #[test]
 fn refused_step(rt: HostRuntime) -> Result<(), Fail> {
-    let (status, text) = run(rt.alloc(), RING, b"{do=\"put\", port=\"n0.A\"},\n")?;
+    let (status, text) = run(rt.alloc(), RING, "{do=\"put\", port=\"n0.A\"},\n")?;
     let fault = DrainFault::World(WorldFault::Nothing);
     assert_eq!(rt; status, Status::Fault(Fault::Step { step: 0, fault }));
     assert!(rt; text.is_empty());
@@ -111,7 +99,7 @@ fn refused_step(rt: HostRuntime) -> Result<(), Fail> {
 
 #[test]
 fn no_scenario(rt: HostRuntime) -> Result<(), Fail> {
-    let (status, text) = run(rt.alloc(), RING, b"{do=\"age\", node=\"nx\"},\n")?;
+    let (status, text) = run(rt.alloc(), RING, "{do=\"age\", node=\"nx\"},\n")?;
     let fault = ScenarioFault {
         spot: Spot::Step(0),
         what: What::NoSuchName,
@@ -124,7 +112,7 @@ fn no_scenario(rt: HostRuntime) -> Result<(), Fail> {
 #[test]
 fn scenario_that_cannot_be_read(rt: HostRuntime) -> Result<(), Fail> {
     let mut reader = FailingReader {
-        bytes: RING,
+        bytes: RING.as_bytes(),
         reads_left: 0,
     };
     let mut writer = Vec::new(rt.alloc());
@@ -137,7 +125,7 @@ fn scenario_that_cannot_be_read(rt: HostRuntime) -> Result<(), Fail> {
 #[test]
 fn text_that_cannot_be_written(rt: HostRuntime) -> Result<(), Fail> {
     for transcript in [false, true] {
-        let mut reader = RING;
+        let mut reader = RING.as_bytes();
         let mut writer = FailingWriter {
             held: Vec::new(rt.alloc()),
             writes_left: 0,
@@ -155,95 +143,98 @@ fn text_that_cannot_be_written(rt: HostRuntime) -> Result<(), Fail> {
     Ok(())
 }
 
-const QUAD: &[u8] = b"node = [
-  {name=\"n0\", role=\"danh\", mac=\"02-00-00-00-00-01\"}, {name=\"n1\", role=\"danh\", mac=\"02-00-00-00-00-02\"},
-  {name=\"q0\", role=\"quadbox\"}, {name=\"q1\", role=\"quadbox\"},
-]
-link = [
-  {ends=[\"n0.B\",\"q0.A\"]}, {ends=[\"q0.B\",\"q1.A\"]}, {ends=[\"q1.B\",\"n0.A\"]},
-  {ends=[\"n1.B\",\"q0.C\"]}, {ends=[\"q0.D\",\"q1.C\"]}, {ends=[\"q1.D\",\"n1.A\"]},
-]
-";
-
-const RED: &[u8] = b"node = [
-  {name=\"n0\", role=\"danh\", mac=\"02-00-00-00-00-01\"}, {name=\"r\", role=\"redbox\", mac=\"02-00-00-00-00-09\"},
-  {name=\"s\", role=\"station\", macs=[\"02-00-00-00-00-0A\", \"02-00-00-00-00-0B\"]},
-]
-link = [{ends=[\"n0.B\",\"r.A\"]}, {ends=[\"r.B\",\"n0.A\"]}, {ends=[\"r.I\",\"s.P\"]}]
-";
-
 /// Whether a run ends so, with this last line.
 fn ends(
     rt: &HostRuntime,
-    nodes: &[u8],
-    steps: &[u8],
+    nodes: &str,
+    steps: &str,
     ended: Status,
-    last: &[u8],
+    last: &str,
 ) -> Result<bool, Fail> {
     let (status, text) = run(rt.alloc(), nodes, steps)?;
-    Ok(status == ended && text.as_slice().ends_with(last))
+    Ok(status == ended && text.as_slice().ends_with(last.as_bytes()))
+}
+
+/// Whether a run ends with a certificate of two sends.
+fn certifies_two(rt: &HostRuntime, nodes: &str, steps: &str) -> Result<bool, Fail> {
+    ends(rt, nodes, steps, Status::Certified, "\ncertified 2\n")
+}
+
+/// Whether a run ends with the doubt that its nodes and links aren't a ring.
+fn doubts_the_ring(rt: &HostRuntime, nodes: &str, steps: &str) -> Result<bool, Fail> {
+    ends(rt, nodes, steps, Status::Doubt, "\ndoubt not-ring\n")
 }
 
 #[test]
 fn cut_on_the_way(rt: HostRuntime) -> Result<(), Fail> {
-    let steps =
-        b"{do=\"send\", node=\"n0\", to=\"01-00-5E-00-00-01\", type=0x0800, payload=\"AABB\"},
-{do=\"put\", port=\"n0.B\"}, {do=\"put\", port=\"n0.A\"},
-{do=\"take\", link=0, dir=\"forth\"}, {do=\"judge\", port=\"n1.A\"}, {do=\"put\", port=\"n1.B\"},
-{do=\"take\", link=2, dir=\"back\"}, {do=\"judge\", port=\"n2.B\"}, {do=\"put\", port=\"n2.A\"},
-{do=\"cut\", link=1}, {do=\"mend\", link=1},
-{do=\"send\", node=\"n0\", to=\"02-00-00-00-00-02\", type=0x0800, payload=\"AABB\"}, {do=\"drain\"},
-";
-    assert!(rt; ends(&rt, RING, steps, Status::Certified, b"\ncertified 2\n")?);
+    let steps = r#"
+{do="send", node="n0", to="01-00-5E-00-00-01", type=0x0800, payload="AABB"},
+{do="put", port="n0.B"},
+{do="put", port="n0.A"},
+{do="take", link=0, dir="forth"},
+{do="judge", port="n1.A"},
+{do="put", port="n1.B"},
+{do="take", link=2, dir="back"},
+{do="judge", port="n2.B"},
+{do="put", port="n2.A"},
+{do="cut", link=1},
+{do="mend", link=1},
+{do="send", node="n0", to="02-00-00-00-00-02", type=0x0800, payload="AABB"},
+{do="drain"},
+"#;
+    assert!(rt; certifies_two(&rt, RING, steps)?);
     Ok(())
 }
 
 #[test]
 fn overrun(rt: HostRuntime) -> Result<(), Fail> {
-    let mut narrow = Vec::new(rt.alloc());
-    narrow.extend_from_slice(b"capacity = 1\n")?;
-    narrow.extend_from_slice(RING)?;
-    let steps =
-        b"{do=\"send\", node=\"n0\", to=\"01-00-5E-00-00-01\", type=0x0800, payload=\"AABB\"}, {do=\"put\", port=\"n0.B\"},
-{do=\"send\", node=\"n0\", to=\"01-00-5E-00-00-01\", type=0x0800, payload=\"AABB\"}, {do=\"put\", port=\"n0.B\"},
-{do=\"put\", port=\"n0.A\"}, {do=\"take\", link=2, dir=\"back\"}, {do=\"judge\", port=\"n2.B\"}, {do=\"drain\"},
-";
-    assert!(rt;
-        ends(
-            &rt,
-            narrow.as_slice(),
-            steps,
-            Status::Certified,
-            b"\ncertified 2\n"
-        )?
-    );
+    let narrow = joined(rt.alloc(), &["capacity = 1\n", RING])?;
+    let steps = r#"
+{do="send", node="n0", to="01-00-5E-00-00-01", type=0x0800, payload="AABB"},
+{do="put", port="n0.B"},
+{do="send", node="n0", to="01-00-5E-00-00-01", type=0x0800, payload="AABB"},
+{do="put", port="n0.B"},
+{do="put", port="n0.A"},
+{do="take", link=2, dir="back"},
+{do="judge", port="n2.B"},
+{do="drain"},
+"#;
+    assert!(rt; certifies_two(&rt, narrow.as_str(), steps)?);
     Ok(())
 }
 
 #[test]
 fn quad(rt: HostRuntime) -> Result<(), Fail> {
-    assert!(rt; ends(&rt, QUAD, GROUP_SEND, Status::Doubt, b"\ndoubt not-ring\n")?);
+    assert!(rt; doubts_the_ring(&rt, QUAD, GROUP_SEND)?);
     Ok(())
 }
 
 #[test]
 fn red_to_and_from(rt: HostRuntime) -> Result<(), Fail> {
-    let steps =
-        b"{do=\"send\", node=\"s\", to=\"02-00-00-00-00-01\", type=0x0800, payload=\"AABB\"}, {do=\"drain\"}, {do=\"clock\", at=10},
-{do=\"send\", node=\"n0\", to=\"02-00-00-00-00-0A\", type=0x0800, payload=\"02\"}, {do=\"drain\"}, {do=\"clock\", at=60000},
-{do=\"send\", node=\"n0\", to=\"02-00-00-00-00-0A\", type=0x0800, payload=\"02\"}, {do=\"drain\"},
-";
-    assert!(rt; ends(&rt, RED, steps, Status::Doubt, b"\ndoubt not-ring\n")?);
+    let steps = r#"
+{do="send", node="s", to="02-00-00-00-00-01", type=0x0800, payload="AABB"},
+{do="drain"},
+{do="clock", at=10},
+{do="send", node="n0", to="02-00-00-00-00-0A", type=0x0800, payload="02"},
+{do="drain"},
+{do="clock", at=60000},
+{do="send", node="n0", to="02-00-00-00-00-0A", type=0x0800, payload="02"},
+{do="drain"},
+"#;
+    assert!(rt; doubts_the_ring(&rt, RED, steps)?);
     Ok(())
 }
 
 #[test]
 fn red_group_and_local(rt: HostRuntime) -> Result<(), Fail> {
-    let steps =
-        b"{do=\"send\", node=\"s\", to=\"01-00-5E-00-00-01\", type=0x0800, payload=\"AABB\"}, {do=\"drain\"},
-{do=\"send\", node=\"s\", from=1, to=\"02-00-00-00-00-0A\", type=0x0800, payload=\"AABB\"}, {do=\"drain\"},
-{do=\"send\", node=\"s\", to=\"02-00-00-00-00-01\", type=0x0800, payload=\"01\"}, {do=\"drain\"},
-";
-    assert!(rt; ends(&rt, RED, steps, Status::Doubt, b"\ndoubt not-ring\n")?);
+    let steps = r#"
+{do="send", node="s", to="01-00-5E-00-00-01", type=0x0800, payload="AABB"},
+{do="drain"},
+{do="send", node="s", from=1, to="02-00-00-00-00-0A", type=0x0800, payload="AABB"},
+{do="drain"},
+{do="send", node="s", to="02-00-00-00-00-01", type=0x0800, payload="01"},
+{do="drain"},
+"#;
+    assert!(rt; doubts_the_ring(&rt, RED, steps)?);
     Ok(())
 }

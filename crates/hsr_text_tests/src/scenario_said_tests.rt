@@ -1,8 +1,11 @@
 //! What documents say, and the words of faults.
-use crate::scenario_tests::{NODES, joined};
-use hsr_scenario::{Order, Scenario, What, read};
+use crate::fixtures::joined;
+use crate::scenario_tests::NODES;
 use arrayvec::ArrayVec;
-use hsr_node::Place;
+use hsr_frame::{About, Mac, Mode};
+use hsr_link::Dir;
+use hsr_node::{Octets, Place};
+use hsr_scenario::{Order, Scenario, What, read};
 use hsr_step::Step as Deed;
 use hsr_topology::End;
 use std::alloc::Global;
@@ -24,13 +27,23 @@ fn scenario_faults(rt: HostRuntime) -> Result<(), Fail> {
     assert_eq!(rt; empty.capacity, 64);
     assert!(rt; empty.topology.places().is_empty() && empty.topology.links().is_empty());
     assert!(rt; empty.steps.is_empty());
-    let unnamed = joined(rt.alloc(), NODES, "[[step]]\ndo = \"age\"\nnode = \"nx\"")?;
+    let step = r#"
+[[step]]
+do = "age"
+node = "nx"
+"#;
+    let unnamed = joined(rt.alloc(), &[NODES, step])?;
     assert_eq!(rt;
         words_of(rt.alloc(), unnamed.as_str())?.as_str(),
         "step 0 no-such-name"
     );
-    let back = "[[link]]\nends = [\"n0.B\", \"n1.A\"]\n[[link]]\nends = [\"n0.B\", \"n2.A\"]";
-    let forked = joined(rt.alloc(), NODES, back)?;
+    let links = r#"
+[[link]]
+ends = ["n0.B", "n1.A"]
+[[link]]
+ends = ["n0.B", "n2.A"]
+"#;
+    let forked = joined(rt.alloc(), &[NODES, links])?;
     assert_eq!(rt;
         words_of(rt.alloc(), forked.as_str())?.as_str(),
         "top topology-4"
@@ -54,34 +67,34 @@ fn words_of_faults(rt: HostRuntime) -> Result<(), Fail> {
         words_of(rt.alloc(), "step = [{do=\"\"}]")?.as_str(),
         "step 0 bad-value do"
     );
-    let twice = "node = [{role=\"quadbox\", name=\"q\"}, {role=\"quadbox\", name=\"q\"}]";
+    let twice = r#"node = [{role="quadbox", name="q"}, {role="quadbox", name="q"}]"#;
     assert_eq!(rt; words_of(rt.alloc(), twice)?.as_str(), "node 1 name-twice");
     Ok(())
 }
 
 /// A DANH, a RedBox with its station, and a QuadBox without links.
-const RED: &str = "
+const RED: &str = r#"
 capacity = 4096
 node = [
-  {name=\"n0\", role=\"danh\", mac=\"02-00-00-00-00-01\", mode=\"N\"},
-  {name=\"r\", role=\"redbox\", mac=\"02-00-00-00-00-09\"},
-  {name=\"s\", role=\"station\", macs=[\"02-00-00-00-00-0A\", \"02-00-00-00-00-0b\"]},
-  {name=\"q\", role=\"quadbox\"},
+  {name="n0", role="danh", mac="02-00-00-00-00-01", mode="N"},
+  {name="r", role="redbox", mac="02-00-00-00-00-09"},
+  {name="s", role="station", macs=["02-00-00-00-00-0A", "02-00-00-00-00-0b"]},
+  {name="q", role="quadbox"},
 ]
-link = [{ends=[\"n0.B\", \"r.A\"]}, {ends=[\"r.B\", \"n0.A\"]}, {ends=[\"r.I\", \"s.P\"]}]
-";
+link = [{ends=["n0.B", "r.A"]}, {ends=["r.B", "n0.A"]}, {ends=["r.I", "s.P"]}]
+"#;
 
 /// What a document of these nodes and links says.
 fn red_with(alloc: Global, steps: &str) -> Result<Scenario, Fail> {
-    let text = joined(alloc, RED, steps)?;
+    let text = joined(alloc, &[RED, steps])?;
     match read(alloc, text.as_str()) {
         Ok(scenario) => Ok(scenario),
         Err(_) => Err(Fail::from("refused")),
     }
 }
 
-fn mac(last: u8) -> hsr_frame::Mac {
-    hsr_frame::Mac::new([2, 0, 0, 0, 0, last])
+fn mac(last: u8) -> Mac {
+    Mac::new([2, 0, 0, 0, 0, last])
 }
 
 #[test]
@@ -94,11 +107,11 @@ fn nodes_and_links(rt: HostRuntime) -> Result<(), Fail> {
     let places = vec![in rt.alloc();
         Place::Danh {
             mac: mac(1),
-            mode: hsr_frame::Mode::N
+            mode: Mode::N
         },
         Place::RedBox {
             mac: mac(9),
-            mode: hsr_frame::Mode::H
+            mode: Mode::H
         },
         Place::Station { macs },
         Place::QuadBox,
@@ -113,11 +126,15 @@ fn nodes_and_links(rt: HostRuntime) -> Result<(), Fail> {
 
 #[test]
 fn steps_of_nodes(rt: HostRuntime) -> Result<(), Fail> {
-    let text =
-        "step = [{do=\"clock\", at=10}, {do=\"send\", node=\"s\", to=\"02-00-00-00-00-01\", type=0x0800, payload=\"aABB\", vlan=5, from=1},
-  {do=\"life\", node=\"r\"}, {do=\"life\", node=\"r\", about=\"02-00-00-00-00-0A\"}, {do=\"age\", node=\"q\"}]";
+    let text = r#"step = [
+  {do="clock", at=10},
+  {do="send", node="s", to="02-00-00-00-00-01", type=0x0800, payload="aABB", vlan=5, from=1},
+  {do="life", node="r"},
+  {do="life", node="r", about="02-00-00-00-00-0A"},
+  {do="age", node="q"},
+]"#;
     let scenario = red_with(rt.alloc(), text)?;
-    let payload = hsr_node::Octets::from_slice(rt.alloc(), &[0xAA, 0xBB])
+    let payload = Octets::from_slice(rt.alloc(), &[0xAA, 0xBB])
         .ok()
         .ok_or("room")?;
     let send = Deed::Send {
@@ -133,11 +150,11 @@ fn steps_of_nodes(rt: HostRuntime) -> Result<(), Fail> {
         Order::Step(send),
         Order::Step(Deed::Supervise {
             node: 1,
-            about: hsr_frame::About::Own
+            about: About::Own
         }),
         Order::Step(Deed::Supervise {
             node: 1,
-            about: hsr_frame::About::Proxied(mac(10))
+            about: About::Proxied(mac(10))
         }),
         Order::Step(Deed::Age { node: 3 }),
     ]?;
@@ -147,25 +164,29 @@ fn steps_of_nodes(rt: HostRuntime) -> Result<(), Fail> {
 
 #[test]
 fn steps_of_links(rt: HostRuntime) -> Result<(), Fail> {
-    let text =
-        "step = [{do=\"put\", port=\"r.I\"}, {do=\"judge\", port=\"q.D\"}, {do=\"take\", link=2, dir=\"back\"}, {do=\"cut\", link=1},
-  {do=\"mend\", link=1}, {do=\"inject\", link=0, dir=\"forth\", octets=\"0102\"}, {do=\"drain\"}]";
+    let text = r#"step = [
+  {do="put", port="r.I"},
+  {do="judge", port="q.D"},
+  {do="take", link=2, dir="back"},
+  {do="cut", link=1},
+  {do="mend", link=1},
+  {do="inject", link=0, dir="forth", octets="0102"},
+  {do="drain"},
+]"#;
     let scenario = red_with(rt.alloc(), text)?;
-    let octets = hsr_node::Octets::from_slice(rt.alloc(), &[1, 2])
-        .ok()
-        .ok_or("room")?;
+    let octets = Octets::from_slice(rt.alloc(), &[1, 2]).ok().ok_or("room")?;
     let told = vec![in rt.alloc();
         Order::Step(Deed::Put { node: 1, port: 2 }),
         Order::Step(Deed::Judge { node: 3, port: 3 }),
         Order::Step(Deed::Take {
             link: 2,
-            dir: hsr_link::Dir::Back
+            dir: Dir::Back
         }),
         Order::Step(Deed::Cut { link: 1 }),
         Order::Step(Deed::Mend { link: 1 }),
         Order::Step(Deed::Inject {
             link: 0,
-            dir: hsr_link::Dir::Forth,
+            dir: Dir::Forth,
             octets
         }),
         Order::Drain,
@@ -176,12 +197,10 @@ fn steps_of_links(rt: HostRuntime) -> Result<(), Fail> {
 
 #[test]
 fn what_stands_for_missing_keys(rt: HostRuntime) -> Result<(), Fail> {
-    let text = "step = [{do=\"send\", node=\"n0\", to=\"01-00-5E-00-00-01\", type=65535}]";
+    let text = r#"step = [{do="send", node="n0", to="01-00-5E-00-00-01", type=65535}]"#;
     let scenario = red_with(rt.alloc(), text)?;
-    let payload = hsr_node::Octets::from_slice(rt.alloc(), &[])
-        .ok()
-        .ok_or("room")?;
-    let dst = hsr_frame::Mac::new([1, 0, 0x5E, 0, 0, 1]);
+    let payload = Octets::from_slice(rt.alloc(), &[]).ok().ok_or("room")?;
+    let dst = Mac::new([1, 0, 0x5E, 0, 0, 1]);
     let send = Deed::Send {
         node: 0,
         from: 0,

@@ -1,51 +1,9 @@
 //! Transcripts of a send and of a group frame round a ring, and texts that differ from them.
-ghost use Rattle.std.specs.Prelude.{None};
-
-use hsr_transcript::{ReadFault, WriteFault, read, write};
+use crate::fixtures::{FailingWriter, ONE_SEND, RING_TRANSCRIPT, joined};
 use hsr_closing::Disagree;
 use hsr_link::Dir;
-use std::io::{self, ErrorKind, Write};
+use hsr_transcript::{ReadFault, WriteFault, read, write};
 use std::test::Fail;
-
-/// One DANH without a link that sent one frame.
-const ONE_SEND: &str =
-    "hsr-bench 1\ntable 512\nnodes 1\ndanh 02-00-00-00-00-01 H\nlinks 0\nmain 1\n0\nrecord 1\n0 0 send 0 02-00-00-00-00-02 - 0800 AABB = sent 0 A B\nend\n";
-
-/// A group frame that went both ways round a ring of three.
-const RING: &str = "\
-hsr-bench 1
-table 512
-nodes 3
-danh 02-00-00-00-00-01 H
-danh 02-00-00-00-00-02 H
-danh 02-00-00-00-00-03 H
-links 3
-0.B 1.A
-1.B 2.A
-2.B 0.A
-main 1
-0
-record 3
-0 0 send 0 01-00-5E-00-00-01 - 0800 AABB = sent 0 A B
-1 0 arrive A 0:0 01005E000001020000000001892F100800000800AABB = judged returned -
-2 0 arrive B 0:0 01005E000001020000000001892F000800000800AABB = judged returned -
-record 2
-9 0 arrive A 0:0 01005E000001020000000001892F100800000800AABB = judged passed - up B
-10 0 arrive B 0:0 01005E000001020000000001892F000800000800AABB = judged passed - A
-record 2
-17 0 arrive A 0:0 01005E000001020000000001892F100800000800AABB = judged passed - up B
-18 0 arrive B 0:0 01005E000001020000000001892F000800000800AABB = judged passed - A
-carried 2
-forth 0:0 01005E000001020000000001892F100800000800AABB taken
-back 0:0 01005E000001020000000001892F000800000800AABB taken
-carried 2
-forth 0:0 01005E000001020000000001892F100800000800AABB taken
-back 0:0 01005E000001020000000001892F000800000800AABB taken
-carried 2
-back 0:0 01005E000001020000000001892F000800000800AABB taken
-forth 0:0 01005E000001020000000001892F100800000800AABB taken
-end
-";
 
 /// What is wrong with a text, for tables of 512 entries.
 fn fault_of(rt: &HostRuntime, text: &[u8]) -> Option<ReadFault> {
@@ -70,22 +28,6 @@ fn is_read_again(rt: &HostRuntime, text: &[u8]) -> Result<bool, Fail> {
     Ok(write(rt.alloc(), &closed, &mut again).is_ok() && again.as_slice() == text)
 }
 
-/// A writer that takes nothing.
-#[derive(Drop)]
-struct Full;
-
-impl Write for Full {
-    ghost contents = { λ _. None };
-
-    fn write(&mut self, _text: &[u8]) -> io::Result<usize> {
-        Err(io::Error::from(ErrorKind::BrokenPipe))
-    }
-
-    fn flush(&mut self) -> io::Result<()> {
-        Ok(())
-    }
-}
-
 #[test]
 fn transcript_of_one_send(rt: HostRuntime) -> Result<(), Fail> {
     assert!(rt; is_read_again(&rt, ONE_SEND.as_bytes())?);
@@ -98,20 +40,17 @@ fn transcript_of_one_send(rt: HostRuntime) -> Result<(), Fail> {
 
 #[test]
 fn transcript_of_a_ring(rt: HostRuntime) -> Result<(), Fail> {
-    assert!(rt; is_read_again(&rt, RING.as_bytes())?);
+    assert!(rt; is_read_again(&rt, RING_TRANSCRIPT.as_bytes())?);
     Ok(())
 }
 
 /// The first row of the first link is told as lost, though the node at its end took it.
 #[test]
 fn altered_fate(rt: HostRuntime) -> Result<(), Fail> {
-    let Some((front, back)) = RING.split_once(" taken") else {
+    let Some((front, back)) = RING_TRANSCRIPT.split_once(" taken") else {
         return Err(Fail::from("no such text"));
     };
-    let mut text = String::new(rt.alloc());
-    text.push_str(front)?;
-    text.push_str(" cut")?;
-    text.push_str(back)?;
+    let text = joined(rt.alloc(), &[front, " cut", back])?;
     let cause = Disagree::LinkTaken {
         link: 0,
         dir: Dir::Forth,
@@ -129,10 +68,12 @@ fn writer_that_is_full(rt: HostRuntime) -> Result<(), Fail> {
     let Ok(closed) = read::<512, _>(rt.alloc(), &mut reader) else {
         return Err(Fail::from("refused"));
     };
-    assert_eq!(rt;
-        write(rt.alloc(), &closed, &mut Full),
-        Err(WriteFault::Write)
-    );
+    let mut full = FailingWriter {
+        held: Vec::new(rt.alloc()),
+        writes_left: 0,
+    };
+    let written = write(rt.alloc(), &closed, &mut full);
+    assert_eq!(rt; written, Err(WriteFault::Write));
     Ok(())
 }
 
