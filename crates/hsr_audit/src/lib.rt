@@ -15,6 +15,6 @@ mod round;
 pub use auditing::audit;
 pub use certificate::{Certificate, Certified};
 pub use doubt::{AuditFault, Doubt};
-pub use hsr_closing::{CheckFault, Closed, Disagree, Parts, Planned, next_place, passes_of};
+pub use hsr_closing::{CheckFault, Closed, Disagree, Parts, Planned, Records, passes_of};
 pub use hsr_law::{boxless, budget_keeps, budget_tells, exactly_once, no_storm, once_in_budget};
 pub use hsr_topology::{End, Topology, TopologyFault};

@@ -10,3 +10,4 @@ pub mod Workers
 pub mod Next
 pub mod Passes
 pub mod Reached
+pub mod OfRecords

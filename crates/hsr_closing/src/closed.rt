@@ -7,7 +7,9 @@ ghost use Rattle.hsr_law.specs.Run.{past_of, place_of, record_of, rows_of};
 use crate::check::fault_of;
 use crate::disagree::CheckFault;
 use crate::parts::Parts;
+use crate::passes::passes_of;
 use crate::planned::Planned;
+use crate::records::Records;
 use hsr_frame::Counters;
 use hsr_link::Row;
 use hsr_node::{Entry, Kept, Pass};
@@ -44,6 +46,7 @@ impl<const C: usize> Closed<C> {
     ghost use Rattle.hsr_node.specs.Counts.{counters};
     ghost use Rattle.hsr_closing.specs.Checked.{Agrees, HasNoStorm, IfDisagree, IsFirst};
     ghost use Rattle.hsr_closing.specs.Finished.{run_of};
+    ghost use Rattle.hsr_closing.specs.OfRecords.{ArePassesOf, IsClosedOf, IsOpenOf};
 
     /// The run of these parts, if they agree: if records, rows and receipts tell the same, and nothing is under way. Else
     /// the parts come back as they were, with the first cause, which is there exactly where they don't agree; or with
@@ -88,6 +91,33 @@ impl<const C: usize> Closed<C> {
                 rows,
                 plan,
             }),
+        }
+    }
+
+    /// The run of these records, if they agree with the passes that they and the plan tell. Else the records come back as they
+    /// were, with the first cause, which is there exactly where they don't agree; or with `NoMemory` where room for the passes
+    /// or the check was refused.
+    pub fn of_records(
+        alloc: Global,
+        records: Records<C>,
+    ) -> Result<Closed<C>, (Records<C>, CheckFault)>
+        ensures closed { IfOk result (λ closed. IsClosedOf C records.entry.topology records.entry.kept.items records.entry.rows.items records.entry.plan.items closed) }
+        ensures open { IfErr result (λ e. IfDisagree e.1 (IsOpenOf C records.entry.topology records.entry.kept.items records.entry.rows.items records.entry.plan.items)) }
+        ensures whole { IfErr result (λ e. e.0 ≡ records.entry) }
+        ensures no_storm { IfOk result (λ closed. HasNoStorm closed.run) }
+    {
+        let Ok(passes) = passes_of(alloc, records.kept.as_slice(), records.plan.as_slice()) else {
+            return Err((records, CheckFault::NoMemory));
+        };
+        let Records {
+            topology,
+            plan,
+            kept,
+            rows,
+        } = records;
+        match Closed::check(alloc, topology, plan, kept, rows, passes) {
+            Ok(closed) => Ok(closed),
+            Err((parts, fault)) => Err((parts.records(), fault)),
         }
     }
 

@@ -21,6 +21,7 @@ use Rattle.hsr_closing.specs.Finished as finished
 use Rattle.hsr_closing.specs.InOrder.{came}
 use Rattle.hsr_topology.specs.Links.{is_end_of, is_same_end, is_used}
 use Rattle.hsr_law.specs.Once.{IsCalm}
+use Rattle.hsr_closing.specs.OfRecords.{ArePassesOf}
 use Rattle.hsr_closing.specs.Passes.{IsToldBy}
 use Rattle.hsr_closing.specs.Receipts.{HasReceipts}
 use Rattle.hsr_law.specs.Run.{Run}
@@ -38,7 +39,7 @@ use Rattle.hsr_closing.proofs.Forwards.{arrivals_of}
 use Rattle.hsr_law.proofs.NoStorm.{no_storm}
 use Rattle.hsr_closing.proofs.Shaped.{from_there}
 use Rattle.hsr_world.specs.Closing.{IsOwn, run_of}
-use Rattle.hsr_ring.specs.Ending.{AreTold, IsToldClosed, IsToldOpen}
+use Rattle.hsr_ring.specs.Ending.{AreRowsOf, IsToldClosed, IsToldOpen}
 use Rattle.hsr_world.specs.Lawful.{IsEnded, finished_of}
 use Rattle.hsr_world.specs.Lines.{Line}
 use Rattle.hsr_world.specs.Reached.{IsReached}
@@ -121,9 +122,9 @@ module _ (capacity : ℕ) (topology : Topology) (moment : ℕ) (kept : List Reco
         inside,
   )
 
-  module _ (rows : List (Vec Row Global)) (passes : List Receipts) (told : AreTold kept plan lines rows passes) where
+  module _ (rows : List (Vec Row Global)) (passes : List Receipts) (of_links : AreRowsOf lines rows) (told : ArePassesOf kept plan passes) where
     run_same : run_of capacity topology.links world ≡ finished.run_of capacity topology kept rows
-    run_same = run_is capacity topology kept rows world places refl (sym told.of_links)
+    run_same = run_is capacity topology kept rows world places refl (sym of_links)
 
     run_whole : finished.run_of capacity topology kept rows ≡ (finished_of capacity world).run
     run_whole = sym run_same ∙ ap (λ (ls : List (List End)). run_of capacity ls world) (sym (same_links capacity topology.places topology.links world wired r))
@@ -131,7 +132,7 @@ module _ (capacity : ℕ) (topology : Topology) (moment : ℕ) (kept : List Reco
     shaped : IsShaped topology kept rows
     shaped = record {
       places = places;
-      of_links = sym (length-map rows finished.items_of) ∙ (ap length told.of_links ∙ (length-map lines _ ∙ lines_counted capacity topology.places topology.links world wired r));
+      of_links = sym (length-map rows finished.items_of) ∙ (ap length of_links ∙ (length-map lines _ ∙ lines_counted capacity topology.places topology.links world wired r));
       fit = fit;
     }
 
@@ -178,20 +179,20 @@ module _ (capacity : ℕ) (topology : Topology) (moment : ℕ) (kept : List Reco
 
   pub closed_is : (closed : Finished) → IsToldClosed capacity topology kept plan lines closed → closed ≡ finished_of capacity world
   closed_is closed c =
-      let same = run_whole c.rows c.passes c.told in
-      c.is ∙ ap (λ (run : Run). let f : Finished = record { run = run; plan = plan } in f) same
+      let same = run_whole c.rows c.told.passes c.of_links c.told.told in
+      c.told.is ∙ ap (λ (run : Run). let f : Finished = record { run = run; plan = plan } in f) same
 
   pub closed_ended : (closed : Finished) → IsToldClosed capacity topology kept plan lines closed → IsEnded world
-  closed_ended closed c = ended c.rows c.passes c.told c.agrees.closed
+  closed_ended closed c = ended c.rows c.told.passes c.of_links c.told.told c.told.agrees.closed
 
   pub closed_calm : (closed : Finished) → IsToldClosed capacity topology kept plan lines closed → IsCalm closed.run
-  closed_calm closed c = subst (λ (f : Finished). IsCalm f.run) (sym c.is) (calm c.rows c.passes c.told c.agrees.closed)
+  closed_calm closed c = subst (λ (f : Finished). IsCalm f.run) (sym c.told.is) (calm c.rows c.told.passes c.of_links c.told.told c.told.agrees.closed)
 
   pub open_refused : (d : Disagree) → IsToldOpen capacity topology kept plan lines d → ¬ IsEnded world
-  open_refused d o end = o.refused (agrees o.rows o.passes o.told end)
+  open_refused d o end = o.told.refused (agrees o.rows o.told.passes o.of_links o.told.told end)
 
   pub open_first : (d : Disagree) → IsToldOpen capacity topology kept plan lines d → IsOpen (finished_of capacity world).run d
-  open_first d o = subst (λ (run : Run). IsOpen run d) (run_whole o.rows o.passes o.told) (open_as o.rows o.passes o.told d o.first)
+  open_first d o = subst (λ (run : Run). IsOpen run d) (run_whole o.rows o.told.passes o.of_links o.told.told) (open_as o.rows o.told.passes o.of_links o.told.told d o.told.first)
 
 -- ---- what a call that closes a world answers
 

@@ -1,15 +1,14 @@
 //! What a world hands over where it is closed.
 ghost use Rattle.std.specs.Prelude.{◌≡◌, IfErr, IfOk, map};
 ghost use Rattle.hsr_closing.specs.Checked.{IfDisagree};
-ghost use Rattle.hsr_closing.specs.Finished.{items_of};
-ghost use Rattle.hsr_ring.specs.Ending.{AreTold, IsToldClosed, IsToldOpen, rows_in};
+ghost use Rattle.hsr_ring.specs.Ending.{AreRowsOf, IsToldClosed, IsToldOpen};
 ghost use Rattle.hsr_ring.specs.Views.{line_view};
 
 use crate::line::Line;
-use hsr_closing::{CheckFault, Closed, Parts, Planned, passes_of};
+use hsr_closing::{CheckFault, Closed, Planned, Records};
 use hsr_frame::NoMemory;
 use hsr_link::Row;
-use hsr_node::{Kept, Pass};
+use hsr_node::Kept;
 use hsr_topology::Topology;
 use std::alloc::Global;
 
@@ -19,13 +18,6 @@ pub(crate) struct Rest<const C: usize> {
     pub(crate) topology: Topology,
     pub(crate) nodes: Vec<Kept<C>>,
     pub(crate) plan: Vec<Planned>,
-}
-
-/// The rows of its links, and what its workers were answered.
-#[derive(Drop)]
-struct Told {
-    rows: Vec<Vec<Row>>,
-    passes: Vec<Pass>,
 }
 
 fn copies_of(alloc: Global, rows: &[Row]) -> Result<Vec<Row>, NoMemory>
@@ -43,7 +35,7 @@ fn copies_of(alloc: Global, rows: &[Row]) -> Result<Vec<Row>, NoMemory>
 
 /// A copy of the rows of each link.
 fn rows_of(alloc: Global, lines: &[Line]) -> Result<Vec<Vec<Row>>, NoMemory>
-    ensures { IfOk result (λ rows. map items_of rows.items ≡ map rows_in (map line_view lines.now)) }
+    ensures { IfOk result (λ rows. AreRowsOf (map line_view lines.now) rows.items) }
 {
     let mut rows = Vec::new(alloc);
     for line in lines.iter() {
@@ -53,19 +45,6 @@ fn rows_of(alloc: Global, lines: &[Line]) -> Result<Vec<Vec<Row>>, NoMemory>
         }
     }
     Ok(rows)
-}
-
-fn told_of<const C: usize>(
-    alloc: Global,
-    nodes: &[Kept<C>],
-    plan: &[Planned],
-    lines: &[Line],
-) -> Result<Told, NoMemory>
-    ensures { IfOk result (λ told. AreTold nodes.now plan.now (map line_view lines.now) told.rows.items told.passes.items) }
-{
-    let rows = rows_of(alloc, lines)?;
-    let passes = passes_of(alloc, nodes, plan)?;
-    Ok(Told { rows, passes })
 }
 
 /// The finished run of a world, or what was handed in, with the first cause why it is none.
@@ -78,7 +57,7 @@ pub(crate) fn closed_of<const C: usize>(
     ensures open { IfErr result (λ e. IfDisagree e.1 (IsToldOpen C rest.entry.topology rest.entry.nodes.items rest.entry.plan.items (map line_view lines.now))) }
     ensures whole { IfErr result (λ e. e.0 ≡ rest.entry) }
 {
-    let Ok(told) = told_of(alloc, rest.nodes.as_slice(), rest.plan.as_slice(), lines) else {
+    let Ok(rows) = rows_of(alloc, lines) else {
         return Err((rest, CheckFault::NoMemory));
     };
     let Rest {
@@ -86,15 +65,21 @@ pub(crate) fn closed_of<const C: usize>(
         nodes,
         plan,
     } = rest;
-    match Closed::check(alloc, topology, plan, nodes, told.rows, told.passes) {
+    let records = Records {
+        topology,
+        plan,
+        kept: nodes,
+        rows,
+    };
+    match Closed::of_records(alloc, records) {
         Ok(closed) => Ok(closed),
-        Err((parts, fault)) => {
-            let Parts {
+        Err((records, fault)) => {
+            let Records {
                 topology,
                 plan,
                 kept,
                 ..
-            } = parts;
+            } = records;
             Err((
                 Rest {
                     topology,

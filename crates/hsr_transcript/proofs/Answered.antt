@@ -146,7 +146,7 @@ closes_answers capacity (Some text) t s rows r ok stands same closes = go r clos
     }
 
     go : (r : Result Finished ReadFault) → Closes capacity s rows r → Answers capacity r text
-    go (Ok f) h = subst (λ f. IsTextOf capacity f text) (sym h) whole
+    go (Ok f) h = subst (λ f. IsTextOf capacity f text) (sym h.is) whole
     go (Err Version) h = absurd h
     go (Err (BadLine n)) h = absurd h
     go (Err End) h = absurd h
@@ -156,12 +156,12 @@ closes_answers capacity (Some text) t s rows r ok stands same closes = go r clos
       record {
         standing = s;
         stands = stands;
-        passes = h.0;
-        receipts = h.1 (subst (λ rs. IsToldBy rs s.plan) (sym stands.records) (is_told t.main t.records t.nodes s.plan paired stands.plan));
+        passes = h.passes;
+        receipts = h.told.right (subst (λ rs. IsToldBy rs s.plan) (sym stands.records) (is_told t.main t.records t.nodes s.plan paired stands.plan));
         rows = rows;
         same = same;
-        first = h.2;
-        refused = h.3;
+        first = h.first;
+        refused = h.refused;
       },
     )
     go (Err Read) h = tt
@@ -181,7 +181,7 @@ closes_again capacity (Some text) t s rows r small ok stands same closes = λ f 
         λ i. record { run = run i; plan = plan_again f fin s (there f fin fits is) i }
 
     go : (f : Finished) → IsFinished f → Fits f → IsTextOf capacity f text → (r : Result Finished ReadFault) → Closes capacity s rows r → IsReadAs f r
-    go f fin fits is (Ok g) h = h ∙ whole f fin fits is
+    go f fin fits is (Ok g) h = h.is ∙ whole f fin fits is
     go f fin fits is (Err Version) h = h
     go f fin fits is (Err (BadLine n)) h = h
     go f fin fits is (Err End) h = h

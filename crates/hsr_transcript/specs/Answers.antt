@@ -8,8 +8,8 @@ use Rattle.std.specs.List.{AllByRecursion}
 use Rattle.hsr_node.specs.Kept.{Receipts}
 use Rattle.hsr_link.specs.declared.row.Row.{Row}
 use Rattle.hsr_closing.specs.Checked.{Agrees, IsFirst}
-use Rattle.hsr_closing.specs.Finished.{Finished, items_of, run_of}
-use Rattle.hsr_closing.specs.Passes.{IsToldBy}
+use Rattle.hsr_closing.specs.Finished.{Finished, items_of}
+use Rattle.hsr_closing.specs.OfRecords.{IsClosedOf, IsOpenOf}
 use Rattle.hsr_closing.specs.Receipts.{HasReceipts}
 use Rattle.hsr_closing.specs.declared.disagree.Disagree.{Disagree}
 use Rattle.hsr_transcript_text.specs.Form.{form_of}
@@ -65,12 +65,9 @@ IsReadAs f (Err _) = ⊥
 
 -- ---- on the way
 
--- what stands is closed, or is no closed run, whatever receipts its workers have
+-- what stands is closed, or is no closed run, with the passes that records and plan tell
 abbrev pub Closes : ℕ → Standing → List (Vec Row Global) → Result Finished ReadFault → Type 0
-Closes capacity s rows (Ok f) = f ≡ record { run = run_of capacity s.topology s.records rows; plan = s.plan }
-Closes capacity s rows (Err (Disagrees cause)) = (passes : List Receipts)
-    × (IsToldBy s.records s.plan → HasReceipts s.records passes s.plan)
-    × IsFirst capacity s.topology s.records rows passes s.plan cause
-    × (¬ Agrees capacity s.topology s.records rows passes s.plan)
+Closes capacity s rows (Ok f) = IsClosedOf capacity s.topology s.records rows s.plan f
+Closes capacity s rows (Err (Disagrees cause)) = IsOpenOf capacity s.topology s.records rows s.plan cause
 Closes capacity s rows (Err NoMemory) = Unit {0}
 Closes capacity s rows (Err _) = ⊥

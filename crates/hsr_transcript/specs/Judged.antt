@@ -6,9 +6,11 @@ use Rattle.hsr_node.specs.Kept.{Record}
 use Rattle.hsr_topology.specs.Topology.{Topology}
 use Rattle.hsr_topology.specs.Wired.{IsWired}
 use Rattle.hsr_closing.specs.declared.planned.Planned.{Planned}
+use Rattle.hsr_closing.specs.declared.records.Records.{Records}
 use Rattle.hsr_link.specs.declared.row.Row.{Row}
 use Rattle.hsr_transcript.specs.Order.{IsOrder}
 use Rattle.hsr_transcript.specs.Replay.{AreLegal, IsFirstUnlike, records_from}
+use Rattle.hsr_transcript_text.specs.Items.{rows_of}
 use Rattle.hsr_transcript_text.specs.Transcript.{Said}
 use Rattle.hsr_transcript_text.specs.declared.fault.ReadFault.{ReadFault}
 use Rattle.hsr_transcript_text.specs.declared.fault.ReadFault.TheVariants.{BadLine, NoMemory}
@@ -37,6 +39,10 @@ pub record Standing : Type 0 where
   pub plan : List Planned
   pub records : List Record
   pub rows : List (List Row)
+
+-- as the program holds it
+abbrev pub standing_of : (capacity : ℕ) → Records capacity → Standing
+standing_of capacity r = record { topology = r.topology; plan = r.plan.items; records = r.kept.items; rows = rows_of r.rows }
 
 pub record Stands (capacity : ℕ) (t : Said) (s : Standing) : Type 0 where
   pub topology : s.topology ≡ record { places = t.nodes; links = t.links }

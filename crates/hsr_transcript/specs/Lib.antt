@@ -1,5 +1,4 @@
 pub mod Order
 pub mod Replay
 pub mod Judged
-pub mod Ready
 pub mod Answers

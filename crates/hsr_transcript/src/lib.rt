@@ -6,7 +6,6 @@
 mod judge;
 mod order;
 mod reading;
-mod ready;
 mod replay;
 
 pub use hsr_transcript_text::{ReadFault, WriteFault, one_text, write};

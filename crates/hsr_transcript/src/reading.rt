@@ -3,32 +3,22 @@ ghost use Rattle.std.specs.Prelude.{◌≡◌, ◌≤◌, IfSome};
 ghost use Rattle.hsr_closing.specs.Finished.{Finished, IsFinished};
 ghost use Rattle.hsr_transcript.specs.Answers.{Answers, Closes, IsReadAs, IsTextOf};
 ghost use Rattle.hsr_transcript_text.specs.Fits.{Fits};
-ghost use Rattle.hsr_transcript.specs.Ready.{ready_view};
+ghost use Rattle.hsr_transcript.specs.Judged.{standing_of};
 ghost use Rattle.hsr_transcript_text.specs.CodeReads.{seen};
 
 use crate::judge::judge;
-use crate::ready::Ready;
-use hsr_closing::{CheckFault, Closed, passes_of};
+use hsr_closing::{CheckFault, Closed, Records};
 use hsr_transcript_text::{ReadFault, read_plain};
 use std::alloc::Global;
 use std::io::Read;
 
 /// The closed run that a topology, replayed nodes, rows and a plan are, if they agree.
-fn close<const C: usize>(alloc: Global, ready: Ready<C>) -> Result<Closed<C>, ReadFault>
-    ensures { Closes C (ready_view C ready.entry) ready.entry.rows.items (seen (λ c. c) result) }
+fn close<const C: usize>(alloc: Global, records: Records<C>) -> Result<Closed<C>, ReadFault>
+    ensures { Closes C (standing_of C records.entry) records.entry.rows.items (seen (λ c. c) result) }
 {
-    let Ready {
-        topology,
-        plan,
-        kept,
-        rows,
-    } = ready;
-    let Ok(passes) = passes_of(alloc, kept.as_slice(), plan.as_slice()) else {
-        return Err(ReadFault::NoMemory);
-    };
-    match Closed::check(alloc, topology, plan, kept, rows, passes) {
+    match Closed::of_records(alloc, records) {
         Ok(closed) => Ok(closed),
-        Err((_parts, fault)) => match fault {
+        Err((_records, fault)) => match fault {
             CheckFault::Disagree(cause) => Err(ReadFault::Disagrees(cause)),
             CheckFault::NoMemory => Err(ReadFault::NoMemory),
         },
@@ -51,7 +41,7 @@ pub fn read<const C: usize, R: Read>(alloc: Global, reader: &mut R) -> Result<Cl
         Err(fault) => return Err(fault),
     };
     match judge::<C>(alloc, plain) {
-        Ok(ready) => close(alloc, ready),
+        Ok(records) => close(alloc, records),
         Err(fault) => Err(fault),
     }
 }

@@ -1,6 +1,6 @@
 use Rattle.std.proofs.Common.{arith, refl}
 use Rattle.hsr_transcript_text.specs.Plain.{plain_view}
-use Rattle.hsr_transcript.specs.Ready.{ready_view}
+use Rattle.hsr_transcript.specs.Judged.{standing_of}
 use Rattle.hsr_transcript.proofs.Answered.{closes_again, closes_answers, form_again, form_fault, judged_again}
 use Rattle.hsr_transcript.proofs.reading.read.Goals as goal
 
@@ -14,11 +14,11 @@ returns-in-Err-clause-again g c = form_again plain_view g.row.C _ c.in-Err.fault
 
 -- src/reading.rt:45:1
 pub returns-in-Ok-judge-clause-exact : goal.returns-in-Ok-judge-clause-exact
-returns-in-Ok-judge-clause-exact g c = closes_answers g.row.C _ (plain_view c.in-Ok.plain) (ready_view g.row.C c.in-Ok-judge.ready) _ _ c.in-Ok.ensures c.in-Ok-judge.ensures refl c.close.ensures
+returns-in-Ok-judge-clause-exact g c = closes_answers g.row.C _ (plain_view c.in-Ok.plain) (standing_of g.row.C c.in-Ok-judge.records) _ _ c.in-Ok.ensures c.in-Ok-judge.ensures refl c.close.ensures
 
 -- src/reading.rt:45:1
 pub returns-in-Ok-judge-clause-again : goal.returns-in-Ok-judge-clause-again
-returns-in-Ok-judge-clause-again g c = closes_again g.row.C _ (plain_view c.in-Ok.plain) (ready_view g.row.C c.in-Ok-judge.ready) _ _ (omega (arith, c.requires.entries)) c.in-Ok.ensures c.in-Ok-judge.ensures refl c.close.ensures
+returns-in-Ok-judge-clause-again g c = closes_again g.row.C _ (plain_view c.in-Ok.plain) (standing_of g.row.C c.in-Ok-judge.records) _ _ (omega (arith, c.requires.entries)) c.in-Ok.ensures c.in-Ok-judge.ensures refl c.close.ensures
 
 -- src/reading.rt:45:1
 pub returns-in-Err-judge-clause-again : goal.returns-in-Err-judge-clause-again

@@ -1,0 +1,35 @@
+-- What records, rows and a plan are, with the passes that the records and the plan tell.
+--     ArePassesOf   the passes that they tell
+--     IsClosedOf    with these the parts agree, and are this finished run
+--     IsOpenOf      with these they don't agree, and this is the first cause
+use Rattle.std.specs.Prelude.{ℕ, ◌≡◌, List, Vec}
+use Rattle.std.specs.Global.{Global}
+use Rattle.hsr_node.specs.Kept.{Receipts, Record}
+use Rattle.hsr_link.specs.declared.row.Row.{Row}
+use Rattle.hsr_topology.specs.Topology.{Topology}
+use Rattle.hsr_closing.specs.Checked.{Agrees, IsFirst}
+use Rattle.hsr_closing.specs.Finished.{Finished, run_of}
+use Rattle.hsr_closing.specs.Passes.{AreByPlan, AreByWorker, IsToldBy, others_of, receipts_of}
+use Rattle.hsr_closing.specs.Receipts.{HasReceipts}
+use Rattle.hsr_closing.specs.declared.disagree.Disagree.{Disagree}
+use Rattle.hsr_closing.specs.declared.planned.Planned.{Planned}
+
+-- Pass w is worker w's: of the main worker by the plan, of all others their entries in node and place order. They are right
+-- ones where the records tell of the plan.
+pub record ArePassesOf (kept : List Record) (plan : List Planned) (passes : List Receipts) : Type 0 where
+  pub right : IsToldBy kept plan → HasReceipts kept passes plan
+  pub workers : AreByWorker 0 passes
+  pub main : AreByPlan kept plan (receipts_of 0 passes)
+  pub others : (w : ℕ) → (w ≡ 0 → ⊥) → receipts_of w passes ≡ others_of w 0 kept
+
+pub record IsClosedOf (capacity : ℕ) (topology : Topology) (kept : List Record) (rows : List (Vec Row Global)) (plan : List Planned) (closed : Finished) : Type 0 where
+  pub passes : List Receipts
+  pub told : ArePassesOf kept plan passes
+  pub is : closed ≡ record { run = run_of capacity topology kept rows; plan = plan }
+  pub agrees : Agrees capacity topology kept rows passes plan
+
+pub record IsOpenOf (capacity : ℕ) (topology : Topology) (kept : List Record) (rows : List (Vec Row Global)) (plan : List Planned) (d : Disagree) : Type 0 where
+  pub passes : List Receipts
+  pub told : ArePassesOf kept plan passes
+  pub first : IsFirst capacity topology kept rows passes plan d
+  pub refused : ¬ Agrees capacity topology kept rows passes plan
