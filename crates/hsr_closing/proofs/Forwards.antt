@@ -15,7 +15,7 @@ use Rattle.hsr_node.specs.declared.place.Place.{Place}
 use Rattle.hsr_link.specs.declared.row.Dir.{Dir}
 use Rattle.hsr_link.specs.declared.row.Row.{Row}
 use Rattle.hsr_closing.specs.InOrder.{PutsFit, TakensFit, came, came_by, passed, passed_by, told}
-use Rattle.hsr_closing.specs.declared.agreement.Told.TheVariants.{Put, Taken}
+use Rattle.hsr_closing.specs.declared.agreement.Passage.TheVariants.{Put, Taken}
 use Rattle.hsr_closing.specs.Often.{AsOften}
 use Rattle.hsr_law.specs.Run.{given_at, gives}
 use Rattle.hsr_closing.specs.Origin.{given_in, sent_in}

@@ -20,8 +20,8 @@ use Rattle.hsr_closing.specs.Receipts.{HasReceipts, IsFirstWrong}
 use Rattle.hsr_law.specs.Run.{Run, rows_of}
 use Rattle.hsr_closing.specs.Shape.{IsShaped}
 use Rattle.hsr_topology.specs.Topology.{Topology}
-use Rattle.hsr_closing.specs.declared.agreement.Told.{Told}
-use Rattle.hsr_closing.specs.declared.agreement.Told.TheVariants.{Put, Taken}
+use Rattle.hsr_closing.specs.declared.agreement.Passage.{Passage}
+use Rattle.hsr_closing.specs.declared.agreement.Passage.TheVariants.{Put, Taken}
 use Rattle.hsr_closing.specs.declared.disagree.CheckFault.{CheckFault}
 use Rattle.hsr_closing.specs.declared.disagree.CheckFault.TheVariants as fault
 use Rattle.hsr_closing.specs.declared.disagree.Disagree.{Disagree}
@@ -38,16 +38,16 @@ AreLegal capacity kept n = (k : ℕ) (d : Record) → k < n → IsLegal capacity
 -- ---- links and records
 
 -- what was put on a link in a direction agrees with the record of the node there, or what was taken
-abbrev pub ToldAgrees : Told → Run → ℕ → Dir → Type 0
+abbrev pub ToldAgrees : Passage → Run → ℕ → Dir → Type 0
 ToldAgrees Put = PutAgrees
 ToldAgrees Taken = TakenAgrees
 
 -- on the first n links, both ways
-unfoldable pub AllAgree : Told → Run → ℕ → Type 0
+unfoldable pub AllAgree : Passage → Run → ℕ → Type 0
 AllAgree which run n = (l : ℕ) (dir : Dir) → l < n → ToldAgrees which run l dir
 
 -- the lowest link on which it doesn't, Forth before Back
-pub record IsFirstOther (which : Told) (run : Run) (l : ℕ) (dir : Dir) : Type 0 where
+pub record IsFirstOther (which : Passage) (run : Run) (l : ℕ) (dir : Dir) : Type 0 where
   pub below : l < length run.links
   pub here : ¬ ToldAgrees which run l dir
   pub forth_first : dir ≡ Back → ToldAgrees which run l Forth

@@ -10,15 +10,15 @@ use Rattle.hsr_node.specs.declared.event.Carried.{Carried}
 use Rattle.hsr_link.specs.Rows.{put_copies, put_copy, taken_copies, taken_copy}
 use Rattle.hsr_link.specs.declared.row.Dir.{Dir}
 use Rattle.hsr_link.specs.declared.row.Row.{Row}
-use Rattle.hsr_closing.specs.declared.agreement.Told.{Told}
-use Rattle.hsr_closing.specs.declared.agreement.Told.TheVariants.{Put, Taken}
+use Rattle.hsr_closing.specs.declared.agreement.Passage.{Passage}
+use Rattle.hsr_closing.specs.declared.agreement.Passage.TheVariants.{Put, Taken}
 
 -- the copy of a row that was put, or taken
-abbrev pub told_copy : Told → Dir → Row → Option Carried
+abbrev pub told_copy : Passage → Dir → Row → Option Carried
 told_copy Put = put_copy
 told_copy Taken = taken_copy
 
-abbrev pub told : Told → Dir → List Row → List Carried
+abbrev pub told : Passage → Dir → List Row → List Carried
 told which dir rows = filter_map (told_copy which dir) rows
 
 -- the copy that the n-th entry of a record let leave by a port

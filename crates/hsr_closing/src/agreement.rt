@@ -10,29 +10,29 @@ use hsr_link::{Dir, Fate, Row};
 use hsr_node::{Carried, Entry, Event, Kept, Octets, Place, Probe, copy_out};
 use std::alloc::Global;
 
-/// Of which copies a row tells.
+/// Which passage of a copy a row tells of.
 #[derive(Clone, Copy, PartialEq, Eq)]
-pub(crate) enum Told {
-    /// Those that the node at the one end put.
+pub(crate) enum Passage {
+    /// The node at the one end put it.
     Put,
-    /// Those that the node at the other end took.
+    /// The node at the other end took it.
     Taken,
 }
 
 /// Whether the copy of a row was put, or taken, in a direction.
-fn is_told(which: Told, dir: Dir, row: &Row) -> bool
+fn is_told(which: Passage, dir: Dir, row: &Row) -> bool
     ensures { (if result then Some row.now.carried else None) ≡ told_copy which dir row.now }
 {
     match which {
-        Told::Put => row.dir == dir && !row.injected,
-        Told::Taken => row.dir == dir && row.fate == Fate::Taken,
+        Passage::Put => row.dir == dir && !row.injected,
+        Passage::Taken => row.dir == dir && row.fate == Fate::Taken,
     }
 }
 
 ghost use Rattle.std.specs.Prelude.{if◌then◌else◌, Some, None};
 
 /// The first copy that was put, or taken, in a direction, and the rows after it.
-fn next_told<'a>(which: Told, dir: Dir, rows: &'a [Row]) -> Option<(&'a Carried, &'a [Row])>
+fn next_told<'a>(which: Passage, dir: Dir, rows: &'a [Row]) -> Option<(&'a Carried, &'a [Row])>
     ensures { MatchOption result (told which dir rows.now ≡ []) (λ r. told which dir rows.now ≡ r.0.now ∷ told which dir r.1.now) }
 {
     let mut left = rows;
@@ -80,7 +80,7 @@ fn after_pass<'a>(
     let Some(octets) = copy_out(place, &entry.event, &entry.outcome, port) else {
         return Some(rows);
     };
-    let (copy, left) = next_told(Told::Put, dir, rows)?;
+    let (copy, left) = next_told(Passage::Put, dir, rows)?;
     if is_copy(copy, probe_of(number, at, &entry.event), octets.as_slice()) {
         Some(left)
     } else {
@@ -88,7 +88,7 @@ fn after_pass<'a>(
     }
 }
 
-ghost use Rattle.hsr_closing.specs.declared.agreement.Told.TheVariants.{Put, Taken};
+ghost use Rattle.hsr_closing.specs.declared.agreement.Passage.TheVariants.{Put, Taken};
 
 /// Whether what was put in a direction is what the entries passed by a port, in the same order.
 fn puts_in_order(
@@ -108,7 +108,7 @@ fn puts_in_order(
         };
         left = more;
     }
-    next_told(Told::Put, dir, left).is_none()
+    next_told(Passage::Put, dir, left).is_none()
 }
 
 /// The copy that came to a port with an entry.
@@ -130,7 +130,7 @@ fn after_arrival<'a>(port: u8, entry: &Entry, dir: Dir, rows: &'a [Row]) -> Opti
     let Some(came) = came_by(port, entry) else {
         return Some(rows);
     };
-    let (copy, left) = next_told(Told::Taken, dir, rows)?;
+    let (copy, left) = next_told(Passage::Taken, dir, rows)?;
     if is_copy(copy, came.probe, came.octets.as_slice()) {
         Some(left)
     } else {
@@ -149,7 +149,7 @@ fn takens_in_order(entries: &[Entry], port: u8, dir: Dir, rows: &[Row]) -> bool
         };
         left = more;
     }
-    next_told(Told::Taken, dir, left).is_none()
+    next_told(Passage::Taken, dir, left).is_none()
 }
 
 fn add(copies: &mut Vec<Carried>, copy: Carried) -> Result<(), NoMemory>
@@ -162,7 +162,12 @@ fn add(copies: &mut Vec<Carried>, copy: Carried) -> Result<(), NoMemory>
 }
 
 /// The copies that were put, or taken, in a direction.
-fn copies_told(alloc: Global, which: Told, dir: Dir, rows: &[Row]) -> Result<Vec<Carried>, NoMemory>
+fn copies_told(
+    alloc: Global,
+    which: Passage,
+    dir: Dir,
+    rows: &[Row],
+) -> Result<Vec<Carried>, NoMemory>
     ensures { IfOk result (λ copies. copies.items ≡ told which dir rows.now) }
 {
     let mut copies = Vec::new(alloc);
@@ -272,7 +277,7 @@ pub(crate) fn puts_fit<const C: usize>(
         return Ok(true);
     }
     let passed = passed(alloc, kept.node(), kept.place(), port, entries)?;
-    let put = copies_told(alloc, Told::Put, dir, rows)?;
+    let put = copies_told(alloc, Passage::Put, dir, rows)?;
     Ok(is_as_often(passed.as_slice(), put.as_slice()))
 }
 
@@ -291,7 +296,7 @@ pub(crate) fn takens_fit<const C: usize>(
     if takens_in_order(entries, port, dir, rows) {
         return Ok(true);
     }
-    let taken = copies_told(alloc, Told::Taken, dir, rows)?;
+    let taken = copies_told(alloc, Passage::Taken, dir, rows)?;
     let came = arrived(alloc, port, entries)?;
     Ok(is_as_often(taken.as_slice(), came.as_slice()))
 }

@@ -4,7 +4,7 @@ ghost use Rattle.hsr_node.specs.Kept.{Record};
 ghost use Rattle.hsr_closing.specs.Checked.{Agrees, HasNoStorm, IfDisagree, IsFirst};
 ghost use Rattle.hsr_closing.specs.Finished.{IsFinished, run_of};
 
-use crate::agreement::Told;
+use crate::agreement::Passage;
 use crate::disagree::{CheckFault, Disagree};
 use crate::links_agree::{first_noisy, first_other};
 use crate::parts::Parts;
@@ -34,12 +34,12 @@ pub(crate) fn disagreement<const C: usize>(
         return Ok(Some(Disagree::Shape));
     }
     are_legal(kept);
-    match first_other(alloc, Told::Put, topology, kept, rows) {
+    match first_other(alloc, Passage::Put, topology, kept, rows) {
         Err(fault) => return Err(fault),
         Ok(Some((link, dir))) => return Ok(Some(Disagree::LinkPut { link, dir })),
         Ok(None) => {}
     }
-    match first_other(alloc, Told::Taken, topology, kept, rows) {
+    match first_other(alloc, Passage::Taken, topology, kept, rows) {
         Err(fault) => return Err(fault),
         Ok(Some((link, dir))) => return Ok(Some(Disagree::LinkTaken { link, dir })),
         Ok(None) => {}

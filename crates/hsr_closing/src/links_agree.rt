@@ -6,7 +6,7 @@ ghost use Rattle.hsr_closing.specs.Finished.{items_of, run_of};
 ghost use Rattle.hsr_law.specs.Run.{from_end, to_end};
 ghost use Rattle.hsr_closing.specs.Shape.{IsShaped};
 
-use crate::agreement::{Told, puts_fit, takens_fit};
+use crate::agreement::{Passage, puts_fit, takens_fit};
 use hsr_frame::NoMemory;
 use hsr_link::{Dir, Fate, Row};
 use hsr_node::Kept;
@@ -82,7 +82,7 @@ fn taken_agrees<const C: usize>(
 /// Whether what was put there, or taken, is what the record of the node at that end tells.
 fn told_agrees<const C: usize>(
     alloc: Global,
-    which: Told,
+    which: Passage,
     topology: &Topology,
     kept: &[Kept<C>],
     rows: &[Vec<Row>],
@@ -94,8 +94,8 @@ fn told_agrees<const C: usize>(
     ensures { IfOk result (λ agrees. IsTrue agrees ↔ ToldAgrees which (run_of C topology.now kept.now rows.now) link dir) }
 {
     match which {
-        Told::Put => put_agrees(alloc, topology, kept, rows, link, dir),
-        Told::Taken => taken_agrees(alloc, topology, kept, rows, link, dir),
+        Passage::Put => put_agrees(alloc, topology, kept, rows, link, dir),
+        Passage::Taken => taken_agrees(alloc, topology, kept, rows, link, dir),
     }
 }
 
@@ -103,7 +103,7 @@ fn told_agrees<const C: usize>(
 #[tactic(auto, unfolding(crate::specs::Checked::AllAgree))]
 pub(crate) fn first_other<const C: usize>(
     alloc: Global,
-    which: Told,
+    which: Passage,
     topology: &Topology,
     kept: &[Kept<C>],
     rows: &[Vec<Row>],

@@ -1,7 +1,7 @@
 use Rattle.std.proofs.Common.{◌≡◌, drop}
 use Rattle.hsr_node.specs.Record.{Owner}
 use Rattle.hsr_closing.specs.InOrder.{passed, told}
-use Rattle.hsr_closing.specs.declared.agreement.Told.TheVariants.{Put}
+use Rattle.hsr_closing.specs.declared.agreement.Passage.TheVariants.{Put}
 use Rattle.hsr_closing.proofs.agreement.puts_in_order.Given as goal
 
 -- what is left answers for all

@@ -1,6 +1,6 @@
 use Rattle.std.proofs.Common.{◌≡◌, drop}
 use Rattle.hsr_closing.specs.InOrder.{came, told}
-use Rattle.hsr_closing.specs.declared.agreement.Told.TheVariants.{Taken}
+use Rattle.hsr_closing.specs.declared.agreement.Passage.TheVariants.{Taken}
 use Rattle.hsr_closing.proofs.agreement.takens_in_order.Given as goal
 
 -- what is left answers for all
