@@ -1,4 +1,4 @@
--- What a new entry gives to the ways of the code, and the room that it needs.
+-- What a new entry gives to the lanes of the code, and the room that it needs.
 use Rattle.std.specs.Prelude.{ℕ, ◌==◌, ◌≡◌, ◌<◌, ◌≤◌, true, List, [], ◌++◌, if◌then◌else◌, option_map, option_to_list, vec_capacity}
 use Rattle.std.specs.VecDeque.{deque_len, deque_capacity}
 use Rattle.hsr_topology.specs.declared.end.End.{End}
@@ -10,7 +10,7 @@ use Rattle.hsr_node.specs.declared.place.Place.{Place}
 use Rattle.hsr_world.specs.Lines.{Lane, Line, emptied, on_lanes}
 use Rattle.hsr_ring.specs.Views.{line_view}
 use Rattle.hsr_ring.specs.declared.line.Line as code
-use Rattle.hsr_ring.specs.declared.way.Way.{Way}
+use Rattle.hsr_ring.specs.declared.lane.Lane as code-lane
 
 -- the copy of an entry that joins the outbox of a lane
 abbrev pub given : Place → Receipt → Lane → List Carried
@@ -27,13 +27,13 @@ abbrev pub given_line : Place → Receipt → code.Line → Line
 given_line place receipt line = on_lanes (given_lane place receipt) (line_view line)
 
 -- room for one more copy in an outbox, and for the octets of the longest
-pub record HasRoom (way : Way) : Type 0 where
-  pub outbox : deque_len way.outbox < deque_capacity way.outbox
-  pub octets : 1524 ≤ vec_capacity way.room
+pub record HasRoom (lane : code-lane.Lane) : Type 0 where
+  pub outbox : deque_len lane.outbox < deque_capacity lane.outbox
+  pub octets : 1524 ≤ vec_capacity lane.room
 
 -- a node has room where it sends
-abbrev pub IsReady : ℕ → Way → Type 0
-IsReady node way = (way.from.node == node) ≡ true → HasRoom way
+abbrev pub IsReady : ℕ → code-lane.Lane → Type 0
+IsReady node lane = (lane.from.node == node) ≡ true → HasRoom lane
 
 pub record IsLineReady (node : ℕ) (line : code.Line) : Type 0 where
   pub forth : IsReady node line.forth

@@ -1,4 +1,4 @@
--- How a contract sees the ways and lines of the code, and what a call makes of one line.
+-- How a contract sees the lanes and lines of the code, and what a call makes of one line.
 use Rattle.std.specs.List.{range_with_len}
 use Rattle.std.specs.Prelude.{ℕ, ◌≡◌, ◌≤◌, List, [], ◌∷◌, nat_lt, if◌then◌else◌, slice_index_or, length, map, set, Option, Some, None, Result, Ok, Err}
 use Rattle.hsr_node.specs.Place.{ports}
@@ -16,10 +16,10 @@ use Rattle.hsr_ring.specs.declared.spot.Spot as code-spot
 use Rattle.hsr_closing.specs.declared.planned.Planned.{Planned}
 use Rattle.hsr_step.specs.declared.step.WorldFault.{WorldFault}
 use Rattle.hsr_step.specs.declared.step.WorldFault.TheVariants.{Busy, NoSuchNode, NoSuchPort, Nothing}
-use Rattle.hsr_ring.specs.declared.way.Way.{Way}
+use Rattle.hsr_ring.specs.declared.lane.Lane as code-lane
 
-abbrev pub lane_view : Way → Lane
-lane_view way = record { from = way.from; to = way.to; outbox = way.outbox.items; hand = way.hand }
+abbrev pub lane_view : code-lane.Lane → Lane
+lane_view lane = record { from = lane.from; to = lane.to; outbox = lane.outbox.items; hand = lane.hand }
 
 abbrev pub line_view : code.Line → Line
 line_view line = record { link = line.link; forth = lane_view line.forth; back = lane_view line.back }

@@ -3,8 +3,8 @@ ghost use Rattle.std.specs.Prelude.{◌≡◌, All, OnOk, map};
 ghost use Rattle.hsr_ring.specs.Giving.{IsLineReady, given_line};
 ghost use Rattle.hsr_ring.specs.Views.{line_view};
 
+use crate::lane::{commit_lane, prepare_lane};
 use crate::line::Line;
-use crate::way::{commit_way, prepare_way};
 use hsr_frame::NoMemory;
 use hsr_node::{Place, Receipt};
 use std::alloc::Global;
@@ -13,16 +13,16 @@ fn prepare_line(line: &mut Line, node: usize) -> Result<(), NoMemory>
     ensures view { line_view line.new ≡ line_view line.old }
     ensures ready { OnOk result (IsLineReady node line.new) }
 {
-    prepare_way(&mut line.forth, node)?;
-    prepare_way(&mut line.back, node)
+    prepare_lane(&mut line.forth, node)?;
+    prepare_lane(&mut line.back, node)
 }
 
 fn commit_line(alloc: Global, line: &mut Line, place: &Place, receipt: &Receipt)
     requires { IsLineReady receipt.now.node line.old }
     ensures { line_view line.new ≡ given_line place.now receipt.now line.old }
 {
-    commit_way(alloc, &mut line.forth, place, receipt);
-    commit_way(alloc, &mut line.back, place, receipt);
+    commit_lane(alloc, &mut line.forth, place, receipt);
+    commit_lane(alloc, &mut line.back, place, receipt);
 }
 
 /// Makes room for one more copy wherever a node sends.

@@ -4,8 +4,8 @@ ghost use Rattle.hsr_ring.specs.Giving.{emptied_line};
 ghost use Rattle.hsr_world.specs.Lines.{emptied, held_in, lanes_of, on_lanes};
 ghost use Rattle.hsr_ring.specs.Views.{lane_view, line_view};
 
+use crate::lane::Lane;
 use crate::line::Line;
-use crate::way::Way;
 use hsr_frame::NoMemory;
 use hsr_node::Carried;
 use hsr_topology::End;
@@ -34,19 +34,19 @@ pub(crate) fn held(lines: &[Line], end: End) -> Result<Option<Carried>, NoMemory
     Ok(None)
 }
 
-fn clear_way(way: &mut Way, end: End)
-    ensures { lane_view way.new ≡ emptied end (lane_view way.old) }
+fn clear_lane(lane: &mut Lane, end: End)
+    ensures { lane_view lane.new ≡ emptied end (lane_view lane.old) }
 {
-    if way.to == end {
-        way.hand = None;
+    if lane.to == end {
+        lane.hand = None;
     }
 }
 
 fn clear_line(line: &mut Line, end: End)
     ensures { line_view line.new ≡ emptied_line end line.old }
 {
-    clear_way(&mut line.forth, end);
-    clear_way(&mut line.back, end);
+    clear_lane(&mut line.forth, end);
+    clear_lane(&mut line.back, end);
 }
 
 /// What the port at an end holds leaves its hand.

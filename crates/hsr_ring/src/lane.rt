@@ -17,7 +17,7 @@ const MOST_OCTETS: usize = 1524;
 /// From which port to which; what the first has still to put, the oldest first, and what the second holds. Room for the
 /// octets of one more copy is no part of what a clause sees.
 #[derive(Drop)]
-pub(crate) struct Way {
+pub(crate) struct Lane {
     pub(crate) from: End,
     pub(crate) to: End,
     pub(crate) outbox: VecDeque<Carried>,
@@ -26,13 +26,13 @@ pub(crate) struct Way {
 }
 
 /// Makes room for one more copy, if this node sends here.
-pub(crate) fn prepare_way(way: &mut Way, node: usize) -> Result<(), NoMemory>
-    ensures view { lane_view way.new ≡ lane_view way.old }
-    ensures ready { OnOk result (IsReady node way.new) }
+pub(crate) fn prepare_lane(lane: &mut Lane, node: usize) -> Result<(), NoMemory>
+    ensures view { lane_view lane.new ≡ lane_view lane.old }
+    ensures ready { OnOk result (IsReady node lane.new) }
 {
-    if way.from.node == node {
-        way.outbox.reserve(1)?;
-        way.room.reserve(MOST_OCTETS)?;
+    if lane.from.node == node {
+        lane.outbox.reserve(1)?;
+        lane.room.reserve(MOST_OCTETS)?;
     }
     Ok(())
 }
@@ -76,33 +76,33 @@ fn fitted(alloc: Global, room: &mut Vec<u8>, octets: &[u8]) -> Octets
     }
 }
 
-/// The copy that leaves its node by a way joins its outbox. It begins by clearing room for the longest copy, and so stands
-/// apart from what is done for each way.
+/// The copy that leaves its node by a lane joins its outbox. It begins by clearing room for the longest copy, and so stands
+/// apart from what is done for each lane.
 #[inline(never)]
-fn add_copy(alloc: Global, way: &mut Way, place: &Place, receipt: &Receipt)
-    requires node { way.old.from.node ≡ receipt.now.node }
-    requires ready { IsReady receipt.now.node way.old }
-    ensures { lane_view way.new ≡ given_lane place.now receipt.now (lane_view way.old) }
+fn add_copy(alloc: Global, lane: &mut Lane, place: &Place, receipt: &Receipt)
+    requires node { lane.old.from.node ≡ receipt.now.node }
+    requires ready { IsReady receipt.now.node lane.old }
+    ensures { lane_view lane.new ≡ given_lane place.now receipt.now (lane_view lane.old) }
 {
     let entry = &receipt.entry;
-    let Some(copy) = copy_out(place, &entry.event, &entry.outcome, way.from.port) else {
+    let Some(copy) = copy_out(place, &entry.event, &entry.outcome, lane.from.port) else {
         return;
     };
     let carried = Carried {
         probe: probe_of(receipt),
-        octets: fitted(alloc, &mut way.room, copy.as_slice()),
+        octets: fitted(alloc, &mut lane.room, copy.as_slice()),
     };
-    let Ok(()) = way.outbox.push_back(carried) else {
+    let Ok(()) = lane.outbox.push_back(carried) else {
         unreachable!()
     };
 }
 
-/// The copy that leaves by a way joins its outbox, if the way is one of its node.
-pub(crate) fn commit_way(alloc: Global, way: &mut Way, place: &Place, receipt: &Receipt)
-    requires { IsReady receipt.now.node way.old }
-    ensures { lane_view way.new ≡ given_lane place.now receipt.now (lane_view way.old) }
+/// The copy that leaves by a lane joins its outbox, if the lane is one of its node.
+pub(crate) fn commit_lane(alloc: Global, lane: &mut Lane, place: &Place, receipt: &Receipt)
+    requires { IsReady receipt.now.node lane.old }
+    ensures { lane_view lane.new ≡ given_lane place.now receipt.now (lane_view lane.old) }
 {
-    if way.from.node == receipt.node {
-        add_copy(alloc, way, place, receipt);
+    if lane.from.node == receipt.node {
+        add_copy(alloc, lane, place, receipt);
     }
 }

@@ -6,13 +6,13 @@ mod entering;
 mod fit;
 mod giving;
 mod hand;
+mod lane;
 mod line;
 mod port;
 mod running;
 mod spot;
 mod starting;
 mod waiting;
-mod way;
 mod world;
 
 pub use hsr_step::{DrainFault, Step, WorldFault};

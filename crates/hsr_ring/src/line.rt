@@ -4,7 +4,7 @@ ghost use Rattle.hsr_world.specs.Lines.{lane_of};
 ghost use Rattle.hsr_ring.specs.Views.{cut_line, inject_line, lane_view, line_view, mend_line, on_line, put_lane, put_line, put_lines, take_lane, take_line, take_lines};
 ghost use Rattle.hsr_step.specs.declared.step.WorldFault.TheVariants.{NoMemory};
 
-use crate::way::Way;
+use crate::lane::Lane;
 use hsr_link::{Dir, Link};
 use hsr_node::{Carried, Octets};
 use hsr_step::WorldFault;
@@ -14,8 +14,8 @@ use std::alloc::Global;
 #[derive(Drop)]
 pub(crate) struct Line {
     pub(crate) link: Link,
-    pub(crate) forth: Way,
-    pub(crate) back: Way,
+    pub(crate) forth: Lane,
+    pub(crate) back: Lane,
 }
 
 /// Mends a link.
@@ -60,17 +60,17 @@ pub(crate) fn inject_at(
 }
 
 /// The oldest copy that waits in a direction comes into the hand.
-fn take_into(link: &mut Link, way: &mut Way, dir: Dir) -> Result<(), WorldFault>
-    ensures ok { OnOk result (take_lane dir link.old (lane_view way.old) ≡ Ok (link.new, lane_view way.new)) }
-    ensures err { IfErr result (λ f. (link.new ≡ link.old) × (lane_view way.new ≡ lane_view way.old) × (take_lane dir link.old (lane_view way.old) ≡ Err f)) }
+fn take_into(link: &mut Link, lane: &mut Lane, dir: Dir) -> Result<(), WorldFault>
+    ensures ok { OnOk result (take_lane dir link.old (lane_view lane.old) ≡ Ok (link.new, lane_view lane.new)) }
+    ensures err { IfErr result (λ f. (link.new ≡ link.old) × (lane_view lane.new ≡ lane_view lane.old) × (take_lane dir link.old (lane_view lane.old) ≡ Err f)) }
 {
-    if way.hand.is_some() {
+    if lane.hand.is_some() {
         return Err(WorldFault::Busy);
     }
     let Some(copy) = link.take(dir) else {
         return Err(WorldFault::Nothing);
     };
-    way.hand = Some(copy);
+    lane.hand = Some(copy);
     Ok(())
 }
 
@@ -94,17 +94,17 @@ pub(crate) fn take_at(lines: &mut [Line], link: usize, dir: Dir) -> Result<(), W
 }
 
 /// The oldest copy of the outbox goes onto the link.
-fn put_from(link: &mut Link, way: &mut Way, dir: Dir) -> Result<(), WorldFault>
-    ensures ok { OnOk result (put_lane dir link.old (lane_view way.old) ≡ Ok (link.new, lane_view way.new)) }
-    ensures err { IfErr result (λ f. (link.new ≡ link.old) × (lane_view way.new ≡ lane_view way.old) × ((f ≡ NoMemory) ⊎ (put_lane dir link.old (lane_view way.old) ≡ Err f))) }
+fn put_from(link: &mut Link, lane: &mut Lane, dir: Dir) -> Result<(), WorldFault>
+    ensures ok { OnOk result (put_lane dir link.old (lane_view lane.old) ≡ Ok (link.new, lane_view lane.new)) }
+    ensures err { IfErr result (λ f. (link.new ≡ link.old) × (lane_view lane.new ≡ lane_view lane.old) × ((f ≡ NoMemory) ⊎ (put_lane dir link.old (lane_view lane.old) ≡ Err f))) }
 {
-    let Some(copy) = way.outbox.pop_front() else {
+    let Some(copy) = lane.outbox.pop_front() else {
         return Err(WorldFault::Nothing);
     };
     match link.put(dir, copy) {
         Ok(_fate) => Ok(()),
         Err((copy, _refused)) => {
-            let Ok(()) = way.outbox.push_front(copy) else {
+            let Ok(()) = lane.outbox.push_front(copy) else {
                 unreachable!()
             };
             Err(WorldFault::NoMemory)

@@ -5,8 +5,8 @@ ghost use Rattle.hsr_ring.specs.Starting.{new_records};
 ghost use Rattle.hsr_ring.specs.Views.{lane_view, line_view};
 ghost use Rattle.hsr_world.specs.World.{new_lane, new_line};
 
+use crate::lane::Lane;
 use crate::line::Line;
-use crate::way::Way;
 use hsr_frame::NoMemory;
 use hsr_link::Link;
 use hsr_node::{Kept, Place};
@@ -33,10 +33,10 @@ pub(crate) fn new_nodes<const C: usize>(
     Ok(nodes)
 }
 
-fn new_way(alloc: Global, from: End, to: End) -> Way
+fn new_lane(alloc: Global, from: End, to: End) -> Lane
     ensures { lane_view result ≡ new_lane from to }
 {
-    Way {
+    Lane {
         from,
         to,
         outbox: VecDeque::new(alloc),
@@ -53,8 +53,8 @@ fn new_line(alloc: Global, capacity: usize, link: &[End; 2]) -> Result<Line, NoM
     let link = Link::new(alloc, capacity)?;
     Ok(Line {
         link,
-        forth: new_way(alloc, a, b),
-        back: new_way(alloc, b, a),
+        forth: new_lane(alloc, a, b),
+        back: new_lane(alloc, b, a),
     })
 }
 

@@ -8,4 +8,4 @@ use Rattle.hsr_ring.proofs.line.take_into.Goals as goal
 pub returns-in_default-clause-err : goal.returns-in_default-clause-err
 returns-in_default-clause-err c =
     let none = sym c.in_default.is ∙ ap (λ p. p.0) c.take.ensures in
-    (ap (λ p. p.1) c.take.ensures ∙ ap (λ (rows : List Row). record c.args.link.now { rows = rows }) (turned_none Taken c.args.dir c.args.link.now.rows none), refl, take_none c.args.dir c.args.link.now (lane_view c.args.way.now) c.args.way.now.hand c.if-is_some.ensures none)
+    (ap (λ p. p.1) c.take.ensures ∙ ap (λ (rows : List Row). record c.args.link.now { rows = rows }) (turned_none Taken c.args.dir c.args.link.now.rows none), refl, take_none c.args.dir c.args.link.now (lane_view c.args.lane.now) c.args.lane.now.hand c.if-is_some.ensures none)
