@@ -54,8 +54,8 @@ fn is_for(mac: Mac, dst: Mac, sender: usize, node: usize) -> bool
 fn push_if(nodes: &mut Vec<usize>, is_one: bool, node: usize) -> Result<(), NoMemory>
     ensures { OnOk result (nodes.new.items ≡ nodes.old.items ++ (if is_one then node ∷ [] else [])) }
 {
-    if is_one && nodes.push(node).is_err() {
-        return Err(NoMemory);
+    if is_one {
+        nodes.push(node)?;
     }
     Ok(())
 }
@@ -88,9 +88,7 @@ fn list_entry(
         return Ok(());
     };
     let receivers = receivers(alloc, macs, probe.node, dst)?;
-    if sends.push(Certified { probe, receivers }).is_err() {
-        return Err(NoMemory);
-    }
+    sends.push(Certified { probe, receivers })?;
     Ok(())
 }
 

@@ -154,10 +154,8 @@ fn add_mark(marks: &mut Vec<Mark>, mark: Mark) -> Result<(), NoMemory>
     ensures put { OnOk result (marks.new.items ≡ marks.old.items ++ mark ∷ []) }
     ensures refused { OnErr result (marks.new.items ≡ marks.old.items) }
 {
-    match marks.push(mark) {
-        Ok(()) => Ok(()),
-        Err(_) => Err(NoMemory),
-    }
+    marks.push(mark)?;
+    Ok(())
 }
 
 impl Marks {

@@ -87,9 +87,7 @@ fn push_address(macs: &mut Vec<Mac>, place: &Place) -> Result<(), NoMemory>
     ensures { OnOk result (macs.new.items ≡ macs.old.items ++ cons_option (address_of place.now) []) }
 {
     if let Place::Danh { mac, .. } = place {
-        if macs.push(*mac).is_err() {
-            return Err(NoMemory);
-        }
+        macs.push(*mac)?;
     }
     Ok(())
 }

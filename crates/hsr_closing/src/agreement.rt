@@ -155,10 +155,8 @@ fn takens_in_order(entries: &[Entry], port: u8, dir: Dir, rows: &[Row]) -> bool
 fn add(copies: &mut Vec<Carried>, copy: Carried) -> Result<(), NoMemory>
     ensures { OnOk result (copies.new.items ≡ copies.old.items ++ copy ∷ []) }
 {
-    match copies.push(copy) {
-        Ok(()) => Ok(()),
-        Err(_) => Err(NoMemory),
-    }
+    copies.push(copy)?;
+    Ok(())
 }
 
 /// The copies that were put, or taken, in a direction.
@@ -230,7 +228,7 @@ fn arrived(alloc: Global, port: u8, entries: &[Entry]) -> Result<Vec<Carried>, N
     Ok(copies)
 }
 
-/// Whether they are one copy.
+/// Whether two copies are one.
 fn is_same_carried(a: &Carried, b: &Carried) -> bool
     ensures { result ≡ is_same_carried a.now b.now }
 {

@@ -21,10 +21,8 @@ pub fn next_place(entries: &[Entry], worker: u16, from: usize) -> Option<usize>
 fn add_place(next: &mut Vec<usize>) -> Result<(), NoMemory>
     ensures { OnOk result (next.new.items ≡ next.old.items ++ 0 ∷ []) }
 {
-    match next.push(0) {
-        Ok(()) => Ok(()),
-        Err(_) => Err(NoMemory),
-    }
+    next.push(0)?;
+    Ok(())
 }
 
 /// A first place for each node.

@@ -25,10 +25,8 @@ fn receipt_of(node: usize, place: usize, entry: &Entry) -> Result<Receipt, NoMem
 fn add_pass(passes: &mut Vec<Pass>, pass: Pass) -> Result<(), NoMemory>
     ensures { OnOk result (passes.new.items ≡ passes.old.items ++ pass ∷ []) }
 {
-    match passes.push(pass) {
-        Ok(()) => Ok(()),
-        Err(_) => Err(NoMemory),
-    }
+    passes.push(pass)?;
+    Ok(())
 }
 
 fn add_receipt(pass: &mut Pass, receipt: Receipt) -> Result<(), NoMemory>

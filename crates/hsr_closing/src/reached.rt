@@ -24,13 +24,11 @@ pub(crate) struct Reached {
 fn add_reached(all: &mut Vec<Reached>, next: Vec<usize>) -> Result<(), NoMemory>
     ensures { OnOk result (all.new.items ≡ all.old.items ++ record { next = next; is_right = true } ∷ []) }
 {
-    match all.push(Reached {
+    all.push(Reached {
         next,
         is_right: true,
-    }) {
-        Ok(()) => Ok(()),
-        Err(_) => Err(NoMemory),
-    }
+    })?;
+    Ok(())
 }
 
 /// Where workers up to one stand before their first receipt.
@@ -62,7 +60,7 @@ fn follow<const C: usize>(
     reached.is_right &= comes;
 }
 
-/// Goes on with those of a pass.
+/// Goes on with the receipts of a pass.
 fn follow_pass<const C: usize>(kept: &[Kept<C>], all: &mut Vec<Reached>, pass: &Pass)
     requires worker { pass.now.worker < length all.old.items }
     requires long { AreLong (length kept.now) all.old.items }
@@ -74,7 +72,7 @@ fn follow_pass<const C: usize>(kept: &[Kept<C>], all: &mut Vec<Reached>, pass: &
     follow(kept, worker, &mut all[usize::from(worker)], pass.receipts());
 }
 
-/// Goes on with those of all passes.
+/// Goes on with the receipts of all passes.
 fn follow_passes<const C: usize>(kept: &[Kept<C>], all: &mut Vec<Reached>, passes: &[Pass])
     requires worker { most_passed passes.now < length all.old.items }
     requires long { AreLong (length kept.now) all.old.items }
@@ -87,7 +85,7 @@ fn follow_passes<const C: usize>(kept: &[Kept<C>], all: &mut Vec<Reached>, passe
     }
 }
 
-/// The worker of an entry that is left is wrong.
+/// Marks the worker of an entry as wrong where no receipt has come so far.
 fn mark_entry(all: &mut Vec<Reached>, node: usize, place: usize, entry: &Entry)
     requires worker { entry.now.worker < length all.old.items }
     requires node { HasNode node all.old.items }
@@ -97,7 +95,7 @@ fn mark_entry(all: &mut Vec<Reached>, node: usize, place: usize, entry: &Entry)
     reached.is_right = reached.is_right && place < reached.next[node];
 }
 
-/// Those of which entries are left in a record are wrong.
+/// Marks the workers of which entries of a record are left as wrong.
 fn mark_record(all: &mut Vec<Reached>, node: usize, entries: &[Entry])
     requires worker { most_in entries.now < length all.old.items }
     requires node { HasNode node all.old.items }
@@ -108,7 +106,7 @@ fn mark_record(all: &mut Vec<Reached>, node: usize, entries: &[Entry])
     }
 }
 
-/// Those of which entries are left are wrong.
+/// Marks the workers of which entries of any record are left as wrong.
 fn mark_records<const C: usize>(kept: &[Kept<C>], all: &mut Vec<Reached>)
     requires worker { most_kept kept.now < length all.old.items }
     requires long { AreLong (length kept.now) all.old.items }
@@ -135,7 +133,7 @@ pub(crate) fn reached_by<const C: usize>(
     Ok(all)
 }
 
-/// The lowest that is wrong.
+/// The lowest worker whose receipts are wrong.
 pub(crate) fn first_lost(all: &[Reached]) -> Option<u16>
     requires { length all.now ≤ 65536 }
     ensures { MatchOption result ((w : ℕ) (d : Reached) → w < length all.now → (slice_index_or all.now w d).is_right ≡ true) (λ worker. IsFirstLost all.now worker) }

@@ -26,9 +26,7 @@ fn copies_of(alloc: Global, rows: &[Row]) -> Result<Vec<Row>, NoMemory>
     let mut copies = Vec::new(alloc);
     for row in rows.iter() {
         let copy = row.copy()?;
-        if copies.push(copy).is_err() {
-            return Err(NoMemory);
-        }
+        copies.push(copy)?;
     }
     Ok(copies)
 }
@@ -40,9 +38,7 @@ fn rows_of(alloc: Global, lines: &[Line]) -> Result<Vec<Vec<Row>>, NoMemory>
     let mut rows = Vec::new(alloc);
     for line in lines.iter() {
         let copies = copies_of(alloc, line.link.rows())?;
-        if rows.push(copies).is_err() {
-            return Err(NoMemory);
-        }
+        rows.push(copies)?;
     }
     Ok(rows)
 }

@@ -60,9 +60,7 @@ fn add_ports(all: &mut Vec<Port>, lines: &[Line], node: usize, count: u8) -> Res
     ensures { OnOk result (all.new.items ≡ all.old.items ++ map (port_at (map line_view lines.now)) (ports_of node 0 count)) }
 {
     for port in 0..count {
-        if all.push(port_at(lines, End { node, port })).is_err() {
-            return Err(NoMemory);
-        }
+        all.push(port_at(lines, End { node, port }))?;
     }
     Ok(())
 }

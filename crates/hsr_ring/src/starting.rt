@@ -26,9 +26,7 @@ pub(crate) fn new_nodes<const C: usize>(
     let mut nodes = Vec::new(alloc);
     for (number, place) in places.iter().enumerate() {
         let kept = Kept::new(alloc, number, place.copy()?)?;
-        if nodes.push(kept).is_err() {
-            return Err(NoMemory);
-        }
+        nodes.push(kept)?;
     }
     Ok(nodes)
 }
@@ -70,9 +68,7 @@ pub(crate) fn new_lines(
     let mut lines = Vec::new(alloc);
     for link in links.iter() {
         let line = new_line(alloc, capacity, link)?;
-        if lines.push(line).is_err() {
-            return Err(NoMemory);
-        }
+        lines.push(line)?;
     }
     Ok(lines)
 }

@@ -72,9 +72,7 @@ pub(crate) fn plan_of(
     for turn in main {
         match take_turn(*turn, records, slots) {
             Ok(Some(planned)) => {
-                if plan.push(planned).is_err() {
-                    return Err(NoMemory);
-                }
+                plan.push(planned)?;
             }
             Ok(None) => return Ok(None),
             Err(NoMemory) => return Err(NoMemory),
