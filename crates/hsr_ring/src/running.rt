@@ -17,7 +17,7 @@ use hsr_closing::{CheckFault, Closed, Planned};
 use hsr_frame::{About, Counters, Mac};
 use hsr_link::{Dir, Row};
 use hsr_node::{Carried, Entry, Event, Kept, Octets};
-use hsr_step::{Step, WorldFault};
+use hsr_step::{INJECT_LIMIT, Step, WorldFault};
 use hsr_topology::{End, Topology};
 use std::alloc::Global;
 use std::marker::Model;
@@ -138,7 +138,7 @@ impl<const C: usize> Running<C> {
         if link >= self.lines.len() {
             return Err(WorldFault::NoSuchLink);
         }
-        if octets.as_slice().len() > 2048 {
+        if octets.as_slice().len() > INJECT_LIMIT {
             return Err(WorldFault::TooLong);
         }
         match inject_at(self.alloc, &mut self.lines, link, dir, octets) {

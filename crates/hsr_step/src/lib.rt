@@ -4,4 +4,4 @@
 mod refusal;
 mod step;
 
-pub use step::{DrainFault, Step, WorldFault};
+pub use step::{DrainFault, INJECT_LIMIT, Step, WorldFault};

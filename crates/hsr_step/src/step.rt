@@ -3,6 +3,9 @@ use hsr_frame::{About, Mac};
 use hsr_link::Dir;
 use hsr_node::{Octets, StepFault};
 
+/// The most octets that are injected at once: more than any frame has, so that too long ones can be tried.
+pub const INJECT_LIMIT: usize = 2048;
+
 /// What may happen in a world.
 #[derive(Clone, Debug, Drop, PartialEq, Eq)]
 pub enum Step {
@@ -72,7 +75,7 @@ pub enum WorldFault {
     Busy,
     /// The outbox, the queue or the hand is empty.
     Nothing,
-    /// More than 2048 octets are injected.
+    /// More octets than `INJECT_LIMIT` are injected.
     TooLong,
     /// The node refuses the event.
     Node(StepFault),

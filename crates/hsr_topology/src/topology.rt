@@ -12,11 +12,11 @@ use hsr_frame::NoMemory;
 use hsr_node::Place;
 use std::marker::Model;
 
-/// The most nodes that there may be.
-const MOST_NODES: usize = 64;
+/// The most nodes that a topology has.
+const NODE_LIMIT: usize = 64;
 
-/// The most links that there may be.
-const MOST_LINKS: usize = 128;
+/// The most links that a topology has.
+const LINK_LIMIT: usize = 128;
 
 /// Nodes, and the links that join their ports. Nodes and links have numbers from 0, by their places in the lists. No
 /// node has the address of a group, a Station has its addresses once each and one at least; a link joins ports that are
@@ -38,12 +38,12 @@ impl Model for Topology {
     ghost invariant = { λ t. topology_fault t.places.items t.links.items ≡ None };
 }
 
-/// The first reason why they are no topology.
+/// The first reason why nodes and links are no topology.
 #[tactic(auto, unfolding(crate::specs::Topology::topology_fault))]
 fn topology_fault(places: &[Place], links: &[[End; 2]]) -> Option<TopologyFault>
     ensures { result ≡ topology_fault places.now links.now }
 {
-    if places.len() > MOST_NODES || links.len() > MOST_LINKS {
+    if places.len() > NODE_LIMIT || links.len() > LINK_LIMIT {
         return Some(TopologyFault::TooMany);
     }
     if has_bad_node(places) {
@@ -66,7 +66,7 @@ impl Topology {
         }
     }
 
-    /// The nodes that it was made of.
+    /// The nodes that the topology was made of.
     #[tactic(auto, using(crate::proofs::Wired::wired))]
     pub fn places(&self) -> &[Place]
         ensures value { result.now ≡ self.now.places }
@@ -75,7 +75,7 @@ impl Topology {
         self.places.as_slice()
     }
 
-    /// The links that it was made of.
+    /// The links that the topology was made of.
     #[tactic(auto, using(crate::proofs::Wired::wired))]
     pub fn links(&self) -> &[[End; 2]]
         ensures value { result.now ≡ self.now.links }
