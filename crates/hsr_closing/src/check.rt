@@ -18,7 +18,7 @@ use hsr_node::{Kept, Pass};
 use hsr_topology::Topology;
 use std::alloc::Global;
 
-/// The first thing in which they don't agree, if there is one.
+/// The first thing in which the parts of a run don't agree, if there is one.
 #[tactic(auto, using(crate::proofs::Agreed::agrees))]
 pub(crate) fn disagreement<const C: usize>(
     alloc: Global,
@@ -57,7 +57,7 @@ pub(crate) fn disagreement<const C: usize>(
     }
 }
 
-/// Why they are no closed run, if they aren't. Those that are one make a finished run, in which no direction of a link
+/// Why the parts of a run don't agree, if they don't. Parts that agree make a finished run, in which no direction of a link
 /// carried two copies of one send.
 #[tactic(auto, using(crate::proofs::Agreed::calm, crate::proofs::Agreed::finished, crate::proofs::Agreed::refused))]
 pub(crate) fn fault_of<const C: usize>(

@@ -13,7 +13,7 @@ use hsr_node::Kept;
 use hsr_topology::{End, Topology};
 use std::alloc::Global;
 
-/// Where the copies of a direction come from.
+/// The end of a link from which the copies of a direction come.
 fn from_end(links: &[[End; 2]], link: usize, dir: Dir) -> End
     requires { link < length links.now }
     ensures { result ≡ from_end dir (slice_index_or links.now link []) }
@@ -25,7 +25,7 @@ fn from_end(links: &[[End; 2]], link: usize, dir: Dir) -> End
     }
 }
 
-/// Where they go.
+/// The end of a link to which the copies of a direction go.
 fn to_end(links: &[[End; 2]], link: usize, dir: Dir) -> End
     requires { link < length links.now }
     ensures { result ≡ to_end dir (slice_index_or links.now link []) }
@@ -62,7 +62,7 @@ fn put_agrees<const C: usize>(
     puts_fit(alloc, &kept[end.node], end.port, dir, rows_at(rows, link))
 }
 
-/// Whether what was taken there is what came to the node at the other end, each copy as often.
+/// Whether what was taken from a link in a direction is what came to the node at the other end, each copy as often.
 fn taken_agrees<const C: usize>(
     alloc: Global,
     topology: &Topology,
@@ -79,7 +79,7 @@ fn taken_agrees<const C: usize>(
     takens_fit(alloc, &kept[end.node], end.port, dir, rows_at(rows, link))
 }
 
-/// Whether what was put there, or taken, is what the record of the node at that end tells.
+/// Whether what was put on a link in a direction, or taken, is what the record of the node at that end tells.
 fn told_agrees<const C: usize>(
     alloc: Global,
     which: Passage,

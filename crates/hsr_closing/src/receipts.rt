@@ -34,7 +34,7 @@ fn comes_next<const C: usize>(
     true
 }
 
-/// Whether receipts do, one after another.
+/// Whether receipts, one after another, each show the next entry of the worker in their node's record.
 pub(crate) fn come_next<const C: usize>(
     kept: &[Kept<C>],
     worker: u16,

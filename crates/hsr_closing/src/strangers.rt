@@ -104,7 +104,7 @@ fn sent_at<const C: usize>(kept: &[Kept<C>], send: Probe) -> Option<Sending>
     sent_by(kept.place(), &entry.event, &entry.outcome)
 }
 
-/// Whether they are one frame.
+/// Whether two frames are one.
 fn is_same_frame(a: &Frame, b: &Frame) -> bool
     ensures { IsTrue result ↔ (a.now ≡ b.now) }
 {
@@ -129,7 +129,7 @@ fn fits_send(number: Option<u16>, frame: &Frame, octets: &[u8]) -> bool
     }
 }
 
-/// Whether the copy is of the send that its probe names.
+/// Whether a copy is of the send that its probe names.
 fn is_own<const C: usize>(links: &[[End; 2]], kept: &[Kept<C>], copy: &Carried) -> bool
     ensures { IsTrue result ↔ IsOwn links.now kept.now copy.now }
 {
@@ -150,7 +150,7 @@ fn is_ours<const C: usize>(links: &[[End; 2]], kept: &[Kept<C>], row: &Row) -> b
     !row.injected && is_own(links, kept, &row.carried)
 }
 
-/// The first row of a link that isn't.
+/// The first row of a link that no node put, or whose copy is of no send.
 #[tactic(auto, using(crate::proofs::Known::known, crate::proofs::Known::stranger_at))]
 fn stranger_of<const C: usize>(
     topology: &Topology,
@@ -173,7 +173,7 @@ fn stranger_of<const C: usize>(
 
 ghost use Rattle.std.specs.Prelude.{slice_index_or, []};
 
-/// The first link with such a row, and the row.
+/// The first link with a row that no node put, or whose copy is of no send, and the row.
 #[tactic(auto, unfolding(crate::specs::Checked::HasNoStranger))]
 pub(crate) fn first_stranger<const C: usize>(
     topology: &Topology,

@@ -11,15 +11,15 @@ pub struct End {
     pub port: u8,
 }
 
-/// Whether they are one port.
+/// Whether two ends are one port.
 pub fn is_same_end(a: End, b: End) -> bool
     ensures { result ≡ is_same_end a b }
 {
     a.node == b.node && a.port == b.port
 }
 
-/// Whether there is such a node, and it has such a port.
-pub fn has_port(places: &[Place], end: End) -> bool
+/// Whether the node of an end is there, and has its port.
+pub(crate) fn has_port(places: &[Place], end: End) -> bool
     ensures { result ≡ has_port places.now end }
 {
     match places.get(end.node) {
@@ -28,7 +28,7 @@ pub fn has_port(places: &[Place], end: End) -> bool
     }
 }
 
-/// Whether it is the interlink of a RedBox.
+/// Whether an end is the interlink of a RedBox.
 fn is_interlink(places: &[Place], end: End) -> bool
     ensures { result ≡ is_interlink places.now end }
 {
@@ -38,14 +38,14 @@ fn is_interlink(places: &[Place], end: End) -> bool
     }
 }
 
-/// Whether it is on a Station.
+/// Whether an end is on a Station.
 fn is_station(places: &[Place], end: End) -> bool
     ensures { result ≡ is_station places.now end }
 {
     matches!(places.get(end.node), Some(Place::Station { .. }))
 }
 
-/// Whether it is an interlink that faces no Station.
+/// Whether an end is an interlink that faces no Station.
 pub(crate) fn faces_wrongly(places: &[Place], end: End, peer: End) -> bool
     ensures { result ≡ faces_wrongly places.now end peer }
 {

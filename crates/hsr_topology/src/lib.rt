@@ -7,7 +7,7 @@ mod links;
 mod nodes;
 mod topology;
 
-pub use end::{End, has_port, is_same_end};
+pub use end::{End, is_same_end};
 pub use fault::TopologyFault;
 pub use links::is_used;
 pub use topology::Topology;

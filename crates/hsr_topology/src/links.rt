@@ -38,7 +38,7 @@ fn link_fault(places: &[Place], earlier: &[[End; 2]], link: [End; 2]) -> Option<
     None
 }
 
-/// What is wrong with the first link that is wrong.
+/// The first thing that is wrong with the first link that has a fault.
 pub(crate) fn links_fault(places: &[Place], links: &[[End; 2]]) -> Option<TopologyFault>
     ensures { result ≡ links_fault places.now [] links.now }
 {
@@ -51,7 +51,7 @@ pub(crate) fn links_fault(places: &[Place], links: &[[End; 2]]) -> Option<Topolo
 }
 
 /// The number of the first link that has this end, and whether it is the link's first end.
-pub fn link_at(links: &[[End; 2]], end: End) -> Option<(usize, bool)>
+pub(crate) fn link_at(links: &[[End; 2]], end: End) -> Option<(usize, bool)>
     ensures { result ≡ link_from 0 links.now end }
 {
     for (i, link) in links.iter().enumerate() {

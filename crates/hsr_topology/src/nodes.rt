@@ -20,7 +20,7 @@ fn is_bad_node(place: &Place) -> bool
     }
 }
 
-/// Whether one of the nodes is such.
+/// Whether one of these nodes has the address of a group, or is a Station with no address or one twice.
 pub(crate) fn has_bad_node(places: &[Place]) -> bool
     ensures { result ≡ has_bad_node places.now }
 {
@@ -33,13 +33,14 @@ fn has_group(macs: &[Mac]) -> bool
     macs.iter().any(|mac| mac.is_group())
 }
 
+/// Whether an address is among addresses.
 fn is_among(macs: &[Mac], mac: Mac) -> bool
     ensures { result ≡ is_among macs.now mac }
 {
     macs.iter().any(|other| *other == mac)
 }
 
-/// Whether an address stands twice among them.
+/// Whether an address stands twice among addresses.
 fn has_twice(macs: &[Mac]) -> bool
     ensures { result ≡ has_twice macs.now }
 {
