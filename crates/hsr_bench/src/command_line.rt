@@ -144,7 +144,9 @@ fn run_command<'a>(alloc: Global, tables: &'a [&'a str]) -> Result<Command<'a>, 
     ensures own { IfOk result (λ c. (fields_of c).has_globals ≡ false) }
 {
     Command::new(alloc, "run")
-        .about("Runs the scenario on standard input (< plan.toml), and reports whether it certifies delivery")
+        .about(
+            "Runs the scenario on standard input (< plan.toml), and reports whether it certifies delivery",
+        )
         .after_help(RUN_ENDS)
         .arg(table_arg(alloc, tables))?
         .arg(transcript_arg(alloc))

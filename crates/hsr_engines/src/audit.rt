@@ -6,9 +6,9 @@ ghost use Rattle.hsr_engines.specs.Output.{capacity_of};
 
 use crate::chosen::Table;
 use crate::fault::{Fault, Status, TranscriptFault};
+use crate::finding::{Finding, found};
 use crate::report::report;
 use crate::shown::deliver;
-use crate::finding::{Finding, found};
 use hsr_closing::Closed;
 use hsr_transcript::{ReadFault, read};
 use std::alloc::Global;

@@ -9,10 +9,10 @@ ghost use Rattle.hsr_engines.specs.declared.fault.Status.TheVariants.{Fault as S
 
 use crate::chosen::Table;
 use crate::fault::{Fault, Status};
+use crate::finding::{Finding, found};
 use crate::playing::play;
 use crate::shown::{deliver, shown};
 use crate::text::read_text;
-use crate::finding::{Finding, found};
 use hsr_closing::{CheckFault, Closed};
 use hsr_ring::World;
 use hsr_scenario::{Scenario, ScenarioFault, Spot, What, read};

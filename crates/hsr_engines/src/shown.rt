@@ -5,8 +5,8 @@ ghost use Rattle.hsr_engines.specs.Shown.{IsDelivered, shown};
 ghost use Rattle.hsr_engines.specs.declared.fault.Fault.TheVariants.{Memory};
 
 use crate::fault::{Fault, Status};
-use crate::report::report;
 use crate::finding::Finding;
+use crate::report::report;
 use hsr_closing::Closed;
 use hsr_transcript::write;
 use std::alloc::Global;
