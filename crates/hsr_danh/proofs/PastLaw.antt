@@ -1,9 +1,8 @@
 -- The stepping machine answers as its whole past.
-use Rattle.std.proofs.Common.{◌≡◌, ℕ, ◌+◌, ◌%◌, ◌≤◌, ◌^◌, ◌==◌, ◌&&◌, not, Bool, true, false, if◌then◌else◌, List, [], ◌∷◌, ◌++◌, map, Option, Some, None, Result, Ok, Err, refl, sym, ap, ap₂, subst, ◌∙◌, arith, add-zero}
+use Rattle.std.proofs.Common.{◌≡◌, ℕ, ◌+◌, ◌%◌, ◌≤◌, ◌==◌, ◌&&◌, not, Bool, true, false, if◌then◌else◌, List, [], ◌∷◌, map, Option, Some, None, Result, Ok, Err, refl, sym, ap, ap₂, subst, ◌∙◌, arith}
 use Rattle.std.specs.Prelude.{max, fold}
-use Rattle.std.proofs.lemmas.List.{append-nil}
 use Rattle.std.proofs.lemmas.List.Sums.{fold-append}
-use Rattle.hsr_frame.specs.Counters.{bit, counted_cause, step_limit}
+use Rattle.hsr_frame.specs.Counters.{bit, step_limit}
 use Rattle.hsr_frame.specs.Egress.{Egress, up, a, b, exits_of}
 use Rattle.hsr_frame.specs.Send.{send_refusal}
 use Rattle.hsr_frame.specs.declared.counters.Counters.{Counters}
@@ -11,22 +10,23 @@ use Rattle.hsr_frame.specs.declared.egress.Exits.{Exits}
 use Rattle.hsr_frame.specs.declared.egress.Wants.{Wants}
 use Rattle.hsr_frame.specs.declared.fault.FrameFault.{FrameFault}
 use Rattle.hsr_frame.specs.declared.fault.SendFault.{SendFault}
-use Rattle.hsr_frame.specs.declared.node.Cause.{Cause}
-use Rattle.hsr_frame.specs.declared.node.Cause.TheVariants as cause
 use Rattle.hsr_frame.specs.declared.node.Mode.{Mode}
 use Rattle.hsr_frame.specs.declared.node.RingPort.{RingPort}
-use Rattle.hsr_tag.specs.Seen.{classified, is_told, payload_in}
+use Rattle.hsr_tag.specs.Seen.{classified}
 use Rattle.hsr_tag.specs.declared.seen.Seen.{Seen}
 use Rattle.hsr_tag.specs.declared.seen.Seen.TheVariants.{Plain, Tagged}
 use Rattle.hsr_duptable.specs.Key.{Key}
-use Rattle.hsr_duptable.specs.Log.{StandsFor, remembered}
-use Rattle.hsr_duptable.specs.Notes.{has_key, entry_forget, note_if}
-use Rattle.hsr_duptable.specs.Table.{Table, after_age, remembers}
+use Rattle.hsr_duptable.specs.Log.{StandsFor}
+use Rattle.hsr_duptable.specs.Notes.{entry_forget, note_if}
+use Rattle.hsr_duptable.specs.Table.{after_age}
 use Rattle.hsr_duptable.specs.declared.note.Note.{Note}
-use Rattle.hsr_duptable.proofs.LogLaws.{StandsFor-age, StandsFor-new, StandsFor-note, remembers-StandsFor, StandsFor-pass, StandsFor-same}
+use Rattle.hsr_duptable.proofs.LogLaws.{StandsFor-age, StandsFor-new, StandsFor-note, StandsFor-pass, StandsFor-same}
 use Rattle.hsr_duptable.proofs.Within.{IsWithin-age, IsWithin-empty}
 use Rattle.hsr_tables.specs.Known.{known}
-use Rattle.hsr_tables.specs.Nodes.{Hearing, Nodes, heard, no_nodes}
+use Rattle.hsr_tables.specs.Nodes.{Nodes, heard, no_nodes}
+use Rattle.hsr_role.specs.Past.{answers_of, is_bad_life}
+use Rattle.hsr_role.proofs.Counts.{counted-plus, counts_plus}
+use Rattle.hsr_role.proofs.Pasts.{answers-same, heard-same, heard-told, later-max, remembers-same}
 use Rattle.hsr_danh.specs.Machine.{AreWithin, Machine, new_machine}
 use Rattle.hsr_role.specs.Arrival.{counted_with, heard_of, key_of}
 use Rattle.hsr_role.specs.Numbers.{number_range}
@@ -35,7 +35,7 @@ use Rattle.hsr_danh.specs.Wanted.{wanted}
 use Rattle.hsr_danh.specs.Past as deeds
 use Rattle.hsr_danh.specs.Past.{Answer, Call, Deed, Did, count_of, counters_of, done, gave_up, hearings_of, is_step, is_unreadable, judged_frame, log_of, number_after, moment_of, passes_from, past_step, remembers_of, sent_frame, sent_life, step, verdict_from}
 use Rattle.hsr_danh.specs.declared.danh.Verdict.{Verdict}
-use Rattle.hsr_tables.proofs.NodeLaws.{rows_of_latest, listened-if}
+use Rattle.hsr_tables.proofs.NodeLaws.{rows_of_latest}
 use Rattle.hsr_danh.proofs.Steps.{AreWithin-judged, notes-passed}
 
 -- what a machine holds is what its past gives
@@ -53,11 +53,6 @@ pub record IsPastOf (capacity : ℕ) (machine : Machine) (past : List Deed) : Ty
 -- the answers agree, what is held after is what the past after gives, and the node stays itself
 abbrev pub Kept : ℕ → Machine → Answer × Machine → Answer × List Deed → Type 0
 Kept capacity machine s p = (s.0 ≡ p.0) × IsPastOf capacity s.1 p.1 × (s.1.own ≡ machine.own) × (s.1.mode ≡ machine.mode)
-
--- ---- logs
-
-heard-same : (nodes : Nodes) (hearings : List Hearing) → nodes ≡ fold heard no_nodes hearings → nodes ≡ fold heard no_nodes (hearings ++ [])
-heard-same nodes hearings e = rw (append-nil hearings) e
 
 -- ---- frames of the node's own
 
@@ -82,9 +77,6 @@ numbered capacity machine past now counters did later r noted silent counts step
       moment = refl;
       accepted = rw steps (ap (λ n. n + 1) r.accepted);
     }
-
-later-max : (m n : ℕ) → m ≤ max m n
-later-max m n = omega arith
 
 send-case : (capacity : ℕ) (machine : Machine) (past : List Deed) (at : ℕ) (refusal : Option SendFault) → IsPastOf capacity machine past
     → let s = send_or_refuse capacity machine (now_at machine at) refusal in Kept capacity machine (deeds.sent s.0, s.1) (deeds.send_from past at refusal)
@@ -116,21 +108,15 @@ life-case capacity machine past at false r =
 
 -- ---- arrivals
 
-remembers-same : (capacity : ℕ) (machine : Machine) (past : List Deed) (now : ℕ) (key : Key) (table : Table) (egress : Egress) → table.last ≤ now → table.forget ≡ entry_forget
-    → StandsFor capacity table (log_of machine.own egress past) → remembers table key now ≡ remembers_of capacity machine.own past now key egress
-remembers-same capacity machine past now key table egress h forget s =
-    remembers-StandsFor capacity table (log_of machine.own egress past) key now h s
-    ∙ ap (λ n. has_key key (remembered capacity n (log_of machine.own egress past) now)) forget
-
 passes-same : (capacity : ℕ) (machine : Machine) (past : List Deed) (now : ℕ) (exits : Exits) (seen : Result Seen FrameFault) → machine.moment ≤ now → IsPastOf capacity machine past
     → (judged capacity machine.notes exits seen now).0 ≡ passes_from capacity machine.own past now exits seen
 passes-same capacity machine past now exits (Err fault) h r = refl
 passes-same capacity machine past now exits (Ok (Plain frame)) h r = refl
 passes-same capacity machine past now exits (Ok (Tagged frame)) h r =
     let key = key_of frame in
-    let on_up = remembers-same capacity machine past now key machine.notes.up up (omega (arith, r.within.up.last)) r.within.up.forget r.on_up in
-    let on_a = remembers-same capacity machine past now key machine.notes.a a (omega (arith, r.within.a.last)) r.within.a.forget r.on_a in
-    let on_b = remembers-same capacity machine past now key machine.notes.b b (omega (arith, r.within.b.last)) r.within.b.forget r.on_b in
+    let on_up = remembers-same capacity machine.notes.up (log_of machine.own up past) now key (omega (arith, r.within.up.last)) r.within.up.forget r.on_up in
+    let on_a = remembers-same capacity machine.notes.a (log_of machine.own a past) now key (omega (arith, r.within.a.last)) r.within.a.forget r.on_a in
+    let on_b = remembers-same capacity machine.notes.b (log_of machine.own b past) now key (omega (arith, r.within.b.last)) r.within.b.forget r.on_b in
     λ i. record exits { up = exits.up && not (on_up i); a = exits.a && not (on_a i); b = exits.b && not (on_b i) }
 
 -- the log of an egress that passes or doesn't, over any table of it
@@ -158,14 +144,6 @@ logged-b capacity machine past now wants x (Ok (Plain frame)) h r = StandsFor-sa
 logged-b capacity machine past now wants x (Ok (Tagged frame)) h r =
     StandsFor-pass capacity machine.notes.b (log_of machine.own b past) (judged capacity machine.notes wants.exits (Ok (Tagged frame)) now).0.b (key_of frame) now (omega (arith, r.within.b.last)) r.on_b
 
-heard-told : (own : List ℕ) (nodes : Nodes) (x : RingPort) (seen : Result Seen FrameFault) (verdict : Verdict) (now : ℕ)
-    → ((heard_of own nodes x seen now).1 ≡ fold heard nodes (deeds.heard_by own now (judged_frame x seen verdict))) × (not (heard_of own nodes x seen now).0 ≡ is_unreadable own (judged_frame x seen verdict))
-heard-told own nodes x seen verdict now = listened-if (is_told own seen) (payload_in seen) nodes x now
-
-one-more : (p : Bool) (n : ℕ) → n + bit p ≡ (if p then n + 1 else n)
-one-more true n = refl
-one-more false n = add-zero n
-
 two_more : (p q : Bool) (m n : ℕ) → m + n + (bit p + bit q) ≡ (if p then m + 1 else m) + (if q then n + 1 else n)
 two_more true true m n = omega arith
 two_more true false m n = omega arith
@@ -174,27 +152,12 @@ two_more false false m n = omega arith
 
 counted-same : (own : List ℕ) (past : List Deed) (now : ℕ) (x : RingPort) (seen : Result Seen FrameFault) (verdict : Verdict) (readable : Bool) → not readable ≡ is_unreadable own (judged_frame x seen verdict)
     → counted_with (counters_of own past) verdict.cause verdict.up (copies_of verdict) readable ≡ counters_of own (record { now = now; did = judged_frame x seen verdict } ∷ past)
-counted-same own past now x seen verdict readable bad = by_cause verdict.cause
-  where
-    ups : (counters_of own past).up + bit verdict.up ≡ count_of (deeds.has (λ v. v.up)) (record { now = now; did = judged_frame x seen verdict } ∷ past)
-    ups = one-more verdict.up (counters_of own past).up
-
-    forwards : (counters_of own past).forwarded + (bit verdict.a + bit verdict.b) ≡ (counters_of own (record { now = now; did = judged_frame x seen verdict } ∷ past)).forwarded
-    forwards = two_more verdict.a verdict.b (count_of (deeds.has (λ v. v.a)) past) (count_of (deeds.has (λ v. v.b)) past)
-
-    bads : (counters_of own past).bad_life + bit (not readable) ≡ count_of (is_unreadable own) (record { now = now; did = judged_frame x seen verdict } ∷ past)
-    bads = ap (λ p. (counters_of own past).bad_life + bit p) bad ∙ one-more (is_unreadable own (judged_frame x seen verdict)) (counters_of own past).bad_life
-
-    by_cause : (k : Cause) → counted_with (counters_of own past) k verdict.up (copies_of verdict) readable
-        ≡ record (counters_of own (record { now = now; did = judged_frame x seen (record verdict { cause = k }) } ∷ past)) { bad_life = (counters_of own (record { now = now; did = judged_frame x seen verdict } ∷ past)).bad_life }
-    by_cause (cause.Malformed fault) = λ i. record (counted_cause (counters_of own past) (cause.Malformed fault)) { up = ups i; forwarded = forwards i; bad_life = bads i }
-    by_cause cause.Passed = λ i. record (counted_cause (counters_of own past) cause.Passed) { up = ups i; forwarded = forwards i; bad_life = bads i }
-    by_cause cause.Duplicate = λ i. record (counted_cause (counters_of own past) cause.Duplicate) { up = ups i; forwarded = forwards i; bad_life = bads i }
-    by_cause cause.Returned = λ i. record (counted_cause (counters_of own past) cause.Returned) { up = ups i; forwarded = forwards i; bad_life = bads i }
-    by_cause cause.Foreign = λ i. record (counted_cause (counters_of own past) cause.Foreign) { up = ups i; forwarded = forwards i; bad_life = bads i }
-    by_cause cause.Local = λ i. record (counted_cause (counters_of own past) cause.Local) { up = ups i; forwarded = forwards i; bad_life = bads i }
-    by_cause cause.Untagged = λ i. record (counted_cause (counters_of own past) cause.Untagged) { up = ups i; forwarded = forwards i; bad_life = bads i }
-    by_cause cause.Tagged = λ i. record (counted_cause (counters_of own past) cause.Tagged) { up = ups i; forwarded = forwards i; bad_life = bads i }
+counted-same own past now x seen verdict readable bad =
+    let k = counters_of own past in
+    let a = count_of (deeds.has (λ v. v.a)) past in
+    let b = count_of (deeds.has (λ v. v.b)) past in
+    counted-plus k verdict.cause verdict.up (copies_of verdict) readable (is_bad_life own seen) bad
+    ∙ (λ i. record (counts_plus k verdict.cause verdict.up (copies_of verdict) (is_bad_life own seen)) { forwarded = two_more verdict.a verdict.b a b i })
 
 arrive-case : (capacity : ℕ) (machine : Machine) (past : List Deed) (at : ℕ) (x : RingPort) (octets : List ℕ) (spent : Bool) → IsPastOf capacity machine past
     → let s = arrive_or_spent capacity machine (now_at machine at) x octets spent in Kept capacity machine (deeds.judged s.0, s.1) (deeds.arrive_from capacity machine.own machine.mode past at x (classified octets) spent)
@@ -206,7 +169,7 @@ arrive-case capacity machine past at x octets false r =
     let wants = wanted machine.own machine.mode x seen in
     let outcome = judged capacity machine.notes wants.exits seen now in
     let verdict = verdict_of wants outcome.0 in
-    let told = heard-told machine.own machine.nodes x seen verdict now in
+    let told = heard-told machine.own machine.nodes x seen now in
     let same : verdict ≡ verdict_from capacity machine.own machine.mode past (max (moment_of past) at) x seen
     = ap (λ (passes : Exits). verdict_of wants passes) (passes-same capacity machine past now wants.exits seen later r)
     ∙ ap (λ n. verdict_from capacity machine.own machine.mode past (max n at) x seen) r.moment in
@@ -268,18 +231,17 @@ kept capacity machine past (deeds.arriving at x octets) r =
     (arrive-case capacity machine past at x octets (machine.accepted == step_limit) r)
 kept capacity machine past (deeds.ageing at) r = (refl, age-case capacity machine past at r, refl, refl)
 
-runs : (capacity : ℕ) (own : List ℕ) (mode : Mode) (machine : Machine) (past : List Deed) (calls : List Call) → machine.own ≡ own → machine.mode ≡ mode → IsPastOf capacity machine past
-    → let after = deeds.after_calls capacity machine calls in
-    (deeds.answers capacity machine calls ≡ deeds.past_answers capacity own mode past calls) × IsPastOf capacity after (deeds.past_after capacity own mode past calls) × (after.own ≡ own)
-runs capacity own mode machine past [] is_own is_mode r = (refl, r, is_own)
-runs capacity own mode machine past (call ∷ calls) is_own is_mode r =
-    let one = subst₂ own mode is_own is_mode in
-    let more = runs capacity own mode (step capacity machine call).1 (past_step capacity own mode past call).1 calls (one.2 ∙ is_own) (one.3 ∙ is_mode) one.1 in
-    (ap₂ (λ (x : Answer) xs. x ∷ xs) one.0 more.0, more.1, more.2)
-  where
-    subst₂ : (own : List ℕ) (mode : Mode) → machine.own ≡ own → machine.mode ≡ mode → Kept capacity machine (step capacity machine call) (past_step capacity own mode past call)
-    subst₂ own mode e f = subst (λ o. Kept capacity machine (step capacity machine call) (past_step capacity o mode past call)) e
-        (subst (λ m. Kept capacity machine (step capacity machine call) (past_step capacity machine.own m past call)) f (kept capacity machine past call r))
+-- a machine of this address and mode, and its past
+abbrev IsRunOf : ℕ → List ℕ → Mode → Machine → List Deed → Type 0
+IsRunOf capacity own mode machine past = IsPastOf capacity machine past × (machine.own ≡ own) × (machine.mode ≡ mode)
+
+runs-on : (capacity : ℕ) (own : List ℕ) (mode : Mode) (machine : Machine) (past : List Deed) (call : Call) → IsRunOf capacity own mode machine past
+    → let s = step capacity machine call in let p = past_step capacity own mode past call in (s.0 ≡ p.0) × IsRunOf capacity own mode s.1 p.1
+runs-on capacity own mode machine past call r =
+    let after = step capacity machine call in
+    let one = subst (λ o. Kept capacity machine after (past_step capacity o mode past call)) r.1
+    (subst (λ m. Kept capacity machine after (past_step capacity machine.own m past call)) r.2 (kept capacity machine past call r.0)) in
+    (one.0, (one.1, one.2 ∙ r.1, one.3 ∙ r.2))
 
 pub begins : (capacity : ℕ) (own : List ℕ) (mode : Mode) → IsPastOf capacity (new_machine own mode) []
 begins capacity own mode = record {
@@ -296,11 +258,11 @@ begins capacity own mode = record {
 
 pub answers_as_past : (capacity : ℕ) → deeds.AnswersAsPast capacity
 answers_as_past capacity own mode calls =
-    let ran = runs capacity own mode (new_machine own mode) [] calls refl refl (begins capacity own mode) in
-    let past = deeds.past_after capacity own mode [] calls in
-    let held = ran.1 in (
+    let ran = answers-same (IsRunOf capacity own mode) (step capacity) (past_step capacity own mode) (runs-on capacity own mode) (new_machine own mode) [] calls (begins capacity own mode, refl, refl) in
+    let past = (answers_of (past_step capacity own mode) [] calls).1 in
+    let held = ran.1.0 in (
       ran.0,
-      held.counters ∙ ap (λ (o : List ℕ). counters_of o past) ran.2,
-      λ at. ap (λ (n : Nodes). map (λ r. r.0) (known at n.rows)) held.nodes ∙ ap (λ (o : List ℕ). map (λ r. r.0) (known at (fold heard no_nodes (hearings_of o past)).rows)) ran.2
+      held.counters ∙ ap (λ (o : List ℕ). counters_of o past) ran.1.1,
+      λ at. ap (λ (n : Nodes). map (λ r. r.0) (known at n.rows)) held.nodes ∙ ap (λ (o : List ℕ). map (λ r. r.0) (known at (fold heard no_nodes (hearings_of o past)).rows)) ran.1.1
           ∙ rows_of_latest (hearings_of own past) at,
     )

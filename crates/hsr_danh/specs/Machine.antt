@@ -1,5 +1,5 @@
 -- What a contract sees of a DANH: all that it holds.
-use Rattle.std.specs.Prelude.{ℕ, List, ◌≤◌, ◌<◌, ◌^◌}
+use Rattle.std.specs.Prelude.{ℕ, List, ◌≤◌, ◌<◌}
 use Rattle.hsr_frame.specs.Address.{IsGroup}
 use Rattle.hsr_frame.specs.Counters.{AreWithin as CountersWithin, no_counts, step_limit}
 use Rattle.hsr_frame.specs.declared.counters.Counters.{Counters}

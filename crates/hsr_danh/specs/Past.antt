@@ -1,5 +1,5 @@
 -- The machine that keeps its whole past, and answers by filtering it.
-use Rattle.std.specs.Prelude.{◌≡◌, ℕ, ◌+◌, ◌%◌, ◌^◌, ◌==◌, ◌&&◌, not, max, Bool, true, false, List, [], ◌∷◌, ◌++◌, map, reverse, Option, Some, None, Result, Ok, Err, if◌then◌else◌, is_err}
+use Rattle.std.specs.Prelude.{◌≡◌, ℕ, ◌+◌, ◌%◌, ◌==◌, ◌&&◌, not, max, Bool, true, false, List, [], ◌∷◌, ◌++◌, map, reverse, Option, Some, None, Result, Ok, Err, if◌then◌else◌}
 use Rattle.hsr_frame.specs.Counters.{step_limit}
 use Rattle.hsr_frame.specs.Cause.{is_duplicate, is_returned, is_foreign, is_local, is_untagged, is_tagged, is_malformed}
 use Rattle.hsr_frame.specs.Egress.{Egress, up, a, b, c, d}
@@ -12,19 +12,17 @@ use Rattle.hsr_frame.specs.declared.fault.Spent.{Spent}
 use Rattle.hsr_frame.specs.declared.node.Life.{Life}
 use Rattle.hsr_frame.specs.declared.node.Mode.{Mode}
 use Rattle.hsr_frame.specs.declared.node.RingPort.{RingPort}
-use Rattle.hsr_supervision.specs.Payload.{read_of}
-use Rattle.hsr_tag.specs.Seen.{classified, is_told, payload_in}
+use Rattle.hsr_tag.specs.Seen.{classified}
 use Rattle.hsr_tag.specs.declared.seen.Seen.{Seen}
-use Rattle.hsr_tag.specs.declared.seen.Seen.TheVariants.{Plain, Tagged}
 use Rattle.hsr_duptable.specs.Key.{Key}
-use Rattle.hsr_duptable.specs.Notes.{has_key, entry_forget, note_if}
-use Rattle.hsr_duptable.specs.Log.{remembered}
+use Rattle.hsr_duptable.specs.Notes.{note_if}
 use Rattle.hsr_duptable.specs.declared.note.Note.{Note}
 use Rattle.hsr_tables.specs.Known.{known}
-use Rattle.hsr_tables.specs.Nodes.{Hearing, hearing_if, rows_known}
+use Rattle.hsr_tables.specs.Nodes.{Hearing, rows_known}
 use Rattle.hsr_tables.specs.declared.nodes.NodeRow.{NodeRow}
 use Rattle.hsr_danh.specs.Machine.{Machine, new_machine}
-use Rattle.hsr_role.specs.Arrival.{key_of}
+use Rattle.hsr_role.specs.Arrival.{judged_by, key_in}
+use Rattle.hsr_role.specs.Past.{answers_of, hearing_in, is_bad_life, log_remembers, note_of}
 use Rattle.hsr_role.specs.Numbers.{number_range}
 use Rattle.hsr_danh.specs.Step.{age_step, arrive_step, life_step, send_step, verdict_of}
 use Rattle.hsr_danh.specs.Wanted.{wanted}
@@ -51,14 +49,6 @@ step capacity machine (sending at dst kind len) = let s = send_step capacity mac
 step capacity machine (supervising at) = let s = life_step capacity machine at in (lived s.0, s.1)
 step capacity machine (arriving at x octets) = let s = arrive_step capacity machine at x octets in (judged s.0, s.1)
 step capacity machine (ageing at) = (aged, age_step machine at)
-
-abbrev pub answers : ℕ → Machine → List Call → List Answer
-answers capacity machine [] = []
-answers capacity machine (call ∷ calls) = (step capacity machine call).0 ∷ answers capacity (step capacity machine call).1 calls
-
-abbrev pub after_calls : ℕ → Machine → List Call → Machine
-after_calls capacity machine [] = machine
-after_calls capacity machine (call ∷ calls) = after_calls capacity (step capacity machine call).1 calls
 
 -- ---- the past: all that was done, the latest first, each at its effective moment; a refusal does nothing
 
@@ -128,25 +118,22 @@ passed verdict d = false
 abbrev pub noted_by : List ℕ → Egress → ℕ → Did → List Note
 noted_by own egress now (sent_frame seq) = note_if (is_ring egress) (record { src = own; seq = seq }) now
 noted_by own egress now (sent_life seq) = note_if (is_ring egress) (record { src = own; seq = seq }) now
-noted_by own egress now (judged_frame x (Err fault) verdict) = []
-noted_by own egress now (judged_frame x (Ok (Plain frame)) verdict) = []
-noted_by own egress now (judged_frame x (Ok (Tagged frame)) verdict) = note_if (passed verdict egress) (key_of frame) now
+noted_by own egress now (judged_frame x seen verdict) = note_of seen (passed verdict egress) now
 noted_by own egress now gave_up = []
 
 abbrev pub log_of : List ℕ → Egress → List Deed → List Note
 log_of own egress [] = []
 log_of own egress (deed ∷ past) = log_of own egress past ++ noted_by own egress deed.now deed.did
 
--- an egress remembers a frame: of its last notes, as many as a table has entries, one is younger than `entry_forget` milliseconds and has the key
 abbrev pub remembers_of : ℕ → List ℕ → List Deed → ℕ → Key → Egress → Bool
-remembers_of capacity own past now key egress = has_key key (remembered capacity entry_forget (log_of own egress past) now)
+remembers_of capacity own past now key egress = log_remembers capacity (log_of own egress past) now key
 
 -- ---- hearings: readable tagged supervision frames of other nodes, the earliest first
 
 abbrev pub heard_by : List ℕ → ℕ → Did → List Hearing
 heard_by own now (sent_frame seq) = []
 heard_by own now (sent_life seq) = []
-heard_by own now (judged_frame x seen verdict) = if is_told own seen then hearing_if x now (read_of (payload_in seen)) else []
+heard_by own now (judged_frame x seen verdict) = hearing_in own x now seen
 heard_by own now gave_up = []
 
 abbrev pub hearings_of : List ℕ → List Deed → List Hearing
@@ -156,7 +143,7 @@ hearings_of own (deed ∷ past) = hearings_of own past ++ heard_by own deed.now 
 abbrev pub is_unreadable : List ℕ → Did → Bool
 is_unreadable own (sent_frame seq) = false
 is_unreadable own (sent_life seq) = false
-is_unreadable own (judged_frame x seen verdict) = if is_told own seen then is_err (read_of (payload_in seen)) else false
+is_unreadable own (judged_frame x seen verdict) = is_bad_life own seen
 is_unreadable own gave_up = false
 
 -- the rows of the nodes that are known at a moment
@@ -203,11 +190,9 @@ life_from past at false =
 
 -- a tagged frame passes where it is wanted and not remembered
 abbrev pub passes_from : ℕ → List ℕ → List Deed → ℕ → Exits → Result Seen FrameFault → Exits
-passes_from capacity own past now exits (Err fault) = exits
-passes_from capacity own past now exits (Ok (Plain frame)) = exits
-passes_from capacity own past now exits (Ok (Tagged frame)) =
-    let remembers = remembers_of capacity own past now (key_of frame) in
-    record exits { up = exits.up && not (remembers up); a = exits.a && not (remembers a); b = exits.b && not (remembers b) }
+passes_from capacity own past now exits seen = judged_by (λ key.
+    let remembers = remembers_of capacity own past now key in
+    record exits { up = exits.up && not (remembers up); a = exits.a && not (remembers a); b = exits.b && not (remembers b) }) exits (key_in seen)
 
 abbrev pub verdict_from : ℕ → List ℕ → Mode → List Deed → ℕ → RingPort → Result Seen FrameFault → Verdict
 verdict_from capacity own mode past now x seen =
@@ -225,21 +210,12 @@ past_step capacity own mode past (supervising at) = life_from past at (count_of 
 past_step capacity own mode past (arriving at x octets) = arrive_from capacity own mode past at x (classified octets) (count_of is_step past == step_limit)
 past_step capacity own mode past (ageing at) = (aged, done past at gave_up)
 
-abbrev pub past_answers : ℕ → List ℕ → Mode → List Deed → List Call → List Answer
-past_answers capacity own mode past [] = []
-past_answers capacity own mode past (call ∷ calls) =
-    (past_step capacity own mode past call).0 ∷ past_answers capacity own mode (past_step capacity own mode past call).1 calls
-
-abbrev pub past_after : ℕ → List ℕ → Mode → List Deed → List Call → List Deed
-past_after capacity own mode past [] = past
-past_after capacity own mode past (call ∷ calls) = past_after capacity own mode (past_step capacity own mode past call).1 calls
-
 -- After any calls the node has answered as its whole past does, and its counters and the nodes that it knows are those of its past.
 abbrev pub AnswersAsPast : ℕ → Type 0
 AnswersAsPast capacity =
     (own : List ℕ) (mode : Mode) (calls : List Call) →
-    let machine = after_calls capacity (new_machine own mode) calls in
-    let past = past_after capacity own mode [] calls in
-    (answers capacity (new_machine own mode) calls ≡ past_answers capacity own mode [] calls)
-    × (machine.counters ≡ counters_of own past)
-    × ((at : ℕ) → map (λ r. r.0) (known at machine.nodes.rows) ≡ rows_of own past at)
+    let machine = answers_of (step capacity) (new_machine own mode) calls in
+    let past = answers_of (past_step capacity own mode) [] calls in
+    (machine.0 ≡ past.0)
+    × (machine.1.counters ≡ counters_of own past.1)
+    × ((at : ℕ) → map (λ r. r.0) (known at machine.1.nodes.rows) ≡ rows_of own past.1 at)

@@ -1,5 +1,5 @@
 -- One step of a DANH: the answer to a call, and what the node holds after it.
-use Rattle.std.specs.Prelude.{ℕ, ◌+◌, ◌%◌, ◌^◌, ◌==◌, ◌&&◌, not, max, Bool, true, false, List, [], ◌∷◌, Option, Some, None, Result, Ok, Err}
+use Rattle.std.specs.Prelude.{ℕ, ◌+◌, ◌%◌, ◌==◌, ◌&&◌, not, max, Bool, true, false, List, [], ◌∷◌, Option, Some, None, Result, Ok, Err}
 use Rattle.hsr_frame.specs.Counters.{bit, step_limit}
 use Rattle.hsr_frame.specs.Egress.{cause_of, exits_of}
 use Rattle.hsr_frame.specs.Egress as egress

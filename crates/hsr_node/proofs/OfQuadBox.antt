@@ -24,6 +24,7 @@ use Rattle.hsr_quadbox.specs.Machine.{Machine, new_machine}
 use Rattle.hsr_quadbox.specs.Past as deeds
 use Rattle.hsr_quadbox.specs.Past.{Answer, Deed, IsTold, Judged, aged, judged, judgement, verdict_on}
 use Rattle.hsr_role.specs.Arrival.{key_of}
+use Rattle.hsr_role.specs.Past.{note_of}
 use Rattle.hsr_quadbox.specs.Step.{arrive_step, copies_of}
 use Rattle.hsr_quadbox.specs.Wanted.{wanted}
 use Rattle.hsr_quadbox.specs.declared.quadbox.QuadVerdict.{QuadVerdict}
@@ -135,17 +136,17 @@ judged-tells number did past worker at port x copy passes t = record {
     is_passed q = is_noted (quad_judged (verdict_on j)) (egress_of q)
 
     by_seen : (q : QuadPort) (seen : Result Seen FrameFault)
-        → deeds.log q did ++ deeds.note_of seen (deeds.passed_by q passes) (max (deeds.greatest did) at)
+        → deeds.log q did ++ note_of seen (deeds.passed_by q passes) (max (deeds.greatest did) at)
         ≡ oldest_first (cons_option (note_if (is_passed q) (key_in seen None) (max (now past) at) copy.probe) (noted q))
     by_seen q (Err fault) = unlogged (deeds.log q did) (noted q) (t.log q)
     by_seen q (Ok (Plain frame)) = unlogged (deeds.log q did) (noted q) (t.log q)
     by_seen q (Ok (Tagged frame)) = by_port q
       where
-        one : (q : QuadPort) (passed : Bool) → deeds.log q did ++ deeds.note_of (Ok (Tagged frame)) passed (max (deeds.greatest did) at)
+        one : (q : QuadPort) (passed : Bool) → deeds.log q did ++ note_of (Ok (Tagged frame)) passed (max (deeds.greatest did) at)
             ≡ oldest_first (cons_option (note_if passed (Some (key_of frame)) (max (now past) at) copy.probe) (noted q))
         one q passed = logged passed (key_of frame) (max (deeds.greatest did) at) (max (now past) at) copy.probe (deeds.log q did) (noted q) m (t.log q)
 
-        by_port : (q : QuadPort) → deeds.log q did ++ deeds.note_of (Ok (Tagged frame)) (deeds.passed_by q passes) (max (deeds.greatest did) at)
+        by_port : (q : QuadPort) → deeds.log q did ++ note_of (Ok (Tagged frame)) (deeds.passed_by q passes) (max (deeds.greatest did) at)
             ≡ oldest_first (cons_option (note_if (is_passed q) (Some (key_of frame)) (max (now past) at) copy.probe) (noted q))
         by_port quad.A = one quad.A passes.a
         by_port quad.B = one quad.B passes.b

@@ -1,5 +1,5 @@
 -- The stepping machine answers as the one that keeps its past.
-use Rattle.std.proofs.Common.{◌≡◌, ℕ, ◌+◌, ◌≤◌, ◌^◌, ◌==◌, Bool, true, false, not, ◌&&◌, List, [], ◌∷◌, length, refl, ap, sym, ◌∙◌, append-nil, filter, subst, arith, Some, Result, Ok, Err, if◌then◌else◌}
+use Rattle.std.proofs.Common.{◌≡◌, ℕ, ◌+◌, ◌≤◌, ◌==◌, Bool, true, false, not, ◌&&◌, List, [], ◌∷◌, length, refl, ap, sym, ◌∙◌, append-nil, filter, subst, arith, Some, Result, Ok, Err, if◌then◌else◌}
 use Rattle.std.specs.Prelude.{max}
 use Rattle.std.specs.List.{sum_by}
 use Rattle.std.proofs.lemmas.List.Sums.{sum_by-cons}
@@ -14,17 +14,19 @@ use Rattle.hsr_tag.specs.Seen.{classified}
 use Rattle.hsr_tag.specs.declared.seen.Seen.{Seen}
 use Rattle.hsr_tag.specs.declared.seen.Seen.TheVariants.{Plain, Tagged}
 use Rattle.hsr_duptable.specs.Key.{Key}
-use Rattle.hsr_duptable.specs.Log.{StandsFor, remembered}
-use Rattle.hsr_duptable.specs.Notes.{has_key, entry_forget}
+use Rattle.hsr_duptable.specs.Log.{StandsFor}
+use Rattle.hsr_duptable.specs.Notes.{entry_forget}
 use Rattle.hsr_duptable.specs.Table.{Table, remembers, IsWithin}
 use Rattle.hsr_duptable.specs.declared.note.Note.{Note}
-use Rattle.hsr_duptable.proofs.LogLaws.{StandsFor-age, StandsFor-new, remembers-StandsFor, StandsFor-pass}
+use Rattle.hsr_duptable.proofs.LogLaws.{StandsFor-age, StandsFor-new, StandsFor-pass}
 use Rattle.hsr_duptable.proofs.Within.{IsWithin-age, IsWithin-empty}
+use Rattle.hsr_role.specs.Past.{log_remembers}
+use Rattle.hsr_role.proofs.Pasts.{answers-same, remembers-same}
 use Rattle.hsr_quadbox.specs.Wanted.{wanted}
 use Rattle.hsr_quadbox.specs.Machine.{Machine, Notes, NotesAreWithin, new_machine}
 use Rattle.hsr_role.specs.Arrival.{key_of}
 use Rattle.hsr_quadbox.specs.Step.{after_arrival, age_step, arrive_or_spent, arrive_step, copies_of, judged as judged_notes, now_at, verdict_of}
-use Rattle.hsr_quadbox.specs.Past.{AnswersAsPast, Answer, IsTold, StandForLogs, Call, arriving, ageing, Deed, judged, aged, Judged, answers_of, arrivals, counts, greatest, judgement, judge_or_spent, log, machine_call, passes_in, past_call, verdict_on}
+use Rattle.hsr_quadbox.specs.Past.{AnswersAsPast, Answer, IsTold, StandForLogs, Call, arriving, ageing, Deed, judged, aged, Judged, arrivals, counts, greatest, judgement, judge_or_spent, log, machine_call, passes_in, past_call, verdict_on}
 use Rattle.hsr_quadbox.specs.declared.quadbox.QuadVerdict.{QuadVerdict}
 use Rattle.hsr_quadbox.specs.declared.wanted.QuadPort.{QuadPort}
 use Rattle.hsr_quadbox.specs.declared.wanted.QuadPort.TheVariants.{A, B, C, D}
@@ -33,10 +35,8 @@ use Rattle.hsr_quadbox.proofs.Steps.{NotesAreWithin-judged}
 -- ---- where an arrival passes
 
 not_remembered : (capacity : ℕ) (table : Table) (past : List Note) (key : Key) (now moment accepted : ℕ) → moment ≤ now → IsWithin table moment accepted → StandsFor capacity table past
-    → not (remembers table key now) ≡ not (has_key key (remembered capacity entry_forget past now))
-not_remembered capacity table past key now moment accepted h w s =
-    ap not (remembers-StandsFor capacity table past key now (omega (arith, w.last)) s
-    ∙ ap (λ (forget : ℕ). has_key key (remembered capacity forget past now)) w.forget)
+    → not (remembers table key now) ≡ not (log_remembers capacity past now key)
+not_remembered capacity table past key now moment accepted h w s = ap not (remembers-same capacity table past now key (omega (arith, w.last)) w.forget s)
 
 passes-told : (capacity : ℕ) (notes : Notes) (past : List Deed) (exits : Exits) (seen : Result Seen FrameFault) (now moment accepted : ℕ) → moment ≤ now
     → NotesAreWithin notes moment accepted → StandForLogs capacity notes past
@@ -198,15 +198,7 @@ told-call capacity machine past (ageing at) told = (refl, told-aged capacity mac
 
 -- ---- any calls
 
-told-calls : (capacity : ℕ) (machine : Machine) (past : List Deed) (calls : List Call) → IsTold capacity machine past
-    → let after = answers_of (machine_call capacity) machine calls in
-    let kept = answers_of (past_call capacity) past calls in
-    (after.0 ≡ kept.0) × (after.1.counters ≡ counts kept.1)
-told-calls capacity machine past [] told = (refl, told.counters)
-told-calls capacity machine past (call ∷ calls) told =
-    let first = told-call capacity machine past call told in
-    let rest = told-calls capacity (machine_call capacity machine call).1 (past_call capacity past call).1 calls first.1 in
-    ((λ i. first.0 i ∷ rest.0 i), rest.1)
-
 pub answers_as_past : (capacity : ℕ) → AnswersAsPast capacity
-answers_as_past capacity calls = told-calls capacity new_machine [] calls (told-new capacity)
+answers_as_past capacity calls =
+    let told = answers-same (IsTold capacity) (machine_call capacity) (past_call capacity) (told-call capacity) new_machine [] calls (told-new capacity) in
+    (told.0, told.1.counters)

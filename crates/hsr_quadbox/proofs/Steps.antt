@@ -1,5 +1,5 @@
 -- What one step of a QuadBox keeps.
-use Rattle.std.proofs.Common.{◌≡◌, ℕ, ◌+◌, ◌≤◌, ◌<◌, ◌^◌, ◌==◌, Bool, true, false, not, ap, refl, arith, rules, Result, Ok, Err, List}
+use Rattle.std.proofs.Common.{◌≡◌, ℕ, ◌+◌, ◌≤◌, ◌<◌, ◌==◌, Bool, true, false, not, ap, refl, arith, rules, Result, Ok, Err, List}
 use Rattle.hsr_frame.specs.Counters.{bit, counted, step_limit}
 use Rattle.hsr_frame.specs.Egress.{cause_of}
 use Rattle.hsr_frame.specs.declared.counters.Counters.{Counters}

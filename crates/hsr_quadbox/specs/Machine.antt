@@ -1,5 +1,5 @@
 -- What a contract sees of a QuadBox: all that it holds.
-use Rattle.std.specs.Prelude.{ℕ, ◌≤◌, ◌<◌, ◌^◌}
+use Rattle.std.specs.Prelude.{ℕ, ◌≤◌, ◌<◌}
 use Rattle.hsr_frame.specs.Counters.{no_counts, step_limit}
 use Rattle.hsr_frame.specs.declared.counters.Counters.{Counters}
 use Rattle.hsr_duptable.specs.Notes.{entry_forget}

@@ -1,5 +1,5 @@
 -- A QuadBox that keeps its whole past, and answers by looking through it.
-use Rattle.std.specs.Prelude.{ℕ, ◌≡◌, ◌^◌, ◌==◌, ◌&&◌, not, max, Bool, true, false, List, [], ◌∷◌, ◌++◌, length, filter, Option, Some, None, Result, Ok, Err}
+use Rattle.std.specs.Prelude.{ℕ, ◌≡◌, ◌==◌, ◌&&◌, not, max, Bool, true, false, List, [], ◌∷◌, ◌++◌, length, filter, Option, Some, None, Result, Ok, Err}
 use Rattle.std.specs.List.{sum_by}
 use Rattle.hsr_frame.specs.Cause.{is_duplicate, is_malformed, is_untagged}
 use Rattle.hsr_frame.specs.Counters.{no_counts, step_limit}
@@ -10,14 +10,13 @@ use Rattle.hsr_frame.specs.declared.fault.Spent.{Spent}
 use Rattle.hsr_frame.specs.declared.node.Cause.{Cause}
 use Rattle.hsr_tag.specs.Seen.{classified}
 use Rattle.hsr_tag.specs.declared.seen.Seen.{Seen}
-use Rattle.hsr_tag.specs.declared.seen.Seen.TheVariants.{Plain, Tagged}
 use Rattle.hsr_duptable.specs.Key.{Key}
-use Rattle.hsr_duptable.specs.Log.{StandsFor, remembered}
-use Rattle.hsr_duptable.specs.Notes.{has_key, entry_forget, note_if}
+use Rattle.hsr_duptable.specs.Log.{StandsFor}
 use Rattle.hsr_duptable.specs.declared.note.Note.{Note}
 use Rattle.hsr_quadbox.specs.Wanted.{wanted}
 use Rattle.hsr_quadbox.specs.Machine.{Machine, Notes, NotesAreWithin, new_machine}
-use Rattle.hsr_role.specs.Arrival.{key_of}
+use Rattle.hsr_role.specs.Arrival.{judged_by, key_in}
+use Rattle.hsr_role.specs.Past.{answers_of, log_remembers, note_of}
 use Rattle.hsr_quadbox.specs.Step.{age_step, arrive_step, copies_of, verdict_of}
 use Rattle.hsr_quadbox.specs.declared.quadbox.QuadVerdict.{QuadVerdict}
 use Rattle.hsr_quadbox.specs.declared.wanted.QuadPort.{QuadPort}
@@ -50,12 +49,6 @@ passed_by B exits = exits.b
 passed_by C exits = exits.c
 passed_by D exits = exits.d
 
--- a tagged frame that passed is noted
-abbrev pub note_of : Result Seen FrameFault → Bool → ℕ → List Note
-note_of (Err fault) passed now = []
-note_of (Ok (Plain frame)) passed now = []
-note_of (Ok (Tagged frame)) passed now = note_if passed (key_of frame) now
-
 -- the log of a port: all its notes, each with its effective moment, the oldest first
 abbrev pub log : QuadPort → List Deed → List Note
 log port [] = []
@@ -66,18 +59,16 @@ log port (judged j ∷ past) = log port past ++ note_of j.seen (passed_by port j
 
 -- no remembered note of the port's log has the key
 abbrev pub is_new : ℕ → List Deed → QuadPort → Key → ℕ → Bool
-is_new capacity past port key now = not (has_key key (remembered capacity entry_forget (log port past) now))
+is_new capacity past port key now = not (log_remembers capacity (log port past) now key)
 
 -- where an arrival passes: of the ports that want it, a tagged one only where it is new
 abbrev pub passes_in : ℕ → List Deed → Exits → Result Seen FrameFault → ℕ → Exits
-passes_in capacity past exits (Err fault) now = exits
-passes_in capacity past exits (Ok (Plain frame)) now = exits
-passes_in capacity past exits (Ok (Tagged frame)) now = record exits {
-  a = exits.a && is_new capacity past A (key_of frame) now;
-  b = exits.b && is_new capacity past B (key_of frame) now;
-  c = exits.c && is_new capacity past C (key_of frame) now;
-  d = exits.d && is_new capacity past D (key_of frame) now;
-}
+passes_in capacity past exits seen now = judged_by (λ key. record exits {
+  a = exits.a && is_new capacity past A key now;
+  b = exits.b && is_new capacity past B key now;
+  c = exits.c && is_new capacity past C key now;
+  d = exits.d && is_new capacity past D key now;
+}) exits (key_in seen)
 
 abbrev pub judgement : ℕ → List Deed → ℕ → QuadPort → Result Seen FrameFault → Judged
 judgement capacity past at x seen = record {
@@ -150,14 +141,6 @@ judge_or_spent capacity past at x seen false = let j = judgement capacity past a
 abbrev pub past_call : ℕ → List Deed → Call → Answer × List Deed
 past_call capacity past (arriving at x octets) = judge_or_spent capacity past at x (classified octets) (length (arrivals past) == step_limit)
 past_call capacity past (ageing at) = (None, aged at ∷ past)
-
--- the answers to some calls, and what is held after them
-abbrev pub answers_of : {S : Type 0} → (S → Call → Answer × S) → S → List Call → List Answer × S
-answers_of call state [] = ([], state)
-answers_of call state (first ∷ calls) =
-    let done = call state first in
-    let rest = answers_of call done.1 calls in
-    (done.0 ∷ rest.0, rest.1)
 
 -- To any calls the stepping machine gives the answers of the one that keeps its past, and then its counters are the counts.
 abbrev pub AnswersAsPast : ℕ → Type 0

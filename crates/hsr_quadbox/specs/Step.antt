@@ -1,5 +1,5 @@
 -- One step of a QuadBox: the answer to a call, and what the box holds after it.
-use Rattle.std.specs.Prelude.{ℕ, ◌+◌, ◌^◌, ◌==◌, ◌&&◌, not, max, Bool, true, false, List, [], ◌∷◌, Result, Ok, Err}
+use Rattle.std.specs.Prelude.{ℕ, ◌+◌, ◌==◌, ◌&&◌, not, max, Bool, true, false, List, [], ◌∷◌, Result, Ok, Err}
 use Rattle.hsr_frame.specs.Counters.{bit, counted, step_limit}
 use Rattle.hsr_frame.specs.Egress.{cause_of}
 use Rattle.hsr_frame.specs.declared.egress.Exits.{Exits}

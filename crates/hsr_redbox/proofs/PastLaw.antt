@@ -1,12 +1,11 @@
 -- The stepping machine answers as its whole past.
-use Rattle.std.proofs.Common.{◌≡◌, ℕ, ◌+◌, ◌%◌, ◌≤◌, ◌^◌, ◌==◌, ◌&&◌, not, Bool, true, false, if◌then◌else◌, List, [], ◌∷◌, ◌++◌, map, Option, Some, None, Result, Ok, Err, refl, sym, ap, ap₂, subst, ◌∙◌, arith, add-zero}
+use Rattle.std.proofs.Common.{◌≡◌, ℕ, ◌+◌, ◌%◌, ◌≤◌, ◌==◌, ◌&&◌, not, Bool, true, false, if◌then◌else◌, List, [], ◌∷◌, ◌++◌, map, Option, Some, None, Result, Ok, Err, refl, sym, ap, ap₂, subst, ◌∙◌, arith, add-zero}
 use Rattle.std.specs.Prelude.{max, fold, is_some}
 use Rattle.std.specs.List.{list_any}
 use Rattle.std.proofs.lemmas.List.{append-nil}
 use Rattle.std.proofs.lemmas.List.Sums.{fold-append}
 use Rattle.hsr_frame.specs.Address.{is_same_address}
-use Rattle.hsr_frame.specs.Cause.{is_duplicate, is_returned, is_foreign, is_local, is_untagged, is_tagged, is_malformed}
-use Rattle.hsr_frame.specs.Counters.{bit, counted_cause, step_limit}
+use Rattle.hsr_frame.specs.Counters.{bit, step_limit}
 use Rattle.hsr_frame.specs.Egress.{Egress, up, a, b, exits_of, with_exit, has_exit}
 use Rattle.hsr_frame.specs.Send.{send_refusal}
 use Rattle.hsr_frame.specs.declared.counters.Counters.{Counters}
@@ -14,26 +13,26 @@ use Rattle.hsr_frame.specs.declared.egress.Exits.{Exits}
 use Rattle.hsr_frame.specs.declared.egress.Wants.{Wants}
 use Rattle.hsr_frame.specs.declared.fault.FrameFault.{FrameFault}
 use Rattle.hsr_frame.specs.declared.fault.SendFault.{SendFault}
-use Rattle.hsr_frame.specs.declared.node.Cause.{Cause}
-use Rattle.hsr_frame.specs.declared.node.Cause.TheVariants as cause
 use Rattle.hsr_frame.specs.declared.node.Mode.{Mode}
 use Rattle.hsr_frame.specs.declared.node.RingPort.{RingPort}
 use Rattle.hsr_frame.specs.declared.node.RingPort.TheVariants as ring
-use Rattle.hsr_tag.specs.Seen.{classified, is_told, payload_in}
+use Rattle.hsr_tag.specs.Seen.{classified}
 use Rattle.hsr_tag.specs.declared.seen.Seen.{Seen}
 use Rattle.hsr_tag.specs.declared.seen.Seen.TheVariants.{Plain, Tagged}
 use Rattle.hsr_duptable.specs.Key.{Key}
-use Rattle.hsr_duptable.specs.Log.{StandsFor, remembered}
-use Rattle.hsr_duptable.specs.Notes.{has_key, entry_forget}
-use Rattle.hsr_duptable.specs.Table.{Table, remembers}
+use Rattle.hsr_duptable.specs.Log.{StandsFor}
+use Rattle.hsr_duptable.specs.Notes.{entry_forget}
 use Rattle.hsr_duptable.specs.declared.note.Note.{Note}
-use Rattle.hsr_duptable.proofs.LogLaws.{StandsFor-age, StandsFor-new, remembers-StandsFor, StandsFor-pass, StandsFor-same}
+use Rattle.hsr_duptable.proofs.LogLaws.{StandsFor-age, StandsFor-new, StandsFor-pass, StandsFor-same}
 use Rattle.hsr_duptable.proofs.Within.{IsWithin-age, IsWithin-empty}
 use Rattle.hsr_tables.specs.Known.{known}
-use Rattle.hsr_tables.specs.Nodes.{Hearing, Nodes, heard, no_nodes}
+use Rattle.hsr_tables.specs.Nodes.{Nodes, heard, no_nodes}
 use Rattle.hsr_tables.specs.Proxies.{Proxies, is_known, learned, no_proxies}
-use Rattle.hsr_tables.proofs.NodeLaws.{rows_of_latest, listened-if}
+use Rattle.hsr_tables.proofs.NodeLaws.{rows_of_latest}
 use Rattle.hsr_tables.proofs.ProxyLaws.{knows_latest}
+use Rattle.hsr_role.specs.Past.{answers_of, is_bad_life}
+use Rattle.hsr_role.proofs.Counts.{counted-plus}
+use Rattle.hsr_role.proofs.Pasts.{answers-same, heard-same, heard-told, later-max, remembers-same}
 use Rattle.hsr_redbox.specs.Machine.{AreWithin, Machine, Notes, new_machine}
 use Rattle.hsr_role.specs.Arrival.{counted_with, heard_of, key_of}
 use Rattle.hsr_role.specs.Numbers.{number_range}
@@ -113,49 +112,9 @@ numbered-same : (source : Option (List ℕ)) (next count : ℕ) → next ≡ cou
 numbered-same None next count e = omega (arith, e)
 numbered-same (Some src) next count e = omega (arith, e)
 
-one-more : (p : Bool) (n : ℕ) → n + bit p ≡ (if p then n + 1 else n)
-one-more true n = refl
-one-more false n = add-zero n
-
 -- nothing more was forwarded
 still : (n : ℕ) → n ≡ n + 0
 still n = sym (add-zero n)
-
--- the counts after one more verdict, by what it says
-abbrev counts_plus : Counters → BoxVerdict → Bool → Counters
-counts_plus k verdict bad = record {
-  sent = k.sent;
-  life = k.life;
-  up = if verdict.up then k.up + 1 else k.up;
-  forwarded = k.forwarded + copies_of verdict;
-  duplicate = if is_duplicate verdict.cause then k.duplicate + 1 else k.duplicate;
-  returned = if is_returned verdict.cause then k.returned + 1 else k.returned;
-  foreign = if is_foreign verdict.cause then k.foreign + 1 else k.foreign;
-  local = if is_local verdict.cause then k.local + 1 else k.local;
-  untagged = if is_untagged verdict.cause then k.untagged + 1 else k.untagged;
-  tagged = if is_tagged verdict.cause then k.tagged + 1 else k.tagged;
-  malformed = if is_malformed verdict.cause then k.malformed + 1 else k.malformed;
-  bad_life = if bad then k.bad_life + 1 else k.bad_life;
-}
-
-counted-plus : (k : Counters) (verdict : BoxVerdict) (readable bad : Bool) → not readable ≡ bad → counted_with k verdict.cause verdict.up (copies_of verdict) readable ≡ counts_plus k verdict bad
-counted-plus k verdict readable bad e = by_cause verdict.cause
-  where
-    ups : k.up + bit verdict.up ≡ (if verdict.up then k.up + 1 else k.up)
-    ups = one-more verdict.up k.up
-
-    bads : k.bad_life + bit (not readable) ≡ (if bad then k.bad_life + 1 else k.bad_life)
-    bads = ap (λ p. k.bad_life + bit p) e ∙ one-more bad k.bad_life
-
-    by_cause : (why : Cause) → counted_with k why verdict.up (copies_of verdict) readable ≡ counts_plus k (record verdict { cause = why }) bad
-    by_cause (cause.Malformed fault) = λ i. record (counted_cause k (cause.Malformed fault)) { up = ups i; forwarded = k.forwarded + copies_of verdict; bad_life = bads i }
-    by_cause cause.Passed = λ i. record (counted_cause k cause.Passed) { up = ups i; forwarded = k.forwarded + copies_of verdict; bad_life = bads i }
-    by_cause cause.Duplicate = λ i. record (counted_cause k cause.Duplicate) { up = ups i; forwarded = k.forwarded + copies_of verdict; bad_life = bads i }
-    by_cause cause.Returned = λ i. record (counted_cause k cause.Returned) { up = ups i; forwarded = k.forwarded + copies_of verdict; bad_life = bads i }
-    by_cause cause.Foreign = λ i. record (counted_cause k cause.Foreign) { up = ups i; forwarded = k.forwarded + copies_of verdict; bad_life = bads i }
-    by_cause cause.Local = λ i. record (counted_cause k cause.Local) { up = ups i; forwarded = k.forwarded + copies_of verdict; bad_life = bads i }
-    by_cause cause.Untagged = λ i. record (counted_cause k cause.Untagged) { up = ups i; forwarded = k.forwarded + copies_of verdict; bad_life = bads i }
-    by_cause cause.Tagged = λ i. record (counted_cause k cause.Tagged) { up = ups i; forwarded = k.forwarded + copies_of verdict; bad_life = bads i }
 
 -- ---- what is known on the interlink
 
@@ -176,9 +135,6 @@ sources-same own table sources seen now e =
     source-same own table seen now
     ∙ ap (λ (t : Proxies). fold learned t (source_in own now seen)) e
     ∙ sym (fold-append learned no_proxies sources (source_in own now seen))
-
-heard-same : (nodes : Nodes) (hearings : List Hearing) → nodes ≡ fold heard no_nodes hearings → nodes ≡ fold heard no_nodes (hearings ++ [])
-heard-same nodes hearings e = rw (append-nil hearings) e
 
 learned-same : (table : Proxies) (sources : List (List ℕ × ℕ)) → table ≡ fold learned no_proxies sources → table ≡ fold learned no_proxies (sources ++ [])
 learned-same table sources e = rw (append-nil sources) e
@@ -247,7 +203,7 @@ interlink-case capacity machine past now seen later r =
     let h = handling_interlink machine.own (is_known now proxies.heard) seen in
     let counters : Counters = let v = linked h machine.next in counted_with machine.counters v.cause v.up (copies_of v) true in
     let counted : counters ≡ counters_of machine.own (done past now (judged_interlink seen h machine.next)) =
-    ap (λ (k : Counters). let v = linked h machine.next in counted_with k v.cause v.up (copies_of v) true) r.counters ∙ counted-plus (counters_of machine.own past) (linked h machine.next) true false refl in
+    ap (λ (k : Counters). let v = linked h machine.next in counted_with k v.cause v.up (copies_of v) true) r.counters ∙ (let v = linked h machine.next in counted-plus (counters_of machine.own past) v.cause v.up (copies_of v) true false refl) in
     subst (λ knows. Kept capacity machine after (by knows (number_after past))) (knows-latest proxies sources now learnt)
     (subst (λ n. Kept capacity machine after (by (is_known now proxies.heard) n)) r.next (
       refl,
@@ -258,27 +214,17 @@ interlink-case capacity machine past now seen later r =
 
 -- ---- arrivals at a ring port
 
-remembers-same : (capacity : ℕ) (machine : Machine) (past : List Deed) (now : ℕ) (key : Key) (table : Table) (egress : Egress) → table.last ≤ now → table.forget ≡ entry_forget
-    → StandsFor capacity table (log_of machine.own egress past) → remembers table key now ≡ remembers_of capacity machine.own past now key egress
-remembers-same capacity machine past now key table egress h forget s =
-    remembers-StandsFor capacity table (log_of machine.own egress past) key now h s
-    ∙ ap (λ n. has_key key (remembered capacity n (log_of machine.own egress past) now)) forget
-
 passes-same : (capacity : ℕ) (machine : Machine) (past : List Deed) (now : ℕ) (exits : Exits) (seen : Result Seen FrameFault) → machine.moment ≤ now → IsPastOf capacity machine past
     → (judged capacity machine.notes exits seen now).0 ≡ passes_from capacity machine.own past now exits seen
 passes-same capacity machine past now exits (Err fault) h r = refl
 passes-same capacity machine past now exits (Ok (Plain frame)) h r = refl
 passes-same capacity machine past now exits (Ok (Tagged frame)) h r =
-    let same = remembers-same capacity machine past now (key_of frame) in
-    let on_up = same machine.notes.up up (omega (arith, r.within.up.last)) r.within.up.forget r.logs.on_up in
-    let on_a = same machine.notes.a a (omega (arith, r.within.a.last)) r.within.a.forget r.logs.on_a in
-    let on_b = same machine.notes.b b (omega (arith, r.within.b.last)) r.within.b.forget r.logs.on_b in
-    let on_interlink = same machine.notes.interlink interlink (omega (arith, r.within.interlink.last)) r.within.interlink.forget r.logs.on_interlink in
+    let key = key_of frame in
+    let on_up = remembers-same capacity machine.notes.up (log_of machine.own up past) now key (omega (arith, r.within.up.last)) r.within.up.forget r.logs.on_up in
+    let on_a = remembers-same capacity machine.notes.a (log_of machine.own a past) now key (omega (arith, r.within.a.last)) r.within.a.forget r.logs.on_a in
+    let on_b = remembers-same capacity machine.notes.b (log_of machine.own b past) now key (omega (arith, r.within.b.last)) r.within.b.forget r.logs.on_b in
+    let on_interlink = remembers-same capacity machine.notes.interlink (log_of machine.own interlink past) now key (omega (arith, r.within.interlink.last)) r.within.interlink.forget r.logs.on_interlink in
     λ i. record exits { up = exits.up && not (on_up i); a = exits.a && not (on_a i); b = exits.b && not (on_b i); c = exits.c && not (on_interlink i) }
-
-heard-told : (own : List ℕ) (nodes : Nodes) (x : RingPort) (seen : Result Seen FrameFault) (verdict : BoxVerdict) (now : ℕ)
-    → ((heard_of own nodes x seen now).1 ≡ fold heard nodes (deeds.heard_by own now (judged_ring x seen verdict))) × (not (heard_of own nodes x seen now).0 ≡ is_unreadable own (judged_ring x seen verdict))
-heard-told own nodes x seen verdict now = listened-if (is_told own seen) (payload_in seen) nodes x now
 
 ring-case : (capacity : ℕ) (machine : Machine) (past : List Deed) (now : ℕ) (x : RingPort) (seen : Result Seen FrameFault) → machine.moment ≤ now → IsPastOf capacity machine past
     → Kept capacity machine (after_ring capacity machine now x seen) (deeds.ring_from capacity machine.own machine.mode past now x seen)
@@ -289,7 +235,7 @@ ring-case capacity machine past now x seen later r =
     let outcome = judged capacity machine.notes wants.exits seen now in
     let verdict = verdict_of wants outcome.0 None in
     let hearing = heard_of machine.own machine.nodes x seen now in
-    let told = heard-told machine.own machine.nodes x seen verdict now in
+    let told = heard-told machine.own machine.nodes x seen now in
     let more = deeds.heard_by machine.own now (judged_ring x seen verdict) in
     subst (λ knows. let w = wanted machine.own machine.mode knows x seen in Kept capacity machine after (by w (passes_from capacity machine.own past now w.exits seen)))
     (knows-latest machine.proxies (sources_of machine.own past) now r.proxies)
@@ -302,7 +248,7 @@ ring-case capacity machine past now x seen later r =
         proxies = learned-same machine.proxies (sources_of machine.own past) r.proxies;
         next = r.next;
         counters = ap (λ (k : Counters). counted_with k verdict.cause verdict.up (copies_of verdict) hearing.0) r.counters
-            ∙ counted-plus (counters_of machine.own past) verdict hearing.0 (is_unreadable machine.own (judged_ring x seen verdict)) told.1;
+            ∙ counted-plus (counters_of machine.own past) verdict.cause verdict.up (copies_of verdict) hearing.0 (is_bad_life machine.own seen) told.1;
         moment = refl;
         accepted = ap (λ n. n + 1) r.accepted;
       },
@@ -351,9 +297,6 @@ age-case capacity machine past now later r =
 
 -- ---- a call, and all calls
 
-later-max : (m n : ℕ) → m ≤ max m n
-later-max m n = omega arith
-
 pub kept : (capacity : ℕ) (machine : Machine) (past : List Deed) (call : Call) → IsPastOf capacity machine past → Kept capacity machine (step capacity machine call) (past_step capacity machine.own machine.mode past call)
 unfolding send_step life_step arrive_step
 kept capacity machine past (deeds.sending at dst kind len) r =
@@ -380,18 +323,17 @@ kept capacity machine past (deeds.arriving at port octets) r =
 kept capacity machine past (deeds.ageing at) r =
     (refl, subst (λ m. IsPastOf capacity (age_step machine at) (done past (max m at) gave_up)) r.moment (age-case capacity machine past (now_at machine at) (later-max machine.moment at) r), refl, refl)
 
-runs : (capacity : ℕ) (own : List ℕ) (mode : Mode) (machine : Machine) (past : List Deed) (calls : List Call) → machine.own ≡ own → machine.mode ≡ mode → IsPastOf capacity machine past
-    → let after = deeds.after_calls capacity machine calls in
-    (deeds.answers capacity machine calls ≡ deeds.past_answers capacity own mode past calls) × IsPastOf capacity after (deeds.past_after capacity own mode past calls) × (after.own ≡ own)
-runs capacity own mode machine past [] is_own is_mode r = (refl, r, is_own)
-runs capacity own mode machine past (call ∷ calls) is_own is_mode r =
-    let one = with_own own mode is_own is_mode in
-    let more = runs capacity own mode (step capacity machine call).1 (past_step capacity own mode past call).1 calls (one.2 ∙ is_own) (one.3 ∙ is_mode) one.1 in
-    (ap₂ (λ (x : Answer) xs. x ∷ xs) one.0 more.0, more.1, more.2)
-  where
-    with_own : (own : List ℕ) (mode : Mode) → machine.own ≡ own → machine.mode ≡ mode → Kept capacity machine (step capacity machine call) (past_step capacity own mode past call)
-    with_own own mode e f = subst (λ o. Kept capacity machine (step capacity machine call) (past_step capacity o mode past call)) e
-        (subst (λ m. Kept capacity machine (step capacity machine call) (past_step capacity machine.own m past call)) f (kept capacity machine past call r))
+-- a machine of this address and mode, and its past
+abbrev IsRunOf : ℕ → List ℕ → Mode → Machine → List Deed → Type 0
+IsRunOf capacity own mode machine past = IsPastOf capacity machine past × (machine.own ≡ own) × (machine.mode ≡ mode)
+
+runs-on : (capacity : ℕ) (own : List ℕ) (mode : Mode) (machine : Machine) (past : List Deed) (call : Call) → IsRunOf capacity own mode machine past
+    → let s = step capacity machine call in let p = past_step capacity own mode past call in (s.0 ≡ p.0) × IsRunOf capacity own mode s.1 p.1
+runs-on capacity own mode machine past call r =
+    let after = step capacity machine call in
+    let one = subst (λ o. Kept capacity machine after (past_step capacity o mode past call)) r.1
+    (subst (λ m. Kept capacity machine after (past_step capacity machine.own m past call)) r.2 (kept capacity machine past call r.0)) in
+    (one.0, (one.1, one.2 ∙ r.1, one.3 ∙ r.2))
 
 pub begins : (capacity : ℕ) (own : List ℕ) (mode : Mode) → IsPastOf capacity (new_machine own mode) []
 begins capacity own mode = record {
@@ -407,13 +349,13 @@ begins capacity own mode = record {
 
 pub answers_as_past : (capacity : ℕ) → deeds.AnswersAsPast capacity
 answers_as_past capacity own mode calls =
-    let ran = runs capacity own mode (new_machine own mode) [] calls refl refl (begins capacity own mode) in
-    let past = deeds.past_after capacity own mode [] calls in
-    let held = ran.1 in (
+    let ran = answers-same (IsRunOf capacity own mode) (step capacity) (past_step capacity own mode) (runs-on capacity own mode) (new_machine own mode) [] calls (begins capacity own mode, refl, refl) in
+    let past = (answers_of (past_step capacity own mode) [] calls).1 in
+    let held = ran.1.0 in (
       ran.0,
-      held.counters ∙ ap (λ (o : List ℕ). counters_of o past) ran.2,
-      (λ at. ap (λ (n : Nodes). map (λ r. r.0) (known at n.rows)) held.nodes ∙ ap (λ (o : List ℕ). map (λ r. r.0) (known at (fold heard no_nodes (hearings_of o past)).rows)) ran.2
+      held.counters ∙ ap (λ (o : List ℕ). counters_of o past) ran.1.1,
+      (λ at. ap (λ (n : Nodes). map (λ r. r.0) (known at n.rows)) held.nodes ∙ ap (λ (o : List ℕ). map (λ r. r.0) (known at (fold heard no_nodes (hearings_of o past)).rows)) ran.1.1
           ∙ rows_of_latest (hearings_of own past) at),
-      (λ at. ap (λ (p : Proxies). known at p.heard) held.proxies ∙ ap (λ (o : List ℕ). known at (fold learned no_proxies (sources_of o past)).heard) ran.2
+      (λ at. ap (λ (p : Proxies). known at p.heard) held.proxies ∙ ap (λ (o : List ℕ). known at (fold learned no_proxies (sources_of o past)).heard) ran.1.1
           ∙ knows_latest (sources_of own past) at),
     )

@@ -1,5 +1,5 @@
 -- What the program does in a step is the step of the definition, and keeps what holds of each RedBox.
-use Rattle.std.proofs.Common.{◌≡◌, ℕ, ◌+◌, ◌%◌, ◌<◌, ◌≤◌, ◌^◌, Bool, true, false, not, List, [], ◌∷◌, Option, Some, None, Result, Ok, Err, ap, sym, refl, arith, ◌∙◌}
+use Rattle.std.proofs.Common.{◌≡◌, ℕ, ◌+◌, ◌%◌, ◌<◌, ◌≤◌, Bool, true, false, not, List, [], ◌∷◌, Option, Some, None, Result, Ok, Err, ap, sym, refl, arith, ◌∙◌}
 use Rattle.hsr_frame.specs.Counters.{AreWithin as CountersWithin, bit, step_limit}
 use Rattle.hsr_frame.proofs.Counting.{AreWithin-counted_bad}
 use Rattle.hsr_frame.specs.Send.{send_refusal}

@@ -1,2 +1,4 @@
 pub mod Arrivals
 pub mod Spending
+pub mod Counts
+pub mod Pasts

@@ -1,4 +1,4 @@
-use Rattle.std.proofs.Common.{◌<◌, ◌^◌, ◌≡◌, arith, subst, true}
+use Rattle.std.proofs.Common.{◌<◌, ◌≡◌, arith, subst, true}
 use Rattle.hsr_frame.specs.Counters.{step_limit}
 use Rattle.hsr_redbox.specs.Machine.{Machine}
 use Rattle.hsr_redbox.specs.Step.{after_interlink}

@@ -1,0 +1,41 @@
+-- What the machines that keep the whole past of a DANH, a RedBox or a QuadBox have alike.
+use Rattle.std.specs.Prelude.{ℕ, Bool, false, List, [], ◌∷◌, is_err, Result, if◌then◌else◌}
+use Rattle.hsr_frame.specs.declared.fault.FrameFault.{FrameFault}
+use Rattle.hsr_frame.specs.declared.node.RingPort.{RingPort}
+use Rattle.hsr_supervision.specs.Payload.{read_of}
+use Rattle.hsr_tag.specs.Seen.{is_told, payload_in}
+use Rattle.hsr_tag.specs.declared.seen.Seen.{Seen}
+use Rattle.hsr_duptable.specs.Key.{Key}
+use Rattle.hsr_duptable.specs.Log.{remembered}
+use Rattle.hsr_duptable.specs.Notes.{entry_forget, has_key, note_if}
+use Rattle.hsr_duptable.specs.declared.note.Note.{Note}
+use Rattle.hsr_tables.specs.Nodes.{Hearing, hearing_if}
+use Rattle.hsr_role.specs.Arrival.{judged_by, key_in}
+
+-- ---- the answers to some calls, and what is held after them
+
+abbrev pub answers_of : {S C A : Type 0} → (S → C → A × S) → S → List C → List A × S
+answers_of call state [] = ([], state)
+answers_of call state (first ∷ calls) =
+    let done = call state first in
+    let rest = answers_of call done.1 calls in
+    (done.0 ∷ rest.0, rest.1)
+
+-- ---- the log of an egress
+
+-- what an arrival leaves in the log of an egress that passed it or not: only a tagged frame is noted
+abbrev pub note_of : Result Seen FrameFault → Bool → ℕ → List Note
+note_of seen passed now = judged_by (λ key. note_if passed key now) [] (key_in seen)
+
+-- of the last notes of a log, as many as a table has entries, one is younger than `entry_forget` milliseconds and has the key
+abbrev pub log_remembers : ℕ → List Note → ℕ → Key → Bool
+log_remembers capacity log now key = has_key key (remembered capacity entry_forget log now)
+
+-- ---- what was heard on the ring
+
+-- a readable tagged supervision frame of another node is a hearing
+abbrev pub hearing_in : List ℕ → RingPort → ℕ → Result Seen FrameFault → List Hearing
+hearing_in own x now seen = if is_told own seen then hearing_if x now (read_of (payload_in seen)) else []
+
+abbrev pub is_bad_life : List ℕ → Result Seen FrameFault → Bool
+is_bad_life own seen = if is_told own seen then is_err (read_of (payload_in seen)) else false
