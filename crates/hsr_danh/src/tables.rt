@@ -62,7 +62,7 @@ impl<const C: usize> Tables<C> {
         Exits { up, a, b, ..exits }
     }
 
-    /// Passes what came: only a tagged frame is looked for and noted.
+    /// Passes an arrival at the egresses that want it, and notes that; a tagged one not where it is remembered.
     pub fn judge(&mut self, exits: Exits, seen: &Result<Seen, FrameFault>, now: u64) -> Exits
         requires { AreReady self.old now }
         ensures { (result, self.new) ≡ judged C self.old exits seen.now now }

@@ -207,7 +207,7 @@ impl<const C: usize> RedBox<C> {
         self.accepted += 1;
     }
 
-    /// Gives up the notes that are expired.
+    /// Gives up the notes that are expired at a moment in milliseconds. That changes no later answer.
     pub fn age(&mut self, at: u64)
         ensures { self.new ≡ age_step self.old at }
     {

@@ -56,7 +56,7 @@ impl ProxyTable {
         self.last = at;
     }
 
-    /// Whether `list` has an address at this moment in milliseconds.
+    /// Whether an address is among those heard latest, and isn't forgotten at this moment in milliseconds.
     pub fn knows(&self, mac: Mac, at: u64) -> bool
         requires { self.now.last ≤ at }
         ensures { result ≡ is_known at self.now.heard mac }
