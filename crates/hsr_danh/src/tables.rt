@@ -62,7 +62,8 @@ impl<const C: usize> Tables<C> {
         Exits { up, a, b, ..exits }
     }
 
-    /// Passes an arrival at the egresses that want it, and notes that; a tagged one not where it is remembered.
+    /// Passes an arrival at the egresses that want it. A tagged frame passes where it isn't remembered, and is noted there;
+    /// what is no tagged frame is neither looked for nor noted.
     pub fn judge(&mut self, exits: Exits, seen: &Result<Seen, FrameFault>, now: u64) -> Exits
         requires { AreReady self.old now }
         ensures { (result, self.new) ≡ judged C self.old exits seen.now now }

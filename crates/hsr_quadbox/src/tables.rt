@@ -41,7 +41,8 @@ impl<const C: usize> PortTables<C> {
         Ok(PortTables { a, b, c, d })
     }
 
-    /// Passes an arrival at the egresses that want it, and notes that; a tagged one not where it is remembered.
+    /// Passes an arrival at the egresses that want it. A tagged frame passes where it isn't remembered, and is noted there;
+    /// what is no tagged frame is neither looked for nor noted.
     pub(crate) fn judge(&mut self, exits: Exits, seen: &Result<Seen, FrameFault>, now: u64) -> Exits
         requires later { AreEarlier self.old now }
         requires room { AreRoomy self.old }
