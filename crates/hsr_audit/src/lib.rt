@@ -1,5 +1,16 @@
 //! The audit of a finished run: a certificate of delivery, or the first reason for doubt. What runs, their topologies and
 //! the laws over them are is offered again, so that who audits needs this crate alone.
+//!
+//! Its modules, in the order in which to read them:
+//! - `round`: whether nodes and links are a ring, and whether it lost copies on one link at most
+//! - `reading`: what the audit asks of an entry
+//! - `marks`: what an egress noted
+//! - `log`: what a node noted
+//! - `found`: the first place of a record that gives reason for doubt
+//! - `doubted`: the first such place of all records
+//! - `doubt`: why a run isn't certified
+//! - `certificate`: what a certificate lists
+//! - `auditing`: the audit, its call
 #![tactic(auto)]
 
 mod auditing;

@@ -1,4 +1,21 @@
 //! The closing check: whether records, rows and receipts tell of one finished run.
+//!
+//! Its modules, in the order in which to read them:
+//! - `planned`: what a run was meant to do
+//! - `records`: all that a run has left
+//! - `parts`: all that a run is checked by
+//! - `disagree`: why the parts of a run don't agree
+//! - `shape`: whether records and rows are the topology's
+//! - `agreement`: whether what was put and taken is what was passed and came
+//! - `links_agree`: the first link that doesn't agree with the records
+//! - `strangers`: the first row that is of no send
+//! - `next`: the next entry of a worker in a record
+//! - `receipts`: whether receipts show the next entries
+//! - `reached`: how far the receipts of each worker have come
+//! - `workers`: the first worker whose receipts are wrong
+//! - `check`: all of this, one after another
+//! - `passes`: the passes that records and a plan tell of
+//! - `closed`: the finished run, its calls
 #![tactic(auto)]
 
 mod agreement;

@@ -1,4 +1,11 @@
 //! Topologies: which nodes there are, and how their ports are joined.
+//!
+//! Its modules, in the order in which to read them:
+//! - `end`: an end of a link
+//! - `nodes`: what the nodes may be
+//! - `links`: what the links may be
+//! - `fault`: why nodes and links are no topology
+//! - `topology`: the topology, its calls
 #![tactic(auto)]
 
 mod end;
