@@ -4,7 +4,7 @@ use Rattle.std.specs.Fmt.{decimal}
 use Rattle.hsr_engines.specs.declared.fault.Fault.{Fault}
 use Rattle.hsr_closing.specs.Disagree.{disagree_code}
 use Rattle.hsr_scenario.specs.Fault.{fault_text}
-use Rattle.hsr_engines.specs.Refusal.{drain_word}
+use Rattle.hsr_step.specs.Refusal.{drain_word}
 use Rattle.hsr_engines.specs.declared.fault.Fault.TheVariants.{Line, Scenario, Step, Transcript, Check, Read, Write, Memory}
 use Rattle.hsr_engines.specs.declared.fault.Status.{Status}
 use Rattle.hsr_engines.specs.declared.fault.Status.TheVariants.{Certified, Fault as Stopped, Doubt}

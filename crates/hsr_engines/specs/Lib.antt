@@ -1,10 +1,10 @@
+pub mod Tables
 pub mod Fault
 pub mod Report
 pub mod Output
 pub mod Run
 pub mod Playing
 pub mod Text
-pub mod Refusal
 pub mod Shown
 pub mod ScenarioRun
 pub mod AuditRun

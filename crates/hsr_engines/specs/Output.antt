@@ -4,8 +4,6 @@ use Rattle.std.specs.Io.KnownBytes.{Appends}
 use Rattle.hsr_danh.specs.Machine.{Machine}
 use Rattle.hsr_node_text.specs.Request.{Asked, request_of}
 use Rattle.hsr_node_text.specs.Reply.{after, counter_line, reply}
-use Rattle.hsr_engines.specs.declared.chosen.Table.{Table}
-use Rattle.hsr_engines.specs.declared.chosen.Table.TheVariants.{Small, Large}
 use Rattle.hsr_engines.specs.declared.fault.Fault.TheVariants.{Line, Read, Write, Memory}
 use Rattle.hsr_engines.specs.declared.fault.Status.{Status}
 use Rattle.hsr_engines.specs.declared.fault.Status.TheVariants.{Certified, Fault as Stopped, Doubt}
@@ -26,11 +24,6 @@ request_in line = if nat_lt 4096 (length line) then None else request_of line
 abbrev pub with_line : ℕ → Machine → ℕ → Option Asked → (Machine → Output) → Output
 with_line capacity machine n None more = record { text = []; bad_line = Some n }
 with_line capacity machine n (Some r) more = put (reply capacity machine r) (more (after capacity machine r))
-
--- how many entries a duplicate table holds
-abbrev pub capacity_of : Table → ℕ
-capacity_of Small = 4
-capacity_of Large = 512
 
 -- the output for lines that are counted from n on, by a node whose tables have so many entries
 abbrev pub output : ℕ → Machine → ℕ → List (List ℕ) → Output

@@ -2,8 +2,7 @@
 use Rattle.std.specs.Prelude.{ℕ, zero, suc, Bool, List, [], ◌++◌, length, count_by, codes}
 use Rattle.std.specs.Fmt.{decimal}
 use Rattle.hsr_node.specs.Counts.{counters}
-use Rattle.hsr_node.specs.declared.place.Place.{Place}
-use Rattle.hsr_node.specs.declared.place.Place.TheVariants.{Danh, RedBox, QuadBox, Station}
+use Rattle.hsr_node.specs.Words.{role_in, role_word}
 use Rattle.hsr_link.specs.Rows.{is_lost, is_taken}
 use Rattle.hsr_link.specs.declared.row.Row.{Row}
 use Rattle.hsr_law.specs.Run.{Run, past_of, place_of, rows_of}
@@ -15,15 +14,9 @@ use Rattle.hsr_engines.specs.declared.fault.Status.TheVariants as status
 use Rattle.hsr_engines.specs.declared.finding.Finding.{Finding}
 use Rattle.hsr_engines.specs.declared.finding.Finding.TheVariants as finding
 
-abbrev pub role_text : Place → List ℕ
-role_text (Danh mac mode) = codes "danh"
-role_text (RedBox mac mode) = codes "redbox"
-role_text QuadBox = codes "quadbox"
-role_text (Station macs) = codes "station"
-
 -- a node: its number, its role, and how often each thing happened there
 unfoldable pub node_line : Run → ℕ → List ℕ
-node_line run k = codes "node " ++ decimal k ++ codes " " ++ role_text (place_of run k) ++ codes " " ++ counter_line (counters (place_of run k) (past_of run k))
+node_line run k = codes "node " ++ decimal k ++ codes " " ++ role_word (role_in (place_of run k)) ++ codes " " ++ counter_line (counters (place_of run k) (past_of run k))
 
 abbrev pub is_row_taken : Row → Bool
 is_row_taken row = is_taken row.fate

@@ -2,7 +2,7 @@
 ghost use Rattle.std.specs.Prelude.{◌≡◌, ◌≤◌, IfErr, IfOk, IfSome};
 ghost use Rattle.hsr_transcript.specs.Answers.{IsTextOf};
 ghost use Rattle.hsr_engines.specs.AuditRun.{AuditEnds, IsAudited, IsUnread, transcript_fault};
-ghost use Rattle.hsr_engines.specs.Output.{capacity_of};
+ghost use Rattle.hsr_engines.specs.Tables.{capacity_of};
 
 use crate::chosen::Table;
 use crate::fault::{Fault, Status, TranscriptFault};

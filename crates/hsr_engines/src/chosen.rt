@@ -10,6 +10,37 @@ pub enum Table {
     Large,
 }
 
+impl Table {
+    ghost use Rattle.std.specs.Prelude.{◌≡◌, IfSome, Some};
+    ghost use Rattle.hsr_engines.specs.Tables.{table_of, table_word};
+
+    /// Its word, as it is chosen.
+    pub fn word(self) -> &'static str
+        ensures { result.now ≡ table_word self }
+    {
+        match self {
+            Table::Small => "small",
+            Table::Large => "large",
+        }
+    }
+
+    /// The size whose word this is.
+    #[tactic(auto, using(crate::proofs::Sizes::table_again))]
+    pub fn from_word(word: &[u8]) -> Option<Table>
+        ensures value { result ≡ table_of word.now }
+        ensures again { (table : Table) → table_of (table_word table) ≡ Some table }
+        ensures exact { IfSome result (λ table. word.now ≡ table_word table) }
+    {
+        if word == b"small".as_slice() {
+            Some(Table::Small)
+        } else if word == b"large".as_slice() {
+            Some(Table::Large)
+        } else {
+            None
+        }
+    }
+}
+
 /// The node that `node` runs. No group has its address.
 #[derive(Clone, Copy, Debug, PartialEq, Eq)]
 pub struct NodeOptions {

@@ -3,7 +3,8 @@ ghost use Rattle.std.specs.Prelude.{◌≡◌, ◌≢◌, ◌<◌, ◌≤◌, �
 ghost use Rattle.hsr_frame.specs.Address.{IsGroup};
 ghost use Rattle.hsr_text.specs.Lines.{ReadsFront, lines_of};
 ghost use Rattle.hsr_danh.specs.Machine.{new_machine};
-ghost use Rattle.hsr_engines.specs.Output.{Ended, capacity_of, output};
+ghost use Rattle.hsr_engines.specs.Output.{Ended, output};
+ghost use Rattle.hsr_engines.specs.Tables.{capacity_of};
 ghost use Rattle.hsr_engines.specs.Run.{Finished, Ran, Served, Turned};
 ghost use Rattle.hsr_engines.specs.declared.fault.Fault.TheVariants.{Read as ReadFailed};
 
@@ -17,10 +18,13 @@ use hsr_text::{Front, READ_LIMIT, WordFault, next_line};
 use std::alloc::Global;
 use std::io::{Read, Write};
 
+/// The most octets of a line, without its line feed.
+const LINE_LIMIT: usize = 4096;
+
 /// Room for a line, without its line feed, and for its answer, used again for each line.
 #[derive(Drop)]
 struct Room {
-    line: ArrayVec<u8, 4096>,
+    line: ArrayVec<u8, LINE_LIMIT>,
     text: Vec<u8>,
 }
 
@@ -57,7 +61,7 @@ fn answer_front<W: Write, const C: usize>(
     writer: &mut W,
     room: &mut Room,
 ) -> Result<bool, Fault>
-    ensures turned { (left rest : Option (List ℕ)) → ReadsFront 4096 left rest room.old.line.items front
+    ensures turned { (left rest : Option (List ℕ)) → ReadsFront LINE_LIMIT left rest room.old.line.items front
         → Turned left rest (W.contents writer.old) (W.contents writer.new) C danh.old danh.new number result }
     ensures told { IfErr result (λ f. f ≢ ReadFailed) }
 {

@@ -3,7 +3,6 @@ ghost use Rattle.std.specs.Prelude.{◌≡◌, Some};
 ghost use Rattle.hsr_engines.specs.Fault.{code_of, fault_line, transcript_text};
 ghost use Rattle.hsr_engines.specs.declared.fault.Fault.TheVariants.{Memory, Read as ReadFailed};
 
-use crate::refusal::drain_word;
 use hsr_closing::Disagree;
 use hsr_scenario::ScenarioFault;
 use hsr_step::DrainFault;
@@ -88,10 +87,7 @@ impl fmt::Display for Fault {
         match self {
             Fault::Line(n) => write!(f, "fault: line {n}"),
             Fault::Scenario(fault) => write!(f, "fault: scenario {fault}"),
-            Fault::Step { step, fault } => {
-                let word = drain_word(*fault);
-                write!(f, "fault: step {step} {word}")
-            }
+            Fault::Step { step, fault } => write!(f, "fault: step {step} {fault}"),
             Fault::Transcript(fault) => write!(f, "fault: transcript {fault}"),
             Fault::Check(disagree) => {
                 let code = disagree.code();

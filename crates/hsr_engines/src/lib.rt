@@ -1,4 +1,6 @@
 //! What the program does: `node`, `run` and `audit`, each over a reader and a writer.
+//!
+//! Its modules, in the order to read them: `chosen`, `fault`, `engine`, `text`, `playing`, `finding`, `report`, `shown`, `scenario`, `audit`.
 #![tactic(auto)]
 
 mod audit;
@@ -7,7 +9,6 @@ mod engine;
 mod fault;
 mod finding;
 mod playing;
-mod refusal;
 mod report;
 mod scenario;
 mod shown;

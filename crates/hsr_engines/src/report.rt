@@ -2,7 +2,7 @@
 ghost use Rattle.std.specs.Prelude.{◌≡◌, ◌<◌, ◌++◌, count_by, length, IfOk, OnOk};
 ghost use Rattle.hsr_closing.specs.Finished.{IsFinished};
 ghost use Rattle.hsr_law.specs.Run.{place_of};
-ghost use Rattle.hsr_engines.specs.Report.{head_line, is_row_lost, is_row_taken, link_line, link_lines, node_line, node_lines, report, role_text};
+ghost use Rattle.hsr_engines.specs.Report.{head_line, is_row_lost, is_row_taken, link_line, link_lines, node_line, node_lines, report};
 
 use crate::finding::{Finding, put_finding};
 use hsr_closing::Closed;
@@ -10,17 +10,6 @@ use hsr_link::{Fate, Row};
 use hsr_node::Place;
 use hsr_node_text::{put_count, put_counters};
 use std::alloc::{AllocError, Global};
-
-fn put_role(text: &mut Vec<u8>, place: &Place) -> Result<(), AllocError>
-    ensures { OnOk result (text.new.items ≡ text.old.items ++ role_text place.now) }
-{
-    match place {
-        Place::Danh { .. } => text.extend_from_slice(b"danh"),
-        Place::RedBox { .. } => text.extend_from_slice(b"redbox"),
-        Place::QuadBox => text.extend_from_slice(b"quadbox"),
-        Place::Station { .. } => text.extend_from_slice(b"station"),
-    }
-}
 
 fn is_taken(row: &Row) -> bool
     ensures { result ≡ is_row_taken row.now }
@@ -68,7 +57,7 @@ fn put_node<const C: usize>(
 {
     put_count(text, b"node ", node as u64)?;
     text.extend_from_slice(b" ")?;
-    put_role(text, place)?;
+    text.extend_from_slice(place.role().word().as_bytes())?;
     text.extend_from_slice(b" ")?;
     put_counters(text, &closed.counters(node))
 }

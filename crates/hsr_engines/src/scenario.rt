@@ -3,7 +3,7 @@ ghost use Rattle.std.specs.Prelude.{◌≡◌, ◌≢◌, ◌≤◌, IfErr, IfOk
 ghost use Rattle.hsr_world.specs.Lawful.{IsEnded, finished_of};
 ghost use Rattle.hsr_scenario.specs.Meaning.{scenario_view};
 ghost use Rattle.hsr_engines.specs.ScenarioRun.{IsNoScenario, IsPlayed, IsReported, IsUnclosed, IsUnplayed, IsUnreported, ScenarioEnds, scenario_of, step_fault, text_fault};
-ghost use Rattle.hsr_engines.specs.Output.{capacity_of};
+ghost use Rattle.hsr_engines.specs.Tables.{capacity_of};
 ghost use Rattle.hsr_engines.specs.declared.fault.Fault.TheVariants.{Read as ReadFailed};
 ghost use Rattle.hsr_engines.specs.declared.fault.Status.TheVariants.{Fault as Stopped};
 
@@ -15,13 +15,10 @@ use crate::shown::{deliver, shown};
 use crate::text::read_text;
 use hsr_closing::{CheckFault, Closed};
 use hsr_ring::World;
-use hsr_scenario::{Scenario, ScenarioFault, Spot, What, read};
+use hsr_scenario::{Scenario, ScenarioFault, Spot, TEXT_LIMIT, What, read};
 use hsr_step::{DrainFault, WorldFault};
 use std::alloc::Global;
 use std::io::{Read, Write};
-
-/// The most octets of a scenario: 16 MiB.
-const MOST_OCTETS: usize = 1 << 24;
 
 /// Why a text is no scenario, as a fault of the run.
 fn text_fault(fault: ScenarioFault) -> Fault
@@ -171,7 +168,7 @@ pub fn scenario_run<R: Read, W: Write>(
     ensures { IfSome (R.remaining reader.old) (λ octets.
         ScenarioEnds (capacity_of table) transcript (scenario_of octets) (W.contents writer.old) (W.contents writer.new) result) }
 {
-    match read_text(alloc, reader, MOST_OCTETS) {
+    match read_text(alloc, reader, TEXT_LIMIT) {
         Ok(octets) => tell(alloc, octets.as_slice(), writer, table, transcript),
         Err(fault) => Status::Fault(fault),
     }

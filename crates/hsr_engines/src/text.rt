@@ -8,12 +8,15 @@ use hsr_text::READ_LIMIT;
 use std::alloc::Global;
 use std::io::{ErrorKind, Read};
 
+/// The most octets that are read at once.
+const PIECE_LIMIT: usize = 4096;
+
 /// Reads a piece of a text, puts it behind what was read, and tells whether more may follow.
 fn read_piece<R: Read>(reader: &mut R, text: &mut Vec<u8>) -> Result<bool, Fault>
     ensures ok { IfOk result (λ more. ReadsPiece (R.remaining reader.old) (R.remaining reader.new) text.old.items text.new.items more) }
     ensures err { IfErr result (λ f. (f ≡ ReadFailed) ⊎ (f ≡ Memory)) }
 {
-    let mut piece = [0u8; 4096];
+    let mut piece = [0u8; PIECE_LIMIT];
     match reader.read(&mut piece) {
         Ok(count) => {
             text.extend_from_slice(&piece[..count])?;
