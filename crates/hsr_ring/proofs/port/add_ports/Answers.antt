@@ -9,9 +9,6 @@ use Rattle.hsr_ring.proofs.port.add_ports.Goals as goal
 pub loop-port-preserved : goal.loop-port-preserved
 loop-port-preserved c =
     let pushed = c.push.ensures.items in
-    let value = c.is_err.ensures.value in
-    let negation = c.is_err.ensures.negation in
-    let false = c.if-is_err.false in
     let before : List Port = c.loop-port.all.items in
     let more : c.push.new.self.items ≡ before ++ c.port_at.result ∷ [] = grind (arith, common_steps) in
     port_more (port_at (map line_view c.args.lines.now)) c.args.node c.loop-port.port c.args.count before c.push.new.self.items _ c.port_at.result
