@@ -41,11 +41,11 @@ use Rattle.hsr_closing.proofs.Shaped.{from_there}
 use Rattle.hsr_world.specs.Closing.{IsOwn, run_of}
 use Rattle.hsr_ring.specs.Ending.{AreRowsOf, IsToldClosed, IsToldOpen}
 use Rattle.hsr_world.specs.Lawful.{IsEnded, finished_of}
-use Rattle.hsr_world.specs.Lines.{Line}
+use Rattle.hsr_world.specs.Spans.{Span}
 use Rattle.hsr_world.specs.Reached.{IsReached}
 use Rattle.hsr_ring.specs.Views.{AreNumbered, world_of}
 use Rattle.hsr_world.specs.World.{World, new_world}
-use Rattle.hsr_world.proofs.Closed.{always_closes, always_numbered_first, lines_counted, linked, only_quiet_closes, run_is, wires}
+use Rattle.hsr_world.proofs.Closed.{always_closes, always_numbered_first, spans_counted, linked, only_quiet_closes, run_is, wires}
 use Rattle.hsr_ring.proofs.Entered.{number_at}
 use Rattle.hsr_world.proofs.Lawful.{own_of, same_links}
 use Rattle.hsr_world.proofs.Linked.{is_led_to, leads_to}
@@ -99,10 +99,10 @@ none_came port entries h = sym (reverse-reverse (came port entries)) ∙ ap reve
 
 -- ---- a world that was reached
 
-module _ (capacity : ℕ) (topology : Topology) (moment : ℕ) (kept : List Record) (lines : List Line) (plan : List Planned)
-    (wired : IsWired topology.places topology.links) (numbered : AreNumbered kept) (r : IsReached capacity topology.places topology.links (world_of moment kept lines plan)) where
+module _ (capacity : ℕ) (topology : Topology) (moment : ℕ) (kept : List Record) (spans : List Span) (plan : List Planned)
+    (wired : IsWired topology.places topology.links) (numbered : AreNumbered kept) (r : IsReached capacity topology.places topology.links (world_of moment kept spans plan)) where
   abbrev world : World
-  world = world_of moment kept lines plan
+  world = world_of moment kept spans plan
 
   places : map (λ (r : Record). r.place) kept ≡ topology.places
   places = ap (λ (v : World). v.places) (sym r.is) ∙ (run_keeps capacity r.steps (new_world r.room topology.places topology.links)).places
@@ -122,7 +122,7 @@ module _ (capacity : ℕ) (topology : Topology) (moment : ℕ) (kept : List Reco
         inside,
   )
 
-  module _ (rows : List (Vec Row Global)) (passes : List Receipts) (of_links : AreRowsOf lines rows) (told : ArePassesOf kept plan passes) where
+  module _ (rows : List (Vec Row Global)) (passes : List Receipts) (of_links : AreRowsOf spans rows) (told : ArePassesOf kept plan passes) where
     run_same : run_of capacity topology.links world ≡ finished.run_of capacity topology kept rows
     run_same = run_is capacity topology kept rows world places refl (sym of_links)
 
@@ -132,7 +132,7 @@ module _ (capacity : ℕ) (topology : Topology) (moment : ℕ) (kept : List Reco
     shaped : IsShaped topology kept rows
     shaped = record {
       places = places;
-      of_links = sym (length-map rows finished.items_of) ∙ (ap length of_links ∙ (length-map lines _ ∙ lines_counted capacity topology.places topology.links world wired r));
+      of_links = sym (length-map rows finished.items_of) ∙ (ap length of_links ∙ (length-map spans _ ∙ spans_counted capacity topology.places topology.links world wired r));
       fit = fit;
     }
 
@@ -177,21 +177,21 @@ module _ (capacity : ℕ) (topology : Topology) (moment : ℕ) (kept : List Reco
     open_as (NotQuiet link) first = first.1
     open_as (cause.Receipts worker) first = absurd (first.1.4.here (receipts worker))
 
-  pub closed_is : (closed : Finished) → IsToldClosed capacity topology kept plan lines closed → closed ≡ finished_of capacity world
+  pub closed_is : (closed : Finished) → IsToldClosed capacity topology kept plan spans closed → closed ≡ finished_of capacity world
   closed_is closed c =
       let same = run_whole c.rows c.told.passes c.of_links c.told.told in
       c.told.is ∙ ap (λ (run : Run). let f : Finished = record { run = run; plan = plan } in f) same
 
-  pub closed_ended : (closed : Finished) → IsToldClosed capacity topology kept plan lines closed → IsEnded world
+  pub closed_ended : (closed : Finished) → IsToldClosed capacity topology kept plan spans closed → IsEnded world
   closed_ended closed c = ended c.rows c.told.passes c.of_links c.told.told c.told.agrees.closed
 
-  pub closed_calm : (closed : Finished) → IsToldClosed capacity topology kept plan lines closed → IsCalm closed.run
+  pub closed_calm : (closed : Finished) → IsToldClosed capacity topology kept plan spans closed → IsCalm closed.run
   closed_calm closed c = subst (λ (f : Finished). IsCalm f.run) (sym c.told.is) (calm c.rows c.told.passes c.of_links c.told.told c.told.agrees.closed)
 
-  pub open_refused : (d : Disagree) → IsToldOpen capacity topology kept plan lines d → ¬ IsEnded world
+  pub open_refused : (d : Disagree) → IsToldOpen capacity topology kept plan spans d → ¬ IsEnded world
   open_refused d o end = o.told.refused (agrees o.rows o.told.passes o.of_links o.told.told end)
 
-  pub open_first : (d : Disagree) → IsToldOpen capacity topology kept plan lines d → IsOpen (finished_of capacity world).run d
+  pub open_first : (d : Disagree) → IsToldOpen capacity topology kept plan spans d → IsOpen (finished_of capacity world).run d
   open_first d o = subst (λ (run : Run). IsOpen run d) (run_whole o.rows o.told.passes o.of_links o.told.told) (open_as o.rows o.told.passes o.of_links o.told.told d o.told.first)
 
 -- ---- what a call that closes a world answers
@@ -209,20 +209,20 @@ if_map : (fault : CheckFault) (P Q : Disagree → Type 0) → ((d : Disagree) �
 if_map (fault.Disagree d) P Q f h = f d h
 if_map fault.NoMemory P Q f h = h
 
-module _ (capacity : ℕ) (topology : Topology) (moment : ℕ) (kept : List Record) (lines : List Line) (plan : List Planned) (w : World) (is : world_of moment kept lines plan ≡ w)
+module _ (capacity : ℕ) (topology : Topology) (moment : ℕ) (kept : List Record) (spans : List Span) (plan : List Planned) (w : World) (is : world_of moment kept spans plan ≡ w)
     (wired : IsWired topology.places topology.links) (numbered : AreNumbered kept) (r : IsReached capacity topology.places topology.links w) where
-  reached : IsReached capacity topology.places topology.links (world_of moment kept lines plan)
+  reached : IsReached capacity topology.places topology.links (world_of moment kept spans plan)
   reached = subst (IsReached capacity topology.places topology.links) (sym is) r
 
-  pub closes : (closed : Finished) → IsToldClosed capacity topology kept plan lines closed → Closes capacity w closed
+  pub closes : (closed : Finished) → IsToldClosed capacity topology kept plan spans closed → Closes capacity w closed
   closes closed c = subst (λ (v : World). Closes capacity v closed) is (record {
-    is = closed_is capacity topology moment kept lines plan wired numbered reached closed c;
-    ended = closed_ended capacity topology moment kept lines plan wired numbered reached closed c;
-    calm = closed_calm capacity topology moment kept lines plan wired numbered reached closed c;
+    is = closed_is capacity topology moment kept spans plan wired numbered reached closed c;
+    ended = closed_ended capacity topology moment kept spans plan wired numbered reached closed c;
+    calm = closed_calm capacity topology moment kept spans plan wired numbered reached closed c;
   })
 
-  pub stays_open : (fault : CheckFault) → IfDisagree fault (IsToldOpen capacity topology kept plan lines) → StaysOpen capacity w fault
+  pub stays_open : (fault : CheckFault) → IfDisagree fault (IsToldOpen capacity topology kept plan spans) → StaysOpen capacity w fault
   stays_open fault o = subst (λ (v : World). StaysOpen capacity v fault) is (record {
-    refused = if_map fault (IsToldOpen capacity topology kept plan lines) (λ d. ¬ IsEnded (world_of moment kept lines plan)) (open_refused capacity topology moment kept lines plan wired numbered reached) o;
-    first = if_map fault (IsToldOpen capacity topology kept plan lines) (λ d. IsOpen (finished_of capacity (world_of moment kept lines plan)).run d) (open_first capacity topology moment kept lines plan wired numbered reached) o;
+    refused = if_map fault (IsToldOpen capacity topology kept plan spans) (λ d. ¬ IsEnded (world_of moment kept spans plan)) (open_refused capacity topology moment kept spans plan wired numbered reached) o;
+    first = if_map fault (IsToldOpen capacity topology kept plan spans) (λ d. IsOpen (finished_of capacity (world_of moment kept spans plan)).run d) (open_first capacity topology moment kept spans plan wired numbered reached) o;
   })

@@ -1,4 +1,4 @@
--- What an entry makes of the nodes and lines of the code.
+-- What an entry makes of the nodes and spans of the code.
 use Rattle.std.proofs.Common.{◌≡◌, ◌⊎◌, inl, inr, ℕ, ◌<◌, List, [], ◌∷◌, ◌++◌, map, max, reverse, set, get_or, length, Some, None, Result, Ok, Err, refl, sym, ap, ap₂, ◌∙◌, subst, arith}
 use Rattle.std.proofs.lemmas.List.FromFn.{get_or-range_with_len}
 use Rattle.std.proofs.lemmas.List.{map-set, get_or-map, length-map, length-set, length-reverse, reverse-append}
@@ -18,11 +18,11 @@ use Rattle.hsr_node.specs.declared.event.StepFault.TheVariants as refused
 use Rattle.hsr_node.specs.declared.place.Place.{Place}
 use Rattle.hsr_node.specs.declared.place.Place.TheVariants.{QuadBox}
 use Rattle.hsr_ring.specs.Entering.{IsEntered, IsNotEntered, IsRefusal, IsStepped, IsUnplanned, answer_in, past_in, places_of, world_fault}
-use Rattle.hsr_ring.specs.Giving.{emptied_line, given_lane, given_line}
-use Rattle.hsr_world.specs.Lines.{Line, emptied, held_in, lanes_of, on_lanes, spread}
-use Rattle.hsr_ring.specs.Views.{AreNumbered, line_view, world_of}
+use Rattle.hsr_ring.specs.Giving.{emptied_span, given_lane, given_span}
+use Rattle.hsr_world.specs.Spans.{Span, emptied, held_in, lanes_of, on_lanes, spread}
+use Rattle.hsr_ring.specs.Views.{AreNumbered, span_view, world_of}
 use Rattle.hsr_world.specs.World.{World, added, and_added, cleared, entered, judged_at, planned, port_worker}
-use Rattle.hsr_ring.specs.declared.line.Line as code
+use Rattle.hsr_ring.specs.declared.span.Span as code
 use Rattle.hsr_step.specs.declared.step.WorldFault.{WorldFault}
 use Rattle.hsr_step.specs.declared.step.WorldFault.TheVariants.{NoMemory, Node, Nothing}
 use Rattle.hsr_ring.proofs.Places.{or_map}
@@ -105,30 +105,30 @@ same_place old new n d below places =
 
 -- ---- the world
 
-map_given : (place : Place) (receipt : Receipt) (lines : List code.Line) → map (given_line place receipt) lines ≡ map (on_lanes (given_lane place receipt)) (map line_view lines)
+map_given : (place : Place) (receipt : Receipt) (spans : List code.Span) → map (given_span place receipt) spans ≡ map (on_lanes (given_lane place receipt)) (map span_view spans)
 map_given place receipt [] = refl
-map_given place receipt (x ∷ lines) = ap (λ (ls : List Line). given_line place receipt x ∷ ls) (map_given place receipt lines)
+map_given place receipt (x ∷ spans) = ap (λ (ls : List Span). given_span place receipt x ∷ ls) (map_given place receipt spans)
 
-pub entered_ok : (capacity worker n at : ℕ) (event : Event) (old new : List Record) (receipt : Receipt) (place : Place) (before : List Line) (lines : List code.Line) →
-    IsStepped capacity worker n at event old new receipt → place ≡ (owner_in (places_of old) n).place → map line_view lines ≡ before →
-    IsEntered capacity worker n at event old new before (map (given_line place receipt) lines)
-entered_ok capacity worker n at event old new receipt place before lines s same seen = λ plan.
+pub entered_ok : (capacity worker n at : ℕ) (event : Event) (old new : List Record) (receipt : Receipt) (place : Place) (before : List Span) (spans : List code.Span) →
+    IsStepped capacity worker n at event old new receipt → place ≡ (owner_in (places_of old) n).place → map span_view spans ≡ before →
+    IsEntered capacity worker n at event old new before (map (given_span place receipt) spans)
+entered_ok capacity worker n at event old new receipt place before spans s same seen = λ plan.
     let w : World = world_of at old before plan in
     let x : Entry = record { worker = worker; at = at; event = event; outcome = receipt.entry.outcome } in
     let past : List Entry = past_in old n in
     let records : set (map past_of old) n (x ∷ past) ≡ map past_of new =
     ap (λ (r : Receipt). set (map past_of old) n (r.entry ∷ past)) (sym s.told) ∙ sym s.records in
-    let spread_out : map (on_lanes (spread (owner_in (places_of old) n) x past)) before ≡ map (given_line place receipt) lines =
+    let spread_out : map (on_lanes (spread (owner_in (places_of old) n) x past)) before ≡ map (given_span place receipt) spans =
     ap (map (on_lanes (spread (owner_in (places_of old) n) x past))) (sym seen)
-    ∙ (ap₂ (λ (p : Place) (r : Receipt). map (on_lanes (given_lane p r)) (map line_view lines)) (sym same) (sym s.told)
-    ∙ sym (map_given place receipt lines)) in
+    ∙ (ap₂ (λ (p : Place) (r : Receipt). map (on_lanes (given_lane p r)) (map span_view spans)) (sym same) (sym s.told)
+    ∙ sym (map_given place receipt spans)) in
     ap (and_added w worker n event) s.answered
-    ∙ ap Ok (λ i. record { moment = at; places = sym s.places i; records = records i; lines = spread_out i; plan = plan })
+    ∙ ap Ok (λ i. record { moment = at; places = sym s.places i; records = records i; spans = spread_out i; plan = plan })
 
-pub not_entered : (capacity worker n at : ℕ) (event : Event) (nodes : List Record) (lines : List Line) (fault : WorldFault) →
-    IsRefusal capacity nodes n at event fault → IsNotEntered capacity worker n at event nodes lines fault
-not_entered capacity worker n at event nodes lines fault r = λ plan.
-    ap (and_added (world_of at nodes lines plan) worker n event) r.1 ∙ ap Err (sym r.2)
+pub not_entered : (capacity worker n at : ℕ) (event : Event) (nodes : List Record) (spans : List Span) (fault : WorldFault) →
+    IsRefusal capacity nodes n at event fault → IsNotEntered capacity worker n at event nodes spans fault
+not_entered capacity worker n at event nodes spans fault r = λ plan.
+    ap (and_added (world_of at nodes spans plan) worker n event) r.1 ∙ ap Err (sym r.2)
 
 -- ---- what is planned
 
@@ -140,14 +140,14 @@ unplanned w planned_w refused_w after n event is same undo =
 
 -- ---- what is held
 
-pub map_emptied : (end : End) (lines : List code.Line) → map (emptied_line end) lines ≡ map (on_lanes (emptied end)) (map line_view lines)
+pub map_emptied : (end : End) (spans : List code.Span) → map (emptied_span end) spans ≡ map (on_lanes (emptied end)) (map span_view spans)
 map_emptied end [] = refl
-map_emptied end (x ∷ lines) = ap (λ (ls : List Line). emptied_line end x ∷ ls) (map_emptied end lines)
+map_emptied end (x ∷ spans) = ap (λ (ls : List Span). emptied_span end x ∷ ls) (map_emptied end spans)
 
-spread_emptied : (end : End) (owner : Owner) (x : Entry) (past : List Entry) (lines : List Line) →
-    map (on_lanes (spread owner x past)) (map (on_lanes (emptied end)) lines) ≡ map (on_lanes (emptied end)) (map (on_lanes (spread owner x past)) lines)
+spread_emptied : (end : End) (owner : Owner) (x : Entry) (past : List Entry) (spans : List Span) →
+    map (on_lanes (spread owner x past)) (map (on_lanes (emptied end)) spans) ≡ map (on_lanes (emptied end)) (map (on_lanes (spread owner x past)) spans)
 spread_emptied end owner x past [] = refl
-spread_emptied end owner x past (line ∷ lines) = ap (λ (ls : List Line). on_lanes (spread owner x past) (on_lanes (emptied end) line) ∷ ls) (spread_emptied end owner x past lines)
+spread_emptied end owner x past (span ∷ spans) = ap (λ (ls : List Span). on_lanes (spread owner x past) (on_lanes (emptied end) span) ∷ ls) (spread_emptied end owner x past spans)
 
 abbrev cleared_result : End → Result World WorldFault → Result World WorldFault
 cleared_result end (Ok w) = Ok (cleared w end)
@@ -157,7 +157,7 @@ cleared_added : (w : World) (end : End) (worker n : ℕ) (event : Event) (answer
     and_added (cleared w end) worker n event answer ≡ cleared_result end (and_added w worker n event answer)
 cleared_added w end worker n event (Ok outcome) =
     let x : Entry = record { worker = worker; at = w.moment; event = event; outcome = outcome } in
-    ap (λ (ls : List Line). Ok (record (added w n x) { lines = ls })) (spread_emptied end (owner_in w.places n) x (record_in w.records n) w.lines)
+    ap (λ (ls : List Span). Ok (record (added w n x) { spans = ls })) (spread_emptied end (owner_in w.places n) x (record_in w.records n) w.spans)
 cleared_added w end worker n event (Err fault) = refl
 
 cleared_entered : (capacity : ℕ) (w : World) (end : End) (worker n : ℕ) (event : Event) →
@@ -165,15 +165,15 @@ cleared_entered : (capacity : ℕ) (w : World) (end : End) (worker n : ℕ) (eve
 cleared_entered capacity w end worker n event =
     cleared_added w end worker n event (answer capacity (owner_in w.places n) (record_in w.records n) (max (now (record_in w.records n)) w.moment) event)
 
-pub judged_ok : (capacity : ℕ) (w after : World) (end : End) (copy : Carried) → Some copy ≡ held_in end (lanes_of w.lines) →
-    entered capacity w (port_worker end) end.node (event.Arrive end.port copy) ≡ Ok after → judged_at capacity w end (held_in end (lanes_of w.lines)) ≡ Ok (cleared after end)
+pub judged_ok : (capacity : ℕ) (w after : World) (end : End) (copy : Carried) → Some copy ≡ held_in end (lanes_of w.spans) →
+    entered capacity w (port_worker end) end.node (event.Arrive end.port copy) ≡ Ok after → judged_at capacity w end (held_in end (lanes_of w.spans)) ≡ Ok (cleared after end)
 judged_ok capacity w after end copy held e =
     ap (judged_at capacity w end) (sym held) ∙ cleared_entered capacity w end (port_worker end) end.node (event.Arrive end.port copy) ∙ ap (cleared_result end) e
 
-pub judged_err : (capacity : ℕ) (w : World) (end : End) (copy : Carried) (fault : WorldFault) → Some copy ≡ held_in end (lanes_of w.lines) →
-    entered capacity w (port_worker end) end.node (event.Arrive end.port copy) ≡ Err fault → judged_at capacity w end (held_in end (lanes_of w.lines)) ≡ Err fault
+pub judged_err : (capacity : ℕ) (w : World) (end : End) (copy : Carried) (fault : WorldFault) → Some copy ≡ held_in end (lanes_of w.spans) →
+    entered capacity w (port_worker end) end.node (event.Arrive end.port copy) ≡ Err fault → judged_at capacity w end (held_in end (lanes_of w.spans)) ≡ Err fault
 judged_err capacity w end copy fault held e =
     ap (judged_at capacity w end) (sym held) ∙ cleared_entered capacity w end (port_worker end) end.node (event.Arrive end.port copy) ∙ ap (cleared_result end) e
 
-pub judged_none : (capacity : ℕ) (w : World) (end : End) → None ≡ held_in end (lanes_of w.lines) → judged_at capacity w end (held_in end (lanes_of w.lines)) ≡ Err Nothing
+pub judged_none : (capacity : ℕ) (w : World) (end : End) → None ≡ held_in end (lanes_of w.spans) → judged_at capacity w end (held_in end (lanes_of w.spans)) ≡ Err Nothing
 judged_none capacity w end held = ap (judged_at capacity w end) (sym held)

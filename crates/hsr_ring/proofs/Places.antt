@@ -1,4 +1,4 @@
--- A place of the lines of the code, and of the list of what is seen of them.
+-- A place of the spans of the code, and of the list of what is seen of them.
 use Rattle.std.proofs.Common.{◌≡◌, ◌⊎◌, inl, inr, ℕ, ◌<◌, zero, suc, List, [], ◌∷◌, map, set, get_or, length, Option, Some, None, Result, Ok, Err, refl, sym, ap, ◌∙◌, arith}
 use Rattle.hsr_step.specs.declared.step.WorldFault.TheVariants.{Nothing}
 use Rattle.std.specs.Prelude.{is_some, false, OnOk, IfErr}
@@ -10,31 +10,31 @@ use Rattle.hsr_link.specs.declared.row.Fate.{Fate}
 use Rattle.hsr_link.specs.declared.row.Row.{Row}
 use Rattle.hsr_node.specs.declared.event.Carried.{Carried}
 use Rattle.std.proofs.lemmas.Grind.{common_steps}
-use Rattle.hsr_world.specs.Lines.{Lane, Line}
-use Rattle.hsr_ring.specs.Views.{take_in, taken_in, in_lines, line_view, on_line}
-use Rattle.hsr_world.specs.World.{line_in}
-use Rattle.hsr_ring.specs.declared.line.Line as code
+use Rattle.hsr_world.specs.Spans.{Lane, Span}
+use Rattle.hsr_ring.specs.Views.{take_in, taken_in, in_spans, span_view, on_span}
+use Rattle.hsr_world.specs.World.{span_in}
+use Rattle.hsr_ring.specs.declared.span.Span as code
 use Rattle.hsr_step.specs.declared.step.WorldFault.{WorldFault}
 
-pub line_seen : (lines : List code.Line) (i : ℕ) (d : code.Line) → i < length lines → line_in (map line_view lines) i ≡ line_view (get_or lines i d)
-line_seen lines i d below = get_or-map line_view lines i d _ below
+pub span_seen : (spans : List code.Span) (i : ℕ) (d : code.Span) → i < length spans → span_in (map span_view spans) i ≡ span_view (get_or spans i d)
+span_seen spans i d below = get_or-map span_view spans i d _ below
 
--- one changed line, as it is seen
-pub on_line_seen : (f : Line → Line) (lines : List code.Line) (i : ℕ) (y d : code.Line) → i < length lines → line_view y ≡ f (line_view (get_or lines i d)) →
-    map line_view (set lines i y) ≡ on_line f i (map line_view lines)
-on_line_seen f lines i y d below h =
-    map-set line_view lines i y ∙ ap (λ z. set (map line_view lines) i z) (h ∙ ap f (sym (line_seen lines i d below)))
+-- one changed span, as it is seen
+pub on_span_seen : (f : Span → Span) (spans : List code.Span) (i : ℕ) (y d : code.Span) → i < length spans → span_view y ≡ f (span_view (get_or spans i d)) →
+    map span_view (set spans i y) ≡ on_span f i (map span_view spans)
+on_span_seen f spans i y d below h =
+    map-set span_view spans i y ∙ ap (λ z. set (map span_view spans) i z) (h ∙ ap f (sym (span_seen spans i d below)))
 
 -- a change that may be refused
-pub in_lines_ok : (g : Line → Result Line WorldFault) (lines : List code.Line) (i : ℕ) (y d : code.Line) → i < length lines → g (line_view (get_or lines i d)) ≡ Ok (line_view y) →
-    in_lines i (map line_view lines) (g (line_in (map line_view lines) i)) ≡ Ok (map line_view (set lines i y))
-in_lines_ok g lines i y d below h =
-    ap (λ z. in_lines i (map line_view lines) (g z)) (line_seen lines i d below) ∙ ap (in_lines i (map line_view lines)) h ∙ ap Ok (sym (map-set line_view lines i y))
+pub in_spans_ok : (g : Span → Result Span WorldFault) (spans : List code.Span) (i : ℕ) (y d : code.Span) → i < length spans → g (span_view (get_or spans i d)) ≡ Ok (span_view y) →
+    in_spans i (map span_view spans) (g (span_in (map span_view spans) i)) ≡ Ok (map span_view (set spans i y))
+in_spans_ok g spans i y d below h =
+    ap (λ z. in_spans i (map span_view spans) (g z)) (span_seen spans i d below) ∙ ap (in_spans i (map span_view spans)) h ∙ ap Ok (sym (map-set span_view spans i y))
 
-pub in_lines_err : (g : Line → Result Line WorldFault) (lines : List code.Line) (i : ℕ) (d : code.Line) (fault : WorldFault) → i < length lines → g (line_view (get_or lines i d)) ≡ Err fault →
-    in_lines i (map line_view lines) (g (line_in (map line_view lines) i)) ≡ Err fault
-in_lines_err g lines i d fault below h =
-    ap (λ z. in_lines i (map line_view lines) (g z)) (line_seen lines i d below) ∙ ap (in_lines i (map line_view lines)) h
+pub in_spans_err : (g : Span → Result Span WorldFault) (spans : List code.Span) (i : ℕ) (d : code.Span) (fault : WorldFault) → i < length spans → g (span_view (get_or spans i d)) ≡ Err fault →
+    in_spans i (map span_view spans) (g (span_in (map span_view spans) i)) ≡ Err fault
+in_spans_err g spans i d fault below h =
+    ap (λ z. in_spans i (map span_view spans) (g z)) (span_seen spans i d below) ∙ ap (in_spans i (map span_view spans)) h
 
 -- where no copy waits, none is turned
 pub turned_none : (fate : Fate) (dir : Dir) (rows : List Row) → None ≡ first_copy dir rows → turned fate dir rows ≡ rows

@@ -17,10 +17,10 @@ use Rattle.hsr_node.specs.declared.event.Outcome.{Outcome}
 use Rattle.hsr_node.specs.declared.event.StepFault.{StepFault}
 use Rattle.hsr_node.specs.declared.place.Place.{Place}
 use Rattle.hsr_world.specs.Fit.{FitsStep}
-use Rattle.hsr_world.specs.Lines.{Lane, Line, Spot, emptied, held_in, lane_of, lanes_of, on_lanes, spot_from, spread, with_lane, with_link}
+use Rattle.hsr_world.specs.Spans.{Lane, Span, Spot, emptied, held_in, lane_of, lanes_of, on_lanes, spot_from, spread, with_lane, with_link}
 use Rattle.hsr_ring.specs.Ports.{IsKept, held_at, judge_of, next_by, port_at, ports_in, put_of, spot_code, spot_to}
 use Rattle.hsr_ring.specs.Views.{spot_view}
-use Rattle.hsr_world.specs.World.{World, and_added, cleared, entered, has_link, has_node, has_port, is_held, is_waiting, judged_at, line_at, line_in, next_step, or_same, owner_at, planned, port_worker, ports_from, ports_of, put_at, put_from, record_at, take_from, take_to, taken_by, tried, waits_in, with_line}
+use Rattle.hsr_world.specs.World.{World, and_added, cleared, entered, has_link, has_node, has_port, is_held, is_waiting, judged_at, span_at, span_in, next_step, or_same, owner_at, planned, port_worker, ports_from, ports_of, put_at, put_from, record_at, take_from, take_to, taken_by, tried, waits_in, with_span}
 use Rattle.hsr_ring.specs.declared.port.Port.{Port}
 use Rattle.hsr_ring.specs.declared.spot.Spot as code-spot
 use Rattle.hsr_step.specs.declared.step.Step.{Step}
@@ -31,7 +31,7 @@ use Rattle.hsr_ring.proofs.Ends.{ports_step}
 use Rattle.hsr_world.proofs.Counts.{map_set_same}
 use Rattle.hsr_world.proofs.Reached.{reached-step}
 
--- ---- the ends of lines
+-- ---- the ends of spans
 
 record Ends : Type 0 where
   forth_from : End
@@ -39,8 +39,8 @@ record Ends : Type 0 where
   back_from : End
   back_to : End
 
-abbrev ends_at : Line → Ends
-ends_at line = record { forth_from = line.forth.from; forth_to = line.forth.to; back_from = line.back.from; back_to = line.back.to }
+abbrev ends_at : Span → Ends
+ends_at span = record { forth_from = span.forth.from; forth_to = span.forth.to; back_from = span.back.from; back_to = span.back.to }
 
 -- where a port receives and sends is told by them
 abbrev to_by : End → ℕ → List Ends → Option Spot
@@ -51,19 +51,19 @@ abbrev from_by : End → ℕ → List Ends → Option Spot
 from_by end k [] = None
 from_by end k (e ∷ es) = if is_same_end e.forth_from end then Some (record { link = k; dir = Forth }) else (if is_same_end e.back_from end then Some (record { link = k; dir = Back }) else from_by end (k + 1) es)
 
-to_told : (end : End) (k : ℕ) (lines : List Line) → spot_to end k lines ≡ to_by end k (map ends_at lines)
+to_told : (end : End) (k : ℕ) (spans : List Span) → spot_to end k spans ≡ to_by end k (map ends_at spans)
 to_told end k [] = refl
-to_told end k (line ∷ lines) =
-    ap (λ (rest : Option Spot). if is_same_end line.forth.to end then Some (record { link = k; dir = Forth }) else (if is_same_end line.back.to end then Some (record { link = k; dir = Back }) else rest))
-    (to_told end (k + 1) lines)
+to_told end k (span ∷ spans) =
+    ap (λ (rest : Option Spot). if is_same_end span.forth.to end then Some (record { link = k; dir = Forth }) else (if is_same_end span.back.to end then Some (record { link = k; dir = Back }) else rest))
+    (to_told end (k + 1) spans)
 
-from_told : (end : End) (k : ℕ) (lines : List Line) → spot_from end k lines ≡ from_by end k (map ends_at lines)
+from_told : (end : End) (k : ℕ) (spans : List Span) → spot_from end k spans ≡ from_by end k (map ends_at spans)
 from_told end k [] = refl
-from_told end k (line ∷ lines) =
-    ap (λ (rest : Option Spot). if is_same_end line.forth.from end then Some (record { link = k; dir = Forth }) else (if is_same_end line.back.from end then Some (record { link = k; dir = Back }) else rest))
-    (from_told end (k + 1) lines)
+from_told end k (span ∷ spans) =
+    ap (λ (rest : Option Spot). if is_same_end span.forth.from end then Some (record { link = k; dir = Forth }) else (if is_same_end span.back.from end then Some (record { link = k; dir = Back }) else rest))
+    (from_told end (k + 1) spans)
 
-port_same : (v w : List Line) → map ends_at v ≡ map ends_at w → (end : End) → port_at v end ≡ port_at w end
+port_same : (v w : List Span) → map ends_at v ≡ map ends_at w → (end : End) → port_at v end ≡ port_at w end
 port_same v w e end =
     let into : spot_to end 0 v ≡ spot_to end 0 w = to_told end 0 v ∙ (ap (to_by end 0) e ∙ sym (to_told end 0 w)) in
     let out : spot_from end 0 v ≡ spot_from end 0 w = from_told end 0 v ∙ (ap (from_by end 0) e ∙ sym (from_told end 0 w)) in
@@ -77,21 +77,21 @@ map_same f g h (x ∷ xs) = ap₂ (λ y ys. y ∷ ys) (h x) (map_same f g h xs)
 
 record AreSame (v w : World) : Type 0 where
   places : v.places ≡ w.places
-  ends : map ends_at v.lines ≡ map ends_at w.lines
+  ends : map ends_at v.spans ≡ map ends_at w.spans
 
 same : (w : World) → AreSame w w
 same w = record { places = refl; ends = refl }
 
-same_line : (w : World) (l : ℕ) (line : Line) → ends_at line ≡ ends_at (line_at w l) → AreSame (with_line w l line) w
-same_line w l line e = record { places = refl; ends = map_set_same ends_at w.lines l line _ e }
+same_span : (w : World) (l : ℕ) (span : Span) → ends_at span ≡ ends_at (span_at w l) → AreSame (with_span w l span) w
+same_span w l span e = record { places = refl; ends = map_set_same ends_at w.spans l span _ e }
 
-mapped : (f : Lane → Lane) → ((x : Lane) → ((f x).from ≡ x.from) × ((f x).to ≡ x.to)) → (lines : List Line) → map ends_at (map (on_lanes f) lines) ≡ map ends_at lines
+mapped : (f : Lane → Lane) → ((x : Lane) → ((f x).from ≡ x.from) × ((f x).to ≡ x.to)) → (spans : List Span) → map ends_at (map (on_lanes f) spans) ≡ map ends_at spans
 mapped f h [] = refl
-mapped f h (line ∷ lines) =
-    let forth = h line.forth in
-    let back = h line.back in
-    let first : ends_at (on_lanes f line) ≡ ends_at line = λ i. record { forth_from = forth.0 i; forth_to = forth.1 i; back_from = back.0 i; back_to = back.1 i } in
-    ap₂ (λ (y : Ends) (ys : List Ends). y ∷ ys) first (mapped f h lines)
+mapped f h (span ∷ spans) =
+    let forth = h span.forth in
+    let back = h span.back in
+    let first : ends_at (on_lanes f span) ≡ ends_at span = λ i. record { forth_from = forth.0 i; forth_to = forth.1 i; back_from = back.0 i; back_to = back.1 i } in
+    ap₂ (λ (y : Ends) (ys : List Ends). y ∷ ys) first (mapped f h spans)
 
 guarded : (w : World) (b : Bool) (r : Result World WorldFault) (f : WorldFault) → AreSame (or_same w r) w → AreSame (or_same w (if b then r else Err f)) w
 guarded w true r f met = met
@@ -103,7 +103,7 @@ same_entered capacity v w worker n event s = by_case (answer capacity (owner_at 
   where
     by_case : (r : Result Outcome StepFault) → AreSame (or_same w (and_added v worker n event r)) w
     by_case (Err fault) = same w
-    by_case (Ok outcome) = record { places = s.places; ends = mapped (spread (owner_at v n) (record { worker = worker; at = v.moment; event = event; outcome = outcome }) (record_at v n)) (λ x. (refl, refl)) v.lines ∙ s.ends }
+    by_case (Ok outcome) = record { places = s.places; ends = mapped (spread (owner_at v n) (record { worker = worker; at = v.moment; event = event; outcome = outcome }) (record_at v n)) (λ x. (refl, refl)) v.spans ∙ s.ends }
 
 same_own : (capacity : ℕ) (w : World) (n : ℕ) (event : Event) → AreSame (or_same w (entered capacity (planned w n event) 0 n event)) w
 same_own capacity w n event = same_entered capacity (planned w n event) w 0 n event (record { places = refl; ends = refl })
@@ -111,36 +111,36 @@ same_own capacity w n event = same_entered capacity (planned w n event) w 0 n ev
 same_judged : (capacity : ℕ) (w : World) (end : End) (held : Option Carried) → AreSame (or_same w (judged_at capacity w end held)) w
 same_judged capacity w end None = same w
 same_judged capacity w end (Some copy) =
-    same_entered capacity (cleared w end) w (port_worker end) end.node (event.Arrive end.port copy) (record { places = refl; ends = mapped (emptied end) (λ x. (refl, refl)) w.lines })
+    same_entered capacity (cleared w end) w (port_worker end) end.node (event.Arrive end.port copy) (record { places = refl; ends = mapped (emptied end) (λ x. (refl, refl)) w.spans })
 
 same_box : (w : World) (spot : Spot) (box : List Carried) → AreSame (or_same w (put_from w spot box)) w
 same_box w spot [] = same w
-same_box w spot (copy ∷ box) = same_line w spot.link _ (kept spot.dir (line_at w spot.link))
+same_box w spot (copy ∷ box) = same_span w spot.link _ (kept spot.dir (span_at w spot.link))
   where
-    kept : (dir : Dir) (line : Line) → ends_at (with_lane dir (record (lane_of dir line) { outbox = box }) line) ≡ ends_at line
-    kept Forth line = refl
-    kept Back line = refl
+    kept : (dir : Dir) (span : Span) → ends_at (with_lane dir (record (lane_of dir span) { outbox = box }) span) ≡ ends_at span
+    kept Forth span = refl
+    kept Back span = refl
 
 same_put : (w : World) (spot : Option Spot) → AreSame (or_same w (put_at w spot)) w
 same_put w None = same w
-same_put w (Some spot) = same_box w spot (lane_of spot.dir (line_at w spot.link)).outbox
+same_put w (Some spot) = same_box w spot (lane_of spot.dir (span_at w spot.link)).outbox
 
 same_take : (w : World) (l : ℕ) (dir : Dir) (hand : Option Carried) → AreSame (or_same w (take_to w l dir hand)) w
 same_take w l dir (Some held) = same w
-same_take w l dir None = by_case (first_copy dir (line_at w l).link.rows)
+same_take w l dir None = by_case (first_copy dir (span_at w l).link.rows)
   where
-    kept : (dir : Dir) (line : Line) (copy : Carried) → ends_at (with_lane dir (record (lane_of dir line) { hand = Some copy }) line) ≡ ends_at line
-    kept Forth line copy = refl
-    kept Back line copy = refl
+    kept : (dir : Dir) (span : Span) (copy : Carried) → ends_at (with_lane dir (record (lane_of dir span) { hand = Some copy }) span) ≡ ends_at span
+    kept Forth span copy = refl
+    kept Back span copy = refl
 
-    by_case : (first : Option Carried) → AreSame (or_same w (taken_by w l dir (first, (take_step (line_at w l).link dir).1))) w
+    by_case : (first : Option Carried) → AreSame (or_same w (taken_by w l dir (first, (take_step (span_at w l).link dir).1))) w
     by_case None = same w
-    by_case (Some copy) = same_line w l _ (kept dir (line_at w l) copy)
+    by_case (Some copy) = same_span w l _ (kept dir (span_at w l) copy)
 
 same_injected : (w : World) (l : ℕ) (dir : Dir) (octets : List ℕ) (b : Bool) →
-    AreSame (or_same w (if b then Err TooLong else Ok (with_line w l (with_link (inject_step (line_at w l).link dir (record { probe = None; octets = octets })).1 (line_at w l))))) w
+    AreSame (or_same w (if b then Err TooLong else Ok (with_span w l (with_link (inject_step (span_at w l).link dir (record { probe = None; octets = octets })).1 (span_at w l))))) w
 same_injected w l dir octets true = same w
-same_injected w l dir octets false = same_line w l _ refl
+same_injected w l dir octets false = same_span w l _ refl
 
 keeps_ends : (capacity : ℕ) (w : World) (step : Step) → AreSame (or_same w (tried capacity w step)) w
 unfolding tried
@@ -148,18 +148,18 @@ keeps_ends capacity w (Clock at) = record { places = refl; ends = refl }
 keeps_ends capacity w (Send n from dst vlan kind payload) = guarded w (has_node w n) _ _ (same_own capacity w n (event.Send from dst vlan kind payload))
 keeps_ends capacity w (Supervise n about) = guarded w (has_node w n) _ _ (same_own capacity w n (event.Supervise about))
 keeps_ends capacity w (Age n) = guarded w (has_node w n) _ _ (same_own capacity w n event.Age)
-keeps_ends capacity w (Put n port) = guarded w (has_node w n) _ _ (guarded w (has_port w n port) _ _ (same_put w (spot_from (record { node = n; port = port }) 0 w.lines)))
-keeps_ends capacity w (Take l dir) = guarded w (has_link w l) _ _ (same_take w l dir (lane_of dir (line_at w l)).hand)
+keeps_ends capacity w (Put n port) = guarded w (has_node w n) _ _ (guarded w (has_port w n port) _ _ (same_put w (spot_from (record { node = n; port = port }) 0 w.spans)))
+keeps_ends capacity w (Take l dir) = guarded w (has_link w l) _ _ (same_take w l dir (lane_of dir (span_at w l)).hand)
 keeps_ends capacity w (Judge n port) =
     let end : End = record { node = n; port = port } in
-    guarded w (has_node w n) _ _ (guarded w (has_port w n port) _ _ (same_judged capacity w end (held_in end (lanes_of w.lines))))
-keeps_ends capacity w (Cut l) = guarded w (has_link w l) _ _ (same_line w l _ refl)
-keeps_ends capacity w (Mend l) = guarded w (has_link w l) _ _ (same_line w l _ refl)
+    guarded w (has_node w n) _ _ (guarded w (has_port w n port) _ _ (same_judged capacity w end (held_in end (lanes_of w.spans))))
+keeps_ends capacity w (Cut l) = guarded w (has_link w l) _ _ (same_span w l _ refl)
+keeps_ends capacity w (Mend l) = guarded w (has_link w l) _ _ (same_span w l _ refl)
 keeps_ends capacity w (Inject l dir octets) = guarded w (has_link w l) _ _ (same_injected w l dir octets (nat_lt 2048 (length octets)))
 
-told_same : (v w : World) (ports : List Port) → AreSame v w → ports ≡ ports_in w.places w.lines → ports ≡ ports_in v.places v.lines
+told_same : (v w : World) (ports : List Port) → AreSame v w → ports ≡ ports_in w.places w.spans → ports ≡ ports_in v.places v.spans
 told_same v w ports s told =
-    told ∙ sym (ap (λ (places : List Place). ports_in places v.lines) s.places ∙ map_same (port_at v.lines) (port_at w.lines) (port_same v.lines w.lines s.ends) (ports_from 0 w.places))
+    told ∙ sym (ap (λ (places : List Place). ports_in places v.spans) s.places ∙ map_same (port_at v.spans) (port_at w.spans) (port_same v.spans w.spans s.ends) (ports_from 0 w.places))
 
 -- a step that was done or refused
 pub kept-or : {U : Type 0} (capacity : ℕ) (places : List Place) (links : List (List End)) (ports : List Port) (w after : World) (step : Step) (why : WorldFault → Type 0) (result : Result U WorldFault)
@@ -177,9 +177,9 @@ code_of : (spot : Option code-spot.Spot) (seen : Option Spot) → option_map spo
 code_of None seen e = ap (option_map spot_code) e
 code_of (Some spot) seen e = ap (option_map spot_code) e
 
-pub port_is : (lines : List Line) (end : End) (into out : Option code-spot.Spot) → option_map spot_view into ≡ spot_to end 0 lines → option_map spot_view out ≡ spot_from end 0 lines
-    → record { end = end; into = into; out = out } ≡ port_at lines end
-port_is lines end into out received sent =
+pub port_is : (spans : List Span) (end : End) (into out : Option code-spot.Spot) → option_map spot_view into ≡ spot_to end 0 spans → option_map spot_view out ≡ spot_from end 0 spans
+    → record { end = end; into = into; out = out } ≡ port_at spans end
+port_is spans end into out received sent =
     let first = code_of into _ received in
     let second = code_of out _ sent in
     λ i. record { end = end; into = first i; out = second i }
@@ -205,26 +205,26 @@ view_code (Some spot) = refl
 -- ---- what a drain does next
 
 -- the hand of a direction is that of the port that receives there
-held_from : (end : End) (all : List Line) (k : ℕ) (lines : List Line) → ((j : ℕ) → line_in all (k + j) ≡ line_in lines j) → held_at all (spot_to end k lines) ≡ is_some (held_in end (lanes_of lines))
+held_from : (end : End) (all : List Span) (k : ℕ) (spans : List Span) → ((j : ℕ) → span_in all (k + j) ≡ span_in spans j) → held_at all (spot_to end k spans) ≡ is_some (held_in end (lanes_of spans))
 held_from end all k [] h = refl
-held_from end all k (line ∷ lines) h = by_case (held_from end all (k + 1) lines further) (is_same_end line.forth.to end) (is_same_end line.back.to end)
+held_from end all k (span ∷ spans) h = by_case (held_from end all (k + 1) spans further) (is_same_end span.forth.to end) (is_same_end span.back.to end)
   where
-    here : line_in all k ≡ line
-    here = let e : k ≡ k + 0 = omega arith in ap (line_in all) e ∙ h 0
+    here : span_in all k ≡ span
+    here = let e : k ≡ k + 0 = omega arith in ap (span_in all) e ∙ h 0
 
-    further : (j : ℕ) → line_in all ((k + 1) + j) ≡ line_in lines j
-    further j = let e : (k + 1) + j ≡ k + suc j = omega arith in ap (line_in all) e ∙ h (suc j)
+    further : (j : ℕ) → span_in all ((k + 1) + j) ≡ span_in spans j
+    further j = let e : (k + 1) + j ≡ k + suc j = omega arith in ap (span_in all) e ∙ h (suc j)
 
-    by_case : held_at all (spot_to end (k + 1) lines) ≡ is_some (held_in end (lanes_of lines)) → (f b : Bool) →
-        held_at all (if f then Some (record { link = k; dir = Forth }) else (if b then Some (record { link = k; dir = Back }) else spot_to end (k + 1) lines))
-        ≡ is_some (if f then line.forth.hand else (if b then line.back.hand else held_in end (lanes_of lines)))
-    by_case rest true b = ap (λ (l : Line). is_some l.forth.hand) here
-    by_case rest false true = ap (λ (l : Line). is_some l.back.hand) here
+    by_case : held_at all (spot_to end (k + 1) spans) ≡ is_some (held_in end (lanes_of spans)) → (f b : Bool) →
+        held_at all (if f then Some (record { link = k; dir = Forth }) else (if b then Some (record { link = k; dir = Back }) else spot_to end (k + 1) spans))
+        ≡ is_some (if f then span.forth.hand else (if b then span.back.hand else held_in end (lanes_of spans)))
+    by_case rest true b = ap (λ (l : Span). is_some l.forth.hand) here
+    by_case rest false true = ap (λ (l : Span). is_some l.back.hand) here
     by_case rest false false = rest
 
-held_spot : (lines : List Line) (end : End) → held_at lines (option_map spot_view (port_at lines end).into) ≡ is_some (held_in end (lanes_of lines))
-held_spot lines end =
-    ap (held_at lines) (view_code (spot_to end 0 lines)) ∙ held_from end lines 0 lines (λ j. let e : 0 + j ≡ j = omega arith in ap (line_in lines) e)
+held_spot : (spans : List Span) (end : End) → held_at spans (option_map spot_view (port_at spans end).into) ≡ is_some (held_in end (lanes_of spans))
+held_spot spans end =
+    ap (held_at spans) (view_code (spot_to end 0 spans)) ∙ held_from end spans 0 spans (λ j. let e : 0 + j ≡ j = omega arith in ap (span_in spans) e)
 
 find_mapped : {X Y : Type 0} (q : Y → Bool) (p : X → Bool) (f : X → Y) → ((x : X) → q (f x) ≡ p x) → (xs : List X) → find q (map f xs) ≡ option_map f (find p xs)
 find_mapped q p f h [] = refl
@@ -243,9 +243,9 @@ step_of_first q p f step h ends = ap (option_map step) (find_mapped q p f h ends
     twice None = refl
     twice (Some end) = refl
 
-pub next_is : (w : World) (ports : List Port) → ports ≡ ports_in w.places w.lines → next_by w.lines ports ≡ next_step w
+pub next_is : (w : World) (ports : List Port) → ports ≡ ports_in w.places w.spans → next_by w.spans ports ≡ next_step w
 next_is w ports told =
-    let lines : List Line = w.lines in
-    let held = step_of_first (λ port. held_at lines (option_map spot_view port.into)) (is_held w) (port_at lines) judge_of (held_spot lines) (ports_from 0 w.places) in
-    let waiting = step_of_first (λ port. waits_in lines (option_map spot_view port.out)) (is_waiting w) (port_at lines) put_of (λ end. ap (waits_in lines) (view_code (spot_from end 0 lines))) (ports_from 0 w.places) in
-    ap (next_by lines) told ∙ ap₂ (λ (h p : Option Step). option_or h (option_or p (take_from 0 lines))) held waiting
+    let spans : List Span = w.spans in
+    let held = step_of_first (λ port. held_at spans (option_map spot_view port.into)) (is_held w) (port_at spans) judge_of (held_spot spans) (ports_from 0 w.places) in
+    let waiting = step_of_first (λ port. waits_in spans (option_map spot_view port.out)) (is_waiting w) (port_at spans) put_of (λ end. ap (waits_in spans) (view_code (spot_from end 0 spans))) (ports_from 0 w.places) in
+    ap (next_by spans) told ∙ ap₂ (λ (h p : Option Step). option_or h (option_or p (take_from 0 spans))) held waiting

@@ -5,10 +5,10 @@ use Rattle.hsr_node.specs.Kept.{Record, past_of}
 use Rattle.hsr_node.specs.declared.entry.Entry.{Entry}
 use Rattle.hsr_node.specs.declared.place.Place.{Place}
 use Rattle.hsr_ring.specs.Entering.{places_of}
-use Rattle.hsr_world.specs.Lines.{Line}
+use Rattle.hsr_world.specs.Spans.{Span}
 use Rattle.hsr_ring.specs.Starting.{new_records}
 use Rattle.hsr_ring.specs.Views.{AreNumbered, world_of}
-use Rattle.hsr_world.specs.World.{new_line, new_world}
+use Rattle.hsr_world.specs.World.{new_span, new_world}
 use Rattle.hsr_topology.specs.declared.end.End.{End}
 
 new_places : (k : ℕ) (places : List Place) → places_of (new_records k places) ≡ places
@@ -35,9 +35,9 @@ new_numbered nodes places is few =
       numbered = ap (map (λ (r : Record). r.number)) is ∙ (new_numbers 0 places ∙ ap (range_with_len 0) (sym long));
     }
 
-pub new_world_is : (room : ℕ) (places : List Place) (links : List (List End)) (nodes : List Record) (lines : List Line) →
-    nodes ≡ new_records 0 places → lines ≡ map (new_line room) links → world_of 0 nodes lines [] ≡ new_world room places links
-new_world_is room places links nodes lines is seen =
+pub new_world_is : (room : ℕ) (places : List Place) (links : List (List End)) (nodes : List Record) (spans : List Span) →
+    nodes ≡ new_records 0 places → spans ≡ map (new_span room) links → world_of 0 nodes spans [] ≡ new_world room places links
+new_world_is room places links nodes spans is seen =
     let at = ap places_of is ∙ new_places 0 places in
     let records = ap (map past_of) is ∙ new_pasts 0 places in
-    λ i. record { moment = 0; places = at i; records = records i; lines = seen i; plan = [] }
+    λ i. record { moment = 0; places = at i; records = records i; spans = seen i; plan = [] }

@@ -11,20 +11,20 @@ use Rattle.hsr_closing.specs.OfRecords.{IsClosedOf, IsOpenOf}
 use Rattle.hsr_topology.specs.Topology.{Topology}
 use Rattle.hsr_closing.specs.declared.disagree.Disagree.{Disagree}
 use Rattle.hsr_closing.specs.declared.planned.Planned.{Planned}
-use Rattle.hsr_world.specs.Lines.{Line}
+use Rattle.hsr_world.specs.Spans.{Span}
 
-abbrev pub rows_in : Line → List Row
-rows_in line = line.link.rows
+abbrev pub rows_in : Span → List Row
+rows_in span = span.link.rows
 
-abbrev pub AreRowsOf : List Line → List (Vec Row Global) → Type 0
-AreRowsOf lines rows = map items_of rows ≡ map rows_in lines
+abbrev pub AreRowsOf : List Span → List (Vec Row Global) → Type 0
+AreRowsOf spans rows = map items_of rows ≡ map rows_in spans
 
-pub record IsToldClosed (capacity : ℕ) (topology : Topology) (kept : List Record) (plan : List Planned) (lines : List Line) (closed : Finished) : Type 0 where
+pub record IsToldClosed (capacity : ℕ) (topology : Topology) (kept : List Record) (plan : List Planned) (spans : List Span) (closed : Finished) : Type 0 where
   pub rows : List (Vec Row Global)
-  pub of_links : AreRowsOf lines rows
+  pub of_links : AreRowsOf spans rows
   pub told : IsClosedOf capacity topology kept rows plan closed
 
-pub record IsToldOpen (capacity : ℕ) (topology : Topology) (kept : List Record) (plan : List Planned) (lines : List Line) (d : Disagree) : Type 0 where
+pub record IsToldOpen (capacity : ℕ) (topology : Topology) (kept : List Record) (plan : List Planned) (spans : List Span) (d : Disagree) : Type 0 where
   pub rows : List (Vec Row Global)
-  pub of_links : AreRowsOf lines rows
+  pub of_links : AreRowsOf spans rows
   pub told : IsOpenOf capacity topology kept rows plan d

@@ -1,4 +1,4 @@
--- What an event that a worker brings to a node makes of the nodes and of the lines.
+-- What an event that a worker brings to a node makes of the nodes and of the spans.
 use Rattle.std.specs.Prelude.{ℕ, ◌≡◌, List, [], ◌∷◌, ◌++◌, length, map, max, set, Result, Ok, Err}
 use Rattle.hsr_node.specs.Kept.{Record, past_of}
 use Rattle.hsr_node.specs.Record.{answer, now}
@@ -9,7 +9,7 @@ use Rattle.hsr_node.specs.declared.event.Outcome.{Outcome}
 use Rattle.hsr_node.specs.declared.event.StepFault.{StepFault}
 use Rattle.hsr_node.specs.declared.event.StepFault.TheVariants as refused
 use Rattle.hsr_node.specs.declared.place.Place.{Place}
-use Rattle.hsr_world.specs.Lines.{Line}
+use Rattle.hsr_world.specs.Spans.{Span}
 use Rattle.hsr_ring.specs.Views.{world_of}
 use Rattle.hsr_world.specs.World.{World, entered}
 use Rattle.hsr_law.specs.Run.{owner_in, record_in}
@@ -46,13 +46,13 @@ abbrev pub IsRefusal : ℕ → List Record → ℕ → ℕ → Event → WorldFa
 IsRefusal capacity nodes n at event f = (fault : StepFault) × (answer_in capacity nodes n at event ≡ Err fault) × (f ≡ Node fault)
 
 -- whatever is planned: it is entered
-abbrev pub IsEntered : ℕ → ℕ → ℕ → ℕ → Event → List Record → List Record → List Line → List Line → Type 0
-IsEntered capacity worker n at event nodes nodes_after lines lines_after =
-    (plan : List Planned) → entered capacity (world_of at nodes lines plan) worker n event ≡ Ok (world_of at nodes_after lines_after plan)
+abbrev pub IsEntered : ℕ → ℕ → ℕ → ℕ → Event → List Record → List Record → List Span → List Span → Type 0
+IsEntered capacity worker n at event nodes nodes_after spans spans_after =
+    (plan : List Planned) → entered capacity (world_of at nodes spans plan) worker n event ≡ Ok (world_of at nodes_after spans_after plan)
 
-abbrev pub IsNotEntered : ℕ → ℕ → ℕ → ℕ → Event → List Record → List Line → WorldFault → Type 0
-IsNotEntered capacity worker n at event nodes lines fault =
-    (plan : List Planned) → entered capacity (world_of at nodes lines plan) worker n event ≡ Err fault
+abbrev pub IsNotEntered : ℕ → ℕ → ℕ → ℕ → Event → List Record → List Span → WorldFault → Type 0
+IsNotEntered capacity worker n at event nodes spans fault =
+    (plan : List Planned) → entered capacity (world_of at nodes spans plan) worker n event ≡ Err fault
 
 -- what was planned last is planned no more
 abbrev pub IsUnplanned : World → World → Type 0

@@ -7,9 +7,9 @@ use Rattle.hsr_node.specs.Record.{probe_handled}
 use Rattle.hsr_node.specs.declared.entry.Receipt.{Receipt}
 use Rattle.hsr_node.specs.declared.event.Carried.{Carried}
 use Rattle.hsr_node.specs.declared.place.Place.{Place}
-use Rattle.hsr_world.specs.Lines.{Lane, Line, emptied, on_lanes}
-use Rattle.hsr_ring.specs.Views.{line_view}
-use Rattle.hsr_ring.specs.declared.line.Line as code
+use Rattle.hsr_world.specs.Spans.{Lane, Span, emptied, on_lanes}
+use Rattle.hsr_ring.specs.Views.{span_view}
+use Rattle.hsr_ring.specs.declared.span.Span as code
 use Rattle.hsr_ring.specs.declared.lane.Lane as code-lane
 
 -- the copy of an entry that joins the outbox of a lane
@@ -23,8 +23,8 @@ given place receipt lane =
 abbrev pub given_lane : Place → Receipt → Lane → Lane
 given_lane place receipt lane = record lane { outbox = lane.outbox ++ given place receipt lane }
 
-abbrev pub given_line : Place → Receipt → code.Line → Line
-given_line place receipt line = on_lanes (given_lane place receipt) (line_view line)
+abbrev pub given_span : Place → Receipt → code.Span → Span
+given_span place receipt span = on_lanes (given_lane place receipt) (span_view span)
 
 -- room for one more copy in an outbox, and for the octets of the longest
 pub record HasRoom (lane : code-lane.Lane) : Type 0 where
@@ -35,10 +35,10 @@ pub record HasRoom (lane : code-lane.Lane) : Type 0 where
 abbrev pub IsReady : ℕ → code-lane.Lane → Type 0
 IsReady node lane = (lane.from.node == node) ≡ true → HasRoom lane
 
-pub record IsLineReady (node : ℕ) (line : code.Line) : Type 0 where
-  pub forth : IsReady node line.forth
-  pub back : IsReady node line.back
+pub record IsSpanReady (node : ℕ) (span : code.Span) : Type 0 where
+  pub forth : IsReady node span.forth
+  pub back : IsReady node span.back
 
 -- what a port holds leaves its hand
-abbrev pub emptied_line : End → code.Line → Line
-emptied_line end line = on_lanes (emptied end) (line_view line)
+abbrev pub emptied_span : End → code.Span → Span
+emptied_span end span = on_lanes (emptied end) (span_view span)

@@ -1,4 +1,4 @@
--- How a contract sees the lanes and lines of the code, and what a call makes of one line.
+-- How a contract sees the lanes and spans of the code, and what a call makes of one span.
 use Rattle.std.specs.List.{range_with_len}
 use Rattle.std.specs.Prelude.{ℕ, ◌≡◌, ◌≤◌, List, [], ◌∷◌, nat_lt, if◌then◌else◌, slice_index_or, length, map, set, Option, Some, None, Result, Ok, Err}
 use Rattle.hsr_node.specs.Place.{ports}
@@ -9,9 +9,9 @@ use Rattle.hsr_node.specs.Kept.{Record, past_of}
 use Rattle.hsr_node.specs.declared.event.Carried.{Carried}
 use Rattle.hsr_node.specs.declared.place.Place.{Place}
 use Rattle.hsr_node.specs.declared.place.Place.TheVariants.{QuadBox}
-use Rattle.hsr_world.specs.Lines.{Lane, Line, Spot, lane_of, spot_from, with_lane, with_link}
-use Rattle.hsr_world.specs.World.{World, line_in}
-use Rattle.hsr_ring.specs.declared.line.Line as code
+use Rattle.hsr_world.specs.Spans.{Lane, Span, Spot, lane_of, spot_from, with_lane, with_link}
+use Rattle.hsr_world.specs.World.{World, span_in}
+use Rattle.hsr_ring.specs.declared.span.Span as code
 use Rattle.hsr_ring.specs.declared.spot.Spot as code-spot
 use Rattle.hsr_closing.specs.declared.planned.Planned.{Planned}
 use Rattle.hsr_step.specs.declared.step.WorldFault.{WorldFault}
@@ -21,8 +21,8 @@ use Rattle.hsr_ring.specs.declared.lane.Lane as code-lane
 abbrev pub lane_view : code-lane.Lane → Lane
 lane_view lane = record { from = lane.from; to = lane.to; outbox = lane.outbox.items; hand = lane.hand }
 
-abbrev pub line_view : code.Line → Line
-line_view line = record { link = line.link; forth = lane_view line.forth; back = lane_view line.back }
+abbrev pub span_view : code.Span → Span
+span_view span = record { link = span.link; forth = lane_view span.forth; back = lane_view span.back }
 
 -- ---- one direction of a link, and its link
 
@@ -46,52 +46,52 @@ take_in dir link lane None = taken_in lane (take_step link dir)
 abbrev pub take_lane : Dir → Link → Lane → Result (Link × Lane) WorldFault
 take_lane dir link lane = take_in dir link lane lane.hand
 
--- ---- lines
+-- ---- spans
 
-abbrev pub in_line : Dir → Line → Result (Link × Lane) WorldFault → Result Line WorldFault
-in_line dir line (Ok (link, lane)) = Ok (with_link link (with_lane dir lane line))
-in_line dir line (Err fault) = Err fault
+abbrev pub in_span : Dir → Span → Result (Link × Lane) WorldFault → Result Span WorldFault
+in_span dir span (Ok (link, lane)) = Ok (with_link link (with_lane dir lane span))
+in_span dir span (Err fault) = Err fault
 
-abbrev pub in_lines : ℕ → List Line → Result Line WorldFault → Result (List Line) WorldFault
-in_lines l lines (Ok line) = Ok (set lines l line)
-in_lines l lines (Err fault) = Err fault
+abbrev pub in_spans : ℕ → List Span → Result Span WorldFault → Result (List Span) WorldFault
+in_spans l spans (Ok span) = Ok (set spans l span)
+in_spans l spans (Err fault) = Err fault
 
-abbrev pub in_world : World → Result (List Line) WorldFault → Result World WorldFault
-in_world w (Ok lines) = Ok (record w { lines = lines })
+abbrev pub in_world : World → Result (List Span) WorldFault → Result World WorldFault
+in_world w (Ok spans) = Ok (record w { spans = spans })
 in_world w (Err fault) = Err fault
 
-abbrev pub put_line : Dir → Line → Result Line WorldFault
-put_line dir line = in_line dir line (put_lane dir line.link (lane_of dir line))
+abbrev pub put_span : Dir → Span → Result Span WorldFault
+put_span dir span = in_span dir span (put_lane dir span.link (lane_of dir span))
 
-abbrev pub take_line : Dir → Line → Result Line WorldFault
-take_line dir line = in_line dir line (take_lane dir line.link (lane_of dir line))
+abbrev pub take_span : Dir → Span → Result Span WorldFault
+take_span dir span = in_span dir span (take_lane dir span.link (lane_of dir span))
 
-abbrev pub put_lines : Dir → ℕ → List Line → Result (List Line) WorldFault
-put_lines dir l lines = in_lines l lines (put_line dir (line_in lines l))
+abbrev pub put_spans : Dir → ℕ → List Span → Result (List Span) WorldFault
+put_spans dir l spans = in_spans l spans (put_span dir (span_in spans l))
 
-abbrev pub take_lines : Dir → ℕ → List Line → Result (List Line) WorldFault
-take_lines dir l lines = in_lines l lines (take_line dir (line_in lines l))
+abbrev pub take_spans : Dir → ℕ → List Span → Result (List Span) WorldFault
+take_spans dir l spans = in_spans l spans (take_span dir (span_in spans l))
 
--- a line of those is changed
-abbrev pub on_line : (Line → Line) → ℕ → List Line → List Line
-on_line f l lines = set lines l (f (line_in lines l))
+-- a span of those is changed
+abbrev pub on_span : (Span → Span) → ℕ → List Span → List Span
+on_span f l spans = set spans l (f (span_in spans l))
 
-abbrev pub mend_line : Line → Line
-mend_line line = with_link (mended line.link) line
+abbrev pub mend_span : Span → Span
+mend_span span = with_link (mended span.link) span
 
-abbrev pub cut_line : Line → Line
-cut_line line = with_link (cut_step line.link).1 line
+abbrev pub cut_span : Span → Span
+cut_span span = with_link (cut_step span.link).1 span
 
-abbrev pub inject_line : Dir → List ℕ → Line → Line
-inject_line dir octets line = with_link (inject_step line.link dir (record { probe = None; octets = octets })).1 line
+abbrev pub inject_span : Dir → List ℕ → Span → Span
+inject_span dir octets span = with_link (inject_step span.link dir (record { probe = None; octets = octets })).1 span
 
 -- the oldest of the outbox of a port goes onto its link
-abbrev pub put_at_spot : List Line → Option Spot → Result (List Line) WorldFault
-put_at_spot lines None = Err Nothing
-put_at_spot lines (Some spot) = put_lines spot.dir spot.link lines
+abbrev pub put_at_spot : List Span → Option Spot → Result (List Span) WorldFault
+put_at_spot spans None = Err Nothing
+put_at_spot spans (Some spot) = put_spans spot.dir spot.link spans
 
-abbrev pub put_at_end : List Line → End → Result (List Line) WorldFault
-put_at_end lines end = put_at_spot lines (spot_from end 0 lines)
+abbrev pub put_at_end : List Span → End → Result (List Span) WorldFault
+put_at_end spans end = put_at_spot spans (spot_from end 0 spans)
 
 abbrev pub spot_view : code-spot.Spot → Spot
 spot_view spot = record { link = spot.link; dir = spot.dir }
@@ -108,6 +108,6 @@ pub record AreNumbered (nodes : List Record) : Type 0 where
   pub few : length nodes ≤ 64
   pub numbered : map (λ (r : Record). r.number) nodes ≡ range_with_len 0 (length nodes)
 
-abbrev pub world_of : ℕ → List Record → List Line → List Planned → World
-world_of moment nodes lines plan =
-    record { moment = moment; places = map (λ (r : Record). r.place) nodes; records = map past_of nodes; lines = lines; plan = plan }
+abbrev pub world_of : ℕ → List Record → List Span → List Planned → World
+world_of moment nodes spans plan =
+    record { moment = moment; places = map (λ (r : Record). r.place) nodes; records = map past_of nodes; spans = spans; plan = plan }

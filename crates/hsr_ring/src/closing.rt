@@ -2,9 +2,9 @@
 ghost use Rattle.std.specs.Prelude.{◌≡◌, IfErr, IfOk, map};
 ghost use Rattle.hsr_closing.specs.Checked.{IfDisagree};
 ghost use Rattle.hsr_ring.specs.Ending.{AreRowsOf, IsToldClosed, IsToldOpen};
-ghost use Rattle.hsr_ring.specs.Views.{line_view};
+ghost use Rattle.hsr_ring.specs.Views.{span_view};
 
-use crate::line::Line;
+use crate::span::Span;
 use hsr_closing::{CheckFault, Closed, Planned, Records};
 use hsr_frame::NoMemory;
 use hsr_link::Row;
@@ -32,12 +32,12 @@ fn copies_of(alloc: Global, rows: &[Row]) -> Result<Vec<Row>, NoMemory>
 }
 
 /// A copy of the rows of each link.
-fn rows_of(alloc: Global, lines: &[Line]) -> Result<Vec<Vec<Row>>, NoMemory>
-    ensures { IfOk result (λ rows. AreRowsOf (map line_view lines.now) rows.items) }
+fn rows_of(alloc: Global, spans: &[Span]) -> Result<Vec<Vec<Row>>, NoMemory>
+    ensures { IfOk result (λ rows. AreRowsOf (map span_view spans.now) rows.items) }
 {
     let mut rows = Vec::new(alloc);
-    for line in lines.iter() {
-        let copies = copies_of(alloc, line.link.rows())?;
+    for span in spans.iter() {
+        let copies = copies_of(alloc, span.link.rows())?;
         rows.push(copies)?;
     }
     Ok(rows)
@@ -47,13 +47,13 @@ fn rows_of(alloc: Global, lines: &[Line]) -> Result<Vec<Vec<Row>>, NoMemory>
 pub(crate) fn closed_of<const C: usize>(
     alloc: Global,
     rest: Rest<C>,
-    lines: &[Line],
+    spans: &[Span],
 ) -> Result<Closed<C>, (Rest<C>, CheckFault)>
-    ensures closed { IfOk result (λ closed. IsToldClosed C rest.entry.topology rest.entry.nodes.items rest.entry.plan.items (map line_view lines.now) closed) }
-    ensures open { IfErr result (λ e. IfDisagree e.1 (IsToldOpen C rest.entry.topology rest.entry.nodes.items rest.entry.plan.items (map line_view lines.now))) }
+    ensures closed { IfOk result (λ closed. IsToldClosed C rest.entry.topology rest.entry.nodes.items rest.entry.plan.items (map span_view spans.now) closed) }
+    ensures open { IfErr result (λ e. IfDisagree e.1 (IsToldOpen C rest.entry.topology rest.entry.nodes.items rest.entry.plan.items (map span_view spans.now))) }
     ensures whole { IfErr result (λ e. e.0 ≡ rest.entry) }
 {
-    let Ok(rows) = rows_of(alloc, lines) else {
+    let Ok(rows) = rows_of(alloc, spans) else {
         return Err((rest, CheckFault::NoMemory));
     };
     let Rest {

@@ -1,11 +1,11 @@
 //! An event that a worker brings to a node.
 ghost use Rattle.std.specs.Prelude.{◌≡◌, ◌⊎◌, ◌<◌, IfErr, IfOk, OnOk, length, map};
 ghost use Rattle.hsr_ring.specs.Entering.{IsEntered, IsNotEntered, IsRefusal, IsStepped, world_fault};
-ghost use Rattle.hsr_ring.specs.Views.{AreNumbered, line_view};
+ghost use Rattle.hsr_ring.specs.Views.{AreNumbered, span_view};
 ghost use Rattle.hsr_step.specs.declared.step.WorldFault.TheVariants.{NoMemory};
 
 use crate::giving::{commit, prepare};
-use crate::line::Line;
+use crate::span::Span;
 use hsr_node::{Event, Kept, Receipt, StepFault};
 use hsr_step::WorldFault;
 use std::alloc::Global;
@@ -44,7 +44,7 @@ fn step_at<const C: usize>(
 pub(crate) fn enter<const C: usize>(
     alloc: Global,
     nodes: &mut [Kept<C>],
-    lines: &mut [Line],
+    spans: &mut [Span],
     node: usize,
     worker: u16,
     at: u64,
@@ -53,16 +53,16 @@ pub(crate) fn enter<const C: usize>(
     requires below { node < length nodes.old }
     requires numbered { AreNumbered nodes.old }
     ensures numbered { AreNumbered nodes.new }
-    ensures ok { OnOk result (IsEntered C worker node at event nodes.old nodes.new (map line_view lines.old) (map line_view lines.new)) }
-    ensures err { IfErr result (λ f. (nodes.new ≡ nodes.old) × (map line_view lines.new ≡ map line_view lines.old) × ((f ≡ NoMemory) ⊎ IsNotEntered C worker node at event nodes.old (map line_view lines.old) f)) }
+    ensures ok { OnOk result (IsEntered C worker node at event nodes.old nodes.new (map span_view spans.old) (map span_view spans.new)) }
+    ensures err { IfErr result (λ f. (nodes.new ≡ nodes.old) × (map span_view spans.new ≡ map span_view spans.old) × ((f ≡ NoMemory) ⊎ IsNotEntered C worker node at event nodes.old (map span_view spans.old) f)) }
 {
-    if prepare(lines, node).is_err() {
+    if prepare(spans, node).is_err() {
         return Err(WorldFault::NoMemory);
     }
     let receipt = match step_at(nodes, node, worker, at, event) {
         Ok(receipt) => receipt,
         Err(fault) => return Err(fault),
     };
-    commit(alloc, lines, nodes[node].place(), &receipt);
+    commit(alloc, spans, nodes[node].place(), &receipt);
     Ok(())
 }

@@ -1,47 +1,47 @@
-//! What a new entry of a node gives to the lines.
+//! What a new entry of a node gives to the spans.
 ghost use Rattle.std.specs.Prelude.{◌≡◌, All, OnOk, map};
-ghost use Rattle.hsr_ring.specs.Giving.{IsLineReady, given_line};
-ghost use Rattle.hsr_ring.specs.Views.{line_view};
+ghost use Rattle.hsr_ring.specs.Giving.{IsSpanReady, given_span};
+ghost use Rattle.hsr_ring.specs.Views.{span_view};
 
 use crate::lane::{commit_lane, prepare_lane};
-use crate::line::Line;
+use crate::span::Span;
 use hsr_frame::NoMemory;
 use hsr_node::{Place, Receipt};
 use std::alloc::Global;
 
-fn prepare_line(line: &mut Line, node: usize) -> Result<(), NoMemory>
-    ensures view { line_view line.new ≡ line_view line.old }
-    ensures ready { OnOk result (IsLineReady node line.new) }
+fn prepare_span(span: &mut Span, node: usize) -> Result<(), NoMemory>
+    ensures view { span_view span.new ≡ span_view span.old }
+    ensures ready { OnOk result (IsSpanReady node span.new) }
 {
-    prepare_lane(&mut line.forth, node)?;
-    prepare_lane(&mut line.back, node)
+    prepare_lane(&mut span.forth, node)?;
+    prepare_lane(&mut span.back, node)
 }
 
-fn commit_line(alloc: Global, line: &mut Line, place: &Place, receipt: &Receipt)
-    requires { IsLineReady receipt.now.node line.old }
-    ensures { line_view line.new ≡ given_line place.now receipt.now line.old }
+fn commit_span(alloc: Global, span: &mut Span, place: &Place, receipt: &Receipt)
+    requires { IsSpanReady receipt.now.node span.old }
+    ensures { span_view span.new ≡ given_span place.now receipt.now span.old }
 {
-    commit_lane(alloc, &mut line.forth, place, receipt);
-    commit_lane(alloc, &mut line.back, place, receipt);
+    commit_lane(alloc, &mut span.forth, place, receipt);
+    commit_lane(alloc, &mut span.back, place, receipt);
 }
 
 /// Makes room for one more copy wherever a node sends.
-pub(crate) fn prepare(lines: &mut [Line], node: usize) -> Result<(), NoMemory>
-    ensures view { map line_view lines.new ≡ map line_view lines.old }
-    ensures ready { OnOk result (All (IsLineReady node) lines.new) }
+pub(crate) fn prepare(spans: &mut [Span], node: usize) -> Result<(), NoMemory>
+    ensures view { map span_view spans.new ≡ map span_view spans.old }
+    ensures ready { OnOk result (All (IsSpanReady node) spans.new) }
 {
-    for line in lines.iter_mut() {
-        prepare_line(line, node)?;
+    for span in spans.iter_mut() {
+        prepare_span(span, node)?;
     }
     Ok(())
 }
 
 /// The copies of an entry join the outboxes of the ports that they left by.
-pub(crate) fn commit(alloc: Global, lines: &mut [Line], place: &Place, receipt: &Receipt)
-    requires { All (IsLineReady receipt.now.node) lines.old }
-    ensures { map line_view lines.new ≡ map (given_line place.now receipt.now) lines.old }
+pub(crate) fn commit(alloc: Global, spans: &mut [Span], place: &Place, receipt: &Receipt)
+    requires { All (IsSpanReady receipt.now.node) spans.old }
+    ensures { map span_view spans.new ≡ map (given_span place.now receipt.now) spans.old }
 {
-    for line in lines.iter_mut() {
-        commit_line(alloc, line, place, receipt);
+    for span in spans.iter_mut() {
+        commit_span(alloc, span, place, receipt);
     }
 }

@@ -1,11 +1,11 @@
 //! What a receiving port holds.
 ghost use Rattle.std.specs.Prelude.{◌≡◌, IfOk, map};
-ghost use Rattle.hsr_ring.specs.Giving.{emptied_line};
-ghost use Rattle.hsr_world.specs.Lines.{emptied, held_in, lanes_of, on_lanes};
-ghost use Rattle.hsr_ring.specs.Views.{lane_view, line_view};
+ghost use Rattle.hsr_ring.specs.Giving.{emptied_span};
+ghost use Rattle.hsr_world.specs.Spans.{emptied, held_in, lanes_of, on_lanes};
+ghost use Rattle.hsr_ring.specs.Views.{lane_view, span_view};
 
 use crate::lane::Lane;
-use crate::line::Line;
+use crate::span::Span;
 use hsr_frame::NoMemory;
 use hsr_node::Carried;
 use hsr_topology::End;
@@ -20,15 +20,15 @@ fn copy_of(hand: &Option<Carried>) -> Result<Option<Carried>, NoMemory>
 }
 
 /// What the port at an end holds.
-pub(crate) fn held(lines: &[Line], end: End) -> Result<Option<Carried>, NoMemory>
-    ensures { IfOk result (λ copy. copy ≡ held_in end (lanes_of (map line_view lines.now))) }
+pub(crate) fn held(spans: &[Span], end: End) -> Result<Option<Carried>, NoMemory>
+    ensures { IfOk result (λ copy. copy ≡ held_in end (lanes_of (map span_view spans.now))) }
 {
-    for line in lines.iter() {
-        if line.forth.to == end {
-            return copy_of(&line.forth.hand);
+    for span in spans.iter() {
+        if span.forth.to == end {
+            return copy_of(&span.forth.hand);
         }
-        if line.back.to == end {
-            return copy_of(&line.back.hand);
+        if span.back.to == end {
+            return copy_of(&span.back.hand);
         }
     }
     Ok(None)
@@ -42,18 +42,18 @@ fn clear_lane(lane: &mut Lane, end: End)
     }
 }
 
-fn clear_line(line: &mut Line, end: End)
-    ensures { line_view line.new ≡ emptied_line end line.old }
+fn clear_span(span: &mut Span, end: End)
+    ensures { span_view span.new ≡ emptied_span end span.old }
 {
-    clear_lane(&mut line.forth, end);
-    clear_lane(&mut line.back, end);
+    clear_lane(&mut span.forth, end);
+    clear_lane(&mut span.back, end);
 }
 
 /// What the port at an end holds leaves its hand.
-pub(crate) fn clear(lines: &mut [Line], end: End)
-    ensures { map line_view lines.new ≡ map (on_lanes (emptied end)) (map line_view lines.old) }
+pub(crate) fn clear(spans: &mut [Span], end: End)
+    ensures { map span_view spans.new ≡ map (on_lanes (emptied end)) (map span_view spans.old) }
 {
-    for line in lines.iter_mut() {
-        clear_line(line, end);
+    for span in spans.iter_mut() {
+        clear_span(span, end);
     }
 }

@@ -1,4 +1,19 @@
 //! A ring of nodes in one world: what a step makes of it, and what holds of it after any steps.
+//!
+//! Its modules, in the order in which to read them:
+//! - `lane`: one direction of a link, with what its ports keep
+//! - `span`: a link, with what the ports at its ends keep
+//! - `spot`: where a port sends
+//! - `port`: the ports of a world, each with where it receives and sends
+//! - `hand`: what a receiving port holds
+//! - `giving`: what a new entry of a node gives to the spans
+//! - `entering`: an event that a worker brings to a node
+//! - `waiting`: what a drain does next
+//! - `starting`: what a world begins with
+//! - `closing`: what a world hands over where it is closed
+//! - `fit`: what the types of the code tell of steps and nodes
+//! - `running`: a world in code, and its steps
+//! - `world`: a world, its calls
 #![tactic(auto)]
 
 mod closing;
@@ -7,9 +22,9 @@ mod fit;
 mod giving;
 mod hand;
 mod lane;
-mod line;
 mod port;
 mod running;
+mod span;
 mod spot;
 mod starting;
 mod waiting;

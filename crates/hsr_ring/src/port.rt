@@ -2,10 +2,10 @@
 ghost use Rattle.std.specs.Prelude.{◌≡◌, ◌++◌, IfOk, OnOk, map, option_map};
 ghost use Rattle.hsr_ring.specs.Entering.{places_of};
 ghost use Rattle.hsr_ring.specs.Ports.{port_at, ports_in, spot_to};
-ghost use Rattle.hsr_ring.specs.Views.{line_view, spot_view};
+ghost use Rattle.hsr_ring.specs.Views.{span_view, spot_view};
 ghost use Rattle.hsr_world.specs.World.{ports_of};
 
-use crate::line::Line;
+use crate::span::Span;
 use crate::spot::{Spot, find_spot};
 use hsr_frame::NoMemory;
 use hsr_link::Dir;
@@ -23,17 +23,17 @@ pub(crate) struct Port {
 }
 
 /// Where the port at an end receives.
-fn find_into(lines: &[Line], end: End) -> Option<Spot>
-    ensures { option_map spot_view result ≡ spot_to end 0 (map line_view lines.now) }
+fn find_into(spans: &[Span], end: End) -> Option<Spot>
+    ensures { option_map spot_view result ≡ spot_to end 0 (map span_view spans.now) }
 {
-    for (link, line) in lines.iter().enumerate() {
-        if line.forth.to == end {
+    for (link, span) in spans.iter().enumerate() {
+        if span.forth.to == end {
             return Some(Spot {
                 link,
                 dir: Dir::Forth,
             });
         }
-        if line.back.to == end {
+        if span.back.to == end {
             return Some(Spot {
                 link,
                 dir: Dir::Back,
@@ -45,22 +45,22 @@ fn find_into(lines: &[Line], end: End) -> Option<Spot>
 
 /// The port at an end.
 #[tactic(auto, using(crate::proofs::Ports::port_is))]
-fn port_at(lines: &[Line], end: End) -> Port
-    ensures { result ≡ port_at (map line_view lines.now) end }
+fn port_at(spans: &[Span], end: End) -> Port
+    ensures { result ≡ port_at (map span_view spans.now) end }
 {
     Port {
         end,
-        into: find_into(lines, end),
-        out: find_spot(lines, end),
+        into: find_into(spans, end),
+        out: find_spot(spans, end),
     }
 }
 
 /// Adds the ports of a node.
-fn add_ports(all: &mut Vec<Port>, lines: &[Line], node: usize, count: u8) -> Result<(), NoMemory>
-    ensures { OnOk result (all.new.items ≡ all.old.items ++ map (port_at (map line_view lines.now)) (ports_of node 0 count)) }
+fn add_ports(all: &mut Vec<Port>, spans: &[Span], node: usize, count: u8) -> Result<(), NoMemory>
+    ensures { OnOk result (all.new.items ≡ all.old.items ++ map (port_at (map span_view spans.now)) (ports_of node 0 count)) }
 {
     for port in 0..count {
-        all.push(port_at(lines, End { node, port }))?;
+        all.push(port_at(spans, End { node, port }))?;
     }
     Ok(())
 }
@@ -69,13 +69,13 @@ fn add_ports(all: &mut Vec<Port>, lines: &[Line], node: usize, count: u8) -> Res
 pub(crate) fn new_ports<const C: usize>(
     alloc: Global,
     nodes: &[Kept<C>],
-    lines: &[Line],
+    spans: &[Span],
 ) -> Result<Vec<Port>, NoMemory>
-    ensures { IfOk result (λ all. all.items ≡ ports_in (places_of nodes.now) (map line_view lines.now)) }
+    ensures { IfOk result (λ all. all.items ≡ ports_in (places_of nodes.now) (map span_view spans.now)) }
 {
     let mut all = Vec::new(alloc);
     for (node, kept) in nodes.iter().enumerate() {
-        add_ports(&mut all, lines, node, kept.place().ports())?;
+        add_ports(&mut all, spans, node, kept.place().ports())?;
     }
     Ok(all)
 }

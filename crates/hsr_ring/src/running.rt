@@ -8,10 +8,10 @@ ghost use Rattle.hsr_world.specs.World.{port_worker};
 use crate::closing::{Rest, closed_of};
 use crate::entering::enter;
 use crate::hand::{clear, held};
-use crate::line::{Line, cut_at, inject_at, mend_at, take_at};
 use crate::port::{Port, new_ports};
+use crate::span::{Span, cut_at, inject_at, mend_at, take_at};
 use crate::spot::put_at_end;
-use crate::starting::{new_lines, new_nodes};
+use crate::starting::{new_nodes, new_spans};
 use crate::waiting::next_step;
 use hsr_closing::{CheckFault, Closed, Planned};
 use hsr_frame::{About, Counters, Mac};
@@ -28,18 +28,18 @@ pub(crate) struct Running<const C: usize> {
     alloc: Global,
     moment: u64,
     nodes: Vec<Kept<C>>,
-    lines: Vec<Line>,
+    spans: Vec<Span>,
     plan: Vec<Planned>,
 }
 
 impl<const C: usize> Model for Running<C> {
     ghost use Rattle.std.specs.Prelude.{map};
-    ghost use Rattle.hsr_ring.specs.Views.{AreNumbered, line_view, world_of};
+    ghost use Rattle.hsr_ring.specs.Views.{AreNumbered, span_view, world_of};
     ghost use Rattle.hsr_world.specs.World.{World};
 
     ghost Value = { World };
 
-    ghost view = { λ r. world_of r.moment r.nodes.items (map line_view r.lines.items) r.plan.items };
+    ghost view = { λ r. world_of r.moment r.nodes.items (map span_view r.spans.items) r.plan.items };
 
     ghost invariant = { λ r. AreNumbered r.nodes.items };
 }
@@ -82,19 +82,19 @@ impl<const C: usize> Running<C> {
         ensures { IfOk result (λ running. running ≡ new_world capacity topology.now.places topology.now.links) }
     {
         let nodes = new_nodes(alloc, topology.places())?;
-        let lines = new_lines(alloc, capacity, topology.links())?;
+        let spans = new_spans(alloc, capacity, topology.links())?;
         Ok(Running {
             alloc,
             moment: 0,
             nodes,
-            lines,
+            spans,
             plan: Vec::new(alloc),
         })
     }
 }
 
 impl<const C: usize> Running<C> {
-    ghost use Rattle.hsr_world.specs.Lines.{held_in, lanes_of};
+    ghost use Rattle.hsr_world.specs.Spans.{held_in, lanes_of};
     ghost use Rattle.hsr_world.specs.World.{by_main, cleared, entered, planned, tried};
     ghost use Rattle.hsr_step.specs.declared.step.Step.TheVariants.{Age, Clock, Cut, Inject, Judge, Mend, Put, Send, Supervise, Take};
     ghost use Rattle.hsr_step.specs.declared.step.WorldFault.TheVariants.{NoMemory};
@@ -111,10 +111,10 @@ impl<const C: usize> Running<C> {
         ensures ok { OnOk result (tried C self.old (Mend link) ≡ Ok self.new) }
         ensures err { IfErr result (λ f. (self.new ≡ self.old) × (tried C self.old (Mend link) ≡ Err f)) }
     {
-        if link >= self.lines.len() {
+        if link >= self.spans.len() {
             return Err(WorldFault::NoSuchLink);
         }
-        mend_at(&mut self.lines, link);
+        mend_at(&mut self.spans, link);
         Ok(())
     }
 
@@ -123,10 +123,10 @@ impl<const C: usize> Running<C> {
         ensures ok { OnOk result (tried C self.old (Cut link) ≡ Ok self.new) }
         ensures err { IfErr result (λ f. (self.new ≡ self.old) × (tried C self.old (Cut link) ≡ Err f)) }
     {
-        if link >= self.lines.len() {
+        if link >= self.spans.len() {
             return Err(WorldFault::NoSuchLink);
         }
-        cut_at(&mut self.lines, link);
+        cut_at(&mut self.spans, link);
         Ok(())
     }
 
@@ -135,13 +135,13 @@ impl<const C: usize> Running<C> {
         ensures ok { OnOk result (tried C self.old (Inject link dir octets.now) ≡ Ok self.new) }
         ensures err { IfErr result (λ f. (self.new ≡ self.old) × ((f ≡ NoMemory) ⊎ (tried C self.old (Inject link dir octets.now) ≡ Err f))) }
     {
-        if link >= self.lines.len() {
+        if link >= self.spans.len() {
             return Err(WorldFault::NoSuchLink);
         }
         if octets.as_slice().len() > INJECT_LIMIT {
             return Err(WorldFault::TooLong);
         }
-        match inject_at(self.alloc, &mut self.lines, link, dir, octets) {
+        match inject_at(self.alloc, &mut self.spans, link, dir, octets) {
             Ok(()) => Ok(()),
             Err(fault) => Err(fault),
         }
@@ -152,10 +152,10 @@ impl<const C: usize> Running<C> {
         ensures ok { OnOk result (tried C self.old (Take link dir) ≡ Ok self.new) }
         ensures err { IfErr result (λ f. (self.new ≡ self.old) × (tried C self.old (Take link dir) ≡ Err f)) }
     {
-        if link >= self.lines.len() {
+        if link >= self.spans.len() {
             return Err(WorldFault::NoSuchLink);
         }
-        match take_at(&mut self.lines, link, dir) {
+        match take_at(&mut self.spans, link, dir) {
             Ok(()) => Ok(()),
             Err(fault) => Err(fault),
         }
@@ -170,10 +170,10 @@ impl<const C: usize> Running<C> {
     }
 
     fn put_out(&mut self, end: End) -> Result<(), WorldFault>
-        ensures ok { OnOk result (in_world self.old (put_at_end self.old.lines end) ≡ Ok self.new) }
-        ensures err { IfErr result (λ f. (self.new ≡ self.old) × ((f ≡ NoMemory) ⊎ (in_world self.old (put_at_end self.old.lines end) ≡ Err f))) }
+        ensures ok { OnOk result (in_world self.old (put_at_end self.old.spans end) ≡ Ok self.new) }
+        ensures err { IfErr result (λ f. (self.new ≡ self.old) × ((f ≡ NoMemory) ⊎ (in_world self.old (put_at_end self.old.spans end) ≡ Err f))) }
     {
-        match put_at_end(&mut self.lines, end) {
+        match put_at_end(&mut self.spans, end) {
             Ok(()) => Ok(()),
             Err(fault) => Err(fault),
         }
@@ -198,7 +198,7 @@ impl<const C: usize> Running<C> {
         match enter(
             self.alloc,
             &mut self.nodes,
-            &mut self.lines,
+            &mut self.spans,
             node,
             worker,
             at,
@@ -250,10 +250,10 @@ impl<const C: usize> Running<C> {
     }
 
     fn held_at(&self, end: End) -> Result<Option<Carried>, WorldFault>
-        ensures ok { IfOk result (λ copy. copy ≡ held_in end (lanes_of self.now.lines)) }
+        ensures ok { IfOk result (λ copy. copy ≡ held_in end (lanes_of self.now.spans)) }
         ensures err { IfErr result (λ f. f ≡ NoMemory) }
     {
-        match held(&self.lines, end) {
+        match held(&self.spans, end) {
             Ok(copy) => Ok(copy),
             Err(_refused) => Err(WorldFault::NoMemory),
         }
@@ -262,7 +262,7 @@ impl<const C: usize> Running<C> {
     fn clear_at(&mut self, end: End)
         ensures { self.new ≡ cleared self.old end }
     {
-        clear(&mut self.lines, end);
+        clear(&mut self.spans, end);
     }
 
     fn judge(&mut self, node: usize, port: u8) -> Result<(), WorldFault>
@@ -364,7 +364,7 @@ impl<const C: usize> Running<C> {
 impl<const C: usize> Running<C> {
     ghost use Rattle.hsr_node.specs.Counts.{counters};
     ghost use Rattle.hsr_ring.specs.Ports.{ports_in};
-    ghost use Rattle.hsr_world.specs.World.{line_at, next_step, owner_at, record_at};
+    ghost use Rattle.hsr_world.specs.World.{span_at, next_step, owner_at, record_at};
 
     /// How many nodes there are.
     pub(crate) fn node_count(&self) -> usize
@@ -375,9 +375,9 @@ impl<const C: usize> Running<C> {
 
     /// How many links there are.
     pub(crate) fn link_count(&self) -> usize
-        ensures { result ≡ length self.now.lines }
+        ensures { result ≡ length self.now.spans }
     {
-        self.lines.len()
+        self.spans.len()
     }
 
     /// The record of a node, the oldest entry first.
@@ -398,25 +398,25 @@ impl<const C: usize> Running<C> {
 
     /// The row of each copy that was put on a link, in order.
     pub(crate) fn rows(&self, link: usize) -> &[Row]
-        requires { link < length self.now.lines }
-        ensures { result.now ≡ (line_at self.now link).link.rows }
+        requires { link < length self.now.spans }
+        ensures { result.now ≡ (span_at self.now link).link.rows }
     {
-        self.lines[link].link.rows()
+        self.spans[link].link.rows()
     }
 
     /// All ports, by node and port.
     pub(crate) fn ports(&self) -> Result<Vec<Port>, hsr_frame::NoMemory>
-        ensures { IfOk result (λ ports. ports.items ≡ ports_in self.now.places self.now.lines) }
+        ensures { IfOk result (λ ports. ports.items ≡ ports_in self.now.places self.now.spans) }
     {
-        new_ports(self.alloc, &self.nodes, &self.lines)
+        new_ports(self.alloc, &self.nodes, &self.spans)
     }
 
     /// What a drain does next.
     pub(crate) fn next(&self, ports: &[Port]) -> Option<Step>
-        requires { ports.now ≡ ports_in self.now.places self.now.lines }
+        requires { ports.now ≡ ports_in self.now.places self.now.spans }
         ensures { result ≡ next_step self.now }
     {
-        next_step(ports, &self.lines)
+        next_step(ports, &self.spans)
     }
 }
 
@@ -444,7 +444,7 @@ impl<const C: usize> Running<C> {
             alloc,
             moment,
             nodes,
-            lines,
+            spans,
             plan,
         } = self;
         let rest = Rest {
@@ -452,7 +452,7 @@ impl<const C: usize> Running<C> {
             nodes,
             plan,
         };
-        match closed_of(alloc, rest, lines.as_slice()) {
+        match closed_of(alloc, rest, spans.as_slice()) {
             Ok(closed) => Ok(closed),
             Err((rest, fault)) => {
                 let Rest {
@@ -464,7 +464,7 @@ impl<const C: usize> Running<C> {
                     alloc,
                     moment,
                     nodes,
-                    lines,
+                    spans,
                     plan,
                 };
                 Err((topology, running, fault))

@@ -2,11 +2,11 @@
 ghost use Rattle.std.specs.Prelude.{◌≡◌, ◌≤◌, IfOk, [], All, map, length};
 ghost use Rattle.hsr_node.specs.Place.{HasOwnAddress};
 ghost use Rattle.hsr_ring.specs.Starting.{new_records};
-ghost use Rattle.hsr_ring.specs.Views.{lane_view, line_view};
-ghost use Rattle.hsr_world.specs.World.{new_lane, new_line};
+ghost use Rattle.hsr_ring.specs.Views.{lane_view, span_view};
+ghost use Rattle.hsr_world.specs.World.{new_lane, new_span};
 
 use crate::lane::Lane;
-use crate::line::Line;
+use crate::span::Span;
 use hsr_frame::NoMemory;
 use hsr_link::Link;
 use hsr_node::{Kept, Place};
@@ -43,32 +43,32 @@ fn new_lane(alloc: Global, from: End, to: End) -> Lane
     }
 }
 
-fn new_line(alloc: Global, capacity: usize, link: &[End; 2]) -> Result<Line, NoMemory>
+fn new_span(alloc: Global, capacity: usize, link: &[End; 2]) -> Result<Span, NoMemory>
     requires { (1 ≤ capacity) × (capacity ≤ 4096) }
-    ensures { IfOk result (λ line. line_view line ≡ new_line capacity link.now) }
+    ensures { IfOk result (λ span. span_view span ≡ new_span capacity link.now) }
 {
     let [a, b] = *link;
     let link = Link::new(alloc, capacity)?;
-    Ok(Line {
+    Ok(Span {
         link,
         forth: new_lane(alloc, a, b),
         back: new_lane(alloc, b, a),
     })
 }
 
-/// A line for each link.
-pub(crate) fn new_lines(
+/// A span for each link.
+pub(crate) fn new_spans(
     alloc: Global,
     capacity: usize,
     links: &[[End; 2]],
-) -> Result<Vec<Line>, NoMemory>
+) -> Result<Vec<Span>, NoMemory>
     requires { (1 ≤ capacity) × (capacity ≤ 4096) }
-    ensures { IfOk result (λ lines. map line_view lines.items ≡ map (new_line capacity) links.now) }
+    ensures { IfOk result (λ spans. map span_view spans.items ≡ map (new_span capacity) links.now) }
 {
-    let mut lines = Vec::new(alloc);
+    let mut spans = Vec::new(alloc);
     for link in links.iter() {
-        let line = new_line(alloc, capacity, link)?;
-        lines.push(line)?;
+        let span = new_span(alloc, capacity, link)?;
+        spans.push(span)?;
     }
-    Ok(lines)
+    Ok(spans)
 }

@@ -39,7 +39,7 @@ impl<const C: usize> World<C> {
     ghost use Rattle.hsr_law.specs.Once.{IsCalm};
     ghost use Rattle.hsr_world.specs.Lawful.{IsEnded, IsLawful, finished_of};
     ghost use Rattle.hsr_ring.specs.Stopping.{IsDrainFault, Runs, Stops};
-    ghost use Rattle.hsr_world.specs.World.{Drains, line_at, new_world, next_step, owner_at, record_at, tried};
+    ghost use Rattle.hsr_world.specs.World.{Drains, span_at, new_world, next_step, owner_at, record_at, tried};
     ghost use Rattle.hsr_node.specs.Counts.{counters};
 
     /// A world at moment 0 in which nothing was done, with room for `capacity` copies, 1 to 4096, in each direction of a link.
@@ -123,7 +123,7 @@ impl<const C: usize> World<C> {
 
     /// How many links there are.
     pub fn link_count(&self) -> usize
-        ensures { result ≡ length self.now.lines }
+        ensures { result ≡ length self.now.spans }
     {
         self.running.link_count()
     }
@@ -146,8 +146,8 @@ impl<const C: usize> World<C> {
 
     /// The row of each copy that was put on a link that is there, in order.
     pub fn rows(&self, link: usize) -> &[Row]
-        requires { link < length self.now.lines }
-        ensures { result.now ≡ (line_at self.now link).link.rows }
+        requires { link < length self.now.spans }
+        ensures { result.now ≡ (span_at self.now link).link.rows }
     {
         self.running.rows(link)
     }

@@ -36,11 +36,11 @@ use Rattle.hsr_node.specs.Kept as kept_node
 use Rattle.hsr_topology.specs.Links.{is_same_end}
 use Rattle.hsr_law.proofs.Lists.{all_implied, count_more, none_all}
 use Rattle.hsr_world.specs.Closing.{AlwaysCloses, AlwaysFinishes, AlwaysNumberedFirst, AlwaysOfSend, OnlyQuietCloses, IsOwn, is_busy, is_busy_lane, run_of}
-use Rattle.hsr_world.specs.Law.{IsSound, LaneAgrees, LineAgrees}
-use Rattle.hsr_world.specs.Lines.{Lane, Line, lane_of}
-use Rattle.hsr_world.specs.Origin.{EachCopy, InLine, has_injected}
+use Rattle.hsr_world.specs.Law.{IsSound, LaneAgrees, SpanAgrees}
+use Rattle.hsr_world.specs.Spans.{Lane, Span, lane_of}
+use Rattle.hsr_world.specs.Origin.{EachCopy, InSpan, has_injected}
 use Rattle.hsr_world.specs.Reached.{IsReached}
-use Rattle.hsr_world.specs.World.{World, is_empty, line_in, new_world, or_same, run, tried}
+use Rattle.hsr_world.specs.World.{World, is_empty, span_in, new_world, or_same, run, tried}
 use Rattle.hsr_step.specs.declared.step.Step.{Step}
 use Rattle.hsr_world.proofs.Counts.{by_counts, count_append, counts_of}
 use Rattle.hsr_world.proofs.First.{first_sound, no_entries}
@@ -48,26 +48,26 @@ use Rattle.hsr_world.proofs.Keeps.{always_sound, keeps}
 use Rattle.hsr_world.proofs.Linked.{IsLinked, is_led_to, leads_to, linked_run}
 use Rattle.hsr_world.proofs.Numbering.{IsFirst, each_kept}
 use Rattle.hsr_world.proofs.OfSends.{Holds, HoldsOwn, holds_step}
-use Rattle.hsr_world.proofs.Origin.{line_implied, no_copies, send_below}
+use Rattle.hsr_world.proofs.Origin.{span_implied, no_copies, send_below}
 use Rattle.hsr_world.proofs.Passing.{IsCopyOf, given_in}
 use Rattle.hsr_world.proofs.Plans.{always_planned}
 use Rattle.hsr_world.proofs.Wires.{Wire, WiredWell, first_wires, run_keeps, step_keeps, wire, wire_of, wired_well}
 
 -- ---- any steps from the first world on
 
-holds_run : (capacity : ℕ) (links : List (List End)) (steps : List Step) (w : World) → IsSound capacity w → AllByRecursion (WiredWell w.places links) (map wire w.lines) → HoldsOwn links w → HoldsOwn links (run capacity steps w)
+holds_run : (capacity : ℕ) (links : List (List End)) (steps : List Step) (w : World) → IsSound capacity w → AllByRecursion (WiredWell w.places links) (map wire w.spans) → HoldsOwn links w → HoldsOwn links (run capacity steps w)
 holds_run capacity links [] w sound wired h = h
 holds_run capacity links (step ∷ steps) w sound wired h =
     let after = or_same w (tried capacity w step) in
     let k = step_keeps capacity w step in
     holds_run capacity links steps (or_same w (tried capacity w step)) (keeps capacity w step sound)
-    (subst (λ places. AllByRecursion (WiredWell places links) (map wire after.lines)) (sym k.places) (subst (AllByRecursion (WiredWell w.places links)) (sym k.wires) wired))
+    (subst (λ places. AllByRecursion (WiredWell places links) (map wire after.spans)) (sym k.places) (subst (AllByRecursion (WiredWell w.places links)) (sym k.wires) wired))
     (holds_step capacity links w step sound wired h)
 
 first_holds : (room : ℕ) (places : List Place) (links : List (List End)) → Holds links (new_world room places links)
 first_holds room places links = record {
   copies = record {
-    lines = no_copies _ room links;
+    spans = no_copies _ room links;
     came = λ n port. subst (λ (past : List Entry). AllByRecursion (IsCopyOf places (map (λ (place : Place). []) places) links) (arrivals port past)) (sym (no_entries places n)) tt;
   };
   first = λ m. subst (Each (λ x past. IsFirst places (map (λ (place : Place). []) places) links (owner_in places m) past x.event x.outcome)) (sym (no_entries places m)) tt;
@@ -98,10 +98,10 @@ given_is capacity links w send = by_peer (peer_in (record { node = send.node; po
 
 -- it is the one that the code's values are
 pub run_is : (capacity : ℕ) (topology : Topology) (kept : List Record) (rows : List (Vec Row Global)) (w : World) → w.places ≡ topology.places → w.records ≡ map kept_node.past_of kept →
-    map (λ (line : Line). line.link.rows) w.lines ≡ map items_of rows → run_of capacity topology.links w ≡ finished.run_of capacity topology kept rows
-run_is capacity topology kept rows w same records lines =
+    map (λ (span : Span). span.link.rows) w.spans ≡ map items_of rows → run_of capacity topology.links w ≡ finished.run_of capacity topology kept rows
+run_is capacity topology kept rows w same records spans =
     let entries : map reverse w.records ≡ map (λ (r : Record). r.entries) kept = ap (map reverse) records ∙ again kept in
-    λ i. record { capacity = capacity; places = same i; links = topology.links; records = entries i; rows = lines i }
+    λ i. record { capacity = capacity; places = same i; links = topology.links; records = entries i; rows = spans i }
   where
     again : (kept : List Record) → map reverse (map kept_node.past_of kept) ≡ map (λ (r : Record). r.entries) kept
     again [] = refl
@@ -140,7 +140,7 @@ always_of_send capacity places links w o =
     let Q : Carried → Type 0 = IsOfSend (run_of capacity links w) in
     let so : (c : Carried) → P c → Q c = of_send capacity links w (sound_own capacity places links w o).counted in
     record {
-      lines = all_implied (InLine P) (InLine Q) (line_implied P Q so) w.lines h.copies.lines;
+      spans = all_implied (InSpan P) (InSpan Q) (span_implied P Q so) w.spans h.copies.spans;
       came = λ n port. all_implied P Q so (arrivals port (record_in w.records n)) (h.copies.came n port);
     }
 
@@ -183,26 +183,26 @@ always_numbered_first capacity places links w o n below =
 
 -- ---- where the links of the run end
 
--- a line's lanes are the link's directions
-record IsLineOf (link : List End) (line : Line) : Type 0 where
-  forth_from : line.forth.from ≡ from_end Forth link
-  forth_to : line.forth.to ≡ to_end Forth link
-  back_from : line.back.from ≡ from_end Back link
-  back_to : line.back.to ≡ to_end Back link
+-- a span's lanes are the link's directions
+record IsSpanOf (link : List End) (span : Span) : Type 0 where
+  forth_from : span.forth.from ≡ from_end Forth link
+  forth_to : span.forth.to ≡ to_end Forth link
+  back_from : span.back.from ≡ from_end Back link
+  back_to : span.back.to ≡ to_end Back link
 
-line_of : (places : List Place) (link : List End) (line : Line) → IsJoin places link → wire line ≡ wire_of link → IsLineOf link line
-line_of places [] line j e = absurd j
-line_of places (x ∷ []) line j e = absurd j
-line_of places (x ∷ y ∷ z ∷ ends) line j e = absurd j
-line_of places (x ∷ y ∷ []) line j e = record { forth_from = ap (λ v. v.0) e; forth_to = ap (λ v. v.1) e; back_from = ap (λ v. v.2) e; back_to = ap (λ v. v.3) e }
+span_of : (places : List Place) (link : List End) (span : Span) → IsJoin places link → wire span ≡ wire_of link → IsSpanOf link span
+span_of places [] span j e = absurd j
+span_of places (x ∷ []) span j e = absurd j
+span_of places (x ∷ y ∷ z ∷ ends) span j e = absurd j
+span_of places (x ∷ y ∷ []) span j e = record { forth_from = ap (λ v. v.0) e; forth_to = ap (λ v. v.1) e; back_from = ap (λ v. v.2) e; back_to = ap (λ v. v.3) e }
 
-from_is : (dir : Dir) (link : List End) (line : Line) → IsLineOf link line → (lane_of dir line).from ≡ from_end dir link
-from_is Forth link line h = h.forth_from
-from_is Back link line h = h.back_from
+from_is : (dir : Dir) (link : List End) (span : Span) → IsSpanOf link span → (lane_of dir span).from ≡ from_end dir link
+from_is Forth link span h = h.forth_from
+from_is Back link span h = h.back_from
 
-to_is : (dir : Dir) (link : List End) (line : Line) → IsLineOf link line → (lane_of dir line).to ≡ to_end dir link
-to_is Forth link line h = h.forth_to
-to_is Back link line h = h.back_to
+to_is : (dir : Dir) (link : List End) (span : Span) → IsSpanOf link span → (lane_of dir span).to ≡ to_end dir link
+to_is Forth link span h = h.forth_to
+to_is Back link span h = h.back_to
 
 -- where a lane ends, a link of the run ends
 link_to : (places : List Place) (end : End) (links : List (List End)) → All (IsJoin places) links → is_led_to (map wire_of links) end ≡ true →
@@ -232,15 +232,15 @@ not_busy lane h = let parts = or_parts (not (is_empty lane.outbox)) (is_some lan
     no_hand None e = refl
     no_hand (Some c) e = absurd (false≢true (sym e))
 
-record IsIdle (line : Line) : Type 0 where
-  rows : list_any (λ (row : Row). is_queued row.fate) line.link.rows ≡ false
-  forth : is_busy_lane line.forth ≡ false
-  back : is_busy_lane line.back ≡ false
+record IsIdle (span : Span) : Type 0 where
+  rows : list_any (λ (row : Row). is_queued row.fate) span.link.rows ≡ false
+  forth : is_busy_lane span.forth ≡ false
+  back : is_busy_lane span.back ≡ false
 
-not_waiting : (line : Line) → is_busy line ≡ false → IsIdle line
-not_waiting line h =
-    let parts = or_parts (list_any (λ (row : Row). is_queued row.fate) line.link.rows || is_busy_lane line.forth) (is_busy_lane line.back) h in
-    let both = or_parts (list_any (λ (row : Row). is_queued row.fate) line.link.rows) (is_busy_lane line.forth) parts.0 in
+not_waiting : (span : Span) → is_busy span ≡ false → IsIdle span
+not_waiting span h =
+    let parts = or_parts (list_any (λ (row : Row). is_queued row.fate) span.link.rows || is_busy_lane span.forth) (is_busy_lane span.back) h in
+    let both = or_parts (list_any (λ (row : Row). is_queued row.fate) span.link.rows) (is_busy_lane span.forth) parts.0 in
     record { rows = both.0; forth = both.1; back = parts.1 }
 
 record LaneQuiet (places : List Place) (records : List (List Entry)) (dir : Dir) (rows : List Row) (lane : Lane) : Type 0 where
@@ -275,79 +275,79 @@ module _ (capacity : ℕ) (places : List Place) (links : List (List End)) (w : W
   sound : IsSound capacity w
   sound = subst (IsSound capacity) r.is (always_sound capacity r.steps (new_world r.room places links) (first_sound capacity r.room places links wired))
 
-  pub wires : map wire w.lines ≡ map wire_of links
-  wires = subst (λ (v : World). map wire v.lines ≡ map wire_of links) r.is ((run_keeps capacity r.steps (new_world r.room places links)).wires ∙ first_wires r.room links)
+  pub wires : map wire w.spans ≡ map wire_of links
+  wires = subst (λ (v : World). map wire v.spans ≡ map wire_of links) r.is ((run_keeps capacity r.steps (new_world r.room places links)).wires ∙ first_wires r.room links)
 
-  pub lines_counted : length w.lines ≡ length links
-  lines_counted = sym (length-map w.lines wire) ∙ (ap length wires ∙ length-map links wire_of)
+  pub spans_counted : length w.spans ≡ length links
+  spans_counted = sym (length-map w.spans wire) ∙ (ap length wires ∙ length-map links wire_of)
 
   ends : ℕ → List End
   ends l = slice_index_or links l []
 
-  at : (P : Line → Type 0) → AllByRecursion P w.lines → (l : ℕ) → l < length links → P (line_in w.lines l)
-  at P all l below = All-from_recursion P w.lines all l _ (omega (arith, below, lines_counted))
+  at : (P : Span → Type 0) → AllByRecursion P w.spans → (l : ℕ) → l < length links → P (span_in w.spans l)
+  at P all l below = All-from_recursion P w.spans all l _ (omega (arith, below, spans_counted))
 
-  agrees : (l : ℕ) (dir : Dir) → l < length links → LaneAgrees w.places w.records dir (line_in w.lines l).link.rows (lane_of dir (line_in w.lines l))
-  agrees l Forth below = (at (LineAgrees w.places w.records) sound.agree l below).forth
-  agrees l Back below = (at (LineAgrees w.places w.records) sound.agree l below).back
+  agrees : (l : ℕ) (dir : Dir) → l < length links → LaneAgrees w.places w.records dir (span_in w.spans l).link.rows (lane_of dir (span_in w.spans l))
+  agrees l Forth below = (at (SpanAgrees w.places w.records) sound.agree l below).forth
+  agrees l Back below = (at (SpanAgrees w.places w.records) sound.agree l below).back
 
-  rows_are : (l : ℕ) → l < length links → rows_of (run_of capacity links w) l ≡ (line_in w.lines l).link.rows
-  rows_are l below = get_or-map (λ (line : Line). line.link.rows) w.lines l _ [] (omega (arith, below, lines_counted))
+  rows_are : (l : ℕ) → l < length links → rows_of (run_of capacity links w) l ≡ (span_in w.spans l).link.rows
+  rows_are l below = get_or-map (λ (span : Span). span.link.rows) w.spans l _ [] (omega (arith, below, spans_counted))
 
-  is_line : (l : ℕ) → l < length links → IsLineOf (slice_index_or links l []) (line_in w.lines l)
-  is_line l below =
+  is_span : (l : ℕ) → l < length links → IsSpanOf (slice_index_or links l []) (span_in w.spans l)
+  is_span l below =
       let nowhere : Wire = (no_end, no_end, no_end, no_end) in
-      line_of places (slice_index_or links l []) (line_in w.lines l) (wired.joined l [] below)
-      (sym (get_or-map wire w.lines l _ nowhere (omega (arith, below, lines_counted))) ∙ (ap (λ ws. get_or ws l nowhere) wires ∙ get_or-map wire_of links l [] nowhere below))
+      span_of places (slice_index_or links l []) (span_in w.spans l) (wired.joined l [] below)
+      (sym (get_or-map wire w.spans l _ nowhere (omega (arith, below, spans_counted))) ∙ (ap (λ ws. get_or ws l nowhere) wires ∙ get_or-map wire_of links l [] nowhere below))
 
-  pub linked : IsLinked (map wire w.lines) w.records
+  pub linked : IsLinked (map wire w.spans) w.records
   linked =
-      subst (λ (v : World). IsLinked (map wire v.lines) v.records) r.is
+      subst (λ (v : World). IsLinked (map wire v.spans) v.records) r.is
       (linked_run capacity r.steps (new_world r.room places links) (first_sound capacity r.room places links wired) (λ n port. inr (ap (arrivals port) (no_entries places n))))
 
-  has_link : (k port : ℕ) → is_led_to (map wire w.lines) (record { node = k; port = port }) ≡ true → HasLink (run_of capacity links w) k port
+  has_link : (k port : ℕ) → is_led_to (map wire w.spans) (record { node = k; port = port }) ≡ true → HasLink (run_of capacity links w) k port
   has_link k port led =
       let found = link_to places (record { node = k; port = port }) links wired.joined (subst (λ ws. is_led_to ws (record { node = k; port = port }) ≡ true) wires led) in
       record { link = found.0; dir = found.1; below = found.2; ends = found.3 }
 
   -- in the words of the run: what left at the beginning of a lane, and what came to its end
   left_at : (Q : List Carried → List Carried → Type 0) (l : ℕ) (dir : Dir) → l < length links →
-      Q (passes (owner_in w.places (lane_of dir (line_in w.lines l)).from.node) (lane_of dir (line_in w.lines l)).from.port (record_in w.records (lane_of dir (line_in w.lines l)).from.node))
-      (put_copies dir (line_in w.lines l).link.rows) →
+      Q (passes (owner_in w.places (lane_of dir (span_in w.spans l)).from.node) (lane_of dir (span_in w.spans l)).from.port (record_in w.records (lane_of dir (span_in w.spans l)).from.node))
+      (put_copies dir (span_in w.spans l).link.rows) →
       let end = from_end dir (slice_index_or links l []) in
       Q (passes (owner_of (run_of capacity links w) end.node) end.port (past_of (run_of capacity links w) end.node)) (put_copies dir (rows_of (run_of capacity links w) l))
   left_at Q l dir below h =
       subst (λ (end : End). Q (passes (owner_of (run_of capacity links w) end.node) end.port (past_of (run_of capacity links w) end.node)) (put_copies dir (rows_of (run_of capacity links w) l)))
-      (from_is dir (slice_index_or links l []) (line_in w.lines l) (is_line l below))
-      (subst (λ past. Q (passes (owner_in w.places (lane_of dir (line_in w.lines l)).from.node) (lane_of dir (line_in w.lines l)).from.port past) (put_copies dir (rows_of (run_of capacity links w) l)))
-      (sym (past_is capacity links w (lane_of dir (line_in w.lines l)).from.node))
+      (from_is dir (slice_index_or links l []) (span_in w.spans l) (is_span l below))
+      (subst (λ past. Q (passes (owner_in w.places (lane_of dir (span_in w.spans l)).from.node) (lane_of dir (span_in w.spans l)).from.port past) (put_copies dir (rows_of (run_of capacity links w) l)))
+      (sym (past_is capacity links w (lane_of dir (span_in w.spans l)).from.node))
       (subst
-      (λ rows. Q (passes (owner_in w.places (lane_of dir (line_in w.lines l)).from.node) (lane_of dir (line_in w.lines l)).from.port (record_in w.records (lane_of dir (line_in w.lines l)).from.node)) (put_copies dir rows))
+      (λ rows. Q (passes (owner_in w.places (lane_of dir (span_in w.spans l)).from.node) (lane_of dir (span_in w.spans l)).from.port (record_in w.records (lane_of dir (span_in w.spans l)).from.node)) (put_copies dir rows))
       (sym (rows_are l below)) h))
 
   came_at : (Q : List Carried → List Carried → Type 0) (l : ℕ) (dir : Dir) → l < length links →
-      Q (taken_copies dir (line_in w.lines l).link.rows) (arrivals (lane_of dir (line_in w.lines l)).to.port (record_in w.records (lane_of dir (line_in w.lines l)).to.node)) →
+      Q (taken_copies dir (span_in w.spans l).link.rows) (arrivals (lane_of dir (span_in w.spans l)).to.port (record_in w.records (lane_of dir (span_in w.spans l)).to.node)) →
       let end = to_end dir (slice_index_or links l []) in
       Q (taken_copies dir (rows_of (run_of capacity links w) l)) (arrivals end.port (past_of (run_of capacity links w) end.node))
   came_at Q l dir below h =
       subst (λ (end : End). Q (taken_copies dir (rows_of (run_of capacity links w) l)) (arrivals end.port (past_of (run_of capacity links w) end.node)))
-      (to_is dir (slice_index_or links l []) (line_in w.lines l) (is_line l below))
-      (subst (λ past. Q (taken_copies dir (rows_of (run_of capacity links w) l)) (arrivals (lane_of dir (line_in w.lines l)).to.port past))
-      (sym (past_is capacity links w (lane_of dir (line_in w.lines l)).to.node))
-      (subst (λ rows. Q (taken_copies dir rows) (arrivals (lane_of dir (line_in w.lines l)).to.port (record_in w.records (lane_of dir (line_in w.lines l)).to.node))) (sym (rows_are l below)) h))
+      (to_is dir (slice_index_or links l []) (span_in w.spans l) (is_span l below))
+      (subst (λ past. Q (taken_copies dir (rows_of (run_of capacity links w) l)) (arrivals (lane_of dir (span_in w.spans l)).to.port past))
+      (sym (past_is capacity links w (lane_of dir (span_in w.spans l)).to.node))
+      (subst (λ rows. Q (taken_copies dir rows) (arrivals (lane_of dir (span_in w.spans l)).to.port (record_in w.records (lane_of dir (span_in w.spans l)).to.node))) (sym (rows_are l below)) h))
 
 -- ---- a quiet world closes
 
 pub always_closes : AlwaysCloses
 always_closes capacity places links w o quiet = record {
   records = length-map w.records reverse ∙ all.counted;
-  rows = length-map w.lines (λ (line : Line). line.link.rows) ∙ lines_counted capacity places links w o.wired o.reached;
+  rows = length-map w.spans (λ (span : Span). span.link.rows) ∙ spans_counted capacity places links w o.wired o.reached;
   legal = λ k below. subst (IsLegal capacity (owner_in w.places k)) (sym (past_is capacity links w k)) (all.legal k);
   put = λ l dir below. left_at capacity places links w o.wired o.reached (λ xs ys. IsPermutation xs ys) l dir below (lane l dir below).put;
   taken = λ l dir below. came_at capacity places links w o.wired o.reached (λ xs ys. IsPermutation xs ys) l dir below (lane l dir below).taken;
   settled = λ l below.
       subst (AllByRecursion (IsSettled finished)) (sym (rows_are capacity places links w o.wired o.reached l below))
-      (rows_settled finished (line_in w.lines l).link.rows (each (InLine (IsOfSend finished)) copies.lines l below).rows (each (λ line. has_injected line ≡ false) (none_all has_injected w.lines o.own) l below)
+      (rows_settled finished (span_in w.spans l).link.rows (each (InSpan (IsOfSend finished)) copies.spans l below).rows (each (λ span. has_injected span ≡ false) (none_all has_injected w.spans o.own) l below)
       (idle l below).rows);
   linked = λ k port below. ⊎_elim (λ led. inl (has_link capacity places links w o.wired o.reached k port led)) (λ none. inr (ap (arrivals port) (past_is capacity links w k) ∙ none))
       (linked capacity places links w o.wired o.reached k port);
@@ -362,19 +362,19 @@ always_closes capacity places links w o quiet = record {
     copies : EachCopy (IsOfSend finished) w
     copies = always_of_send capacity places links w o
 
-    each : (P : Line → Type 0) → AllByRecursion P w.lines → (l : ℕ) → l < length links → P (line_in w.lines l)
+    each : (P : Span → Type 0) → AllByRecursion P w.spans → (l : ℕ) → l < length links → P (span_in w.spans l)
     each = at capacity places links w o.wired o.reached
 
-    idle : (l : ℕ) → l < length links → IsIdle (line_in w.lines l)
-    idle l below = not_waiting (line_in w.lines l) (each (λ line. is_busy line ≡ false) (none_all is_busy w.lines quiet) l below)
+    idle : (l : ℕ) → l < length links → IsIdle (span_in w.spans l)
+    idle l below = not_waiting (span_in w.spans l) (each (λ span. is_busy span ≡ false) (none_all is_busy w.spans quiet) l below)
 
-    empty : (l : ℕ) (dir : Dir) → l < length links → ((lane_of dir (line_in w.lines l)).outbox ≡ []) × ((lane_of dir (line_in w.lines l)).hand ≡ None)
-    empty l Forth below = not_busy (line_in w.lines l).forth (idle l below).forth
-    empty l Back below = not_busy (line_in w.lines l).back (idle l below).back
+    empty : (l : ℕ) (dir : Dir) → l < length links → ((lane_of dir (span_in w.spans l)).outbox ≡ []) × ((lane_of dir (span_in w.spans l)).hand ≡ None)
+    empty l Forth below = not_busy (span_in w.spans l).forth (idle l below).forth
+    empty l Back below = not_busy (span_in w.spans l).back (idle l below).back
 
-    lane : (l : ℕ) (dir : Dir) → l < length links → LaneQuiet w.places w.records dir (line_in w.lines l).link.rows (lane_of dir (line_in w.lines l))
+    lane : (l : ℕ) (dir : Dir) → l < length links → LaneQuiet w.places w.records dir (span_in w.spans l).link.rows (lane_of dir (span_in w.spans l))
     lane l dir below =
-        lane_quiet w.places w.records dir (line_in w.lines l).link.rows (lane_of dir (line_in w.lines l)) (agrees capacity places links w o.wired o.reached l dir below) (empty l dir below)
+        lane_quiet w.places w.records dir (span_in w.spans l).link.rows (lane_of dir (span_in w.spans l)) (agrees capacity places links w o.wired o.reached l dir below) (empty l dir below)
 
 -- ---- what closes is quiet
 
@@ -403,35 +403,35 @@ settled_rows run (row ∷ rows) all =
 
 pub only_quiet_closes : OnlyQuietCloses
 only_quiet_closes capacity places links w wired r closed = (
-  none_any is_busy w.lines _ (λ l below. let inside = within l below in idle (line_in w.lines l) (settled_rows finished (line_in w.lines l).link.rows (rows l inside)).1 (free l Forth inside) (free l Back inside)),
-  none_any has_injected w.lines _ (λ l below. (settled_rows finished (line_in w.lines l).link.rows (rows l (within l below))).0),
+  none_any is_busy w.spans _ (λ l below. let inside = within l below in idle (span_in w.spans l) (settled_rows finished (span_in w.spans l).link.rows (rows l inside)).1 (free l Forth inside) (free l Back inside)),
+  none_any has_injected w.spans _ (λ l below. (settled_rows finished (span_in w.spans l).link.rows (rows l (within l below))).0),
 )
   where
     finished : Run
     finished = run_of capacity links w
 
-    within : (l : ℕ) → l < length w.lines → l < length links
-    within l below = let counted = lines_counted capacity places links w wired r in omega (arith, below, counted)
+    within : (l : ℕ) → l < length w.spans → l < length links
+    within l below = let counted = spans_counted capacity places links w wired r in omega (arith, below, counted)
 
-    rows : (l : ℕ) → l < length links → AllByRecursion (IsSettled finished) (line_in w.lines l).link.rows
+    rows : (l : ℕ) → l < length links → AllByRecursion (IsSettled finished) (span_in w.spans l).link.rows
     rows l below = subst (AllByRecursion (IsSettled finished)) (rows_are capacity places links w wired r l below) (closed.settled l below)
 
-    box : (l : ℕ) (dir : Dir) → l < length links → (lane_of dir (line_in w.lines l)).outbox ≡ []
+    box : (l : ℕ) (dir : Dir) → l < length links → (lane_of dir (span_in w.spans l)).outbox ≡ []
     box l dir below =
-        let lane : Lane = lane_of dir (line_in w.lines l) in
-        left_at capacity places links w wired r (λ xs ys. IsPermutation xs ys → (lane_of dir (line_in w.lines l)).outbox ≡ []) l dir below
+        let lane : Lane = lane_of dir (span_in w.spans l) in
+        left_at capacity places links w wired r (λ xs ys. IsPermutation xs ys → (lane_of dir (span_in w.spans l)).outbox ≡ []) l dir below
         (λ perm.
         let test : Carried → Bool = λ c. true in
         let same = counts_of _ _ perm test in
         let sent = counts_of _ _ (agrees capacity places links w wired r l dir below).sent test in
-        let parts = count_append test (put_copies dir (line_in w.lines l).link.rows) lane.outbox in
+        let parts = count_append test (put_copies dir (span_in w.spans l).link.rows) lane.outbox in
         no_items lane.outbox (omega (arith, same, sent, parts)))
         (closed.put l dir below)
 
-    hand : (l : ℕ) (dir : Dir) → l < length links → (lane_of dir (line_in w.lines l)).hand ≡ None
+    hand : (l : ℕ) (dir : Dir) → l < length links → (lane_of dir (span_in w.spans l)).hand ≡ None
     hand l dir below =
-        let lane : Lane = lane_of dir (line_in w.lines l) in
-        came_at capacity places links w wired r (λ xs ys. IsPermutation xs ys → (lane_of dir (line_in w.lines l)).hand ≡ None) l dir below
+        let lane : Lane = lane_of dir (span_in w.spans l) in
+        came_at capacity places links w wired r (λ xs ys. IsPermutation xs ys → (lane_of dir (span_in w.spans l)).hand ≡ None) l dir below
         (λ perm.
         let test : Carried → Bool = λ c. true in
         let same = counts_of _ _ perm test in
@@ -440,11 +440,11 @@ only_quiet_closes capacity places links w wired r closed = (
         no_item lane.hand (omega (arith, same, came, parts)))
         (closed.taken l dir below)
 
-    free : (l : ℕ) (dir : Dir) → l < length links → is_busy_lane (lane_of dir (line_in w.lines l)) ≡ false
-    free l dir below = ap (λ (xs : List Carried). not (is_empty xs) || is_some (lane_of dir (line_in w.lines l)).hand) (box l dir below) ∙ ap (λ (o : Option Carried). is_some o) (hand l dir below)
+    free : (l : ℕ) (dir : Dir) → l < length links → is_busy_lane (lane_of dir (span_in w.spans l)) ≡ false
+    free l dir below = ap (λ (xs : List Carried). not (is_empty xs) || is_some (lane_of dir (span_in w.spans l)).hand) (box l dir below) ∙ ap (λ (o : Option Carried). is_some o) (hand l dir below)
 
-    idle : (line : Line) → list_any (λ (row : Row). is_queued row.fate) line.link.rows ≡ false → is_busy_lane line.forth ≡ false → is_busy_lane line.back ≡ false → is_busy line ≡ false
-    idle line q f b = ap (λ x. (x || is_busy_lane line.forth) || is_busy_lane line.back) q ∙ (ap (λ x. x || is_busy_lane line.back) f ∙ b)
+    idle : (span : Span) → list_any (λ (row : Row). is_queued row.fate) span.link.rows ≡ false → is_busy_lane span.forth ≡ false → is_busy_lane span.back ≡ false → is_busy span ≡ false
+    idle span q f b = ap (λ x. (x || is_busy_lane span.forth) || is_busy_lane span.back) q ∙ (ap (λ x. x || is_busy_lane span.back) f ∙ b)
 
 -- ---- with its plan
 

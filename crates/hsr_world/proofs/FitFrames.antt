@@ -28,9 +28,9 @@ use Rattle.hsr_law.proofs.Records.{sending_frame}
 use Rattle.hsr_world.specs.Closing.{AreFrames}
 use Rattle.hsr_world.specs.Fit.{FitsEvent, FitsPlace, FitsStep, IsFit}
 use Rattle.hsr_world.specs.Fitting.{AlwaysFrames, FitFrames}
-use Rattle.hsr_world.specs.Lines.{held_in, lane_of, lanes_of, spot_from}
+use Rattle.hsr_world.specs.Spans.{held_in, lane_of, lanes_of, spot_from}
 use Rattle.hsr_world.specs.Reached.{IsReached}
-use Rattle.hsr_world.specs.World.{World, and_added, cleared, entered, has_link, has_node, has_port, injected_at, judged_at, line_at, new_world, or_same, owner_at, planned, port_worker, put_at, record_at, run, take_to, tried}
+use Rattle.hsr_world.specs.World.{World, and_added, cleared, entered, has_link, has_node, has_port, injected_at, judged_at, span_at, new_world, or_same, owner_at, planned, port_worker, put_at, record_at, run, take_to, tried}
 use Rattle.hsr_step.specs.declared.step.Step.{Step}
 use Rattle.hsr_step.specs.declared.step.Step.TheVariants as step
 use Rattle.hsr_step.specs.declared.step.WorldFault.{WorldFault}
@@ -186,10 +186,10 @@ fit_step capacity w (step.Send n from dst vlan kind payload) fit =
 fit_step capacity w (step.Supervise n about) fit = met w (has_node w n) _ _ (fit_entered capacity w (planned w n (event.Supervise about)) 0 n (event.Supervise about) tt refl)
 fit_step capacity w (step.Age n) fit = met w (has_node w n) _ _ (fit_entered capacity w (planned w n event.Age) 0 n event.Age tt refl)
 fit_step capacity w (step.Put n port) fit =
-    met w (has_node w n) _ _ (met w (has_port w n port) _ _ (fit_same w (or_same w (put_at w (spot_from (record { node = n; port = port }) 0 w.lines))) (same_put w (spot_from (record { node = n; port = port }) 0 w.lines))))
-fit_step capacity w (step.Take l dir) fit = met w (has_link w l) _ _ (fit_same w (or_same w (take_to w l dir (lane_of dir (line_at w l)).hand)) (same_take w l dir (lane_of dir (line_at w l)).hand))
+    met w (has_node w n) _ _ (met w (has_port w n port) _ _ (fit_same w (or_same w (put_at w (spot_from (record { node = n; port = port }) 0 w.spans))) (same_put w (spot_from (record { node = n; port = port }) 0 w.spans))))
+fit_step capacity w (step.Take l dir) fit = met w (has_link w l) _ _ (fit_same w (or_same w (take_to w l dir (lane_of dir (span_at w l)).hand)) (same_take w l dir (lane_of dir (span_at w l)).hand))
 fit_step capacity w (step.Judge n port) fit =
-    met w (has_node w n) _ _ (met w (has_port w n port) _ _ (fit_judged capacity w (record { node = n; port = port }) (held_in (record { node = n; port = port }) (lanes_of w.lines))))
+    met w (has_node w n) _ _ (met w (has_port w n port) _ _ (fit_judged capacity w (record { node = n; port = port }) (held_in (record { node = n; port = port }) (lanes_of w.spans))))
 fit_step capacity w (step.Cut l) fit = met w (has_link w l) _ _ (λ all. all)
 fit_step capacity w (step.Mend l) fit = met w (has_link w l) _ _ (λ all. all)
 fit_step capacity w (step.Inject l dir octets) fit = met w (has_link w l) _ _ (fit_same w (or_same w (injected_at w l dir octets)) (same_injected w l dir octets))

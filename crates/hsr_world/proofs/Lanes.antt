@@ -1,4 +1,4 @@
--- Lanes and lines go on agreeing with the records.
+-- Lanes and spans go on agreeing with the records.
 use Rattle.std.proofs.Common.{◌≡◌, ◌≢◌, ℕ, ◌+◌, ◌<◌, ◌==◌, Bool, true, false, List, [], ◌∷◌, ◌++◌, set, length, count_by, option_to_list, Option, Some, None, refl, sym, ap, ◌∙◌, arith, eqb-true, eq-eqb, ⊎_elim}
 use Rattle.std.specs.Prelude.{◌&&◌, if◌then◌else◌}
 use Rattle.std.proofs.lemmas.Bool.{false≢true, cases_Bool}
@@ -19,8 +19,8 @@ use Rattle.hsr_node.specs.declared.event.Carried.{Carried}
 use Rattle.hsr_node.specs.declared.event.Event.{Event}
 use Rattle.hsr_node.specs.declared.event.Event.TheVariants as event
 use Rattle.hsr_node.specs.declared.place.Place.{Place}
-use Rattle.hsr_world.specs.Law.{LaneAgrees, LineAgrees}
-use Rattle.hsr_world.specs.Lines.{Lane, Line, gift, lane_of, spread, with_lane, with_link}
+use Rattle.hsr_world.specs.Law.{LaneAgrees, SpanAgrees}
+use Rattle.hsr_world.specs.Spans.{Lane, Span, gift, lane_of, spread, with_lane, with_link}
 use Rattle.hsr_world.proofs.Counts.{by_counts, count_append, count_cons, count_option, counts_of, oldest_taken, put_cut, put_more, put_taken, taken_more}
 
 -- ---- one lane
@@ -162,49 +162,49 @@ lane_added places records n x dir rows lane hand below handed h = record {
         let e = ap was same in
         omega (arith, a, b, d, e)
 
--- ---- one line
+-- ---- one span
 
 no_copy : (b f : Bool) (c : Carried) → f ≡ false → (if b && f then Some c else None) ≡ None
 no_copy true true c e = absurd (false≢true (sym e))
 no_copy true false c e = refl
 no_copy false f c e = refl
 
-pub line_put : (places : List Place) (records : List (List Entry)) (line : Line) (dir : Dir) (c : Carried) (cs : List Carried) → (lane_of dir line).outbox ≡ c ∷ cs → LineAgrees places records line →
-    LineAgrees places records (with_link (put_step line.link dir c).1 (with_lane dir (record (lane_of dir line) { outbox = cs }) line))
-line_put places records line Forth c cs box h = record {
-  forth = row_put places records Forth line.link.rows line.forth c cs _ box refl (no_copy true _ c (put_not_taken line.link Forth)) h.forth;
-  back = more_rows places records Back line.link.rows _ line.back refl refl h.back;
+pub span_put : (places : List Place) (records : List (List Entry)) (span : Span) (dir : Dir) (c : Carried) (cs : List Carried) → (lane_of dir span).outbox ≡ c ∷ cs → SpanAgrees places records span →
+    SpanAgrees places records (with_link (put_step span.link dir c).1 (with_lane dir (record (lane_of dir span) { outbox = cs }) span))
+span_put places records span Forth c cs box h = record {
+  forth = row_put places records Forth span.link.rows span.forth c cs _ box refl (no_copy true _ c (put_not_taken span.link Forth)) h.forth;
+  back = more_rows places records Back span.link.rows _ span.back refl refl h.back;
 }
-line_put places records line Back c cs box h = record {
-  forth = more_rows places records Forth line.link.rows _ line.forth refl refl h.forth;
-  back = row_put places records Back line.link.rows line.back c cs _ box refl (no_copy true _ c (put_not_taken line.link Back)) h.back;
-}
-
-pub line_taken : (places : List Place) (records : List (List Entry)) (line : Line) (dir : Dir) (c : Carried) → (lane_of dir line).hand ≡ None → first_copy dir line.link.rows ≡ Some c →
-    LineAgrees places records line → LineAgrees places records (with_link (take_step line.link dir).1 (with_lane dir (record (lane_of dir line) { hand = Some c }) line))
-line_taken places records line Forth c free old h = record {
-  forth = hand_taken places records Forth line.link.rows line.forth c free old h.forth;
-  back = same_rows places records Back line.link.rows _ line.back (put_taken Back Forth line.link.rows) (taken_turned_other Forth Back line.link.rows refl) h.back;
-}
-line_taken places records line Back c free old h = record {
-  forth = same_rows places records Forth line.link.rows _ line.forth (put_taken Forth Back line.link.rows) (taken_turned_other Back Forth line.link.rows refl) h.forth;
-  back = hand_taken places records Back line.link.rows line.back c free old h.back;
+span_put places records span Back c cs box h = record {
+  forth = more_rows places records Forth span.link.rows _ span.forth refl refl h.forth;
+  back = row_put places records Back span.link.rows span.back c cs _ box refl (no_copy true _ c (put_not_taken span.link Back)) h.back;
 }
 
-pub line_cut : (places : List Place) (records : List (List Entry)) (line : Line) → LineAgrees places records line → LineAgrees places records (with_link (cut_step line.link).1 line)
-line_cut places records line h = record {
-  forth = same_rows places records Forth line.link.rows _ line.forth (put_cut Forth line.link.rows) (taken_lost Forth line.link.rows) h.forth;
-  back = same_rows places records Back line.link.rows _ line.back (put_cut Back line.link.rows) (taken_lost Back line.link.rows) h.back;
+pub span_taken : (places : List Place) (records : List (List Entry)) (span : Span) (dir : Dir) (c : Carried) → (lane_of dir span).hand ≡ None → first_copy dir span.link.rows ≡ Some c →
+    SpanAgrees places records span → SpanAgrees places records (with_link (take_step span.link dir).1 (with_lane dir (record (lane_of dir span) { hand = Some c }) span))
+span_taken places records span Forth c free old h = record {
+  forth = hand_taken places records Forth span.link.rows span.forth c free old h.forth;
+  back = same_rows places records Back span.link.rows _ span.back (put_taken Back Forth span.link.rows) (taken_turned_other Forth Back span.link.rows refl) h.back;
+}
+span_taken places records span Back c free old h = record {
+  forth = same_rows places records Forth span.link.rows _ span.forth (put_taken Forth Back span.link.rows) (taken_turned_other Back Forth span.link.rows refl) h.forth;
+  back = hand_taken places records Back span.link.rows span.back c free old h.back;
 }
 
-pub line_mended : (places : List Place) (records : List (List Entry)) (line : Line) → LineAgrees places records line → LineAgrees places records (with_link (mended line.link) line)
-line_mended places records line h = record { forth = h.forth; back = h.back }
+pub span_cut : (places : List Place) (records : List (List Entry)) (span : Span) → SpanAgrees places records span → SpanAgrees places records (with_link (cut_step span.link).1 span)
+span_cut places records span h = record {
+  forth = same_rows places records Forth span.link.rows _ span.forth (put_cut Forth span.link.rows) (taken_lost Forth span.link.rows) h.forth;
+  back = same_rows places records Back span.link.rows _ span.back (put_cut Back span.link.rows) (taken_lost Back span.link.rows) h.back;
+}
 
-pub line_injected : (places : List Place) (records : List (List Entry)) (line : Line) (dir : Dir) (c : Carried) → LineAgrees places records line →
-    LineAgrees places records (with_link (inject_step line.link dir c).1 line)
-line_injected places records line dir c h = record {
-  forth = more_rows places records Forth line.link.rows _ line.forth (no_copy (is_same_dir Forth dir) false c refl) (no_copy (is_same_dir Forth dir) _ c (put_not_taken line.link dir)) h.forth;
-  back = more_rows places records Back line.link.rows _ line.back (no_copy (is_same_dir Back dir) false c refl) (no_copy (is_same_dir Back dir) _ c (put_not_taken line.link dir)) h.back;
+pub span_mended : (places : List Place) (records : List (List Entry)) (span : Span) → SpanAgrees places records span → SpanAgrees places records (with_link (mended span.link) span)
+span_mended places records span h = record { forth = h.forth; back = h.back }
+
+pub span_injected : (places : List Place) (records : List (List Entry)) (span : Span) (dir : Dir) (c : Carried) → SpanAgrees places records span →
+    SpanAgrees places records (with_link (inject_step span.link dir c).1 span)
+span_injected places records span dir c h = record {
+  forth = more_rows places records Forth span.link.rows _ span.forth (no_copy (is_same_dir Forth dir) false c refl) (no_copy (is_same_dir Forth dir) _ c (put_not_taken span.link dir)) h.forth;
+  back = more_rows places records Back span.link.rows _ span.back (no_copy (is_same_dir Back dir) false c refl) (no_copy (is_same_dir Back dir) _ c (put_not_taken span.link dir)) h.back;
 }
 
 -- ---- a hand that is judged

@@ -11,7 +11,7 @@ use Rattle.hsr_node.specs.declared.place.Place.{Place}
 use Rattle.hsr_world.specs.Closing.{IsOwn, run_of}
 use Rattle.hsr_world.specs.Law.{IsSound}
 use Rattle.hsr_world.specs.Lawful.{IsLawful, ends_of, links_of}
-use Rattle.hsr_world.specs.Lines.{Line}
+use Rattle.hsr_world.specs.Spans.{Span}
 use Rattle.hsr_world.specs.Origin.{EachCopy, is_injected}
 use Rattle.hsr_world.specs.Reached.{IsReached}
 use Rattle.hsr_world.specs.World.{World, new_world}
@@ -35,24 +35,24 @@ joined_back places (link ∷ links) h = ap₂ (λ (x : List End) (xs : List (Lis
     one (a ∷ b ∷ []) join = refl
     one (a ∷ b ∷ c ∷ ends) join = absurd join
 
-ends_by_wires : (lines : List Line) → links_of lines ≡ map ends_in (map wire lines)
+ends_by_wires : (spans : List Span) → links_of spans ≡ map ends_in (map wire spans)
 ends_by_wires [] = refl
-ends_by_wires (line ∷ lines) = ap (λ (xs : List (List End)). ends_of line ∷ xs) (ends_by_wires lines)
+ends_by_wires (span ∷ spans) = ap (λ (xs : List (List End)). ends_of span ∷ xs) (ends_by_wires spans)
 
 -- the links of a world are those of its topology
-pub same_links : (capacity : ℕ) (places : List Place) (links : List (List End)) (w : World) → IsWired places links → IsReached capacity places links w → links_of w.lines ≡ links
+pub same_links : (capacity : ℕ) (places : List Place) (links : List (List End)) (w : World) → IsWired places links → IsReached capacity places links w → links_of w.spans ≡ links
 same_links capacity places links w wired r =
-    ends_by_wires w.lines
-    ∙ ap (λ (v : World). map ends_in (map wire v.lines)) (sym r.is)
+    ends_by_wires w.spans
+    ∙ ap (λ (v : World). map ends_in (map wire v.spans)) (sym r.is)
     ∙ ap (map ends_in) ((run_keeps capacity r.steps (new_world r.room places links)).wires ∙ first_wires r.room links)
     ∙ joined_back places links (recursion_from_All (IsJoin places) links wired.joined)
 
-pub own_of : (capacity : ℕ) (places : List Place) (links : List (List End)) (w : World) → IsWired places links → IsReached capacity places links w → is_injected w.lines ≡ false → IsOwn capacity places links w
+pub own_of : (capacity : ℕ) (places : List Place) (links : List (List End)) (w : World) → IsWired places links → IsReached capacity places links w → is_injected w.spans ≡ false → IsOwn capacity places links w
 own_of capacity places links w wired r none = record { wired = wired; reached = r; frames = frames_reached capacity places links w r r.fit_places r.fit_steps; own = none }
 
 pub lawful : (capacity : ℕ) (places : List Place) (links : List (List End)) (w : World) → IsWired places links → IsReached capacity places links w → IsLawful capacity w
 lawful capacity places links w wired r =
-    let same : links ≡ links_of w.lines = sym (same_links capacity places links w wired r) in record {
+    let same : links ≡ links_of w.spans = sym (same_links capacity places links w wired r) in record {
       sound = subst (IsSound capacity) r.is (always_sound capacity r.steps (new_world r.room places links) (first_sound capacity r.room places links wired));
       planned = subst (λ (ls : List (List End)). IsPlanned (run_of capacity ls w) w.plan) same (always_planned capacity places links w r);
       of_send = λ none. subst (λ (ls : List (List End)). EachCopy (IsOfSend (run_of capacity ls w)) w) same (always_of_send capacity places links w (own_of capacity places links w wired r none));

@@ -18,8 +18,8 @@ use Rattle.hsr_node.specs.declared.event.StepFault.{StepFault}
 use Rattle.hsr_topology.specs.Links.{is_same_end}
 use Rattle.hsr_law.specs.Run.{record_in}
 use Rattle.hsr_topology.specs.declared.end.End.{End}
-use Rattle.hsr_world.specs.Lines.{Line, Lane, Spot, held_in, lane_of, lanes_of, spot_from}
-use Rattle.hsr_world.specs.World.{World, and_added, cleared, entered, has_link, has_node, has_port, injected_at, judged_at, line_at, or_same, owner_at, planned, port_worker, put_at, put_from, record_at, run, take_to, taken_by, tried, with_line}
+use Rattle.hsr_world.specs.Spans.{Span, Lane, Spot, held_in, lane_of, lanes_of, spot_from}
+use Rattle.hsr_world.specs.World.{World, and_added, cleared, entered, has_link, has_node, has_port, injected_at, judged_at, span_at, or_same, owner_at, planned, port_worker, put_at, put_from, record_at, run, take_to, taken_by, tried, with_span}
 use Rattle.hsr_step.specs.declared.step.Step.{Step}
 use Rattle.hsr_step.specs.declared.step.Step.TheVariants.{Clock, Send, Supervise, Age, Put, Take, Judge, Cut, Mend, Inject}
 use Rattle.hsr_step.specs.declared.step.WorldFault.{WorldFault}
@@ -38,12 +38,12 @@ is_led_to wires end = list_any (leads_to end) wires
 abbrev pub IsLinked : List Wire → List (List Entry) → Type 0
 IsLinked wires records = (n port : ℕ) → (is_led_to wires (record { node = n; port = port }) ≡ true) ⊎ (arrivals port (record_in records n) ≡ [])
 
-held_leads : (end : End) (lines : List Line) (c : Carried) → held_in end (lanes_of lines) ≡ Some c → is_led_to (map wire lines) end ≡ true
+held_leads : (end : End) (spans : List Span) (c : Carried) → held_in end (lanes_of spans) ≡ Some c → is_led_to (map wire spans) end ≡ true
 held_leads end [] c h = absurd cc
-held_leads end (line ∷ lines) c h = by_case (is_same_end line.forth.to end) (is_same_end line.back.to end) h (λ e. held_leads end lines c e)
+held_leads end (span ∷ spans) c h = by_case (is_same_end span.forth.to end) (is_same_end span.back.to end) h (λ e. held_leads end spans c e)
   where
-    by_case : (f b : Bool) → (if f then line.forth.hand else (if b then line.back.hand else held_in end (lanes_of lines))) ≡ Some c →
-        (held_in end (lanes_of lines) ≡ Some c → is_led_to (map wire lines) end ≡ true) → ((f || b) || is_led_to (map wire lines) end) ≡ true
+    by_case : (f b : Bool) → (if f then span.forth.hand else (if b then span.back.hand else held_in end (lanes_of spans))) ≡ Some c →
+        (held_in end (lanes_of spans) ≡ Some c → is_led_to (map wire spans) end ≡ true) → ((f || b) || is_led_to (map wire spans) end) ≡ true
     by_case true b h rest = refl
     by_case false true h rest = refl
     by_case false false h rest = rest h
@@ -96,23 +96,23 @@ linked_entered capacity wires v w worker n e below came h before = by_case (answ
     by_case (Err fault) = before
     by_case (Ok o) = linked_added wires w.records n (entry_of w worker e o) below came h
 
-linked_judged : (capacity : ℕ) (w : World) (end : End) → end.node < length w.records → IsLinked (map wire w.lines) w.records →
-    IsLinked (map wire w.lines) (or_same w (judged_at capacity w end (held_in end (lanes_of w.lines)))).records
-linked_judged capacity w end below h = by_case (held_in end (lanes_of w.lines)) refl
+linked_judged : (capacity : ℕ) (w : World) (end : End) → end.node < length w.records → IsLinked (map wire w.spans) w.records →
+    IsLinked (map wire w.spans) (or_same w (judged_at capacity w end (held_in end (lanes_of w.spans)))).records
+linked_judged capacity w end below h = by_case (held_in end (lanes_of w.spans)) refl
   where
     port_is : (m k : ℕ) (x y : Carried) → event.Arrive m x ≡ event.Arrive k y → m ≡ k
     port_is m k x y e = cc
 
-    by_case : (held : Option Carried) → held_in end (lanes_of w.lines) ≡ held → IsLinked (map wire w.lines) (or_same w (judged_at capacity w end held)).records
+    by_case : (held : Option Carried) → held_in end (lanes_of w.spans) ≡ held → IsLinked (map wire w.spans) (or_same w (judged_at capacity w end held)).records
     by_case None e = h
     by_case (Some c) e =
-        linked_entered capacity (map wire w.lines) w (cleared w end) (port_worker end) end.node (event.Arrive end.port c) below
-        (λ port d is. subst (λ p. is_led_to (map wire w.lines) (record { node = end.node; port = p }) ≡ true) (port_is end.port port c d is) (held_leads end w.lines c e)) h h
+        linked_entered capacity (map wire w.spans) w (cleared w end) (port_worker end) end.node (event.Arrive end.port c) below
+        (λ port d is. subst (λ p. is_led_to (map wire w.spans) (record { node = end.node; port = p }) ≡ true) (port_is end.port port c d is) (held_leads end w.spans c e)) h h
 
 -- the steps on links do nothing at a node
 pub same_put : (w : World) (spot : Option Spot) → (or_same w (put_at w spot)).records ≡ w.records
 same_put w None = refl
-same_put w (Some s) = by_case (lane_of s.dir (line_at w s.link)).outbox
+same_put w (Some s) = by_case (lane_of s.dir (span_at w s.link)).outbox
   where
     by_case : (box : List Carried) → (or_same w (put_from w s box)).records ≡ w.records
     by_case [] = refl
@@ -120,16 +120,16 @@ same_put w (Some s) = by_case (lane_of s.dir (line_at w s.link)).outbox
 
 pub same_take : (w : World) (l : ℕ) (dir : Dir) (hand : Option Carried) → (or_same w (take_to w l dir hand)).records ≡ w.records
 same_take w l dir (Some held) = refl
-same_take w l dir None = of_queue (first_copy dir (line_at w l).link.rows)
+same_take w l dir None = of_queue (first_copy dir (span_at w l).link.rows)
   where
-    of_queue : (first : Option Carried) → (or_same w (taken_by w l dir (first, (take_step (line_at w l).link dir).1))).records ≡ w.records
+    of_queue : (first : Option Carried) → (or_same w (taken_by w l dir (first, (take_step (span_at w l).link dir).1))).records ≡ w.records
     of_queue None = refl
     of_queue (Some c) = refl
 
 pub same_injected : (w : World) (l : ℕ) (dir : Dir) (octets : List ℕ) → (or_same w (injected_at w l dir octets)).records ≡ w.records
 same_injected w l dir octets = by_case (nat_lt 2048 (length octets))
   where
-    by_case : (b : Bool) → (or_same w (if b then Err TooLong else Ok (with_line w l (Rattle.hsr_world.specs.Lines.with_link (inject_step (line_at w l).link dir (record { probe = None; octets = octets })).1 (line_at w l))))).records ≡ w.records
+    by_case : (b : Bool) → (or_same w (if b then Err TooLong else Ok (with_span w l (Rattle.hsr_world.specs.Spans.with_link (inject_step (span_at w l).link dir (record { probe = None; octets = octets })).1 (span_at w l))))).records ≡ w.records
     by_case true = refl
     by_case false = refl
 
@@ -140,7 +140,7 @@ met wires w false r f h k = h
 unchanged : (wires : List Wire) (old new : List (List Entry)) → new ≡ old → IsLinked wires old → IsLinked wires new
 unchanged wires old new e h = subst (IsLinked wires) (sym e) h
 
-linked_step : (capacity : ℕ) (w : World) (step : Step) → IsSound capacity w → IsLinked (map wire w.lines) w.records → IsLinked (map wire w.lines) (or_same w (tried capacity w step)).records
+linked_step : (capacity : ℕ) (w : World) (step : Step) → IsSound capacity w → IsLinked (map wire w.spans) w.records → IsLinked (map wire w.spans) (or_same w (tried capacity w step)).records
 unfolding tried
 linked_step capacity w (Clock at) s h = h
 linked_step capacity w (Send n from dst vlan kind payload) s h =
@@ -149,15 +149,15 @@ linked_step capacity w (Supervise n about) s h =
     met _ w (has_node w n) _ _ h (λ e. linked_entered capacity _ w (planned w n (event.Supervise about)) 0 n (event.Supervise about) (node_below capacity w n s e) (λ x c e. absurd (cc)) h h)
 linked_step capacity w (Age n) s h = met _ w (has_node w n) _ _ h (λ e. linked_entered capacity _ w (planned w n event.Age) 0 n event.Age (node_below capacity w n s e) (λ x c e. absurd (cc)) h h)
 linked_step capacity w (Put n port) s h =
-    met _ w (has_node w n) _ _ h (λ e. met _ w (has_port w n port) _ _ h (λ f. unchanged _ w.records _ (same_put w (spot_from (record { node = n; port = port }) 0 w.lines)) h))
-linked_step capacity w (Take l dir) s h = met _ w (has_link w l) _ _ h (λ e. unchanged _ w.records _ (same_take w l dir (lane_of dir (line_at w l)).hand) h)
+    met _ w (has_node w n) _ _ h (λ e. met _ w (has_port w n port) _ _ h (λ f. unchanged _ w.records _ (same_put w (spot_from (record { node = n; port = port }) 0 w.spans)) h))
+linked_step capacity w (Take l dir) s h = met _ w (has_link w l) _ _ h (λ e. unchanged _ w.records _ (same_take w l dir (lane_of dir (span_at w l)).hand) h)
 linked_step capacity w (Judge n port) s h =
     met _ w (has_node w n) _ _ h (λ e. met _ w (has_port w n port) _ _ h (λ f. linked_judged capacity w (record { node = n; port = port }) (node_below capacity w n s e) h))
 linked_step capacity w (Cut l) s h = met _ w (has_link w l) _ _ h (λ e. h)
 linked_step capacity w (Mend l) s h = met _ w (has_link w l) _ _ h (λ e. h)
 linked_step capacity w (Inject l dir octets) s h = met _ w (has_link w l) _ _ h (λ e. unchanged _ w.records _ (same_injected w l dir octets) h)
 
-pub linked_run : (capacity : ℕ) (steps : List Step) (w : World) → IsSound capacity w → IsLinked (map wire w.lines) w.records → IsLinked (map wire (run capacity steps w).lines) (run capacity steps w).records
+pub linked_run : (capacity : ℕ) (steps : List Step) (w : World) → IsSound capacity w → IsLinked (map wire w.spans) w.records → IsLinked (map wire (run capacity steps w).spans) (run capacity steps w).records
 linked_run capacity [] w s h = h
 linked_run capacity (step ∷ steps) w s h =
     let after = or_same w (tried capacity w step) in

@@ -37,16 +37,16 @@ use Rattle.hsr_law.proofs.Records.{Answered, legal_each}
 use Rattle.hsr_law.proofs.Views.{judged}
 use Rattle.hsr_world.specs.Closing.{AreFrames}
 use Rattle.hsr_world.specs.Law.{IsSound}
-use Rattle.hsr_world.specs.Lines.{Lane, Line, Spot, emptied, gift, held_in, lane_of, lanes_of, on_lanes, spot_from, spread, with_lane, with_link}
-use Rattle.hsr_world.specs.Origin.{EachCopy, InLine, has_injected, is_injected}
-use Rattle.hsr_world.specs.World.{World, added, and_added, cleared, entered, has_link, has_node, has_port, injected_at, judged_at, line_at, or_same, owner_at, planned, port_worker, put_at, put_from, record_at, take_to, taken_by, tried, with_line}
+use Rattle.hsr_world.specs.Spans.{Lane, Span, Spot, emptied, gift, held_in, lane_of, lanes_of, on_lanes, spot_from, spread, with_lane, with_link}
+use Rattle.hsr_world.specs.Origin.{EachCopy, InSpan, has_injected, is_injected}
+use Rattle.hsr_world.specs.World.{World, added, and_added, cleared, entered, has_link, has_node, has_port, injected_at, judged_at, span_at, or_same, owner_at, planned, port_worker, put_at, put_from, record_at, take_to, taken_by, tried, with_span}
 use Rattle.hsr_step.specs.declared.step.Step.{Step}
 use Rattle.hsr_step.specs.declared.step.Step.TheVariants.{Clock, Send, Supervise, Age, Put, Take, Judge, Cut, Mend, Inject}
 use Rattle.hsr_step.specs.declared.step.WorldFault.{WorldFault}
 use Rattle.hsr_step.specs.declared.step.WorldFault.TheVariants.{TooLong}
 use Rattle.hsr_world.proofs.Keeps.{all_mapped, all_replaced, below_by, entry_of, node_below}
 use Rattle.hsr_world.proofs.Numbering.{IsFirst, IsNew, each_kept, first_kept, first_number, none_given, numbered, station_seq}
-use Rattle.hsr_world.proofs.Origin.{all_came, all_cons_option, held_is, in_cut, in_emptied, in_lanes, in_mended, in_put, in_taken, injected_here, injected_last, injected_lost, injected_mapped, injected_more, injected_set, injected_turned, line_implied}
+use Rattle.hsr_world.proofs.Origin.{all_came, all_cons_option, held_is, in_cut, in_emptied, in_lanes, in_mended, in_put, in_taken, injected_here, injected_last, injected_lost, injected_mapped, injected_more, injected_set, injected_turned, span_implied}
 use Rattle.hsr_world.proofs.Passing.{IsCopyOf, NumberedAs, copy_kept, numbers_fit, passed_copy, sent_kept}
 use Rattle.hsr_world.proofs.Single.{IsNumbered, held_by, is_fresh, numbered_came}
 use Rattle.hsr_world.proofs.Wires.{WiredWell, wire}
@@ -57,74 +57,74 @@ pub record Holds (links : List (List End)) (w : World) : Type 0 where
 
 -- where nothing was injected, and sends are frames
 abbrev pub HoldsOwn : List (List End) → World → Type 0
-HoldsOwn links w = is_injected w.lines ≡ false → AreFrames w.places w.records → Holds links w
+HoldsOwn links w = is_injected w.spans ≡ false → AreFrames w.places w.records → Holds links w
 
 not_before : (a b : Bool) → (a ≡ true → b ≡ true) → b ≡ false → a ≡ false
 not_before false b f h = refl
 not_before true b f h = absurd (false≢true (sym h ∙ f refl))
 
--- ---- one line is changed
+-- ---- one span is changed
 
-holds_line : (links : List (List End)) (w : World) (l : ℕ) (line : Line) → (has_injected (line_at w l) ≡ true → has_injected line ≡ true) →
-    ((P : Carried → Type 0) → InLine P (line_at w l) → InLine P line) → HoldsOwn links w → HoldsOwn links (with_line w l line)
-holds_line links w l line more within h none frames =
-    let before = h (not_before (is_injected w.lines) (is_injected (set w.lines l line)) (injected_set w.lines l _ line more) none) frames in
+holds_span : (links : List (List End)) (w : World) (l : ℕ) (span : Span) → (has_injected (span_at w l) ≡ true → has_injected span ≡ true) →
+    ((P : Carried → Type 0) → InSpan P (span_at w l) → InSpan P span) → HoldsOwn links w → HoldsOwn links (with_span w l span)
+holds_span links w l span more within h none frames =
+    let before = h (not_before (is_injected w.spans) (is_injected (set w.spans l span)) (injected_set w.spans l _ span more) none) frames in
     let P : Carried → Type 0 = IsCopyOf w.places w.records links in
     record {
-      copies = record { lines = all_replaced (InLine P) w.lines l _ line (within P) before.copies.lines; came = before.copies.came };
+      copies = record { spans = all_replaced (InSpan P) w.spans l _ span (within P) before.copies.spans; came = before.copies.came };
       first = before.first;
     }
 
 holds_put : (links : List (List End)) (w : World) (spot : Option Spot) → HoldsOwn links w → HoldsOwn links (or_same w (put_at w spot))
 holds_put links w None h = h
-holds_put links w (Some s) h = by_case (lane_of s.dir (line_at w s.link)).outbox refl
+holds_put links w (Some s) h = by_case (lane_of s.dir (span_at w s.link)).outbox refl
   where
-    rows_of : (dir : Dir) (lane : Lane) (line : Line) (link : Link) → (with_link link (with_lane dir lane line)).link.rows ≡ link.rows
-    rows_of Forth lane line link = refl
-    rows_of Back lane line link = refl
+    rows_of : (dir : Dir) (lane : Lane) (span : Span) (link : Link) → (with_link link (with_lane dir lane span)).link.rows ≡ link.rows
+    rows_of Forth lane span link = refl
+    rows_of Back lane span link = refl
 
-    by_case : (box : List Carried) → (lane_of s.dir (line_at w s.link)).outbox ≡ box → HoldsOwn links (or_same w (put_from w s box))
+    by_case : (box : List Carried) → (lane_of s.dir (span_at w s.link)).outbox ≡ box → HoldsOwn links (or_same w (put_from w s box))
     by_case [] e = h
     by_case (c ∷ cs) e =
-        let line = line_at w s.link in
-        let lane : Lane = record (lane_of s.dir line) { outbox = cs } in
-        let link = (put_step line.link s.dir c).1 in
-        holds_line links w s.link (with_link link (with_lane s.dir lane line))
-        (λ i. ap (λ (rows : List Row). list_any (λ (row : Row). row.injected) rows) (rows_of s.dir lane line link) ∙ injected_more line.link.rows _ i)
-        (λ P. in_put P line s.dir c cs e) h
+        let span = span_at w s.link in
+        let lane : Lane = record (lane_of s.dir span) { outbox = cs } in
+        let link = (put_step span.link s.dir c).1 in
+        holds_span links w s.link (with_link link (with_lane s.dir lane span))
+        (λ i. ap (λ (rows : List Row). list_any (λ (row : Row). row.injected) rows) (rows_of s.dir lane span link) ∙ injected_more span.link.rows _ i)
+        (λ P. in_put P span s.dir c cs e) h
 
-holds_take : (links : List (List End)) (w : World) (l : ℕ) (dir : Dir) → HoldsOwn links w → HoldsOwn links (or_same w (take_to w l dir (lane_of dir (line_at w l)).hand))
-holds_take links w l dir h = by_case (lane_of dir (line_at w l)).hand
+holds_take : (links : List (List End)) (w : World) (l : ℕ) (dir : Dir) → HoldsOwn links w → HoldsOwn links (or_same w (take_to w l dir (lane_of dir (span_at w l)).hand))
+holds_take links w l dir h = by_case (lane_of dir (span_at w l)).hand
   where
-    rows_of : (dir : Dir) (lane : Lane) (line : Line) (link : Link) → (with_link link (with_lane dir lane line)).link.rows ≡ link.rows
-    rows_of Forth lane line link = refl
-    rows_of Back lane line link = refl
+    rows_of : (dir : Dir) (lane : Lane) (span : Span) (link : Link) → (with_link link (with_lane dir lane span)).link.rows ≡ link.rows
+    rows_of Forth lane span link = refl
+    rows_of Back lane span link = refl
 
-    of_queue : (first : Option Carried) → first_copy dir (line_at w l).link.rows ≡ first → HoldsOwn links (or_same w (taken_by w l dir (first, (take_step (line_at w l).link dir).1)))
+    of_queue : (first : Option Carried) → first_copy dir (span_at w l).link.rows ≡ first → HoldsOwn links (or_same w (taken_by w l dir (first, (take_step (span_at w l).link dir).1)))
     of_queue None e = h
     of_queue (Some c) e =
-        let line = line_at w l in
-        let lane : Lane = record (lane_of dir line) { hand = Some c } in
-        let link = (take_step line.link dir).1 in
-        holds_line links w l (with_link link (with_lane dir lane line))
-        (λ i. ap (λ (rows : List Row). list_any (λ (row : Row). row.injected) rows) (rows_of dir lane line link) ∙ (injected_turned Taken dir line.link.rows ∙ i))
-        (λ P. in_taken P line dir c e) h
+        let span = span_at w l in
+        let lane : Lane = record (lane_of dir span) { hand = Some c } in
+        let link = (take_step span.link dir).1 in
+        holds_span links w l (with_link link (with_lane dir lane span))
+        (λ i. ap (λ (rows : List Row). list_any (λ (row : Row). row.injected) rows) (rows_of dir lane span link) ∙ (injected_turned Taken dir span.link.rows ∙ i))
+        (λ P. in_taken P span dir c e) h
 
     by_case : (hand : Option Carried) → HoldsOwn links (or_same w (take_to w l dir hand))
     by_case (Some held) = h
-    by_case None = of_queue (first_copy dir (line_at w l).link.rows) refl
+    by_case None = of_queue (first_copy dir (span_at w l).link.rows) refl
 
 -- what is injected is no run's own
-holds_injected : (links : List (List End)) (w : World) (l : ℕ) (dir : Dir) (octets : List ℕ) → l < length w.lines → HoldsOwn links w → HoldsOwn links (or_same w (injected_at w l dir octets))
+holds_injected : (links : List (List End)) (w : World) (l : ℕ) (dir : Dir) (octets : List ℕ) → l < length w.spans → HoldsOwn links w → HoldsOwn links (or_same w (injected_at w l dir octets))
 holds_injected links w l dir octets below h = by_case (nat_lt 2048 (length octets))
   where
-    by_case : (b : Bool) → HoldsOwn links (or_same w (if b then Err TooLong else Ok (with_line w l (with_link (inject_step (line_at w l).link dir (record { probe = None; octets = octets })).1 (line_at w l)))))
+    by_case : (b : Bool) → HoldsOwn links (or_same w (if b then Err TooLong else Ok (with_span w l (with_link (inject_step (span_at w l).link dir (record { probe = None; octets = octets })).1 (span_at w l)))))
     by_case true = h
     by_case false = λ none frames.
         let c : Carried = record { probe = None; octets = octets } in
-        let line = line_at w l in
-        let after : Line = with_link (inject_step line.link dir c).1 line in
-        absurd (false≢true (sym none ∙ injected_here w.lines l after below (injected_last line.link.rows _ refl)))
+        let span = span_at w l in
+        let after : Span = with_link (inject_step span.link dir c).1 span in
+        absurd (false≢true (sym none ∙ injected_here w.spans l after below (injected_last span.link.rows _ refl)))
 
 -- ---- an entry is added
 
@@ -136,12 +136,12 @@ gifts P owner x past f lane = by_case (lane.from.node == owner.number) (pass_of 
     by_case true (Some c) e = (f lane.from.port c e, tt)
     by_case false o e = tt
 
-spread_in : (P : Carried → Type 0) (owner : Owner) (x : Entry) (past : List Entry) → ((port : ℕ) (c : Carried) → pass_of owner port x past ≡ Some c → P c) → (line : Line) → InLine P line →
-    InLine P (on_lanes (spread owner x past) line)
-spread_in P owner x past f line h = record {
+spread_in : (P : Carried → Type 0) (owner : Owner) (x : Entry) (past : List Entry) → ((port : ℕ) (c : Carried) → pass_of owner port x past ≡ Some c → P c) → (span : Span) → InSpan P span →
+    InSpan P (on_lanes (spread owner x past) span)
+spread_in P owner x past f span h = record {
   rows = h.rows;
-  forth = record { outbox = all_append P line.forth.outbox _ h.forth.outbox (gifts P owner x past f line.forth); hand = h.forth.hand };
-  back = record { outbox = all_append P line.back.outbox _ h.back.outbox (gifts P owner x past f line.back); hand = h.back.hand };
+  forth = record { outbox = all_append P span.forth.outbox _ h.forth.outbox (gifts P owner x past f span.forth); hand = h.forth.hand };
+  back = record { outbox = all_append P span.back.outbox _ h.back.outbox (gifts P owner x past f span.back); hand = h.back.hand };
 }
 
 -- each copy then, by what leaves and what came
@@ -149,8 +149,8 @@ copies_added : (P Q : Carried → Type 0) (w : World) (n : ℕ) (x : Entry) → 
     ((port : ℕ) (c : Carried) → pass_of (owner_at w n) port x (record_at w n) ≡ Some c → Q c) → ((m : ℕ) (c : Carried) → x.event ≡ event.Arrive m c → Q c) →
     EachCopy P w → EachCopy Q (added w n x)
 copies_added P Q w n x below kept left came h = record {
-  lines = all_mapped (InLine Q) (InLine Q) (on_lanes (spread (owner_at w n) x (record_at w n))) (spread_in Q (owner_at w n) x (record_at w n) left) w.lines
-      (all_implied (InLine P) (InLine Q) (line_implied P Q kept) w.lines h.lines);
+  spans = all_mapped (InSpan Q) (InSpan Q) (on_lanes (spread (owner_at w n) x (record_at w n))) (spread_in Q (owner_at w n) x (record_at w n) left) w.spans
+      (all_implied (InSpan P) (InSpan Q) (span_implied P Q kept) w.spans h.spans);
   came = λ m port. ⊎_elim
       (λ same. subst (λ k. AllByRecursion Q (arrivals port (record_in (set w.records n (x ∷ record_at w n)) k))) (sym (eqb-true m n same))
       (subst (λ (all : List Entry). AllByRecursion Q (arrivals port all)) (sym (get_or-set_same w.records n (x ∷ record_at w n) [] below))
@@ -241,14 +241,14 @@ frames_before : (places : List Place) (records : List (List Entry)) (n : ℕ) (x
 frames_before places records n x below frames send s sent = frames send s (sent_kept places records n x send s below sent)
 
 holds_entered : (capacity : ℕ) (links : List (List End)) (v w : World) (worker n : ℕ) (e : Event) → n < length w.records → Each (Answered capacity (owner_at w n)) (record_at w n) →
-    ((o : Outcome) → answer capacity (owner_at w n) (record_at w n) (max (now (record_at w n)) w.moment) e ≡ Ok o → is_injected w.lines ≡ false → AreFrames w.places w.records → Arrived links w n e o) →
+    ((o : Outcome) → answer capacity (owner_at w n) (record_at w n) (max (now (record_at w n)) w.moment) e ≡ Ok o → is_injected w.spans ≡ false → AreFrames w.places w.records → Arrived links w n e o) →
     HoldsOwn links w → HoldsOwn links v → HoldsOwn links (or_same v (entered capacity w worker n e))
 holds_entered capacity links v w worker n e below legal arrived h before = by_case (answer capacity (owner_at w n) (record_at w n) (max (now (record_at w n)) w.moment) e) refl
   where
     by_case : (r : Result Outcome StepFault) → answer capacity (owner_at w n) (record_at w n) (max (now (record_at w n)) w.moment) e ≡ r → HoldsOwn links (or_same v (and_added w worker n e r))
     by_case (Err fault) is = before
     by_case (Ok o) is = λ none frames.
-        let own : is_injected w.lines ≡ false = sym (injected_mapped (spread (owner_at w n) (entry_of w worker e o) (record_at w n)) w.lines) ∙ none in
+        let own : is_injected w.spans ≡ false = sym (injected_mapped (spread (owner_at w n) (entry_of w worker e o) (record_at w n)) w.spans) ∙ none in
         let earlier = frames_before w.places w.records n (entry_of w worker e o) below frames in
         holds_added capacity links w worker n e o below is legal frames (arrived o is own earlier) (h own earlier)
 
@@ -256,18 +256,18 @@ holds_entered capacity links v w worker n e below legal arrived h before = by_ca
 
 holds_cleared : (links : List (List End)) (w : World) (end : End) → HoldsOwn links w → HoldsOwn links (cleared w end)
 holds_cleared links w end h none frames =
-    let before = h (sym (injected_mapped (emptied end) w.lines) ∙ none) frames in
+    let before = h (sym (injected_mapped (emptied end) w.spans) ∙ none) frames in
     let P : Carried → Type 0 = IsCopyOf w.places w.records links in
     record {
-      copies = record { lines = all_mapped (InLine P) (InLine P) (on_lanes (emptied end)) (in_emptied P end) w.lines before.copies.lines; came = before.copies.came };
+      copies = record { spans = all_mapped (InSpan P) (InSpan P) (on_lanes (emptied end)) (in_emptied P end) w.spans before.copies.spans; came = before.copies.came };
       first = before.first;
     }
 
 -- what gets a number at an interlink is new there
-new_there : (capacity : ℕ) (links : List (List End)) (w : World) (end : End) (c : Carried) → IsSound capacity w → is_injected w.lines ≡ false → AllByRecursion (WiredWell w.places links) (map wire w.lines) →
-    held_in end (lanes_of w.lines) ≡ Some c → IsCopyOf w.places w.records links c → IsNumbered (owner_at w end.node).place end.port (classified c.octets) → IsNew w.places w.records links end.node c
+new_there : (capacity : ℕ) (links : List (List End)) (w : World) (end : End) (c : Carried) → IsSound capacity w → is_injected w.spans ≡ false → AllByRecursion (WiredWell w.places links) (map wire w.spans) →
+    held_in end (lanes_of w.spans) ≡ Some c → IsCopyOf w.places w.records links c → IsNumbered (owner_at w end.node).place end.port (classified c.octets) → IsNew w.places w.records links end.node c
 new_there capacity links w end c sound none wired held q numbered =
-    let h = held_by w.places w.records links end c w.lines held sound.agree none wired in
+    let h = held_by w.places w.records links end c w.spans held sound.agree none wired in
     let box : slice_index_or w.places h.lane.to.node QuadBox ≡ RedBox numbered.mac numbered.mode = ap (λ (to : End). slice_index_or w.places to.node QuadBox) h.to ∙ numbered.box in
     let from = h.faces.station numbered.mac numbered.mode box (ap (λ (to : End). to.port) h.to ∙ numbered.interlink) in
     let station : is_a_station (Some (owner_in w.places h.lane.from.node).place) ≡ true = ap (λ (p : Place). is_a_station (Some p)) from.station in
@@ -294,26 +294,26 @@ new_there capacity links w end c sound none wired held q numbered =
     begins : (from : End) (n : ℕ) → from.port ≡ 0 → n ≡ from.node → from ≡ record { node = n; port = 0 }
     begins from n port node = λ i. record { node = sym node i; port = port i }
 
-holds_judged : (capacity : ℕ) (links : List (List End)) (w : World) (end : End) → end.node < length w.records → IsSound capacity w → AllByRecursion (WiredWell w.places links) (map wire w.lines) →
-    HoldsOwn links w → HoldsOwn links (or_same w (judged_at capacity w end (held_in end (lanes_of w.lines))))
-holds_judged capacity links w end below sound wired h = by_case (held_in end (lanes_of w.lines)) refl
+holds_judged : (capacity : ℕ) (links : List (List End)) (w : World) (end : End) → end.node < length w.records → IsSound capacity w → AllByRecursion (WiredWell w.places links) (map wire w.spans) →
+    HoldsOwn links w → HoldsOwn links (or_same w (judged_at capacity w end (held_in end (lanes_of w.spans))))
+holds_judged capacity links w end below sound wired h = by_case (held_in end (lanes_of w.spans)) refl
   where
     same : (m k : ℕ) (a b : Carried) → event.Arrive m a ≡ event.Arrive k b → a ≡ b
     same m k a b e = cc
 
-    by_case : (held : Option Carried) → held_in end (lanes_of w.lines) ≡ held → HoldsOwn links (or_same w (judged_at capacity w end held))
+    by_case : (held : Option Carried) → held_in end (lanes_of w.spans) ≡ held → HoldsOwn links (or_same w (judged_at capacity w end held))
     by_case None e = h
     by_case (Some c) e =
         holds_entered capacity links w (cleared w end) (port_worker end) end.node (event.Arrive end.port c) below
         (legal_each capacity (owner_at w end.node) (record_at w end.node) (sound.legal end.node)) arrived (holds_cleared links w end h) h
       where
         arrived : (o : Outcome) → answer capacity (owner_at w end.node) (record_at w end.node) (max (now (record_at w end.node)) w.moment) (event.Arrive end.port c) ≡ Ok o →
-            is_injected (cleared w end).lines ≡ false → AreFrames w.places w.records → Arrived links (cleared w end) end.node (event.Arrive end.port c) o
+            is_injected (cleared w end).spans ≡ false → AreFrames w.places w.records → Arrived links (cleared w end) end.node (event.Arrive end.port c) o
         arrived o ok none frames m d is =
-            let own : is_injected w.lines ≡ false = sym (injected_mapped (emptied end) w.lines) ∙ none in
+            let own : is_injected w.spans ≡ false = sym (injected_mapped (emptied end) w.spans) ∙ none in
             let P : Carried → Type 0 = IsCopyOf w.places w.records links in
             let N : Carried → Type 0 = λ x. IsCopyOf w.places w.records links x × ((k : ℕ) → number_in o ≡ Some k → IsNew w.places w.records links end.node x) in
-            let here : IsCopyOf w.places w.records links c = held_is P end (lanes_of w.lines) c e (in_lanes P w.lines (h own frames).copies.lines) in
+            let here : IsCopyOf w.places w.records links c = held_is P end (lanes_of w.spans) c e (in_lanes P w.spans (h own frames).copies.spans) in
             subst N (same end.port m c d is) (
               here,
               λ k number.
@@ -329,27 +329,27 @@ holds_own : (capacity : ℕ) (links : List (List End)) (w : World) (n : ℕ) (e 
     HoldsOwn links (or_same w (entered capacity (planned w n e) 0 n e))
 holds_own capacity links w n e below away sound h =
     holds_entered capacity links w (planned w n e) 0 n e below (legal_each capacity (owner_at w n) (record_at w n) (sound.legal n)) (λ o ok none frames m copy same. absurd (away m copy same))
-    (λ none frames. let before = h none frames in record { copies = record { lines = before.copies.lines; came = before.copies.came }; first = before.first }) h
+    (λ none frames. let before = h none frames in record { copies = record { spans = before.copies.spans; came = before.copies.came }; first = before.first }) h
 
 met : (links : List (List End)) (w : World) (b : Bool) (r : Result World WorldFault) (f : WorldFault) → HoldsOwn links w → (b ≡ true → HoldsOwn links (or_same w r)) → HoldsOwn links (or_same w (if b then r else Err f))
 met links w true r f h k = k refl
 met links w false r f h k = h
 
-pub holds_step : (capacity : ℕ) (links : List (List End)) (w : World) (step : Step) → IsSound capacity w → AllByRecursion (WiredWell w.places links) (map wire w.lines) → HoldsOwn links w →
+pub holds_step : (capacity : ℕ) (links : List (List End)) (w : World) (step : Step) → IsSound capacity w → AllByRecursion (WiredWell w.places links) (map wire w.spans) → HoldsOwn links w →
     HoldsOwn links (or_same w (tried capacity w step))
 unfolding tried
-holds_step capacity links w (Clock at) s wired h = λ none frames. let before = h none frames in record { copies = record { lines = before.copies.lines; came = before.copies.came }; first = before.first }
+holds_step capacity links w (Clock at) s wired h = λ none frames. let before = h none frames in record { copies = record { spans = before.copies.spans; came = before.copies.came }; first = before.first }
 holds_step capacity links w (Send n from dst vlan kind payload) s wired h =
     met links w (has_node w n) _ _ h (λ e. holds_own capacity links w n (event.Send from dst vlan kind payload) (node_below capacity w n s e) (λ x copy e. absurd (cc)) s h)
 holds_step capacity links w (Supervise n about) s wired h =
     met links w (has_node w n) _ _ h (λ e. holds_own capacity links w n (event.Supervise about) (node_below capacity w n s e) (λ x copy e. absurd (cc)) s h)
 holds_step capacity links w (Age n) s wired h = met links w (has_node w n) _ _ h (λ e. holds_own capacity links w n event.Age (node_below capacity w n s e) (λ x copy e. absurd (cc)) s h)
 holds_step capacity links w (Put n port) s wired h =
-    met links w (has_node w n) _ _ h (λ e. met links w (has_port w n port) _ _ h (λ f. holds_put links w (spot_from (record { node = n; port = port }) 0 w.lines) h))
+    met links w (has_node w n) _ _ h (λ e. met links w (has_port w n port) _ _ h (λ f. holds_put links w (spot_from (record { node = n; port = port }) 0 w.spans) h))
 holds_step capacity links w (Take l dir) s wired h = met links w (has_link w l) _ _ h (λ e. holds_take links w l dir h)
 holds_step capacity links w (Judge n port) s wired h =
     met links w (has_node w n) _ _ h
     (λ e. met links w (has_port w n port) _ _ h (λ f. holds_judged capacity links w (record { node = n; port = port }) (node_below capacity w n s e) s wired h))
-holds_step capacity links w (Cut l) s wired h = met links w (has_link w l) _ _ h (λ e. holds_line links w l _ (λ i. injected_lost (line_at w l).link.rows ∙ i) (λ P. in_cut P (line_at w l)) h)
-holds_step capacity links w (Mend l) s wired h = met links w (has_link w l) _ _ h (λ e. holds_line links w l _ (λ i. i) (λ P. in_mended P (line_at w l)) h)
-holds_step capacity links w (Inject l dir octets) s wired h = met links w (has_link w l) _ _ h (λ e. holds_injected links w l dir octets (below_by l (length w.lines) e) h)
+holds_step capacity links w (Cut l) s wired h = met links w (has_link w l) _ _ h (λ e. holds_span links w l _ (λ i. injected_lost (span_at w l).link.rows ∙ i) (λ P. in_cut P (span_at w l)) h)
+holds_step capacity links w (Mend l) s wired h = met links w (has_link w l) _ _ h (λ e. holds_span links w l _ (λ i. i) (λ P. in_mended P (span_at w l)) h)
+holds_step capacity links w (Inject l dir octets) s wired h = met links w (has_link w l) _ _ h (λ e. holds_injected links w l dir octets (below_by l (length w.spans) e) h)

@@ -31,9 +31,9 @@ use Rattle.hsr_node.specs.declared.event.Probe.{Probe}
 use Rattle.hsr_node.specs.declared.event.StepFault.{StepFault}
 use Rattle.hsr_node.specs.declared.place.Place.{Place}
 use Rattle.hsr_world.specs.Law.{IsSound}
-use Rattle.hsr_world.specs.Lines.{Lane, Line, emptied, gift, lane_of, on_lanes, spread, with_lane, with_link, Spot, held_in, lanes_of, spot_from}
-use Rattle.hsr_world.specs.Origin.{AlwaysOrigins, AlwaysSent, EachCopy, HasOrigin, HaveOrigins, InLane, InLine, NamesSend, has_injected, is_injected}
-use Rattle.hsr_world.specs.World.{World, and_added, cleared, entered, has_link, has_node, has_port, injected_at, judged_at, line_at, new_line, new_world, or_same, owner_at, planned, port_worker, put_at, put_from, record_at, take_to, taken_by, tried, with_line}
+use Rattle.hsr_world.specs.Spans.{Lane, Span, emptied, gift, lane_of, on_lanes, spread, with_lane, with_link, Spot, held_in, lanes_of, spot_from}
+use Rattle.hsr_world.specs.Origin.{AlwaysOrigins, AlwaysSent, EachCopy, HasOrigin, HaveOrigins, InLane, InSpan, NamesSend, has_injected, is_injected}
+use Rattle.hsr_world.specs.World.{World, and_added, cleared, entered, has_link, has_node, has_port, injected_at, judged_at, span_at, new_span, new_world, or_same, owner_at, planned, port_worker, put_at, put_from, record_at, take_to, taken_by, tried, with_span}
 use Rattle.hsr_step.specs.declared.step.Step.TheVariants.{Clock, Send, Supervise, Age, Put, Take, Judge, Cut, Mend, Inject}
 use Rattle.hsr_step.specs.declared.step.Step.{Step}
 use Rattle.hsr_step.specs.declared.step.WorldFault.TheVariants.{TooLong}
@@ -47,16 +47,16 @@ pub all_cons_option : {X : Type 0} (P : X → Type 0) (o : Option X) (xs : List 
 all_cons_option P None xs a b = b
 all_cons_option P (Some x) xs a b = (a.0, b)
 
--- ---- one line, any P
+-- ---- one span, any P
 
 lane_implied : (P Q : Carried → Type 0) → ((c : Carried) → P c → Q c) → (lane : Lane) → InLane P lane → InLane Q lane
 lane_implied P Q f lane h = record { outbox = all_implied P Q f lane.outbox h.outbox; hand = all_implied P Q f (option_to_list lane.hand) h.hand }
 
-pub line_implied : (P Q : Carried → Type 0) → ((c : Carried) → P c → Q c) → (line : Line) → InLine P line → InLine Q line
-line_implied P Q f line h = record {
-  rows = all_implied (λ (row : Row). P row.carried) (λ (row : Row). Q row.carried) (λ row p. f row.carried p) line.link.rows h.rows;
-  forth = lane_implied P Q f line.forth h.forth;
-  back = lane_implied P Q f line.back h.back;
+pub span_implied : (P Q : Carried → Type 0) → ((c : Carried) → P c → Q c) → (span : Span) → InSpan P span → InSpan Q span
+span_implied P Q f span h = record {
+  rows = all_implied (λ (row : Row). P row.carried) (λ (row : Row). Q row.carried) (λ row p. f row.carried p) span.link.rows h.rows;
+  forth = lane_implied P Q f span.forth h.forth;
+  back = lane_implied P Q f span.back h.back;
 }
 
 -- a row more
@@ -93,30 +93,30 @@ first_is P dir (r ∷ rows) c h all = by_case (λ e. first_is P dir rows c e all
     by_case below true h = subst P (same r.carried c h) all.0
     by_case below false h = below h
 
-pub in_put : (P : Carried → Type 0) (line : Line) (dir : Dir) (c : Carried) (cs : List Carried) → (lane_of dir line).outbox ≡ c ∷ cs → InLine P line →
-    InLine P (with_link (put_step line.link dir c).1 (with_lane dir (record (lane_of dir line) { outbox = cs }) line))
-in_put P line Forth c cs box h =
+pub in_put : (P : Carried → Type 0) (span : Span) (dir : Dir) (c : Carried) (cs : List Carried) → (lane_of dir span).outbox ≡ c ∷ cs → InSpan P span →
+    InSpan P (with_link (put_step span.link dir c).1 (with_lane dir (record (lane_of dir span) { outbox = cs }) span))
+in_put P span Forth c cs box h =
     let all : AllByRecursion P (c ∷ cs) = subst (AllByRecursion P) box h.forth.outbox in
-    record { rows = rows_more P line.link.rows _ h.rows all.0; forth = record { outbox = all.1; hand = h.forth.hand }; back = h.back }
-in_put P line Back c cs box h =
+    record { rows = rows_more P span.link.rows _ h.rows all.0; forth = record { outbox = all.1; hand = h.forth.hand }; back = h.back }
+in_put P span Back c cs box h =
     let all : AllByRecursion P (c ∷ cs) = subst (AllByRecursion P) box h.back.outbox in
-    record { rows = rows_more P line.link.rows _ h.rows all.0; forth = h.forth; back = record { outbox = all.1; hand = h.back.hand } }
+    record { rows = rows_more P span.link.rows _ h.rows all.0; forth = h.forth; back = record { outbox = all.1; hand = h.back.hand } }
 
-pub in_taken : (P : Carried → Type 0) (line : Line) (dir : Dir) (c : Carried) → first_copy dir line.link.rows ≡ Some c → InLine P line →
-    InLine P (with_link (take_step line.link dir).1 (with_lane dir (record (lane_of dir line) { hand = Some c }) line))
-in_taken P line Forth c first h =
-    record { rows = rows_turned P Taken Forth line.link.rows h.rows; forth = record { outbox = h.forth.outbox; hand = (first_is P Forth line.link.rows c first h.rows, tt) }; back = h.back }
-in_taken P line Back c first h =
-    record { rows = rows_turned P Taken Back line.link.rows h.rows; forth = h.forth; back = record { outbox = h.back.outbox; hand = (first_is P Back line.link.rows c first h.rows, tt) } }
+pub in_taken : (P : Carried → Type 0) (span : Span) (dir : Dir) (c : Carried) → first_copy dir span.link.rows ≡ Some c → InSpan P span →
+    InSpan P (with_link (take_step span.link dir).1 (with_lane dir (record (lane_of dir span) { hand = Some c }) span))
+in_taken P span Forth c first h =
+    record { rows = rows_turned P Taken Forth span.link.rows h.rows; forth = record { outbox = h.forth.outbox; hand = (first_is P Forth span.link.rows c first h.rows, tt) }; back = h.back }
+in_taken P span Back c first h =
+    record { rows = rows_turned P Taken Back span.link.rows h.rows; forth = h.forth; back = record { outbox = h.back.outbox; hand = (first_is P Back span.link.rows c first h.rows, tt) } }
 
-pub in_cut : (P : Carried → Type 0) (line : Line) → InLine P line → InLine P (with_link (cut_step line.link).1 line)
-in_cut P line h = record { rows = rows_lost P line.link.rows h.rows; forth = h.forth; back = h.back }
+pub in_cut : (P : Carried → Type 0) (span : Span) → InSpan P span → InSpan P (with_link (cut_step span.link).1 span)
+in_cut P span h = record { rows = rows_lost P span.link.rows h.rows; forth = h.forth; back = h.back }
 
-pub in_mended : (P : Carried → Type 0) (line : Line) → InLine P line → InLine P (with_link (mended line.link) line)
-in_mended P line h = record { rows = h.rows; forth = h.forth; back = h.back }
+pub in_mended : (P : Carried → Type 0) (span : Span) → InSpan P span → InSpan P (with_link (mended span.link) span)
+in_mended P span h = record { rows = h.rows; forth = h.forth; back = h.back }
 
-pub in_injected : (P : Carried → Type 0) (line : Line) (dir : Dir) (c : Carried) → P c → InLine P line → InLine P (with_link (inject_step line.link dir c).1 line)
-in_injected P line dir c p h = record { rows = rows_more P line.link.rows _ h.rows p; forth = h.forth; back = h.back }
+pub in_injected : (P : Carried → Type 0) (span : Span) (dir : Dir) (c : Carried) → P c → InSpan P span → InSpan P (with_link (inject_step span.link dir c).1 span)
+in_injected P span dir c p h = record { rows = rows_more P span.link.rows _ h.rows p; forth = h.forth; back = h.back }
 
 -- ---- what was injected stays so
 
@@ -150,27 +150,27 @@ injected_lost (r ∷ rows) = ap (λ b. b || list_any (λ (row : Row). row.inject
     by_case true = refl
     by_case false = refl
 
-pub injected_set : (lines : List Line) (l : ℕ) (d line : Line) → (has_injected (get_or lines l d) ≡ true → has_injected line ≡ true) → is_injected lines ≡ true → is_injected (set lines l line) ≡ true
-injected_set [] l d line f h = h
-injected_set (x ∷ lines) zero d line f h = by_case (has_injected x) (has_injected line) f h
+pub injected_set : (spans : List Span) (l : ℕ) (d span : Span) → (has_injected (get_or spans l d) ≡ true → has_injected span ≡ true) → is_injected spans ≡ true → is_injected (set spans l span) ≡ true
+injected_set [] l d span f h = h
+injected_set (x ∷ spans) zero d span f h = by_case (has_injected x) (has_injected span) f h
   where
-    by_case : (a b : Bool) → (a ≡ true → b ≡ true) → (a || is_injected lines) ≡ true → (b || is_injected lines) ≡ true
+    by_case : (a b : Bool) → (a ≡ true → b ≡ true) → (a || is_injected spans) ≡ true → (b || is_injected spans) ≡ true
     by_case true b f h = or_left b _ (f refl)
     by_case false b f h = or_right b _ h
-injected_set (x ∷ lines) (suc l) d line f h = by_case (has_injected x) h (λ e. injected_set lines l d line f e)
+injected_set (x ∷ spans) (suc l) d span f h = by_case (has_injected x) h (λ e. injected_set spans l d span f e)
   where
-    by_case : (a : Bool) → (a || is_injected lines) ≡ true → (is_injected lines ≡ true → is_injected (set lines l line) ≡ true) → (a || is_injected (set lines l line)) ≡ true
+    by_case : (a : Bool) → (a || is_injected spans) ≡ true → (is_injected spans ≡ true → is_injected (set spans l span) ≡ true) → (a || is_injected (set spans l span)) ≡ true
     by_case true h below = refl
     by_case false h below = below h
 
-pub injected_here : (lines : List Line) (l : ℕ) (line : Line) → l < length lines → has_injected line ≡ true → is_injected (set lines l line) ≡ true
-injected_here [] l line below h = absurd (omega (arith, below))
-injected_here (x ∷ lines) zero line below h = or_left (has_injected line) _ h
-injected_here (x ∷ lines) (suc l) line below h = or_right (has_injected x) _ (injected_here lines l line (omega (arith, below)) h)
+pub injected_here : (spans : List Span) (l : ℕ) (span : Span) → l < length spans → has_injected span ≡ true → is_injected (set spans l span) ≡ true
+injected_here [] l span below h = absurd (omega (arith, below))
+injected_here (x ∷ spans) zero span below h = or_left (has_injected span) _ h
+injected_here (x ∷ spans) (suc l) span below h = or_right (has_injected x) _ (injected_here spans l span (omega (arith, below)) h)
 
-pub injected_mapped : (f : Lane → Lane) (lines : List Line) → is_injected (map (on_lanes f) lines) ≡ is_injected lines
+pub injected_mapped : (f : Lane → Lane) (spans : List Span) → is_injected (map (on_lanes f) spans) ≡ is_injected spans
 injected_mapped f [] = refl
-injected_mapped f (x ∷ lines) = ap (λ b. has_injected x || b) (injected_mapped f lines)
+injected_mapped f (x ∷ spans) = ap (λ b. has_injected x || b) (injected_mapped f spans)
 
 -- ---- a record grows
 
@@ -283,25 +283,25 @@ pass_named owner port x past c h = by_octets (copy_octets owner.place x.event x.
 
 -- ---- origins stay
 
-origin_implied : (places : List Place) (records more : List (List Entry)) (lines others : List Line) → ((c : Carried) → NamesSend places records c → NamesSend places more c) →
-    (is_injected lines ≡ true → is_injected others ≡ true) → (c : Carried) → HasOrigin places records lines c → HasOrigin places more others c
-origin_implied places records more lines others f g c (inl named) = inl (f c named)
-origin_implied places records more lines others f g c (inr none) = inr (none.0, g none.1)
+origin_implied : (places : List Place) (records more : List (List Entry)) (spans others : List Span) → ((c : Carried) → NamesSend places records c → NamesSend places more c) →
+    (is_injected spans ≡ true → is_injected others ≡ true) → (c : Carried) → HasOrigin places records spans c → HasOrigin places more others c
+origin_implied places records more spans others f g c (inl named) = inl (f c named)
+origin_implied places records more spans others f g c (inr none) = inr (none.0, g none.1)
 
 -- only the probe tells
-origin_by_probe : (places : List Place) (records : List (List Entry)) (lines : List Line) (copy c : Carried) → c.probe ≡ copy.probe → HasOrigin places records lines copy → HasOrigin places records lines c
-origin_by_probe places records lines copy c e (inl named) = inl (record { probe = named.probe; sending = named.sending; named = e ∙ named.named; sent = named.sent })
-origin_by_probe places records lines copy c e (inr none) = inr (e ∙ none.0, none.1)
+origin_by_probe : (places : List Place) (records : List (List Entry)) (spans : List Span) (copy c : Carried) → c.probe ≡ copy.probe → HasOrigin places records spans copy → HasOrigin places records spans c
+origin_by_probe places records spans copy c e (inl named) = inl (record { probe = named.probe; sending = named.sending; named = e ∙ named.named; sent = named.sent })
+origin_by_probe places records spans copy c e (inr none) = inr (e ∙ none.0, none.1)
 
--- one line of a world is changed
-origins_line : (w : World) (l : ℕ) (line : Line) → (has_injected (line_at w l) ≡ true → has_injected line ≡ true) →
-    (InLine (HasOrigin w.places w.records (set w.lines l line)) (line_at w l) → InLine (HasOrigin w.places w.records (set w.lines l line)) line) → HaveOrigins w → HaveOrigins (with_line w l line)
-origins_line w l line more within h =
-    let P : Carried → Type 0 = HasOrigin w.places w.records w.lines in
-    let Q : Carried → Type 0 = HasOrigin w.places w.records (set w.lines l line) in
-    let kept : (c : Carried) → P c → Q c = origin_implied w.places w.records w.records w.lines (set w.lines l line) (λ c named. named) (injected_set w.lines l _ line more) in
+-- one span of a world is changed
+origins_span : (w : World) (l : ℕ) (span : Span) → (has_injected (span_at w l) ≡ true → has_injected span ≡ true) →
+    (InSpan (HasOrigin w.places w.records (set w.spans l span)) (span_at w l) → InSpan (HasOrigin w.places w.records (set w.spans l span)) span) → HaveOrigins w → HaveOrigins (with_span w l span)
+origins_span w l span more within h =
+    let P : Carried → Type 0 = HasOrigin w.places w.records w.spans in
+    let Q : Carried → Type 0 = HasOrigin w.places w.records (set w.spans l span) in
+    let kept : (c : Carried) → P c → Q c = origin_implied w.places w.records w.records w.spans (set w.spans l span) (λ c named. named) (injected_set w.spans l _ span more) in
     record {
-      lines = all_replaced (InLine Q) w.lines l _ line within (all_implied (InLine P) (InLine Q) (line_implied P Q kept) w.lines h.lines);
+      spans = all_replaced (InSpan Q) w.spans l _ span within (all_implied (InSpan P) (InSpan Q) (span_implied P Q kept) w.spans h.spans);
       came = λ n port. all_implied P Q kept (arrivals port (record_in w.records n)) (h.came n port);
     }
 
@@ -317,12 +317,12 @@ all_came P (event.Arrive x copy) f port = by_case (x == port)
     by_case true = (f x copy refl, tt)
     by_case false = tt
 
-named_origin : (w : World) (n : ℕ) (x : Entry) (lines : List Line) (c : Carried) → n < length w.records →
-    ((port : ℕ) (copy : Carried) → x.event ≡ event.Arrive port copy → HasOrigin w.places (set w.records n (x ∷ record_at w n)) lines copy) →
-    Named (owner_at w n) x (record_at w n) c.probe → HasOrigin w.places (set w.records n (x ∷ record_at w n)) lines c
-named_origin w n x lines c below arrived (inl came) =
-    origin_by_probe w.places (set w.records n (x ∷ record_at w n)) lines came.1 c came.3 (arrived came.0 came.1 came.2)
-named_origin w n x lines c below arrived (inr own) = inl (record {
+named_origin : (w : World) (n : ℕ) (x : Entry) (spans : List Span) (c : Carried) → n < length w.records →
+    ((port : ℕ) (copy : Carried) → x.event ≡ event.Arrive port copy → HasOrigin w.places (set w.records n (x ∷ record_at w n)) spans copy) →
+    Named (owner_at w n) x (record_at w n) c.probe → HasOrigin w.places (set w.records n (x ∷ record_at w n)) spans c
+named_origin w n x spans c below arrived (inl came) =
+    origin_by_probe w.places (set w.records n (x ∷ record_at w n)) spans came.1 c came.3 (arrived came.0 came.1 came.2)
+named_origin w n x spans c below arrived (inr own) = inl (record {
   probe = record { node = n; place = length (record_at w n) };
   sending = own.0;
   named = own.1;
@@ -340,15 +340,15 @@ all_gift P owner x past f lane = by_case (lane.from.node == owner.number) (pass_
     by_case true (Some c) e = (f c (pass_named owner lane.from.port x past c e), tt)
     by_case false o e = tt
 
-in_spread : (P : Carried → Type 0) (owner : Owner) (x : Entry) (past : List Entry) → ((c : Carried) → Named owner x past c.probe → P c) → (line : Line) → InLine P line → InLine P (on_lanes (spread owner x past) line)
-in_spread P owner x past f line h = record {
+in_spread : (P : Carried → Type 0) (owner : Owner) (x : Entry) (past : List Entry) → ((c : Carried) → Named owner x past c.probe → P c) → (span : Span) → InSpan P span → InSpan P (on_lanes (spread owner x past) span)
+in_spread P owner x past f span h = record {
   rows = h.rows;
-  forth = record { outbox = all_append P line.forth.outbox _ h.forth.outbox (all_gift P owner x past f line.forth); hand = h.forth.hand };
-  back = record { outbox = all_append P line.back.outbox _ h.back.outbox (all_gift P owner x past f line.back); hand = h.back.hand };
+  forth = record { outbox = all_append P span.forth.outbox _ h.forth.outbox (all_gift P owner x past f span.forth); hand = h.forth.hand };
+  back = record { outbox = all_append P span.back.outbox _ h.back.outbox (all_gift P owner x past f span.back); hand = h.back.hand };
 }
 
 origins_entered : (capacity : ℕ) (v w : World) (worker n : ℕ) (e : Event) → n < length w.records →
-    ((port : ℕ) (copy : Carried) → e ≡ event.Arrive port copy → HasOrigin w.places w.records w.lines copy) → HaveOrigins w → HaveOrigins v → HaveOrigins (or_same v (entered capacity w worker n e))
+    ((port : ℕ) (copy : Carried) → e ≡ event.Arrive port copy → HasOrigin w.places w.records w.spans copy) → HaveOrigins w → HaveOrigins v → HaveOrigins (or_same v (entered capacity w worker n e))
 origins_entered capacity v w worker n event below arrived h before = by_case (answer capacity (owner_at w n) (record_at w n) (max (now (record_at w n)) w.moment) event)
   where
     by_case : (r : Result Outcome StepFault) → HaveOrigins (or_same v (and_added w worker n event r))
@@ -357,13 +357,13 @@ origins_entered capacity v w worker n event below arrived h before = by_case (an
         let x : Entry = entry_of w worker event outcome in
         let past = record_at w n in
         let f : Lane → Lane = spread (owner_at w n) x past in
-        let P : Carried → Type 0 = HasOrigin w.places w.records w.lines in
-        let Q : Carried → Type 0 = HasOrigin w.places (set w.records n (x ∷ past)) (map (on_lanes f) w.lines) in
+        let P : Carried → Type 0 = HasOrigin w.places w.records w.spans in
+        let Q : Carried → Type 0 = HasOrigin w.places (set w.records n (x ∷ past)) (map (on_lanes f) w.spans) in
         let kept : (c : Carried) → P c → Q c =
-        origin_implied w.places w.records (set w.records n (x ∷ past)) w.lines (map (on_lanes f) w.lines) (λ c named. names_kept w.places w.records n x c below named) (λ i. injected_mapped f w.lines ∙ i) in
-        let named : (c : Carried) → Named (owner_at w n) x past c.probe → Q c = λ c k. named_origin w n x (map (on_lanes f) w.lines) c below (λ port copy e. kept copy (arrived port copy e)) k in
+        origin_implied w.places w.records (set w.records n (x ∷ past)) w.spans (map (on_lanes f) w.spans) (λ c named. names_kept w.places w.records n x c below named) (λ i. injected_mapped f w.spans ∙ i) in
+        let named : (c : Carried) → Named (owner_at w n) x past c.probe → Q c = λ c k. named_origin w n x (map (on_lanes f) w.spans) c below (λ port copy e. kept copy (arrived port copy e)) k in
         record {
-          lines = all_mapped (InLine Q) (InLine Q) (on_lanes f) (in_spread Q (owner_at w n) x past named) w.lines (all_implied (InLine P) (InLine Q) (line_implied P Q kept) w.lines h.lines);
+          spans = all_mapped (InSpan Q) (InSpan Q) (on_lanes f) (in_spread Q (owner_at w n) x past named) w.spans (all_implied (InSpan P) (InSpan Q) (span_implied P Q kept) w.spans h.spans);
           came = λ m port. ⊎_elim
               (λ same. subst (λ k. AllByRecursion Q (arrivals port (record_in (set w.records n (x ∷ past)) k))) (sym (eqb-true m n same))
               (subst (λ (all : List Entry). AllByRecursion Q (arrivals port all)) (sym (get_or-set_same w.records n (x ∷ past) [] below))
@@ -374,13 +374,13 @@ origins_entered capacity v w worker n event below arrived h before = by_case (an
         }
 
 origins_own : (capacity : ℕ) (w : World) (n : ℕ) (e : Event) → n < length w.records → ((x : ℕ) (copy : Carried) → e ≡ event.Arrive x copy → ⊥) → HaveOrigins w → HaveOrigins (or_same w (entered capacity (planned w n e) 0 n e))
-origins_own capacity w n e below away h = origins_entered capacity w (planned w n e) 0 n e below (λ x copy same. absurd (away x copy same)) (record { lines = h.lines; came = h.came }) h
+origins_own capacity w n e below away h = origins_entered capacity w (planned w n e) 0 n e below (λ x copy same. absurd (away x copy same)) (record { spans = h.spans; came = h.came }) h
 
 -- ---- a hand is judged
 
-pub in_lanes : (P : Carried → Type 0) (lines : List Line) → AllByRecursion (InLine P) lines → AllByRecursion (InLane P) (lanes_of lines)
+pub in_lanes : (P : Carried → Type 0) (spans : List Span) → AllByRecursion (InSpan P) spans → AllByRecursion (InLane P) (lanes_of spans)
 in_lanes P [] all = tt
-in_lanes P (line ∷ lines) all = (all.0.forth, (all.0.back, in_lanes P lines all.1))
+in_lanes P (span ∷ spans) all = (all.0.forth, (all.0.back, in_lanes P spans all.1))
 
 pub held_is : (P : Carried → Type 0) (end : End) (lanes : List Lane) (c : Carried) → held_in end lanes ≡ Some c → AllByRecursion (InLane P) lanes → P c
 held_is P end [] c h all = absurd (none_some h)
@@ -393,11 +393,11 @@ held_is P end (lane ∷ lanes) c h all = by_case (is_same_end lane.to end) h (λ
     by_case true h below = (subst (λ (o : Option Carried). AllByRecursion P (option_to_list o)) h all.0.hand).0
     by_case false h below = below h
 
-pub in_emptied : (P : Carried → Type 0) (end : End) (line : Line) → InLine P line → InLine P (on_lanes (emptied end) line)
-in_emptied P end line h = record {
+pub in_emptied : (P : Carried → Type 0) (end : End) (span : Span) → InSpan P span → InSpan P (on_lanes (emptied end) span)
+in_emptied P end span h = record {
   rows = h.rows;
-  forth = record { outbox = h.forth.outbox; hand = by_case (is_same_end line.forth.to end) line.forth.hand h.forth.hand };
-  back = record { outbox = h.back.outbox; hand = by_case (is_same_end line.back.to end) line.back.hand h.back.hand };
+  forth = record { outbox = h.forth.outbox; hand = by_case (is_same_end span.forth.to end) span.forth.hand h.forth.hand };
+  back = record { outbox = h.back.outbox; hand = by_case (is_same_end span.back.to end) span.back.hand h.back.hand };
 }
   where
     by_case : (b : Bool) (o : Option Carried) → AllByRecursion P (option_to_list o) → AllByRecursion P (option_to_list (if b then None else o))
@@ -406,28 +406,28 @@ in_emptied P end line h = record {
 
 origins_cleared : (w : World) (end : End) → HaveOrigins w → HaveOrigins (cleared w end)
 origins_cleared w end h =
-    let lines = map (on_lanes (emptied end)) w.lines in
-    let P : Carried → Type 0 = HasOrigin w.places w.records w.lines in
-    let Q : Carried → Type 0 = HasOrigin w.places w.records lines in
-    let kept : (c : Carried) → P c → Q c = origin_implied w.places w.records w.records w.lines lines (λ c named. named) (λ i. injected_mapped (emptied end) w.lines ∙ i) in
+    let spans = map (on_lanes (emptied end)) w.spans in
+    let P : Carried → Type 0 = HasOrigin w.places w.records w.spans in
+    let Q : Carried → Type 0 = HasOrigin w.places w.records spans in
+    let kept : (c : Carried) → P c → Q c = origin_implied w.places w.records w.records w.spans spans (λ c named. named) (λ i. injected_mapped (emptied end) w.spans ∙ i) in
     record {
-      lines = all_mapped (InLine Q) (InLine Q) (on_lanes (emptied end)) (in_emptied Q end) w.lines (all_implied (InLine P) (InLine Q) (line_implied P Q kept) w.lines h.lines);
+      spans = all_mapped (InSpan Q) (InSpan Q) (on_lanes (emptied end)) (in_emptied Q end) w.spans (all_implied (InSpan P) (InSpan Q) (span_implied P Q kept) w.spans h.spans);
       came = λ n port. all_implied P Q kept (arrivals port (record_in w.records n)) (h.came n port);
     }
 
-origins_judged : (capacity : ℕ) (w : World) (end : End) → end.node < length w.records → HaveOrigins w → HaveOrigins (or_same w (judged_at capacity w end (held_in end (lanes_of w.lines))))
-origins_judged capacity w end below h = by_case (held_in end (lanes_of w.lines)) refl
+origins_judged : (capacity : ℕ) (w : World) (end : End) → end.node < length w.records → HaveOrigins w → HaveOrigins (or_same w (judged_at capacity w end (held_in end (lanes_of w.spans))))
+origins_judged capacity w end below h = by_case (held_in end (lanes_of w.spans)) refl
   where
     same : (m k : ℕ) (a b : Carried) → event.Arrive m a ≡ event.Arrive k b → a ≡ b
     same m k a b e = cc
 
-    by_case : (held : Option Carried) → held_in end (lanes_of w.lines) ≡ held → HaveOrigins (or_same w (judged_at capacity w end held))
+    by_case : (held : Option Carried) → held_in end (lanes_of w.spans) ≡ held → HaveOrigins (or_same w (judged_at capacity w end held))
     by_case None e = h
     by_case (Some c) e =
-        let P : Carried → Type 0 = HasOrigin w.places w.records w.lines in
-        let Q : Carried → Type 0 = HasOrigin w.places w.records (map (on_lanes (emptied end)) w.lines) in
-        let here : P c = held_is P end (lanes_of w.lines) c e (in_lanes P w.lines h.lines) in
-        let there : Q c = origin_implied w.places w.records w.records w.lines (map (on_lanes (emptied end)) w.lines) (λ c named. named) (λ i. injected_mapped (emptied end) w.lines ∙ i) c here in
+        let P : Carried → Type 0 = HasOrigin w.places w.records w.spans in
+        let Q : Carried → Type 0 = HasOrigin w.places w.records (map (on_lanes (emptied end)) w.spans) in
+        let here : P c = held_is P end (lanes_of w.spans) c e (in_lanes P w.spans h.spans) in
+        let there : Q c = origin_implied w.places w.records w.records w.spans (map (on_lanes (emptied end)) w.spans) (λ c named. named) (λ i. injected_mapped (emptied end) w.spans ∙ i) c here in
         origins_entered capacity w (cleared w end) (port_worker end) end.node (event.Arrive end.port c) below
         (λ port copy s. subst Q (same end.port port c copy s) there) (origins_cleared w end h) h
 
@@ -435,56 +435,56 @@ origins_judged capacity w end below h = by_case (held_in end (lanes_of w.lines))
 
 origins_put : (w : World) (spot : Option Spot) → HaveOrigins w → HaveOrigins (or_same w (put_at w spot))
 origins_put w None h = h
-origins_put w (Some s) h = by_case (lane_of s.dir (line_at w s.link)).outbox refl
+origins_put w (Some s) h = by_case (lane_of s.dir (span_at w s.link)).outbox refl
   where
-    rows_of : (dir : Dir) (lane : Lane) (line : Line) (link : Link) → (with_link link (with_lane dir lane line)).link.rows ≡ link.rows
-    rows_of Forth lane line link = refl
-    rows_of Back lane line link = refl
+    rows_of : (dir : Dir) (lane : Lane) (span : Span) (link : Link) → (with_link link (with_lane dir lane span)).link.rows ≡ link.rows
+    rows_of Forth lane span link = refl
+    rows_of Back lane span link = refl
 
-    by_case : (box : List Carried) → (lane_of s.dir (line_at w s.link)).outbox ≡ box → HaveOrigins (or_same w (put_from w s box))
+    by_case : (box : List Carried) → (lane_of s.dir (span_at w s.link)).outbox ≡ box → HaveOrigins (or_same w (put_from w s box))
     by_case [] e = h
     by_case (c ∷ cs) e =
-        let line = line_at w s.link in
-        let lane : Lane = record (lane_of s.dir line) { outbox = cs } in
-        let link = (put_step line.link s.dir c).1 in
-        let after : Line = with_link link (with_lane s.dir lane line) in
-        origins_line w s.link after
-        (λ i. ap (λ (rows : List Row). list_any (λ (row : Row). row.injected) rows) (rows_of s.dir lane line link) ∙ injected_more line.link.rows _ i)
-        (in_put (HasOrigin w.places w.records (set w.lines s.link after)) line s.dir c cs e) h
+        let span = span_at w s.link in
+        let lane : Lane = record (lane_of s.dir span) { outbox = cs } in
+        let link = (put_step span.link s.dir c).1 in
+        let after : Span = with_link link (with_lane s.dir lane span) in
+        origins_span w s.link after
+        (λ i. ap (λ (rows : List Row). list_any (λ (row : Row). row.injected) rows) (rows_of s.dir lane span link) ∙ injected_more span.link.rows _ i)
+        (in_put (HasOrigin w.places w.records (set w.spans s.link after)) span s.dir c cs e) h
 
-origins_take : (w : World) (l : ℕ) (dir : Dir) → HaveOrigins w → HaveOrigins (or_same w (take_to w l dir (lane_of dir (line_at w l)).hand))
-origins_take w l dir h = by_case (lane_of dir (line_at w l)).hand
+origins_take : (w : World) (l : ℕ) (dir : Dir) → HaveOrigins w → HaveOrigins (or_same w (take_to w l dir (lane_of dir (span_at w l)).hand))
+origins_take w l dir h = by_case (lane_of dir (span_at w l)).hand
   where
-    rows_of : (dir : Dir) (lane : Lane) (line : Line) (link : Link) → (with_link link (with_lane dir lane line)).link.rows ≡ link.rows
-    rows_of Forth lane line link = refl
-    rows_of Back lane line link = refl
+    rows_of : (dir : Dir) (lane : Lane) (span : Span) (link : Link) → (with_link link (with_lane dir lane span)).link.rows ≡ link.rows
+    rows_of Forth lane span link = refl
+    rows_of Back lane span link = refl
 
-    of_queue : (first : Option Carried) → first_copy dir (line_at w l).link.rows ≡ first → HaveOrigins (or_same w (taken_by w l dir (first, (take_step (line_at w l).link dir).1)))
+    of_queue : (first : Option Carried) → first_copy dir (span_at w l).link.rows ≡ first → HaveOrigins (or_same w (taken_by w l dir (first, (take_step (span_at w l).link dir).1)))
     of_queue None e = h
     of_queue (Some c) e =
-        let line = line_at w l in
-        let lane : Lane = record (lane_of dir line) { hand = Some c } in
-        let link = (take_step line.link dir).1 in
-        let after : Line = with_link link (with_lane dir lane line) in
-        origins_line w l after
-        (λ i. ap (λ (rows : List Row). list_any (λ (row : Row). row.injected) rows) (rows_of dir lane line link) ∙ (injected_turned Taken dir line.link.rows ∙ i))
-        (in_taken (HasOrigin w.places w.records (set w.lines l after)) line dir c e) h
+        let span = span_at w l in
+        let lane : Lane = record (lane_of dir span) { hand = Some c } in
+        let link = (take_step span.link dir).1 in
+        let after : Span = with_link link (with_lane dir lane span) in
+        origins_span w l after
+        (λ i. ap (λ (rows : List Row). list_any (λ (row : Row). row.injected) rows) (rows_of dir lane span link) ∙ (injected_turned Taken dir span.link.rows ∙ i))
+        (in_taken (HasOrigin w.places w.records (set w.spans l after)) span dir c e) h
 
     by_case : (hand : Option Carried) → HaveOrigins (or_same w (take_to w l dir hand))
     by_case (Some held) = h
-    by_case None = of_queue (first_copy dir (line_at w l).link.rows) refl
+    by_case None = of_queue (first_copy dir (span_at w l).link.rows) refl
 
-origins_injected : (w : World) (l : ℕ) (dir : Dir) (octets : List ℕ) → l < length w.lines → HaveOrigins w → HaveOrigins (or_same w (injected_at w l dir octets))
+origins_injected : (w : World) (l : ℕ) (dir : Dir) (octets : List ℕ) → l < length w.spans → HaveOrigins w → HaveOrigins (or_same w (injected_at w l dir octets))
 origins_injected w l dir octets below h = by_case (nat_lt 2048 (length octets))
   where
-    by_case : (b : Bool) → HaveOrigins (or_same w (if b then Err TooLong else Ok (with_line w l (with_link (inject_step (line_at w l).link dir (record { probe = None; octets = octets })).1 (line_at w l)))))
+    by_case : (b : Bool) → HaveOrigins (or_same w (if b then Err TooLong else Ok (with_span w l (with_link (inject_step (span_at w l).link dir (record { probe = None; octets = octets })).1 (span_at w l)))))
     by_case true = h
     by_case false =
         let c : Carried = record { probe = None; octets = octets } in
-        let line = line_at w l in
-        let after : Line = with_link (inject_step line.link dir c).1 line in
-        let there : has_injected after ≡ true = injected_last line.link.rows _ refl in
-        origins_line w l after (λ i. there) (in_injected (HasOrigin w.places w.records (set w.lines l after)) line dir c (inr (refl, injected_here w.lines l after below there))) h
+        let span = span_at w l in
+        let after : Span = with_link (inject_step span.link dir c).1 span in
+        let there : has_injected after ≡ true = injected_last span.link.rows _ refl in
+        origins_span w l after (λ i. there) (in_injected (HasOrigin w.places w.records (set w.spans l after)) span dir c (inr (refl, injected_here w.spans l after below there))) h
 
 -- ---- any step
 
@@ -494,20 +494,20 @@ met_or w false r f h met = h
 
 origins_keep : (capacity : ℕ) (w : World) (step : Step) → IsSound capacity w → HaveOrigins w → HaveOrigins (or_same w (tried capacity w step))
 unfolding tried
-origins_keep capacity w (Clock at) s h = record { lines = h.lines; came = h.came }
+origins_keep capacity w (Clock at) s h = record { spans = h.spans; came = h.came }
 origins_keep capacity w (Send n from dst vlan kind payload) s h =
     met_or w (has_node w n) _ _ h (λ e. origins_own capacity w n (event.Send from dst vlan kind payload) (node_below capacity w n s e) (λ x copy e. absurd (cc)) h)
 origins_keep capacity w (Supervise n about) s h = met_or w (has_node w n) _ _ h (λ e. origins_own capacity w n (event.Supervise about) (node_below capacity w n s e) (λ x copy e. absurd (cc)) h)
 origins_keep capacity w (Age n) s h = met_or w (has_node w n) _ _ h (λ e. origins_own capacity w n event.Age (node_below capacity w n s e) (λ x copy e. absurd (cc)) h)
 origins_keep capacity w (Put n port) s h =
-    met_or w (has_node w n) _ _ h (λ e. met_or w (has_port w n port) _ _ h (λ f. origins_put w (spot_from (record { node = n; port = port }) 0 w.lines) h))
+    met_or w (has_node w n) _ _ h (λ e. met_or w (has_port w n port) _ _ h (λ f. origins_put w (spot_from (record { node = n; port = port }) 0 w.spans) h))
 origins_keep capacity w (Take l dir) s h = met_or w (has_link w l) _ _ h (λ e. origins_take w l dir h)
 origins_keep capacity w (Judge n port) s h =
     met_or w (has_node w n) _ _ h (λ e. met_or w (has_port w n port) _ _ h (λ f. origins_judged capacity w (record { node = n; port = port }) (node_below capacity w n s e) h))
 origins_keep capacity w (Cut l) s h =
-    met_or w (has_link w l) _ _ h (λ e. origins_line w l _ (λ i. injected_lost (line_at w l).link.rows ∙ i) (in_cut _ (line_at w l)) h)
-origins_keep capacity w (Mend l) s h = met_or w (has_link w l) _ _ h (λ e. origins_line w l _ (λ i. i) (in_mended _ (line_at w l)) h)
-origins_keep capacity w (Inject l dir octets) s h = met_or w (has_link w l) _ _ h (λ e. origins_injected w l dir octets (below_by l (length w.lines) e) h)
+    met_or w (has_link w l) _ _ h (λ e. origins_span w l _ (λ i. injected_lost (span_at w l).link.rows ∙ i) (in_cut _ (span_at w l)) h)
+origins_keep capacity w (Mend l) s h = met_or w (has_link w l) _ _ h (λ e. origins_span w l _ (λ i. i) (in_mended _ (span_at w l)) h)
+origins_keep capacity w (Inject l dir octets) s h = met_or w (has_link w l) _ _ h (λ e. origins_injected w l dir octets (below_by l (length w.spans) e) h)
 
 pub always_origins : AlwaysOrigins
 always_origins capacity [] w s h = h
@@ -515,29 +515,29 @@ always_origins capacity (step ∷ steps) w s h = always_origins capacity steps (
 
 -- ---- from the first world on
 
-pub no_copies : (P : Carried → Type 0) (room : ℕ) (links : List (List End)) → AllByRecursion (InLine P) (map (new_line room) links)
+pub no_copies : (P : Carried → Type 0) (room : ℕ) (links : List (List End)) → AllByRecursion (InSpan P) (map (new_span room) links)
 no_copies P room [] = tt
 no_copies P room (link ∷ links) = (on_link link, no_copies P room links)
   where
-    on_link : (x : List End) → InLine P (new_line room x)
+    on_link : (x : List End) → InSpan P (new_span room x)
     on_link [] = record { rows = tt; forth = record { outbox = tt; hand = tt }; back = record { outbox = tt; hand = tt } }
     on_link (a ∷ []) = record { rows = tt; forth = record { outbox = tt; hand = tt }; back = record { outbox = tt; hand = tt } }
     on_link (a ∷ b ∷ ends) = record { rows = tt; forth = record { outbox = tt; hand = tt }; back = record { outbox = tt; hand = tt } }
 
 first_origins : (room : ℕ) (places : List Place) (links : List (List End)) → HaveOrigins (new_world room places links)
 first_origins room places links = record {
-  lines = no_copies _ room links;
-  came = λ n port. subst (λ (past : List Entry). AllByRecursion (HasOrigin places (map (λ (place : Place). []) places) (map (new_line room) links)) (arrivals port past)) (sym (no_entries places n)) tt;
+  spans = no_copies _ room links;
+  came = λ n port. subst (λ (past : List Entry). AllByRecursion (HasOrigin places (map (λ (place : Place). []) places) (map (new_span room) links)) (arrivals port past)) (sym (no_entries places n)) tt;
 }
 
-all_named : (w : World) → is_injected w.lines ≡ false → HaveOrigins w → EachCopy (NamesSend w.places w.records) w
+all_named : (w : World) → is_injected w.spans ≡ false → HaveOrigins w → EachCopy (NamesSend w.places w.records) w
 all_named w none h = record {
-  lines = all_implied (InLine P) (InLine Q) (line_implied P Q named) w.lines h.lines;
+  spans = all_implied (InSpan P) (InSpan Q) (span_implied P Q named) w.spans h.spans;
   came = λ n port. all_implied P Q named (arrivals port (record_in w.records n)) (h.came n port);
 }
   where
     P : Carried → Type 0
-    P = HasOrigin w.places w.records w.lines
+    P = HasOrigin w.places w.records w.spans
 
     Q : Carried → Type 0
     Q = NamesSend w.places w.records

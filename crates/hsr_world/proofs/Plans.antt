@@ -21,8 +21,8 @@ use Rattle.hsr_law.specs.Run.{record_in}
 use Rattle.hsr_topology.specs.declared.end.End.{End}
 use Rattle.hsr_closing.specs.declared.planned.Planned.{Planned}
 use Rattle.hsr_world.specs.Closing.{AlwaysPlanned}
-use Rattle.hsr_world.specs.Lines.{Spot, held_in, lane_of, lanes_of, spot_from, with_link}
-use Rattle.hsr_world.specs.World.{World, and_added, cleared, entered, has_link, has_node, has_port, injected_at, judged_at, line_at, new_world, or_same, owner_at, planned, port_worker, put_at, put_from, record_at, run, take_to, taken_by, tried, with_line}
+use Rattle.hsr_world.specs.Spans.{Spot, held_in, lane_of, lanes_of, spot_from, with_link}
+use Rattle.hsr_world.specs.World.{World, and_added, cleared, entered, has_link, has_node, has_port, injected_at, judged_at, span_at, new_world, or_same, owner_at, planned, port_worker, put_at, put_from, record_at, run, take_to, taken_by, tried, with_span}
 use Rattle.hsr_step.specs.declared.step.Step.{Step}
 use Rattle.hsr_step.specs.declared.step.Step.TheVariants.{Clock, Send, Supervise, Age, Put, Take, Judge, Cut, Mend, Inject}
 use Rattle.hsr_step.specs.declared.step.WorldFault.{WorldFault}
@@ -134,7 +134,7 @@ plans_judged capacity w end (Some c) below h = by_case (answer capacity (owner_a
 
 plans_put : (w : World) (spot : Option Spot) → Plans w → Plans (or_same w (put_at w spot))
 plans_put w None h = h
-plans_put w (Some s) h = by_case (lane_of s.dir (line_at w s.link)).outbox
+plans_put w (Some s) h = by_case (lane_of s.dir (span_at w s.link)).outbox
   where
     by_case : (box : List Carried) → Plans (or_same w (put_from w s box))
     by_case [] = h
@@ -142,16 +142,16 @@ plans_put w (Some s) h = by_case (lane_of s.dir (line_at w s.link)).outbox
 
 plans_take : (w : World) (l : ℕ) (dir : Dir) (hand : Option Carried) → Plans w → Plans (or_same w (take_to w l dir hand))
 plans_take w l dir (Some held) h = h
-plans_take w l dir None h = of_queue (first_copy dir (line_at w l).link.rows)
+plans_take w l dir None h = of_queue (first_copy dir (span_at w l).link.rows)
   where
-    of_queue : (first : Option Carried) → Plans (or_same w (taken_by w l dir (first, (take_step (line_at w l).link dir).1)))
+    of_queue : (first : Option Carried) → Plans (or_same w (taken_by w l dir (first, (take_step (span_at w l).link dir).1)))
     of_queue None = h
     of_queue (Some c) = record { counted = h.counted; nodes = h.nodes; each = h.each }
 
 plans_injected : (w : World) (l : ℕ) (dir : Dir) (octets : List ℕ) → Plans w → Plans (or_same w (injected_at w l dir octets))
 plans_injected w l dir octets h = by_case (nat_lt 2048 (length octets))
   where
-    by_case : (b : Bool) → Plans (or_same w (if b then Err TooLong else Ok (with_line w l (with_link (inject_step (line_at w l).link dir (record { probe = None; octets = octets })).1 (line_at w l)))))
+    by_case : (b : Bool) → Plans (or_same w (if b then Err TooLong else Ok (with_span w l (with_link (inject_step (span_at w l).link dir (record { probe = None; octets = octets })).1 (span_at w l)))))
     by_case true = h
     by_case false = record { counted = h.counted; nodes = h.nodes; each = h.each }
 
@@ -167,12 +167,12 @@ plans_step capacity w (Clock at) h = record { counted = h.counted; nodes = h.nod
 plans_step capacity w (Send n from dst vlan kind payload) h = met w (has_node w n) _ _ h (λ e. plans_main capacity w n (event.Send from dst vlan kind payload) (ltb-true n (length w.places) e) h)
 plans_step capacity w (Supervise n about) h = met w (has_node w n) _ _ h (λ e. plans_main capacity w n (event.Supervise about) (ltb-true n (length w.places) e) h)
 plans_step capacity w (Age n) h = met w (has_node w n) _ _ h (λ e. plans_main capacity w n event.Age (ltb-true n (length w.places) e) h)
-plans_step capacity w (Put n port) h = met w (has_node w n) _ _ h (λ e. met w (has_port w n port) _ _ h (λ f. plans_put w (spot_from (record { node = n; port = port }) 0 w.lines) h))
-plans_step capacity w (Take l dir) h = met w (has_link w l) _ _ h (λ e. plans_take w l dir (lane_of dir (line_at w l)).hand h)
+plans_step capacity w (Put n port) h = met w (has_node w n) _ _ h (λ e. met w (has_port w n port) _ _ h (λ f. plans_put w (spot_from (record { node = n; port = port }) 0 w.spans) h))
+plans_step capacity w (Take l dir) h = met w (has_link w l) _ _ h (λ e. plans_take w l dir (lane_of dir (span_at w l)).hand h)
 plans_step capacity w (Judge n port) h =
     met w (has_node w n) _ _ h
     (λ e. met w (has_port w n port) _ _ h
-    (λ f. plans_judged capacity w (record { node = n; port = port }) (held_in (record { node = n; port = port }) (lanes_of w.lines)) (ltb-true n (length w.places) e) h))
+    (λ f. plans_judged capacity w (record { node = n; port = port }) (held_in (record { node = n; port = port }) (lanes_of w.spans)) (ltb-true n (length w.places) e) h))
 plans_step capacity w (Cut l) h = met w (has_link w l) _ _ h (λ e. record { counted = h.counted; nodes = h.nodes; each = h.each })
 plans_step capacity w (Mend l) h = met w (has_link w l) _ _ h (λ e. record { counted = h.counted; nodes = h.nodes; each = h.each })
 plans_step capacity w (Inject l dir octets) h = met w (has_link w l) _ _ h (λ e. plans_injected w l dir octets h)

@@ -45,8 +45,8 @@ use Rattle.hsr_law.proofs.Lists.{count_more, count_zero, one_if, zero_if}
 use Rattle.hsr_law.proofs.Records.{Answered}
 use Rattle.hsr_law.proofs.Same.{is_of_itself}
 use Rattle.hsr_law.proofs.Views.{Came, came, judged, knows_at, passing-wanted}
-use Rattle.hsr_world.specs.Law.{LaneAgrees, LineAgrees}
-use Rattle.hsr_world.specs.Lines.{Lane, Line, held_in, lanes_of}
+use Rattle.hsr_world.specs.Law.{LaneAgrees, SpanAgrees}
+use Rattle.hsr_world.specs.Spans.{Lane, Span, held_in, lanes_of}
 use Rattle.hsr_world.specs.Origin.{has_injected, is_injected}
 use Rattle.hsr_world.proofs.Counts.{count_append, count_option, counts_of}
 use Rattle.hsr_world.proofs.Origin.{Named, pass_named}
@@ -288,36 +288,36 @@ pub record IsHeld (places : List Place) (records : List (List Entry)) (links : L
   pub faces : Faces places lane.from lane.to
   pub peer : Rattle.hsr_law.specs.Run.peer_in lane.from links ≡ Some lane.to
 
-pub held_by : (places : List Place) (records : List (List Entry)) (links : List (List End)) (end : End) (c : Carried) (lines : List Line) → held_in end (lanes_of lines) ≡ Some c →
-    AllByRecursion (LineAgrees places records) lines → is_injected lines ≡ false → AllByRecursion (WiredWell places links) (map wire lines) → IsHeld places records links end c
+pub held_by : (places : List Place) (records : List (List Entry)) (links : List (List End)) (end : End) (c : Carried) (spans : List Span) → held_in end (lanes_of spans) ≡ Some c →
+    AllByRecursion (SpanAgrees places records) spans → is_injected spans ≡ false → AllByRecursion (WiredWell places links) (map wire spans) → IsHeld places records links end c
 held_by places records links end c [] h agree none wired = absurd cc
-held_by places records links end c (line ∷ lines) h agree none wired =
-    let parts = or_parts (has_injected line) (is_injected lines) none in
-    by_case (is_same_end line.forth.to end) (is_same_end line.back.to end) refl refl h (λ e. held_by places records links end c lines e agree.1 parts.1 wired.1)
+held_by places records links end c (span ∷ spans) h agree none wired =
+    let parts = or_parts (has_injected span) (is_injected spans) none in
+    by_case (is_same_end span.forth.to end) (is_same_end span.back.to end) refl refl h (λ e. held_by places records links end c spans e agree.1 parts.1 wired.1)
   where
-    here : list_any (λ (row : Row). row.injected) line.link.rows ≡ false
-    here = (or_parts (has_injected line) (is_injected lines) none).0
+    here : list_any (λ (row : Row). row.injected) span.link.rows ≡ false
+    here = (or_parts (has_injected span) (is_injected spans) none).0
 
-    by_case : (f b : Bool) → is_same_end line.forth.to end ≡ f → is_same_end line.back.to end ≡ b → (if f then line.forth.hand else (if b then line.back.hand else held_in end (lanes_of lines))) ≡ Some c →
-        (held_in end (lanes_of lines) ≡ Some c → IsHeld places records links end c) → IsHeld places records links end c
+    by_case : (f b : Bool) → is_same_end span.forth.to end ≡ f → is_same_end span.back.to end ≡ b → (if f then span.forth.hand else (if b then span.back.hand else held_in end (lanes_of spans))) ≡ Some c →
+        (held_in end (lanes_of spans) ≡ Some c → IsHeld places records links end c) → IsHeld places records links end c
     by_case true b e g h rest = record {
       dir = _;
-      rows = line.link.rows;
-      lane = line.forth;
+      rows = span.link.rows;
+      lane = span.forth;
       agrees = agree.0.forth;
       own = here;
-      to = end_is line.forth.to end e;
+      to = end_is span.forth.to end e;
       hand = h;
       faces = wired.0.0;
       peer = wired.0.2.0;
     }
     by_case false true e g h rest = record {
       dir = _;
-      rows = line.link.rows;
-      lane = line.back;
+      rows = span.link.rows;
+      lane = span.back;
       agrees = agree.0.back;
       own = here;
-      to = end_is line.back.to end g;
+      to = end_is span.back.to end g;
       hand = h;
       faces = wired.0.1;
       peer = wired.0.2.1;

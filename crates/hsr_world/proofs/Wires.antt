@@ -27,8 +27,8 @@ use Rattle.hsr_law.specs.Run.{joined_by, no_end, peer_in}
 use Rattle.hsr_topology.specs.Wired.{AreDistinct, HasPort, IsJoin, IsWired, ends_of}
 use Rattle.hsr_topology.specs.declared.end.End.{End}
 use Rattle.hsr_world.specs.Closing.{AlwaysPlaced, IsPlaced, StepPlaced}
-use Rattle.hsr_world.specs.Lines.{Lane, Line, Spot, emptied, held_in, lane_of, lanes_of, on_lanes, spot_from, spread, with_lane, with_link}
-use Rattle.hsr_world.specs.World.{World, and_added, cleared, entered, has_link, has_node, has_port, injected_at, judged_at, line_at, new_line, new_world, or_same, owner_at, planned, port_worker, put_at, put_from, record_at, run, take_to, taken_by, tried, with_line}
+use Rattle.hsr_world.specs.Spans.{Lane, Span, Spot, emptied, held_in, lane_of, lanes_of, on_lanes, spot_from, spread, with_lane, with_link}
+use Rattle.hsr_world.specs.World.{World, and_added, cleared, entered, has_link, has_node, has_port, injected_at, judged_at, span_at, new_span, new_world, or_same, owner_at, planned, port_worker, put_at, put_from, record_at, run, take_to, taken_by, tried, with_span}
 use Rattle.hsr_step.specs.declared.step.Step.{Step}
 use Rattle.hsr_step.specs.declared.step.Step.TheVariants.{Clock, Send, Supervise, Age, Put, Take, Judge, Cut, Mend, Inject}
 use Rattle.hsr_step.specs.declared.step.WorldFault.{WorldFault}
@@ -36,29 +36,29 @@ use Rattle.hsr_step.specs.declared.step.WorldFault.TheVariants.{TooLong}
 use Rattle.hsr_world.proofs.Keeps.{entry_of}
 use Rattle.hsr_world.proofs.Counts.{map_set_same}
 
--- where the two lanes of a line begin and end
+-- where the two lanes of a span begin and end
 abbrev pub Wire : Type 0
 Wire = End × End × End × End
 
-abbrev pub wire : Line → Wire
-wire line = (line.forth.from, line.forth.to, line.back.from, line.back.to)
+abbrev pub wire : Span → Wire
+wire span = (span.forth.from, span.forth.to, span.back.from, span.back.to)
 
 pub record IsKept (old new : World) : Type 0 where
   pub places : new.places ≡ old.places
   pub records : length new.records ≡ length old.records
-  pub wires : map wire new.lines ≡ map wire old.lines
+  pub wires : map wire new.spans ≡ map wire old.spans
 
 -- ---- steps
 
 same : (w : World) → IsKept w w
 same w = record { places = refl; records = refl; wires = refl }
 
-kept_line : (w : World) (l : ℕ) (line : Line) → wire line ≡ wire (line_at w l) → IsKept w (with_line w l line)
-kept_line w l line e = record { places = refl; records = refl; wires = map_set_same wire w.lines l line _ e }
+kept_span : (w : World) (l : ℕ) (span : Span) → wire span ≡ wire (span_at w l) → IsKept w (with_span w l span)
+kept_span w l span e = record { places = refl; records = refl; wires = map_set_same wire w.spans l span _ e }
 
-wires_mapped : (f : Lane → Lane) → ((line : Line) → wire (on_lanes f line) ≡ wire line) → (lines : List Line) → map wire (map (on_lanes f) lines) ≡ map wire lines
+wires_mapped : (f : Lane → Lane) → ((span : Span) → wire (on_lanes f span) ≡ wire span) → (spans : List Span) → map wire (map (on_lanes f) spans) ≡ map wire spans
 wires_mapped f keeps [] = refl
-wires_mapped f keeps (line ∷ lines) = ap (λ x. x ∷ map wire (map (on_lanes f) lines)) (keeps line) ∙ ap (λ xs. wire line ∷ xs) (wires_mapped f keeps lines)
+wires_mapped f keeps (span ∷ spans) = ap (λ x. x ∷ map wire (map (on_lanes f) spans)) (keeps span) ∙ ap (λ xs. wire span ∷ xs) (wires_mapped f keeps spans)
 
 kept_entered : (capacity : ℕ) (v w : World) (worker n : ℕ) (e : Event) → IsKept v w → IsKept v (or_same v (entered capacity w worker n e))
 kept_entered capacity v w worker n e k = by_case (answer capacity (owner_at w n) (record_at w n) (max (now (record_at w n)) w.moment) e)
@@ -68,40 +68,40 @@ kept_entered capacity v w worker n e k = by_case (answer capacity (owner_at w n)
     by_case (Ok outcome) = record {
       places = k.places;
       records = length-set w.records n (entry_of w worker e outcome ∷ record_at w n) ∙ k.records;
-      wires = wires_mapped (spread (owner_at w n) (entry_of w worker e outcome) (record_at w n)) (λ line. refl) w.lines ∙ k.wires;
+      wires = wires_mapped (spread (owner_at w n) (entry_of w worker e outcome) (record_at w n)) (λ span. refl) w.spans ∙ k.wires;
     }
 
 kept_judged : (capacity : ℕ) (w : World) (end : End) (held : Option Carried) → IsKept w (or_same w (judged_at capacity w end held))
 kept_judged capacity w end None = same w
 kept_judged capacity w end (Some c) =
-    kept_entered capacity w (cleared w end) (port_worker end) end.node (event.Arrive end.port c) (record { places = refl; records = refl; wires = wires_mapped (emptied end) (λ line. refl) w.lines })
+    kept_entered capacity w (cleared w end) (port_worker end) end.node (event.Arrive end.port c) (record { places = refl; records = refl; wires = wires_mapped (emptied end) (λ span. refl) w.spans })
 
-wire_lane : (dir : Dir) (line : Line) (lane : Lane) → lane.from ≡ (lane_of dir line).from → lane.to ≡ (lane_of dir line).to → wire (with_lane dir lane line) ≡ wire line
-wire_lane Forth line lane f t = λ i. (f i, t i, line.back.from, line.back.to)
-wire_lane Back line lane f t = λ i. (line.forth.from, line.forth.to, f i, t i)
+wire_lane : (dir : Dir) (span : Span) (lane : Lane) → lane.from ≡ (lane_of dir span).from → lane.to ≡ (lane_of dir span).to → wire (with_lane dir lane span) ≡ wire span
+wire_lane Forth span lane f t = λ i. (f i, t i, span.back.from, span.back.to)
+wire_lane Back span lane f t = λ i. (span.forth.from, span.forth.to, f i, t i)
 
 kept_put : (w : World) (spot : Option Spot) → IsKept w (or_same w (put_at w spot))
 kept_put w None = same w
-kept_put w (Some s) = by_case (lane_of s.dir (line_at w s.link)).outbox
+kept_put w (Some s) = by_case (lane_of s.dir (span_at w s.link)).outbox
   where
     by_case : (box : List Carried) → IsKept w (or_same w (put_from w s box))
     by_case [] = same w
-    by_case (c ∷ cs) = kept_line w s.link _ (wire_lane s.dir (line_at w s.link) (record (lane_of s.dir (line_at w s.link)) { outbox = cs }) refl refl)
+    by_case (c ∷ cs) = kept_span w s.link _ (wire_lane s.dir (span_at w s.link) (record (lane_of s.dir (span_at w s.link)) { outbox = cs }) refl refl)
 
 kept_take : (w : World) (l : ℕ) (dir : Dir) (hand : Option Carried) → IsKept w (or_same w (take_to w l dir hand))
 kept_take w l dir (Some held) = same w
-kept_take w l dir None = of_queue (first_copy dir (line_at w l).link.rows)
+kept_take w l dir None = of_queue (first_copy dir (span_at w l).link.rows)
   where
-    of_queue : (first : Option Carried) → IsKept w (or_same w (taken_by w l dir (first, (take_step (line_at w l).link dir).1)))
+    of_queue : (first : Option Carried) → IsKept w (or_same w (taken_by w l dir (first, (take_step (span_at w l).link dir).1)))
     of_queue None = same w
-    of_queue (Some c) = kept_line w l _ (wire_lane dir (line_at w l) (record (lane_of dir (line_at w l)) { hand = Some c }) refl refl)
+    of_queue (Some c) = kept_span w l _ (wire_lane dir (span_at w l) (record (lane_of dir (span_at w l)) { hand = Some c }) refl refl)
 
 kept_injected : (w : World) (l : ℕ) (dir : Dir) (octets : List ℕ) → IsKept w (or_same w (injected_at w l dir octets))
 kept_injected w l dir octets = by_case (nat_lt 2048 (length octets))
   where
-    by_case : (b : Bool) → IsKept w (or_same w (if b then Err TooLong else Ok (with_line w l (with_link (Rattle.hsr_link.specs.Link.inject_step (line_at w l).link dir (record { probe = None; octets = octets })).1 (line_at w l)))))
+    by_case : (b : Bool) → IsKept w (or_same w (if b then Err TooLong else Ok (with_span w l (with_link (Rattle.hsr_link.specs.Link.inject_step (span_at w l).link dir (record { probe = None; octets = octets })).1 (span_at w l)))))
     by_case true = same w
-    by_case false = kept_line w l _ refl
+    by_case false = kept_span w l _ refl
 
 met : (w : World) (b : Bool) (r : Result World WorldFault) (f : WorldFault) → IsKept w (or_same w r) → IsKept w (or_same w (if b then r else Err f))
 met w true r f k = k
@@ -114,12 +114,12 @@ step_keeps capacity w (Send n from dst vlan kind payload) =
     met w (has_node w n) _ _ (kept_entered capacity w (planned w n (event.Send from dst vlan kind payload)) 0 n (event.Send from dst vlan kind payload) (record { places = refl; records = refl; wires = refl }))
 step_keeps capacity w (Supervise n about) = met w (has_node w n) _ _ (kept_entered capacity w (planned w n (event.Supervise about)) 0 n (event.Supervise about) (record { places = refl; records = refl; wires = refl }))
 step_keeps capacity w (Age n) = met w (has_node w n) _ _ (kept_entered capacity w (planned w n event.Age) 0 n event.Age (record { places = refl; records = refl; wires = refl }))
-step_keeps capacity w (Put n port) = met w (has_node w n) _ _ (met w (has_port w n port) _ _ (kept_put w (spot_from (record { node = n; port = port }) 0 w.lines)))
-step_keeps capacity w (Take l dir) = met w (has_link w l) _ _ (kept_take w l dir (lane_of dir (line_at w l)).hand)
+step_keeps capacity w (Put n port) = met w (has_node w n) _ _ (met w (has_port w n port) _ _ (kept_put w (spot_from (record { node = n; port = port }) 0 w.spans)))
+step_keeps capacity w (Take l dir) = met w (has_link w l) _ _ (kept_take w l dir (lane_of dir (span_at w l)).hand)
 step_keeps capacity w (Judge n port) =
-    met w (has_node w n) _ _ (met w (has_port w n port) _ _ (kept_judged capacity w (record { node = n; port = port }) (held_in (record { node = n; port = port }) (lanes_of w.lines))))
-step_keeps capacity w (Cut l) = met w (has_link w l) _ _ (kept_line w l _ refl)
-step_keeps capacity w (Mend l) = met w (has_link w l) _ _ (kept_line w l _ refl)
+    met w (has_node w n) _ _ (met w (has_port w n port) _ _ (kept_judged capacity w (record { node = n; port = port }) (held_in (record { node = n; port = port }) (lanes_of w.spans))))
+step_keeps capacity w (Cut l) = met w (has_link w l) _ _ (kept_span w l _ refl)
+step_keeps capacity w (Mend l) = met w (has_link w l) _ _ (kept_span w l _ refl)
 step_keeps capacity w (Inject l dir octets) = met w (has_link w l) _ _ (kept_injected w l dir octets)
 
 then_kept : (u v w : World) → IsKept u v → IsKept v w → IsKept u w
@@ -130,7 +130,7 @@ run_keeps capacity [] w = same w
 run_keeps capacity (step ∷ steps) w = then_kept w (or_same w (tried capacity w step)) _ (step_keeps capacity w step) (run_keeps capacity steps (or_same w (tried capacity w step)))
 
 placed : (old new : World) → IsKept old new → IsPlaced old new
-placed old new k = record { places = k.places; records = k.records; lines = sym (length-map new.lines wire) ∙ (ap length k.wires ∙ length-map old.lines wire) }
+placed old new k = record { places = k.places; records = k.records; spans = sym (length-map new.spans wire) ∙ (ap length k.wires ∙ length-map old.spans wire) }
 
 pub always_placed : AlwaysPlaced
 always_placed capacity steps w = placed w (run capacity steps w) (run_keeps capacity steps w)
@@ -144,11 +144,11 @@ abbrev pub wire_of : List End → Wire
 wire_of (a ∷ b ∷ _) = (a, b, b, a)
 wire_of _ = (no_end, no_end, no_end, no_end)
 
-pub first_wires : (room : ℕ) (links : List (List End)) → map wire (map (new_line room) links) ≡ map wire_of links
+pub first_wires : (room : ℕ) (links : List (List End)) → map wire (map (new_span room) links) ≡ map wire_of links
 first_wires room [] = refl
-first_wires room (link ∷ links) = ap (λ x. x ∷ map wire (map (new_line room) links)) (one link) ∙ ap (λ xs. wire_of link ∷ xs) (first_wires room links)
+first_wires room (link ∷ links) = ap (λ x. x ∷ map wire (map (new_span room) links)) (one link) ∙ ap (λ xs. wire_of link ∷ xs) (first_wires room links)
   where
-    one : (x : List End) → wire (new_line room x) ≡ wire_of x
+    one : (x : List End) → wire (new_span room x) ≡ wire_of x
     one [] = refl
     one (a ∷ []) = refl
     one (a ∷ b ∷ ends) = refl
@@ -284,9 +284,9 @@ all_wired places all (link ∷ some) joins peers =
     by_link (a ∷ b ∷ c ∷ ends) j p = absurd j
     by_link (a ∷ b ∷ []) j p = (faces places a b j.first j.second j.apart j.back, faces places b a j.second j.first (λ e. j.apart (sym e)) j.forth, p)
 
--- what holds of each line, whatever was done
+-- what holds of each span, whatever was done
 pub wired_well : (capacity room : ℕ) (places : List Place) (links : List (List End)) (steps : List Step) → IsWired places links →
-    AllByRecursion (WiredWell places links) (map wire (run capacity steps (new_world room places links)).lines)
+    AllByRecursion (WiredWell places links) (map wire (run capacity steps (new_world room places links)).spans)
 wired_well capacity room places links steps w =
     subst (AllByRecursion (WiredWell places links)) (sym ((run_keeps capacity steps (new_world room places links)).wires ∙ first_wires room links))
     (all_wired places links links w.joined (peers places links w.joined w.distinct))

@@ -21,7 +21,7 @@ use Rattle.hsr_node.specs.declared.entry.Entry.{Entry}
 use Rattle.hsr_node.specs.declared.event.Probe.{Probe}
 use Rattle.hsr_node.specs.declared.place.Place.{Place}
 use Rattle.hsr_tag.specs.Tag.{IsPlain}
-use Rattle.hsr_world.specs.Lines.{Lane, Line}
+use Rattle.hsr_world.specs.Spans.{Lane, Span}
 use Rattle.hsr_world.specs.Origin.{EachCopy, is_injected}
 use Rattle.hsr_world.specs.Reached.{IsReached}
 use Rattle.hsr_world.specs.World.{World, is_empty, run, tried}
@@ -30,7 +30,7 @@ use Rattle.hsr_step.specs.declared.step.Step.{Step}
 -- the records the oldest entry first, and the rows of each link
 abbrev pub run_of : ℕ → List (List End) → World → Run
 run_of capacity links w =
-    record { capacity = capacity; places = w.places; links = links; records = map reverse w.records; rows = map (λ (line : Line). line.link.rows) w.lines }
+    record { capacity = capacity; places = w.places; links = links; records = map reverse w.records; rows = map (λ (span : Span). span.link.rows) w.spans }
 
 -- Each send's frame can be spelled: its addresses have six octets, and its VLAN tag and type 16 bits. Any value of the code is so.
 abbrev pub AreFrames : List Place → List (List Entry) → Type 0
@@ -41,18 +41,18 @@ AreFrames places records = (send : Probe) (sending : Sending)
 abbrev pub is_busy_lane : Lane → Bool
 is_busy_lane lane = not (is_empty lane.outbox) || is_some lane.hand
 
-abbrev pub is_busy : Line → Bool
-is_busy line = list_any (λ row. is_queued row.fate) line.link.rows || is_busy_lane line.forth || is_busy_lane line.back
+abbrev pub is_busy : Span → Bool
+is_busy span = list_any (λ row. is_queued row.fate) span.link.rows || is_busy_lane span.forth || is_busy_lane span.back
 
 abbrev pub IsQuiet : World → Type 0
-IsQuiet w = list_any is_busy w.lines ≡ false
+IsQuiet w = list_any is_busy w.spans ≡ false
 
 -- a world after some steps from the first one on, of a topology, where no octets were injected
 pub record IsOwn (capacity : ℕ) (places : List Place) (links : List (List End)) (w : World) : Type 0 where
   pub wired : IsWired places links
   pub reached : IsReached capacity places links w
   pub frames : AreFrames w.places w.records
-  pub own : is_injected w.lines ≡ false
+  pub own : is_injected w.spans ≡ false
 
 -- Each copy has its send's addresses, VLAN, type and payload; and where it is tagged its send's number, or for a Station's
 -- send the number that the RedBox at its link gave it first.
@@ -70,13 +70,13 @@ AlwaysCloses = (capacity : ℕ) (places : List Place) (links : List (List End)) 
 -- And it is one nowhere else.
 abbrev pub OnlyQuietCloses : Type 0
 OnlyQuietCloses = (capacity : ℕ) (places : List Place) (links : List (List End)) (w : World) → IsWired places links → IsReached capacity places links w
-    → IsClosed (run_of capacity links w) → IsQuiet w × (is_injected w.lines ≡ false)
+    → IsClosed (run_of capacity links w) → IsQuiet w × (is_injected w.spans ≡ false)
 
 -- No step changes where the nodes stand, nor how many nodes and links there are.
 pub record IsPlaced (old new : World) : Type 0 where
   pub places : new.places ≡ old.places
   pub records : length new.records ≡ length old.records
-  pub lines : length new.lines ≡ length old.lines
+  pub spans : length new.spans ≡ length old.spans
 
 abbrev pub AlwaysPlaced : Type 0
 AlwaysPlaced = (capacity : ℕ) (steps : List Step) (w : World) → IsPlaced w (run capacity steps w)

@@ -12,7 +12,7 @@ use Rattle.hsr_node.specs.Flow.{arrivals, passes}
 use Rattle.hsr_node.specs.Record.{IsLegal}
 use Rattle.hsr_node.specs.declared.entry.Entry.{Entry}
 use Rattle.hsr_node.specs.declared.place.Place.{Place}
-use Rattle.hsr_world.specs.Lines.{Lane, Line, lanes_of}
+use Rattle.hsr_world.specs.Spans.{Lane, Span, lanes_of}
 use Rattle.hsr_world.specs.World.{World, new_world, run}
 use Rattle.hsr_step.specs.declared.step.Step.{Step}
 
@@ -22,9 +22,9 @@ pub record LaneAgrees (places : List Place) (records : List (List Entry)) (dir :
   pub sent : IsPermutation (passes (owner_in places lane.from.node) lane.from.port (record_in records lane.from.node)) (put_copies dir rows ++ lane.outbox)
   pub came : IsPermutation (taken_copies dir rows) (arrivals lane.to.port (record_in records lane.to.node) ++ option_to_list lane.hand)
 
-pub record LineAgrees (places : List Place) (records : List (List Entry)) (line : Line) : Type 0 where
-  pub forth : LaneAgrees places records Forth line.link.rows line.forth
-  pub back : LaneAgrees places records Back line.link.rows line.back
+pub record SpanAgrees (places : List Place) (records : List (List Entry)) (span : Span) : Type 0 where
+  pub forth : LaneAgrees places records Forth span.link.rows span.forth
+  pub back : LaneAgrees places records Back span.link.rows span.back
 
 -- where copies come in
 abbrev pub receiving : List Lane → List End
@@ -35,8 +35,8 @@ receiving (lane ∷ lanes) = lane.to ∷ receiving lanes
 pub record IsSound (capacity : ℕ) (w : World) : Type 0 where
   pub counted : length w.records ≡ length w.places
   pub legal : (n : ℕ) → IsLegal capacity (owner_in w.places n) (record_in w.records n)
-  pub agree : AllByRecursion (LineAgrees w.places w.records) w.lines
-  pub distinct : AreDistinct (receiving (lanes_of w.lines))
+  pub agree : AllByRecursion (SpanAgrees w.places w.records) w.spans
+  pub distinct : AreDistinct (receiving (lanes_of w.spans))
 
 -- whatever is done
 abbrev pub AlwaysSound : Type 0

@@ -1,4 +1,4 @@
-pub mod Lines
+pub mod Spans
 pub mod World
 pub mod Law
 pub mod Origin

@@ -1,7 +1,7 @@
 use Rattle.std.proofs.Common.{ap, ◌∙◌, map, List}
 use Rattle.hsr_ring.specs.Starting.{new_records}
-use Rattle.hsr_ring.specs.Views.{line_view, world_of}
-use Rattle.hsr_world.specs.World.{new_line}
+use Rattle.hsr_ring.specs.Views.{span_view, world_of}
+use Rattle.hsr_world.specs.World.{new_span}
 use Rattle.hsr_closing.specs.declared.planned.Planned.{Planned}
 use Rattle.hsr_ring.proofs.Started.{new_numbered, new_world_is}
 use Rattle.hsr_ring.proofs.running.Running.new.Goals as goal
@@ -12,7 +12,7 @@ invariant_of-result g c =
 
 pub returns : goal.returns
 returns g c =
-    ap (λ (plan : List Planned). world_of 0 c.in_ok-nodes.nodes.items (map line_view c.in_ok-lines.lines.items) plan) c.new.ensures.items
-    ∙ new_world_is c.args.capacity c.args.topology.now.places c.args.topology.now.links c.in_ok-nodes.nodes.items (map line_view c.in_ok-lines.lines.items)
+    ap (λ (plan : List Planned). world_of 0 c.in_ok-nodes.nodes.items (map span_view c.in_ok-spans.spans.items) plan) c.new.ensures.items
+    ∙ new_world_is c.args.capacity c.args.topology.now.places c.args.topology.now.links c.in_ok-nodes.nodes.items (map span_view c.in_ok-spans.spans.items)
     (c.in_ok-nodes.ensures ∙ ap (new_records 0) c.places.ensures.value)
-    (c.in_ok-lines.ensures ∙ ap (map (new_line c.args.capacity)) c.links.ensures.value)
+    (c.in_ok-spans.ensures ∙ ap (map (new_span c.args.capacity)) c.links.ensures.value)

@@ -17,28 +17,29 @@ pub record Lane : Type 0 where
   pub outbox : List Carried
   pub hand : Option Carried
 
-pub record Line : Type 0 where
+-- a link, and its two directions
+pub record Span : Type 0 where
   pub link : Link
   pub forth : Lane
   pub back : Lane
 
-abbrev pub lane_of : Dir → Line → Lane
-lane_of Forth line = line.forth
-lane_of Back line = line.back
+abbrev pub lane_of : Dir → Span → Lane
+lane_of Forth span = span.forth
+lane_of Back span = span.back
 
-abbrev pub with_lane : Dir → Lane → Line → Line
-with_lane Forth lane line = record line { forth = lane }
-with_lane Back lane line = record line { back = lane }
+abbrev pub with_lane : Dir → Lane → Span → Span
+with_lane Forth lane span = record span { forth = lane }
+with_lane Back lane span = record span { back = lane }
 
-abbrev pub with_link : Link → Line → Line
-with_link link line = record line { link = link }
+abbrev pub with_link : Link → Span → Span
+with_link link span = record span { link = link }
 
-abbrev pub lanes_of : List Line → List Lane
+abbrev pub lanes_of : List Span → List Lane
 lanes_of [] = []
-lanes_of (line ∷ lines) = line.forth ∷ line.back ∷ lanes_of lines
+lanes_of (span ∷ spans) = span.forth ∷ span.back ∷ lanes_of spans
 
-abbrev pub on_lanes : (Lane → Lane) → Line → Line
-on_lanes f line = record line { forth = f line.forth; back = f line.back }
+abbrev pub on_lanes : (Lane → Lane) → Span → Span
+on_lanes f span = record span { forth = f span.forth; back = f span.back }
 
 -- what the receiving port at an end holds
 abbrev pub held_in : End → List Lane → Option Carried
@@ -60,9 +61,9 @@ pub record Spot : Type 0 where
   pub link : ℕ
   pub dir : Dir
 
--- the direction in which the port at an end sends, among the lines from the k-th on
-abbrev pub spot_from : End → ℕ → List Line → Option Spot
+-- the direction in which the port at an end sends, among the spans from the k-th on
+abbrev pub spot_from : End → ℕ → List Span → Option Spot
 spot_from end k [] = None
-spot_from end k (line ∷ lines) =
-    if is_same_end line.forth.from end then Some (record { link = k; dir = Forth })
-    else (if is_same_end line.back.from end then Some (record { link = k; dir = Back }) else spot_from end (k + 1) lines)
+spot_from end k (span ∷ spans) =
+    if is_same_end span.forth.from end then Some (record { link = k; dir = Forth })
+    else (if is_same_end span.back.from end then Some (record { link = k; dir = Back }) else spot_from end (k + 1) spans)

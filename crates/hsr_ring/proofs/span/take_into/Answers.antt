@@ -3,7 +3,7 @@ use Rattle.hsr_link.specs.declared.row.Row.{Row}
 use Rattle.hsr_link.specs.declared.row.Fate.TheVariants.{Taken}
 use Rattle.hsr_ring.specs.Views.{lane_view}
 use Rattle.hsr_ring.proofs.Places.{turned_none, take_none}
-use Rattle.hsr_ring.proofs.line.take_into.Goals as goal
+use Rattle.hsr_ring.proofs.span.take_into.Goals as goal
 
 pub returns-in_default-clause-err : goal.returns-in_default-clause-err
 returns-in_default-clause-err c =
