@@ -1,10 +1,16 @@
 -- What a parse found, by the walk of its command.
-use Rattle.std.proofs.Common.{◌≡◌, ◌≢◌, ◌<◌, inl, inr, ⊎_elim, string_bytes, List, [], ◌∷◌, length, map, Option, Some, None, option_map, IfNone, IfSome, refl, sym, ap, ap₂, subst, ◌∙◌, codes, arith, true}
+use Rattle.std.proofs.Common.{◌≡◌, ◌≢◌, ◌<◌, inl, inr, ⊎_elim, string_bytes, List, [], ◌∷◌, length, Option, Some, None, option_map, IfNone, IfSome, refl, sym, ap, ap₂, subst, ◌∙◌, codes, arith, true}
 use Rattle.clap.specs.Kinds.{HasKind, IsAmong, Kinds}
 use Rattle.clap.specs.Words.{App, Row, Text, fault_of, first_of, is_simple, is_simple_and_free, kind_of, subcommand_of}
 use Rattle.clap.specs.declared.error.Error.{Error}
 use Rattle.clap.specs.declared.error.kind.ErrorKind.TheVariants.{OutOfMemory}
-use Rattle.hsr_bench.specs.Options.{Chosen, ChosenIn, IfUsage, IsBench, IsRefused, IsTaken, Says, SaysNothing, Listed, bench_app}
+use Rattle.hsr_bench.specs.Options.{Chosen, ChosenIn, IfUsage, IsBench, IsRefused, IsTaken, ListsModes, ListsTables, Says, SaysNothing, Listed, bench_app}
+use Rattle.hsr_frame.specs.Words.{mode_of, mode_word}
+use Rattle.hsr_frame.specs.declared.node.Mode.{Mode}
+use Rattle.hsr_frame.specs.declared.node.Mode.TheVariants.{H, N}
+use Rattle.hsr_engines.specs.Tables.{table_of, table_word}
+use Rattle.hsr_engines.specs.declared.chosen.Table.{Table}
+use Rattle.hsr_engines.specs.declared.chosen.Table.TheVariants.{Small, Large}
 use Rattle.hsr_bench.specs.declared.chosen.OptionFault.{OptionFault}
 use Rattle.hsr_bench.specs.declared.chosen.OptionFault.TheVariants.{Usage, Memory}
 use Rattle.hsr_bench.specs.declared.chosen.Options.{Options}
@@ -37,8 +43,7 @@ chosen_to found name rows o e h = subst (λ f. ChosenIn f o) e h
 pub is_simple_bench : (modes tables : Listed) → is_simple (bench_app modes tables) ≡ true
 is_simple_bench modes tables = refl
 
-pub says : (words : List Text) (modes tables : Listed) (o : Options) → 0 < length words → map (λ s. s.now) modes.now ≡ codes "H" ∷ codes "N" ∷ []
-    → map (λ s. s.now) tables.now ≡ codes "small" ∷ codes "large" ∷ [] → ChosenIn (subcommand_of (bench_app modes tables) words) o → Says words o
+pub says : (words : List Text) (modes tables : Listed) (o : Options) → 0 < length words → ListsModes modes → ListsTables tables → ChosenIn (subcommand_of (bench_app modes tables) words) o → Says words o
 says [] modes tables o h a b c = absurd (omega arith)
 says (w ∷ ws) modes tables o h a b c = (modes, tables, a, b, c)
 
@@ -82,3 +87,41 @@ none_weaker (Some x) P Q f h = tt
 pub first_part : {X A B : Type 0} (n : X → A) (r : X → B) (o : Option X) → option_map (λ (p : A × B). p.0) (option_map (λ x. (n x, r x)) o) ≡ option_map n o
 first_part n r None = refl
 first_part n r (Some x) = refl
+
+-- ---- a mode and a size of tables, by their words
+
+pub mode_found : (r : Option Mode) (w : Text) (found : Option Text) → IfSome r (λ m. w ≡ mode_word m) → found ≡ Some w → IfSome r (λ m. found ≡ Some (mode_word m))
+mode_found None w found h is = tt
+mode_found (Some m) w found h is = is ∙ ap Some h
+
+pub mode_unread : (r : Option Mode) (w : Text) (found : Option Text) → r ≡ mode_of w → found ≡ Some w → IfNone r ((m : Mode) → found ≢ Some (mode_word m))
+mode_unread (Some m) w found e is = tt
+mode_unread None w found e is = by_mode
+  where
+    of_word : (m : Mode) → mode_of (mode_word m) ≡ Some m
+    of_word H = refl
+    of_word N = refl
+
+    by_mode : (m : Mode) → found ≢ Some (mode_word m)
+    by_mode m h =
+        let same : w ≡ mode_word m = cc in
+        let none = e ∙ ap mode_of same ∙ of_word m in
+        cc
+
+pub table_found : (r : Option Table) (w : Text) (found : Option Text) → IfSome r (λ t. w ≡ table_word t) → found ≡ Some w → IfSome r (λ t. found ≡ Some (table_word t))
+table_found None w found h is = tt
+table_found (Some t) w found h is = is ∙ ap Some h
+
+pub table_unread : (r : Option Table) (w : Text) (found : Option Text) → r ≡ table_of w → found ≡ Some w → IfNone r ((t : Table) → found ≢ Some (table_word t))
+table_unread (Some t) w found e is = tt
+table_unread None w found e is = by_size
+  where
+    of_word : (t : Table) → table_of (table_word t) ≡ Some t
+    of_word Small = refl
+    of_word Large = refl
+
+    by_size : (t : Table) → found ≢ Some (table_word t)
+    by_size t h =
+        let same : w ≡ table_word t = cc in
+        let none = e ∙ ap table_of same ∙ of_word t in
+        cc

@@ -5,15 +5,15 @@ use Rattle.clap.specs.Words.{App, Row, Rule, Text, new_app, new_rule, with_rule,
 use Rattle.clap.specs.declared.builder.ArgAction.TheVariants.{SetTrue}
 use Rattle.clap.specs.declared.builder.value_parser.ValueParser.TheVariants.{Names}
 use Rattle.hsr_frame.specs.Address.{address_of}
-use Rattle.hsr_frame.specs.declared.node.Mode.TheVariants.{H}
-use Rattle.hsr_engines.specs.declared.chosen.Table.{Table}
+use Rattle.hsr_frame.specs.Words.{mode_word}
+use Rattle.hsr_frame.specs.declared.node.Mode.TheVariants.{H, N}
+use Rattle.hsr_engines.specs.Tables.{table_word}
 use Rattle.hsr_engines.specs.declared.chosen.Table.TheVariants.{Small, Large}
 use Rattle.hsr_engines.specs.declared.chosen.NodeOptions.{NodeOptions}
 use Rattle.hsr_bench.specs.declared.chosen.OptionFault.{OptionFault}
 use Rattle.hsr_bench.specs.declared.chosen.OptionFault.TheVariants.{Usage, Memory}
 use Rattle.hsr_bench.specs.declared.chosen.Options.{Options}
 use Rattle.hsr_bench.specs.declared.chosen.Options.TheVariants.{Node, Run, Audit}
-use Rattle.hsr_transcript_text.specs.Spelled.{mode_text}
 
 -- ---- the command line
 
@@ -21,17 +21,24 @@ use Rattle.hsr_transcript_text.specs.Spelled.{mode_text}
 abbrev pub Listed : Type 0
 Listed = Bor (List (Bor (List ℕ)))
 
+-- the words of the modes, and of the sizes of tables
+abbrev pub ListsModes : Listed → Type 0
+ListsModes modes = map (λ s. s.now) modes.now ≡ mode_word H ∷ mode_word N ∷ []
+
+abbrev pub ListsTables : Listed → Type 0
+ListsTables tables = map (λ s. s.now) tables.now ≡ table_word Small ∷ table_word Large ∷ []
+
 -- `--mac`, with its default
 abbrev pub mac_rule : Rule
 mac_rule = record (new_rule (codes "mac")) { long = Some (codes "mac"); defaults = codes "02-00-00-00-00-01" ∷ [] }
 
 -- `--mode`, one of some names, with its default
 abbrev pub mode_rule : Listed → Rule
-mode_rule modes = record (new_rule (codes "mode")) { long = Some (codes "mode"); defaults = codes "H" ∷ []; parser = Some (Names modes) }
+mode_rule modes = record (new_rule (codes "mode")) { long = Some (codes "mode"); defaults = mode_word H ∷ []; parser = Some (Names modes) }
 
 -- `--table`, one of some names, with its default
 abbrev pub table_rule : Listed → Rule
-table_rule tables = record (new_rule (codes "table")) { long = Some (codes "table"); defaults = codes "large" ∷ []; parser = Some (Names tables) }
+table_rule tables = record (new_rule (codes "table")) { long = Some (codes "table"); defaults = table_word Large ∷ []; parser = Some (Names tables) }
 
 -- `--transcript`, which takes no value
 abbrev pub transcript_rule : Rule
@@ -55,10 +62,6 @@ bench_app modes tables =
 
 -- ---- what is chosen
 
-abbrev pub table_text : Table → Text
-table_text Small = codes "small"
-table_text Large = codes "large"
-
 abbrev pub flag_text : Bool → Text
 flag_text true = codes "true"
 flag_text false = codes "false"
@@ -66,14 +69,14 @@ flag_text false = codes "false"
 -- a node's options are the values that were found: the address that a text spells, and two names
 abbrev pub IsNode : (Text → Option Text) → NodeOptions → Type 0
 IsNode found node = ((t : Text) × (found (codes "mac") ≡ Some t) × (address_of t ≡ Ok node.mac))
-    × (found (codes "mode") ≡ Some (mode_text node.mode)) × (found (codes "table") ≡ Some (table_text node.table))
+    × (found (codes "mode") ≡ Some (mode_word node.mode)) × (found (codes "table") ≡ Some (table_word node.table))
 
 -- the options are the values of a subcommand, by its name and what it found
 abbrev pub Chosen : Text → (Text → Option Text) → Options → Type 0
 Chosen name found (Node node) = (name ≡ codes "node") × IsNode found node
 Chosen name found (Run table transcript) =
-    (name ≡ codes "run") × (found (codes "table") ≡ Some (table_text table)) × (found (codes "transcript") ≡ Some (flag_text transcript))
-Chosen name found (Audit table) = (name ≡ codes "audit") × (found (codes "table") ≡ Some (table_text table))
+    (name ≡ codes "run") × (found (codes "table") ≡ Some (table_word table)) × (found (codes "transcript") ≡ Some (flag_text transcript))
+Chosen name found (Audit table) = (name ≡ codes "audit") × (found (codes "table") ≡ Some (table_word table))
 
 abbrev pub ChosenIn : Option (Text × List Row) → Options → Type 0
 ChosenIn None o = ⊥
@@ -83,15 +86,13 @@ ChosenIn (Some found) o = Chosen found.0 (λ id. first_of id found.1) o
 abbrev pub Says : List Text → Options → Type 0
 Says [] (Node node) = (node.mac ≡ 2 ∷ 0 ∷ 0 ∷ 0 ∷ 0 ∷ 1 ∷ []) × (node.mode ≡ H) × (node.table ≡ Large)
 Says [] o = ⊥
-Says (w ∷ ws) o = (modes : Listed) × (tables : Listed) × (map (λ s. s.now) modes.now ≡ codes "H" ∷ codes "N" ∷ [])
-    × (map (λ s. s.now) tables.now ≡ codes "small" ∷ codes "large" ∷ []) × ChosenIn (subcommand_of (bench_app modes tables) (w ∷ ws)) o
+Says (w ∷ ws) o = (modes : Listed) × (tables : Listed) × ListsModes modes × ListsTables tables × ChosenIn (subcommand_of (bench_app modes tables) (w ∷ ws)) o
 
 -- ---- what is refused
 
 -- the bench's command, with the names that it takes for modes and tables
 abbrev pub IsBench : App → Type 0
-IsBench app = (modes : Listed) × (tables : Listed) × (map (λ s. s.now) modes.now ≡ codes "H" ∷ codes "N" ∷ [])
-    × (map (λ s. s.now) tables.now ≡ codes "small" ∷ codes "large" ∷ []) × (app ≡ bench_app modes tables)
+IsBench app = (modes : Listed) × (tables : Listed) × ListsModes modes × ListsTables tables × (app ≡ bench_app modes tables)
 
 -- the command finds no fault in the words
 abbrev pub IsTaken : List Text → Type 0

@@ -3,7 +3,8 @@ use Rattle.std.specs.Prelude.{ℕ, List, Option}
 use Rattle.hsr_text.specs.Lines.{lines_of}
 use Rattle.hsr_danh.specs.Machine.{new_machine}
 use Rattle.hsr_engines.specs.AuditRun.{AuditEnds}
-use Rattle.hsr_engines.specs.Output.{Ended, capacity_of, output}
+use Rattle.hsr_engines.specs.Output.{Ended, output}
+use Rattle.hsr_engines.specs.Tables.{capacity_of}
 use Rattle.hsr_engines.specs.ScenarioRun.{ScenarioEnds, scenario_of}
 use Rattle.hsr_bench.specs.declared.chosen.Options.{Options}
 use Rattle.hsr_bench.specs.declared.chosen.Options.TheVariants.{Node, Run, Audit}

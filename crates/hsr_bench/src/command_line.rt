@@ -1,12 +1,13 @@
 //! Reads the words of a command line, by clap.
 ghost use Rattle.std.specs.Prelude.{◌≡◌, ◌≢◌, IfErr, IfNone, IfOk, IfSome, OnOk, Some, Ok, codes, false, map};
 ghost use Rattle.hsr_frame.specs.Address.{IsGroup, address_of};
+ghost use Rattle.hsr_frame.specs.Words.{mode_word};
+ghost use Rattle.hsr_engines.specs.Tables.{table_word};
 ghost use Rattle.clap.specs.Words.{Text, app_of, first_value, found_of, kind_of, rule_of, subcommand_rows_of};
 ghost use Rattle.clap.specs.declared.builder.Command.TheViews.{out-Command as fields_of};
 ghost use Rattle.clap.specs.declared.error.kind.ErrorKind.TheVariants.{OutOfMemory};
 ghost use Rattle.hsr_bench.specs.declared.chosen.OptionFault.TheVariants.{Memory};
-ghost use Rattle.hsr_bench.specs.Options.{Chosen, ChosenIn, IfUsage, IsNode, IsRefused, IsTaken, Says, SaysNothing, audit_app, bench_app, flag_text, mac_rule, mode_rule, node_app, run_app, table_rule, table_text, top_app, transcript_rule};
-ghost use Rattle.hsr_transcript_text.specs.Spelled.{mode_text};
+ghost use Rattle.hsr_bench.specs.Options.{Chosen, ChosenIn, IfUsage, IsNode, IsRefused, IsTaken, Says, SaysNothing, audit_app, bench_app, flag_text, mac_rule, mode_rule, node_app, run_app, table_rule, top_app, transcript_rule};
 
 use crate::chosen::{OptionFault, Options};
 use clap::error::ErrorKind;
@@ -14,10 +15,6 @@ use clap::{Arg, ArgAction, ArgMatches, Command, Error};
 use hsr_engines::{NodeOptions, Table};
 use hsr_frame::{Mac, Mode};
 use std::alloc::{AllocError, Global};
-
-static MODES: [&str; 2] = ["H", "N"];
-
-static TABLES: [&str; 2] = ["small", "large"];
 
 const NODE_LINES: &str = "\
 Each line of standard input, with one space between its words, is one of:
@@ -99,7 +96,7 @@ fn mode_arg<'a>(alloc: Global, modes: &'a [&'a str]) -> Arg<'a>
         .long("mode")
         .help("Forwards round the ring (H) or not (N)")
         .value_parser(modes)
-        .default_value("H")
+        .default_value(Mode::H.word())
 }
 
 fn table_arg<'a>(alloc: Global, tables: &'a [&'a str]) -> Arg<'a>
@@ -110,7 +107,7 @@ fn table_arg<'a>(alloc: Global, tables: &'a [&'a str]) -> Arg<'a>
         .long("table")
         .help("Entries of a duplicate table: 4 (small) or 512 (large)")
         .value_parser(tables)
-        .default_value("large")
+        .default_value(Table::Large.word())
 }
 
 fn transcript_arg<'a>(alloc: Global) -> Arg<'a>
@@ -209,26 +206,20 @@ fn usage(alloc: Global, text: &str) -> OptionFault
     }
 }
 
+#[tactic(auto, using(crate::proofs::Found::table_found, crate::proofs::Found::table_unread))]
 fn table_of(matches: &ArgMatches<'_>) -> Option<Table>
-    ensures found { IfSome result (λ t. first_value (found_of matches.now) (codes "table") ≡ Some (table_text t)) }
-    ensures none { IfNone result ((t : _) → first_value (found_of matches.now) (codes "table") ≢ Some (table_text t)) }
+    ensures found { IfSome result (λ t. first_value (found_of matches.now) (codes "table") ≡ Some (table_word t)) }
+    ensures none { IfNone result ((t : _) → first_value (found_of matches.now) (codes "table") ≢ Some (table_word t)) }
 {
-    match matches.get_str("table") {
-        Some("small") => Some(Table::Small),
-        Some("large") => Some(Table::Large),
-        _ => None,
-    }
+    Table::from_word(matches.get_str("table")?.as_bytes())
 }
 
+#[tactic(auto, using(crate::proofs::Found::mode_found, crate::proofs::Found::mode_unread))]
 fn mode_of(matches: &ArgMatches<'_>) -> Option<Mode>
-    ensures found { IfSome result (λ m. first_value (found_of matches.now) (codes "mode") ≡ Some (mode_text m)) }
-    ensures none { IfNone result ((m : _) → first_value (found_of matches.now) (codes "mode") ≢ Some (mode_text m)) }
+    ensures found { IfSome result (λ m. first_value (found_of matches.now) (codes "mode") ≡ Some (mode_word m)) }
+    ensures none { IfNone result ((m : _) → first_value (found_of matches.now) (codes "mode") ≢ Some (mode_word m)) }
 {
-    match matches.get_str("mode") {
-        Some("H") => Some(Mode::H),
-        Some("N") => Some(Mode::N),
-        _ => None,
-    }
+    Mode::from_word(matches.get_str("mode")?.as_bytes())
 }
 
 fn transcript_of(matches: &ArgMatches<'_>) -> Option<bool>
@@ -308,7 +299,9 @@ pub fn options<'a>(alloc: Global, words: &'a [&'a str]) -> Result<Options, Optio
             table: Table::Large,
         }));
     }
-    let command = bench_command(alloc, MODES.as_slice(), TABLES.as_slice())?;
+    let modes = [Mode::H.word(), Mode::N.word()];
+    let tables = [Table::Small.word(), Table::Large.word()];
+    let command = bench_command(alloc, modes.as_slice(), tables.as_slice())?;
     match command.try_get_matches_from(words) {
         Ok(matches) => match chosen_in(&matches) {
             Some(options) => Ok(options),

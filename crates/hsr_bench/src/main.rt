@@ -1,4 +1,6 @@
 //! The bench's program: a command and its options, standard input, standard output.
+//!
+//! Its modules, in the order to read them: `chosen`, `command_line`, `performing`.
 #![tactic(auto)]
 
 ghost use Rattle.std.specs.Prelude.{◌≡◌, ◌⊎◌, IfOk, drop, map, string_bytes};
@@ -15,7 +17,7 @@ mod performing;
 use crate::chosen::{OptionFault, Options};
 use crate::command_line::options;
 use crate::performing::perform;
-use hsr_engines::{Fault, Status};
+pub use hsr_engines::{Fault, NodeOptions, Status, Table, audit_run, node_run, scenario_run};
 use std::alloc::{AllocError, Global};
 use std::io::{BufReader, BufWriter, ErrorKind, Write};
 use std::process::ExitCode;

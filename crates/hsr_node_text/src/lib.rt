@@ -1,4 +1,6 @@
 //! The lines of `node`: what each asks for, and the lines that answer it.
+//!
+//! Its modules, in the order to read them: `request`, `reply`, `answer`.
 #![tactic(auto)]
 
 mod answer;
