@@ -1,6 +1,9 @@
 //! What `run --transcript` writes, and what `audit` makes of it.
-use crate::fixtures::{FailingReader, FailingWriter, ONE_NODE, ONE_SEND, RING, RING_TRANSCRIPT};
-use crate::scenario_run_tests::{GROUP_SEND, RING_REPORT, run_shown};
+use crate::fixtures::{
+    FailingReader, FailingWriter, GROUP_SEND, ONE_NODE, ONE_SEND, RING, RING_REPORT,
+    RING_TRANSCRIPT,
+};
+use crate::scenario_run_tests::run_shown;
 use hsr_closing::Disagree;
 use hsr_engines::{Fault, Status, Table, TranscriptFault, audit_run};
 use hsr_link::Dir;

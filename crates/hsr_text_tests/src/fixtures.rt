@@ -96,6 +96,49 @@ pub const RED: &str = r#"node = [
 link = [{ends=["n0.B","r.A"]}, {ends=["r.B","n0.A"]}, {ends=["r.I","s.P"]}]
 "#;
 
+/// The nodes of a ring of three, in tables of their own.
+pub const NODES: &str = r#"
+[[node]]
+name = "n0"
+role = "danh"
+mac = "02-00-00-00-00-01"
+[[node]]
+name = "n1"
+role = "danh"
+mac = "02-00-00-00-00-02"
+[[node]]
+name = "n2"
+role = "danh"
+mac = "02-00-00-00-00-03"
+"#;
+
+/// The links of that ring.
+pub const LINKS: &str = r#"
+[[link]]
+ends = ["n0.B", "n1.A"]
+[[link]]
+ends = ["n1.B", "n2.A"]
+[[link]]
+ends = ["n2.B", "n0.A"]
+"#;
+
+/// The first node sends to a group.
+pub const GROUP_SEND: &str = r#"
+{do="send", node="n0", to="01-00-5E-00-00-01", type=0x0800, payload="AABB"},
+{do="drain"},
+"#;
+
+/// The report of that send round the ring.
+pub const RING_REPORT: &str = "bench 1 table 512 nodes 3 links 3
+node 0 danh sent 1 life 0 up 0 forwarded 0 duplicate 0 returned 2 dropped 0
+node 1 danh sent 0 life 0 up 1 forwarded 2 duplicate 0 returned 0 dropped 0
+node 2 danh sent 0 life 0 up 1 forwarded 2 duplicate 0 returned 0 dropped 0
+link 0 put 2 taken 2 lost 0
+link 1 put 2 taken 2 lost 0
+link 2 put 2 taken 2 lost 0
+certified 1
+";
+
 // ---- transcripts
 
 /// One DANH without a link that sent one frame.

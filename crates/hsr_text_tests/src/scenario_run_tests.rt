@@ -1,5 +1,7 @@
 //! What `run` writes of scenarios, and how it ends.
-use crate::fixtures::{FailingReader, FailingWriter, PAIR, QUAD, RED, RING, joined};
+use crate::fixtures::{
+    FailingReader, FailingWriter, GROUP_SEND, PAIR, QUAD, RED, RING, RING_REPORT, joined,
+};
 use hsr_closing::Disagree;
 use hsr_engines::{Fault, Status, Table, scenario_run};
 use hsr_scenario::{ScenarioFault, Spot, What};
@@ -25,23 +27,6 @@ pub fn run_shown(
 fn run(alloc: Global, nodes: &str, steps: &str) -> Result<(Status, Vec<u8>), AllocError> {
     run_shown(alloc, nodes, steps, false)
 }
-
-/// The first node sends to a group.
-pub const GROUP_SEND: &str = r#"
-{do="send", node="n0", to="01-00-5E-00-00-01", type=0x0800, payload="AABB"},
-{do="drain"},
-"#;
-
-/// The report of that send round the ring.
-pub const RING_REPORT: &str = "bench 1 table 512 nodes 3 links 3
-node 0 danh sent 1 life 0 up 0 forwarded 0 duplicate 0 returned 2 dropped 0
-node 1 danh sent 0 life 0 up 1 forwarded 2 duplicate 0 returned 0 dropped 0
-node 2 danh sent 0 life 0 up 1 forwarded 2 duplicate 0 returned 0 dropped 0
-link 0 put 2 taken 2 lost 0
-link 1 put 2 taken 2 lost 0
-link 2 put 2 taken 2 lost 0
-certified 1
-";
 
 #[test]
 fn group_round_a_ring(rt: HostRuntime) -> Result<(), Fail> {

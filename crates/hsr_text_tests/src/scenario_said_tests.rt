@@ -1,6 +1,5 @@
 //! What documents say, and the words of faults.
-use crate::fixtures::joined;
-use crate::scenario_tests::NODES;
+use crate::fixtures::{NODES, joined};
 use arrayvec::ArrayVec;
 use hsr_frame::{About, Mac, Mode};
 use hsr_link::Dir;

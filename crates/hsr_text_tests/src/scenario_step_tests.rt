@@ -1,6 +1,6 @@
 //! One document for each fault and key of a step.
-use crate::fixtures::joined;
-use crate::scenario_tests::{LINKS, NODES, check_rows};
+use crate::fixtures::{LINKS, NODES, joined};
+use crate::scenario_tests::check_rows;
 use hsr_scenario::Key::{
     About, At, Dir, Do, From, Kind, Link, Node, Octets, Payload, Port, Step, To, Vlan,
 };

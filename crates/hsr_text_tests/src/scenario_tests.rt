@@ -1,5 +1,5 @@
 //! One document for each fault and key of a document, its nodes and its links.
-use crate::fixtures::joined;
+use crate::fixtures::{NODES, joined};
 use hsr_scenario::Key::{Capacity, Ends, Link, Mac, Macs, Mode, Name, Node, Role, Step};
 use hsr_scenario::What::{
     BadValue, Missing, NameTwice, NoSuchName, Text, Topology, Unknown, WrongKind,
@@ -9,32 +9,6 @@ use hsr_topology::TopologyFault::{BadNode, PortTwice, WrongPeer};
 use std::alloc::Global;
 use std::process::Abort;
 use std::test::Fail;
-
-/// Three nodes on a ring, without their links.
-pub const NODES: &str = r#"
-[[node]]
-name = "n0"
-role = "danh"
-mac = "02-00-00-00-00-01"
-[[node]]
-name = "n1"
-role = "danh"
-mac = "02-00-00-00-00-02"
-[[node]]
-name = "n2"
-role = "danh"
-mac = "02-00-00-00-00-03"
-"#;
-
-/// Their links.
-pub const LINKS: &str = r#"
-[[link]]
-ends = ["n0.B", "n1.A"]
-[[link]]
-ends = ["n1.B", "n2.A"]
-[[link]]
-ends = ["n2.B", "n0.A"]
-"#;
 
 /// Each row is what follows the front of a document, and what its first fault is, which is at this spot.
 pub fn check_rows(
