@@ -1,8 +1,11 @@
 //! Why a text is no scenario.
 ghost use Rattle.std.specs.Prelude.{◌≡◌, Some};
 ghost use Rattle.hsr_scenario.specs.Fault.{key_text};
+ghost use Rattle.hsr_scenario.specs.declared.fault.What.TheVariants.{NoMemory as NoRoom};
 
+use hsr_frame::NoMemory;
 use hsr_topology::TopologyFault;
+use std::alloc::AllocFailed;
 use std::error::Error;
 use std::fmt;
 
@@ -152,6 +155,22 @@ impl fmt::Display for What {
             }
             What::NoMemory => write!(f, "no-memory"),
         }
+    }
+}
+
+impl From<NoMemory> for What {
+    ghost from_gives = { λ _ what. what ≡ NoRoom };
+
+    fn from(_refused: NoMemory) -> What {
+        What::NoMemory
+    }
+}
+
+impl<T: Drop> From<AllocFailed<T>> for What {
+    ghost from_gives = { λ _ what. what ≡ NoRoom };
+
+    fn from(_refused: AllocFailed<T>) -> What {
+        What::NoMemory
     }
 }
 

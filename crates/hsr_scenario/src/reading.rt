@@ -9,6 +9,7 @@ ghost use Rattle.hsr_scenario.specs.Steps.{order_in};
 ghost use Rattle.hsr_scenario.specs.Meaning.{content, document, joined, meaning, scenario_view, topology_of, with_steps};
 ghost use Rattle.hsr_scenario.specs.declared.fault.Key.TheVariants as key;
 ghost use Rattle.hsr_scenario.specs.declared.fault.Spot.TheVariants as spot;
+ghost use Rattle.hsr_scenario.specs.declared.fault.What.TheVariants.{NoMemory};
 
 use crate::fault::{Key, ScenarioFault, Spot, What};
 use crate::links::link;
@@ -40,6 +41,16 @@ fn at_spot<T>(spot: Spot, told: Result<T, What>) -> Result<T, ScenarioFault>
     }
 }
 
+/// The fault where room for what a table says is refused.
+fn no_memory_at(spot: Spot) -> ScenarioFault
+    ensures { result ≡ record { spot = spot; what = NoMemory } }
+{
+    ScenarioFault {
+        spot,
+        what: What::NoMemory,
+    }
+}
+
 // ---- each table of a list
 
 /// The node of a table that follows others.
@@ -60,12 +71,7 @@ fn nodes_of(alloc: Global, tables: &[&Table]) -> Result<Vec<Named>, ScenarioFaul
         match node_at(alloc, nodes.as_slice(), table) {
             Ok(node) => {
                 let spot = Spot::Node(nodes.len());
-                if nodes.push(node).is_err() {
-                    return Err(ScenarioFault {
-                        spot,
-                        what: What::NoMemory,
-                    });
-                }
+                nodes.push(node).or(Err(no_memory_at(spot)))?;
             }
             Err(fault) => return Err(fault),
         }
@@ -100,12 +106,7 @@ fn links_of(
         match link_at(alloc, nodes, links.len(), table) {
             Ok(link) => {
                 let spot = Spot::Link(links.len());
-                if links.push(link).is_err() {
-                    return Err(ScenarioFault {
-                        spot,
-                        what: What::NoMemory,
-                    });
-                }
+                links.push(link).or(Err(no_memory_at(spot)))?;
             }
             Err(fault) => return Err(fault),
         }
@@ -142,12 +143,7 @@ fn orders_of(
         match order_at(alloc, nodes, links, orders.len(), table) {
             Ok(order) => {
                 let spot = Spot::Step(orders.len());
-                if orders.push(order).is_err() {
-                    return Err(ScenarioFault {
-                        spot,
-                        what: What::NoMemory,
-                    });
-                }
+                orders.push(order).or(Err(no_memory_at(spot)))?;
             }
             Err(fault) => return Err(fault),
         }
@@ -163,12 +159,8 @@ fn places_of(alloc: Global, nodes: &[Named]) -> Result<Vec<Place>, What>
 {
     let mut places = Vec::new(alloc);
     for node in nodes.iter() {
-        let Ok(place) = node.place.copy() else {
-            return Err(What::NoMemory);
-        };
-        if places.push(place).is_err() {
-            return Err(What::NoMemory);
-        }
+        let place = node.place.copy()?;
+        places.push(place)?;
     }
     Ok(places)
 }

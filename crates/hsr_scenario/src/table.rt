@@ -129,11 +129,7 @@ pub(crate) fn texts<'a>(alloc: Global, key: Key, value: &'a Value) -> Result<Vec
     let mut texts = Vec::new(alloc);
     for item in items.iter() {
         match item.as_str() {
-            Some(text) => {
-                if texts.push(text).is_err() {
-                    return Err(What::NoMemory);
-                }
-            }
+            Some(text) => texts.push(text)?,
             None => return Err(What::WrongKind(key)),
         }
     }
@@ -149,11 +145,7 @@ pub(crate) fn tables<'a>(alloc: Global, key: Key, value: &'a Value) -> Result<Ve
     let mut tables = Vec::new(alloc);
     for item in items.iter() {
         match item.as_table() {
-            Some(table) => {
-                if tables.push(table).is_err() {
-                    return Err(What::NoMemory);
-                }
-            }
+            Some(table) => tables.push(table)?,
             None => return Err(What::WrongKind(key)),
         }
     }
