@@ -9,7 +9,7 @@ use Rattle.hsr_duptable.specs.Table.{Table, empty_table, remembers, after_note, 
 use Rattle.hsr_duptable.specs.Log.{remembered, StandsFor, Call, noting, ageing, IsTimely, after_calls, log_of, AnswersAsLog}
 use Rattle.hsr_duptable.specs.Key.{Key}
 use Rattle.hsr_duptable.specs.declared.note.Note.{Note}
-use Rattle.hsr_duptable.proofs.RisingNotes.{unexpired_notes-all, unexpired_notes-expired, IsRising-push, IsRising-drop, IsRising-raise, IsRising-unexpired_notes}
+use Rattle.hsr_duptable.proofs.RisingNotes.{unexpired_notes-all, unexpired_notes-expired, IsRising-push, IsRising-drop, IsRising-raise, IsRising-filter}
 
 -- ---- the last notes
 
@@ -124,7 +124,7 @@ StandsFor-age capacity table log at h s =
           rw (last_notes-append (capacity - length table.notes) (capacity - length kept) s.older parts.gone room)
           (filter-append (is_unexpired table.forget later) (last_notes (capacity - length table.notes) s.older) parts.gone
           ∙ both (s.gone later (omega arith)) (parts.stay later l));
-      rising = IsRising-raise 0 kept table.last at h (IsRising-unexpired_notes table.forget at 0 table.notes table.last s.rising);
+      rising = IsRising-raise 0 kept table.last at h (IsRising-filter (is_unexpired table.forget at) 0 table.notes table.last s.rising);
       counted = s.counted;
     }
   where

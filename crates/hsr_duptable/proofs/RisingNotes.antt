@@ -1,6 +1,6 @@
 -- Notes whose moments never fall.
 use Rattle.std.proofs.Common.{◌≡◌, ℕ, zero, suc, ◌-◌, ◌<◌, ◌≤◌, Bool, true, false, cond, ◌||◌, List, [], ◌∷◌, ◌++◌, drop, refl, sym, ◌∙◌, Some, None, arith}
-use Rattle.std.specs.Prelude.{slice_get}
+use Rattle.std.specs.Prelude.{filter, slice_get}
 use Rattle.std.proofs.lemmas.List.Elements.{filter-append}
 use Rattle.std.proofs.lemmas.List.Folds.{list_any-append}
 use Rattle.std.proofs.lemmas.Bool.Decides.{nat_tests}
@@ -28,13 +28,13 @@ IsRising-drop zero first xs last r = r
 IsRising-drop (suc n) first [] last r = r
 IsRising-drop (suc n) first (x ∷ xs) last r = IsRising-drop n first xs last (IsRising-lower first x.moment xs last r.0 r.1)
 
-pub IsRising-unexpired_notes : (forget at first : ℕ) (xs : List Note) (last : ℕ) → IsRising first xs last → IsRising first (unexpired_notes forget at xs) last
-IsRising-unexpired_notes forget at first [] last r = r
-IsRising-unexpired_notes forget at first (x ∷ xs) last r =
-    let rest = IsRising-unexpired_notes forget at x.moment xs last r.1 in
-    elim (is_unexpired forget at x) as (λ b. IsRising first (cond b (x ∷ unexpired_notes forget at xs) (unexpired_notes forget at xs)) last) [
+pub IsRising-filter : (p : Note → Bool) (first : ℕ) (xs : List Note) (last : ℕ) → IsRising first xs last → IsRising first (filter p xs) last
+IsRising-filter p first [] last r = r
+IsRising-filter p first (x ∷ xs) last r =
+    let rest = IsRising-filter p x.moment xs last r.1 in
+    elim (p x) as (λ b. IsRising first (cond b (x ∷ filter p xs) (filter p xs)) last) [
       | true ↦ (r.0, rest)
-      | false ↦ IsRising-lower first x.moment (unexpired_notes forget at xs) last r.0 rest
+      | false ↦ IsRising-lower first x.moment (filter p xs) last r.0 rest
     ]
 
 -- the notes but the youngest
@@ -95,6 +95,20 @@ has_key-other forget at key left xs x cut other =
     or_false : (b : Bool) → (b || false) ≡ b
     or_false true = refl
     or_false false = refl
+
+-- a note of the key: it is the youngest, so it answers for all
+pub has_key-found : (forget at : ℕ) (key : Key) (left xs : List Note) (x : Note) (last : ℕ) → left ≡ xs ++ x ∷ [] → IsRising 0 left last → is_same_key x.key key ≡ true → has_key key (unexpired_notes forget at left) ≡ is_unexpired forget at x
+has_key-found forget at key left xs x last cut r same = by_case (is_unexpired forget at x) refl
+  where
+    or_true : (b : Bool) → (b || true) ≡ true
+    or_true true = refl
+    or_true false = refl
+
+    by_case : (t : Bool) → is_unexpired forget at x ≡ t → has_key key (unexpired_notes forget at left) ≡ t
+    by_case false h = has_key-expired forget at key left xs x last cut r h
+    by_case true h =
+        rw (cut, filter-append (is_unexpired forget at) xs (x ∷ []), h, list_any-append (λ (n : Note). is_same_key n.key key) (unexpired_notes forget at xs) (x ∷ []), same)
+        (or_true (has_key key (unexpired_notes forget at xs)))
 
 -- ---- what is at the front
 

@@ -2,9 +2,11 @@
 //!
 //! Its modules, in the order in which to read them:
 //! - `note`: what a table holds
+//! - `chain`: notes in chains, and the search along one
 //! - `table`: the table, and its law
 #![tactic(auto)]
 
+mod chain;
 mod note;
 mod table;
 

@@ -1,11 +1,11 @@
-//! The duplicate table in its plain form: a ring of notes that is searched from its youngest end.
+//! The duplicate table: a ring of notes in as many chains as it has room for notes.
 ghost use Rattle.std.specs.Prelude.{◌≡◌, ◌&&◌, not, ℕ, ◌^◌, ◌<◌, ◌≤◌, length, IfOk};
 ghost use Rattle.hsr_frame.specs.Counters.{step_limit};
-ghost use Rattle.circular_buffer.specs.Buffer.{buffer};
-ghost use Rattle.hsr_duptable.specs.Notes.{has_key, unexpired_notes, IsRising};
 ghost use Rattle.hsr_duptable.specs.Log.{AnswersAsLog};
 
+use crate::chain::{Entry, give_up_expired, look_up};
 use crate::note::{Key, Note};
+use byteorder::{BigEndian, ByteOrder};
 use circular_buffer::HeapCircularBuffer;
 use hsr_frame::NoMemory;
 use std::alloc::Global;
@@ -13,10 +13,13 @@ use std::marker::Model;
 
 /// The frames that passed an egress, the youngest `C` of them, `C` from 1 to 65535.
 ///
-/// A clause sees the list of its notes, the oldest first. Only `new` takes memory.
+/// A clause sees the list of its notes, the oldest first. Only `new` takes memory. A frame is sought among the notes of
+/// its bucket alone, of which there are `C`.
 #[derive(Debug, Drop)]
 pub struct DupTable<const C: usize> {
-    ring: HeapCircularBuffer<Note>,
+    ring: HeapCircularBuffer<Entry>,
+    // for each bucket the serial of its youngest note
+    heads: Vec<u64>,
     forget: u64,
     last: u64,
     noted: u64,
@@ -24,30 +27,44 @@ pub struct DupTable<const C: usize> {
 
 impl<const C: usize> Model for DupTable<C> {
     ghost use Rattle.hsr_duptable.specs.Table.{Table, IsSound};
+    ghost use Rattle.hsr_duptable.specs.Chains.{notes_of, AreChained};
 
     ghost Value = { Table };
 
-    ghost view = { λ t. record { notes = t.ring.items; forget = t.forget; last = t.last; noted = t.noted } };
+    ghost view = { λ t. record { notes = notes_of t.ring.items; forget = t.forget; last = t.last; noted = t.noted } };
 
-    ghost invariant = { λ t. IsSound C t.ring.capacity t.ring.items t.last };
+    ghost invariant = { λ t. IsSound C t.ring.capacity (notes_of t.ring.items) t.last × AreChained C t.ring.items t.heads.items t.noted };
 }
 
 impl<const C: usize> DupTable<C> {
     ghost use Rattle.hsr_duptable.specs.Table.{empty_table, remembers, after_note, after_pass, after_age};
+    ghost use Rattle.hsr_duptable.specs.Buckets.{bucket_of, looks_of};
 
     /// A table that holds nothing, and remembers a frame until `forget` milliseconds have passed;
-    /// `NoMemory` where room for `C` notes is refused.
+    /// `NoMemory` where room for `C` notes or for the heads of `C` buckets is refused.
     pub fn new(alloc: Global, forget: u64) -> Result<Self, NoMemory>
         requires { (1 ≤ C) × (C ≤ 65535) }
         ensures { IfOk result (λ table. table ≡ empty_table forget) }
     {
         let ring = HeapCircularBuffer::with_capacity(alloc, C)?;
+        let heads = vec![in alloc; 0u64; C]?;
         Ok(DupTable {
             ring,
+            heads,
             forget,
             last: 0,
             noted: 0,
         })
+    }
+
+    /// The bucket of a frame: 31 times the source, six octets with the highest first, and the sequence number, modulo `C`.
+    pub fn bucket(key: Key) -> usize
+        requires { 1 ≤ C }
+        ensures value { result ≡ bucket_of C key }
+        ensures within { result < C }
+    {
+        let source = BigEndian::read_u48(&key.src.octets());
+        ((31 * source + key.seq as u64) % C as u64) as usize
     }
 
     /// How many notes are held.
@@ -77,7 +94,20 @@ impl<const C: usize> DupTable<C> {
         requires { self.now.last ≤ at }
         ensures { result ≡ remembers self.now key at }
     {
-        is_remembered(&self.ring, self.forget, key, at)
+        self.seen_looks(key, at).0
+    }
+
+    /// What `seen` answers, and at how many notes the search looked: those held of the frame's bucket, from the youngest
+    /// down to and with the first one of the frame; all of them where none is. The moment is in milliseconds.
+    pub fn seen_looks(&self, key: Key, at: u64) -> (bool, usize)
+        requires { self.now.last ≤ at }
+        ensures seen { result.0 ≡ remembers self.now key at }
+        ensures looks { result.1 ≡ looks_of C key self.now.notes }
+        ensures within { result.1 ≤ C }
+    {
+        let gone = self.noted - self.ring.len() as u64;
+        let head = self.heads[DupTable::<C>::bucket(key)];
+        look_up::<C>(&self.ring, gone, head, key, self.forget, at)
     }
 
     /// Notes that the frame passed at a moment, in milliseconds; a full table gives up its oldest note.
@@ -86,9 +116,14 @@ impl<const C: usize> DupTable<C> {
         requires room { self.old.noted < step_limit }
         ensures { self.new ≡ after_note C self.old key at }
     {
-        self.ring.push_back(Note { key, moment: at });
+        let serial = self.noted + 1;
+        let bucket = DupTable::<C>::bucket(key);
+        let older = self.heads[bucket];
+        let note = Note { key, moment: at };
+        self.ring.push_back(Entry { note, older });
+        self.heads[bucket] = serial;
+        self.noted = serial;
         self.last = at;
-        self.noted += 1;
     }
 
     /// Passes a frame at an egress that wants it and doesn't remember it, notes that, and tells whether it passed;
@@ -122,36 +157,6 @@ impl<const C: usize> DupTable<C> {
     {
         give_up_expired(&mut self.ring, self.forget, at);
         self.last = at;
-    }
-}
-
-/// Whether an unexpired note has the key, sought from the youngest on.
-fn is_remembered(ring: &HeapCircularBuffer<Note>, forget: u64, key: Key, at: u64) -> bool
-    requires { IsRising 0 ring.now.items at }
-    ensures { result ≡ has_key key (unexpired_notes forget at ring.now.items) }
-{
-    for note in ring.iter().rev() {
-        // All older ones are expired too.
-        if !note.is_unexpired(forget, at) {
-            return false;
-        }
-        if note.key == key {
-            return true;
-        }
-    }
-    false
-}
-
-/// Takes out the expired notes, which stand first.
-fn give_up_expired(ring: &mut HeapCircularBuffer<Note>, forget: u64, at: u64)
-    requires { IsRising 0 ring.old.items at }
-    ensures { ring.new ≡ buffer (unexpired_notes forget at ring.old.items) ring.old.capacity }
-{
-    while let Some(oldest) = ring.front() {
-        if oldest.is_unexpired(forget, at) {
-            return;
-        }
-        ring.pop_front();
     }
 }
 
