@@ -78,9 +78,9 @@ last_or_before [] new zero entry h = inr (cc, refl)
 last_or_before [] new (suc place) entry h = absurd (cc)
 last_or_before (x ∷ es) new zero entry h = inl (h, refl)
 last_or_before (x ∷ es) new (suc place) entry h = elim (last_or_before es new place entry h) [
-    | inl before ↦ inl (before.0, ap (λ (ys : List Entry). x ∷ ys) before.1)
-    | inr last ↦ inr (last.0, ap (λ (ys : List Entry). x ∷ ys) last.1)
-  ]
+  | inl before ↦ inl (before.0, ap (λ (ys : List Entry). x ∷ ys) before.1)
+  | inr last ↦ inr (last.0, ap (λ (ys : List Entry). x ∷ ys) last.1)
+]
 
 -- the oldest ones go, and nothing else changes
 pub AreChained-drop : (c : ℕ) (es : List Entry) (heads : List ℕ) (noted d : ℕ) → d ≤ length es → AreChained c es heads noted → AreChained c (drop d es) heads noted

@@ -79,13 +79,13 @@ looks_until-le : (key : Key) (xs : List Note) → looks_until key xs ≤ length 
 looks_until-le key [] = omega arith
 looks_until-le key (x ∷ xs) =
     let rest = looks_until-le key xs in
-    elim (is_same_key x.key key) as (λ t. cond t 1 (looks_until key xs + 1) ≤ length (x ∷ xs)) [ | true ↦ omega arith | false ↦ omega (arith, rest) ]
+    elim (is_same_key x.key key) as (λ t. cond t 1 (looks_until key xs + 1) ≤ length (x ∷ xs)) [ true ↦ omega arith | false ↦ omega (arith, rest) ]
 
 bucket_notes-le : (c b : ℕ) (xs : List Note) → length (bucket_notes c b xs) ≤ length xs
 bucket_notes-le c b [] = omega arith
 bucket_notes-le c b (x ∷ xs) =
     let rest = bucket_notes-le c b xs in
-    elim (bucket_of c x.key == b) as (λ t. length (cond t (x ∷ bucket_notes c b xs) (bucket_notes c b xs)) ≤ length (x ∷ xs)) [ | true ↦ omega (arith, rest) | false ↦ omega (arith, rest) ]
+    elim (bucket_of c x.key == b) as (λ t. length (cond t (x ∷ bucket_notes c b xs) (bucket_notes c b xs)) ≤ length (x ∷ xs)) [ true ↦ omega (arith, rest) | false ↦ omega (arith, rest) ]
 
 -- no more looks than entries
 pub looks_of-le : (c : ℕ) (key : Key) (es : List Entry) → looks_of c key (notes_of es) ≤ length es
@@ -165,9 +165,9 @@ pub record StepsDown (c b gone : ℕ) (es : List Entry) (serial : ℕ) (entry : 
 -- an entry that is found stands at its place
 entry_of-place : (gone : ℕ) (es : List Entry) (serial : ℕ) (entry : Entry) → entry_of gone es serial ≡ Some entry → (gone < serial) × (slice_get es (serial - gone - 1) ≡ Some entry)
 entry_of-place gone es serial entry h = elim (cases_lt gone serial) [
-    | inl held ↦ (held, search (rules, arith))
-    | inr low ↦ absurd (search (rules, arith))
-  ]
+  | inl held ↦ (held, search (rules, arith))
+  | inr low ↦ absurd (search (rules, arith))
+]
 
 pub steps_down : (c b gone : ℕ) (es : List Entry) (serial : ℕ) (entry : Entry) → AreLinked c gone es → IsYoungest c b gone (take (serial - gone) es) serial → entry_of gone es serial ≡ Some entry
     → StepsDown c b gone es serial entry
@@ -197,11 +197,11 @@ steps_down c b gone es serial entry linked y found =
 pub none_left : (c b gone : ℕ) (es : List Entry) (serial : ℕ) → IsYoungest c b gone (take (serial - gone) es) serial → entry_of gone es serial ≡ None
     → bucket_notes c b (notes_of (take (serial - gone) es)) ≡ []
 none_left c b gone es serial y none = elim (cases_lt gone serial) [
-    | inl held ↦
-        let i = serial - gone - 1 in
-        let there = linked_entry c b gone i (take (serial - gone) es) serial (omega (arith, held)) y in
-        let spot : slice_get es i ≡ None = search (rules, arith) in
-        let same : Some there.0 ≡ None = sym there.1 ∙ slice_get-take (serial - gone) es i (omega (arith, held)) ∙ spot in
-        absurd (cc)
-    | inr low ↦ bucket_notes-none c b gone (take (serial - gone) es) serial low y
-  ]
+  | inl held ↦
+      let i = serial - gone - 1 in
+      let there = linked_entry c b gone i (take (serial - gone) es) serial (omega (arith, held)) y in
+      let spot : slice_get es i ≡ None = search (rules, arith) in
+      let same : Some there.0 ≡ None = sym there.1 ∙ slice_get-take (serial - gone) es i (omega (arith, held)) ∙ spot in
+      absurd (cc)
+  | inr low ↦ bucket_notes-none c b gone (take (serial - gone) es) serial low y
+]

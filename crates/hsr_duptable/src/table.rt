@@ -106,7 +106,7 @@ impl<const C: usize> DupTable<C> {
         ensures within { result.1 ≤ C }
     {
         let gone = self.noted - self.ring.len() as u64;
-        let head = self.heads[DupTable::<C>::bucket(key)];
+        let head = self.heads[Self::bucket(key)];
         look_up::<C>(&self.ring, gone, head, key, self.forget, at)
     }
 
@@ -117,7 +117,7 @@ impl<const C: usize> DupTable<C> {
         ensures { self.new ≡ after_note C self.old key at }
     {
         let serial = self.noted + 1;
-        let bucket = DupTable::<C>::bucket(key);
+        let bucket = Self::bucket(key);
         let older = self.heads[bucket];
         let note = Note { key, moment: at };
         self.ring.push_back(Entry { note, older });

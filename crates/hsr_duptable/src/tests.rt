@@ -1,5 +1,5 @@
 use super::*;
-use hsr_frame::Mac;
+use hsr_frame::{Mac, NoMemory};
 use std::process::Abort;
 use std::test::Fail;
 
@@ -7,6 +7,14 @@ use std::test::Fail;
 fn numbered(seq: u16) -> Key {
     let src = Mac::new([2, 0, 0, 0, 0, 2]);
     Key { src, seq }
+}
+
+/// Notes frames of that station at moment 0.
+fn note_all<const C: usize>(rt: &impl Abort, table: &mut DupTable<C>, seqs: &[u16]) {
+    for seq in seqs.iter() {
+        assert!(rt; table.last() == 0 && table.noted() < 100);
+        table.note(numbered(*seq), 0);
+    }
 }
 
 /// Whether a frame passes at a moment: it does where it is not remembered, and is noted then.
@@ -67,5 +75,56 @@ fn five_frames_small_table(rt: HostRuntime) -> Result<(), Fail> {
     assert!(rt; !passes(&rt, &mut large, 0, 0));
     assert!(rt; !passes(&rt, &mut large, 4, 0));
     assert_eq!(rt; large.held(), 5);
+    Ok(())
+}
+
+#[test]
+fn buckets_by_source_and_number(rt: HostRuntime) -> Result<(), Fail> {
+    let far = Mac::new([0xFE, 0xDC, 0xBA, 0x98, 0x76, 0x54]);
+    let last = Key {
+        src: far,
+        seq: 65535,
+    };
+    assert_eq!(rt; DupTable::<4>::bucket(numbered(0)), 2);
+    assert_eq!(rt; DupTable::<512>::bucket(numbered(65535)), 61);
+    assert_eq!(rt; DupTable::<512>::bucket(last), 43);
+    assert_eq!(rt; DupTable::<65535>::bucket(last), 51579);
+    Ok(())
+}
+
+#[test]
+fn looks_of_five_frames_small_table(rt: HostRuntime) -> Result<(), Fail> {
+    let mut table: DupTable<4> = DupTable::new(rt.alloc(), ENTRY_FORGET)?;
+    note_all(&rt, &mut table, &[0, 1, 2, 3, 4]);
+    assert!(rt; table.last() == 0);
+    assert_eq!(rt; table.seen_looks(numbered(0), 0), (false, 1));
+    assert_eq!(rt; table.seen_looks(numbered(4), 0), (true, 1));
+    assert_eq!(rt; table.seen_looks(numbered(1), 0), (true, 1));
+    Ok(())
+}
+
+#[test]
+fn looks_of_one_bucket(rt: HostRuntime) -> Result<(), Fail> {
+    let mut table: DupTable<4> = DupTable::new(rt.alloc(), ENTRY_FORGET)?;
+    note_all(&rt, &mut table, &[0, 4, 8, 12]);
+    assert!(rt; table.last() == 0);
+    assert_eq!(rt; table.seen_looks(numbered(0), 399), (true, 4));
+    assert_eq!(rt; table.seen_looks(numbered(0), 400), (false, 4));
+    assert_eq!(rt; table.seen_looks(numbered(16), 0), (false, 4));
+    table.age(400);
+    assert_eq!(rt; table.seen_looks(numbered(0), 400), (false, 0));
+    Ok(())
+}
+
+/// With either growth of `new` refused (`rt try --test --fail-alloc`): there is no table, and the same call again gives one.
+#[test]
+fn new_refused_for_memory(rt: HostRuntime) -> Result<(), Fail> {
+    let made: Result<DupTable<4>, NoMemory> = DupTable::new(rt.alloc(), ENTRY_FORGET);
+    let mut table = match made {
+        Ok(table) => table,
+        Err(NoMemory) => DupTable::new(rt.alloc(), ENTRY_FORGET)?,
+    };
+    assert!(rt; passes(&rt, &mut table, 7, 0));
+    assert!(rt; !passes(&rt, &mut table, 7, 399));
     Ok(())
 }

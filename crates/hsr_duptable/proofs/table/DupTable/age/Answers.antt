@@ -16,10 +16,12 @@ invariant_of-self g c =
     let later = rw (← c.self.view_is) at c.requires in
     let i = c.self.invariant.0 in
     let left = c.give_up_expired.new.ring in
-    let fewer = AreChained-drop g.row.C c.self.inside.ring.items c.self.inside.heads.items c.self.inside.noted (length c.self.inside.ring.items - length left.items) (omega arith) c.self.invariant.1 in
-    (rw c.give_up_expired.ensures.notes record {
-      least = i.least;
-      most = i.most;
-      exact = ap (λ (b : Buffer Entry). b.capacity) c.give_up_expired.ensures.last ∙ i.exact;
-      rising = IsRising-filter _ 0 _ _ (IsRising-raise 0 _ _ _ later i.rising);
-    }, subst (λ (es : List Entry). AreChained g.row.C es c.self.inside.heads.items c.self.inside.noted) (sym (ap (λ (b : Buffer Entry). b.items) c.give_up_expired.ensures.last)) fewer)
+    let fewer = AreChained-drop g.row.C c.self.inside.ring.items c.self.inside.heads.items c.self.inside.noted (length c.self.inside.ring.items - length left.items) (omega arith) c.self.invariant.1 in (
+      rw c.give_up_expired.ensures.notes record {
+        least = i.least;
+        most = i.most;
+        exact = ap (λ (b : Buffer Entry). b.capacity) c.give_up_expired.ensures.last ∙ i.exact;
+        rising = IsRising-filter _ 0 _ _ (IsRising-raise 0 _ _ _ later i.rising);
+      },
+      subst (λ (es : List Entry). AreChained g.row.C es c.self.inside.heads.items c.self.inside.noted) (sym (ap (λ (b : Buffer Entry). b.items) c.give_up_expired.ensures.last)) fewer,
+    )
