@@ -13,8 +13,8 @@ use std::marker::Model;
 
 /// The frames that passed an egress, the youngest `C` of them, `C` from 1 to 65535.
 ///
-/// A clause sees the list of its notes, the oldest first. Only `new` takes memory. A frame is sought among the notes of
-/// its bucket alone, of which there are `C`.
+/// A clause sees the list of its notes, the oldest first. Only `new` takes memory. The notes lie in `C` buckets, and a
+/// frame is sought in its own bucket alone.
 #[derive(Debug, Drop)]
 pub struct DupTable<const C: usize> {
     ring: HeapCircularBuffer<Entry>,
