@@ -4,9 +4,9 @@ ghost use Rattle.hsr_frame.specs.Grammar.{Fields, spelling, IsRaw};
 ghost use Rattle.hsr_tag.specs.Tag.{TaggedFields, IsPlain, IsTagged, tagged_spelling};
 
 use crate::frame::{Frame, Tagged};
-use hsr_frame::{
-    ETHERTYPE_HSR, ETHERTYPE_VLAN, FrameFault, Head, MAX_PAYLOAD, TAG_LEN, copied, u16_at,
-};
+use crate::payload::Payload;
+use crate::view::{EitherView, FrameView, SeenView, TaggedView};
+use hsr_frame::{ETHERTYPE_HSR, ETHERTYPE_VLAN, FrameFault, Head, MAX_PAYLOAD, TAG_LEN, u16_at};
 
 /// A frame that was read.
 #[derive(Drop)]
@@ -18,7 +18,7 @@ pub enum Seen {
 ghost use Rattle.hsr_tag.specs.Seen.{IsReadOneWay, Sees, Spells, classified, seen_in, tag_fault};
 
 /// What a frame is from its type on; its rest is given by itself, so that its octets are known to be octets.
-fn seen_of(head: &Head<'_>, rest: &[u8]) -> Result<Seen, FrameFault>
+fn seen_of<'a>(head: &Head<'a>, rest: &'a [u8]) -> Result<SeenView<'a>, FrameFault>
     requires raw { IsRaw head.now }
     requires same { head.now.rest ≡ rest.now }
     ensures sees { IfOk result (λ s. Sees head.now s) }
@@ -29,13 +29,14 @@ fn seen_of(head: &Head<'_>, rest: &[u8]) -> Result<Seen, FrameFault>
         if rest.len() > MAX_PAYLOAD {
             return Err(FrameFault::Long);
         }
-        return Ok(Seen::Plain(Frame {
+        let frame = EitherView::Plain(FrameView {
             dst: head.dst,
             src: head.src,
             vlan: head.vlan,
             kind: head.kind,
-            payload: copied(rest),
-        }));
+            payload: Payload::there(rest),
+        });
+        return Ok(SeenView { frame });
     }
     if rest.len() < TAG_LEN {
         return Err(FrameFault::ShortTag);
@@ -48,7 +49,7 @@ fn seen_of(head: &Head<'_>, rest: &[u8]) -> Result<Seen, FrameFault>
     if kind == ETHERTYPE_VLAN {
         return Err(FrameFault::DoubleVlan);
     }
-    Ok(Seen::Tagged(Tagged {
+    let frame = EitherView::Tagged(TaggedView {
         dst: head.dst,
         src: head.src,
         vlan: head.vlan,
@@ -56,12 +57,13 @@ fn seen_of(head: &Head<'_>, rest: &[u8]) -> Result<Seen, FrameFault>
         size: first % 4096,
         seq: u16_at(rest, 2),
         kind,
-        payload: copied(&rest[TAG_LEN..]),
-    }))
+        payload: Payload::there(&rest[TAG_LEN..]),
+    });
+    Ok(SeenView { frame })
 }
 
 /// Reads octets.
-fn read_seen(octets: &[u8]) -> Result<Seen, FrameFault>
+fn read_seen(octets: &[u8]) -> Result<SeenView<'_>, FrameFault>
     ensures exact { result ≡ classified octets.now }
     ensures found { IfOk result (λ s. Spells octets.now s) }
     ensures only_plain { (f : Fields) → IsPlain f → octets.now ≡ spelling f → result ≡ Ok (Seen.Plain f) }
@@ -71,10 +73,10 @@ fn read_seen(octets: &[u8]) -> Result<Seen, FrameFault>
     seen_of(&head, head.rest)
 }
 
-/// The frame that the octets spell, or the first of the faults: too short, too long, from a group, with two VLAN tags;
-/// then an HSR tag that is too short, an HSR tag or VLAN tag behind it, a plain frame that is too long (IEC 62439-3
-/// clause 5.6).
-pub fn classify(octets: &[u8]) -> Result<Seen, FrameFault>
+/// The frame that the octets spell, with its payload where it stands, or the first of the faults: too short, too long, from
+/// a group, with two VLAN tags; then an HSR tag that is too short, an HSR tag or VLAN tag behind it, a plain frame that is
+/// too long (IEC 62439-3 clause 5.6).
+pub fn look_at(octets: &[u8]) -> Result<SeenView<'_>, FrameFault>
     ensures exact { result ≡ classified octets.now }
     // What is read is spelled so.
     ensures found { IfOk result (λ s. Spells octets.now s) }
@@ -85,4 +87,21 @@ pub fn classify(octets: &[u8]) -> Result<Seen, FrameFault>
     ensures one_way { IsReadOneWay octets.now }
 {
     read_seen(octets)
+}
+
+/// The frame that the octets spell, with a copy of its payload, or the first of the faults: too short, too long, from a
+/// group, with two VLAN tags; then an HSR tag that is too short, an HSR tag or VLAN tag behind it, a plain frame that is
+/// too long (IEC 62439-3 clause 5.6).
+pub fn classify(octets: &[u8]) -> Result<Seen, FrameFault>
+    ensures exact { result ≡ classified octets.now }
+    // What is read is spelled so.
+    ensures found { IfOk result (λ s. Spells octets.now s) }
+    // What is spelled so is read.
+    ensures only_plain { (f : Fields) → IsPlain f → octets.now ≡ spelling f → result ≡ Ok (Seen.Plain f) }
+    ensures only_tagged { (t : TaggedFields) → IsTagged t → octets.now ≡ tagged_spelling t → result ≡ Ok (Seen.Tagged t) }
+    // Whatever the octets are, they are read in one way.
+    ensures one_way { IsReadOneWay octets.now }
+{
+    let seen = look_at(octets)?;
+    Ok(seen.to_seen())
 }

@@ -103,3 +103,43 @@ fn every_change_of_one_octet(rt: HostRuntime) {
         }
     }
 }
+
+/// The frame of the copy, before it is tagged.
+const PLAIN: [u8; 16] = [2, 0, 0, 0, 0, 2, 2, 0, 0, 0, 0, 1, 0x08, 0x00, 0xAA, 0xBB];
+
+#[test]
+fn tagged_and_untagged_where_they_stand(rt: HostRuntime) {
+    if let Ok(seen) = look_at(&PLAIN) {
+        match &seen.frame {
+            EitherView::Plain(frame) => {
+                assert!(rt; frame.spell().is_same(&PLAIN));
+                assert!(rt; frame.tag(0, 0).spell().is_same(&COPY));
+                assert!(rt; !frame.tag(1, 0).spell().is_same(&COPY));
+                assert!(rt; frame.to_frame().write().as_slice() == PLAIN.as_slice());
+            }
+            EitherView::Tagged(_) => assert!(rt; false),
+        }
+    }
+    if let Ok(seen) = look_at(&COPY) {
+        match &seen.frame {
+            EitherView::Tagged(frame) => {
+                assert!(rt; frame.untag().spell().is_same(&PLAIN));
+                let spelled = frame.spell();
+                let (head, rest) = spelled.pieces();
+                assert_eq!(rt; head.len(), 20);
+                assert_eq!(rt; rest, [0xAA, 0xBB].as_slice());
+                assert_eq!(rt; spelled.len(), 22);
+                assert_eq!(rt; frame.payload.as_slice(), [0xAA, 0xBB].as_slice());
+                assert!(rt; !spelled.is_same(&COPY[..21]));
+                assert!(rt; frame.to_tagged().write().as_slice() == COPY.as_slice());
+            }
+            EitherView::Plain(_) => assert!(rt; false),
+        }
+    }
+    assert!(rt; look_at(&COPY).is_ok() && look_at(&PLAIN).is_ok());
+    assert!(rt; Spelled::whole(&COPY).is_same(&COPY));
+    assert!(rt; Spelled::joined(copied(&COPY[..20]), &COPY[20..]).is_same(&COPY));
+    let short = Payload::here(copied(&COPY[20..])).behind(copied(&COPY[..20]));
+    assert!(rt; short.is_same(&COPY));
+    assert_eq!(rt; short.pieces().0.len(), 22);
+}

@@ -1,5 +1,5 @@
 use Rattle.hsr_tag.proofs.Frames.{read_one_way}
-use Rattle.hsr_tag.proofs.seen.classify.Goals as goal
+use Rattle.hsr_tag.proofs.seen.look_at.Goals as goal
 
 pub returns-clause-one_way : goal.returns-clause-one_way
 returns-clause-one_way c =
