@@ -13,7 +13,7 @@ use hsr_frame::{
 };
 use hsr_role::{NUMBER_RANGE, count, hear};
 use hsr_tables::{NodeRow, NodeTable, ROW_LIMIT};
-use hsr_tag::classify;
+use hsr_tag::look_at;
 use std::alloc::Global;
 use std::marker::Model;
 
@@ -142,7 +142,7 @@ impl<const C: usize> Danh<C> {
             return Err(Spent);
         }
         let now = self.moment.max(at);
-        let seen = classify(octets);
+        let seen = look_at(octets);
         let wants = wants_of(self.own, self.mode, port, &seen);
         let passes = self.tables.judge(wants.exits, &seen, now);
         let verdict = verdict_on(wants, passes);

@@ -4,21 +4,29 @@ ghost use Rattle.hsr_frame.specs.Egress.{in_mode};
 ghost use Rattle.hsr_danh.specs.Wanted.{wanted, wanted_tagged};
 
 use hsr_frame::{Cause, Exits, FrameFault, Mac, Mode, RingPort, Wants};
-use hsr_tag::{Seen, Tagged};
+use hsr_tag::{EitherView, SeenView, TaggedView};
 
 /// What is wanted of what came to a ring port.
-pub fn wants_of(own: Mac, mode: Mode, port: RingPort, seen: &Result<Seen, FrameFault>) -> Wants
+pub fn wants_of(
+    own: Mac,
+    mode: Mode,
+    port: RingPort,
+    seen: &Result<SeenView<'_>, FrameFault>,
+) -> Wants
     ensures { result ≡ wanted own mode port seen.now }
 {
-    match seen {
-        Err(fault) => Wants::nowhere(Cause::Malformed(*fault)),
-        Ok(Seen::Plain(_)) => Wants::nowhere(Cause::Untagged),
-        Ok(Seen::Tagged(frame)) => tagged_wants(own, mode, port, frame),
+    let seen = match seen {
+        Ok(seen) => seen,
+        Err(fault) => return Wants::nowhere(Cause::Malformed(*fault)),
+    };
+    match &seen.frame {
+        EitherView::Plain(_) => Wants::nowhere(Cause::Untagged),
+        EitherView::Tagged(frame) => tagged_wants(own, mode, port, frame),
     }
 }
 
 /// What is wanted of a tagged frame.
-fn tagged_wants(own: Mac, mode: Mode, port: RingPort, frame: &Tagged) -> Wants
+fn tagged_wants(own: Mac, mode: Mode, port: RingPort, frame: &TaggedView<'_>) -> Wants
     ensures { result ≡ in_mode mode (wanted_tagged own port frame.now) }
 {
     if frame.src == own {

@@ -6,18 +6,21 @@ ghost use Rattle.hsr_role.specs.Arrival.{counted_with, heard_of, key_in};
 use hsr_duptable::Key;
 use hsr_frame::{Cause, Counters, FrameFault, Mac, RingPort, is_supervision};
 use hsr_tables::NodeTable;
-use hsr_tag::Seen;
+use hsr_tag::{EitherView, SeenView};
 
 /// The source and number of a tagged frame. Of what is none there is nothing to look for in a duplicate table.
-pub fn key_in(seen: &Result<Seen, FrameFault>) -> Option<Key>
+pub fn key_in(seen: &Result<SeenView<'_>, FrameFault>) -> Option<Key>
     ensures { result ≡ key_in seen.now }
 {
-    match seen {
-        Ok(Seen::Tagged(frame)) => Some(Key {
+    let Ok(seen) = seen else {
+        return None;
+    };
+    match &seen.frame {
+        EitherView::Tagged(frame) => Some(Key {
             src: frame.src,
             seq: frame.seq,
         }),
-        _ => None,
+        EitherView::Plain(_) => None,
     }
 }
 
@@ -27,14 +30,17 @@ pub fn hear(
     nodes: &mut NodeTable,
     own: Mac,
     port: RingPort,
-    seen: &Result<Seen, FrameFault>,
+    seen: &Result<SeenView<'_>, FrameFault>,
     now: u64,
 ) -> bool
     requires { nodes.old.last ≤ now }
     ensures { (result, nodes.new) ≡ heard_of own nodes.old port seen.now now }
 {
-    match seen {
-        Ok(Seen::Tagged(frame)) if is_supervision(frame.dst, frame.kind) && frame.src != own => {
+    let Ok(seen) = seen else {
+        return true;
+    };
+    match &seen.frame {
+        EitherView::Tagged(frame) if is_supervision(frame.dst, frame.kind) && frame.src != own => {
             nodes.listen(frame.payload.as_slice(), port, now)
         }
         _ => true,
