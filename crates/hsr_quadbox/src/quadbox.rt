@@ -6,7 +6,7 @@ ghost use Rattle.hsr_quadbox.specs.Step.{copies_of, verdict_of};
 use crate::tables::PortTables;
 use crate::wanted::{QuadPort, arrival_wants};
 use hsr_frame::{Cause, Counters, Exits, NoMemory, STEP_LIMIT, Spent, Wants};
-use hsr_tag::classify;
+use hsr_tag::look_at;
 use std::alloc::Global;
 use std::marker::Model;
 
@@ -69,7 +69,7 @@ impl<const C: usize> QuadBox<C> {
             return Err(Spent);
         }
         let now = self.moment.max(at);
-        let seen = classify(octets);
+        let seen = look_at(octets);
         let wants = arrival_wants(port, &seen);
         let passes = self.tables.judge(wants.exits, &seen, now);
         let verdict = verdict_of(wants, passes);

@@ -4,7 +4,7 @@ ghost use Rattle.std.specs.Prelude.{◌≡◌, ◌≤◌, IfOk};
 use hsr_duptable::{DupTable, ENTRY_FORGET, Key};
 use hsr_frame::{Exits, FrameFault, NoMemory};
 use hsr_role::key_in;
-use hsr_tag::Seen;
+use hsr_tag::SeenView;
 use std::alloc::Global;
 use std::marker::Model;
 
@@ -43,7 +43,12 @@ impl<const C: usize> PortTables<C> {
 
     /// Passes an arrival at the egresses that want it. A tagged frame passes where it isn't remembered, and is noted there;
     /// what is no tagged frame is neither looked for nor noted.
-    pub(crate) fn judge(&mut self, exits: Exits, seen: &Result<Seen, FrameFault>, now: u64) -> Exits
+    pub(crate) fn judge(
+        &mut self,
+        exits: Exits,
+        seen: &Result<SeenView<'_>, FrameFault>,
+        now: u64,
+    ) -> Exits
         requires later { AreEarlier self.old now }
         requires room { AreRoomy self.old }
         ensures { (result, self.new) ≡ judged C self.old exits seen.now now }

@@ -4,7 +4,7 @@ ghost use Rattle.hsr_frame.specs.Egress.{to};
 ghost use Rattle.hsr_quadbox.specs.Wanted.{others, wanted};
 
 use hsr_frame::{Cause, Exits, FrameFault, Wants};
-use hsr_tag::Seen;
+use hsr_tag::{EitherView, SeenView};
 
 /// A port of a QuadBox (IEC 62439-3 clause 5): A and B are in one ring, C and D in the other.
 #[derive(Clone, Copy, Debug, PartialEq, Eq)]
@@ -16,13 +16,16 @@ pub enum QuadPort {
 }
 
 /// The egresses that want what came to a port: a tagged frame goes on by the three other ports.
-pub(crate) fn arrival_wants(port: QuadPort, seen: &Result<Seen, FrameFault>) -> Wants
+pub(crate) fn arrival_wants(port: QuadPort, seen: &Result<SeenView<'_>, FrameFault>) -> Wants
     ensures { result ≡ wanted port seen.now }
 {
-    match seen {
-        Err(fault) => Wants::nowhere(Cause::Malformed(*fault)),
-        Ok(Seen::Plain(_)) => Wants::nowhere(Cause::Untagged),
-        Ok(Seen::Tagged(_)) => tagged_wants(port),
+    let seen = match seen {
+        Ok(seen) => seen,
+        Err(fault) => return Wants::nowhere(Cause::Malformed(*fault)),
+    };
+    match &seen.frame {
+        EitherView::Plain(_) => Wants::nowhere(Cause::Untagged),
+        EitherView::Tagged(_) => tagged_wants(port),
     }
 }
 

@@ -13,7 +13,7 @@ use hsr_frame::{
 };
 use hsr_role::{NUMBER_RANGE, count, hear};
 use hsr_tables::{NodeRow, NodeTable, ProxyTable, ROW_LIMIT};
-use hsr_tag::{Seen, classify};
+use hsr_tag::{EitherView, SeenView, look_at};
 use std::alloc::Global;
 use std::marker::Model;
 
@@ -142,7 +142,7 @@ impl<const C: usize> RedBox<C> {
             return Err(Spent);
         }
         let now = self.moment.max(at);
-        let seen = classify(octets);
+        let seen = look_at(octets);
         match port {
             BoxPort::A => Ok(self.from_ring(RingPort::A, &seen, now)),
             BoxPort::B => Ok(self.from_ring(RingPort::B, &seen, now)),
@@ -151,7 +151,12 @@ impl<const C: usize> RedBox<C> {
     }
 
     /// Judges what came to a ring port, at the effective moment.
-    fn from_ring(&mut self, x: RingPort, seen: &Result<Seen, FrameFault>, now: u64) -> BoxVerdict
+    fn from_ring(
+        &mut self,
+        x: RingPort,
+        seen: &Result<SeenView<'_>, FrameFault>,
+        now: u64,
+    ) -> BoxVerdict
         requires steps { self.old.accepted < step_limit }
         requires later { self.old.moment ≤ now }
         ensures { (result, self.new) ≡ after_ring C self.old now x seen.now }
@@ -174,7 +179,7 @@ impl<const C: usize> RedBox<C> {
     }
 
     /// Judges what came to the interlink, at the effective moment.
-    fn from_interlink(&mut self, seen: &Result<Seen, FrameFault>, now: u64) -> BoxVerdict
+    fn from_interlink(&mut self, seen: &Result<SeenView<'_>, FrameFault>, now: u64) -> BoxVerdict
         requires steps { self.old.accepted < step_limit }
         requires later { self.old.moment ≤ now }
         ensures { (result, self.new) ≡ after_interlink C self.old now seen.now }
@@ -303,13 +308,16 @@ fn verdict_on(wants: Wants, passes: Exits, seq: Option<u16>) -> BoxVerdict
 }
 
 /// Hears the source of a plain frame, but for the own address.
-fn learn(proxies: &mut ProxyTable, own: Mac, seen: &Result<Seen, FrameFault>, now: u64)
+fn learn(proxies: &mut ProxyTable, own: Mac, seen: &Result<SeenView<'_>, FrameFault>, now: u64)
     requires { proxies.old.last ≤ now }
     ensures heard { proxies.new ≡ heard_from own proxies.old seen.now now }
     ensures later { proxies.new.last ≤ now }
 {
-    match seen {
-        Ok(Seen::Plain(frame)) if frame.src != own => proxies.learn(frame.src, now),
+    let Ok(seen) = seen else {
+        return;
+    };
+    match &seen.frame {
+        EitherView::Plain(frame) if frame.src != own => proxies.learn(frame.src, now),
         _ => {}
     }
 }

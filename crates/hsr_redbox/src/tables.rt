@@ -4,7 +4,7 @@ ghost use Rattle.std.specs.Prelude.{◌≡◌, ◌≤◌, IfOk, Option, Result};
 use hsr_duptable::{DupTable, ENTRY_FORGET, Key};
 use hsr_frame::{Exits, FrameFault, Mac, NoMemory};
 use hsr_role::key_in;
-use hsr_tag::Seen;
+use hsr_tag::SeenView;
 use std::alloc::Global;
 use std::marker::Model;
 
@@ -82,7 +82,12 @@ impl<const C: usize> Tables<C> {
 
     /// Passes what came to a ring port at the egresses that want it. A tagged frame passes where it isn't remembered, and
     /// is noted there; what is no tagged frame is neither looked for nor noted.
-    pub fn judge(&mut self, exits: Exits, seen: &Result<Seen, FrameFault>, now: u64) -> Exits
+    pub fn judge(
+        &mut self,
+        exits: Exits,
+        seen: &Result<SeenView<'_>, FrameFault>,
+        now: u64,
+    ) -> Exits
         requires { AreReady self.old now }
         ensures { (result, self.new) ≡ judged C self.old exits seen.now now }
     {

@@ -6,7 +6,7 @@ ghost use Rattle.hsr_redbox.specs.Wanted.{handling_interlink, handling_plain, ha
 
 use hsr_frame::{Cause, Exits, FrameFault, Mac, Mode, RingPort, Wants, is_supervision};
 use hsr_tables::ProxyTable;
-use hsr_tag::{Frame, Seen, Tagged};
+use hsr_tag::{EitherView, FrameView, SeenView, TaggedView};
 
 /// What is done with a frame that passes without a look: which egresses want it, and for which source it gets a
 /// number, if it does.
@@ -38,16 +38,19 @@ pub fn ring_wants(
     mode: Mode,
     proxies: &ProxyTable,
     x: RingPort,
-    seen: &Result<Seen, FrameFault>,
+    seen: &Result<SeenView<'_>, FrameFault>,
     now: u64,
 ) -> Wants
     requires { proxies.now.last ≤ now }
     ensures { result ≡ wanted own mode (is_known now proxies.now.heard) x seen.now }
 {
-    match seen {
-        Err(fault) => Wants::nowhere(Cause::Malformed(*fault)),
-        Ok(Seen::Plain(_)) => Wants::nowhere(Cause::Untagged),
-        Ok(Seen::Tagged(frame)) => in_mode(mode, tagged_wants(own, proxies, x, frame, now)),
+    let seen = match seen {
+        Ok(seen) => seen,
+        Err(fault) => return Wants::nowhere(Cause::Malformed(*fault)),
+    };
+    match &seen.frame {
+        EitherView::Plain(_) => Wants::nowhere(Cause::Untagged),
+        EitherView::Tagged(frame) => in_mode(mode, tagged_wants(own, proxies, x, frame, now)),
     }
 }
 
@@ -69,7 +72,13 @@ fn in_mode(mode: Mode, wants: Wants) -> Wants
 }
 
 /// What is wanted of a tagged frame of the ring.
-fn tagged_wants(own: Mac, proxies: &ProxyTable, x: RingPort, frame: &Tagged, now: u64) -> Wants
+fn tagged_wants(
+    own: Mac,
+    proxies: &ProxyTable,
+    x: RingPort,
+    frame: &TaggedView<'_>,
+    now: u64,
+) -> Wants
     requires { proxies.now.last ≤ now }
     ensures { result ≡ wanted_tagged own (is_known now proxies.now.heard) x frame.now }
 {
@@ -121,21 +130,24 @@ fn numbered(src: Mac, exits: Exits) -> Handling
 pub fn interlink_handling(
     own: Mac,
     proxies: &ProxyTable,
-    seen: &Result<Seen, FrameFault>,
+    seen: &Result<SeenView<'_>, FrameFault>,
     now: u64,
 ) -> Handling
     requires { proxies.now.last ≤ now }
     ensures { result ≡ handling_interlink own (is_known now proxies.now.heard) seen.now }
 {
-    match seen {
-        Err(fault) => unnumbered(Wants::nowhere(Cause::Malformed(*fault))),
-        Ok(Seen::Tagged(_)) => unnumbered(Wants::nowhere(Cause::Tagged)),
-        Ok(Seen::Plain(frame)) => plain_handling(own, proxies, frame, now),
+    let seen = match seen {
+        Ok(seen) => seen,
+        Err(fault) => return unnumbered(Wants::nowhere(Cause::Malformed(*fault))),
+    };
+    match &seen.frame {
+        EitherView::Tagged(_) => unnumbered(Wants::nowhere(Cause::Tagged)),
+        EitherView::Plain(frame) => plain_handling(own, proxies, frame, now),
     }
 }
 
 /// What is done with a plain frame of the interlink.
-fn plain_handling(own: Mac, proxies: &ProxyTable, frame: &Frame, now: u64) -> Handling
+fn plain_handling(own: Mac, proxies: &ProxyTable, frame: &FrameView<'_>, now: u64) -> Handling
     requires { proxies.now.last ≤ now }
     ensures { result ≡ handling_plain own (is_known now proxies.now.heard) frame.now }
 {
