@@ -1,6 +1,7 @@
 //! A payload that stands elsewhere, or a short one that is held here.
 ghost use Rattle.std.specs.Prelude.{◌≡◌, ◌≤◌, ◌++◌, length};
 ghost use Rattle.arrayvec.specs.ArrayVec.{array_vec_len};
+ghost use Rattle.hsr_frame.specs.Layout.{max_payload};
 
 use crate::spelled::{HEAD_ROOM, Spelled};
 use arrayvec::ArrayVec;
@@ -76,9 +77,11 @@ impl<'a> Payload<'a> {
         }
     }
 
-    /// The octets behind the head of a frame; those that stand elsewhere are not copied.
+    /// The octets behind the head of a frame; those that stand elsewhere are not copied. The head has 24 octets at most, the
+    /// payload `MAX_PAYLOAD`.
     pub fn behind(&self, head: ArrayVec<u8, HEAD_ROOM>) -> Spelled<'a>
-        requires { array_vec_len head ≤ longest_head }
+        requires head { array_vec_len head ≤ longest_head }
+        requires payload { length self.now ≤ max_payload }
         ensures { result ≡ head.items ++ self.now }
     {
         match &self.held {

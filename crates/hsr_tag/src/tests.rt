@@ -142,4 +142,5 @@ fn tagged_and_untagged_where_they_stand(rt: HostRuntime) {
     let short = Payload::here(copied(&COPY[20..])).behind(copied(&COPY[..20]));
     assert!(rt; short.is_same(&COPY));
     assert_eq!(rt; short.pieces().0.len(), 22);
+    assert!(rt; short.to_array().as_slice() == COPY.as_slice());
 }
