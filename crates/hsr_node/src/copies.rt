@@ -4,29 +4,29 @@ ghost use Rattle.hsr_node.specs.Copies.{as_came, copy_octets, forwarded, octets_
 
 use crate::event::{Event, Outcome};
 use crate::place::Place;
-use crate::sending::sent_by;
+use crate::sending::sent_view;
 use crate::side::{Side, is_ring, path_of, side_of};
 use arrayvec::ArrayVec;
-use hsr_frame::{FrameFault, MAX_FRAME, RingPort, copied};
-use hsr_tag::{Frame, Seen, classify};
+use hsr_frame::{FrameFault, MAX_FRAME, RingPort};
+use hsr_tag::{EitherView, FrameView, SeenView, Spelled, look_at};
 
 /// The octets of a frame.
 pub type FrameOctets = ArrayVec<u8, MAX_FRAME>;
 
 /// The octets of a frame as it leaves by a ring port, with its number and the port's path (IEC 62439-3 clause 5.6).
-pub fn ring_octets(port: RingPort, seq: u16, frame: &Frame) -> FrameOctets
-    ensures { result.items ≡ ring_octets port seq frame.now }
+pub fn ring_octets<'a>(port: RingPort, seq: u16, frame: &FrameView<'a>) -> Spelled<'a>
+    ensures { result ≡ ring_octets port seq frame.now }
 {
-    frame.tag(path_of(port), seq).write()
+    frame.tag(path_of(port), seq).spell()
 }
 
 /// The octets of a frame of the node's own, or of one that it numbers or untags: plain at an edge, and on a ring with
 /// its number (IEC 62439-3 clause 5.6).
-fn octets_at(side: Side, seq: Option<u16>, frame: &Frame) -> Option<FrameOctets>
-    ensures { option_map (λ o. o.items) result ≡ octets_at side seq frame.now }
+fn octets_at<'a>(side: Side, seq: Option<u16>, frame: &FrameView<'a>) -> Option<Spelled<'a>>
+    ensures { result ≡ octets_at side seq frame.now }
 {
     match side {
-        Side::Edge => Some(frame.write()),
+        Side::Edge => Some(frame.spell()),
         Side::Ring(port) => match seq {
             Some(seq) => Some(ring_octets(port, seq, frame)),
             None => None,
@@ -35,8 +35,12 @@ fn octets_at(side: Side, seq: Option<u16>, frame: &Frame) -> Option<FrameOctets>
 }
 
 /// The octets of a frame, if there is one, that leaves by a port, if there is one.
-fn written(side: Option<Side>, seq: Option<u16>, frame: Option<Frame>) -> Option<FrameOctets>
-    ensures { option_map (λ o. o.items) result ≡ written side seq frame }
+fn written<'a>(
+    side: Option<Side>,
+    seq: Option<u16>,
+    frame: Option<FrameView<'a>>,
+) -> Option<Spelled<'a>>
+    ensures { result ≡ written side seq frame.entry }
 {
     match side {
         Some(side) => match frame {
@@ -48,32 +52,34 @@ fn written(side: Option<Side>, seq: Option<u16>, frame: Option<Frame>) -> Option
 }
 
 /// The frame that came, without its tag.
-fn plain_in(seen: Result<Seen, FrameFault>) -> Option<Frame>
-    ensures { result ≡ plain_in seen }
+fn plain_in<'a>(seen: Result<SeenView<'a>, FrameFault>) -> Option<FrameView<'a>>
+    ensures { result ≡ plain_in seen.entry }
 {
-    match seen {
-        Ok(Seen::Plain(frame)) => Some(frame),
-        Ok(Seen::Tagged(frame)) => Some(frame.untag()),
-        Err(_) => None,
+    let Ok(seen) = seen else {
+        return None;
+    };
+    match seen.frame {
+        EitherView::Plain(frame) => Some(frame),
+        EitherView::Tagged(frame) => Some(frame.untag()),
     }
 }
 
 /// The octets of the frame that came, without its tag; `None` where no frame came.
-pub fn plain_octets(octets: &[u8]) -> Option<FrameOctets>
-    ensures { option_map (λ o. o.items) result ≡ plain_octets octets.now }
+pub fn plain_octets(octets: &[u8]) -> Option<Spelled<'_>>
+    ensures { result ≡ plain_octets octets.now }
 {
-    let frame = plain_in(classify(octets))?;
-    Some(frame.write())
+    let frame = plain_in(look_at(octets))?;
+    Some(frame.spell())
 }
 
 /// The octets as they came, which are no more than a frame has.
-fn as_came(octets: &[u8]) -> Option<FrameOctets>
-    ensures { option_map (λ o. o.items) result ≡ as_came octets.now }
+fn as_came(octets: &[u8]) -> Option<Spelled<'_>>
+    ensures { result ≡ as_came octets.now }
 {
     if octets.len() > MAX_FRAME {
         None
     } else {
-        Some(copied(octets))
+        Some(Spelled::whole(octets))
     }
 }
 
@@ -84,8 +90,8 @@ fn forwarded(
     to: Option<Side>,
     seq: Option<u16>,
     octets: &[u8],
-) -> Option<FrameOctets>
-    ensures { option_map (λ o. o.items) result ≡ forwarded from to seq octets.now }
+) -> Option<Spelled<'_>>
+    ensures { result ≡ forwarded from to seq octets.now }
 {
     let (Some(from), Some(to)) = (from, to) else {
         return None;
@@ -93,7 +99,7 @@ fn forwarded(
     if is_ring(from) && is_ring(to) {
         as_came(octets)
     } else {
-        written(Some(to), seq, plain_in(classify(octets)))
+        written(Some(to), seq, plain_in(look_at(octets)))
     }
 }
 
@@ -114,8 +120,8 @@ ghost use Rattle.std.specs.Prelude.{slice_get, unwrap_or, false};
 
 /// What leaves by a port by which something does.
 #[tactic(auto, unfolding(crate::specs::Copies::passed_octets))]
-fn passed(place: &Place, event: &Event, outcome: &Outcome, port: u8) -> Option<FrameOctets>
-    ensures { option_map (λ o. o.items) result ≡ passed_octets place.now event.now outcome.now port }
+fn passed<'a>(place: &Place, event: &'a Event, outcome: &Outcome, port: u8) -> Option<Spelled<'a>>
+    ensures { result ≡ passed_octets place.now event.now outcome.now port }
 {
     let side = side_of(place, port);
     match event {
@@ -126,18 +132,23 @@ fn passed(place: &Place, event: &Event, outcome: &Outcome, port: u8) -> Option<F
             _ => None,
         },
         _ => {
-            let sending = sent_by(place, event, outcome)?;
-            octets_at(side?, sending.seq, &sending.frame)
+            let sent = sent_view(place, event, outcome)?;
+            octets_at(side?, sent.seq, &sent.frame)
         }
     }
 }
 
 /// The octets that leave a place by a port after an event with this outcome, if some do: of a frame of the node's own,
 /// and of one between an interlink and a ring, those of the frame as it leaves there; from ring to ring the octets as
-/// they came (IEC 62439-3 clause 5.3).
+/// they came (IEC 62439-3 clause 5.3). What stands in the event is not copied.
 #[tactic(auto, unfolding(crate::specs::Copies::copy_octets))]
-pub fn copy_out(place: &Place, event: &Event, outcome: &Outcome, port: u8) -> Option<FrameOctets>
-    ensures { option_map (λ o. o.items) result ≡ copy_octets place.now event.now outcome.now port }
+pub fn spelled_out<'a>(
+    place: &Place,
+    event: &'a Event,
+    outcome: &Outcome,
+    port: u8,
+) -> Option<Spelled<'a>>
+    ensures { result ≡ copy_octets place.now event.now outcome.now port }
 {
     if is_left_by(outcome, port) {
         passed(place, event, outcome, port)
@@ -146,10 +157,11 @@ pub fn copy_out(place: &Place, event: &Event, outcome: &Outcome, port: u8) -> Op
     }
 }
 
-/// The octets of the plain frame that goes up after an event with this outcome, if one does.
+/// The octets of the plain frame that goes up after an event with this outcome, if one does. What stands in the event is
+/// not copied.
 #[tactic(auto, unfolding(crate::specs::Copies::up_octets))]
-pub fn up_out(event: &Event, outcome: &Outcome) -> Option<FrameOctets>
-    ensures { option_map (λ o. o.items) result ≡ up_octets event.now outcome.now }
+pub fn spelled_up<'a>(event: &'a Event, outcome: &Outcome) -> Option<Spelled<'a>>
+    ensures { result ≡ up_octets event.now outcome.now }
 {
     let Event::Arrive { port: _, carried } = event else {
         return None;
@@ -158,4 +170,20 @@ pub fn up_out(event: &Event, outcome: &Outcome) -> Option<FrameOctets>
         return None;
     };
     plain_octets(carried.octets.as_slice())
+}
+
+/// What `spelled_out` gives, copied.
+pub fn copy_out(place: &Place, event: &Event, outcome: &Outcome, port: u8) -> Option<FrameOctets>
+    ensures { option_map (λ o. o.items) result ≡ copy_octets place.now event.now outcome.now port }
+{
+    let spelled = spelled_out(place, event, outcome, port)?;
+    Some(spelled.to_array())
+}
+
+/// What `spelled_up` gives, copied.
+pub fn up_out(event: &Event, outcome: &Outcome) -> Option<FrameOctets>
+    ensures { option_map (λ o. o.items) result ≡ up_octets event.now outcome.now }
+{
+    let spelled = spelled_up(event, outcome)?;
+    Some(spelled.to_array())
 }

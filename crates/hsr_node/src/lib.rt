@@ -35,7 +35,9 @@ mod sending;
 mod side;
 mod station;
 
-pub use copies::{FrameOctets, copy_out, plain_octets, ring_octets, up_out};
+pub use copies::{
+    FrameOctets, copy_out, plain_octets, ring_octets, spelled_out, spelled_up, up_out,
+};
 pub use entry::{Entry, Receipt};
 pub use event::{Carried, Event, Outcome, Probe, StepFault};
 pub use kept::{Kept, holds_what_is_told};
@@ -44,5 +46,5 @@ pub use octets::Octets;
 pub use pass::Pass;
 pub use place::Place;
 pub use role::Role;
-pub use sending::{Sending, asked_frame, life_frame, sent_by};
+pub use sending::{Sending, SentView, asked_frame, life_frame, sent_by, sent_view};
 pub use station::Station;

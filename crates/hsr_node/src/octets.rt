@@ -1,12 +1,13 @@
 //! Octets that are owned.
-ghost use Rattle.std.specs.Prelude.{◌≡◌, IfOk};
+ghost use Rattle.std.specs.Prelude.{◌≡◌, ◌≤◌, length, vec_capacity, IfOk};
 
 use hsr_frame::NoMemory;
-use std::alloc::Global;
+use hsr_tag::Spelled;
+use std::alloc::{AllocError, Global};
 use std::marker::Model;
 
 /// Octets of a payload or of a copy on its way, of any number.
-#[derive(Clone, Debug, Drop)]
+#[derive(Debug, Drop)]
 pub struct Octets {
     bytes: Vec<u8>,
 }
@@ -31,8 +32,33 @@ impl Octets {
     pub fn from_slice(alloc: Global, bytes: &[u8]) -> Result<Octets, NoMemory>
         ensures { IfOk result (λ octets. octets ≡ bytes.now) }
     {
-        let bytes = bytes.to_vec(alloc)?;
+        let bytes = Vec::from_slice(alloc, bytes)?;
         Ok(Octets { bytes })
+    }
+
+    /// The octets of a frame, in room that is enough for them; what the room held is gone.
+    pub fn spelled_in(room: Vec<u8>, spelled: &Spelled<'_>) -> Octets
+        requires { length spelled.now ≤ vec_capacity room }
+        ensures { result ≡ spelled.now }
+    {
+        let mut bytes = room;
+        bytes.clear();
+        let (head, rest) = spelled.pieces();
+        let Ok(()) = bytes.extend_from_slice(head) else {
+            unreachable!()
+        };
+        let Ok(()) = bytes.extend_from_slice(rest) else {
+            unreachable!()
+        };
+        Octets { bytes }
+    }
+
+    /// The octets of a frame; `NoMemory` where room for them is refused.
+    pub fn from_spelled(alloc: Global, spelled: &Spelled<'_>) -> Result<Octets, NoMemory>
+        ensures { IfOk result (λ octets. octets ≡ spelled.now) }
+    {
+        let room = Vec::with_capacity(alloc, spelled.len())?;
+        Ok(Octets::spelled_in(room, spelled))
     }
 
     /// The octets, in order.
@@ -40,6 +66,17 @@ impl Octets {
         ensures { result.now ≡ self.now }
     {
         self.bytes.as_slice()
+    }
+}
+
+impl Clone for Octets {
+    ghost use Rattle.std.specs.Prelude.{◌≡◌};
+
+    ghost is_clone = { λ a b. b ≡ a };
+
+    fn clone(&self) -> Result<Octets, AllocError> {
+        let bytes = Vec::from_slice(*self.bytes.allocator(), self.as_slice())?;
+        Ok(Octets { bytes })
     }
 }
 

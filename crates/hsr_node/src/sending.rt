@@ -5,11 +5,10 @@ ghost use Rattle.hsr_node.specs.Flow.{sending_of, sent_by};
 
 use crate::event::{Event, Outcome};
 use crate::place::Place;
-use hsr_frame::{
-    About, ETHERTYPE_HSR, ETHERTYPE_SUPERVISION, ETHERTYPE_VLAN, MAX_PAYLOAD, Mac, copied,
-};
+use hsr_frame::{About, ETHERTYPE_HSR, ETHERTYPE_SUPERVISION, ETHERTYPE_VLAN, MAX_PAYLOAD, Mac};
 use hsr_supervision::{SupKind, Supervision};
-use hsr_tag::Frame;
+use hsr_tag::{Frame, FrameView, Payload};
+use std::marker::Model;
 
 /// A send: its plain frame, and the number that it got, if it got one.
 #[derive(Drop)]
@@ -18,24 +17,45 @@ pub struct Sending {
     pub seq: Option<u16>,
 }
 
+/// A send: its plain frame, with the payload where it stands, and the number that it got, if it got one.
+#[derive(Drop)]
+pub struct SentView<'a> {
+    pub frame: FrameView<'a>,
+    pub seq: Option<u16>,
+}
+
+impl<'a> Model for SentView<'a> {
+    ghost use Rattle.hsr_node.specs.declared.sending.Sending.{Sending};
+
+    ghost Value = { Sending };
+
+    ghost view = { λ s. record { frame = s.frame; seq = s.seq } };
+}
+
 /// The frame with these fields, where there is one: no group sends it, its type is that of no VLAN or HSR tag, and its
 /// payload has at most `MAX_PAYLOAD` octets.
-fn frame_of(src: Mac, dst: Mac, vlan: Option<u16>, kind: u16, payload: &[u8]) -> Option<Frame>
-    ensures { result ≡ frame_of (record { dst = dst; src = src; vlan = vlan; kind = kind; rest = payload.now }) }
+fn frame_of<'a>(
+    src: Mac,
+    dst: Mac,
+    vlan: Option<u16>,
+    kind: u16,
+    payload: Payload<'a>,
+) -> Option<FrameView<'a>>
+    ensures { result ≡ frame_of (record { dst = dst; src = src; vlan = vlan; kind = kind; rest = payload.entry }) }
 {
     if src.is_group()
         || kind == ETHERTYPE_HSR
         || kind == ETHERTYPE_VLAN
-        || payload.len() > MAX_PAYLOAD
+        || payload.as_slice().len() > MAX_PAYLOAD
     {
         return None;
     }
-    Some(Frame {
+    Some(FrameView {
         dst,
         src,
         vlan,
         kind,
-        payload: copied(payload),
+        payload,
     })
 }
 
@@ -63,17 +83,17 @@ fn address_at(place: &Place, from: u8) -> Option<Mac>
 
 /// The frame that a send asks for, by its source: `None` where there is no source, or it is a group's, where the type is
 /// that of a VLAN or HSR tag, and where the payload has more than `MAX_PAYLOAD` octets.
-pub fn asked_frame(
+pub fn asked_frame<'a>(
     src: Option<Mac>,
     dst: Mac,
     vlan: Option<u16>,
     kind: u16,
-    payload: &[u8],
-) -> Option<Frame>
+    payload: &'a [u8],
+) -> Option<FrameView<'a>>
     ensures { result ≡ asked_frame src dst vlan kind payload.now }
 {
     let src = src?;
-    frame_of(src, dst, vlan, kind, payload)
+    frame_of(src, dst, vlan, kind, Payload::there(payload))
 }
 
 /// What a supervision frame says (IEC 62439-3 clause 5.7): a RedBox names itself where it speaks for a station.
@@ -96,7 +116,7 @@ fn life_said(own: Mac, about: About, life: u16) -> Supervision
 
 /// The supervision frame of a node with this address, before it is tagged (IEC 62439-3 clause 5.7); `life` counts the node's
 /// earlier ones, modulo 65536. `None` where there is no address, or it is a group's.
-pub fn life_frame(own: Option<Mac>, about: About, life: u16) -> Option<Frame>
+pub fn life_frame(own: Option<Mac>, about: About, life: u16) -> Option<FrameView<'static>>
     ensures { result ≡ life_frame own about life }
 {
     let own = own?;
@@ -106,16 +126,16 @@ pub fn life_frame(own: Option<Mac>, about: About, life: u16) -> Option<Frame>
         Mac::supervision(),
         None,
         ETHERTYPE_SUPERVISION,
-        said.as_slice(),
+        Payload::here(said),
     )
 }
 
 /// A frame with its number.
-fn sending_of(seq: Option<u16>, frame: Option<Frame>) -> Option<Sending>
-    ensures { result ≡ sending_of seq frame }
+fn sending_of<'a>(seq: Option<u16>, frame: Option<FrameView<'a>>) -> Option<SentView<'a>>
+    ensures { result ≡ sending_of seq frame.entry }
 {
     match frame {
-        Some(frame) => Some(Sending { frame, seq }),
+        Some(frame) => Some(SentView { frame, seq }),
         None => None,
     }
 }
@@ -123,8 +143,8 @@ fn sending_of(seq: Option<u16>, frame: Option<Frame>) -> Option<Sending>
 /// What a node of this place sends of its own in an event with this outcome: the frame of an accepted send, or the
 /// supervision frame (IEC 62439-3 clause 5.7). `None` where the event is an arrival or an ageing, where the outcome isn't
 /// that of such an event, and where there is no such frame: the place has no such address, or it is a group's, the type is
-/// that of a VLAN or HSR tag, or the payload has more than `MAX_PAYLOAD` octets.
-pub fn sent_by(place: &Place, event: &Event, outcome: &Outcome) -> Option<Sending>
+/// that of a VLAN or HSR tag, or the payload has more than `MAX_PAYLOAD` octets. The payload stands in the event.
+pub fn sent_view<'a>(place: &Place, event: &'a Event, outcome: &Outcome) -> Option<SentView<'a>>
     ensures { result ≡ sent_by place.now event.now outcome.now }
 {
     match event {
@@ -157,4 +177,15 @@ pub fn sent_by(place: &Place, event: &Event, outcome: &Outcome) -> Option<Sendin
         },
         _ => None,
     }
+}
+
+/// What `sent_view` gives, with a copy of the payload.
+pub fn sent_by(place: &Place, event: &Event, outcome: &Outcome) -> Option<Sending>
+    ensures { result ≡ sent_by place.now event.now outcome.now }
+{
+    let sent = sent_view(place, event, outcome)?;
+    Some(Sending {
+        frame: sent.frame.to_frame(),
+        seq: sent.seq,
+    })
 }

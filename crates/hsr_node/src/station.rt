@@ -7,7 +7,7 @@ ghost use Rattle.hsr_node.specs.Station.{is_among, judged_plain, judged_seen};
 use crate::event::{Event, Outcome, StepFault};
 use arrayvec::ArrayVec;
 use hsr_frame::{Cause, Counters, FrameFault, Mac, STEP_LIMIT, send_fault};
-use hsr_tag::{Frame, Seen, classify};
+use hsr_tag::{EitherView, FrameView, SeenView, look_at};
 use std::marker::Model;
 
 /// A node with up to 16 addresses and one port, behind a RedBox (a SAN of IEC 62439-3 clause 5). It sends plain frames,
@@ -87,7 +87,7 @@ impl Station {
         if self.accepted == STEP_LIMIT {
             return Err(StepFault::Spent);
         }
-        let cause = cause_of(self.macs.as_slice(), &classify(octets));
+        let cause = cause_of(self.macs.as_slice(), &look_at(octets));
         let up = cause == Cause::Passed;
         self.counters.count(cause, up, 0);
         self.moment = self.moment.max(at);
@@ -163,18 +163,21 @@ fn is_among(macs: &[Mac], mac: Mac) -> bool
 }
 
 /// Why what came goes where it does: up for `Passed`, else nowhere.
-fn cause_of(macs: &[Mac], seen: &Result<Seen, FrameFault>) -> Cause
+fn cause_of(macs: &[Mac], seen: &Result<SeenView<'_>, FrameFault>) -> Cause
     ensures { result ≡ judged_seen macs.now seen.now }
 {
-    match seen {
-        Err(fault) => Cause::Malformed(*fault),
-        Ok(Seen::Tagged(_)) => Cause::Tagged,
-        Ok(Seen::Plain(frame)) => plain_cause(macs, frame),
+    let seen = match seen {
+        Ok(seen) => seen,
+        Err(fault) => return Cause::Malformed(*fault),
+    };
+    match &seen.frame {
+        EitherView::Tagged(_) => Cause::Tagged,
+        EitherView::Plain(frame) => plain_cause(macs, frame),
     }
 }
 
 /// Why a plain frame goes where it does.
-fn plain_cause(macs: &[Mac], frame: &Frame) -> Cause
+fn plain_cause(macs: &[Mac], frame: &FrameView<'_>) -> Cause
     ensures { result ≡ judged_plain macs.now frame.now }
 {
     if is_among(macs, frame.src) {
