@@ -1,6 +1,7 @@
 //! The lines that answer a request, and the line of counters.
 ghost use Rattle.std.specs.Prelude.{◌≡◌, ◌≢◌, ◌≤◌, ◌^◌, ◌++◌, ◌∷◌, codes, length, OnOk};
 ghost use Rattle.std.specs.Fmt.{decimal};
+ghost use Rattle.hex.specs.Hex.{encode_upper};
 ghost use Rattle.hsr_frame.specs.Counters.{AreWithin};
 ghost use Rattle.hsr_frame.specs.Words.{cause_text, fault_text, port_word};
 ghost use Rattle.hsr_node.specs.Copies.{plain_octets};
@@ -9,7 +10,7 @@ ghost use Rattle.hsr_node_text.specs.Reply.{both_text, copies_text, counter_line
 use hsr_danh::Verdict;
 use hsr_frame::{About, Cause, Counters, FrameFault, Life, Mac, RingPort, SendFault};
 use hsr_node::{life_frame, plain_octets, ring_octets};
-use hsr_tag::Frame;
+use hsr_tag::{FrameView, Spelled};
 use hsr_text::{put_decimal, put_hex};
 use std::alloc::AllocError;
 
@@ -21,20 +22,29 @@ pub fn put_count(text: &mut Vec<u8>, name: &[u8], n: u64) -> Result<(), AllocErr
     put_decimal(text, n)
 }
 
+/// Puts the octets of a frame, as hexadecimal digits.
+fn put_spelled(text: &mut Vec<u8>, spelled: &Spelled<'_>) -> Result<(), AllocError>
+    ensures { OnOk result (text.new.items ≡ text.old.items ++ encode_upper spelled.now) }
+{
+    let (head, rest) = spelled.pieces();
+    put_hex(text, head)?;
+    put_hex(text, rest)
+}
+
 /// Puts the two copies of a frame that leave by the ports.
-fn put_both(text: &mut Vec<u8>, frame: &Frame, seq: u16) -> Result<(), AllocError>
+fn put_both(text: &mut Vec<u8>, frame: &FrameView<'_>, seq: u16) -> Result<(), AllocError>
     ensures { OnOk result (text.new.items ≡ text.old.items ++ both_text frame.now seq) }
 {
     text.extend_from_slice(b"A ")?;
-    put_hex(text, ring_octets(RingPort::A, seq, frame).as_slice())?;
+    put_spelled(text, &ring_octets(RingPort::A, seq, frame))?;
     text.extend_from_slice(b"\nB ")?;
-    put_hex(text, ring_octets(RingPort::B, seq, frame).as_slice())?;
+    put_spelled(text, &ring_octets(RingPort::B, seq, frame))?;
     text.extend_from_slice(b"\n")
 }
 
 /// Puts the copies of a frame, if there is one.
-fn put_copies(text: &mut Vec<u8>, frame: Option<Frame>, seq: u16) -> Result<(), AllocError>
-    ensures { OnOk result (text.new.items ≡ text.old.items ++ copies_text frame seq) }
+fn put_copies(text: &mut Vec<u8>, frame: Option<FrameView<'_>>, seq: u16) -> Result<(), AllocError>
+    ensures { OnOk result (text.new.items ≡ text.old.items ++ copies_text frame.entry seq) }
 {
     match frame {
         Some(frame) => put_both(text, &frame, seq),
@@ -43,8 +53,12 @@ fn put_copies(text: &mut Vec<u8>, frame: Option<Frame>, seq: u16) -> Result<(), 
 }
 
 /// Puts the lines of a send that was accepted.
-pub fn put_sent(text: &mut Vec<u8>, frame: Option<Frame>, seq: u16) -> Result<(), AllocError>
-    ensures { OnOk result (text.new.items ≡ text.old.items ++ sent_text frame seq) }
+pub fn put_sent(
+    text: &mut Vec<u8>,
+    frame: Option<FrameView<'_>>,
+    seq: u16,
+) -> Result<(), AllocError>
+    ensures { OnOk result (text.new.items ≡ text.old.items ++ sent_text frame.entry seq) }
 {
     put_count(text, b"sent ", u64::from(seq))?;
     text.extend_from_slice(b"\n")?;
@@ -127,7 +141,7 @@ fn put_up(text: &mut Vec<u8>, octets: &[u8]) -> Result<(), AllocError>
         return Ok(());
     };
     text.extend_from_slice(b"up ")?;
-    put_hex(text, plain.as_slice())?;
+    put_spelled(text, &plain)?;
     text.extend_from_slice(b"\n")
 }
 
