@@ -36,7 +36,7 @@ impl Octets {
         Ok(Octets { bytes })
     }
 
-    /// The octets of a frame, in room that is enough for them; what the room held is gone.
+    /// The octets of a frame, in room that is enough for them; what the room held is gone, and what is not needed given back.
     pub fn spelled_in(room: Vec<u8>, spelled: &Spelled<'_>) -> Octets
         requires { length spelled.now ≤ vec_capacity room }
         ensures { result ≡ spelled.now }
@@ -50,6 +50,7 @@ impl Octets {
         let Ok(()) = bytes.extend_from_slice(rest) else {
             unreachable!()
         };
+        bytes.shrink_to_fit();
         Octets { bytes }
     }
 

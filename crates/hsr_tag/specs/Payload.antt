@@ -1,6 +1,5 @@
 -- Where the octets of a payload are.
 use Rattle.std.specs.Prelude.{ℕ, List}
-use Rattle.std.specs.Borrow.{Bor}
 use Rattle.hsr_tag.specs.declared.payload.Held.{Held}
 use Rattle.hsr_tag.specs.declared.payload.Held.TheVariants.{There, Here}
 
