@@ -1,4 +1,5 @@
 pub mod Digits
 pub mod Decimals
+pub mod Cuts
 pub mod LineCuts
-pub mod LongLines
+pub mod Pieces

@@ -26,9 +26,18 @@ Reads most text left line Line = cut 10 text ≡ (line, Some left)
 Reads most text left line Rest = (cut 10 text ≡ (line, None)) × (left ≡ [])
 Reads most text left line TooLong = (most < length (cut 10 text).0) × (line ≡ take most text) × (left ≡ drop (most + 1) text)
 
--- What a read of one byte did to the known bytes: it took the byte, found none left, or failed and took none.
-abbrev pub ReadsByte : {E : Type 0} → Option (List ℕ) → Option (List ℕ) → Result (Option ℕ) E → Type 0
-ReadsByte old new r = MatchResult r (λ o. MatchOption o (Keeps old new × IsAtEnd old) (λ b. Consumes old new (b ∷ []))) (λ _. Keeps old new)
+-- What the front `taken` of a piece made of a line's front `line`: it is put behind it, and has no line feed; it ends with the line
+-- feed; there was nothing to take; or its last byte found no room.
+abbrev pub Fills : ℕ → List ℕ → List ℕ → List ℕ → Option Front → Type 0
+Fills most taken line grown None = (cut 10 taken ≡ (taken, None)) × (grown ≡ line ++ taken)
+Fills most taken line grown (Some Line) = (part : List ℕ) × (taken ≡ part ++ 10 ∷ []) × (cut 10 part ≡ (part, None)) × (grown ≡ line ++ part)
+Fills most taken line grown (Some Rest) = (taken ≡ []) × (grown ≡ line)
+Fills most taken line grown (Some TooLong) = (part : List ℕ) × (b : ℕ) × (taken ≡ part ++ b ∷ []) × (cut 10 (part ++ b ∷ []) ≡ (part ++ b ∷ [], None)) × (grown ≡ line ++ part) × (length grown ≡ most)
+
+-- What was taken of known bytes made this of a line's front; nothing is told to be left only at the end.
+abbrev pub Advances : ℕ → Option (List ℕ) → Option (List ℕ) → List ℕ → List ℕ → Option Front → Type 0
+Advances most old new line grown front =
+    (taken : List ℕ) × Consumes old new taken × Fills most taken line grown front × (front ≡ Some Rest → IsAtEnd old)
 
 -- `line` was read from the front of the known bytes `text`, and `left` goes on from there.
 abbrev pub Continues : Option (List ℕ) → Option (List ℕ) → List ℕ → Type 0

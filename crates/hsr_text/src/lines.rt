@@ -1,10 +1,11 @@
 //! Lines of a reader, with a bound on the length of a line and on the number of reads.
-ghost use Rattle.std.specs.Prelude.{◌<◌, ◌≤◌, IfOk, OnOk};
-ghost use Rattle.hsr_text.specs.Lines.{Paid, ReadsByte, ReadsFront};
+ghost use Rattle.std.specs.Prelude.{◌≡◌, ◌+◌, ◌<◌, ◌≤◌, [], length, take, Some, IfOk, OnOk};
+ghost use Rattle.hsr_text.specs.declared.lines.Front.TheVariants.{Rest};
+ghost use Rattle.hsr_text.specs.Lines.{Advances, Fills, Paid, ReadsFront};
 
+use crate::words::split_at;
 use arrayvec::ArrayVec;
-use std::io;
-use std::io::{ErrorKind, Read};
+use std::io::{BufRead, ErrorKind};
 
 /// How many reads a caller grants a text.
 pub const READ_LIMIT: u64 = 1 << 40;
@@ -24,19 +25,76 @@ pub enum Front {
 #[derive(Clone, Copy, Debug, PartialEq, Eq)]
 pub struct ReaderFault;
 
-/// Reads one byte, or nothing at the end.
-fn read_byte<R: Read>(reader: &mut R) -> io::Result<Option<u8>>
-    ensures { ReadsByte (R.remaining reader.old) (R.remaining reader.new) result }
+/// The front of a piece that a line with this room can tell: one octet that finds no room ends it too.
+fn reach(piece: &[u8], room: usize) -> &[u8]
+    ensures { result.now ≡ take (room + 1) piece.now }
 {
-    let mut byte = [0u8; 1];
-    let count = reader.read(&mut byte)?;
-    let [b] = byte;
-    if count == 0 { Ok(None) } else { Ok(Some(b)) }
+    if piece.len() > room {
+        &piece[..room + 1]
+    } else {
+        piece
+    }
+}
+
+/// Puts what a piece of a text has of a line behind the line's front. Tells how many octets of the piece that takes, with the
+/// line feed or the octet that finds no room, and how the line ends, if it ends there.
+#[tactic(auto, using(crate::proofs::Pieces::line_filled, crate::proofs::Pieces::part_filled, crate::proofs::Pieces::none_filled, crate::proofs::Pieces::long_filled))]
+fn fill<const N: usize>(line: &mut ArrayVec<u8, N>, piece: &[u8]) -> (usize, Option<Front>)
+    ensures within { result.0 ≤ length piece.now }
+    ensures filled { Fills N (take result.0 piece.now) line.old.items line.new.items result.1 }
+    ensures last { result.1 ≡ Some Rest → piece.now ≡ [] }
+{
+    let room = line.remaining_capacity();
+    match split_at(reach(piece, room), b'\n') {
+        (front, Some(_)) => {
+            line.try_extend_from_slice(front).unwrap();
+            (front.len() + 1, Some(Front::Line))
+        }
+        ([], None) => (0, Some(Front::Rest)),
+        (front, None) if front.len() > room => {
+            line.try_extend_from_slice(&front[..room]).unwrap();
+            (front.len(), Some(Front::TooLong))
+        }
+        (front, None) => {
+            line.try_extend_from_slice(front).unwrap();
+            (front.len(), None)
+        }
+    }
+}
+
+/// Puts what the reader shows of a line behind the line's front, and tells how the line ends, if it ends there. The first
+/// octet is paid for; each other one takes one of `reads`.
+fn advance<R: BufRead, const N: usize>(
+    reader: &mut R,
+    reads: &mut u64,
+    line: &mut ArrayVec<u8, N>,
+) -> Result<Option<Front>, ReaderFault>
+    ensures advanced { IfOk result (Advances N (R.remaining reader.old) (R.remaining reader.new) line.old.items line.new.items) }
+    ensures paid { Paid (R.remaining reader.old) (R.remaining reader.new) (reads.old + 1) reads.new }
+    ensures bounded { reads.new ≤ reads.old }
+{
+    let piece = match reader.fill_buf() {
+        Ok(piece) => piece,
+        Err(e) => {
+            return if e.kind() == ErrorKind::Interrupted {
+                Ok(None)
+            } else {
+                Err(ReaderFault)
+            };
+        }
+    };
+    let (taken, front) = fill(line, piece);
+    *reads = reads
+        .checked_sub(taken.saturating_sub(1) as u64)
+        .ok_or(ReaderFault)?;
+    reader.consume(taken);
+    Ok(front)
 }
 
 /// Reads the next line, of at most `N` octets, into `line`, without its line feed; each octet takes one of `reads`.
 /// `ReaderFault` where the reader fails or no reads are left; then the line isn't told.
-pub fn next_line<R: Read, const N: usize>(
+#[tactic(auto, using(crate::proofs::Pieces::goes_on, crate::proofs::Pieces::ends))]
+pub fn next_line<R: BufRead, const N: usize>(
     reader: &mut R,
     reads: &mut u64,
     line: &mut ArrayVec<u8, N>,
@@ -49,20 +107,8 @@ pub fn next_line<R: Read, const N: usize>(
     line.clear();
     while *reads > 0 {
         *reads -= 1;
-        match read_byte(reader) {
-            Ok(None) => return Ok(Front::Rest),
-            Ok(Some(b'\n')) => return Ok(Front::Line),
-            Ok(Some(b)) => {
-                if line.is_full() {
-                    return Ok(Front::TooLong);
-                }
-                line.push(b);
-            }
-            Err(e) => {
-                if e.kind() != ErrorKind::Interrupted {
-                    return Err(ReaderFault);
-                }
-            }
+        if let Some(front) = advance(reader, reads, line)? {
+            return Ok(front);
         }
     }
     Err(ReaderFault)

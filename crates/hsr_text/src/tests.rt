@@ -59,3 +59,25 @@ fn lines_of_a_text(rt: HostRuntime) -> Result<(), Fail> {
     );
     Ok(())
 }
+
+#[test]
+fn lines_in_pieces(rt: HostRuntime) -> Result<(), Fail> {
+    let text = b"abc\ndefg\nhij".as_slice();
+    let mut reader = std::io::BufReader::with_capacity(rt.alloc(), 2, text)?;
+    let mut reads = 14;
+    let mut line = arrayvec::ArrayVec::<u8, 3>::new();
+    let expected = [
+        (Front::Line, b"abc".as_slice()),
+        (Front::TooLong, b"def"),
+        (Front::Line, b""),
+        (Front::Rest, b"hij"),
+    ];
+    for (front, octets) in expected {
+        let found = next_line(&mut reader, &mut reads, &mut line);
+        assert_eq!(rt; found, Ok(front));
+        assert_eq!(rt; line.as_slice(), octets);
+    }
+    // each octet took a read, and so did the end
+    assert_eq!(rt; reads, 1);
+    Ok(())
+}

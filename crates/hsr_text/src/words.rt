@@ -7,6 +7,7 @@ ghost use Rattle.hsr_text.specs.Words.{Gives, cut, word_at, decimal_of, hex_pair
 
 use hex::{FromHex, FromHexError};
 use itoa::Buffer;
+use memchr::memchr;
 use std::alloc::{AllocError, Global};
 
 /// Why a word isn't read.
@@ -18,15 +19,14 @@ pub enum WordFault {
 }
 
 /// What stands before the first separator, and what follows it, if it is there.
+#[tactic(auto, using(crate::proofs::Cuts::found, crate::proofs::Cuts::missing))]
 pub fn split_at(text: &[u8], separator: u8) -> (&[u8], Option<&[u8]>)
     ensures { cut separator text.now ≡ (result.0.now, option_map (λ s. s.now) result.1) }
 {
-    for (i, b) in text.iter().enumerate() {
-        if *b == separator {
-            return (&text[..i], Some(&text[i + 1..]));
-        }
+    match memchr(separator, text) {
+        Some(i) => (&text[..i], Some(&text[i + 1..])),
+        None => (text, None),
     }
-    (text, None)
 }
 
 /// The next word of what is left of a line, and what follows the one space behind it.
