@@ -1,5 +1,6 @@
 pub mod Digits
 pub mod Decimals
+pub mod Buffered
 pub mod Cuts
 pub mod LineCuts
 pub mod Pieces

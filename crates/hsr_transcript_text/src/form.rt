@@ -18,10 +18,10 @@ use hsr_node::{Entry, Place};
 use hsr_text::READ_LIMIT;
 use hsr_topology::End;
 use std::alloc::{AllocError, Global};
-use std::io::Read;
+use std::io::{BufRead, BufReader, Read};
 
 /// Reads the record of each node.
-fn records<R: Read>(
+fn records<R: BufRead>(
     nodes: &[Place],
     alloc: Global,
     reader: &mut R,
@@ -50,7 +50,7 @@ fn records<R: Read>(
 
 /// Reads the record of a node.
 #[tactic(auto, unfolding(crate::specs::Parsed::entry_of))]
-fn record<R: Read>(
+fn record<R: BufRead>(
     place: &Place,
     alloc: Global,
     reader: &mut R,
@@ -76,7 +76,7 @@ ghost use Rattle.std.specs.Prelude.{codes};
 
 /// Reads the rows of a link.
 #[tactic(auto, unfolding(crate::specs::Parsed::row_of))]
-fn carried<R: Read>(
+fn carried<R: BufRead>(
     alloc: Global,
     reader: &mut R,
     progress: &mut Progress,
@@ -89,7 +89,7 @@ fn carried<R: Read>(
 }
 
 /// Reads the rows of each link.
-fn rows<R: Read>(
+fn rows<R: BufRead>(
     links: &[[End; 2]],
     alloc: Global,
     reader: &mut R,
@@ -115,7 +115,7 @@ fn rows<R: Read>(
 
 /// Reads the last line.
 #[tactic(auto, using(crate::proofs::Parts::last_told, crate::proofs::Parts::bind_fails), unfolding(crate::specs::Form::end_on))]
-fn end<R: Read>(
+fn end<R: BufRead>(
     plain: Plain,
     alloc: Global,
     reader: &mut R,
@@ -133,7 +133,7 @@ fn end<R: Read>(
 
 /// Reads what follows the records.
 #[tactic(auto, using(crate::proofs::Parts::bind_told, crate::proofs::Parts::bind_fails), unfolding(crate::specs::Form::carried_on))]
-fn behind_records<R: Read>(
+fn behind_records<R: BufRead>(
     nodes: Vec<Place>,
     links: Vec<[End; 2]>,
     main: Vec<u64>,
@@ -165,7 +165,7 @@ fn behind_records<R: Read>(
 
 /// Reads what follows the order of the main worker's entries.
 #[tactic(auto, using(crate::proofs::Parts::bind_told, crate::proofs::Parts::bind_fails), unfolding(crate::specs::Form::records_on))]
-fn behind_main<R: Read>(
+fn behind_main<R: BufRead>(
     nodes: Vec<Place>,
     links: Vec<[End; 2]>,
     main: Vec<u64>,
@@ -186,7 +186,7 @@ fn behind_main<R: Read>(
 
 /// Reads what follows the links.
 #[tactic(auto, using(crate::proofs::Parts::bind_told, crate::proofs::Parts::bind_fails), unfolding(crate::specs::Form::main_on, crate::specs::Parsed::turn_of))]
-fn behind_links<R: Read>(
+fn behind_links<R: BufRead>(
     nodes: Vec<Place>,
     links: Vec<[End; 2]>,
     alloc: Global,
@@ -206,7 +206,7 @@ fn behind_links<R: Read>(
 
 /// Reads what follows the nodes.
 #[tactic(auto, using(crate::proofs::Parts::bind_told, crate::proofs::Parts::bind_fails), unfolding(crate::specs::Form::links_on, crate::specs::Parsed::link_of))]
-fn behind_nodes<R: Read>(
+fn behind_nodes<R: BufRead>(
     nodes: Vec<Place>,
     alloc: Global,
     reader: &mut R,
@@ -226,7 +226,7 @@ fn behind_nodes<R: Read>(
 
 /// Reads what follows the first two lines.
 #[tactic(auto, using(crate::proofs::Parts::bind_told, crate::proofs::Parts::bind_fails), unfolding(crate::specs::Form::nodes_on, crate::specs::Parsed::place_of))]
-fn behind_table<R: Read>(
+fn behind_table<R: BufRead>(
     alloc: Global,
     reader: &mut R,
     progress: &mut Progress,
@@ -254,7 +254,7 @@ fn table_line(alloc: Global, capacity: usize) -> Result<Vec<u8>, AllocError>
 
 /// Reads what follows the first line, of tables with so many entries.
 #[tactic(auto, using(crate::proofs::Parts::bind_told, crate::proofs::Parts::bind_fails), unfolding(crate::specs::Form::table_on))]
-fn behind_version<R: Read>(
+fn behind_version<R: BufRead>(
     capacity: usize,
     alloc: Global,
     reader: &mut R,
@@ -276,7 +276,7 @@ fn behind_version<R: Read>(
 
 /// Reads all lines of a text.
 #[tactic(auto, using(crate::proofs::Parts::bind_told, crate::proofs::Parts::bind_fails), unfolding(crate::specs::Form::said_at))]
-fn all_lines<R: Read>(
+fn all_lines<R: BufRead>(
     capacity: usize,
     alloc: Global,
     reader: &mut R,
@@ -293,13 +293,9 @@ fn all_lines<R: Read>(
     }
 }
 
-/// Reads what a whole text says that is in form, of tables with so many entries.
+/// Reads what the lines of a whole text say that is in form, of tables with so many entries.
 #[tactic(auto, using(crate::proofs::Parts::form_told, crate::proofs::Parts::form_more, crate::proofs::Parts::form_fails))]
-pub fn read_plain<R: Read>(
-    capacity: usize,
-    alloc: Global,
-    reader: &mut R,
-) -> Result<Plain, ReadFault>
+fn whole<R: BufRead>(capacity: usize, alloc: Global, reader: &mut R) -> Result<Plain, ReadFault>
     ensures { Says plain_view (R.remaining reader.old) result (form_of capacity) }
 {
     let mut progress = Progress {
@@ -312,5 +308,19 @@ pub fn read_plain<R: Read>(
             Err(fault) => Err(fault),
         },
         Err(fault) => Err(fault),
+    }
+}
+
+/// Reads what a whole text says that is in form, of tables with so many entries.
+pub fn read_plain<R: Read>(
+    capacity: usize,
+    alloc: Global,
+    reader: &mut R,
+) -> Result<Plain, ReadFault>
+    ensures { Says plain_view (R.remaining reader.old) result (form_of capacity) }
+{
+    match BufReader::new(alloc, reader) {
+        Ok(mut buffered) => whole(capacity, alloc, &mut buffered),
+        Err(_) => Err(ReadFault::NoMemory),
     }
 }

@@ -11,7 +11,7 @@ use crate::places::{CountLine, FixedLine};
 use arrayvec::ArrayVec;
 use hsr_text::{Front, WordFault, next_line};
 use std::alloc::Global;
-use std::io::Read;
+use std::io::BufRead;
 
 /// The most octets of a line, without its line feed.
 const LINE_LIMIT: usize = 8192;
@@ -25,7 +25,7 @@ pub(crate) struct Progress {
 
 /// Reads the next line.
 #[tactic(auto, using(crate::proofs::Parts::line_given, crate::proofs::Parts::line_ends, crate::proofs::Parts::line_long))]
-fn next<R: Read>(
+fn next<R: BufRead>(
     reader: &mut R,
     progress: &mut Progress,
     line: &mut ArrayVec<u8, LINE_LIMIT>,
@@ -55,7 +55,7 @@ fn next<R: Read>(
 
 /// Reads the next line, which is of a kind.
 #[tactic(auto, using(crate::proofs::Parts::one_given, crate::proofs::Parts::one_bad, crate::proofs::Parts::one_fails))]
-pub(crate) fn one<R: Read, K: LineKind>(
+pub(crate) fn one<R: BufRead, K: LineKind>(
     kind: &K,
     alloc: Global,
     reader: &mut R,
@@ -79,7 +79,7 @@ pub(crate) fn one<R: Read, K: LineKind>(
 }
 
 /// Reads lines, each of a kind. As their number may be any that a text claims, nothing is reserved by it.
-pub(crate) fn many<R: Read, K: LineKind>(
+pub(crate) fn many<R: BufRead, K: LineKind>(
     kind: &K,
     alloc: Global,
     reader: &mut R,
@@ -109,7 +109,7 @@ pub(crate) fn many<R: Read, K: LineKind>(
 
 /// Reads a section: a line that says how many, and as many lines of a kind.
 #[tactic(auto, using(crate::proofs::Parts::bind_told, crate::proofs::Parts::bind_fails), unfolding(crate::specs::Form::section_at, crate::specs::Parsed::count_of))]
-pub(crate) fn section<R: Read, K: LineKind>(
+pub(crate) fn section<R: BufRead, K: LineKind>(
     name: &[u8],
     kind: &K,
     alloc: Global,
@@ -129,7 +129,7 @@ pub(crate) fn section<R: Read, K: LineKind>(
 
 /// Reads a line that stands in each text.
 #[tactic(auto, unfolding(crate::specs::Form::only_at))]
-pub(crate) fn fixed<R: Read>(
+pub(crate) fn fixed<R: BufRead>(
     line: &[u8],
     alloc: Global,
     reader: &mut R,
@@ -157,7 +157,7 @@ ghost use Rattle.hsr_transcript_text.specs.Form.{as_version};
 
 /// Reads the first line, which says the version.
 #[tactic(auto, using(crate::proofs::Parts::version_given, crate::proofs::Parts::version_fails))]
-pub(crate) fn version<R: Read>(
+pub(crate) fn version<R: BufRead>(
     alloc: Global,
     reader: &mut R,
     progress: &mut Progress,
@@ -174,7 +174,7 @@ pub(crate) fn version<R: Read>(
 }
 
 /// Whether nothing is left.
-pub(crate) fn nothing_more<R: Read>(
+pub(crate) fn nothing_more<R: BufRead>(
     reader: &mut R,
     progress: &mut Progress,
 ) -> Result<(), ReadFault>
