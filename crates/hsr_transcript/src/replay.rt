@@ -81,9 +81,7 @@ pub(crate) fn replay_all<const C: usize>(
         let entries = records[i].as_slice();
         match replay::<C>(alloc, i, place, entries, line + 1) {
             Ok(node) => {
-                if kept.push(node).is_err() {
-                    return Err(ReadFault::NoMemory);
-                }
+                kept.push(node)?;
                 line += 1 + entries.len() as u64;
             }
             Err(fault) => return Err(fault),

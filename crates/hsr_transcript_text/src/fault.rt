@@ -1,5 +1,8 @@
 //! Why a run isn't written, and why a text isn't read.
+ghost use Rattle.std.specs.Prelude.{◌≡◌};
+
 use hsr_closing::Disagree;
+use std::alloc::AllocFailed;
 
 /// Why a run isn't written.
 #[derive(Clone, Copy, Debug, PartialEq, Eq)]
@@ -26,4 +29,14 @@ pub enum ReadFault {
     Read,
     /// Room for what is read was refused.
     NoMemory,
+}
+
+impl<T: Drop> From<AllocFailed<T>> for ReadFault {
+    ghost use Rattle.hsr_transcript_text.specs.declared.fault.ReadFault.TheVariants.{NoMemory};
+
+    ghost from_gives = { λ _ fault. fault ≡ NoMemory };
+
+    fn from(_refused: AllocFailed<T>) -> ReadFault {
+        ReadFault::NoMemory
+    }
 }

@@ -13,6 +13,7 @@ use crate::records::EntryLine;
 use crate::rows::RowLine;
 use crate::sections::{Progress, fixed, nothing_more, section, version};
 use crate::words::put_number;
+use arrayvec::ArrayVec;
 use hsr_link::Row;
 use hsr_node::{Entry, Place};
 use hsr_text::READ_LIMIT;
@@ -38,9 +39,7 @@ fn records<R: BufRead>(
         let place = &nodes[i];
         match record(place, alloc, reader, progress) {
             Ok(record) => {
-                if records.push(record).is_err() {
-                    return Err(ReadFault::NoMemory);
-                }
+                records.push(record)?;
             }
             Err(fault) => return Err(fault),
         }
@@ -103,9 +102,7 @@ fn rows<R: BufRead>(
     for _ in links {
         match carried(alloc, reader, progress) {
             Ok(of_link) => {
-                if rows.push(of_link).is_err() {
-                    return Err(ReadFault::NoMemory);
-                }
+                rows.push(of_link)?;
             }
             Err(fault) => return Err(fault),
         }
@@ -301,6 +298,8 @@ fn whole<R: BufRead>(capacity: usize, alloc: Global, reader: &mut R) -> Result<P
     let mut progress = Progress {
         reads: READ_LIMIT,
         number: 1,
+        line: ArrayVec::new(),
+        spelled: Vec::new(alloc),
     };
     match all_lines(capacity, alloc, reader, &mut progress) {
         Ok(plain) => match nothing_more(reader, &mut progress) {

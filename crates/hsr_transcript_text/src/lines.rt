@@ -30,25 +30,26 @@ pub(crate) trait LineKind {
         ensures { Gives (λ v. v) result (said self.now line.now) };
 }
 
-/// Whether a line is that of a value.
+/// Whether a line is that of a value, which is spelled in the room for it.
 fn is_line_of<K: LineKind>(
     kind: &K,
-    alloc: Global,
     value: &K::Value,
     line: &[u8],
+    spelled: &mut Vec<u8>,
 ) -> Result<bool, AllocError>
     ensures { IfOk result (λ same. same ≡ bytes_eq (K.spelled kind.now value.now) line.now) }
 {
-    let mut text = Vec::new(alloc);
-    kind.put(&mut text, value)?;
-    Ok(text.as_slice() == line)
+    spelled.clear();
+    kind.put(spelled, value)?;
+    Ok(spelled.as_slice() == line)
 }
 
-/// Reads the value whose line this is.
+/// Reads the value whose line this is, with room to spell it again.
 pub(crate) fn read_line<K: LineKind>(
     kind: &K,
     alloc: Global,
     line: &[u8],
+    spelled: &mut Vec<u8>,
 ) -> Result<K::Value, WordFault>
     ensures { Gives (λ v. v) result (exactly (K.spelled kind.now) (K.said kind.now) line.now) }
 {
@@ -56,7 +57,7 @@ pub(crate) fn read_line<K: LineKind>(
         Ok(value) => value,
         Err(fault) => return Err(fault),
     };
-    match is_line_of(kind, alloc, &value, line) {
+    match is_line_of(kind, &value, line, spelled) {
         Ok(true) => Ok(value),
         Ok(false) => Err(WordFault::Bad),
         Err(_) => Err(WordFault::Memory),

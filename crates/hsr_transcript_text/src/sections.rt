@@ -16,34 +16,32 @@ use std::io::BufRead;
 /// The most octets of a line, without its line feed.
 const LINE_LIMIT: usize = 8192;
 
-/// How many reads are left, and the number of the next line.
-#[derive(Clone, Copy, Debug)]
+/// How many reads are left, the number of the next line, and room for a line and for its spelling, used again for each line.
+#[derive(Drop)]
 pub(crate) struct Progress {
     pub(crate) reads: u64,
     pub(crate) number: u64,
+    pub(crate) line: ArrayVec<u8, LINE_LIMIT>,
+    pub(crate) spelled: Vec<u8>,
 }
 
 /// Reads the next line.
 #[tactic(auto, using(crate::proofs::Parts::line_given, crate::proofs::Parts::line_ends, crate::proofs::Parts::line_long))]
-fn next<R: BufRead>(
-    reader: &mut R,
-    progress: &mut Progress,
-    line: &mut ArrayVec<u8, LINE_LIMIT>,
-) -> Result<(), ReadFault>
+fn next<R: BufRead>(reader: &mut R, progress: &mut Progress) -> Result<(), ReadFault>
     requires { progress.old.number + progress.old.reads < 2 ^ 64 }
-    ensures given { Gives (λ _. line.new.items) (R.remaining reader.old) (R.remaining reader.new) progress.old.number progress.new.number result (line_at BadLine) }
+    ensures given { Gives (λ _. progress.new.line.items) (R.remaining reader.old) (R.remaining reader.new) progress.old.number progress.new.number result (line_at BadLine) }
     ensures counted { progress.new.number + progress.new.reads ≤ progress.old.number + progress.old.reads }
     ensures numbered { OnOk result (progress.new.number ≡ progress.old.number + 1) }
 {
-    match next_line(reader, &mut progress.reads, line) {
+    match next_line(reader, &mut progress.reads, &mut progress.line) {
         Ok(Front::Line) => {
             // Its clause bounds the length of the line.
-            let _text = line.as_slice();
+            let _text = progress.line.as_slice();
             progress.number += 1;
             Ok(())
         }
         Ok(Front::Rest) => {
-            let _text = line.as_slice();
+            let _text = progress.line.as_slice();
             Err(ReadFault::End)
         }
         Ok(Front::TooLong) => Err(ReadFault::BadLine {
@@ -67,9 +65,8 @@ pub(crate) fn one<R: BufRead, K: LineKind>(
     ensures numbered { OnOk result (progress.new.number ≡ progress.old.number + 1) }
 {
     let number = progress.number;
-    let mut text = ArrayVec::<u8, LINE_LIMIT>::new();
-    match next(reader, progress, &mut text) {
-        Ok(()) => match read_line(kind, alloc, text.as_slice()) {
+    match next(reader, progress) {
+        Ok(()) => match read_line(kind, alloc, progress.line.as_slice(), &mut progress.spelled) {
             Ok(value) => Ok(value),
             Err(WordFault::Bad) => Err(ReadFault::BadLine { number }),
             Err(WordFault::Memory) => Err(ReadFault::NoMemory),
@@ -96,9 +93,7 @@ pub(crate) fn many<R: BufRead, K: LineKind>(
     while left > 0 {
         match one(kind, alloc, reader, progress) {
             Ok(value) => {
-                if values.push(value).is_err() {
-                    return Err(ReadFault::NoMemory);
-                }
+                values.push(value)?;
                 left -= 1;
             }
             Err(fault) => return Err(fault),
