@@ -16,7 +16,7 @@ use hsr_frame::{Mac, Mode};
 use hsr_node_text::{answer_request, put_counters, read_request};
 use hsr_text::{Front, READ_LIMIT, WordFault, next_line};
 use std::alloc::Global;
-use std::io::{Read, Write};
+use std::io::{BufRead, BufReader, Read, Write};
 
 /// The most octets of a line, without its line feed.
 const LINE_LIMIT: usize = 4096;
@@ -86,7 +86,7 @@ fn answer_front<W: Write, const C: usize>(
 }
 
 /// Reads and answers the next line, and tells whether more may follow.
-fn turn<R: Read, W: Write, const C: usize>(
+fn turn<R: BufRead, W: Write, const C: usize>(
     alloc: Global,
     danh: &mut Danh<C>,
     number: u64,
@@ -125,7 +125,7 @@ fn finish<W: Write, const C: usize>(
 
 /// Reads all lines, and answers each.
 #[tactic(auto, using(crate::proofs::Turns::way_begins, crate::proofs::Turns::way_on, crate::proofs::Turns::way_fails, crate::proofs::Turns::way_ends))]
-fn run<R: Read, W: Write, const C: usize>(
+fn run<R: BufRead, W: Write, const C: usize>(
     alloc: Global,
     reader: &mut R,
     writer: &mut W,
@@ -157,6 +157,24 @@ fn run<R: Read, W: Write, const C: usize>(
     }
 }
 
+/// Reads all lines through a buffer, and answers each.
+fn run_buffered<R: Read, W: Write, const C: usize>(
+    alloc: Global,
+    reader: &mut R,
+    writer: &mut W,
+    mac: Mac,
+    mode: Mode,
+) -> Result<(), Fault>
+    requires station { ¬ IsGroup mac }
+    requires entries { (1 ≤ C) × (C ≤ 65535) }
+    ensures { Ran (R.remaining reader.old) (W.contents writer.old) (W.contents writer.new) C (new_machine mac mode) result }
+{
+    match BufReader::new(alloc, reader) {
+        Ok(mut buffered) => run::<_, W, C>(alloc, &mut buffered, writer, mac, mode),
+        Err(_) => Err(Fault::Memory),
+    }
+}
+
 /// Answers the lines of a text by a DANH with the chosen address, mode and size of tables; moments are milliseconds. A line that
 /// is bad or has over 4096 octets ends the run as `Fault::Line`, counted from 1; what was answered stands. `Fault::Read` where
 /// the reader fails or takes over 2^40 reads, `Fault::Write`, `Fault::Memory`.
@@ -170,8 +188,8 @@ pub fn node_run<R: Read, W: Write>(
         Ended (W.contents writer.old) (W.contents writer.new) (output (capacity_of chosen.now.table) (new_machine chosen.now.mac chosen.now.mode) 1 (lines_of text)) result) }
 {
     let ran = match chosen.table {
-        Table::Small => run::<R, W, 4>(alloc, reader, writer, chosen.mac, chosen.mode),
-        Table::Large => run::<R, W, 512>(alloc, reader, writer, chosen.mac, chosen.mode),
+        Table::Small => run_buffered::<R, W, 4>(alloc, reader, writer, chosen.mac, chosen.mode),
+        Table::Large => run_buffered::<R, W, 512>(alloc, reader, writer, chosen.mac, chosen.mode),
     };
     match ran {
         Ok(()) => Status::Certified,

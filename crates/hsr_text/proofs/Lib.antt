@@ -1,4 +1,4 @@
-pub mod Digits
+pub mod HexDigits
 pub mod Decimals
 pub mod Buffered
 pub mod Cuts

@@ -7,7 +7,7 @@ use crate::words::split_at;
 use arrayvec::ArrayVec;
 use std::io::{BufRead, ErrorKind};
 
-/// How many reads a caller grants a text.
+/// How many reads a caller grants a text, one for each octet and one for each read that gives none.
 pub const READ_LIMIT: u64 = 1 << 40;
 
 /// What `next_line` found.
@@ -91,8 +91,8 @@ fn advance<R: BufRead, const N: usize>(
     Ok(front)
 }
 
-/// Reads the next line, of at most `N` octets, into `line`, without its line feed; each octet takes one of `reads`.
-/// `ReaderFault` where the reader fails or no reads are left; then the line isn't told.
+/// Reads the next line, of at most `N` octets, into `line`, without its line feed; each octet takes one of `reads`, and so does
+/// a read that gives none. `ReaderFault` where the reader fails or no reads are left; then the line isn't told.
 #[tactic(auto, using(crate::proofs::Pieces::goes_on, crate::proofs::Pieces::ends))]
 pub fn next_line<R: BufRead, const N: usize>(
     reader: &mut R,

@@ -1,11 +1,12 @@
 //! The words of a line of text, and texts that grow by words.
-ghost use Rattle.std.specs.Prelude.{◌≡◌, ◌≤◌, ◌*◌, ◌++◌, length, map, option_map, OnErr, OnOk};
+ghost use Rattle.std.specs.Prelude.{◌≡◌, ◌<◌, ◌≤◌, ◌*◌, ◌++◌, ℕ, None, Ok, Some, if◌then◌else◌, length, option_map, slice_index, true, OnErr, OnOk};
+ghost use Rattle.std.specs.Char.{is_ascii_hexdigit};
 ghost use Rattle.std.specs.Fmt.{decimal as decimal_text};
-ghost use Rattle.std.specs.Char.{to_ascii_uppercase};
-ghost use Rattle.hex.specs.Hex.{encode_upper};
+ghost use Rattle.std.specs.Result.{result_ok};
+ghost use Rattle.hex.specs.Hex.{decode_of, decode_pairs, encode_upper, hex_digit_value, pair_value, upper_digits};
 ghost use Rattle.hsr_text.specs.Words.{Gives, cut, word_at, decimal_of, hex_pair_of, hex_octets_of};
 
-use hex::{FromHex, FromHexError};
+use hex::FromHex;
 use itoa::Buffer;
 use memchr::memchr;
 use std::alloc::{AllocError, Global};
@@ -68,6 +69,59 @@ pub fn hex_pair(word: &[u8]) -> Option<u16>
     }
 }
 
+/// The number that a hexadecimal digit of either case spells; the low bits of a letter are its place from 1.
+#[tactic(auto, using(crate::proofs::HexDigits::letter, crate::proofs::HexDigits::number))]
+fn nibble(digit: u8) -> u8
+    ensures value { is_ascii_hexdigit digit ≡ true → hex_digit_value digit ≡ Some result }
+{
+    if digit > b'9' {
+        (digit & 0xF) + 9
+    } else {
+        digit & 0xF
+    }
+}
+
+/// The octet that two hexadecimal digits of either case spell.
+#[tactic(auto, using(crate::proofs::HexDigits::pair_spells))]
+fn octet_of(high: u8, low: u8) -> u8
+    ensures { (i : ℕ) → is_ascii_hexdigit high ≡ true → is_ascii_hexdigit low ≡ true → pair_value high low i ≡ Ok result }
+{
+    nibble(high).wrapping_mul(16).wrapping_add(nibble(low))
+}
+
+/// Fills a slice with the octets that pairs of characters spell, and tells whether all are hexadecimal digits. The loop has no
+/// branches, so that it is one of vectors.
+fn read_hex(octets: &mut [u8], digits: &[u8]) -> bool
+    requires { length digits.now ≡ 2 * length octets.old }
+    ensures { result_ok (decode_pairs 0 digits.now) ≡ (if result then Some octets.new else None) }
+{
+    let mut all = true;
+    for i in 0..octets.len() {
+        let high = digits[2 * i];
+        let low = digits[2 * i + 1];
+        all &= high.is_ascii_hexdigit() & low.is_ascii_hexdigit();
+        octets[i] = octet_of(high, low);
+    }
+    all
+}
+
+/// The octets that pairs of hexadecimal digits of either case spell.
+fn pairs_of(alloc: Global, digits: &[u8]) -> Result<Vec<u8>, WordFault>
+    ensures { Gives (λ v. v.items) result (result_ok (decode_of digits.now)) }
+{
+    if digits.len() % 2 != 0 {
+        return Err(WordFault::Bad);
+    }
+    let Ok(mut octets) = vec![in alloc; 0u8; digits.len() / 2] else {
+        return Err(WordFault::Memory);
+    };
+    if read_hex(octets.as_mut_slice(), digits) {
+        Ok(octets)
+    } else {
+        Err(WordFault::Bad)
+    }
+}
+
 /// The octets that hexadecimal text of either case spells; a hyphen spells none. `Bad` where the word is neither,
 /// `Memory` where room is refused.
 pub fn hex_octets(alloc: Global, word: &[u8]) -> Result<Vec<u8>, WordFault>
@@ -76,11 +130,7 @@ pub fn hex_octets(alloc: Global, word: &[u8]) -> Result<Vec<u8>, WordFault>
     match word {
         [] => Err(WordFault::Bad),
         [b'-'] => Ok(Vec::new(alloc)),
-        _ => match hex::decode(alloc, word) {
-            Ok(octets) => Ok(octets),
-            Err(FromHexError::OutOfMemory) => Err(WordFault::Memory),
-            Err(_) => Err(WordFault::Bad),
-        },
+        digits => pairs_of(alloc, digits),
     }
 }
 
@@ -106,20 +156,23 @@ pub fn put_hex(text: &mut Vec<u8>, octets: &[u8]) -> Result<(), AllocError>
     Ok(())
 }
 
-/// Fills a slice with the hexadecimal digits of octets.
+/// The hexadecimal digit of a number below 16, in upper case.
+#[tactic(auto, using(crate::proofs::HexDigits::low_digit, crate::proofs::HexDigits::high_digit))]
+fn digit_of(n: u8) -> u8
+    requires { n < 16 }
+    ensures { result ≡ slice_index upper_digits n }
+{
+    if n < 10 { n + b'0' } else { n - 10 + b'A' }
+}
+
+/// Fills a slice with the hexadecimal digits of octets, in upper case.
 fn write_hex(digits: &mut [u8], octets: &[u8])
     requires { length digits.old ≡ 2 * length octets.now }
     ensures { digits.new ≡ encode_upper octets.now }
 {
-    hex::encode_to_slice(octets, digits).unwrap();
-    raise(digits);
-}
-
-/// Puts letters in upper case.
-fn raise(text: &mut [u8])
-    ensures { text.new ≡ map to_ascii_uppercase text.old }
-{
-    for letter in text.iter_mut() {
-        letter.make_ascii_uppercase();
+    for i in 0..octets.len() {
+        let octet = octets[i];
+        digits[2 * i] = digit_of(octet >> 4);
+        digits[2 * i + 1] = digit_of(octet & 0xF);
     }
 }

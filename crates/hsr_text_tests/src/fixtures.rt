@@ -202,7 +202,7 @@ pub fn defaults() -> NodeOptions {
 
 // ---- readers and writers
 
-/// Gives its bytes, and fails at the read after the last that it grants.
+/// Gives its bytes one by one, and fails at the read after the last that it grants.
 #[derive(Drop)]
 pub struct FailingReader<'a> {
     pub bytes: &'a [u8],
@@ -217,7 +217,8 @@ impl Read for FailingReader<'_> {
             return Err(io::Error::from(ErrorKind::BrokenPipe));
         }
         self.reads_left -= 1;
-        self.bytes.read(buf)
+        let room = buf.len().min(1);
+        self.bytes.read(&mut buf[..room])
     }
 }
 

@@ -1,10 +1,15 @@
-use Rattle.std.proofs.Common.{◌≡◌, ◌∙◌, ap, map, rules}
-use Rattle.hex.specs.Hex.{encode_lower}
-use Rattle.std.specs.Char.{to_ascii_uppercase}
-use Rattle.hsr_text.proofs.Digits.{raised}
+use Rattle.std.proofs.Common.{ℕ, ◌∙◌, ap, arith, slice_index}
+use Rattle.std.proofs.lemmas.Nat.{and_mask}
+use Rattle.hex.specs.Hex.{upper_digits}
+use Rattle.hex.proofs.Pairs.{encode_done, encode_step}
 use Rattle.hsr_text.proofs.words.write_hex.Goals as goal
+
+pub loop-i-preserved : goal.loop-i-preserved
+loop-i-preserved c =
+    let octet : ℕ = slice_index c.args.octets.now c.loop-i.i in
+    encode_step upper_digits c.args.octets.now c.loop-i.digits c.loop-i.i c.digit_of.result c.digit_of-in-loop-i.result (omega arith) (omega arith)
+    c.digit_of.ensures (c.digit_of-in-loop-i.ensures ∙ ap (λ (k : ℕ). slice_index upper_digits k) (and_mask octet 4)) c.loop-i.invariant
 
 pub returns : goal.returns
 returns c =
-    let written : c.encode_to_slice.new.output ≡ encode_lower c.args.octets.now = rw c.unwrap.ensures at c.encode_to_slice.ensures.written in
-    c.raise.ensures ∙ ap (map to_ascii_uppercase) written ∙ raised c.args.octets.now (λ i. search (rules, c.type_inv.octets i))
+    encode_done upper_digits c.args.octets.now c.loop-i.digits c.loop-i.i (omega arith) (omega arith) c.loop-i.invariant
