@@ -7,5 +7,6 @@ pub mod Counts
 pub mod Flow
 pub mod Kept
 pub mod Holds
+pub mod Cell
 pub mod Words
 pub mod Refusal

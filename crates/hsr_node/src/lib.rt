@@ -16,8 +16,10 @@
 //! - `copies`: what leaves a node by a port, and what goes up
 //! - `kept`: a node with its record
 //! - `pass`: what a worker was answered
+//! - `cell`: a node that threads share
 #![tactic(auto)]
 
+mod cell;
 mod copies;
 mod danh;
 mod entry;
@@ -35,6 +37,7 @@ mod sending;
 mod side;
 mod station;
 
+pub use cell::NodeCell;
 pub use copies::{
     FrameOctets, copy_out, plain_octets, ring_octets, spelled_out, spelled_up, up_out,
 };

@@ -9,8 +9,8 @@ use std::marker::Model;
 /// The receipts of one worker, in order.
 #[derive(Drop)]
 pub struct Pass {
-    worker: u16,
-    receipts: Vec<Receipt>,
+    pub(crate) worker: u16,
+    pub(crate) receipts: Vec<Receipt>,
 }
 
 impl Model for Pass {
