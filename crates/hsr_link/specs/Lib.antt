@@ -2,4 +2,5 @@ pub mod Rows
 pub mod Queue
 pub mod Link
 pub mod Calls
+pub mod Cell
 pub mod Words

@@ -5,12 +5,15 @@
 //! - `words`: the words that texts have for directions and fates
 //! - `queue`: the copies that wait in one direction
 //! - `link`: the link and its calls
+//! - `cell`: a link that threads share
 #![tactic(auto)]
 
+mod cell;
 mod link;
 mod queue;
 mod row;
 mod words;
 
+pub use cell::LinkCell;
 pub use link::{Link, takes_in_order};
 pub use row::{Dir, Fate, Row};

@@ -10,7 +10,7 @@ use std::sync::{Mutex, Wait};
 /// A node with its record, under a lock.
 ///
 /// Whenever the lock is free its value is a `Kept`: a node, and a record that gives this node when it is done anew. No
-/// clause names that value, so nothing is said of what a cell holds at a moment, nor of waiting, fairness or order.
+/// clause names that value: nothing is proved of what a cell holds at a moment, nor of waiting, fairness or order.
 #[derive(Drop)]
 pub struct NodeCell<const C: usize> {
     kept: Mutex<Kept<C>>,
@@ -29,8 +29,8 @@ impl<const C: usize> NodeCell<C> {
     }
 
     /// Waits for the lock, lets an event happen to the node at a moment in milliseconds, and puts the receipt last in the
-    /// pass, whose worker brings the event. The answer is that receipt. It is what some legal record answers, at its end;
-    /// that it is this node's record is not said.
+    /// pass, whose worker brings the event. The answer is that receipt: the next entry of some legal record, and what that
+    /// record answers there. That it is the record in this cell is not proved.
     ///
     /// A refusal hands the event back, and the pass is as before: `NoMemory`, or what a legal record refuses it for.
     /// The pass's room and its copy of the event are made before the lock is taken.

@@ -1,0 +1,126 @@
+//! A link that threads share.
+ghost use Rattle.std.specs.Prelude.{◌≡◌, true, IfErr, IfOk, MatchBool, None, is_some};
+ghost use Rattle.hsr_link.specs.Cell.{is_put_fate, is_ready};
+ghost use Rattle.hsr_link.specs.Link.{take_step};
+
+use crate::link::Link;
+use crate::row::{Dir, Fate};
+use hsr_frame::NoMemory;
+use hsr_node::Carried;
+use std::sync::{Condvar, Mutex, Wait};
+
+/// What stands under the lock: the link, and whether nobody is to wait for a copy any more.
+#[derive(Drop)]
+struct Desk {
+    link: Link,
+    closed: bool,
+}
+
+/// Whether there is nothing to wait for in a direction: a copy is there, or the desk is closed.
+fn is_ready(desk: &Desk, dir: Dir) -> bool
+    ensures { result ≡ is_ready desk.now dir }
+{
+    desk.closed || desk.link.waits(dir)
+}
+
+/// Takes the oldest copy that waits in a direction, or none where the desk is closed.
+fn take_ready(desk: &mut Desk, dir: Dir) -> Option<Carried>
+    requires { is_ready desk.old dir ≡ true }
+    ensures copy { MatchBool desk.old.closed (result ≡ None) (is_some result ≡ true) }
+    ensures link { MatchBool desk.old.closed (desk.new ≡ desk.old) ((result, desk.new.link) ≡ take_step desk.old.link dir) }
+    ensures closed { desk.new.closed ≡ desk.old.closed }
+{
+    if desk.closed {
+        return None;
+    }
+    desk.link.take(dir)
+}
+
+/// A link under a lock, and those who wait for its copies.
+///
+/// Whenever the lock is free its value is a `Link`, whose queues are its rows that are Queued. No clause names that value:
+/// nothing is proved of what a cell holds at a moment or what a call did to it, nor of waiting, fairness or order.
+#[derive(Drop)]
+pub struct LinkCell {
+    desk: Mutex<Desk>,
+    changed: Condvar,
+}
+
+impl LinkCell {
+    /// Puts a link under a lock. Waits for nobody, and needs no memory.
+    pub fn new(link: Link) -> LinkCell {
+        LinkCell {
+            desk: Mutex::new(Desk {
+                link,
+                closed: false,
+            }),
+            changed: Condvar::new(),
+        }
+    }
+
+    /// Waits for the lock, puts a copy, wakes all who wait for one, and tells what became of it: Queued, LostDown on a cut
+    /// link, or LostOverrun where its queue is full. A closed cell takes copies as before. `NoMemory` where room is refused:
+    /// then the copy comes back.
+    pub fn put(
+        &self,
+        rt: &impl Wait,
+        dir: Dir,
+        carried: Carried,
+    ) -> Result<Fate, (Carried, NoMemory)>
+        ensures ok { IfOk result (λ fate. is_put_fate fate ≡ true) }
+        ensures err { IfErr result (λ e. e.0 ≡ carried) }
+    {
+        let fate = self.desk.lock(rt).link.put(dir, carried)?;
+        self.changed.notify_all();
+        Ok(fate)
+    }
+
+    /// Waits for the lock, puts a copy that no port sent, whose row says so, wakes all who wait for one, and tells what
+    /// became of it: Queued, LostDown on a cut link, or LostOverrun where its queue is full. A closed cell takes copies as
+    /// before. `NoMemory` where room is refused: then the copy comes back.
+    pub fn inject(
+        &self,
+        rt: &impl Wait,
+        dir: Dir,
+        carried: Carried,
+    ) -> Result<Fate, (Carried, NoMemory)>
+        ensures ok { IfOk result (λ fate. is_put_fate fate ≡ true) }
+        ensures err { IfErr result (λ e. e.0 ≡ carried) }
+    {
+        let fate = self.desk.lock(rt).link.inject(dir, carried)?;
+        self.changed.notify_all();
+        Ok(fate)
+    }
+
+    /// Waits for the lock and cuts the link: all copies that wait are lost, and it tells how many. Needs no memory.
+    pub fn cut(&self, rt: &impl Wait) -> usize {
+        self.desk.lock(rt).link.cut()
+    }
+
+    /// Waits for the lock and mends the link; what was lost stays so. Needs no memory.
+    pub fn mend(&self, rt: &impl Wait) {
+        self.desk.lock(rt).link.mend();
+    }
+
+    /// Waits until a copy waits in a direction or the cell is closed. Takes the oldest such copy, or none once the cell is
+    /// closed, whatever waits there. Needs no memory.
+    pub fn take_or_closed(&self, rt: &impl Wait, dir: Dir) -> Option<Carried> {
+        let mut desk = self
+            .changed
+            .wait_while(rt, self.desk.lock(rt), |desk| !is_ready(desk, dir));
+        take_ready(&mut desk, dir)
+    }
+
+    /// Waits for the lock and closes the cell for good: it wakes all who wait for a copy, and nobody waits for one again.
+    /// Needs no memory.
+    pub fn close(&self, rt: &impl Wait) {
+        self.desk.lock(rt).closed = true;
+        self.changed.notify_all();
+    }
+
+    /// The link, out of the lock. Waits for nobody, and needs no memory.
+    pub fn into_link(self) -> Link {
+        let LinkCell { desk, changed: _ } = self;
+        desk.into_inner().link
+    }
+}
