@@ -4,5 +4,5 @@ pub mod Certifying
 pub mod Judging
 pub mod Premised
 pub mod Clearing
-pub mod Marking
+pub mod Placing
 pub mod Losses

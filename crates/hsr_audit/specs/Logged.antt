@@ -3,9 +3,8 @@
 --     logged       the notes that such a node made so far
 --     forgets      a place where what is needed is forgotten
 --     mistakes     a place where what is found is mistaken
-use Rattle.std.specs.Prelude.{ℕ, max, ◌-◌, ◌<◌, ◌≡◌, nat_eq, nat_lt, ◌&&◌, ◌||◌, not, Bool, true, false, List, [], ◌∷◌, ◌++◌, length, reverse, take, drop, slice_index_or, Option, Some, None, Result}
+use Rattle.std.specs.Prelude.{ℕ, max, ◌-◌, ◌<◌, ◌≡◌, nat_lt, ◌&&◌, ◌||◌, not, Bool, true, false, List, [], ◌∷◌, ◌++◌, length, reverse, take, slice_index_or, Option, Some, None, Result}
 use Rattle.std.specs.List.{list_any}
-use Rattle.std.specs.HashSet.{HashSet, contains}
 use Rattle.hsr_frame.specs.Egress.{up, a, b, no_exits}
 use Rattle.hsr_frame.specs.declared.egress.Exits.{Exits}
 use Rattle.hsr_frame.specs.declared.node.Mode.TheVariants.{H}
@@ -104,19 +103,7 @@ abbrev pub logged : ℕ → List ℕ → List Entry → Log
 logged number mac [] = no_log
 logged number mac (x ∷ past) = logged_after (logged number mac past) (reading mac (record { node = number; place = length past }) x) x.at
 
--- a set has a send, by its node and place
-abbrev pub has_send : {S : Type 0} → HashSet (ℕ × ℕ) S → ℕ × ℕ → Bool
-has_send sends = contains (λ x y. nat_eq x.0 y.0 && nat_eq x.1 y.1) sends
-
--- it has each send that a note is of
-abbrev pub AreNamed : (ℕ × ℕ → Bool) → List Noted → Type 0
-AreNamed has notes = (p : Probe) → list_any (is_note_of (Some p)) notes ≡ true → has (p.node, p.place) ≡ true
-
 -- ---- what is forgotten or mistaken
-
--- of notes with the oldest first the youngest, as many as a table has entries
-abbrev pub youngest : ℕ → List Noted → List Noted
-youngest capacity notes = drop (length notes - capacity) notes
 
 abbrev pub is_young : ℕ → Noted → Bool
 is_young at note = nat_lt (at - note.moment) entry_forget

@@ -2,6 +2,7 @@
 ghost use Rattle.std.specs.Prelude.{◌≡◌, if◌then◌else◌, length, IfOk, Some, None};
 ghost use Rattle.std.specs.Option.{option_or};
 ghost use Rattle.hsr_audit.specs.Logged.{forgets, forgets_in, logged_after, mistakes, mistakes_in, reading, IsFound};
+ghost use Rattle.hsr_audit.specs.Places.{IsAged};
 
 use crate::log::Log;
 use crate::reading::read;
@@ -35,6 +36,7 @@ fn look_at(
     here: Probe,
     x: &Entry,
 ) -> Result<Look, NoMemory>
+    requires { IsAged log.old }
     ensures forgets { IfOk result (λ l. l.forgets ≡ forgets_in capacity log.old (reading mac here x.now) x.now.at) }
     ensures mistakes { IfOk result (λ l. l.mistakes ≡ mistakes_in capacity log.old (reading mac here x.now) x.now.at) }
     ensures noted { IfOk result (λ l. log.new ≡ logged_after log.old (reading mac here x.now) x.now.at) }

@@ -1,6 +1,7 @@
 //! What a node in a ring noted, and what of it is forgotten or mistaken.
 ghost use Rattle.std.specs.Prelude.{◌≡◌, OnOk};
 ghost use Rattle.hsr_audit.specs.Logged.{forgets_in, logged_after, mistakes_in, no_log};
+ghost use Rattle.hsr_audit.specs.Places.{IsAged};
 
 use crate::marks::Marks;
 use crate::reading::Reading;
@@ -39,8 +40,9 @@ impl Log {
     }
 
     /// Whether what came at this moment wants an egress where its send was noted and isn't remembered.
-    #[tactic(auto, unfolding(crate::specs::Logged::forgets_in))]
+    #[tactic(auto, using(crate::proofs::Placing::up_to_later), unfolding(crate::specs::Logged::forgets_in))]
     pub(crate) fn forgets(&self, capacity: usize, r: &Reading, at: u64) -> bool
+        requires { IsAged self.now }
         ensures { result ≡ forgets_in capacity self.now r.now at }
     {
         let moment = self.moment.max(at);
@@ -50,8 +52,9 @@ impl Log {
     }
 
     /// Whether what came at this moment wants an egress where its source and number are remembered of another send.
-    #[tactic(auto, unfolding(crate::specs::Logged::mistakes_in))]
+    #[tactic(auto, using(crate::proofs::Placing::up_to_later), unfolding(crate::specs::Logged::mistakes_in))]
     pub(crate) fn mistakes(&self, capacity: usize, r: &Reading, at: u64) -> bool
+        requires { IsAged self.now }
         ensures { result ≡ mistakes_in capacity self.now r.now at }
     {
         let moment = self.moment.max(at);
