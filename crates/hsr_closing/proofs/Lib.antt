@@ -1,5 +1,6 @@
 pub mod Often
 pub mod AsOften
+pub mod Counting
 pub mod Decided
 pub mod Forwards
 pub mod Shaped

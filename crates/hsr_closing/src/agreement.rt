@@ -1,10 +1,10 @@
 //! Whether links agree with the records of the nodes at their ends.
-ghost use Rattle.std.specs.Prelude.{◌≡◌, ◌↔◌, ◌++◌, [], ◌∷◌, count_by, IfOk, IfSome, IsTrue, MatchOption, OnOk};
+ghost use Rattle.std.specs.Prelude.{◌≡◌, ◌↔◌, ◌++◌, [], ◌∷◌, IfOk, IfSome, IsTrue, MatchOption, OnOk};
 ghost use Rattle.std.specs.List.{cons_option};
 ghost use Rattle.hsr_node.specs.Record.{probe_handled};
 ghost use Rattle.hsr_closing.specs.InOrder.{PutsFit, TakensFit, came, came_by, passed, passed_by, told, told_copy};
-ghost use Rattle.hsr_closing.specs.Often.{AsOften, is_same_carried};
 
+use crate::counts::is_as_often;
 use hsr_frame::NoMemory;
 use hsr_link::{Dir, Fate, Row};
 use hsr_node::{Carried, Entry, Event, Kept, Octets, Place, Probe, copy_out};
@@ -228,37 +228,6 @@ fn arrived(alloc: Global, port: u8, entries: &[Entry]) -> Result<Vec<Carried>, N
     Ok(copies)
 }
 
-/// Whether two copies are one.
-fn is_same_carried(a: &Carried, b: &Carried) -> bool
-    ensures { result ≡ is_same_carried a.now b.now }
-{
-    a == b
-}
-
-fn count(copies: &[Carried], copy: &Carried) -> usize
-    ensures { result ≡ count_by (is_same_carried copy.now) copies.now }
-{
-    copies
-        .iter()
-        .filter(|other| is_same_carried(copy, *other))
-        .count()
-}
-
-/// Whether each copy is as often among the ones as among the others.
-fn is_as_often(xs: &[Carried], ys: &[Carried]) -> bool
-    ensures { IsTrue result ↔ AsOften xs.now ys.now }
-{
-    if xs.len() != ys.len() {
-        return false;
-    }
-    for x in xs {
-        if count(xs, x) != count(ys, x) {
-            return false;
-        }
-    }
-    true
-}
-
 /// Whether what was put in a direction is what a node passed by a port, each copy as often; in their order it mostly is.
 #[tactic(auto, using(crate::proofs::Forwards::puts_often, crate::proofs::Forwards::puts_same))]
 pub(crate) fn puts_fit<const C: usize>(
@@ -276,7 +245,7 @@ pub(crate) fn puts_fit<const C: usize>(
     }
     let passed = passed(alloc, kept.node(), kept.place(), port, entries)?;
     let put = copies_told(alloc, Passage::Put, dir, rows)?;
-    Ok(is_as_often(passed.as_slice(), put.as_slice()))
+    is_as_often(alloc, passed.as_slice(), put.as_slice())
 }
 
 /// Whether what was taken in a direction is what came to a port of a node, each copy as often; in their order it mostly is.
@@ -296,5 +265,5 @@ pub(crate) fn takens_fit<const C: usize>(
     }
     let taken = copies_told(alloc, Passage::Taken, dir, rows)?;
     let came = arrived(alloc, port, entries)?;
-    Ok(is_as_often(taken.as_slice(), came.as_slice()))
+    is_as_often(alloc, taken.as_slice(), came.as_slice())
 }

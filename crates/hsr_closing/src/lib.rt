@@ -6,6 +6,7 @@
 //! - `parts`: all that a run is checked by
 //! - `disagree`: why the parts of a run don't agree
 //! - `shape`: whether records and rows are the topology's
+//! - `counts`: whether copies are as often in one list as in another
 //! - `agreement`: whether what was put and taken is what was passed and came
 //! - `links_agree`: the first link that doesn't agree with the records
 //! - `strangers`: the first row that is of no send
@@ -21,6 +22,7 @@
 mod agreement;
 mod check;
 mod closed;
+mod counts;
 mod disagree;
 mod links_agree;
 mod next;
