@@ -6,6 +6,7 @@ pub mod Checked
 pub mod InOrder
 pub mod Disagree
 pub mod Origin
+pub mod Indexed
 pub mod Workers
 pub mod Next
 pub mod Passes

@@ -6,7 +6,9 @@ ghost use Rattle.hsr_closing.specs.Finished.{IsFinished, run_of};
 
 use crate::agreement::Passage;
 use crate::disagree::{CheckFault, Disagree};
+use crate::ends::Ends;
 use crate::links_agree::{first_noisy, first_other};
+use crate::numbers::Numbers;
 use crate::parts::Parts;
 use crate::planned::Planned;
 use crate::shape::{are_legal, is_shaped};
@@ -30,7 +32,8 @@ pub(crate) fn disagreement<const C: usize>(
 ) -> Result<Option<Disagree>, NoMemory>
     ensures first { IfOk result (λ r. MatchOption r (Agrees C topology.now kept.now rows.now passes.now plan.now) (λ d. IsFirst C topology.now kept.now rows.now passes.now plan.now d)) }
 {
-    if !is_shaped(topology, kept, rows) {
+    let ends = Ends::new(alloc, topology.links())?;
+    if !is_shaped(topology, &ends, kept, rows) {
         return Ok(Some(Disagree::Shape));
     }
     are_legal(kept);
@@ -44,7 +47,8 @@ pub(crate) fn disagreement<const C: usize>(
         Ok(Some((link, dir))) => return Ok(Some(Disagree::LinkTaken { link, dir })),
         Ok(None) => {}
     }
-    if let Some((link, row)) = first_stranger(topology, kept, rows) {
+    let numbers = Numbers::new(alloc, kept)?;
+    if let Some((link, row)) = first_stranger(topology, &ends, &numbers, rows) {
         return Ok(Some(Disagree::Stranger { link, row }));
     }
     if let Some(link) = first_noisy(topology, kept, rows) {

@@ -5,6 +5,8 @@
 //! - `records`: all that a run has left
 //! - `parts`: all that a run is checked by
 //! - `disagree`: why the parts of a run don't agree
+//! - `ends`: the ends that links join, by an index
+//! - `numbers`: the numbers that nodes gave to sends, by an index
 //! - `shape`: whether records and rows are the topology's
 //! - `counts`: whether copies are as often in one list as in another
 //! - `agreement`: whether what was put and taken is what was passed and came
@@ -24,8 +26,10 @@ mod check;
 mod closed;
 mod counts;
 mod disagree;
+mod ends;
 mod links_agree;
 mod next;
+mod numbers;
 mod parts;
 mod passes;
 mod planned;

@@ -7,26 +7,27 @@ ghost use Rattle.hsr_closing.specs.Checked.{AreLegal};
 ghost use Rattle.hsr_closing.specs.Shape.{AreLinked, IsShaped, NodesFit, is_linked};
 ghost use Rattle.hsr_topology.specs.Wired.{IsWired};
 
+use crate::ends::Ends;
 use hsr_frame::Mac;
 use hsr_link::Row;
 use hsr_node::{Entry, Event, Kept, Place};
-use hsr_topology::{End, Topology, is_used};
+use hsr_topology::{End, Topology};
 
 /// Whether nothing came by a port without a link with this entry.
-fn is_linked(topology: &Topology, node: usize, entry: &Entry) -> bool
-    ensures { result ≡ is_linked topology.now.links node entry.now.event }
+fn is_linked(ends: &Ends<'_>, node: usize, entry: &Entry) -> bool
+    ensures { result ≡ is_linked ends.now node entry.now.event }
 {
     match entry.event {
-        Event::Arrive { port, .. } => is_used(topology.links(), End { node, port }),
+        Event::Arrive { port, .. } => ends.has(End { node, port }),
         _ => true,
     }
 }
 
-fn are_linked(topology: &Topology, node: usize, entries: &[Entry]) -> bool
-    ensures { IsTrue result ↔ AreLinked topology.now.links node entries.now (length entries.now) }
+fn are_linked(ends: &Ends<'_>, node: usize, entries: &[Entry]) -> bool
+    ensures { IsTrue result ↔ AreLinked ends.now node entries.now (length entries.now) }
 {
     for (i, entry) in entries.iter().enumerate() {
-        if !is_linked(topology, node, entry) {
+        if !is_linked(ends, node, entry) {
             return false;
         }
     }
@@ -34,11 +35,11 @@ fn are_linked(topology: &Topology, node: usize, entries: &[Entry]) -> bool
 }
 
 /// Whether each record has the number of its place, and nothing came by a port without a link.
-fn nodes_fit<const C: usize>(topology: &Topology, kept: &[Kept<C>]) -> bool
-    ensures { IsTrue result ↔ NodesFit topology.now.links kept.now (length kept.now) }
+fn nodes_fit<const C: usize>(ends: &Ends<'_>, kept: &[Kept<C>]) -> bool
+    ensures { IsTrue result ↔ NodesFit ends.now kept.now (length kept.now) }
 {
     for (node, record) in kept.iter().enumerate() {
-        if record.node() != node || !are_linked(topology, node, record.entries()) {
+        if record.node() != node || !are_linked(ends, node, record.entries()) {
             return false;
         }
     }
@@ -99,15 +100,15 @@ fn are_at<const C: usize>(places: &[Place], kept: &[Kept<C>]) -> bool
 /// without one.
 pub(crate) fn is_shaped<const C: usize>(
     topology: &Topology,
+    ends: &Ends<'_>,
     kept: &[Kept<C>],
     rows: &[Vec<Row>],
 ) -> bool
+    requires { ends.now ≡ topology.now.links }
     ensures shaped { IsTrue result ↔ IsShaped topology.now kept.now rows.now }
     ensures wired { IsWired topology.now.places topology.now.links }
 {
-    are_at(topology.places(), kept)
-        && rows.len() == topology.links().len()
-        && nodes_fit(topology, kept)
+    are_at(topology.places(), kept) && rows.len() == topology.links().len() && nodes_fit(ends, kept)
 }
 
 /// Records are legal: each outcome is what the past of its node answers.

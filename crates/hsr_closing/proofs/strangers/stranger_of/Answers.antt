@@ -9,7 +9,7 @@ use Rattle.hsr_closing.proofs.strangers.stranger_of.Goals as goal
 
 pub returns-then-not-is_ours : goal.returns-then-not-is_ours
 returns-then-not-is_ours g c =
-    let run = run_of g.row.C c.args.topology.now c.args.kept.now c.args.rows.now in
+    let run = run_of g.row.C c.args.topology.now c.args.numbers.now c.args.rows.now in
     let P : List Row → Type 0 = λ list. IsStranger run list c.loop-i.i in
-    subst P c.rows_at-list.ensures (stranger_at g.row.C c.args.topology.now c.args.kept.now c.args.rows.now c.requires.shaped c.rows_at-list.result.now c.loop-i.i c.index-list-i.result c.loop-i-test.true c.index-list-i.is
-    (λ o. false≢true (sym c.if-not-is_ours.true ∙ c.is_ours.ensures.1 (subst (λ links. IsOurs links c.args.kept.now c.index-list-i.result) (sym c.links.ensures.value) o))) c.loop-i.invariant)
+    subst P c.rows_at-list.ensures (stranger_at g.row.C c.args.topology.now c.args.numbers.now c.args.rows.now c.requires.shaped c.rows_at-list.result.now c.loop-i.i c.index-list-i.result c.loop-i-test.true c.index-list-i.is
+    (λ o. false≢true (sym c.if-not-is_ours.true ∙ c.is_ours.ensures.1 (subst (λ links. IsOurs links c.args.numbers.now c.index-list-i.result) (sym c.requires.links) o))) c.loop-i.invariant)
