@@ -1,14 +1,22 @@
 //! A node with the record of all that happened to it.
-ghost use Rattle.std.specs.Prelude.{◌≡◌, ◌≤◌, ◌^◌, [], ◌∷◌, ◌++◌, length, reverse, IfErr, IfOk};
+ghost use Rattle.std.specs.Prelude.{◌≡◌, ◌⊎◌, ◌≤◌, ◌^◌, [], ◌∷◌, ◌++◌, length, reverse, Ok, Err, IfErr, IfOk, MatchResult};
+ghost use Rattle.hsr_node.specs.declared.event.StepFault.TheVariants.{NoMemory as NoRoom};
 ghost use Rattle.hsr_frame.specs.Counters.{AreWithin};
 
 use crate::entry::{Entry, Receipt};
-use crate::event::{Event, StepFault};
+use crate::event::{Event, Outcome, StepFault};
 use crate::node::Node;
 use crate::place::Place;
 use hsr_frame::{Counters, NoMemory};
 use std::alloc::Global;
 use std::marker::Model;
+
+/// The place of a new entry in its record, and what was answered.
+#[derive(Clone, Copy, Debug, PartialEq, Eq)]
+pub struct Answer {
+    pub place: usize,
+    pub outcome: Outcome,
+}
 
 /// A node that keeps a record of all its events and answers, the oldest first. Its duplicate tables have `C` entries
 /// each, `C` from 1 to 65535 (IEC 62439-3 clause 5).
@@ -33,7 +41,7 @@ impl<const C: usize> Model for Kept<C> {
 
 impl<const C: usize> Kept<C> {
     ghost use Rattle.hsr_node.specs.Counts.{counters};
-    ghost use Rattle.hsr_node.specs.Kept.{IsAnswered, owner_of, past_of};
+    ghost use Rattle.hsr_node.specs.Kept.{IsAnswered, answer_to, owner_of, past_of};
     ghost use Rattle.hsr_node.specs.Place.{HasOwnAddress};
     ghost use Rattle.hsr_node.specs.Record.{IsLegal};
 
@@ -55,26 +63,22 @@ impl<const C: usize> Kept<C> {
 
     /// Lets an event happen that a worker brings, at a moment in milliseconds, and keeps one more entry: the worker, the
     /// moment and the event as they are given, and what the machine answers that remembers, of its whole record, the
-    /// youngest unexpired passed frames up to `C`. The receipt is that entry, and names its place. A refusal hands the
-    /// event back and changes nothing: `NoMemory`, or what that machine refuses it for.
-    pub fn step(
+    /// youngest unexpired passed frames up to `C`. The answer names the place of the entry, and nothing is copied. A refusal
+    /// hands the event back and changes nothing: `NoMemory`, or what that machine refuses it for.
+    pub fn enter(
         &mut self,
         worker: u16,
         at: u64,
         event: Event,
-    ) -> Result<Receipt, (Event, StepFault)>
-        ensures kept { IfOk result (λ r. self.new ≡ record self.old { entries = self.old.entries ++ r.entry ∷ [] }) }
-        ensures receipt { IfOk result (λ r. (r.node ≡ self.old.number) × (r.place ≡ length self.old.entries)) }
-        ensures call { IfOk result (λ r. (r.entry.worker ≡ worker) × (r.entry.at ≡ at) × (r.entry.event ≡ event)) }
-        ensures answered { IsAnswered C self.old at event result }
+    ) -> Result<Answer, (Event, StepFault)>
+        ensures kept { IfOk result (λ a. self.new ≡ record self.old { entries = self.old.entries ++ record { worker = worker; at = at; event = event; outcome = a.outcome } ∷ [] }) }
+        ensures place { IfOk result (λ a. a.place ≡ length self.old.entries) }
+        ensures answered { MatchResult result (λ a. answer_to C self.old at event ≡ Ok a.outcome) (λ e. (e.1 ≡ NoRoom) ⊎ (answer_to C self.old at event ≡ Err e.1)) }
         ensures refused { IfErr result (λ e. (self.new ≡ self.old) × (e.0 ≡ event)) }
     {
         if self.entries.reserve(1).is_err() {
             return Err((event, StepFault::NoMemory));
         }
-        let Ok(copy) = event.copy() else {
-            return Err((event, StepFault::NoMemory));
-        };
         let outcome = match self.node.apply(at, &event) {
             Ok(outcome) => outcome,
             Err(fault) => return Err((event, fault)),
@@ -89,16 +93,41 @@ impl<const C: usize> Kept<C> {
         else {
             unreachable!()
         };
-        Ok(Receipt {
-            node: self.number,
-            place,
-            entry: Entry {
-                worker,
-                at,
-                event: copy,
-                outcome,
-            },
-        })
+        Ok(Answer { place, outcome })
+    }
+
+    /// Lets an event happen that a worker brings, at a moment in milliseconds, and keeps one more entry: the worker, the
+    /// moment and the event as they are given, and what the machine answers that remembers, of its whole record, the
+    /// youngest unexpired passed frames up to `C`. The receipt is that entry, and names its place. A refusal hands the
+    /// event back and changes nothing: `NoMemory`, or what that machine refuses it for.
+    pub fn step(
+        &mut self,
+        worker: u16,
+        at: u64,
+        event: Event,
+    ) -> Result<Receipt, (Event, StepFault)>
+        ensures kept { IfOk result (λ r. self.new ≡ record self.old { entries = self.old.entries ++ r.entry ∷ [] }) }
+        ensures receipt { IfOk result (λ r. (r.node ≡ self.old.number) × (r.place ≡ length self.old.entries)) }
+        ensures call { IfOk result (λ r. (r.entry.worker ≡ worker) × (r.entry.at ≡ at) × (r.entry.event ≡ event)) }
+        ensures answered { IsAnswered C self.old at event result }
+        ensures refused { IfErr result (λ e. (self.new ≡ self.old) × (e.0 ≡ event)) }
+    {
+        let Ok(copy) = event.copy() else {
+            return Err((event, StepFault::NoMemory));
+        };
+        match self.enter(worker, at, event) {
+            Ok(Answer { place, outcome }) => Ok(Receipt {
+                node: self.number,
+                place,
+                entry: Entry {
+                    worker,
+                    at,
+                    event: copy,
+                    outcome,
+                },
+            }),
+            Err(refusal) => Err(refusal),
+        }
     }
 
     /// The record, the oldest entry first. Each outcome in it is what the past below it answers.

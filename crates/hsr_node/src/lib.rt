@@ -43,7 +43,7 @@ pub use copies::{
 };
 pub use entry::{Entry, Receipt};
 pub use event::{Carried, Event, Outcome, Probe, StepFault};
-pub use kept::{Kept, holds_what_is_told};
+pub use kept::{Answer, Kept, holds_what_is_told};
 pub use node::Node;
 pub use octets::Octets;
 pub use pass::Pass;

@@ -4,6 +4,8 @@ pub mod Tried
 pub mod Entered
 pub mod Started
 pub mod Ports
-pub mod Ends
+pub mod Bits
+pub mod Next
+pub mod Looked
 pub mod Stopped
 pub mod Ending

@@ -3,7 +3,7 @@ use Rattle.std.proofs.Common.{◌≡◌, ℕ, List, [], ◌∷◌, Option, Some,
 use Rattle.std.proofs.lemmas.Grind.{common_steps}
 use Rattle.hsr_node.specs.declared.event.Carried.{Carried}
 use Rattle.hsr_world.specs.Spans.{held_in, lanes_of, Spot, lane_of, spot_from}
-use Rattle.hsr_ring.specs.Views.{in_span, in_spans, in_world, port_fault, put_at_end, put_at_spot, put_out}
+use Rattle.hsr_ring.specs.Views.{in_span, in_spans, in_world, port_fault, put_at_spot, put_out}
 use Rattle.hsr_world.specs.World.{World, if_port, judged_at, span_at, put_at, put_from, tried}
 use Rattle.hsr_step.specs.declared.step.Step.TheVariants.{Judge, Put}
 use Rattle.hsr_step.specs.declared.step.WorldFault.{WorldFault}
@@ -28,7 +28,7 @@ unfolding tried
 put_refused capacity w n port fault h = no_port w n port fault _ h
 
 pub put_is : (capacity : ℕ) (w : World) (n port : ℕ) → port_fault w.places n port ≡ None →
-    tried capacity w (Put n port) ≡ in_world w (put_at_end w.spans (record { node = n; port = port }))
+    tried capacity w (Put n port) ≡ in_world w (put_at_spot w.spans (spot_from (record { node = n; port = port }) 0 w.spans))
 unfolding tried
 put_is capacity w n port h = a_port w n port _ h ∙ put_at_is w (spot_from (record { node = n; port = port }) 0 w.spans)
 

@@ -1,19 +1,18 @@
--- The ports of a world, each with the directions of a link in which it receives and sends.
-use Rattle.std.specs.Prelude.{ℕ, ◌+◌, ◌≡◌, Bool, false, if◌then◌else◌, List, [], ◌∷◌, map, is_some, Option, Some, None, option_map}
-use Rattle.std.specs.Option.{option_or}
-use Rattle.std.specs.List.{find}
+-- The ports of a world by their numbers, 8 for each node, each with the directions of a link in which it receives and sends.
+use Rattle.std.specs.Prelude.{ℕ, ◌+◌, ◌*◌, ◌/◌, ◌%◌, ◌==◌, ◌&&◌, nat_lt, ◌≡◌, ◌<◌, ◌≤◌, Bool, false, if◌then◌else◌, List, [], ◌∷◌, length, map, is_some, slice_index_or, Option, Some, None, option_map}
+use Rattle.std.specs.List.{range_with_len}
 use Rattle.hsr_topology.specs.Links.{is_same_end}
 use Rattle.hsr_topology.specs.declared.end.End.{End}
+use Rattle.hsr_link.specs.Rows.{first_copy}
+use Rattle.hsr_link.specs.declared.row.Dir.{Dir}
 use Rattle.hsr_link.specs.declared.row.Dir.TheVariants.{Forth, Back}
 use Rattle.hsr_node.specs.declared.place.Place.{Place}
 use Rattle.hsr_world.specs.Spans.{Span, Spot, lane_of, spot_from}
-use Rattle.hsr_world.specs.Reached.{IsReached}
-use Rattle.hsr_ring.specs.Views.{spot_view}
-use Rattle.hsr_world.specs.World.{World, span_in, ports_from, take_from, waits_in}
+use Rattle.hsr_ring.specs.Views.{port_fault, spot_view}
+use Rattle.hsr_world.specs.World.{span_in, waits_in}
 use Rattle.hsr_ring.specs.declared.port.Port.{Port}
 use Rattle.hsr_ring.specs.declared.spot.Spot as code-spot
-use Rattle.hsr_step.specs.declared.step.Step.{Step}
-use Rattle.hsr_step.specs.declared.step.Step.TheVariants.{Judge, Put}
+use Rattle.hsr_step.specs.declared.step.WorldFault.{WorldFault}
 
 -- the direction in which the port at an end receives, among the spans from the k-th on
 abbrev pub spot_to : End → ℕ → List Span → Option Spot
@@ -25,37 +24,55 @@ spot_to end k (span ∷ spans) =
 abbrev pub spot_code : Spot → code-spot.Spot
 spot_code spot = record { link = spot.link; dir = spot.dir }
 
--- the port at an end
-abbrev pub port_at : List Span → End → Port
-port_at spans end = record { end = end; into = option_map spot_code (spot_to end 0 spans); out = option_map spot_code (spot_from end 0 spans) }
+-- the end of a number, and the number of an end
+abbrev pub end_at : ℕ → End
+end_at k = record { node = k / 8; port = k % 8 }
 
--- all ports, by node and port
+abbrev pub number_of : End → ℕ
+number_of end = 8 * end.node + end.port
+
+abbrev pub no_port : Port
+no_port = record { into = None; out = None }
+
+-- the port at an end, if there is no fault about it
+abbrev pub port_if : Option WorldFault → List Span → End → Port
+port_if None spans end = record { into = option_map spot_code (spot_to end 0 spans); out = option_map spot_code (spot_from end 0 spans) }
+port_if (Some fault) spans end = no_port
+
+-- the port of a number
+abbrev pub port_at : List Place → List Span → ℕ → Port
+port_at places spans k = port_if (port_fault places (k / 8) (k % 8)) spans (end_at k)
+
+-- all ports
 abbrev pub ports_in : List Place → List Span → List Port
-ports_in places spans = map (port_at spans) (ports_from 0 places)
+ports_in places spans = map (port_at places spans) (range_with_len 0 (8 * length places))
+
+abbrev pub port_in : List Port → ℕ → Port
+port_in ports k = slice_index_or ports k no_port
+
+abbrev pub port_of : List Port → End → Port
+port_of ports end = if nat_lt end.node 64 && nat_lt end.port 8 then port_in ports (number_of end) else no_port
 
 -- whether a copy is in the hand of a direction
 abbrev pub held_at : List Span → Option Spot → Bool
 held_at spans None = false
 held_at spans (Some spot) = is_some (lane_of spot.dir (span_in spans spot.link)).hand
 
--- the first port that holds a copy, and the first that has one to put
-abbrev pub held_by : List Span → List Port → Option Port
-held_by spans ports = find (λ (port : Port). held_at spans (option_map spot_view port.into)) ports
+-- whether the port of a number holds a copy, and whether it has one to put
+abbrev pub is_held : List Port → List Span → ℕ → Bool
+is_held ports spans k = held_at spans (option_map spot_view (port_in ports k).into)
 
-abbrev pub waiting_by : List Span → List Port → Option Port
-waiting_by spans ports = find (λ (port : Port). waits_in spans (option_map spot_view port.out)) ports
+abbrev pub is_waiting : List Port → List Span → ℕ → Bool
+is_waiting ports spans k = waits_in spans (option_map spot_view (port_in ports k).out)
 
-abbrev pub judge_of : Port → Step
-judge_of port = Judge port.end.node port.end.port
+-- the direction of a number, 2 for each link; whether a copy waits there
+abbrev pub dir_at : ℕ → Dir
+dir_at k = if k % 2 == 0 then Forth else Back
 
-abbrev pub put_of : Port → Step
-put_of port = Put port.end.node port.end.port
+abbrev pub is_ready : List Span → ℕ → Bool
+is_ready spans k = is_some (first_copy (dir_at k) (span_in spans (k / 2)).link.rows)
 
--- what a drain does next, as the ports tell it
-abbrev pub next_by : List Span → List Port → Option Step
-next_by spans ports = option_or (option_map judge_of (held_by spans ports)) (option_or (option_map put_of (waiting_by spans ports)) (take_from 0 spans))
-
--- a world that was reached, and its ports
-pub record IsKept (capacity : ℕ) (places : List Place) (links : List (List End)) (ports : List Port) (w : World) : Type 0 where
-  pub reached : IsReached capacity places links w
-  pub told : ports ≡ ports_in w.places w.spans
+-- the ports are those of these nodes and spans
+pub record AreTold (places : List Place) (spans : List Span) (ports : List Port) : Type 0 where
+  pub few : length places ≤ 64
+  pub is : ports ≡ ports_in places spans

@@ -2,14 +2,13 @@
 use Rattle.std.specs.List.{range_with_len}
 use Rattle.std.specs.Prelude.{ℕ, ◌≡◌, ◌≤◌, List, [], ◌∷◌, nat_lt, if◌then◌else◌, slice_index_or, length, map, set, Option, Some, None, Result, Ok, Err}
 use Rattle.hsr_node.specs.Place.{ports}
-use Rattle.hsr_topology.specs.declared.end.End.{End}
 use Rattle.hsr_link.specs.Link.{Link, cut_step, inject_step, mended, put_step, take_step}
 use Rattle.hsr_link.specs.declared.row.Dir.{Dir}
 use Rattle.hsr_node.specs.Kept.{Record, past_of}
 use Rattle.hsr_node.specs.declared.event.Carried.{Carried}
 use Rattle.hsr_node.specs.declared.place.Place.{Place}
 use Rattle.hsr_node.specs.declared.place.Place.TheVariants.{QuadBox}
-use Rattle.hsr_world.specs.Spans.{Lane, Span, Spot, lane_of, spot_from, with_lane, with_link}
+use Rattle.hsr_world.specs.Spans.{Lane, Span, Spot, lane_of, with_lane, with_link}
 use Rattle.hsr_world.specs.World.{World, span_in}
 use Rattle.hsr_ring.specs.declared.span.Span as code
 use Rattle.hsr_ring.specs.declared.spot.Spot as code-spot
@@ -89,9 +88,6 @@ inject_span dir octets span = with_link (inject_step span.link dir (record { pro
 abbrev pub put_at_spot : List Span → Option Spot → Result (List Span) WorldFault
 put_at_spot spans None = Err Nothing
 put_at_spot spans (Some spot) = put_spans spot.dir spot.link spans
-
-abbrev pub put_at_end : List Span → End → Result (List Span) WorldFault
-put_at_end spans end = put_at_spot spans (spot_from end 0 spans)
 
 abbrev pub spot_view : code-spot.Spot → Spot
 spot_view spot = record { link = spot.link; dir = spot.dir }

@@ -8,7 +8,8 @@
 //! - `hand`: what a receiving port holds
 //! - `giving`: what a new entry of a node gives to the spans
 //! - `entering`: an event that a worker brings to a node
-//! - `waiting`: what a drain does next
+//! - `numbers`: sets of numbers below 512
+//! - `pending`: what is left to do, and what a drain does next
 //! - `starting`: what a world begins with
 //! - `closing`: what a world hands over where it is closed
 //! - `fit`: what the types of the code tell of steps and nodes
@@ -22,12 +23,13 @@ mod fit;
 mod giving;
 mod hand;
 mod lane;
+mod numbers;
+mod pending;
 mod port;
 mod running;
 mod span;
 mod spot;
 mod starting;
-mod waiting;
 mod world;
 
 pub use hsr_step::{DrainFault, Step, WorldFault};

@@ -1,25 +1,44 @@
 //! The ports of a world, each with the directions of a link in which it receives and sends.
-ghost use Rattle.std.specs.Prelude.{◌≡◌, ◌++◌, IfOk, OnOk, map, option_map};
+ghost use Rattle.std.specs.Prelude.{◌≡◌, ◌≤◌, ◌<◌, ◌/◌, ◌%◌, IfOk, Option, Result, length, map, option_map};
 ghost use Rattle.hsr_ring.specs.Entering.{places_of};
-ghost use Rattle.hsr_ring.specs.Ports.{port_at, ports_in, spot_to};
-ghost use Rattle.hsr_ring.specs.Views.{span_view, spot_view};
-ghost use Rattle.hsr_world.specs.World.{ports_of};
+ghost use Rattle.hsr_ring.specs.Ports.{no_port, port_at, port_if, port_in, port_of, ports_in, spot_to};
+ghost use Rattle.hsr_ring.specs.Views.{port_fault, span_view, spot_view};
 
 use crate::span::Span;
 use crate::spot::{Spot, find_spot};
 use hsr_frame::NoMemory;
 use hsr_link::Dir;
 use hsr_node::Kept;
+use hsr_step::WorldFault;
 use hsr_topology::End;
 use std::alloc::Global;
 
-/// A port, with the directions in which it receives and sends, if it has a link. They stay what they are, whatever is done,
-/// so that none is looked for among the links again.
+/// The directions in which a port receives and sends, if it has a link. They stay what they are, whatever is done, so that
+/// none is looked for among the links again.
 #[derive(Clone, Copy)]
 pub(crate) struct Port {
-    pub(crate) end: End,
     pub(crate) into: Option<Spot>,
     pub(crate) out: Option<Spot>,
+}
+
+/// The first reason why there is no such port.
+pub(crate) fn port_fault<const C: usize>(
+    nodes: &[Kept<C>],
+    node: usize,
+    port: u8,
+) -> Option<WorldFault>
+    ensures { result ≡ port_fault (places_of nodes.now) node port }
+{
+    match nodes.get(node) {
+        Some(kept) => {
+            if port < kept.place().ports() {
+                None
+            } else {
+                Some(WorldFault::NoSuchPort)
+            }
+        }
+        None => Some(WorldFault::NoSuchNode),
+    }
 }
 
 /// Where the port at an end receives.
@@ -43,39 +62,71 @@ fn find_into(spans: &[Span], end: End) -> Option<Spot>
     None
 }
 
-/// The port at an end.
+/// The port at an end, if there is no fault about it.
 #[tactic(auto, using(crate::proofs::Ports::port_is))]
-fn port_at(spans: &[Span], end: End) -> Port
-    ensures { result ≡ port_at (map span_view spans.now) end }
+fn port_if(fault: Option<WorldFault>, spans: &[Span], end: End) -> Port
+    ensures { result ≡ port_if fault (map span_view spans.now) end }
 {
-    Port {
-        end,
-        into: find_into(spans, end),
-        out: find_spot(spans, end),
+    match fault {
+        None => Port {
+            into: find_into(spans, end),
+            out: find_spot(spans, end),
+        },
+        Some(_) => Port {
+            into: None,
+            out: None,
+        },
     }
 }
 
-/// Adds the ports of a node.
-fn add_ports(all: &mut Vec<Port>, spans: &[Span], node: usize, count: u8) -> Result<(), NoMemory>
-    ensures { OnOk result (all.new.items ≡ all.old.items ++ map (port_at (map span_view spans.now)) (ports_of node 0 count)) }
+/// The port of a number, which is 8 times its node's, and its own.
+fn port_at<const C: usize>(nodes: &[Kept<C>], spans: &[Span], number: usize) -> Port
+    ensures { result ≡ port_at (places_of nodes.now) (map span_view spans.now) number }
 {
-    for port in 0..count {
-        all.push(port_at(spans, End { node, port }))?;
-    }
-    Ok(())
+    let node = number / 8;
+    let port = (number % 8) as u8;
+    port_if(port_fault(nodes, node, port), spans, End { node, port })
 }
 
-/// All ports, by node and port.
+/// All ports, by their numbers, 8 for each node.
 pub(crate) fn new_ports<const C: usize>(
     alloc: Global,
     nodes: &[Kept<C>],
     spans: &[Span],
 ) -> Result<Vec<Port>, NoMemory>
+    requires { length nodes.now ≤ 64 }
     ensures { IfOk result (λ all. all.items ≡ ports_in (places_of nodes.now) (map span_view spans.now)) }
 {
     let mut all = Vec::new(alloc);
-    for (node, kept) in nodes.iter().enumerate() {
-        add_ports(&mut all, spans, node, kept.place().ports())?;
+    for number in 0..8 * nodes.len() {
+        all.push(port_at(nodes, spans, number))?;
     }
     Ok(all)
+}
+
+/// The port of a number, of these.
+pub(crate) fn port_in(ports: &[Port], number: usize) -> Port
+    ensures { result ≡ port_in ports.now number }
+{
+    match ports.get(number) {
+        Some(port) => *port,
+        None => Port {
+            into: None,
+            out: None,
+        },
+    }
+}
+
+/// The port at an end, of these.
+pub(crate) fn port_of(ports: &[Port], end: End) -> Port
+    ensures { result ≡ port_of ports.now end }
+{
+    if end.node < 64 && end.port < 8 {
+        port_in(ports, 8 * end.node + usize::from(end.port))
+    } else {
+        Port {
+            into: None,
+            out: None,
+        }
+    }
 }

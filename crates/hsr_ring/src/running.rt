@@ -1,6 +1,7 @@
 //! A world in code, and its steps.
-ghost use Rattle.std.specs.Prelude.{◌≡◌, ◌⊎◌, ◌<◌, ◌≤◌, Ok, Err, OnOk, IfErr, IfNone, IfOk, map, length, reverse};
-ghost use Rattle.hsr_ring.specs.Views.{in_world, port_fault, put_at_end};
+ghost use Rattle.std.specs.Prelude.{◌≡◌, ◌⊎◌, ◌<◌, ◌≤◌, Ok, Err, OnOk, IfErr, IfNone, IfOk, map, length, option_map, reverse};
+ghost use Rattle.hsr_ring.specs.Views.{in_world, port_fault, put_at_spot, spot_view};
+ghost use Rattle.hsr_ring.specs.Ports.{AreTold};
 ghost use Rattle.hsr_ring.specs.Entering.{IsUnplanned};
 ghost use Rattle.hsr_node.specs.Kept.{Record};
 ghost use Rattle.hsr_world.specs.World.{port_worker};
@@ -8,11 +9,11 @@ ghost use Rattle.hsr_world.specs.World.{port_worker};
 use crate::closing::{Rest, closed_of};
 use crate::entering::enter;
 use crate::hand::{clear, held};
-use crate::port::{Port, new_ports};
+use crate::pending::Pending;
+use crate::port::{Port, new_ports, port_fault, port_of};
 use crate::span::{Span, cut_at, inject_at, mend_at, take_at};
-use crate::spot::put_at_end;
+use crate::spot::{Spot, put_at_spot};
 use crate::starting::{new_nodes, new_spans};
-use crate::waiting::next_step;
 use hsr_closing::{CheckFault, Closed, Planned};
 use hsr_frame::{About, Counters, Mac};
 use hsr_link::{Dir, Row};
@@ -42,22 +43,6 @@ impl<const C: usize> Model for Running<C> {
     ghost view = { λ r. world_of r.moment r.nodes.items (map span_view r.spans.items) r.plan.items };
 
     ghost invariant = { λ r. AreNumbered r.nodes.items };
-}
-
-/// The first reason why there is no such port.
-fn port_fault<const C: usize>(nodes: &[Kept<C>], node: usize, port: u8) -> Option<WorldFault>
-    ensures { result ≡ port_fault (map (λ (r : Record). r.place) nodes.now) node port }
-{
-    match nodes.get(node) {
-        Some(kept) => {
-            if port < kept.place().ports() {
-                None
-            } else {
-                Some(WorldFault::NoSuchPort)
-            }
-        }
-        None => Some(WorldFault::NoSuchNode),
-    }
 }
 
 /// The number of the worker of a port.
@@ -169,24 +154,25 @@ impl<const C: usize> Running<C> {
         port_fault(&self.nodes, node, port)
     }
 
-    fn put_out(&mut self, end: End) -> Result<(), WorldFault>
-        ensures ok { OnOk result (in_world self.old (put_at_end self.old.spans end) ≡ Ok self.new) }
-        ensures err { IfErr result (λ f. (self.new ≡ self.old) × ((f ≡ NoMemory) ⊎ (in_world self.old (put_at_end self.old.spans end) ≡ Err f))) }
+    fn put_out(&mut self, spot: Option<Spot>) -> Result<(), WorldFault>
+        ensures ok { OnOk result (in_world self.old (put_at_spot self.old.spans (option_map spot_view spot)) ≡ Ok self.new) }
+        ensures err { IfErr result (λ f. (self.new ≡ self.old) × ((f ≡ NoMemory) ⊎ (in_world self.old (put_at_spot self.old.spans (option_map spot_view spot)) ≡ Err f))) }
     {
-        match put_at_end(&mut self.spans, end) {
+        match put_at_spot(&mut self.spans, spot) {
             Ok(()) => Ok(()),
             Err(fault) => Err(fault),
         }
     }
 
-    fn put(&mut self, node: usize, port: u8) -> Result<(), WorldFault>
+    fn put(&mut self, ports: &[Port], node: usize, port: u8) -> Result<(), WorldFault>
+        requires { AreTold self.old.places self.old.spans ports.now }
         ensures ok { OnOk result (tried C self.old (Put node port) ≡ Ok self.new) }
         ensures err { IfErr result (λ f. (self.new ≡ self.old) × ((f ≡ NoMemory) ⊎ (tried C self.old (Put node port) ≡ Err f))) }
     {
         if let Some(fault) = self.fault_of_port(node, port) {
             return Err(fault);
         }
-        self.put_out(End { node, port })
+        self.put_out(port_of(ports, End { node, port }).out)
     }
 
     fn enter_at(&mut self, node: usize, worker: u16, event: Event) -> Result<(), WorldFault>
@@ -331,8 +317,9 @@ impl<const C: usize> Running<C> {
         )
     }
 
-    /// Does a step, exactly as `tried` says; a refusal changes nothing.
-    pub(crate) fn step(&mut self, step: &Step) -> Result<(), WorldFault>
+    /// Does a step, exactly as `tried` says, in a world with these ports; a refusal changes nothing.
+    pub(crate) fn step(&mut self, ports: &[Port], step: &Step) -> Result<(), WorldFault>
+        requires { AreTold self.old.places self.old.spans ports.now }
         ensures ok { OnOk result (tried C self.old step.now ≡ Ok self.new) }
         ensures err { IfErr result (λ f. (self.new ≡ self.old) × ((f ≡ NoMemory) ⊎ (tried C self.old step.now ≡ Err f))) }
     {
@@ -351,7 +338,7 @@ impl<const C: usize> Running<C> {
             } => self.send(*node, *from, *dst, *vlan, *kind, payload),
             Step::Supervise { node, about } => self.supervise(*node, *about),
             Step::Age { node } => self.age(*node),
-            Step::Put { node, port } => self.put(*node, *port),
+            Step::Put { node, port } => self.put(ports, *node, *port),
             Step::Take { link, dir } => self.take(*link, *dir),
             Step::Judge { node, port } => self.judge(*node, *port),
             Step::Cut { link } => self.cut(*link),
@@ -364,7 +351,8 @@ impl<const C: usize> Running<C> {
 impl<const C: usize> Running<C> {
     ghost use Rattle.hsr_node.specs.Counts.{counters};
     ghost use Rattle.hsr_ring.specs.Ports.{ports_in};
-    ghost use Rattle.hsr_world.specs.World.{span_at, next_step, owner_at, record_at};
+    ghost use Rattle.hsr_ring.specs.Pending.{AreLooked};
+    ghost use Rattle.hsr_world.specs.World.{span_at, owner_at, record_at};
 
     /// How many nodes there are.
     pub(crate) fn node_count(&self) -> usize
@@ -404,19 +392,18 @@ impl<const C: usize> Running<C> {
         self.spans[link].link.rows()
     }
 
-    /// All ports, by node and port.
+    /// All ports, by their numbers.
     pub(crate) fn ports(&self) -> Result<Vec<Port>, hsr_frame::NoMemory>
         ensures { IfOk result (λ ports. ports.items ≡ ports_in self.now.places self.now.spans) }
     {
         new_ports(self.alloc, &self.nodes, &self.spans)
     }
 
-    /// What a drain does next.
-    pub(crate) fn next(&self, ports: &[Port]) -> Option<Step>
-        requires { ports.now ≡ ports_in self.now.places self.now.spans }
-        ensures { result ≡ next_step self.now }
+    /// Looks at what a step may have changed of what is left to do.
+    pub(crate) fn look(&self, ports: &[Port], step: &Step, pending: &mut Pending)
+        ensures { AreLooked ports.now self.now.spans step.now pending.old pending.new }
     {
-        next_step(ports, &self.spans)
+        pending.look(ports, &self.spans, step);
     }
 }
 

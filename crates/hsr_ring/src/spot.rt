@@ -1,7 +1,7 @@
 //! Where a port sends.
-ghost use Rattle.std.specs.Prelude.{◌≡◌, ◌<◌, map, length, option_map, ◌⊎◌, Ok, Err, OnOk, IfErr, IfSome};
+ghost use Rattle.std.specs.Prelude.{◌≡◌, map, option_map, ◌⊎◌, Ok, Err, OnOk, IfErr};
 ghost use Rattle.hsr_world.specs.Spans.{spot_from};
-ghost use Rattle.hsr_ring.specs.Views.{span_view, put_at_end, spot_view};
+ghost use Rattle.hsr_ring.specs.Views.{span_view, put_at_spot, spot_view};
 ghost use Rattle.hsr_step.specs.declared.step.WorldFault.TheVariants.{NoMemory};
 
 use crate::span::{Span, put_at};
@@ -18,8 +18,7 @@ pub(crate) struct Spot {
 
 /// Where the port at an end sends.
 pub(crate) fn find_spot(spans: &[Span], end: End) -> Option<Spot>
-    ensures spot { option_map spot_view result ≡ spot_from end 0 (map span_view spans.now) }
-    ensures below { IfSome result (λ s. s.link < length spans.now) }
+    ensures { option_map spot_view result ≡ spot_from end 0 (map span_view spans.now) }
 {
     for (link, span) in spans.iter().enumerate() {
         if span.forth.from == end {
@@ -38,13 +37,13 @@ pub(crate) fn find_spot(spans: &[Span], end: End) -> Option<Spot>
     None
 }
 
-/// The oldest copy of the outbox of the port at an end goes onto its link.
-pub(crate) fn put_at_end(spans: &mut [Span], end: End) -> Result<(), WorldFault>
-    ensures ok { OnOk result (put_at_end (map span_view spans.old) end ≡ Ok (map span_view spans.new)) }
-    ensures err { IfErr result (λ f. (map span_view spans.new ≡ map span_view spans.old) × ((f ≡ NoMemory) ⊎ (put_at_end (map span_view spans.old) end ≡ Err f))) }
+/// The oldest copy of the outbox of a port that sends there goes onto its link.
+pub(crate) fn put_at_spot(spans: &mut [Span], spot: Option<Spot>) -> Result<(), WorldFault>
+    ensures ok { OnOk result (put_at_spot (map span_view spans.old) (option_map spot_view spot) ≡ Ok (map span_view spans.new)) }
+    ensures err { IfErr result (λ f. (map span_view spans.new ≡ map span_view spans.old) × ((f ≡ NoMemory) ⊎ (put_at_spot (map span_view spans.old) (option_map spot_view spot) ≡ Err f))) }
 {
-    let Some(spot) = find_spot(spans, end) else {
-        return Err(WorldFault::Nothing);
-    };
-    put_at(spans, spot.link, spot.dir)
+    match spot {
+        Some(spot) if spot.link < spans.len() => put_at(spans, spot.link, spot.dir),
+        _ => Err(WorldFault::Nothing),
+    }
 }

@@ -3,6 +3,7 @@ ghost use Rattle.std.specs.Prelude.{◌≡◌, ◌≤◌, ◌<◌, ◌⊎◌, Ok
 ghost use Rattle.hsr_step.specs.declared.step.WorldFault.TheVariants.{NoMemory as NoRoom};
 
 use crate::fit::{places_fit, step_fits};
+use crate::pending::Pending;
 use crate::port::Port;
 use crate::running::Running;
 use hsr_closing::{CheckFault, Closed};
@@ -21,17 +22,18 @@ pub struct World<const C: usize> {
     topology: Topology,
     running: Running<C>,
     ports: Vec<Port>,
+    pending: Pending,
 }
 
 impl<const C: usize> Model for World<C> {
-    ghost use Rattle.hsr_ring.specs.Ports.{IsKept};
+    ghost use Rattle.hsr_ring.specs.Pending.{IsKept};
     ghost use Rattle.hsr_world.specs.World.{World};
 
     ghost Value = { World };
 
     ghost view = { λ w. w.running };
 
-    ghost invariant = { λ w. IsKept C w.topology.places w.topology.links w.ports.items w.running };
+    ghost invariant = { λ w. IsKept C w.topology.places w.topology.links w.ports.items w.pending w.running };
 }
 
 impl<const C: usize> World<C> {
@@ -56,6 +58,7 @@ impl<const C: usize> World<C> {
             topology,
             running,
             ports,
+            pending: Pending::new(),
         })
     }
 
@@ -65,8 +68,11 @@ impl<const C: usize> World<C> {
         ensures err { IfErr result (λ f. (self.new ≡ self.old) × ((f ≡ NoRoom) ⊎ (tried C self.old step.now ≡ Err f))) }
     {
         step_fits(step);
-        match self.running.step(step) {
-            Ok(()) => Ok(()),
+        match self.running.step(&self.ports, step) {
+            Ok(()) => {
+                self.running.look(&self.ports, step, &mut self.pending);
+                Ok(())
+            }
             Err(fault) => Err(fault),
         }
     }
@@ -89,7 +95,7 @@ impl<const C: usize> World<C> {
     fn next(&self) -> Option<Step>
         ensures { result ≡ next_step self.now }
     {
-        self.running.next(&self.ports)
+        self.pending.next()
     }
 
     /// Does what is left to do, until nothing is, in at most `limit` steps: copies in hands are judged, those in outboxes put
@@ -176,6 +182,7 @@ impl<const C: usize> World<C> {
             topology,
             running,
             ports,
+            pending,
         } = self;
         match running.close(topology) {
             Ok(closed) => Ok(closed),
@@ -184,6 +191,7 @@ impl<const C: usize> World<C> {
                     topology,
                     running,
                     ports,
+                    pending,
                 },
                 fault,
             )),

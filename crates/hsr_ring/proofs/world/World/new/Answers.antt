@@ -1,16 +1,19 @@
-use Rattle.std.proofs.Common.{List, subst, sym}
+use Rattle.std.proofs.Common.{List, subst, sym, ap, ◌∙◌, map}
 use Rattle.std.specs.List.{All}
 use Rattle.hsr_node.specs.declared.place.Place.{Place}
+use Rattle.hsr_ring.specs.Pending.{IsKept}
+use Rattle.hsr_ring.specs.Ports.{ports_in}
 use Rattle.hsr_world.specs.Fit.{FitsPlace}
-use Rattle.hsr_world.specs.Reached.{IsReached}
-use Rattle.hsr_world.specs.World.{World}
+use Rattle.hsr_world.specs.World.{World, new_world}
 use Rattle.hsr_world.proofs.Reached.{reached-new}
+use Rattle.hsr_ring.proofs.Looked.{kept_new}
 use Rattle.hsr_ring.proofs.world.World.new.Goals as goal
 
 pub invariant_of-result : goal.invariant_of-result
 invariant_of-result g c =
-    let fit = subst (λ (places : List Place). All FitsPlace places) c.places.ensures.value c.places_fit.ensures in record {
-      reached = subst (λ (w : World). IsReached g.row.C c.args.topology.places c.args.topology.links w) (sym c.in_ok-running.ensures)
-          (reached-new g.row.C c.args.capacity c.args.topology.places c.args.topology.links fit);
-      told = c.in_ok-ports.ensures;
-    }
+    let fit = subst (λ (places : List Place). All FitsPlace places) c.places.ensures.value c.places_fit.ensures in
+    let t = c.args.topology in
+    let told = c.in_ok-ports.ensures ∙ ap (λ (w : World). ports_in w.places w.spans) c.in_ok-running.ensures in
+    subst (λ (w : World). IsKept g.row.C t.places t.links c.in_ok-ports.ports.items c.new-2.result w) (sym c.in_ok-running.ensures)
+    (kept_new g.row.C c.args.capacity t.places t.links c.in_ok-ports.ports.items c.new-2.result (reached-new g.row.C c.args.capacity t.places t.links fit)
+    c.places.ensures.wired.few_places c.places.ensures.wired.few_links told c.new-2.ensures)

@@ -7,7 +7,7 @@ use Rattle.hsr_node.specs.declared.event.StepFault.{StepFault}
 use Rattle.hsr_node.specs.declared.node.Node.{Node}
 use Rattle.hsr_node.proofs.Refused.{refused-leaves}
 use Rattle.hsr_node.proofs.Replayed.{answers}
-use Rattle.hsr_node.proofs.kept.Kept.step.Goals as goal
+use Rattle.hsr_node.proofs.kept.Kept.enter.Goals as goal
 
 -- a refusal left the node as it was
 pub invariant_of-self-in-Err : goal.invariant_of-self-in-Err
@@ -30,6 +30,6 @@ returns-in-Err-clause-answered g c =
 pub returns-clause-answered : goal.returns-clause-answered
 returns-clause-answered g c =
     let kept = c.self.inside in
-    subst (λ (r : Record). answer_to g.row.C r c.args.at c.args.event ≡ Ok c.in-Ok-apply.outcome) c.self.view_is
+    subst (λ (r : Record). answer_to g.row.C r c.args.at c.args.event ≡ Ok c.in-Ok.outcome) c.self.view_is
     (answers g.row.C kept.number kept.place kept.node (reverse kept.entries.items) c.args.at c.args.event c.self.invariant
-    ∙ sym (ap (λ s. s.0) c.apply.ensures) ∙ c.in-Ok-apply.is)
+    ∙ sym (ap (λ s. s.0) c.apply.ensures) ∙ c.in-Ok.is)
