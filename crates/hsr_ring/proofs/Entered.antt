@@ -1,7 +1,7 @@
 -- What an entry makes of the nodes and spans of the code.
-use Rattle.std.proofs.Common.{◌≡◌, ◌⊎◌, inl, inr, ℕ, ◌<◌, List, [], ◌∷◌, ◌++◌, map, max, reverse, set, get_or, length, Some, None, Result, Ok, Err, refl, sym, ap, ap₂, ◌∙◌, subst, arith}
+use Rattle.std.proofs.Common.{◌≡◌, ◌⊎◌, inl, inr, ℕ, ◌<◌, ◌+◌, List, [], ◌∷◌, ◌++◌, map, max, reverse, set, get_or, length, Some, None, Result, Ok, Err, refl, sym, ap, ap₂, ◌∙◌, subst, arith}
 use Rattle.std.proofs.lemmas.List.FromFn.{get_or-range_with_len}
-use Rattle.std.proofs.lemmas.List.{map-set, get_or-map, length-map, length-set, length-reverse, reverse-append}
+use Rattle.std.proofs.lemmas.List.{map-set, get_or-map, length-map, length-set, length-append, length-reverse, reverse-append, get_or-set_same, get_or_push}
 use Rattle.std.specs.List.{range_with_len}
 use Rattle.hsr_law.specs.Run.{owner_in, record_in}
 use Rattle.hsr_topology.specs.declared.end.End.{End}
@@ -9,6 +9,7 @@ use Rattle.hsr_node.specs.declared.event.Carried.{Carried}
 use Rattle.hsr_node.specs.declared.event.Event.TheVariants as event
 use Rattle.hsr_node.specs.Kept.{Record, answer_to, owner_of, past_of}
 use Rattle.hsr_node.specs.Record.{Owner, answer, now}
+use Rattle.hsr_node.specs.declared.kept.Answer.{Answer}
 use Rattle.hsr_node.specs.declared.entry.Entry.{Entry}
 use Rattle.hsr_node.specs.declared.entry.Receipt.{Receipt}
 use Rattle.hsr_node.specs.declared.event.Event.{Event}
@@ -17,8 +18,8 @@ use Rattle.hsr_node.specs.declared.event.StepFault.{StepFault}
 use Rattle.hsr_node.specs.declared.event.StepFault.TheVariants as refused
 use Rattle.hsr_node.specs.declared.place.Place.{Place}
 use Rattle.hsr_node.specs.declared.place.Place.TheVariants.{QuadBox}
-use Rattle.hsr_ring.specs.Entering.{IsEntered, IsNotEntered, IsRefusal, IsStepped, IsUnplanned, answer_in, past_in, places_of, world_fault}
-use Rattle.hsr_ring.specs.Giving.{emptied_span, given_lane, given_span}
+use Rattle.hsr_ring.specs.Entering.{IsEntered, IsNotEntered, IsRefusal, IsStepped, IsThere, IsUnplanned, answer_in, past_in, places_of, world_fault}
+use Rattle.hsr_ring.specs.Giving.{emptied_span, given_lane, given_span, receipt_of}
 use Rattle.hsr_world.specs.Spans.{Span, emptied, held_in, lanes_of, on_lanes, spread}
 use Rattle.hsr_ring.specs.Views.{AreNumbered, span_view, world_of}
 use Rattle.hsr_world.specs.World.{World, added, and_added, cleared, entered, judged_at, planned, port_worker}
@@ -64,23 +65,31 @@ answer_is capacity nodes n at event d numbered below =
 reverse_push : (xs : List Entry) (x : Entry) → reverse (xs ++ x ∷ []) ≡ x ∷ reverse xs
 reverse_push xs x = reverse-append xs (x ∷ [])
 
-pub stepped : (capacity worker n at : ℕ) (event : Event) (nodes : List Record) (r d : Record) (receipt : Receipt) → AreNumbered nodes → n < length nodes →
-    r ≡ record (get_or nodes n d) { entries = (get_or nodes n d).entries ++ receipt.entry ∷ [] } →
-    receipt.node ≡ (get_or nodes n d).number → receipt.place ≡ length (get_or nodes n d).entries →
-    receipt.entry.worker ≡ worker → receipt.entry.at ≡ at → receipt.entry.event ≡ event →
-    answer_to capacity (get_or nodes n d) at event ≡ Ok receipt.entry.outcome →
-    IsStepped capacity worker n at event nodes (set nodes n r) receipt
-stepped capacity worker n at event nodes r d receipt numbered below kept number place by when what answered =
+pub stepped : (capacity worker n at : ℕ) (event : Event) (nodes : List Record) (r d : Record) (a : Answer) → AreNumbered nodes → n < length nodes →
+    r ≡ record (get_or nodes n d) { entries = (get_or nodes n d).entries ++ record { worker = worker; at = at; event = event; outcome = a.outcome } ∷ [] } →
+    a.place ≡ length (get_or nodes n d).entries → answer_to capacity (get_or nodes n d) at event ≡ Ok a.outcome →
+    IsStepped capacity worker n at event nodes (set nodes n r) (receipt_of (record { node = n; place = a.place }) (record { worker = worker; at = at; event = event; outcome = a.outcome }))
+stepped capacity worker n at event nodes r d a numbered below kept place answered =
+    let x : Entry = record { worker = worker; at = at; event = event; outcome = a.outcome } in
     let past = past_is nodes n d below in
-    let number_is = number ∙ number_at nodes n d numbered below in
     let place_is = place ∙ sym (length-reverse (get_or nodes n d).entries) ∙ ap length (sym past) in
     record {
-      told = λ i. record { node = number_is i; place = place_is i; entry = record { worker = by i; at = when i; event = what i; outcome = receipt.entry.outcome } };
+      told = λ i. record { node = n; place = place_is i; entry = x };
       answered = answer_is capacity nodes n at event d numbered below ∙ answered;
       places = map_set_same (λ (r : Record). r.place) nodes n r d (ap (λ (r : Record). r.place) kept);
       records = map-set past_of nodes n r
-          ∙ ap (set (map past_of nodes) n) (ap past_of kept ∙ (reverse_push (get_or nodes n d).entries receipt.entry ∙ ap (λ (p : List Entry). receipt.entry ∷ p) (sym past)));
+          ∙ ap (set (map past_of nodes) n) (ap past_of kept ∙ (reverse_push (get_or nodes n d).entries x ∙ ap (λ (p : List Entry). x ∷ p) (sym past)));
     }
+
+-- the new entry stands at its place
+pub there : (n place : ℕ) (x : Entry) (nodes : List Record) (r d : Record) → n < length nodes → r ≡ record (get_or nodes n d) { entries = (get_or nodes n d).entries ++ x ∷ [] } →
+    place ≡ length (get_or nodes n d).entries → IsThere (set nodes n r) n place x
+there n place x nodes r d below kept at = λ d2 e.
+    let is : (get_or (set nodes n r) n d2).entries ≡ (get_or nodes n d).entries ++ x ∷ [] = ap (λ (r : Record). r.entries) (get_or-set_same nodes n r d2 below ∙ kept) in
+    let long : length ((get_or nodes n d).entries ++ x ∷ []) ≡ length (get_or nodes n d).entries + 1 = length-append (get_or nodes n d).entries (x ∷ []) in (
+      subst (λ (es : List Entry). place < length es) (sym is) (omega (arith, at, long)),
+      ap (λ (es : List Entry). get_or es place e) is ∙ get_or_push (get_or nodes n d).entries x e place (sym at),
+    )
 
 not_both : (answer : Result Outcome StepFault) (fault : StepFault) → (fault ≡ refused.NoMemory) ⊎ (answer ≡ Err fault) →
     (world_fault fault ≡ NoMemory) ⊎ ((x : StepFault) × (answer ≡ Err x) × (world_fault fault ≡ Node x))
@@ -149,7 +158,7 @@ spread_emptied : (end : End) (owner : Owner) (x : Entry) (past : List Entry) (sp
 spread_emptied end owner x past [] = refl
 spread_emptied end owner x past (span ∷ spans) = ap (λ (ls : List Span). on_lanes (spread owner x past) (on_lanes (emptied end) span) ∷ ls) (spread_emptied end owner x past spans)
 
-abbrev cleared_result : End → Result World WorldFault → Result World WorldFault
+abbrev pub cleared_result : End → Result World WorldFault → Result World WorldFault
 cleared_result end (Ok w) = Ok (cleared w end)
 cleared_result end (Err fault) = Err fault
 
@@ -160,20 +169,10 @@ cleared_added w end worker n event (Ok outcome) =
     ap (λ (ls : List Span). Ok (record (added w n x) { spans = ls })) (spread_emptied end (owner_in w.places n) x (record_in w.records n) w.spans)
 cleared_added w end worker n event (Err fault) = refl
 
-cleared_entered : (capacity : ℕ) (w : World) (end : End) (worker n : ℕ) (event : Event) →
+pub cleared_entered : (capacity : ℕ) (w : World) (end : End) (worker n : ℕ) (event : Event) →
     entered capacity (cleared w end) worker n event ≡ cleared_result end (entered capacity w worker n event)
 cleared_entered capacity w end worker n event =
     cleared_added w end worker n event (answer capacity (owner_in w.places n) (record_in w.records n) (max (now (record_in w.records n)) w.moment) event)
-
-pub judged_ok : (capacity : ℕ) (w after : World) (end : End) (copy : Carried) → Some copy ≡ held_in end (lanes_of w.spans) →
-    entered capacity w (port_worker end) end.node (event.Arrive end.port copy) ≡ Ok after → judged_at capacity w end (held_in end (lanes_of w.spans)) ≡ Ok (cleared after end)
-judged_ok capacity w after end copy held e =
-    ap (judged_at capacity w end) (sym held) ∙ cleared_entered capacity w end (port_worker end) end.node (event.Arrive end.port copy) ∙ ap (cleared_result end) e
-
-pub judged_err : (capacity : ℕ) (w : World) (end : End) (copy : Carried) (fault : WorldFault) → Some copy ≡ held_in end (lanes_of w.spans) →
-    entered capacity w (port_worker end) end.node (event.Arrive end.port copy) ≡ Err fault → judged_at capacity w end (held_in end (lanes_of w.spans)) ≡ Err fault
-judged_err capacity w end copy fault held e =
-    ap (judged_at capacity w end) (sym held) ∙ cleared_entered capacity w end (port_worker end) end.node (event.Arrive end.port copy) ∙ ap (cleared_result end) e
 
 pub judged_none : (capacity : ℕ) (w : World) (end : End) → None ≡ held_in end (lanes_of w.spans) → judged_at capacity w end (held_in end (lanes_of w.spans)) ≡ Err Nothing
 judged_none capacity w end held = ap (judged_at capacity w end) (sym held)

@@ -5,6 +5,7 @@ pub mod Entered
 pub mod Started
 pub mod Ports
 pub mod Bits
+pub mod Hands
 pub mod Next
 pub mod Looked
 pub mod Stopped

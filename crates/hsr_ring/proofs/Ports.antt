@@ -21,6 +21,7 @@ use Rattle.hsr_node.specs.declared.event.StepFault.{StepFault}
 use Rattle.hsr_node.specs.declared.place.Place.{Place}
 use Rattle.hsr_node.specs.declared.place.Place.TheVariants.{Danh, RedBox, QuadBox, Station}
 use Rattle.hsr_world.specs.Spans.{Lane, Span, Spot, emptied, held_in, lane_of, lanes_of, on_lanes, spot_from, spread, with_lane, with_link}
+use Rattle.hsr_ring.specs.Hands.{hand_in}
 use Rattle.hsr_ring.specs.Ports.{AreTold, end_at, held_at, no_port, port_at, port_if, port_in, port_of, ports_in, spot_code, spot_to}
 use Rattle.hsr_ring.specs.Views.{port_fault, spot_view}
 use Rattle.hsr_world.specs.World.{World, and_added, cleared, entered, has_link, has_node, has_port, judged_at, span_at, span_in, or_same, owner_at, planned, port_worker, put_at, put_from, record_at, take_to, taken_by, tried, with_span}
@@ -376,3 +377,24 @@ held_from end all k (span ∷ spans) h = by_case (held_from end all (k + 1) span
 
 pub held_spot : (spans : List Span) (end : End) → held_at spans (spot_to end 0 spans) ≡ is_some (held_in end (lanes_of spans))
 held_spot spans end = held_from end spans 0 spans (same_spans spans)
+
+-- what is in the hand of a direction is what its port holds
+hand_from : (end : End) (all : List Span) (k : ℕ) (spans : List Span) → ((j : ℕ) → span_in all (k + j) ≡ span_in spans j) → hand_in all (spot_to end k spans) ≡ held_in end (lanes_of spans)
+hand_from end all k [] h = refl
+hand_from end all k (span ∷ spans) h = by_case (hand_from end all (k + 1) spans further) (is_same_end span.forth.to end) (is_same_end span.back.to end)
+  where
+    here : span_in all k ≡ span
+    here = let e : k ≡ k + 0 = omega arith in ap (span_in all) e ∙ h 0
+
+    further : (j : ℕ) → span_in all ((k + 1) + j) ≡ span_in spans j
+    further j = let e : (k + 1) + j ≡ k + suc j = omega arith in ap (span_in all) e ∙ h (suc j)
+
+    by_case : hand_in all (spot_to end (k + 1) spans) ≡ held_in end (lanes_of spans) → (f b : Bool) →
+        hand_in all (if f then Some (record { link = k; dir = Forth }) else (if b then Some (record { link = k; dir = Back }) else spot_to end (k + 1) spans))
+        ≡ (if f then span.forth.hand else (if b then span.back.hand else held_in end (lanes_of spans)))
+    by_case rest true b = ap (λ (l : Span). l.forth.hand) here
+    by_case rest false true = ap (λ (l : Span). l.back.hand) here
+    by_case rest false false = rest
+
+pub hand_spot : (spans : List Span) (end : End) → hand_in spans (spot_to end 0 spans) ≡ held_in end (lanes_of spans)
+hand_spot spans end = hand_from end spans 0 spans (same_spans spans)

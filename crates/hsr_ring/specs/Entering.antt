@@ -1,5 +1,5 @@
 -- What an event that a worker brings to a node makes of the nodes and of the spans.
-use Rattle.std.specs.Prelude.{ℕ, ◌≡◌, List, [], ◌∷◌, ◌++◌, length, map, max, set, Result, Ok, Err}
+use Rattle.std.specs.Prelude.{ℕ, ◌<◌, slice_index_or, ◌≡◌, List, [], ◌∷◌, ◌++◌, length, map, max, set, Result, Ok, Err}
 use Rattle.hsr_node.specs.Kept.{Record, past_of}
 use Rattle.hsr_node.specs.Record.{answer, now}
 use Rattle.hsr_node.specs.declared.entry.Entry.{Entry}
@@ -40,6 +40,10 @@ pub record IsStepped (capacity : ℕ) (worker n at : ℕ) (event : Event) (old n
   pub answered : answer_in capacity old n at event ≡ Ok receipt.entry.outcome
   pub places : places_of new ≡ places_of old
   pub records : map past_of new ≡ set (map past_of old) n (receipt.entry ∷ past_in old n)
+
+-- an entry stands at this place of the record of a node
+abbrev pub IsThere : List Record → ℕ → ℕ → Entry → Type 0
+IsThere nodes n place x = (d : Record) (e : Entry) → (place < length (slice_index_or nodes n d).entries) × (slice_index_or (slice_index_or nodes n d).entries place e ≡ x)
 
 -- it refuses the event for this
 abbrev pub IsRefusal : ℕ → List Record → ℕ → ℕ → Event → WorldFault → Type 0

@@ -1,16 +1,23 @@
 -- What a new entry gives to the lanes of the code, and the room that it needs.
 use Rattle.std.specs.Prelude.{ℕ, ◌==◌, ◌≡◌, ◌<◌, ◌≤◌, true, List, [], ◌++◌, if◌then◌else◌, option_map, option_to_list, vec_capacity}
 use Rattle.std.specs.VecDeque.{deque_len, deque_capacity}
+use Rattle.hsr_frame.specs.Layout.{max_frame}
 use Rattle.hsr_topology.specs.declared.end.End.{End}
 use Rattle.hsr_node.specs.Copies.{copy_octets}
 use Rattle.hsr_node.specs.Record.{probe_handled}
 use Rattle.hsr_node.specs.declared.entry.Receipt.{Receipt}
+use Rattle.hsr_node.specs.declared.entry.Entry.{Entry}
 use Rattle.hsr_node.specs.declared.event.Carried.{Carried}
+use Rattle.hsr_node.specs.declared.event.Probe.{Probe}
 use Rattle.hsr_node.specs.declared.place.Place.{Place}
 use Rattle.hsr_world.specs.Spans.{Lane, Span, emptied, on_lanes}
 use Rattle.hsr_ring.specs.Views.{span_view}
 use Rattle.hsr_ring.specs.declared.span.Span as code
 use Rattle.hsr_ring.specs.declared.lane.Lane as code-lane
+
+-- an entry, and where it stands
+abbrev pub receipt_of : Probe → Entry → Receipt
+receipt_of here entry = record { node = here.node; place = here.place; entry = entry }
 
 -- the copy of an entry that joins the outbox of a lane
 abbrev pub given : Place → Receipt → Lane → List Carried
@@ -29,7 +36,7 @@ given_span place receipt span = on_lanes (given_lane place receipt) (span_view s
 -- room for one more copy in an outbox, and for the octets of the longest
 pub record HasRoom (lane : code-lane.Lane) : Type 0 where
   pub outbox : deque_len lane.outbox < deque_capacity lane.outbox
-  pub octets : 1524 ≤ vec_capacity lane.room
+  pub octets : max_frame ≤ vec_capacity lane.room
 
 -- a node has room where it sends
 abbrev pub IsReady : ℕ → code-lane.Lane → Type 0

@@ -1,4 +1,5 @@
 pub mod Views
+pub mod Hands
 pub mod Giving
 pub mod Entering
 pub mod Starting

@@ -1,12 +1,13 @@
 //! An event that a worker brings to a node.
-ghost use Rattle.std.specs.Prelude.{◌≡◌, ◌⊎◌, ◌<◌, IfErr, IfOk, OnOk, length, map};
-ghost use Rattle.hsr_ring.specs.Entering.{IsEntered, IsNotEntered, IsRefusal, IsStepped, world_fault};
+ghost use Rattle.std.specs.Prelude.{◌≡◌, ◌⊎◌, ◌<◌, IfErr, IfOk, OnOk, length, map, slice_index_or};
+ghost use Rattle.hsr_ring.specs.Entering.{IsEntered, IsNotEntered, IsRefusal, IsStepped, IsThere, world_fault};
+ghost use Rattle.hsr_ring.specs.Giving.{receipt_of};
 ghost use Rattle.hsr_ring.specs.Views.{AreNumbered, span_view};
 ghost use Rattle.hsr_step.specs.declared.step.WorldFault.TheVariants.{NoMemory};
 
 use crate::giving::{commit, prepare};
 use crate::span::Span;
-use hsr_node::{Event, Kept, Receipt, StepFault};
+use hsr_node::{Answer, Entry, Event, Kept, Probe, StepFault};
 use hsr_step::WorldFault;
 use std::alloc::Global;
 
@@ -20,27 +21,36 @@ fn world_fault(fault: StepFault) -> WorldFault
     }
 }
 
-/// Lets an event happen at a node.
+/// Lets an event happen at a node. A refusal hands the event back.
 fn step_at<const C: usize>(
     nodes: &mut [Kept<C>],
     node: usize,
     worker: u16,
     at: u64,
     event: Event,
-) -> Result<Receipt, WorldFault>
+) -> Result<Answer, (Event, WorldFault)>
     requires below { node < length nodes.old }
     requires numbered { AreNumbered nodes.old }
     ensures numbered { AreNumbered nodes.new }
-    ensures ok { IfOk result (λ receipt. IsStepped C worker node at event nodes.old nodes.new receipt) }
-    ensures err { IfErr result (λ f. (nodes.new ≡ nodes.old) × ((f ≡ NoMemory) ⊎ IsRefusal C nodes.old node at event f)) }
+    ensures ok { IfOk result (λ a. IsStepped C worker node at event nodes.old nodes.new (receipt_of (record { node = node; place = a.place }) (record { worker = worker; at = at; event = event; outcome = a.outcome }))) }
+    ensures there { IfOk result (λ a. IsThere nodes.new node a.place (record { worker = worker; at = at; event = event; outcome = a.outcome })) }
+    ensures err { IfErr result (λ e. (nodes.new ≡ nodes.old) × (e.0 ≡ event) × ((e.1 ≡ NoMemory) ⊎ IsRefusal C nodes.old node at event e.1)) }
 {
-    match nodes[node].step(worker, at, event) {
-        Ok(receipt) => Ok(receipt),
-        Err((_back, fault)) => Err(world_fault(fault)),
+    match nodes[node].enter(worker, at, event) {
+        Ok(answer) => Ok(answer),
+        Err((event, fault)) => Err((event, world_fault(fault))),
     }
 }
 
-/// Lets an event happen at a node, whose copies join the outboxes of its ports.
+/// The entry at a place of a record.
+fn entry_at<const C: usize>(kept: &Kept<C>, place: usize) -> &Entry
+    requires { place < length kept.now.entries }
+    ensures { result.now ≡ slice_index_or kept.now.entries place result.now }
+{
+    &kept.entries()[place]
+}
+
+/// Lets an event happen at a node, whose copies join the outboxes of its ports. A refusal hands the event back.
 pub(crate) fn enter<const C: usize>(
     alloc: Global,
     nodes: &mut [Kept<C>],
@@ -49,20 +59,22 @@ pub(crate) fn enter<const C: usize>(
     worker: u16,
     at: u64,
     event: Event,
-) -> Result<(), WorldFault>
+) -> Result<(), (Event, WorldFault)>
     requires below { node < length nodes.old }
     requires numbered { AreNumbered nodes.old }
     ensures numbered { AreNumbered nodes.new }
     ensures ok { OnOk result (IsEntered C worker node at event nodes.old nodes.new (map span_view spans.old) (map span_view spans.new)) }
-    ensures err { IfErr result (λ f. (nodes.new ≡ nodes.old) × (map span_view spans.new ≡ map span_view spans.old) × ((f ≡ NoMemory) ⊎ IsNotEntered C worker node at event nodes.old (map span_view spans.old) f)) }
+    ensures err { IfErr result (λ e. (nodes.new ≡ nodes.old) × (map span_view spans.new ≡ map span_view spans.old) × (e.0 ≡ event) × ((e.1 ≡ NoMemory) ⊎ IsNotEntered C worker node at event nodes.old (map span_view spans.old) e.1)) }
 {
     if prepare(spans, node).is_err() {
-        return Err(WorldFault::NoMemory);
+        return Err((event, WorldFault::NoMemory));
     }
-    let receipt = match step_at(nodes, node, worker, at, event) {
-        Ok(receipt) => receipt,
-        Err(fault) => return Err(fault),
+    let place = match step_at(nodes, node, worker, at, event) {
+        Ok(answer) => answer.place,
+        Err(refusal) => return Err(refusal),
     };
-    commit(alloc, spans, nodes[node].place(), &receipt);
+    let kept = &nodes[node];
+    let here = Probe { node, place };
+    commit(alloc, spans, kept.place(), here, entry_at(kept, place));
     Ok(())
 }

@@ -1,12 +1,12 @@
 //! What a new entry of a node gives to the spans.
 ghost use Rattle.std.specs.Prelude.{◌≡◌, All, OnOk, map};
-ghost use Rattle.hsr_ring.specs.Giving.{IsSpanReady, given_span};
+ghost use Rattle.hsr_ring.specs.Giving.{IsSpanReady, given_span, receipt_of};
 ghost use Rattle.hsr_ring.specs.Views.{span_view};
 
 use crate::lane::{commit_lane, prepare_lane};
 use crate::span::Span;
 use hsr_frame::NoMemory;
-use hsr_node::{Place, Receipt};
+use hsr_node::{Entry, Place, Probe};
 use std::alloc::Global;
 
 fn prepare_span(span: &mut Span, node: usize) -> Result<(), NoMemory>
@@ -17,12 +17,12 @@ fn prepare_span(span: &mut Span, node: usize) -> Result<(), NoMemory>
     prepare_lane(&mut span.back, node)
 }
 
-fn commit_span(alloc: Global, span: &mut Span, place: &Place, receipt: &Receipt)
-    requires { IsSpanReady receipt.now.node span.old }
-    ensures { span_view span.new ≡ given_span place.now receipt.now span.old }
+fn commit_span(alloc: Global, span: &mut Span, place: &Place, here: Probe, entry: &Entry)
+    requires { IsSpanReady here.node span.old }
+    ensures { span_view span.new ≡ given_span place.now (receipt_of here entry.now) span.old }
 {
-    commit_lane(alloc, &mut span.forth, place, receipt);
-    commit_lane(alloc, &mut span.back, place, receipt);
+    commit_lane(alloc, &mut span.forth, place, here, entry);
+    commit_lane(alloc, &mut span.back, place, here, entry);
 }
 
 /// Makes room for one more copy wherever a node sends.
@@ -36,12 +36,12 @@ pub(crate) fn prepare(spans: &mut [Span], node: usize) -> Result<(), NoMemory>
     Ok(())
 }
 
-/// The copies of an entry join the outboxes of the ports that they left by.
-pub(crate) fn commit(alloc: Global, spans: &mut [Span], place: &Place, receipt: &Receipt)
-    requires { All (IsSpanReady receipt.now.node) spans.old }
-    ensures { map span_view spans.new ≡ map (given_span place.now receipt.now) spans.old }
+/// The copies of an entry join the outboxes of the ports that they left by; `here` names the entry.
+pub(crate) fn commit(alloc: Global, spans: &mut [Span], place: &Place, here: Probe, entry: &Entry)
+    requires { All (IsSpanReady here.node) spans.old }
+    ensures { map span_view spans.new ≡ map (given_span place.now (receipt_of here entry.now)) spans.old }
 {
     for span in spans.iter_mut() {
-        commit_span(alloc, span, place, receipt);
+        commit_span(alloc, span, place, here, entry);
     }
 }

@@ -1,37 +1,42 @@
 //! What a receiving port holds.
-ghost use Rattle.std.specs.Prelude.{◌≡◌, IfOk, map};
+ghost use Rattle.std.specs.Prelude.{◌≡◌, map, option_map};
 ghost use Rattle.hsr_ring.specs.Giving.{emptied_span};
-ghost use Rattle.hsr_world.specs.Spans.{emptied, held_in, lanes_of, on_lanes};
-ghost use Rattle.hsr_ring.specs.Views.{lane_view, span_view};
+ghost use Rattle.hsr_ring.specs.Hands.{hand_in, handed, with_hand};
+ghost use Rattle.hsr_world.specs.Spans.{emptied, lane_of, on_lanes};
+ghost use Rattle.hsr_ring.specs.Views.{lane_view, span_view, spot_view};
 
 use crate::lane::Lane;
 use crate::span::Span;
-use hsr_frame::NoMemory;
+use crate::spot::Spot;
+use hsr_link::Dir;
 use hsr_node::Carried;
 use hsr_topology::End;
+use std::mem;
 
-fn copy_of(hand: &Option<Carried>) -> Result<Option<Carried>, NoMemory>
-    ensures { IfOk result (λ copy. copy ≡ hand.now) }
+/// Another hand in a direction; the answer is what was in it.
+fn change(span: &mut Span, dir: Dir, hand: Option<Carried>) -> Option<Carried>
+    ensures was { result ≡ (lane_of dir (span_view span.old)).hand }
+    ensures now { span_view span.new ≡ handed dir hand (span_view span.old) }
 {
-    match hand {
-        Some(carried) => Ok(Some(carried.copy()?)),
-        None => Ok(None),
+    match dir {
+        Dir::Forth => mem::replace(&mut span.forth.hand, hand),
+        Dir::Back => mem::replace(&mut span.back.hand, hand),
     }
 }
 
-/// What the port at an end holds.
-pub(crate) fn held(spans: &[Span], end: End) -> Result<Option<Carried>, NoMemory>
-    ensures { IfOk result (λ copy. copy ≡ held_in end (lanes_of (map span_view spans.now))) }
+/// Another hand where a port receives; the answer is what was in it.
+pub(crate) fn change_hand(
+    spans: &mut [Span],
+    spot: Option<Spot>,
+    hand: Option<Carried>,
+) -> Option<Carried>
+    ensures was { result ≡ hand_in (map span_view spans.old) (option_map spot_view spot) }
+    ensures now { map span_view spans.new ≡ with_hand hand (map span_view spans.old) (option_map spot_view spot) }
 {
-    for span in spans.iter() {
-        if span.forth.to == end {
-            return copy_of(&span.forth.hand);
-        }
-        if span.back.to == end {
-            return copy_of(&span.back.hand);
-        }
+    match spot {
+        Some(spot) if spot.link < spans.len() => change(&mut spans[spot.link], spot.dir, hand),
+        _ => None,
     }
-    Ok(None)
 }
 
 fn clear_lane(lane: &mut Lane, end: End)

@@ -1,18 +1,15 @@
 //! One direction of a link, with what its ports keep.
 ghost use Rattle.std.specs.Prelude.{◌≡◌, ◌≤◌, length, vec_capacity, OnOk};
 ghost use Rattle.hsr_node.specs.Record.{probe_handled};
-ghost use Rattle.hsr_ring.specs.Giving.{IsReady, given_lane};
+ghost use Rattle.hsr_ring.specs.Giving.{IsReady, given_lane, receipt_of};
 ghost use Rattle.hsr_ring.specs.Views.{lane_view};
 
-use hsr_frame::NoMemory;
-use hsr_node::{Carried, Event, Octets, Place, Probe, Receipt, copy_out};
+use hsr_frame::{MAX_FRAME, NoMemory};
+use hsr_node::{Carried, Entry, Event, Octets, Place, Probe, copy_out};
 use hsr_topology::End;
 use std::alloc::Global;
 use std::collections::VecDeque;
 use std::mem;
-
-/// The most octets that a copy has.
-const MOST_OCTETS: usize = 1524;
 
 /// From which port to which; what the first has still to put, the oldest first, and what the second holds. Room for the
 /// octets of one more copy is no part of what a clause sees.
@@ -32,21 +29,18 @@ pub(crate) fn prepare_lane(lane: &mut Lane, node: usize) -> Result<(), NoMemory>
 {
     if lane.from.node == node {
         lane.outbox.reserve(1)?;
-        lane.room.reserve(MOST_OCTETS)?;
+        lane.room.reserve(MAX_FRAME)?;
     }
     Ok(())
 }
 
-/// The send that the frame of an entry is of.
-fn probe_of(receipt: &Receipt) -> Option<Probe>
-    ensures { result ≡ probe_handled (record { node = receipt.now.node; place = receipt.now.place }) receipt.now.entry.event }
+/// The send that the frame of an event is of, where `here` names the event's own entry.
+fn probe_of(here: Probe, event: &Event) -> Option<Probe>
+    ensures { result ≡ probe_handled here event.now }
 {
-    match &receipt.entry.event {
+    match event {
         Event::Arrive { port: _, carried } => carried.probe,
-        _ => Some(Probe {
-            node: receipt.node,
-            place: receipt.place,
-        }),
+        _ => Some(here),
     }
 }
 
@@ -76,20 +70,19 @@ fn fitted(alloc: Global, room: &mut Vec<u8>, octets: &[u8]) -> Octets
     }
 }
 
-/// The copy that leaves its node by a lane joins its outbox. It begins by clearing room for the longest copy, and so stands
-/// apart from what is done for each lane.
+/// The copy that leaves its node by a lane joins its outbox; `here` names the entry. It begins by clearing room for the
+/// longest copy, and so stands apart from what is done for each lane.
 #[inline(never)]
-fn add_copy(alloc: Global, lane: &mut Lane, place: &Place, receipt: &Receipt)
-    requires node { lane.old.from.node ≡ receipt.now.node }
-    requires ready { IsReady receipt.now.node lane.old }
-    ensures { lane_view lane.new ≡ given_lane place.now receipt.now (lane_view lane.old) }
+fn add_copy(alloc: Global, lane: &mut Lane, place: &Place, here: Probe, entry: &Entry)
+    requires node { lane.old.from.node ≡ here.node }
+    requires ready { IsReady here.node lane.old }
+    ensures { lane_view lane.new ≡ given_lane place.now (receipt_of here entry.now) (lane_view lane.old) }
 {
-    let entry = &receipt.entry;
     let Some(copy) = copy_out(place, &entry.event, &entry.outcome, lane.from.port) else {
         return;
     };
     let carried = Carried {
-        probe: probe_of(receipt),
+        probe: probe_of(here, &entry.event),
         octets: fitted(alloc, &mut lane.room, copy.as_slice()),
     };
     let Ok(()) = lane.outbox.push_back(carried) else {
@@ -97,12 +90,12 @@ fn add_copy(alloc: Global, lane: &mut Lane, place: &Place, receipt: &Receipt)
     };
 }
 
-/// The copy that leaves by a lane joins its outbox, if the lane is one of its node.
-pub(crate) fn commit_lane(alloc: Global, lane: &mut Lane, place: &Place, receipt: &Receipt)
-    requires { IsReady receipt.now.node lane.old }
-    ensures { lane_view lane.new ≡ given_lane place.now receipt.now (lane_view lane.old) }
+/// The copy that leaves by a lane joins its outbox, if the lane is one of its node; `here` names the entry.
+pub(crate) fn commit_lane(alloc: Global, lane: &mut Lane, place: &Place, here: Probe, entry: &Entry)
+    requires { IsReady here.node lane.old }
+    ensures { lane_view lane.new ≡ given_lane place.now (receipt_of here entry.now) (lane_view lane.old) }
 {
-    if lane.from.node == receipt.node {
-        add_copy(alloc, lane, place, receipt);
+    if lane.from.node == here.node {
+        add_copy(alloc, lane, place, here, entry);
     }
 }

@@ -8,7 +8,7 @@ ghost use Rattle.hsr_world.specs.World.{port_worker};
 
 use crate::closing::{Rest, closed_of};
 use crate::entering::enter;
-use crate::hand::{clear, held};
+use crate::hand::{change_hand, clear};
 use crate::pending::Pending;
 use crate::port::{Port, new_ports, port_fault, port_of};
 use crate::span::{Span, cut_at, inject_at, mend_at, take_at};
@@ -79,7 +79,7 @@ impl<const C: usize> Running<C> {
 }
 
 impl<const C: usize> Running<C> {
-    ghost use Rattle.hsr_world.specs.Spans.{held_in, lanes_of};
+    ghost use Rattle.hsr_ring.specs.Hands.{given_back, hand_in, in_hand};
     ghost use Rattle.hsr_world.specs.World.{by_main, cleared, entered, planned, tried};
     ghost use Rattle.hsr_step.specs.declared.step.Step.TheVariants.{Age, Clock, Cut, Inject, Judge, Mend, Put, Send, Supervise, Take};
     ghost use Rattle.hsr_step.specs.declared.step.WorldFault.TheVariants.{NoMemory};
@@ -175,10 +175,16 @@ impl<const C: usize> Running<C> {
         self.put_out(port_of(ports, End { node, port }).out)
     }
 
-    fn enter_at(&mut self, node: usize, worker: u16, event: Event) -> Result<(), WorldFault>
+    /// Lets an event happen at a node; a refusal hands it back.
+    fn enter_at(
+        &mut self,
+        node: usize,
+        worker: u16,
+        event: Event,
+    ) -> Result<(), (Event, WorldFault)>
         requires { node < length self.old.places }
         ensures ok { OnOk result (entered C self.old worker node event ≡ Ok self.new) }
-        ensures err { IfErr result (λ f. (self.new ≡ self.old) × ((f ≡ NoMemory) ⊎ (entered C self.old worker node event ≡ Err f))) }
+        ensures err { IfErr result (λ e. (self.new ≡ self.old) × (e.0 ≡ event) × ((e.1 ≡ NoMemory) ⊎ (entered C self.old worker node event ≡ Err e.1))) }
     {
         let at = self.moment;
         match enter(
@@ -191,7 +197,7 @@ impl<const C: usize> Running<C> {
             event,
         ) {
             Ok(()) => Ok(()),
-            Err(fault) => Err(fault),
+            Err(refusal) => Err(refusal),
         }
     }
 
@@ -228,20 +234,26 @@ impl<const C: usize> Running<C> {
         }
         match self.enter_at(node, 0, event) {
             Ok(()) => Ok(()),
-            Err(fault) => {
+            Err((_event, fault)) => {
                 self.plan_no_more();
                 Err(fault)
             }
         }
     }
 
-    fn held_at(&self, end: End) -> Result<Option<Carried>, WorldFault>
-        ensures ok { IfOk result (λ copy. copy ≡ held_in end (lanes_of self.now.spans)) }
-        ensures err { IfErr result (λ f. f ≡ NoMemory) }
+    fn change_hand(&mut self, spot: Option<Spot>, hand: Option<Carried>) -> Option<Carried>
+        ensures was { result ≡ hand_in self.old.spans (option_map spot_view spot) }
+        ensures now { self.new ≡ in_hand hand self.old (option_map spot_view spot) }
     {
-        match held(&self.spans, end) {
-            Ok(copy) => Ok(copy),
-            Err(_refused) => Err(WorldFault::NoMemory),
+        change_hand(&mut self.spans, spot, hand)
+    }
+
+    /// What came in an event is held again, where it was.
+    fn give_back(&mut self, spot: Option<Spot>, event: Event)
+        ensures { self.new ≡ given_back event self.old (option_map spot_view spot) }
+    {
+        if let Event::Arrive { port: _, carried } = event {
+            let _nothing = self.change_hand(spot, Some(carried));
         }
     }
 
@@ -251,7 +263,8 @@ impl<const C: usize> Running<C> {
         clear(&mut self.spans, end);
     }
 
-    fn judge(&mut self, node: usize, port: u8) -> Result<(), WorldFault>
+    fn judge(&mut self, ports: &[Port], node: usize, port: u8) -> Result<(), WorldFault>
+        requires { AreTold self.old.places self.old.spans ports.now }
         ensures ok { OnOk result (tried C self.old (Judge node port) ≡ Ok self.new) }
         ensures err { IfErr result (λ f. (self.new ≡ self.old) × ((f ≡ NoMemory) ⊎ (tried C self.old (Judge node port) ≡ Err f))) }
     {
@@ -259,17 +272,19 @@ impl<const C: usize> Running<C> {
             return Err(fault);
         }
         let end = End { node, port };
-        let carried = match self.held_at(end) {
-            Ok(Some(carried)) => carried,
-            Ok(None) => return Err(WorldFault::Nothing),
-            Err(fault) => return Err(fault),
+        let spot = port_of(ports, end).into;
+        let Some(carried) = self.change_hand(spot, None) else {
+            return Err(WorldFault::Nothing);
         };
         match self.enter_at(node, port_worker(end), Event::Arrive { port, carried }) {
             Ok(()) => {
                 self.clear_at(end);
                 Ok(())
             }
-            Err(fault) => Err(fault),
+            Err((event, fault)) => {
+                self.give_back(spot, event);
+                Err(fault)
+            }
         }
     }
 
@@ -340,7 +355,7 @@ impl<const C: usize> Running<C> {
             Step::Age { node } => self.age(*node),
             Step::Put { node, port } => self.put(ports, *node, *port),
             Step::Take { link, dir } => self.take(*link, *dir),
-            Step::Judge { node, port } => self.judge(*node, *port),
+            Step::Judge { node, port } => self.judge(ports, *node, *port),
             Step::Cut { link } => self.cut(*link),
             Step::Mend { link } => self.mend(*link),
             Step::Inject { link, dir, octets } => self.inject(*link, *dir, octets),

@@ -1,35 +1,57 @@
-use Rattle.std.proofs.Common.{ℕ, refl, sym, ap, ◌∙◌, inr, Ok}
+use Rattle.std.proofs.Common.{ℕ, List, refl, sym, ap, ◌∙◌, inr, Ok, None, option_map}
 use Rattle.hsr_topology.specs.declared.end.End.{End}
 use Rattle.hsr_node.specs.declared.event.Event.TheVariants as event
-use Rattle.hsr_world.specs.World.{entered}
+use Rattle.hsr_world.specs.Spans.{Spot, held_in, lanes_of}
+use Rattle.hsr_world.specs.World.{World, entered, judged_at}
+use Rattle.hsr_ring.specs.Views.{spot_view}
+use Rattle.hsr_ring.specs.declared.port.Port.{Port}
 use Rattle.hsr_ring.proofs.Places.{or_map}
-use Rattle.hsr_ring.proofs.Entered.{judged_err, judged_none, judged_ok}
+use Rattle.hsr_ring.proofs.Entered.{cleared_result, judged_none}
+use Rattle.hsr_ring.proofs.Hands.{held_again, holds_nothing, judged_from, same_hand}
+use Rattle.hsr_ring.proofs.Ports.{into_there, is_there}
 use Rattle.hsr_ring.proofs.Tried.{judge_is, judge_refused}
 use Rattle.hsr_ring.proofs.running.Running.judge.Goals as goal
 
 pub returns-in-Some-clause-err : goal.returns-in-Some-clause-err
 returns-in-Some-clause-err g c = (refl, inr (judge_refused g.row.C c.args.self.now c.args.node c.args.port c.in-Some.fault (sym c.fault_of_port.ensures.exact ∙ c.in-Some.is)))
 
-pub returns-in-Ok-None-clause-err : goal.returns-in-Ok-None-clause-err
-returns-in-Ok-None-clause-err g c =
+pub returns-in_default-change_hand-clause-err : goal.returns-in_default-change_hand-clause-err
+returns-in_default-change_hand-clause-err g c =
     let end : End = record { node = c.args.node; port = c.args.port } in
-    let is = judge_is g.row.C c.args.self.now c.args.node c.args.port (sym c.fault_of_port.ensures.exact ∙ c.in_default.is) in
-    (refl, inr (is ∙ judged_none g.row.C c.args.self.now end (sym c.in-Ok-None.field-0-is ∙ c.in-Ok-None.ensures.ok)))
+    let w : World = c.args.self.now in
+    let fault = sym c.fault_of_port.ensures.exact ∙ c.in_default.is in
+    let is = judge_is g.row.C w c.args.node c.args.port fault in
+    let spot = option_map spot_view c.port_of-spot.result.into in
+    let at = ap (λ (p : Port). option_map spot_view p.into) c.port_of-spot.ensures ∙ into_there w.places w.spans c.args.ports.now c.args.node c.args.port c.requires (is_there w.places c.args.node c.args.port fault) in
+    let nothing = sym c.change_hand.ensures.was ∙ c.in_default-change_hand.is in (
+      c.change_hand.ensures.now ∙ same_hand w spot None nothing,
+      inr (is ∙ judged_none g.row.C w end (holds_nothing w end spot at nothing)),
+    )
 
 pub returns-in-Ok-clause-ok : goal.returns-in-Ok-clause-ok
 returns-in-Ok-clause-ok g c =
     let end : End = record { node = c.args.node; port = c.args.port } in
-    let is = judge_is g.row.C c.args.self.now c.args.node c.args.port (sym c.fault_of_port.ensures.exact ∙ c.in_default.is) in
-    let held = sym c.in-Ok-Some.field-0-is ∙ c.in-Ok-Some.ensures.ok in
-    let worker = ap (λ (k : ℕ). entered g.row.C c.args.self.now k c.args.node (event.Arrive c.args.port c.in-Ok-Some.carried)) (sym c.port_worker.ensures) in
-    is ∙ judged_ok g.row.C c.args.self.now c.enter_at.new.self end c.in-Ok-Some.carried held (worker ∙ c.in-Ok.ensures.ok) ∙ ap Ok (sym c.clear_at.ensures)
+    let w : World = c.args.self.now in
+    let fault = sym c.fault_of_port.ensures.exact ∙ c.in_default.is in
+    let is = judge_is g.row.C w c.args.node c.args.port fault in
+    let spot = option_map spot_view c.port_of-spot.result.into in
+    let at = ap (λ (p : Port). option_map spot_view p.into) c.port_of-spot.ensures ∙ into_there w.places w.spans c.args.ports.now c.args.node c.args.port c.requires (is_there w.places c.args.node c.args.port fault) in
+    let held = sym c.change_hand.ensures.was ∙ c.in-Some-change_hand.is in
+    let copy = c.in-Some-change_hand.carried in
+    let worker = ap (λ (k : ℕ). entered g.row.C c.change_hand.new.self k c.args.node (event.Arrive c.args.port copy)) (sym c.port_worker.ensures) in
+    is ∙ (judged_from g.row.C w c.change_hand.new.self end spot copy at held c.change_hand.ensures.now ∙ (ap (cleared_result end) (worker ∙ c.in-Ok.ensures.ok) ∙ ap Ok (sym c.clear_at.ensures)))
 
-pub returns-in-Err-enter_at-clause-err : goal.returns-in-Err-enter_at-clause-err
-returns-in-Err-enter_at-clause-err g c =
+pub returns-in-Err-clause-err : goal.returns-in-Err-clause-err
+returns-in-Err-clause-err g c =
     let end : End = record { node = c.args.node; port = c.args.port } in
-    let is = judge_is g.row.C c.args.self.now c.args.node c.args.port (sym c.fault_of_port.ensures.exact ∙ c.in_default.is) in
-    let held = sym c.in-Ok-Some.field-0-is ∙ c.in-Ok-Some.ensures.ok in
-    let worker = ap (λ (k : ℕ). entered g.row.C c.args.self.now k c.args.node (event.Arrive c.args.port c.in-Ok-Some.carried)) (sym c.port_worker.ensures) in (
-      c.in-Err-enter_at.ensures.err.0,
-      or_map (λ e. is ∙ judged_err g.row.C c.args.self.now end c.in-Ok-Some.carried c.in-Err-enter_at.fault held (worker ∙ e)) c.in-Err-enter_at.ensures.err.1,
+    let w : World = c.args.self.now in
+    let fault = sym c.fault_of_port.ensures.exact ∙ c.in_default.is in
+    let is = judge_is g.row.C w c.args.node c.args.port fault in
+    let spot = option_map spot_view c.port_of-spot.result.into in
+    let at = ap (λ (p : Port). option_map spot_view p.into) c.port_of-spot.ensures ∙ into_there w.places w.spans c.args.ports.now c.args.node c.args.port c.requires (is_there w.places c.args.node c.args.port fault) in
+    let held = sym c.change_hand.ensures.was ∙ c.in-Some-change_hand.is in
+    let copy = c.in-Some-change_hand.carried in
+    let worker = ap (λ (k : ℕ). entered g.row.C c.change_hand.new.self k c.args.node (event.Arrive c.args.port copy)) (sym c.port_worker.ensures) in (
+      held_again w c.enter_at.new.self c.give_back.new.self spot c.args.port copy c.in-Err.event (c.in-Err.ensures.err.0 ∙ c.change_hand.ensures.now) held c.in-Err.ensures.err.1 c.give_back.ensures,
+      or_map (λ e. is ∙ (judged_from g.row.C w c.change_hand.new.self end spot copy at held c.change_hand.ensures.now ∙ ap (cleared_result end) (worker ∙ e))) c.in-Err.ensures.err.2,
     )
