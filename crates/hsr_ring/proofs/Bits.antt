@@ -1,5 +1,5 @@
 -- Bits that are set and cleared.
-use Rattle.std.proofs.Common.{◌≡◌, ◌⊎◌, ◌==◌, ◌<◌, ◌≤◌, ◌+◌, ◌*◌, ◌/◌, ◌%◌, ◌^◌, ◌-◌, ℕ, Bool, true, false, List, length, Some, refl, ap, ap₂, sym, ◌∙◌, subst, arith, eqb-true, eq-eqb, nat_lt, inl, inr, ⊎_elim, bit_or, bit_and, w64}
+use Rattle.std.proofs.Common.{◌≡◌, ◌⊎◌, ◌==◌, ◌<◌, ◌≤◌, ◌+◌, ◌*◌, ◌/◌, ◌%◌, ◌^◌, ℕ, Bool, true, false, List, length, Some, refl, ap, ap₂, sym, ◌∙◌, arith, eqb-true, eq-eqb, nat_lt, inl, inr, ⊎_elim, bit_or, bit_and, w64}
 use Rattle.std.specs.Prelude.{if◌then◌else◌, slice_index_or}
 use Rattle.std.specs.Int.{bit_at, bit_not, trailing_zeros}
 use Rattle.std.proofs.lemmas.Nat.Bits.{bit_at_set_same, bit_at_set_other, bit_at_clear_same, bit_at_clear_other, bit_at-trailing_zeros}

@@ -1,12 +1,10 @@
 -- What an entry makes of the nodes and spans of the code.
-use Rattle.std.proofs.Common.{◌≡◌, ◌⊎◌, inl, inr, ℕ, ◌<◌, ◌+◌, List, [], ◌∷◌, ◌++◌, map, max, reverse, set, get_or, length, Some, None, Result, Ok, Err, refl, sym, ap, ap₂, ◌∙◌, subst, arith}
+use Rattle.std.proofs.Common.{◌≡◌, ◌⊎◌, inl, inr, ℕ, ◌<◌, ◌+◌, List, [], ◌∷◌, ◌++◌, map, max, reverse, set, get_or, length, None, Result, Ok, Err, refl, sym, ap, ap₂, ◌∙◌, subst, arith}
 use Rattle.std.proofs.lemmas.List.FromFn.{get_or-range_with_len}
 use Rattle.std.proofs.lemmas.List.{map-set, get_or-map, length-map, length-set, length-append, length-reverse, reverse-append, get_or-set_same, get_or_push}
 use Rattle.std.specs.List.{range_with_len}
 use Rattle.hsr_law.specs.Run.{owner_in, record_in}
 use Rattle.hsr_topology.specs.declared.end.End.{End}
-use Rattle.hsr_node.specs.declared.event.Carried.{Carried}
-use Rattle.hsr_node.specs.declared.event.Event.TheVariants as event
 use Rattle.hsr_node.specs.Kept.{Record, answer_to, owner_of, past_of}
 use Rattle.hsr_node.specs.Record.{Owner, answer, now}
 use Rattle.hsr_node.specs.declared.kept.Answer.{Answer}
@@ -22,7 +20,7 @@ use Rattle.hsr_ring.specs.Entering.{IsEntered, IsNotEntered, IsRefusal, IsSteppe
 use Rattle.hsr_ring.specs.Giving.{emptied_span, given_lane, given_span, receipt_of}
 use Rattle.hsr_world.specs.Spans.{Span, emptied, held_in, lanes_of, on_lanes, spread}
 use Rattle.hsr_ring.specs.Views.{AreNumbered, span_view, world_of}
-use Rattle.hsr_world.specs.World.{World, added, and_added, cleared, entered, judged_at, planned, port_worker}
+use Rattle.hsr_world.specs.World.{World, added, and_added, cleared, entered, judged_at, planned}
 use Rattle.hsr_ring.specs.declared.span.Span as code
 use Rattle.hsr_step.specs.declared.step.WorldFault.{WorldFault}
 use Rattle.hsr_step.specs.declared.step.WorldFault.TheVariants.{NoMemory, Node, Nothing}

@@ -1,6 +1,6 @@
 -- What a port holds leaves its hand, and comes back.
 use Rattle.std.specs.Prelude.{if◌then◌else◌}
-use Rattle.std.proofs.Common.{◌≡◌, ℕ, zero, suc, Bool, true, false, List, [], ◌∷◌, map, set, Option, Some, None, Result, Ok, Err, refl, ap, sym, ◌∙◌}
+use Rattle.std.proofs.Common.{◌≡◌, ℕ, zero, suc, Bool, true, false, List, [], ◌∷◌, set, Option, Some, None, refl, ap, sym, ◌∙◌}
 use Rattle.hsr_topology.specs.Links.{is_same_end}
 use Rattle.hsr_topology.specs.declared.end.End.{End}
 use Rattle.hsr_topology.proofs.Ends.{end_same}
@@ -11,9 +11,8 @@ use Rattle.hsr_node.specs.declared.event.Event.{Event}
 use Rattle.hsr_node.specs.declared.event.Event.TheVariants as event
 use Rattle.hsr_world.specs.Spans.{Lane, Span, Spot, emptied, held_in, lane_of, lanes_of, on_lanes}
 use Rattle.hsr_world.specs.World.{World, cleared, entered, judged_at, port_worker, span_in}
-use Rattle.hsr_ring.specs.Hands.{given_back, hand_in, handed, in_hand, with_hand}
+use Rattle.hsr_ring.specs.Hands.{given_back, hand_in, handed, in_hand}
 use Rattle.hsr_ring.specs.Ports.{spot_to}
-use Rattle.hsr_step.specs.declared.step.WorldFault.{WorldFault}
 use Rattle.hsr_world.proofs.Counts.{map_set_same}
 use Rattle.hsr_ring.proofs.Entered.{cleared_entered, cleared_result}
 use Rattle.hsr_ring.proofs.Ports.{hand_spot, spot_to_leads}

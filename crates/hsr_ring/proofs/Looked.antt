@@ -1,6 +1,6 @@
 -- What a step doesn't touch stays as it was, so a look at what it touches keeps the sets.
-use Rattle.std.specs.Prelude.{IfErr, OnOk, is_some, if◌then◌else◌, not, option_to_list}
-use Rattle.std.proofs.Common.{◌≡◌, ℕ, zero, suc, ◌+◌, ◌/◌, ◌%◌, ◌==◌, ◌<◌, ◌≤◌, ◌++◌, nat_lt, Bool, true, false, max, List, [], ◌∷◌, map, set, get_or, length, Option, Some, None, option_map, Result, Ok, Err, refl, ap, ap₂, sym, subst, ◌∙◌, arith, eqb-true, eq-eqb}
+use Rattle.std.specs.Prelude.{is_some, if◌then◌else◌, not, option_to_list}
+use Rattle.std.proofs.Common.{◌≡◌, ℕ, zero, suc, ◌/◌, ◌==◌, ◌≤◌, ◌++◌, nat_lt, Bool, true, false, max, List, [], ◌∷◌, map, set, get_or, length, Option, Some, None, option_map, Result, Ok, Err, refl, ap, ap₂, sym, subst, ◌∙◌, arith, eqb-true, eq-eqb}
 use Rattle.std.proofs.lemmas.Bool.{false≢true}
 use Rattle.std.proofs.lemmas.List.{length-map}
 use Rattle.hsr_topology.specs.Links.{is_same_end}
@@ -21,12 +21,11 @@ use Rattle.hsr_node.specs.declared.place.Place.{Place}
 use Rattle.hsr_world.specs.Fit.{FitsStep}
 use Rattle.hsr_world.specs.Spans.{Lane, Span, Spot, emptied, gift, held_in, lane_of, lanes_of, on_lanes, spot_from, spread, with_lane, with_link}
 use Rattle.hsr_node.specs.Flow.{pass_of}
-use Rattle.hsr_world.specs.World.{World, and_added, cleared, entered, has_link, has_node, has_port, if_port, is_empty, judged_at, new_span, new_world, no_lane, or_same, owner_at, planned, port_worker, put_at, put_from, record_at, span_at, span_in, take_to, taken_by, tried, waits_in, with_span}
+use Rattle.hsr_world.specs.World.{World, and_added, cleared, entered, has_link, has_node, has_port, is_empty, judged_at, new_span, new_world, no_lane, or_same, owner_at, planned, port_worker, put_at, put_from, record_at, span_at, span_in, take_to, taken_by, tried, waits_in, with_span}
 use Rattle.hsr_ring.specs.Numbers.{has}
-use Rattle.hsr_ring.specs.Pending.{AreLooked, ArePending, Has, IsKept, hand_of, is_at, is_by, link_at, looked, received_at, touches_box, touches_hand, touches_link}
-use Rattle.hsr_ring.specs.Ports.{AreTold, dir_at, end_at, held_at, is_held, is_ready, is_waiting, port_in, port_of, ports_in}
+use Rattle.hsr_ring.specs.Pending.{AreLooked, ArePending, IsKept, hand_of, is_at, is_by, link_at, touches_box, touches_hand, touches_link}
+use Rattle.hsr_ring.specs.Ports.{AreTold, dir_at, end_at, held_at, is_held, is_ready, is_waiting, port_in, ports_in}
 use Rattle.hsr_ring.specs.Views.{port_fault, spot_view}
-use Rattle.hsr_ring.specs.declared.numbers.Numbers.{Numbers}
 use Rattle.hsr_ring.specs.declared.pending.Pending.{Pending}
 use Rattle.hsr_ring.specs.declared.port.Port.{Port}
 use Rattle.hsr_step.specs.declared.step.Step.{Step}

@@ -16,7 +16,7 @@ use Rattle.hsr_node.specs.declared.place.Place.TheVariants.{QuadBox}
 use Rattle.hsr_world.specs.Spans.{Span}
 use Rattle.hsr_world.specs.World.{World, next_step, no_lane, ports_from, ports_of, span_in, take_from}
 use Rattle.hsr_world.specs.World as world
-use Rattle.hsr_ring.specs.Numbers.{IsLowest, has}
+use Rattle.hsr_ring.specs.Numbers.{IsLowest}
 use Rattle.hsr_ring.specs.Pending.{ArePending, Has, IsJudgeOr, IsNext, IsPutOr, take_at}
 use Rattle.hsr_ring.specs.Ports.{AreTold, dir_at, end_at, is_held, is_ready, is_waiting, no_port, port_if, port_in, port_of, held_at}
 use Rattle.hsr_ring.specs.Views.{port_fault, spot_view}

@@ -1,5 +1,5 @@
 -- A place of the spans of the code, and of the list of what is seen of them.
-use Rattle.std.proofs.Common.{◌≡◌, ◌⊎◌, inl, inr, ℕ, ◌<◌, zero, suc, List, [], ◌∷◌, map, set, get_or, length, Option, Some, None, Result, Ok, Err, refl, sym, ap, ◌∙◌, arith}
+use Rattle.std.proofs.Common.{◌≡◌, ◌⊎◌, inl, inr, ℕ, ◌<◌, List, [], ◌∷◌, map, set, get_or, length, Option, Some, None, Result, Ok, Err, refl, sym, ap, ◌∙◌, arith}
 use Rattle.hsr_step.specs.declared.step.WorldFault.TheVariants.{Nothing}
 use Rattle.std.specs.Prelude.{is_some, false, OnOk, IfErr}
 use Rattle.std.proofs.lemmas.List.{map-set, get_or-map}

@@ -1,5 +1,5 @@
 -- What a port holds, where it receives, and the spans with something else there.
-use Rattle.std.specs.Prelude.{ℕ, List, set, Option, Some, None}
+use Rattle.std.specs.Prelude.{List, set, Option, Some, None}
 use Rattle.hsr_link.specs.declared.row.Dir.{Dir}
 use Rattle.hsr_node.specs.declared.event.Carried.{Carried}
 use Rattle.hsr_node.specs.declared.event.Event.{Event}

@@ -1,6 +1,6 @@
 -- What is left to do in a world: the numbers of the ports that hold a copy, of those that have one to put, and of the directions in
 -- which one waits.
-use Rattle.std.specs.Prelude.{ℕ, ◌/◌, ◌%◌, ◌==◌, nat_lt, ◌≡◌, ◌<◌, ◌≤◌, Bool, true, false, if◌then◌else◌, List, length, Option, Some, None, option_map}
+use Rattle.std.specs.Prelude.{ℕ, ◌/◌, ◌==◌, nat_lt, ◌≡◌, ◌<◌, ◌≤◌, Bool, true, false, if◌then◌else◌, List, length, Option, Some, None, option_map}
 use Rattle.hsr_topology.specs.Links.{is_same_end}
 use Rattle.hsr_topology.specs.declared.end.End.{End}
 use Rattle.hsr_link.specs.declared.row.Dir.{Dir}
@@ -15,7 +15,7 @@ use Rattle.hsr_ring.specs.declared.numbers.Numbers.{Numbers}
 use Rattle.hsr_ring.specs.declared.pending.Pending.{Pending}
 use Rattle.hsr_ring.specs.declared.port.Port.{Port}
 use Rattle.hsr_step.specs.declared.step.Step.{Step}
-use Rattle.hsr_step.specs.declared.step.Step.TheVariants.{Clock, Send, Supervise, Age, Put, Take, Judge, Cut, Mend, Inject}
+use Rattle.hsr_step.specs.declared.step.Step.TheVariants.{Send, Supervise, Age, Put, Take, Judge, Cut, Inject}
 
 -- a set has exactly the numbers below 512 that pass a test
 abbrev pub Has : Numbers → (ℕ → Bool) → Type 0

@@ -1,5 +1,5 @@
 use Rattle.hsr_ring.proofs.Bits.{lowest_word}
-use Rattle.std.proofs.Common.{rules, arith}
+use Rattle.std.proofs.Common.{rules}
 use Rattle.hsr_ring.proofs.numbers.lowest_of.Goals as goal
 
 pub returns-then-word-ne0 : goal.returns-then-word-ne0

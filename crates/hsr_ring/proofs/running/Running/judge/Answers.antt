@@ -1,8 +1,7 @@
-use Rattle.std.proofs.Common.{ℕ, List, refl, sym, ap, ◌∙◌, inr, Ok, None, option_map}
+use Rattle.std.proofs.Common.{ℕ, refl, sym, ap, ◌∙◌, inr, Ok, None, option_map}
 use Rattle.hsr_topology.specs.declared.end.End.{End}
 use Rattle.hsr_node.specs.declared.event.Event.TheVariants as event
-use Rattle.hsr_world.specs.Spans.{Spot, held_in, lanes_of}
-use Rattle.hsr_world.specs.World.{World, entered, judged_at}
+use Rattle.hsr_world.specs.World.{World, entered}
 use Rattle.hsr_ring.specs.Views.{spot_view}
 use Rattle.hsr_ring.specs.declared.port.Port.{Port}
 use Rattle.hsr_ring.proofs.Places.{or_map}

@@ -1,10 +1,10 @@
-use Rattle.std.proofs.Common.{List, subst, sym, ap, ◌∙◌, map}
+use Rattle.std.proofs.Common.{List, subst, sym, ap, ◌∙◌}
 use Rattle.std.specs.List.{All}
 use Rattle.hsr_node.specs.declared.place.Place.{Place}
 use Rattle.hsr_ring.specs.Pending.{IsKept}
 use Rattle.hsr_ring.specs.Ports.{ports_in}
 use Rattle.hsr_world.specs.Fit.{FitsPlace}
-use Rattle.hsr_world.specs.World.{World, new_world}
+use Rattle.hsr_world.specs.World.{World}
 use Rattle.hsr_world.proofs.Reached.{reached-new}
 use Rattle.hsr_ring.proofs.Looked.{kept_new}
 use Rattle.hsr_ring.proofs.world.World.new.Goals as goal
