@@ -7,7 +7,8 @@ ghost use Rattle.hsr_closing.specs.InOrder.{PutsFit, TakensFit, came, came_by, p
 use crate::counts::is_as_often;
 use hsr_frame::NoMemory;
 use hsr_link::{Dir, Fate, Row};
-use hsr_node::{Carried, Entry, Event, Kept, Octets, Place, Probe, copy_out};
+use hsr_node::{Carried, Entry, Event, Kept, Octets, Place, Probe, spelled_out};
+use hsr_tag::Spelled;
 use std::alloc::Global;
 
 /// Which passage of a copy a row tells of.
@@ -59,10 +60,10 @@ fn probe_of(number: usize, place: usize, event: &Event) -> Option<Probe>
 }
 
 /// Whether a copy is of this send and has these octets.
-fn is_copy(copy: &Carried, probe: Option<Probe>, octets: &[u8]) -> bool
+fn is_copy(copy: &Carried, probe: Option<Probe>, octets: &Spelled<'_>) -> bool
     ensures { IsTrue result ↔ (copy.now ≡ record { probe = probe; octets = octets.now }) }
 {
-    copy.probe == probe && copy.octets.as_slice() == octets
+    copy.probe == probe && octets.is_same(copy.octets.as_slice())
 }
 
 /// The rows that are left where the first that was put is the copy that an entry passed, if it passed one.
@@ -77,11 +78,11 @@ fn after_pass<'a>(
 ) -> Option<&'a [Row]>
     ensures { IfSome result (λ left. told Put dir rows.now ≡ cons_option (passed_by (record { number = number; place = place.now }) port at entry.now) (told Put dir left.now)) }
 {
-    let Some(octets) = copy_out(place, &entry.event, &entry.outcome, port) else {
+    let Some(octets) = spelled_out(place, &entry.event, &entry.outcome, port) else {
         return Some(rows);
     };
     let (copy, left) = next_told(Passage::Put, dir, rows)?;
-    if is_copy(copy, probe_of(number, at, &entry.event), octets.as_slice()) {
+    if is_copy(copy, probe_of(number, at, &entry.event), &octets) {
         Some(left)
     } else {
         None
@@ -111,6 +112,13 @@ fn puts_in_order(
     next_told(Passage::Put, dir, left).is_none()
 }
 
+/// Whether they are one copy.
+fn is_same_copy(copy: &Carried, other: &Carried) -> bool
+    ensures { IsTrue result ↔ (copy.now ≡ other.now) }
+{
+    copy == other
+}
+
 /// The copy that came to a port with an entry.
 fn came_by<'a>(port: u8, entry: &'a Entry) -> Option<&'a Carried>
     ensures { option_map (λ c. c.now) result ≡ came_by port entry.now }
@@ -131,7 +139,7 @@ fn after_arrival<'a>(port: u8, entry: &Entry, dir: Dir, rows: &'a [Row]) -> Opti
         return Some(rows);
     };
     let (copy, left) = next_told(Passage::Taken, dir, rows)?;
-    if is_copy(copy, came.probe, came.octets.as_slice()) {
+    if is_same_copy(copy, came) {
         Some(left)
     } else {
         None
@@ -188,10 +196,10 @@ fn passed_by(
 ) -> Result<Option<Carried>, NoMemory>
     ensures { IfOk result (λ copy. copy ≡ passed_by (record { number = number; place = place.now }) port at entry.now) }
 {
-    let Some(octets) = copy_out(place, &entry.event, &entry.outcome, port) else {
+    let Some(octets) = spelled_out(place, &entry.event, &entry.outcome, port) else {
         return Ok(None);
     };
-    let octets = Octets::from_slice(alloc, octets.as_slice())?;
+    let octets = Octets::from_spelled(alloc, &octets)?;
     let probe = probe_of(number, at, &entry.event);
     Ok(Some(Carried { probe, octets }))
 }

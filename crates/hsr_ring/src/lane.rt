@@ -5,7 +5,8 @@ ghost use Rattle.hsr_ring.specs.Giving.{IsReady, given_lane, receipt_of};
 ghost use Rattle.hsr_ring.specs.Views.{lane_view};
 
 use hsr_frame::{MAX_FRAME, NoMemory};
-use hsr_node::{Carried, Entry, Event, Octets, Place, Probe, copy_out};
+use hsr_node::{Carried, Entry, Event, Octets, Place, Probe, spelled_out};
+use hsr_tag::Spelled;
 use hsr_topology::End;
 use std::alloc::Global;
 use std::collections::VecDeque;
@@ -44,46 +45,30 @@ fn probe_of(here: Probe, event: &Event) -> Option<Probe>
     }
 }
 
-/// These octets, in the room that was made.
-fn filled(room: Vec<u8>, octets: &[u8]) -> Octets
-    requires { length octets.now ≤ vec_capacity room }
-    ensures { result ≡ octets.now }
-{
-    let mut room = room;
-    room.clear();
-    let Ok(()) = room.extend_from_slice(octets) else {
-        unreachable!()
-    };
-    room.shrink_to_fit();
-    Octets::new(room)
-}
-
 /// These octets, in room of their own size; where that is refused, in the room that was made. So the latter is seldom used up,
 /// and the short copies don't lie apart in long rooms.
-fn fitted(alloc: Global, room: &mut Vec<u8>, octets: &[u8]) -> Octets
-    requires { length octets.now ≤ vec_capacity room.old }
-    ensures { result ≡ octets.now }
+fn fitted(alloc: Global, room: &mut Vec<u8>, copy: &Spelled<'_>) -> Octets
+    requires { length copy.now ≤ vec_capacity room.old }
+    ensures { result ≡ copy.now }
 {
-    match Octets::from_slice(alloc, octets) {
+    match Octets::from_spelled(alloc, copy) {
         Ok(fit) => fit,
-        Err(_refused) => filled(mem::replace(room, Vec::new(alloc)), octets),
+        Err(_refused) => Octets::spelled_in(mem::replace(room, Vec::new(alloc)), copy),
     }
 }
 
-/// The copy that leaves its node by a lane joins its outbox; `here` names the entry. It begins by clearing room for the
-/// longest copy, and so stands apart from what is done for each lane.
-#[inline(never)]
+/// The copy that leaves its node by a lane joins its outbox; `here` names the entry.
 fn add_copy(alloc: Global, lane: &mut Lane, place: &Place, here: Probe, entry: &Entry)
     requires node { lane.old.from.node ≡ here.node }
     requires ready { IsReady here.node lane.old }
     ensures { lane_view lane.new ≡ given_lane place.now (receipt_of here entry.now) (lane_view lane.old) }
 {
-    let Some(copy) = copy_out(place, &entry.event, &entry.outcome, lane.from.port) else {
+    let Some(copy) = spelled_out(place, &entry.event, &entry.outcome, lane.from.port) else {
         return;
     };
     let carried = Carried {
         probe: probe_of(here, &entry.event),
-        octets: fitted(alloc, &mut lane.room, copy.as_slice()),
+        octets: fitted(alloc, &mut lane.room, &copy),
     };
     let Ok(()) = lane.outbox.push_back(carried) else {
         unreachable!()
