@@ -3,7 +3,7 @@ ghost use Rattle.std.specs.Prelude.{◌≡◌, ◌++◌, ◌∷◌, [], if◌the
 ghost use Rattle.hsr_audit.specs.Listed.{is_for, listed_at, listed_by, receivers_below, sent_to};
 
 use hsr_frame::{Mac, Mode, NoMemory};
-use hsr_node::{Entry, Place, Probe, sent_by};
+use hsr_node::{Entry, Place, Probe, sent_view};
 use std::alloc::Global;
 use std::marker::Model;
 
@@ -35,7 +35,7 @@ fn sent_to(mac: Mac, x: &Entry) -> Option<Mac>
     ensures { result ≡ sent_to mac x.now }
 {
     let mode = Mode::H;
-    let sending = sent_by(&Place::Danh { mac, mode }, &x.event, &x.outcome)?;
+    let sending = sent_view(&Place::Danh { mac, mode }, &x.event, &x.outcome)?;
     Some(sending.frame.dst)
 }
 

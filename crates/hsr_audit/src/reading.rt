@@ -2,11 +2,12 @@
 ghost use Rattle.std.specs.Prelude.{◌≡◌, Ok, Some};
 ghost use Rattle.hsr_node.specs.Record.{key_in, number_in, own_key};
 ghost use Rattle.hsr_audit.specs.Logged.{exits_wanted, key_judged, noted_in, reading};
+ghost use Rattle.hsr_tag.specs.declared.seen.Seen.TheVariants.{Tagged};
 
 use hsr_duptable::Key;
 use hsr_frame::{Exits, FrameFault, Mac};
 use hsr_node::{Entry, Event, Outcome, Probe};
-use hsr_tag::{Seen, Tagged, classify};
+use hsr_tag::{EitherView, SeenView, TaggedView, look_at};
 use std::marker::Model;
 
 /// Where what came is wanted, its source and number, and its send; where it was noted, and under which source and
@@ -30,8 +31,8 @@ impl Model for Reading {
 
 /// Where a tagged frame that came to a port is wanted (IEC 62439-3 clause 5.3): up where it is for the node, and by the
 /// other port where it is neither from the node nor for it alone.
-fn tagged_exits(mac: Mac, port: u8, frame: &Tagged) -> Exits
-    ensures { result ≡ exits_wanted mac port (Ok (Seen.Tagged frame.now)) }
+fn tagged_exits(mac: Mac, port: u8, frame: &TaggedView<'_>) -> Exits
+    ensures { result ≡ exits_wanted mac port (Ok (Tagged frame.now)) }
 {
     if frame.src == mac || port > 1 {
         return Exits::none();
@@ -47,33 +48,37 @@ fn tagged_exits(mac: Mac, port: u8, frame: &Tagged) -> Exits
 }
 
 /// Where what came to a port is wanted.
-fn exits_wanted(mac: Mac, port: u8, seen: &Result<Seen, FrameFault>) -> Exits
+fn exits_wanted(mac: Mac, port: u8, seen: &Result<SeenView<'_>, FrameFault>) -> Exits
     ensures { result ≡ exits_wanted mac port seen.now }
 {
-    match seen {
-        Ok(Seen::Tagged(frame)) => tagged_exits(mac, port, frame),
-        Ok(Seen::Plain(_)) => Exits::none(),
-        Err(_) => Exits::none(),
+    let Ok(seen) = seen else {
+        return Exits::none();
+    };
+    match &seen.frame {
+        EitherView::Tagged(frame) => tagged_exits(mac, port, frame),
+        EitherView::Plain(_) => Exits::none(),
     }
 }
 
 /// The source and number of what came, with the number that it got where it had none.
-fn key_in(seen: &Result<Seen, FrameFault>, seq: Option<u16>) -> Option<Key>
+fn key_in(seen: &Result<SeenView<'_>, FrameFault>, seq: Option<u16>) -> Option<Key>
     ensures { result ≡ key_in seen.now seq }
 {
-    match seen {
-        Ok(Seen::Tagged(frame)) => Some(Key {
+    let Ok(seen) = seen else {
+        return None;
+    };
+    match &seen.frame {
+        EitherView::Tagged(frame) => Some(Key {
             src: frame.src,
             seq: frame.seq,
         }),
-        Ok(Seen::Plain(frame)) => {
+        EitherView::Plain(frame) => {
             let seq = seq?;
             Some(Key {
                 src: frame.src,
                 seq,
             })
         }
-        Err(_) => None,
     }
 }
 
@@ -118,7 +123,7 @@ fn own_key(mac: Mac, outcome: &Outcome) -> Option<Key>
 }
 
 /// The source and number of what came and had this outcome.
-fn key_judged(mac: Mac, seen: &Result<Seen, FrameFault>, outcome: &Outcome) -> Option<Key>
+fn key_judged(mac: Mac, seen: &Result<SeenView<'_>, FrameFault>, outcome: &Outcome) -> Option<Key>
     ensures { result ≡ key_judged mac seen.now outcome.now }
 {
     match outcome {
@@ -134,7 +139,7 @@ pub(crate) fn read(mac: Mac, here: Probe, x: &Entry) -> Reading
 {
     match &x.event {
         Event::Arrive { port, carried } => {
-            let seen = classify(carried.octets.as_slice());
+            let seen = look_at(carried.octets.as_slice());
             Reading {
                 wanted: exits_wanted(mac, *port, &seen),
                 came: key_in(&seen, None),

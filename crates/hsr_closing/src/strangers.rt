@@ -10,8 +10,8 @@ use crate::ends::Ends;
 use crate::links_agree::rows_at;
 use crate::numbers::Numbers;
 use hsr_link::Row;
-use hsr_node::{Carried, Kept, Probe, Sending, sent_by};
-use hsr_tag::{Frame, Seen, classify};
+use hsr_node::{Carried, Kept, Probe, SentView, sent_view};
+use hsr_tag::{EitherView, FrameView, look_at};
 use hsr_topology::{End, Topology};
 
 /// The number that the RedBox at the link of a Station gave to a send of it.
@@ -39,16 +39,16 @@ fn number_of<const C: usize>(
 }
 
 /// What the entry that a probe names sends.
-fn sent_at<const C: usize>(kept: &[Kept<C>], send: Probe) -> Option<Sending>
+fn sent_at<const C: usize>(kept: &[Kept<C>], send: Probe) -> Option<SentView<'_>>
     ensures { result ≡ sent_at kept.now send }
 {
     let kept = kept.get(send.node)?;
     let entry = kept.entries().get(send.place)?;
-    sent_by(kept.place(), &entry.event, &entry.outcome)
+    sent_view(kept.place(), &entry.event, &entry.outcome)
 }
 
 /// Whether two frames are one.
-fn is_same_frame(a: &Frame, b: &Frame) -> bool
+fn is_same_frame(a: &FrameView<'_>, b: &FrameView<'_>) -> bool
     ensures { IsTrue result ↔ (a.now ≡ b.now) }
 {
     a.dst == b.dst
@@ -59,16 +59,18 @@ fn is_same_frame(a: &Frame, b: &Frame) -> bool
 }
 
 /// Whether octets say what a frame says, and have this number where they are tagged.
-fn fits_send(number: Option<u16>, frame: &Frame, octets: &[u8]) -> bool
+fn fits_send(number: Option<u16>, frame: &FrameView<'_>, octets: &[u8]) -> bool
     ensures { IsTrue result ↔ FitsSend number frame.now octets.now }
 {
-    match classify(octets) {
-        Ok(Seen::Plain(plain)) => is_same_frame(&plain, frame),
-        Ok(Seen::Tagged(tagged)) => {
+    let Ok(seen) = look_at(octets) else {
+        return false;
+    };
+    match &seen.frame {
+        EitherView::Plain(plain) => is_same_frame(plain, frame),
+        EitherView::Tagged(tagged) => {
             let seq = tagged.seq;
             is_same_frame(&tagged.untag(), frame) && number == Some(seq)
         }
-        Err(_) => false,
     }
 }
 
