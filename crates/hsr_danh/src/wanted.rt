@@ -27,13 +27,17 @@ pub fn wants_of(
 
 /// What is wanted of a tagged frame.
 fn tagged_wants(own: Mac, mode: Mode, port: RingPort, frame: &TaggedView<'_>) -> Wants
-    ensures { result ≡ in_mode mode (wanted_tagged own port frame.now) }
+    ensures { result ≡ in_mode mode (wanted_tagged own mode port frame.now) }
 {
     if frame.src == own {
         return Wants::nowhere(Cause::Returned);
     }
     let goes_up = frame.dst == own || frame.dst.is_group();
-    let goes_on = frame.dst != own && mode == Mode::H;
+    let goes_on = match mode {
+        Mode::H => frame.dst != own,
+        Mode::N => false,
+        Mode::U => true,
+    };
     Wants::to(Exits {
         up: goes_up,
         a: goes_on && port == RingPort::B,

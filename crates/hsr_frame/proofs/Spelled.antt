@@ -7,13 +7,14 @@ use Rattle.hsr_frame.specs.declared.fault.FrameFault.TheVariants.{Short, Long, G
 use Rattle.hsr_frame.specs.declared.node.Cause.{Cause}
 use Rattle.hsr_frame.specs.declared.node.Cause.TheVariants.{Passed, Duplicate, Returned, Foreign, Local, Untagged, Tagged, Malformed}
 use Rattle.hsr_frame.specs.declared.node.Mode.{Mode}
-use Rattle.hsr_frame.specs.declared.node.Mode.TheVariants.{H, N}
+use Rattle.hsr_frame.specs.declared.node.Mode.TheVariants.{H, N, U}
 use Rattle.hsr_frame.specs.declared.node.RingPort.{RingPort}
 use Rattle.hsr_frame.specs.declared.node.RingPort.TheVariants.{A, B}
 
 pub mode_again : (mode : Mode) → mode_of (mode_word mode) ≡ Some mode
 mode_again H = refl
 mode_again N = refl
+mode_again U = refl
 
 pub port_again : (port : RingPort) → port_of (port_word port) ≡ Some port
 port_again A = refl

@@ -5,7 +5,7 @@ use Rattle.hsr_frame.specs.Layout.{ethertype_supervision}
 use Rattle.hsr_frame.specs.declared.node.Cause.{Cause}
 use Rattle.hsr_frame.specs.declared.node.Cause.TheVariants.{Passed, Duplicate, Foreign}
 use Rattle.hsr_frame.specs.declared.node.Mode.{Mode}
-use Rattle.hsr_frame.specs.declared.node.Mode.TheVariants.{H, N}
+use Rattle.hsr_frame.specs.declared.node.Mode.TheVariants.{H, N, U}
 use Rattle.hsr_frame.specs.declared.node.RingPort.{RingPort}
 use Rattle.hsr_frame.specs.declared.node.RingPort.TheVariants as ring
 use Rattle.hsr_frame.specs.declared.egress.Exits.{Exits}
@@ -54,9 +54,16 @@ abbrev pub beyond : RingPort → Egress
 beyond ring.A = b
 beyond ring.B = a
 
+-- where a unicast that the node delivers goes on round the ring: in mode U alone
+abbrev pub onward : Mode → RingPort → List Egress
+onward H x = []
+onward N x = []
+onward U x = beyond x ∷ []
+
 -- in mode N no frame goes on round the ring
 abbrev pub in_mode : Mode → Wants → Wants
 in_mode H wants = wants
+in_mode U wants = wants
 in_mode N wants = record wants { exits = record wants.exits { a = false; b = false } }
 
 abbrev pub is_any : Exits → Bool

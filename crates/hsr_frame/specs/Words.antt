@@ -11,7 +11,7 @@ use Rattle.hsr_frame.specs.declared.fault.FrameFault.TheVariants.{Short, Long, G
 use Rattle.hsr_frame.specs.declared.node.Cause.{Cause}
 use Rattle.hsr_frame.specs.declared.node.Cause.TheVariants.{Passed, Duplicate, Returned, Foreign, Local, Untagged, Tagged, Malformed}
 use Rattle.hsr_frame.specs.declared.node.Mode.{Mode}
-use Rattle.hsr_frame.specs.declared.node.Mode.TheVariants.{H, N}
+use Rattle.hsr_frame.specs.declared.node.Mode.TheVariants.{H, N, U}
 use Rattle.hsr_frame.specs.declared.node.RingPort.{RingPort}
 use Rattle.hsr_frame.specs.declared.node.RingPort.TheVariants.{A, B}
 
@@ -20,9 +20,10 @@ use Rattle.hsr_frame.specs.declared.node.RingPort.TheVariants.{A, B}
 abbrev pub mode_word : Mode → List ℕ
 mode_word H = codes "H"
 mode_word N = codes "N"
+mode_word U = codes "U"
 
 abbrev pub mode_of : List ℕ → Option Mode
-mode_of w = first_of ((bytes_eq w (codes "H"), Some H) ∷ (bytes_eq w (codes "N"), Some N) ∷ []) None
+mode_of w = first_of ((bytes_eq w (codes "H"), Some H) ∷ (bytes_eq w (codes "N"), Some N) ∷ (bytes_eq w (codes "U"), Some U) ∷ []) None
 
 -- ---- ring ports
 

@@ -9,6 +9,8 @@ pub enum Mode {
     H,
     /// No frame.
     N,
+    /// Mode H in which a node also forwards, between its ring ports, the unicast that it delivers.
+    U,
 }
 
 /// A port on the ring.

@@ -7,13 +7,14 @@ use crate::fault::FrameFault;
 use crate::node::{Cause, Mode, RingPort};
 
 impl Mode {
-    /// Its word in texts, `H` or `N`.
+    /// Its word in texts, `H`, `N` or `U`.
     pub fn word(self) -> &'static str
         ensures { result.now ≡ mode_word self }
     {
         match self {
             Mode::H => "H",
             Mode::N => "N",
+            Mode::U => "U",
         }
     }
 
@@ -28,6 +29,8 @@ impl Mode {
             Some(Mode::H)
         } else if word == b"N".as_slice() {
             Some(Mode::N)
+        } else if word == b"U".as_slice() {
+            Some(Mode::U)
         } else {
             None
         }

@@ -6,7 +6,7 @@ use Rattle.std.proofs.lemmas.List.{reverse-append}
 use Rattle.hsr_frame.specs.Address.{is_group, is_same_address}
 use Rattle.hsr_frame.specs.Cause.{is_duplicate, is_returned, is_foreign, is_local, is_untagged, is_tagged, is_malformed}
 use Rattle.hsr_frame.specs.Counters.{bit}
-use Rattle.hsr_frame.specs.Egress.{Egress, up, a, b, c, d, beyond, cause_of, nowhere, to}
+use Rattle.hsr_frame.specs.Egress.{Egress, up, a, b, c, d, beyond, cause_of, nowhere, onward, to}
 use Rattle.hsr_frame.specs.Send.{send_refusal}
 use Rattle.hsr_frame.specs.declared.counters.Counters.{Counters}
 use Rattle.hsr_frame.specs.declared.egress.Exits.{Exits}
@@ -18,7 +18,7 @@ use Rattle.hsr_frame.specs.declared.node.Cause.TheVariants.{Returned}
 use Rattle.hsr_frame.specs.declared.fault.Spent.{Spent as IsSpent}
 use Rattle.hsr_frame.specs.declared.node.Life.{Life}
 use Rattle.hsr_frame.specs.declared.node.Mode.{Mode}
-use Rattle.hsr_frame.specs.declared.node.Mode.TheVariants.{H, N}
+use Rattle.hsr_frame.specs.declared.node.Mode.TheVariants.{H, N, U}
 use Rattle.hsr_frame.specs.declared.node.RingPort.{RingPort}
 use Rattle.hsr_frame.specs.declared.node.RingPort.TheVariants as ring
 use Rattle.hsr_tag.specs.Seen.{classified, is_told, payload_in}
@@ -221,20 +221,24 @@ judged-tells number mac mode did past worker at port x copy v is_x t = record {
 -- ---- the verdict
 
 -- only up and the ring ports want an arrival
-only-two : (x : RingPort) (p q r : Bool) (e : Egress)
-    → let wants : Wants = if p then nowhere Returned else (if q then to (up ∷ []) else (if r then to (up ∷ beyond x ∷ []) else to (beyond x ∷ []))) in
+only-two : (mode : Mode) (x : RingPort) (p q r : Bool) (e : Egress)
+    → let wants : Wants = if p then nowhere Returned else (if q then to (up ∷ onward mode x) else (if r then to (up ∷ beyond x ∷ []) else to (beyond x ∷ []))) in
     (wants.exits.c ≡ false) × (wants.exits.d ≡ false)
-only-two x true q r e = (refl, refl)
-only-two x false true r e = (refl, refl)
-only-two ring.A false false true e = (refl, refl)
-only-two ring.B false false true e = (refl, refl)
-only-two ring.A false false false e = (refl, refl)
-only-two ring.B false false false e = (refl, refl)
+only-two mode x true q r e = (refl, refl)
+only-two H x false true r e = (refl, refl)
+only-two N x false true r e = (refl, refl)
+only-two U ring.A false true r e = (refl, refl)
+only-two U ring.B false true r e = (refl, refl)
+only-two mode ring.A false false true e = (refl, refl)
+only-two mode ring.B false false true e = (refl, refl)
+only-two mode ring.A false false false e = (refl, refl)
+only-two mode ring.B false false false e = (refl, refl)
 
 no-others : (mac : List ℕ) (mode : Mode) (x : RingPort) (frame : TaggedFields)
     → let wants : Wants = wanted mac mode x (Ok (Tagged frame)) in (wants.exits.c ≡ false) × (wants.exits.d ≡ false)
-no-others mac H x frame = only-two x (is_same_address frame.src mac) (is_same_address frame.dst mac) (is_group frame.dst) up
-no-others mac N x frame = only-two x (is_same_address frame.src mac) (is_same_address frame.dst mac) (is_group frame.dst) up
+no-others mac H x frame = only-two H x (is_same_address frame.src mac) (is_same_address frame.dst mac) (is_group frame.dst) up
+no-others mac N x frame = only-two N x (is_same_address frame.src mac) (is_same_address frame.dst mac) (is_group frame.dst) up
+no-others mac U x frame = only-two U x (is_same_address frame.src mac) (is_same_address frame.dst mac) (is_group frame.dst) up
 
 remembers-same : (capacity number : ℕ) (mac : List ℕ) (mode : Mode) (did : List Deed) (past : List Entry) (at : ℕ) (key : Key) (e : Egress) → Tells number mac mode did past
     → deeds.remembers_of capacity mac did at key e ≡ remembers capacity (owner_of number mac mode) past at key e

@@ -6,7 +6,7 @@ use Rattle.std.proofs.lemmas.List.{reverse-append}
 use Rattle.hsr_frame.specs.Address.{is_group, is_same_address}
 use Rattle.hsr_frame.specs.Cause.{is_duplicate, is_returned, is_foreign, is_local, is_untagged, is_tagged, is_malformed}
 use Rattle.hsr_frame.specs.Counters.{bit}
-use Rattle.hsr_frame.specs.Egress.{Egress, up, a, b, c, d, beyond, cause_of, is_supervision, nowhere, to, with_exit, has_exit}
+use Rattle.hsr_frame.specs.Egress.{Egress, up, a, b, c, d, beyond, cause_of, is_supervision, nowhere, onward, to, with_exit, has_exit}
 use Rattle.hsr_frame.specs.Grammar.{Fields}
 use Rattle.hsr_frame.specs.Send.{send_refusal}
 use Rattle.hsr_frame.specs.declared.counters.Counters.{Counters}
@@ -19,7 +19,7 @@ use Rattle.hsr_frame.specs.declared.fault.Spent.{Spent as IsSpent}
 use Rattle.hsr_frame.specs.declared.node.Cause.TheVariants as cause
 use Rattle.hsr_frame.specs.declared.node.Life.{Life}
 use Rattle.hsr_frame.specs.declared.node.Mode.{Mode}
-use Rattle.hsr_frame.specs.declared.node.Mode.TheVariants.{H, N}
+use Rattle.hsr_frame.specs.declared.node.Mode.TheVariants.{H, N, U}
 use Rattle.hsr_frame.specs.declared.node.RingPort.{RingPort}
 use Rattle.hsr_frame.specs.declared.node.RingPort.TheVariants as ring
 use Rattle.hsr_tag.specs.Seen.{classified, is_told, payload_in}
@@ -396,22 +396,29 @@ no-fourth : (mac : List ℕ) (mode : Mode) (knows : List ℕ → Bool) (x : Ring
     → (wanted mac mode knows x (Ok (Tagged frame))).exits.d ≡ false
 no-fourth mac mode knows x frame = by_mode mode
   where
-    by_case : (x : RingPort) (p q r s t : Bool)
-        → (if p then nowhere cause.Returned else (if q then to (up ∷ []) else (if r then to (up ∷ beyond x ∷ []) else (if s then to (up ∷ interlink ∷ beyond x ∷ [])
-        else (if t then to (interlink ∷ []) else to (beyond x ∷ [])))))).exits.d ≡ false
-    by_case x true q r s t = refl
-    by_case x false true r s t = refl
-    by_case ring.A false false true s t = refl
-    by_case ring.B false false true s t = refl
-    by_case ring.A false false false true t = refl
-    by_case ring.B false false false true t = refl
-    by_case x false false false false true = refl
-    by_case ring.A false false false false false = refl
-    by_case ring.B false false false false false = refl
+    by_case : (mode : Mode) (x : RingPort) (p q r s t : Bool)
+        → (if p then nowhere cause.Returned else (if q then to (up ∷ onward mode x) else (if r then to (up ∷ beyond x ∷ []) else (if s then to (up ∷ interlink ∷ beyond x ∷ [])
+        else (if t then to (interlink ∷ onward mode x) else to (beyond x ∷ [])))))).exits.d ≡ false
+    by_case mode x true q r s t = refl
+    by_case H x false true r s t = refl
+    by_case N x false true r s t = refl
+    by_case U ring.A false true r s t = refl
+    by_case U ring.B false true r s t = refl
+    by_case mode ring.A false false true s t = refl
+    by_case mode ring.B false false true s t = refl
+    by_case mode ring.A false false false true t = refl
+    by_case mode ring.B false false false true t = refl
+    by_case H x false false false false true = refl
+    by_case N x false false false false true = refl
+    by_case U ring.A false false false false true = refl
+    by_case U ring.B false false false false true = refl
+    by_case mode ring.A false false false false false = refl
+    by_case mode ring.B false false false false false = refl
 
     by_mode : (mode : Mode) → (wanted mac mode knows x (Ok (Tagged frame))).exits.d ≡ false
-    by_mode H = by_case x (is_same_address frame.src mac) (is_same_address frame.dst mac) (is_supervision frame.dst frame.kind) (is_group frame.dst) (knows frame.dst)
-    by_mode N = by_case x (is_same_address frame.src mac) (is_same_address frame.dst mac) (is_supervision frame.dst frame.kind) (is_group frame.dst) (knows frame.dst)
+    by_mode H = by_case H x (is_same_address frame.src mac) (is_same_address frame.dst mac) (is_supervision frame.dst frame.kind) (is_group frame.dst) (knows frame.dst)
+    by_mode N = by_case N x (is_same_address frame.src mac) (is_same_address frame.dst mac) (is_supervision frame.dst frame.kind) (is_group frame.dst) (knows frame.dst)
+    by_mode U = by_case U x (is_same_address frame.src mac) (is_same_address frame.dst mac) (is_supervision frame.dst frame.kind) (is_group frame.dst) (knows frame.dst)
 
 remembers-same : (capacity number : ℕ) (mac : List ℕ) (mode : Mode) (did : List Deed) (past : List Entry) (at : ℕ) (key : Key) (e : Egress) → Tells number mac mode did past
     → deeds.remembers_of capacity mac did at key e ≡ remembers capacity (owner_of number mac mode) past at key e

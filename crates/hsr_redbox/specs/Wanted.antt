@@ -3,7 +3,7 @@
 use Rattle.std.specs.Prelude.{List, [], ◌∷◌, ℕ, Bool, Some, None, Result, Ok, Err}
 use Rattle.hsr_frame.specs.Address.{is_group, is_same_address}
 use Rattle.hsr_frame.specs.Cases.{first_of}
-use Rattle.hsr_frame.specs.Egress.{Egress, up, a, b, c, beyond, in_mode, is_supervision, nowhere, to}
+use Rattle.hsr_frame.specs.Egress.{Egress, up, a, b, c, beyond, in_mode, is_supervision, nowhere, onward, to}
 use Rattle.hsr_frame.specs.declared.egress.Wants.{Wants}
 use Rattle.hsr_frame.specs.declared.fault.FrameFault.{FrameFault}
 use Rattle.hsr_frame.specs.declared.node.Cause.TheVariants.{Returned, Local, Untagged, Malformed}
@@ -22,13 +22,13 @@ interlink = c
 -- ---- an arrival at a ring port
 
 -- a tagged frame that came to ring port x
-abbrev pub wanted_tagged : List ℕ → (List ℕ → Bool) → RingPort → TaggedFields → Wants
-wanted_tagged own knows x frame = first_of
+abbrev pub wanted_tagged : List ℕ → Mode → (List ℕ → Bool) → RingPort → TaggedFields → Wants
+wanted_tagged own mode knows x frame = first_of
     ((is_same_address frame.src own, nowhere Returned)
-    ∷ (is_same_address frame.dst own, to (up ∷ []))
+    ∷ (is_same_address frame.dst own, to (up ∷ onward mode x))
     ∷ (is_supervision frame.dst frame.kind, to (up ∷ beyond x ∷ []))
     ∷ (is_group frame.dst, to (up ∷ interlink ∷ beyond x ∷ []))
-    ∷ (knows frame.dst, to (interlink ∷ []))
+    ∷ (knows frame.dst, to (interlink ∷ onward mode x))
     ∷ [])
     (to (beyond x ∷ []))
 
@@ -36,7 +36,7 @@ wanted_tagged own knows x frame = first_of
 abbrev pub wanted : List ℕ → Mode → (List ℕ → Bool) → RingPort → Result Seen FrameFault → Wants
 wanted own mode knows x (Err fault) = nowhere (Malformed fault)
 wanted own mode knows x (Ok (Plain frame)) = nowhere Untagged
-wanted own mode knows x (Ok (Tagged frame)) = in_mode mode (wanted_tagged own knows x frame)
+wanted own mode knows x (Ok (Tagged frame)) = in_mode mode (wanted_tagged own mode knows x frame)
 
 -- ---- a frame of the interlink, and one of the RedBox's own
 

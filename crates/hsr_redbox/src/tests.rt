@@ -13,8 +13,12 @@ const NODE: [u8; 6] = [2, 0, 0, 0, 0, 1];
 /// A group.
 const GROUP: [u8; 6] = [1, 0, 0x5E, 0, 0, 1];
 
+fn redbox_in(rt: &HostRuntime, mode: Mode) -> Result<RedBox<512>, Fail> {
+    Ok(RedBox::new(rt.alloc(), Mac::new(OWN), mode)?)
+}
+
 fn redbox(rt: &HostRuntime) -> Result<RedBox<512>, Fail> {
-    Ok(RedBox::new(rt.alloc(), Mac::new(OWN), Mode::H)?)
+    redbox_in(rt, Mode::H)
 }
 
 /// A frame with no payload.
@@ -85,6 +89,35 @@ fn redbox_between_ring_and_station(rt: HostRuntime) -> Result<(), Fail> {
             a: true,
             b: true,
             interlink: false
+        })
+    );
+    Ok(())
+}
+
+/// In mode U what the RedBox delivers goes on round the ring too.
+#[test]
+fn redbox_in_mode_u(rt: HostRuntime) -> Result<(), Fail> {
+    let mut node = redbox_in(&rt, Mode::U)?;
+    let none = nowhere(Cause::Passed);
+    assert!(rt; node.arrive(0, BoxPort::I, &plain(NODE, STATION)).is_ok());
+    assert_eq!(rt;
+        node.arrive(10, BoxPort::A, &tagged(STATION, NODE, 0)),
+        Ok(BoxVerdict {
+            interlink: true,
+            b: true,
+            ..none
+        })
+    );
+    assert_eq!(rt;
+        node.arrive(10, BoxPort::B, &tagged(STATION, NODE, 0)),
+        Ok(BoxVerdict { a: true, ..none })
+    );
+    assert_eq!(rt;
+        node.arrive(10, BoxPort::A, &tagged(OWN, NODE, 1)),
+        Ok(BoxVerdict {
+            up: true,
+            b: true,
+            ..none
         })
     );
     Ok(())

@@ -1,6 +1,6 @@
 //! Which egresses want a frame.
 ghost use Rattle.std.specs.Prelude.{[], ◌∷◌, ◌≡◌, ◌≤◌, Option, Result};
-ghost use Rattle.hsr_frame.specs.Egress.{Egress, beyond, exits_of, in_mode, to, up};
+ghost use Rattle.hsr_frame.specs.Egress.{Egress, beyond, exits_of, in_mode, onward, to, up};
 ghost use Rattle.hsr_tables.specs.Proxies.{is_known};
 ghost use Rattle.hsr_redbox.specs.Wanted.{handling_interlink, handling_plain, handling_send, interlink, numbered, unnumbered, wanted, wanted_tagged};
 
@@ -17,7 +17,7 @@ pub struct Handling {
 }
 
 /// The ring port from which a frame goes on.
-fn onward(x: RingPort) -> Exits
+fn beyond(x: RingPort) -> Exits
     ensures { result ≡ exits_of (beyond x ∷ []) }
 {
     match x {
@@ -29,6 +29,16 @@ fn onward(x: RingPort) -> Exits
             a: true,
             ..Exits::none()
         },
+    }
+}
+
+/// The ring port from which a unicast that is delivered goes on, in mode U.
+fn onward(mode: Mode, x: RingPort) -> Exits
+    ensures { result ≡ exits_of (onward mode x) }
+{
+    match mode {
+        Mode::H | Mode::N => Exits::none(),
+        Mode::U => beyond(x),
     }
 }
 
@@ -50,7 +60,7 @@ pub fn ring_wants(
     };
     match &seen.frame {
         EitherView::Plain(_) => Wants::nowhere(Cause::Untagged),
-        EitherView::Tagged(frame) => in_mode(mode, tagged_wants(own, proxies, x, frame, now)),
+        EitherView::Tagged(frame) => in_mode(mode, tagged_wants(own, mode, proxies, x, frame, now)),
     }
 }
 
@@ -59,7 +69,7 @@ fn in_mode(mode: Mode, wants: Wants) -> Wants
     ensures { result ≡ in_mode mode wants }
 {
     match mode {
-        Mode::H => wants,
+        Mode::H | Mode::U => wants,
         Mode::N => Wants {
             exits: Exits {
                 a: false,
@@ -74,21 +84,25 @@ fn in_mode(mode: Mode, wants: Wants) -> Wants
 /// What is wanted of a tagged frame of the ring.
 fn tagged_wants(
     own: Mac,
+    mode: Mode,
     proxies: &ProxyTable,
     x: RingPort,
     frame: &TaggedView<'_>,
     now: u64,
 ) -> Wants
     requires { proxies.now.last ≤ now }
-    ensures { result ≡ wanted_tagged own (is_known now proxies.now.heard) x frame.now }
+    ensures { result ≡ wanted_tagged own mode (is_known now proxies.now.heard) x frame.now }
 {
-    let none = Exits::none();
-    let on = onward(x);
+    let on = beyond(x);
+    let delivered_on = onward(mode, x);
     if frame.src == own {
         return Wants::nowhere(Cause::Returned);
     }
     if frame.dst == own {
-        return Wants::to(Exits { up: true, ..none });
+        return Wants::to(Exits {
+            up: true,
+            ..delivered_on
+        });
     }
     if is_supervision(frame.dst, frame.kind) {
         return Wants::to(Exits { up: true, ..on });
@@ -101,7 +115,10 @@ fn tagged_wants(
         });
     }
     if proxies.knows(frame.dst, now) {
-        return Wants::to(Exits { c: true, ..none });
+        return Wants::to(Exits {
+            c: true,
+            ..delivered_on
+        });
     }
     Wants::to(on)
 }
