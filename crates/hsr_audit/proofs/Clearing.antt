@@ -1,19 +1,18 @@
 -- From what is found in the records of a ring to its first doubt.
 use Rattle.std.proofs.Common.{◌≡◌, ℕ, ◌+◌, ◌<◌, ◌≤◌, true, false, List, ◌∷◌, ◌++◌, length, reverse, take, slice_index_or, Some, refl, sym, ap, ◌∙◌, subst, arith, zero, suc, take_all, ⊎_elim}
 use Rattle.std.proofs.lemmas.Bool.{cases_lt}
-use Rattle.hsr_frame.specs.declared.node.Mode.TheVariants.{H}
+use Rattle.hsr_frame.specs.declared.node.Mode.{Mode}
 use Rattle.hsr_node.specs.Record.{Each, now}
 use Rattle.hsr_node.specs.declared.entry.Entry.{Entry}
 use Rattle.hsr_node.specs.declared.place.Place.{Place}
 use Rattle.hsr_node.specs.declared.place.Place.TheVariants.{Danh}
-use Rattle.hsr_audit.specs.Doubts.{HoldsAt, IsFirstDoubt, IsFirstFault, IsFirstNot, IsPremised, IsRefused, KnowsOwnAt, RemembersAt, mac_of}
+use Rattle.hsr_audit.specs.Doubts.{HoldsAt, IsFirstDoubt, IsFirstFault, IsFirstNot, IsPremised, IsRefused, KnowsOwnAt, RemembersAt, mac_of, mode_of}
 use Rattle.hsr_audit.specs.declared.doubt.AuditFault.{AuditFault}
 use Rattle.hsr_audit.specs.declared.doubt.AuditFault.TheVariants.{Doubt, NoMemory}
 use Rattle.hsr_audit.specs.declared.doubt.Doubt as doubts
 use Rattle.hsr_audit.specs.declared.doubt.Doubt.TheVariants as doubt
-use Rattle.hsr_audit.specs.Certificate.{Certified, IsCertified, certified_below, certified_in}
+use Rattle.hsr_audit.specs.Certificate.{Certified, IsCertified, certified}
 use Rattle.hsr_law.specs.Closed.{IsClosed}
-use Rattle.hsr_audit.specs.Listed.{listed_below}
 use Rattle.hsr_law.specs.Once.{ExactlyOnce}
 use Rattle.hsr_audit.specs.Round.{IsClear, IsOwnRing}
 use Rattle.hsr_topology.specs.Wired.{IsWired}
@@ -59,20 +58,20 @@ from_each P xs each i under = λ d.
 
 -- ---- a place by its past alone
 
-forgets_same : (capacity number : ℕ) (mac : List ℕ) (xs : List Entry) (i : ℕ) (d : Entry) → i < length xs →
-    forgets capacity number mac xs i d ≡ forgets_on capacity number mac (slice_index_or xs i d) (reverse (take i xs))
-forgets_same capacity number mac xs i d under =
-    ap (λ n. forgets_in capacity (log_at number mac xs i) (reading mac (record { node = number; place = n }) (slice_index_or xs i d)) (slice_index_or xs i d).at) (sym (past_length xs i (omega (arith, under))))
+forgets_same : (capacity number : ℕ) (mac : List ℕ) (mode : Mode) (xs : List Entry) (i : ℕ) (d : Entry) → i < length xs →
+    forgets capacity number mac mode xs i d ≡ forgets_on capacity number mac mode (slice_index_or xs i d) (reverse (take i xs))
+forgets_same capacity number mac mode xs i d under =
+    ap (λ n. forgets_in capacity (log_at number mac mode xs i) (reading mac mode (record { node = number; place = n }) (slice_index_or xs i d)) (slice_index_or xs i d).at) (sym (past_length xs i (omega (arith, under))))
 
-mistakes_same : (capacity number : ℕ) (mac : List ℕ) (xs : List Entry) (i : ℕ) (d : Entry) → i < length xs →
-    mistakes capacity number mac xs i d ≡ mistakes_on capacity number mac (slice_index_or xs i d) (reverse (take i xs))
-mistakes_same capacity number mac xs i d under =
-    ap (λ n. mistakes_in capacity (log_at number mac xs i) (reading mac (record { node = number; place = n }) (slice_index_or xs i d)) (slice_index_or xs i d).at) (sym (past_length xs i (omega (arith, under))))
+mistakes_same : (capacity number : ℕ) (mac : List ℕ) (mode : Mode) (xs : List Entry) (i : ℕ) (d : Entry) → i < length xs →
+    mistakes capacity number mac mode xs i d ≡ mistakes_on capacity number mac mode (slice_index_or xs i d) (reverse (take i xs))
+mistakes_same capacity number mac mode xs i d under =
+    ap (λ n. mistakes_in capacity (log_at number mac mode xs i) (reading mac mode (record { node = number; place = n }) (slice_index_or xs i d)) (slice_index_or xs i d).at) (sym (past_length xs i (omega (arith, under))))
 
--- ---- the records of DANHs in mode H with these addresses
+-- ---- the records of DANHs with these addresses
 
 abbrev AreNodes : Run → List (List ℕ) → Type 0
-AreNodes run macs = (k : ℕ) → k < length run.places → place_of run k ≡ Danh (mac_at macs k) H
+AreNodes run macs = (k : ℕ) → k < length run.places → place_of run k ≡ Danh (mac_at macs k) (mode_of (place_of run k))
 
 module _ (run : Run) (macs : List (List ℕ)) (nodes : AreNodes run macs) where
   abbrev entry_of : ℕ → ℕ → Entry → Entry
@@ -90,21 +89,21 @@ module _ (run : Run) (macs : List (List ℕ)) (nodes : AreNodes run macs) where
   remembers_at : (k i : ℕ) → k < length run.places → i < length (record_of run k) → ((d : Entry) → at_node forgets run macs k i d ≡ false) → RemembersAt run k i
   remembers_at k i below under h = λ d.
       subst (RemembersAs k i d) (sym (nodes k below))
-      (remembers run.capacity k (mac_at macs k) (entry_of k i d) (before_of k i) (sym (forgets_same run.capacity k (mac_at macs k) (record_of run k) i d under) ∙ h d))
+      (remembers run.capacity k (mac_at macs k) (mode_of (place_of run k)) (entry_of k i d) (before_of k i) (sym (forgets_same run.capacity k (mac_at macs k) (mode_of (place_of run k)) (record_of run k) i d under) ∙ h d))
 
   not_remembers : (k i : ℕ) → k < length run.places → i < length (record_of run k) → ((d : Entry) → at_node forgets run macs k i d ≡ true) → RemembersAt run k i → ⊥
   not_remembers k i below under h all =
-      forgotten run.capacity k (mac_at macs k) (entry_of k i no_entry) (before_of k i) (sym (forgets_same run.capacity k (mac_at macs k) (record_of run k) i no_entry under) ∙ h no_entry)
+      forgotten run.capacity k (mac_at macs k) (mode_of (place_of run k)) (entry_of k i no_entry) (before_of k i) (sym (forgets_same run.capacity k (mac_at macs k) (mode_of (place_of run k)) (record_of run k) i no_entry under) ∙ h no_entry)
       (subst (RemembersAs k i no_entry) (nodes k below) (all no_entry))
 
   knows_at : (k i : ℕ) → k < length run.places → i < length (record_of run k) → ((d : Entry) → at_node mistakes run macs k i d ≡ false) → KnowsOwnAt run k i
   knows_at k i below under h = λ d.
       subst (KnowsAs k i d) (sym (nodes k below))
-      (knows_own run.capacity k (mac_at macs k) (entry_of k i d) (before_of k i) (sym (mistakes_same run.capacity k (mac_at macs k) (record_of run k) i d under) ∙ h d))
+      (knows_own run.capacity k (mac_at macs k) (mode_of (place_of run k)) (entry_of k i d) (before_of k i) (sym (mistakes_same run.capacity k (mac_at macs k) (mode_of (place_of run k)) (record_of run k) i d under) ∙ h d))
 
   not_knows : (k i : ℕ) → k < length run.places → i < length (record_of run k) → ((d : Entry) → at_node mistakes run macs k i d ≡ true) → KnowsOwnAt run k i → ⊥
   not_knows k i below under h all =
-      mistaken run.capacity k (mac_at macs k) (entry_of k i no_entry) (before_of k i) (sym (mistakes_same run.capacity k (mac_at macs k) (record_of run k) i no_entry under) ∙ h no_entry)
+      mistaken run.capacity k (mac_at macs k) (mode_of (place_of run k)) (entry_of k i no_entry) (before_of k i) (sym (mistakes_same run.capacity k (mac_at macs k) (mode_of (place_of run k)) (record_of run k) i no_entry under) ∙ h no_entry)
       (subst (KnowsAs k i no_entry) (nodes k below) (all no_entry))
 
   pub nothing_forgotten : ClearBelow forgets run macs (length run.places) → NothingForgotten run
@@ -161,7 +160,7 @@ record_doubt_is run macs own nodes losses (doubt.Forgot k i) is = (own.ring, own
 record_doubt_is run macs own nodes losses (doubt.Mistaken k i) is = (own.ring, own.modes, own.own, losses, nothing_forgotten run macs nodes is.0, first_mistaken run macs nodes k i is.1)
 
 pub own_nodes : (run : Run) (macs : List (List ℕ)) → IsOwnRing run macs → AreNodes run macs
-own_nodes run macs own = λ k below. danh_at run own.ring own.modes k below ∙ ap (λ ms. Danh (mac_at ms k) H) (sym own.macs_is)
+own_nodes run macs own = λ k below. danh_at run own.ring k below ∙ ap (λ ms. Danh (mac_at ms k) (mode_of (place_of run k))) (sym own.macs_is)
 
 pub own_many : (run : Run) (macs : List (List ℕ)) → IsOwnRing run macs → length macs ≡ length run.places
 own_many run macs own = ap length own.macs_is ∙ length-map run.places mac_of
@@ -181,14 +180,7 @@ fault_refuses run NoMemory first = tt
 
 -- ---- the certificate
 
-listed_is : (run : Run) (macs : List (List ℕ)) → AreNodes run macs → (n : ℕ) → n ≤ length run.places → listed_below run macs n ≡ certified_below run macs n
-listed_is run macs nodes zero low = refl
-listed_is run macs nodes (suc k) low =
-    let below : k < length run.places = omega (arith, low) in
-    ap (λ sends. sends ++ certified_in macs (record { number = k; place = Danh (mac_at macs k) H }) (past_of run k)) (listed_is run macs nodes k (omega (arith, low)))
-    ∙ ap (λ place. certified_below run macs k ++ certified_in macs (record { number = k; place = place }) (past_of run k)) (sym (nodes k below))
-
-pub certified_is : (run : Run) (macs : List (List ℕ)) (sends : List Certified) → IsWired run.places run.links × IsClosed run → ExactlyOnce → IsClear run macs → sends ≡ listed_below run macs (length macs) →
+pub certified_is : (run : Run) (macs : List (List ℕ)) (sends : List Certified) → IsWired run.places run.links × IsClosed run → ExactlyOnce → IsClear run macs → sends ≡ certified run macs →
     IsCertified run sends
 certified_is run macs sends finished law clear listed =
     let own = clear.ring in
@@ -196,6 +188,6 @@ certified_is run macs sends finished law clear listed =
     record {
       macs = macs;
       premised = record { ring = ring; losses = clear.losses; forgotten = clear.forgotten; mistaken = clear.mistaken };
-      listed = listed ∙ (ap (listed_below run macs) (own_many run macs own) ∙ listed_is run macs (own_nodes run macs own) (length run.places) (omega arith));
+      listed = listed;
       once = law run macs finished.1 ring clear.losses clear.forgotten clear.mistaken;
     }

@@ -2,6 +2,7 @@
 use Rattle.std.proofs.Common.{◌≡◌, ℕ, ◌+◌, ◌<◌, ◌≤◌, List, [], ◌∷◌, ◌++◌, length, take, reverse, Option, Some, None, sym, ap, ◌∙◌, subst, arith, slice_index_or, append-nil, append_assoc}
 use Rattle.std.specs.List.{cons_option}
 use Rattle.std.proofs.lemmas.List.{reverse-append, length-reverse, length-take, take_more}
+use Rattle.hsr_frame.specs.declared.node.Mode.{Mode}
 use Rattle.hsr_node.specs.declared.entry.Entry.{Entry}
 use Rattle.hsr_audit.specs.Logged.{log_at, logged, logged_after, reading_at}
 
@@ -13,12 +14,12 @@ past_more xs i d below = ap reverse (take_more xs i d below) ∙ reverse-append 
 pub past_length : (xs : List Entry) (i : ℕ) → i ≤ length xs → length (reverse (take i xs)) ≡ i
 past_length xs i below = let taken = length-take i xs in length-reverse (take i xs) ∙ (let e : length (take i xs) ≡ i = omega (arith, taken, below) in e)
 
-pub log_more : (number : ℕ) (mac : List ℕ) (xs : List Entry) (i : ℕ) (d : Entry) → i < length xs →
-    logged_after (log_at number mac xs i) (reading_at number mac i (slice_index_or xs i d)) (slice_index_or xs i d).at ≡ log_at number mac xs (i + 1)
-log_more number mac xs i d below =
+pub log_more : (number : ℕ) (mac : List ℕ) (mode : Mode) (xs : List Entry) (i : ℕ) (d : Entry) → i < length xs →
+    logged_after (log_at number mac mode xs i) (reading_at number mac mode i (slice_index_or xs i d)) (slice_index_or xs i d).at ≡ log_at number mac mode xs (i + 1)
+log_more number mac mode xs i d below =
     let x = slice_index_or xs i d in
-    let P : ℕ → Type 0 = λ n. logged_after (log_at number mac xs i) (reading_at number mac n x) x.at ≡ logged number mac (reverse (take (i + 1) xs)) in
-    subst P (past_length xs i (omega (arith, below))) (sym (ap (logged number mac) (past_more xs i d below)))
+    let P : ℕ → Type 0 = λ n. logged_after (log_at number mac mode xs i) (reading_at number mac mode n x) x.at ≡ logged number mac mode (reverse (take (i + 1) xs)) in
+    subst P (past_length xs i (omega (arith, below))) (sym (ap (logged number mac mode) (past_more xs i d below)))
 
 -- what may be put before others
 pub append_option : {X : Type 0} (xs : List X) (o : Option X) (ys : List X) → (xs ++ cons_option o []) ++ ys ≡ xs ++ cons_option o ys

@@ -6,6 +6,7 @@ use Rattle.std.proofs.lemmas.Bool.Decides.{nat_tests}
 use Rattle.std.proofs.lemmas.List.{reverse-append, reverse-reverse, length-reverse}
 use Rattle.std.proofs.lemmas.Option.{none-some, slice_get_within}
 use Rattle.std.proofs.Math.Nat.{le-max_left}
+use Rattle.hsr_frame.specs.declared.node.Mode.{Mode}
 use Rattle.hsr_duptable.specs.Key.{Key, is_same_key}
 use Rattle.hsr_duptable.specs.Notes.{entry_forget}
 use Rattle.hsr_node.specs.Record.{Noted, note_if, remembered}
@@ -228,13 +229,13 @@ noted_up_to m at notes is key probe aged = by_note is key
     by_note true (Some k) =
         subst (AreUpTo (max m at)) (sym (turned notes (record { key = k; moment = max m at; probe = probe }))) (omega arith, later)
 
-pub logged_aged : (number : ℕ) (mac : List ℕ) (past : List Entry) → IsAged (logged number mac past)
+pub logged_aged : (number : ℕ) (mac : List ℕ) (mode : Mode) (past : List Entry) → IsAged (logged number mac mode past)
 unfolding logged_after
-logged_aged number mac [] = record { up = tt; a = tt; b = tt }
-logged_aged number mac (x ∷ past) =
-    let before = logged_aged number mac past in
-    let log = logged number mac past in
-    let r = reading mac (record { node = number; place = length past }) x in
+logged_aged number mac mode [] = record { up = tt; a = tt; b = tt }
+logged_aged number mac mode (x ∷ past) =
+    let before = logged_aged number mac mode past in
+    let log = logged number mac mode past in
+    let r = reading mac mode (record { node = number; place = length past }) x in
     record {
       up = noted_up_to log.moment x.at log.up r.noted.up r.key r.probe before.up;
       a = noted_up_to log.moment x.at log.a r.noted.a r.key r.probe before.a;

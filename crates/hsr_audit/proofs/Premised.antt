@@ -1,14 +1,14 @@
 -- What is asked of nodes and links, and of all places of all records, and what it is to be a ring without a doubt.
-use Rattle.std.proofs.Common.{◌≡◌, ℕ, ◌+◌, ◌%◌, ◌<◌, ◌&&◌, Bool, true, List, [], ◌∷◌, length, map, filter_map, take, slice_index_or, refl, sym, ap, ◌∙◌, subst, arith, zero, suc, inl, inr, ⊎_elim}
+use Rattle.std.proofs.Common.{◌≡◌, ◌⊎◌, ℕ, ◌+◌, ◌%◌, ◌<◌, ◌&&◌, Bool, true, List, [], ◌∷◌, length, map, filter_map, take, slice_index_or, refl, sym, ap, ◌∙◌, subst, arith, zero, suc, inl, inr, ⊎_elim}
 use Rattle.std.specs.List.{list_all}
 use Rattle.std.proofs.lemmas.Bool.{and_from, and_parts, cases_Bool, cases_lt, false≢true, or_cases, or_left, or_right}
-use Rattle.hsr_frame.specs.declared.node.Mode.TheVariants.{H, N}
+use Rattle.hsr_frame.specs.declared.node.Mode.TheVariants.{H, N, U}
 use Rattle.hsr_link.specs.declared.row.Dir.TheVariants.{Forth, Back}
 use Rattle.hsr_node.specs.declared.place.Place.{Place}
 use Rattle.hsr_node.specs.declared.place.Place.TheVariants.{Danh, RedBox, QuadBox, Station}
 use Rattle.hsr_topology.proofs.Ends.{end_is, end_same}
 use Rattle.hsr_topology.proofs.Faults.{no_group}
-use Rattle.hsr_audit.specs.Doubts.{AreInModeH, HaveOwnAddresses, IsDanhRing, is_danh, is_in_mode_h, mac_of, macs_of}
+use Rattle.hsr_audit.specs.Doubts.{AreForwarding, HaveOwnAddresses, IsDanhRing, is_danh, is_forwarding, mac_of, macs_of, mode_of}
 use Rattle.hsr_topology.specs.Links.{is_same_end}
 use Rattle.hsr_law.specs.Premises.{IsRing, Joins, mac_at}
 use Rattle.hsr_audit.specs.Round.{DifferBelow, IsRound, address_of, is_again, is_joint, is_joint_of}
@@ -42,19 +42,19 @@ mac_is run k = map_at mac_of run.places k QuadBox
 
 -- ---- nodes
 
-place_is : (place : Place) → is_danh place ≡ true → is_in_mode_h place ≡ true → place ≡ Danh (mac_of place) H
-place_is (Danh mac H) danh h = refl
-place_is (Danh mac N) danh h = absurd (false≢true h)
-place_is (RedBox mac mode) danh h = absurd (false≢true danh)
-place_is QuadBox danh h = absurd (false≢true danh)
-place_is (Station macs) danh h = absurd (false≢true danh)
+place_is : (place : Place) → is_danh place ≡ true → place ≡ Danh (mac_of place) (mode_of place)
+place_is (Danh mac mode) danh = refl
+place_is (RedBox mac mode) danh = absurd (false≢true danh)
+place_is QuadBox danh = absurd (false≢true danh)
+place_is (Station macs) danh = absurd (false≢true danh)
 
-places_are : (places : List Place) → list_all is_danh places ≡ true → list_all is_in_mode_h places ≡ true → places ≡ map (λ mac. Danh mac H) (macs_of places)
-places_are [] danhs modes = refl
-places_are (p ∷ ps) danhs modes =
-    let danh = and_parts (is_danh p) (list_all is_danh ps) danhs in
-    let mode = and_parts (is_in_mode_h p) (list_all is_in_mode_h ps) modes in
-    ap (λ q. q ∷ ps) (place_is p danh.0 mode.0) ∙ ap (λ qs. Danh (mac_of p) H ∷ qs) (places_are ps danh.1 mode.1)
+forwards_is : (place : Place) → is_danh place ≡ true → is_forwarding place ≡ true → (place ≡ Danh (mac_of place) H) ⊎ (place ≡ Danh (mac_of place) U)
+forwards_is (Danh mac H) danh on = inl refl
+forwards_is (Danh mac U) danh on = inr refl
+forwards_is (Danh mac N) danh on = absurd (false≢true on)
+forwards_is (RedBox mac mode) danh on = absurd (false≢true danh)
+forwards_is QuadBox danh on = absurd (false≢true danh)
+forwards_is (Station macs) danh on = absurd (false≢true danh)
 
 -- the addresses of DANHs are all their addresses
 pub addresses_are : (places : List Place) → list_all is_danh places ≡ true → filter_map address_of places ≡ macs_of places
@@ -115,11 +115,11 @@ round_of_ring run ring =
           ap (λ ends. is_joint ends k ((k + 1) % length run.links)) (index_any run.links k d [] below) ∙ here;
     }
 
-pub modes_all : (run : Run) → list_all is_in_mode_h run.places ≡ true → AreInModeH run
-modes_all run h = λ k below. all_at is_in_mode_h run.places k QuadBox h below
+pub modes_all : (run : Run) → list_all is_forwarding run.places ≡ true → AreForwarding run
+modes_all run h = λ k below. all_at is_forwarding run.places k QuadBox h below
 
-pub all_modes : (run : Run) → AreInModeH run → list_all is_in_mode_h run.places ≡ true
-all_modes run h = at_all is_in_mode_h run.places QuadBox h
+pub all_modes : (run : Run) → AreForwarding run → list_all is_forwarding run.places ≡ true
+all_modes run h = at_all is_forwarding run.places QuadBox h
 
 -- ---- addresses
 
@@ -163,22 +163,26 @@ differ_of_own run own k d below = ⊎_elim (λ again. absurd (clash again)) (λ 
         let same = own at.0 k (omega (arith, under, many)) (omega (arith, below, many)) e in
         omega (arith, low, same)
 
--- ---- a ring, and a ring of DANHs in mode H with addresses of their own
+-- ---- a ring, and a ring of DANHs in modes H and U with addresses of their own
 
-pub danh_at : (run : Run) → IsDanhRing run → AreInModeH run → (k : ℕ) → k < length run.places → place_of run k ≡ Danh (mac_at (macs_of run.places) k) H
-danh_at run ring modes k below = place_is (place_of run k) (ring.danhs k below) (modes k below) ∙ ap (λ mac. Danh mac H) (sym (mac_is run k))
+pub danh_at : (run : Run) → IsDanhRing run → (k : ℕ) → k < length run.places → place_of run k ≡ Danh (mac_at (macs_of run.places) k) (mode_of (place_of run k))
+danh_at run ring k below = place_is (place_of run k) (ring.danhs k below) ∙ ap (λ mac. Danh mac (mode_of (place_of run k))) (sym (mac_is run k))
 
-pub ring_of_own : (run : Run) → IsWired run.places run.links → IsDanhRing run → AreInModeH run → HaveOwnAddresses run → IsRing run (macs_of run.places)
+pub ring_of_own : (run : Run) → IsWired run.places run.links → IsDanhRing run → AreForwarding run → HaveOwnAddresses run → IsRing run (macs_of run.places)
 ring_of_own run wired ring modes own =
     let many = length-map run.places mac_of in
     let two = ring.two in
     record {
       two = omega (arith, many, two);
-      nodes = places_are run.places (at_all is_danh run.places QuadBox ring.danhs) (all_modes run modes);
+      places = sym many;
+      nodes = λ k below.
+          let under : k < length run.places = omega (arith, many, below) in
+          let P : List ℕ → Type 0 = λ mac. (place_of run k ≡ Danh mac H) ⊎ (place_of run k ≡ Danh mac U) in
+          subst P (sym (mac_is run k)) (forwards_is (place_of run k) (ring.danhs k under) (modes k under));
       single = λ k below.
           let under : k < length run.places = omega (arith, many, below) in
           no_group (mac_at (macs_of run.places) k)
-          (subst HasOwnAddress (danh_at run ring modes k under) (All-get_or HasOwnAddress run.places k QuadBox under wired.own));
+          (subst HasOwnAddress (danh_at run ring k under) (All-get_or HasOwnAddress run.places k QuadBox under wired.own));
       differ = λ i j low high same.
           own i j (omega (arith, many, low)) (omega (arith, many, high)) (sym (mac_is run i) ∙ (same ∙ mac_is run j));
       count = ring.count ∙ sym many;
@@ -188,19 +192,15 @@ ring_of_own run wired ring modes own =
     }
 
 -- the nodes of a ring
-pub node_is : (run : Run) (macs : List (List ℕ)) → IsRing run macs → (k : ℕ) → k < length run.places → place_of run k ≡ Danh (mac_at macs k) H
-node_is run macs ring k below =
-    let many = ap length ring.nodes ∙ length-map macs (λ mac. Danh mac H) in
-    let under : k < length macs = omega (arith, many, below) in
-    ap (λ places. slice_index_or places k QuadBox) ring.nodes ∙ danh_of macs k under
-  where
-    danh_of : (macs : List (List ℕ)) (k : ℕ) → k < length macs → slice_index_or (map (λ mac. Danh mac H) macs) k QuadBox ≡ Danh (slice_index_or macs k []) H
-    danh_of [] k below = absurd (omega (arith, below))
-    danh_of (mac ∷ macs) zero below = refl
-    danh_of (mac ∷ macs) (suc k) below = danh_of macs k (omega (arith, below))
-
 ring_many : (run : Run) (macs : List (List ℕ)) → IsRing run macs → length run.places ≡ length macs
-ring_many run macs ring = ap length ring.nodes ∙ length-map macs (λ mac. Danh mac H)
+ring_many run macs ring = ring.places
+
+node_at : (run : Run) (macs : List (List ℕ)) → IsRing run macs → (k : ℕ) → k < length run.places → (place_of run k ≡ Danh (mac_at macs k) H) ⊎ (place_of run k ≡ Danh (mac_at macs k) U)
+node_at run macs ring k below = let many = ring.places in ring.nodes k (omega (arith, many, below))
+
+-- what holds of a node with this address in either mode holds of each
+of_node : (run : Run) (macs : List (List ℕ)) → IsRing run macs → (P : Place → Type 0) (k : ℕ) → k < length run.places → P (Danh (mac_at macs k) H) → P (Danh (mac_at macs k) U) → P (place_of run k)
+of_node run macs ring P k below h u = ⊎_elim (λ is. subst P (sym is) h) (λ is. subst P (sym is) u) (node_at run macs ring k below)
 
 pub danhs_of_ring : (run : Run) (macs : List (List ℕ)) → IsRing run macs → IsDanhRing run
 danhs_of_ring run macs ring =
@@ -209,17 +209,20 @@ danhs_of_ring run macs ring =
     record {
       two = omega (arith, many, two);
       count = ring.count ∙ sym many;
-      danhs = λ k below. ap is_danh (node_is run macs ring k below);
+      danhs = λ k below. of_node run macs ring (λ p. is_danh p ≡ true) k below refl refl;
       joined = λ k below.
           let P : ℕ → Type 0 = λ n. Joins (ends_of run k) k ((k + 1) % n) in
           subst P (sym many) (ring.joined k (omega (arith, many, below)));
     }
 
-pub modes_of_ring : (run : Run) (macs : List (List ℕ)) → IsRing run macs → AreInModeH run
-modes_of_ring run macs ring = λ k below. ap is_in_mode_h (node_is run macs ring k below)
+pub modes_of_ring : (run : Run) (macs : List (List ℕ)) → IsRing run macs → AreForwarding run
+modes_of_ring run macs ring = λ k below. of_node run macs ring (λ p. is_forwarding p ≡ true) k below refl refl
 
 pub own_of_ring : (run : Run) (macs : List (List ℕ)) → IsRing run macs → HaveOwnAddresses run
 own_of_ring run macs ring = λ i j low high same.
     let many = ring_many run macs ring in
     ring.differ i j (omega (arith, many, low)) (omega (arith, many, high))
-    (sym (ap mac_of (node_is run macs ring i low)) ∙ (same ∙ ap mac_of (node_is run macs ring j high)))
+    (sym (mac_there i low) ∙ (same ∙ mac_there j high))
+  where
+    mac_there : (k : ℕ) → k < length run.places → mac_of (place_of run k) ≡ mac_at macs k
+    mac_there k below = of_node run macs ring (λ p. mac_of p ≡ mac_at macs k) k below refl refl

@@ -3,7 +3,7 @@
 --     IsFirstDoubt    the doubt holds, and none before it
 use Rattle.std.specs.Prelude.{ℕ, ◌+◌, ◌%◌, ◌<◌, ◌≤◌, ◌≡◌, Bool, true, false, List, [], ◌∷◌, length, map, reverse, take, slice_index_or}
 use Rattle.hsr_frame.specs.declared.node.Mode.{Mode}
-use Rattle.hsr_frame.specs.declared.node.Mode.TheVariants.{H, N}
+use Rattle.hsr_frame.specs.declared.node.Mode.TheVariants.{H, N, U}
 use Rattle.hsr_node.specs.Record.{now}
 use Rattle.hsr_node.specs.declared.entry.Entry.{Entry}
 use Rattle.hsr_node.specs.declared.place.Place.{Place}
@@ -23,15 +23,17 @@ is_danh (RedBox mac mode) = false
 is_danh QuadBox = false
 is_danh (Station macs) = false
 
-abbrev pub is_h : Mode → Bool
-is_h H = true
-is_h N = false
+-- in mode H or U a node forwards round the ring, in mode N it doesn't
+abbrev pub forwards : Mode → Bool
+forwards H = true
+forwards N = false
+forwards U = true
 
-abbrev pub is_in_mode_h : Place → Bool
-is_in_mode_h (Danh mac mode) = is_h mode
-is_in_mode_h (RedBox mac mode) = is_h mode
-is_in_mode_h QuadBox = false
-is_in_mode_h (Station macs) = false
+abbrev pub is_forwarding : Place → Bool
+is_forwarding (Danh mac mode) = forwards mode
+is_forwarding (RedBox mac mode) = forwards mode
+is_forwarding QuadBox = false
+is_forwarding (Station macs) = false
 
 -- the address of a DANH
 abbrev pub mac_of : Place → List ℕ
@@ -39,6 +41,13 @@ mac_of (Danh mac mode) = mac
 mac_of (RedBox mac mode) = []
 mac_of QuadBox = []
 mac_of (Station macs) = []
+
+-- the mode of a DANH
+abbrev pub mode_of : Place → Mode
+mode_of (Danh mac mode) = mode
+mode_of (RedBox mac mode) = N
+mode_of QuadBox = N
+mode_of (Station macs) = N
 
 -- the addresses round a ring of DANHs
 abbrev pub macs_of : List Place → List (List ℕ)
@@ -51,8 +60,9 @@ pub record IsDanhRing (run : Run) : Type 0 where
   pub danhs : (k : ℕ) → k < length run.places → is_danh (place_of run k) ≡ true
   pub joined : (k : ℕ) → k < length run.places → Joins (ends_of run k) k ((k + 1) % length run.places)
 
-abbrev pub AreInModeH : Run → Type 0
-AreInModeH run = (k : ℕ) → k < length run.places → is_in_mode_h (place_of run k) ≡ true
+-- no node is in mode N
+abbrev pub AreForwarding : Run → Type 0
+AreForwarding run = (k : ℕ) → k < length run.places → is_forwarding (place_of run k) ≡ true
 
 -- no two nodes have one address
 abbrev pub HaveOwnAddresses : Run → Type 0
@@ -85,13 +95,13 @@ pub record IsFirstNot (run : Run) (P : ℕ → ℕ → Type 0) (k i : ℕ) : Typ
 -- the doubt holds, and none of those before it
 abbrev pub IsFirstDoubt : Run → doubts.Doubt → Type 0
 IsFirstDoubt run doubt.NotRing = ¬ IsDanhRing run
-IsFirstDoubt run doubt.Mode = IsDanhRing run × ¬ AreInModeH run
-IsFirstDoubt run doubt.SameAddress = IsDanhRing run × AreInModeH run × ¬ HaveOwnAddresses run
-IsFirstDoubt run doubt.TwoLinks = IsDanhRing run × AreInModeH run × HaveOwnAddresses run × ¬ OneLossyLink run
+IsFirstDoubt run doubt.Mode = IsDanhRing run × ¬ AreForwarding run
+IsFirstDoubt run doubt.SameAddress = IsDanhRing run × AreForwarding run × ¬ HaveOwnAddresses run
+IsFirstDoubt run doubt.TwoLinks = IsDanhRing run × AreForwarding run × HaveOwnAddresses run × ¬ OneLossyLink run
 IsFirstDoubt run (doubt.Forgot k i) =
-    IsDanhRing run × AreInModeH run × HaveOwnAddresses run × OneLossyLink run × IsFirstNot run (RemembersAt run) k i
+    IsDanhRing run × AreForwarding run × HaveOwnAddresses run × OneLossyLink run × IsFirstNot run (RemembersAt run) k i
 IsFirstDoubt run (doubt.Mistaken k i) =
-    IsDanhRing run × AreInModeH run × HaveOwnAddresses run × OneLossyLink run × NothingForgotten run × IsFirstNot run (KnowsOwnAt run) k i
+    IsDanhRing run × AreForwarding run × HaveOwnAddresses run × OneLossyLink run × NothingForgotten run × IsFirstNot run (KnowsOwnAt run) k i
 
 -- a ring, with losses on at most one link, nothing forgotten and nothing mistaken
 pub record IsPremised (run : Run) (macs : List (List ℕ)) : Type 0 where

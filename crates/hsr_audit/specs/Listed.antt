@@ -1,18 +1,15 @@
 -- How the sends of a ring of DANHs are listed, by their destinations.
-use Rattle.std.specs.Prelude.{ℕ, zero, suc, ◌==◌, not, Bool, if◌then◌else◌, List, [], ◌++◌, filter, reverse, take, Option, None, option_map}
+use Rattle.std.specs.Prelude.{ℕ, ◌==◌, not, Bool, if◌then◌else◌, List, [], filter, reverse, take, Option, None, option_map}
 use Rattle.std.specs.List.{cons_option, range_with_len}
 use Rattle.hsr_frame.specs.Address.{is_group, is_same_address}
 use Rattle.hsr_frame.specs.Grammar.{Fields}
-use Rattle.hsr_frame.specs.declared.node.Mode.TheVariants.{H}
 use Rattle.hsr_node.specs.Flow.{sent_by}
 use Rattle.hsr_node.specs.declared.sending.Sending.{Sending}
 use Rattle.hsr_node.specs.declared.entry.Entry.{Entry}
 use Rattle.hsr_node.specs.declared.event.Probe.{Probe}
-use Rattle.hsr_node.specs.declared.place.Place.TheVariants.{Danh}
+use Rattle.hsr_node.specs.declared.place.Place.{Place}
 use Rattle.hsr_audit.specs.Certificate.{Certified, certified_in, receivers}
 use Rattle.hsr_law.specs.Once.{is_addressed}
-use Rattle.hsr_law.specs.Premises.{mac_at}
-use Rattle.hsr_law.specs.Run.{Run, past_of}
 
 -- a frame of which the destination alone counts
 abbrev pub frame_to : List ℕ → Fields
@@ -25,9 +22,9 @@ dst_of sending = sending.frame.dst
 abbrev pub is_for : List ℕ → List ℕ → ℕ → ℕ → Bool
 is_for mac dst sender k = if is_group dst then not (k == sender) else is_same_address mac dst
 
--- where the frame goes that an entry of a DANH sends, if it is a send
-unfoldable pub sent_to : List ℕ → Entry → Option (List ℕ)
-sent_to mac x = option_map dst_of (sent_by (Danh mac H) x.event x.outcome)
+-- where the frame goes that an entry of a node sends, if it is a send
+unfoldable pub sent_to : Place → Entry → Option (List ℕ)
+sent_to place x = option_map dst_of (sent_by place x.event x.outcome)
 
 -- the nodes below one that a frame is for
 abbrev pub receivers_below : List (List ℕ) → ℕ → List ℕ → ℕ → List ℕ
@@ -37,14 +34,9 @@ abbrev pub certified_to : List (List ℕ) → Probe → List ℕ → Certified
 certified_to macs send dst = record { probe = send; receivers = receivers macs send.node (frame_to dst) }
 
 -- what an entry adds to the list
-unfoldable pub listed_by : List (List ℕ) → Probe → List ℕ → Entry → List Certified
-listed_by macs send mac x = cons_option (option_map (certified_to macs send) (sent_to mac x)) []
+unfoldable pub listed_by : List (List ℕ) → Probe → Place → Entry → List Certified
+listed_by macs send place x = cons_option (option_map (certified_to macs send) (sent_to place x)) []
 
 -- the sends of the first entries of a record
-abbrev pub listed_at : List (List ℕ) → ℕ → List ℕ → List Entry → ℕ → List Certified
-listed_at macs number mac xs i = certified_in macs (record { number = number; place = Danh mac H }) (reverse (take i xs))
-
--- the sends of the nodes below one of a ring of DANHs with these addresses
-abbrev pub listed_below : Run → List (List ℕ) → ℕ → List Certified
-listed_below run macs zero = []
-listed_below run macs (suc k) = listed_below run macs k ++ certified_in macs (record { number = k; place = Danh (mac_at macs k) H }) (past_of run k)
+abbrev pub listed_at : List (List ℕ) → ℕ → Place → List Entry → ℕ → List Certified
+listed_at macs number place xs i = certified_in macs (record { number = number; place = place }) (reverse (take i xs))

@@ -1,5 +1,5 @@
 -- What the audit of a ring reads of the records, entry by entry.
---     Reading      what it asks of an entry of a DANH in mode H
+--     Reading      what it asks of an entry of a DANH in mode H or U
 --     logged       the notes that such a node made so far
 --     forgets      a place where what is needed is forgotten
 --     mistakes     a place where what is found is mistaken
@@ -7,7 +7,7 @@ use Rattle.std.specs.Prelude.{ℕ, max, ◌-◌, ◌<◌, ◌≡◌, nat_lt, ◌
 use Rattle.std.specs.List.{list_any}
 use Rattle.hsr_frame.specs.Egress.{up, a, b, no_exits}
 use Rattle.hsr_frame.specs.declared.egress.Exits.{Exits}
-use Rattle.hsr_frame.specs.declared.node.Mode.TheVariants.{H}
+use Rattle.hsr_frame.specs.declared.node.Mode.{Mode}
 use Rattle.hsr_duptable.specs.Key.{Key}
 use Rattle.hsr_duptable.specs.Notes.{entry_forget}
 use Rattle.hsr_redbox.specs.declared.wanted.Handling.{Handling}
@@ -23,7 +23,8 @@ use Rattle.hsr_node.specs.declared.event.Outcome.TheVariants.{Judged}
 use Rattle.hsr_node.specs.declared.event.Probe.{Probe}
 use Rattle.hsr_node.specs.declared.place.Place.TheVariants.{Danh}
 use Rattle.hsr_law.specs.Premises.{is_mistaken, is_note_of, mac_at}
-use Rattle.hsr_law.specs.Run.{Run, record_of}
+use Rattle.hsr_law.specs.Run.{Run, place_of, record_of}
+use Rattle.hsr_audit.specs.Doubts.{mode_of}
 use Rattle.hsr_audit.specs.declared.doubt.Doubt.{Doubt}
 use Rattle.hsr_audit.specs.declared.doubt.Doubt.TheVariants as doubt
 use Rattle.hsr_audit.specs.declared.found.Found.{Found}
@@ -44,12 +45,12 @@ exits_of None = no_exits
 exits_of (Some h) = h.wants.exits
 
 -- where what came to a port is wanted; a DANH asks for no station
-abbrev pub exits_wanted : List ℕ → ℕ → Result Seen FrameFault → Exits
-exits_wanted mac port seen = exits_of (handling (Danh mac H) (λ station. false) port seen)
+abbrev pub exits_wanted : List ℕ → Mode → ℕ → Result Seen FrameFault → Exits
+exits_wanted mac mode port seen = exits_of (handling (Danh mac mode) (λ station. false) port seen)
 
-abbrev pub wanted_in : List ℕ → Event → Exits
-wanted_in mac (Arrive port copy) = exits_wanted mac port (classified copy.octets)
-wanted_in mac event = no_exits
+abbrev pub wanted_in : List ℕ → Mode → Event → Exits
+wanted_in mac mode (Arrive port copy) = exits_wanted mac mode port (classified copy.octets)
+wanted_in mac mode event = no_exits
 
 abbrev pub came_in : Event → Option Key
 came_in (Arrive port copy) = key_in (classified copy.octets) None
@@ -64,13 +65,13 @@ abbrev pub key_judged : List ℕ → Result Seen FrameFault → Outcome → Opti
 key_judged mac seen (Judged up_too ports seq cause) = key_in seen seq
 key_judged mac seen outcome = own_key (Some mac) (number_in outcome)
 
-unfoldable pub reading : List ℕ → Probe → Entry → Reading
-reading mac here x = record {
-  wanted = wanted_in mac x.event;
+unfoldable pub reading : List ℕ → Mode → Probe → Entry → Reading
+reading mac mode here x = record {
+  wanted = wanted_in mac mode x.event;
   came = came_in x.event;
   probe = probe_handled here x.event;
   noted = noted_in x.outcome;
-  key = key_handled (Danh mac H) x.event x.outcome;
+  key = key_handled (Danh mac mode) x.event x.outcome;
 }
 
 -- ---- notes
@@ -99,9 +100,9 @@ logged_after log r at = let moment = max log.moment at in record {
 }
 
 -- the log of a record, the newest entry first
-abbrev pub logged : ℕ → List ℕ → List Entry → Log
-logged number mac [] = no_log
-logged number mac (x ∷ past) = logged_after (logged number mac past) (reading mac (record { node = number; place = length past }) x) x.at
+abbrev pub logged : ℕ → List ℕ → Mode → List Entry → Log
+logged number mac mode [] = no_log
+logged number mac mode (x ∷ past) = logged_after (logged number mac mode past) (reading mac mode (record { node = number; place = length past }) x) x.at
 
 -- ---- what is forgotten or mistaken
 
@@ -134,21 +135,21 @@ mistakes_in capacity log r at = let moment = max log.moment at in one_of
 
 -- ---- places of a record, the oldest entry first
 
-abbrev pub log_at : ℕ → List ℕ → List Entry → ℕ → Log
-log_at number mac xs i = logged number mac (reverse (take i xs))
+abbrev pub log_at : ℕ → List ℕ → Mode → List Entry → ℕ → Log
+log_at number mac mode xs i = logged number mac mode (reverse (take i xs))
 
-abbrev pub reading_at : ℕ → List ℕ → ℕ → Entry → Reading
-reading_at number mac i x = reading mac (record { node = number; place = i }) x
+abbrev pub reading_at : ℕ → List ℕ → Mode → ℕ → Entry → Reading
+reading_at number mac mode i x = reading mac mode (record { node = number; place = i }) x
 
 -- what the arrival at a place needs is forgotten
-abbrev pub forgets : ℕ → ℕ → List ℕ → List Entry → ℕ → Entry → Bool
-forgets capacity number mac xs i d =
-    forgets_in capacity (log_at number mac xs i) (reading_at number mac i (slice_index_or xs i d)) (slice_index_or xs i d).at
+abbrev pub forgets : ℕ → ℕ → List ℕ → Mode → List Entry → ℕ → Entry → Bool
+forgets capacity number mac mode xs i d =
+    forgets_in capacity (log_at number mac mode xs i) (reading_at number mac mode i (slice_index_or xs i d)) (slice_index_or xs i d).at
 
 -- what the arrival at a place finds is mistaken
-abbrev pub mistakes : ℕ → ℕ → List ℕ → List Entry → ℕ → Entry → Bool
-mistakes capacity number mac xs i d =
-    mistakes_in capacity (log_at number mac xs i) (reading_at number mac i (slice_index_or xs i d)) (slice_index_or xs i d).at
+abbrev pub mistakes : ℕ → ℕ → List ℕ → Mode → List Entry → ℕ → Entry → Bool
+mistakes capacity number mac mode xs i d =
+    mistakes_in capacity (log_at number mac mode xs i) (reading_at number mac mode i (slice_index_or xs i d)) (slice_index_or xs i d).at
 
 -- a test fails at each place below n
 abbrev pub NoneBelow : (ℕ → Entry → Bool) → ℕ → Type 0
@@ -170,13 +171,13 @@ IsFound forgotten mistaken n (Mistaken i) = NoneBelow forgotten n × IsFirstOf m
 
 -- ---- all records of a ring
 
--- a test of the place of a record, by the capacity, the node's number and address, and the record
+-- a test of the place of a record, by the capacity, the node's number, address and mode, and the record
 abbrev pub Test : Type 0
-Test = ℕ → ℕ → List ℕ → List Entry → ℕ → Entry → Bool
+Test = ℕ → ℕ → List ℕ → Mode → List Entry → ℕ → Entry → Bool
 
 -- a test of the records of a run
 abbrev pub at_node : Test → Run → List (List ℕ) → ℕ → ℕ → Entry → Bool
-at_node test run macs k = test run.capacity k (mac_at macs k) (record_of run k)
+at_node test run macs k = test run.capacity k (mac_at macs k) (mode_of (place_of run k)) (record_of run k)
 
 -- the test fails at all places of the nodes below n
 abbrev pub ClearBelow : Test → Run → List (List ℕ) → ℕ → Type 0

@@ -5,7 +5,7 @@ use Rattle.hsr_frame.specs.Address.{is_same_address}
 use Rattle.hsr_link.specs.declared.row.Dir.TheVariants.{Forth, Back}
 use Rattle.hsr_node.specs.declared.place.Place.{Place}
 use Rattle.hsr_node.specs.declared.place.Place.TheVariants.{Danh, RedBox, QuadBox, Station}
-use Rattle.hsr_audit.specs.Doubts.{AreInModeH, HaveOwnAddresses, IsDanhRing, is_danh, macs_of}
+use Rattle.hsr_audit.specs.Doubts.{AreForwarding, HaveOwnAddresses, IsDanhRing, is_danh, macs_of}
 use Rattle.hsr_topology.specs.Links.{is_same_end}
 use Rattle.hsr_law.specs.Premises.{NothingForgotten, NothingMistaken, OneLossyLink}
 use Rattle.hsr_law.specs.Run.{Run, from_end}
@@ -53,7 +53,7 @@ DifferBelow macs n = (k : ℕ) (d : List ℕ) → k < n → is_again (slice_inde
 -- what is known of a ring whose addresses these are
 pub record IsOwnRing (run : Run) (macs : List (List ℕ)) : Type 0 where
   pub ring : IsDanhRing run
-  pub modes : AreInModeH run
+  pub modes : AreForwarding run
   pub own : HaveOwnAddresses run
   pub macs_is : macs ≡ macs_of run.places
 

@@ -1,15 +1,14 @@
 //! The audit of a finished run.
 ghost use Rattle.std.specs.Prelude.{◌≡◌, length, IfErr, IfOk};
-ghost use Rattle.hsr_audit.specs.Certificate.{IsCertified};
+ghost use Rattle.hsr_audit.specs.Certificate.{IsCertified, certified};
 ghost use Rattle.hsr_audit.specs.Doubts.{IsFirstFault, IsRefused};
 ghost use Rattle.hsr_closing.specs.Finished.{IsFinished};
-ghost use Rattle.hsr_audit.specs.Listed.{listed_below};
 ghost use Rattle.hsr_audit.specs.Round.{IsClear, IsOwnRing};
 
 use crate::certificate::{Certificate, Certified, list_record};
 use crate::doubt::{AuditFault, Doubt};
 use crate::doubted::record_doubt;
-use crate::round::{addresses, are_different, are_in_mode_h, is_round, loses_on_one};
+use crate::round::{addresses, are_different, are_forwarding, is_round, loses_on_one};
 use hsr_closing::Closed;
 use hsr_frame::{Mac, NoMemory};
 use hsr_law::exactly_once;
@@ -26,7 +25,7 @@ fn ring_macs<const C: usize>(alloc: Global, closed: &Closed<C>) -> Result<Vec<Ma
     if !is_round(topology.places(), topology.links()) {
         return Err(AuditFault::Doubt(Doubt::NotRing));
     }
-    if !are_in_mode_h(topology.places()) {
+    if !are_forwarding(topology.places()) {
         return Err(AuditFault::Doubt(Doubt::Mode));
     }
     let Ok(macs) = addresses(alloc, topology.places()) else {
@@ -55,19 +54,18 @@ fn clear_macs<const C: usize>(alloc: Global, closed: &Closed<C>) -> Result<Vec<M
     }
 }
 
-/// The sends of a ring of DANHs with these addresses, and the nodes that each is for.
-#[tactic(auto, using(crate::proofs::Certifying::listed_below_more, crate::proofs::Certifying::listed_whole))]
+/// The sends of a run, and the nodes that each is for, by these addresses.
+#[tactic(auto, using(crate::proofs::Certifying::certified_more, crate::proofs::Certifying::listed_whole))]
 fn list_sends<const C: usize>(
     alloc: Global,
     closed: &Closed<C>,
     macs: &[Mac],
 ) -> Result<Vec<Certified>, NoMemory>
-    requires { length macs.now ≡ length closed.now.run.places }
-    ensures { IfOk result (λ sends. sends.items ≡ listed_below closed.now.run macs.now (length macs.now)) }
+    ensures { IfOk result (λ sends. sends.items ≡ certified closed.now.run macs.now) }
 {
     let mut sends = Vec::new(alloc);
-    for (node, mac) in macs.iter().enumerate() {
-        list_record(alloc, &mut sends, macs, node, *mac, closed.entries(node))?;
+    for (node, place) in closed.topology().places().iter().enumerate() {
+        list_record(alloc, &mut sends, macs, node, place, closed.entries(node))?;
     }
     Ok(sends)
 }
@@ -86,7 +84,7 @@ fn certify<const C: usize>(alloc: Global, closed: &Closed<C>) -> Result<Certific
 }
 
 /// The certificate of a finished run: each of its sends, with the nodes that it is for, each of which took its frame up
-/// just once (IEC 62439-3 clause 5.3). There is one exactly where the nodes and links are a ring of DANHs in mode H with
+/// just once (IEC 62439-3 clause 5.3). There is one exactly where the nodes and links are a ring of DANHs in modes H and U with
 /// addresses of their own, copies were lost on at most one link, and nothing was forgotten that was needed and nothing
 /// mistaken; else the first doubt is named. `NoMemory` where room is refused.
 pub fn audit<const C: usize>(alloc: Global, closed: &Closed<C>) -> Result<Certificate, AuditFault>

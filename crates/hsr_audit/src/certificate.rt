@@ -2,7 +2,7 @@
 ghost use Rattle.std.specs.Prelude.{◌≡◌, ◌++◌, ◌∷◌, [], if◌then◌else◌, length, IfOk, OnOk};
 ghost use Rattle.hsr_audit.specs.Listed.{is_for, listed_at, listed_by, receivers_below, sent_to};
 
-use hsr_frame::{Mac, Mode, NoMemory};
+use hsr_frame::{Mac, NoMemory};
 use hsr_node::{Entry, Place, Probe, sent_view};
 use std::alloc::Global;
 use std::marker::Model;
@@ -29,13 +29,12 @@ pub struct Certificate {
     pub sends: Vec<Certified>,
 }
 
-/// Where the frame goes that an entry of a DANH sends, if it is a send.
+/// Where the frame goes that an entry of a node sends, if it is a send.
 #[tactic(auto, unfolding(crate::specs::Listed::sent_to))]
-fn sent_to(mac: Mac, x: &Entry) -> Option<Mac>
-    ensures { result ≡ sent_to mac x.now }
+fn sent_to(place: &Place, x: &Entry) -> Option<Mac>
+    ensures { result ≡ sent_to place.now x.now }
 {
-    let mode = Mode::H;
-    let sending = sent_view(&Place::Danh { mac, mode }, &x.event, &x.outcome)?;
+    let sending = sent_view(place, &x.event, &x.outcome)?;
     Some(sending.frame.dst)
 }
 
@@ -79,12 +78,12 @@ fn list_entry(
     sends: &mut Vec<Certified>,
     macs: &[Mac],
     probe: Probe,
-    mac: Mac,
+    place: &Place,
     x: &Entry,
 ) -> Result<(), NoMemory>
-    ensures { OnOk result (sends.new.items ≡ sends.old.items ++ listed_by macs.now probe mac x.now) }
+    ensures { OnOk result (sends.new.items ≡ sends.old.items ++ listed_by macs.now probe place.now x.now) }
 {
-    let Some(dst) = sent_to(mac, x) else {
+    let Some(dst) = sent_to(place, x) else {
         return Ok(());
     };
     let receivers = receivers(alloc, macs, probe.node, dst)?;
@@ -99,17 +98,17 @@ pub(crate) fn list_record(
     sends: &mut Vec<Certified>,
     macs: &[Mac],
     number: usize,
-    mac: Mac,
+    place: &Place,
     entries: &[Entry],
 ) -> Result<(), NoMemory>
-    ensures { OnOk result (sends.new.items ≡ sends.old.items ++ listed_at macs.now number mac entries.now (length entries.now)) }
+    ensures { OnOk result (sends.new.items ≡ sends.old.items ++ listed_at macs.now number place.now entries.now (length entries.now)) }
 {
     for (i, x) in entries.iter().enumerate() {
         let probe = Probe {
             node: number,
             place: i,
         };
-        list_entry(alloc, sends, macs, probe, mac, x)?;
+        list_entry(alloc, sends, macs, probe, place, x)?;
     }
     Ok(())
 }

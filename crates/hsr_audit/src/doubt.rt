@@ -7,7 +7,7 @@ pub enum Doubt {
     /// The nodes and links aren't a ring of two DANHs or more, whatever their modes and addresses: link i joins B of node i with A
     /// of the next one.
     NotRing,
-    /// A node isn't in mode H.
+    /// A node is in mode N.
     Mode,
     /// Two nodes have one address.
     SameAddress,

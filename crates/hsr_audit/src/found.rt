@@ -6,7 +6,7 @@ ghost use Rattle.hsr_audit.specs.Places.{IsAged};
 
 use crate::log::Log;
 use crate::reading::read;
-use hsr_frame::{Mac, NoMemory};
+use hsr_frame::{Mac, Mode, NoMemory};
 use hsr_node::{Entry, Probe};
 use std::alloc::Global;
 
@@ -33,15 +33,16 @@ fn look_at(
     log: &mut Log,
     capacity: usize,
     mac: Mac,
+    mode: Mode,
     here: Probe,
     x: &Entry,
 ) -> Result<Look, NoMemory>
     requires { IsAged log.old }
-    ensures forgets { IfOk result (λ l. l.forgets ≡ forgets_in capacity log.old (reading mac here x.now) x.now.at) }
-    ensures mistakes { IfOk result (λ l. l.mistakes ≡ mistakes_in capacity log.old (reading mac here x.now) x.now.at) }
-    ensures noted { IfOk result (λ l. log.new ≡ logged_after log.old (reading mac here x.now) x.now.at) }
+    ensures forgets { IfOk result (λ l. l.forgets ≡ forgets_in capacity log.old (reading mac mode here x.now) x.now.at) }
+    ensures mistakes { IfOk result (λ l. l.mistakes ≡ mistakes_in capacity log.old (reading mac mode here x.now) x.now.at) }
+    ensures noted { IfOk result (λ l. log.new ≡ logged_after log.old (reading mac mode here x.now) x.now.at) }
 {
-    let r = read(mac, here, x);
+    let r = read(mac, mode, here, x);
     let found = Look {
         forgets: log.forgets(capacity, &r, x.at),
         mistakes: log.mistakes(capacity, &r, x.at),
@@ -60,16 +61,17 @@ fn first_of(first: Option<usize>, is_one: bool, i: usize) -> Option<usize>
     }
 }
 
-/// What is found first in the record of the DANH in mode H that has this number and address.
+/// What is found first in the record of the DANH that has this number, address and mode.
 #[tactic(auto, using(crate::proofs::Logging::log_more))]
 pub(crate) fn found_in(
     alloc: Global,
     capacity: usize,
     number: usize,
     mac: Mac,
+    mode: Mode,
     entries: &[Entry],
 ) -> Result<Found, NoMemory>
-    ensures { IfOk result (λ f. IsFound (forgets capacity number mac entries.now) (mistakes capacity number mac entries.now) (length entries.now) f) }
+    ensures { IfOk result (λ f. IsFound (forgets capacity number mac mode entries.now) (mistakes capacity number mac mode entries.now) (length entries.now) f) }
 {
     let mut log = Log::new(alloc);
     let mut mistaken = None;
@@ -78,7 +80,7 @@ pub(crate) fn found_in(
             node: number,
             place: i,
         };
-        let look = look_at(&mut log, capacity, mac, here, x)?;
+        let look = look_at(&mut log, capacity, mac, mode, here, x)?;
         if look.forgets {
             return Ok(Found::Forgotten(i));
         }

@@ -1,11 +1,11 @@
-//! What the audit asks of an entry of a DANH in mode H.
+//! What the audit asks of an entry of a DANH.
 ghost use Rattle.std.specs.Prelude.{◌≡◌, Ok, Some};
 ghost use Rattle.hsr_node.specs.Record.{key_in, number_in, own_key};
 ghost use Rattle.hsr_audit.specs.Logged.{exits_wanted, key_judged, noted_in, reading};
 ghost use Rattle.hsr_tag.specs.declared.seen.Seen.TheVariants.{Tagged};
 
 use hsr_duptable::Key;
-use hsr_frame::{Exits, FrameFault, Mac};
+use hsr_frame::{Exits, FrameFault, Mac, Mode};
 use hsr_node::{Entry, Event, Outcome, Probe};
 use hsr_tag::{EitherView, SeenView, TaggedView, look_at};
 use std::marker::Model;
@@ -30,14 +30,18 @@ impl Model for Reading {
 }
 
 /// Where a tagged frame that came to a port is wanted (IEC 62439-3 clause 5.3): up where it is for the node, and by the
-/// other port where it is neither from the node nor for it alone.
-fn tagged_exits(mac: Mac, port: u8, frame: &TaggedView<'_>) -> Exits
-    ensures { result ≡ exits_wanted mac port (Ok (Tagged frame.now)) }
+/// other port where it is neither from the node nor, in mode H, for it alone.
+fn tagged_exits(mac: Mac, mode: Mode, port: u8, frame: &TaggedView<'_>) -> Exits
+    ensures { result ≡ exits_wanted mac mode port (Ok (Tagged frame.now)) }
 {
     if frame.src == mac || port > 1 {
         return Exits::none();
     }
-    let goes_on = frame.dst != mac;
+    let goes_on = match mode {
+        Mode::H => frame.dst != mac,
+        Mode::N => false,
+        Mode::U => true,
+    };
     Exits {
         up: frame.dst == mac || frame.dst.is_group(),
         a: goes_on && port == 1,
@@ -48,14 +52,14 @@ fn tagged_exits(mac: Mac, port: u8, frame: &TaggedView<'_>) -> Exits
 }
 
 /// Where what came to a port is wanted.
-fn exits_wanted(mac: Mac, port: u8, seen: &Result<SeenView<'_>, FrameFault>) -> Exits
-    ensures { result ≡ exits_wanted mac port seen.now }
+fn exits_wanted(mac: Mac, mode: Mode, port: u8, seen: &Result<SeenView<'_>, FrameFault>) -> Exits
+    ensures { result ≡ exits_wanted mac mode port seen.now }
 {
     let Ok(seen) = seen else {
         return Exits::none();
     };
     match &seen.frame {
-        EitherView::Tagged(frame) => tagged_exits(mac, port, frame),
+        EitherView::Tagged(frame) => tagged_exits(mac, mode, port, frame),
         EitherView::Plain(_) => Exits::none(),
     }
 }
@@ -132,16 +136,16 @@ fn key_judged(mac: Mac, seen: &Result<SeenView<'_>, FrameFault>, outcome: &Outco
     }
 }
 
-/// What the audit asks of an entry of a DANH in mode H that has this address; `here` names the entry.
+/// What the audit asks of an entry of a DANH that has this address and mode; `here` names the entry.
 #[tactic(auto, unfolding(crate::specs::Logged::reading))]
-pub(crate) fn read(mac: Mac, here: Probe, x: &Entry) -> Reading
-    ensures { result ≡ reading mac here x.now }
+pub(crate) fn read(mac: Mac, mode: Mode, here: Probe, x: &Entry) -> Reading
+    ensures { result ≡ reading mac mode here x.now }
 {
     match &x.event {
         Event::Arrive { port, carried } => {
             let seen = look_at(carried.octets.as_slice());
             Reading {
-                wanted: exits_wanted(mac, *port, &seen),
+                wanted: exits_wanted(mac, mode, *port, &seen),
                 came: key_in(&seen, None),
                 probe: carried.probe,
                 noted: noted_in(&x.outcome),

@@ -1,7 +1,7 @@
 //! Whether nodes and links are a ring, and whether copies were lost on at most one link.
 ghost use Rattle.std.specs.Prelude.{◌≡◌, ◌↔◌, ◌<◌, [], ◌++◌, filter_map, length, IfOk, IsTrue, OnOk};
 ghost use Rattle.std.specs.List.{cons_option, list_all};
-ghost use Rattle.hsr_audit.specs.Doubts.{is_danh, is_in_mode_h};
+ghost use Rattle.hsr_audit.specs.Doubts.{is_danh, is_forwarding};
 ghost use Rattle.hsr_law.specs.Premises.{OneLossyLink, any_lost};
 ghost use Rattle.hsr_audit.specs.Round.{DifferBelow, IsRound, JoinedBelow, address_of, is_again, is_joint, is_joint_of};
 
@@ -18,11 +18,11 @@ fn is_danh(place: &Place) -> bool
     matches!(place, Place::Danh { .. })
 }
 
-fn is_in_mode_h(place: &Place) -> bool
-    ensures { result ≡ is_in_mode_h place.now }
+fn is_forwarding(place: &Place) -> bool
+    ensures { result ≡ is_forwarding place.now }
 {
     match place {
-        Place::Danh { mode, .. } | Place::RedBox { mode, .. } => *mode == Mode::H,
+        Place::Danh { mode, .. } | Place::RedBox { mode, .. } => *mode != Mode::N,
         Place::QuadBox | Place::Station { .. } => false,
     }
 }
@@ -33,11 +33,11 @@ fn are_danhs(places: &[Place]) -> bool
     places.iter().all(|place| is_danh(place))
 }
 
-/// Whether all nodes are in mode H.
-pub(crate) fn are_in_mode_h(places: &[Place]) -> bool
-    ensures { result ≡ list_all is_in_mode_h places.now }
+/// Whether all nodes forward round the ring: each is in mode H or U.
+pub(crate) fn are_forwarding(places: &[Place]) -> bool
+    ensures { result ≡ list_all is_forwarding places.now }
 {
-    places.iter().all(|place| is_in_mode_h(place))
+    places.iter().all(|place| is_forwarding(place))
 }
 
 /// Whether a link joins B of a node with A of the next.

@@ -6,9 +6,9 @@ use Rattle.hsr_node.specs.Kept.{Receipts, Record}
 use Rattle.hsr_link.specs.declared.row.Dir.TheVariants.{Forth}
 use Rattle.hsr_link.specs.declared.row.Fate.TheVariants.{Queued}
 use Rattle.hsr_link.specs.declared.row.Row.{Row}
-use Rattle.hsr_closing.specs.Checked.{Agrees, AreLegal, HasNoStorm, HasNoStranger, IsFirst, IsQuiet, PutsAgree, TakensAgree}
+use Rattle.hsr_closing.specs.Checked.{Agrees, AreLegal, HasNoStorm, HasNoStranger, IsFirst, IsFirstOfAll, IsQuiet, IsSettledRun, PutsAgree, TakensAgree}
 use Rattle.hsr_closing.specs.Finished.{IsFinished, run_of}
-use Rattle.hsr_closing.specs.Receipts.{HasReceipts}
+use Rattle.hsr_closing.specs.Receipts.{HasReceipts, IsFirstWrong}
 use Rattle.hsr_law.specs.Run.{rows_of}
 use Rattle.hsr_closing.specs.Shape.{IsShaped}
 use Rattle.hsr_topology.specs.Topology.{Topology}
@@ -26,16 +26,30 @@ use Rattle.hsr_law.proofs.WithoutBoxes.{boxless}
 any_row : Row
 any_row = record { dir = Forth; carried = record { probe = None; octets = [] }; injected = false; fate = Queued }
 
+pub settled : (capacity : ℕ) (topology : Topology) (kept : List Record) (rows : List (Vec Row Global)) → IsWired topology.places topology.links → IsShaped topology kept rows →
+    AreLegal capacity kept (length kept) →
+    PutsAgree (run_of capacity topology kept rows) (length topology.links) → TakensAgree (run_of capacity topology kept rows) (length topology.links) →
+    HasNoStranger (run_of capacity topology kept rows) (length topology.links) → IsQuiet (run_of capacity topology kept rows) (length topology.links) →
+    IsSettledRun capacity topology kept rows
+settled capacity topology kept rows wired shaped legal puts takens known quiet = record {
+  shaped = shaped;
+  closed = closed capacity topology kept rows shaped wired legal puts takens known quiet;
+  puts = puts;
+  takens = takens;
+  known = known;
+  quiet = quiet;
+}
+
 module _ (capacity : ℕ) (topology : Topology) (kept : List Record) (rows : List (Vec Row Global)) (passes : List Receipts) (plan : List Planned) where
-  pub agrees : IsWired topology.places topology.links → IsShaped topology kept rows → AreLegal capacity kept (length kept) →
-      PutsAgree (run_of capacity topology kept rows) (length topology.links) → TakensAgree (run_of capacity topology kept rows) (length topology.links) →
-      HasNoStranger (run_of capacity topology kept rows) (length topology.links) → IsQuiet (run_of capacity topology kept rows) (length topology.links) →
-      HasReceipts kept passes plan → Agrees capacity topology kept rows passes plan
-  agrees wired shaped legal puts takens known quiet receipts = record {
-    shaped = shaped;
-    closed = closed capacity topology kept rows shaped wired legal puts takens known quiet;
-    receipts = receipts;
-  }
+  pub agrees : IsSettledRun capacity topology kept rows → HasReceipts kept passes plan → Agrees capacity topology kept rows passes plan
+  agrees is receipts = record { shaped = is.shaped; closed = is.closed; receipts = receipts }
+
+  pub receipts_first : IsSettledRun capacity topology kept rows → (worker : ℕ) → IsFirstWrong kept passes plan worker → IsFirst capacity topology kept rows passes plan (cause.Receipts worker)
+  receipts_first is worker wrong = (is.shaped, (is.puts, is.takens, is.known, is.quiet, wrong))
+
+  pub any_first : (d : Disagree) → IsFirstOfAll capacity topology kept rows d → IsFirst capacity topology kept rows passes plan d
+  unfolding IsFirstOfAll
+  any_first d first = first passes plan
 
   pub refused : (d : Disagree) → IsFirst capacity topology kept rows passes plan d → ¬ Agrees capacity topology kept rows passes plan
   unfolding HasReceipts
@@ -55,12 +69,13 @@ module _ (capacity : ℕ) (topology : Topology) (kept : List Record) (rows : Lis
 
   pub finished : IsWired topology.places topology.links → Agrees capacity topology kept rows passes plan →
       (map (λ (r : Record). r.place) kept ≡ topology.places) × IsFinished (record { run = run_of capacity topology kept rows; plan = plan })
+  unfolding HasReceipts
   finished wired all = (
     all.shaped.places,
     record {
       wired = wired;
       closed = all.closed;
-      planned = is_planned capacity topology kept rows passes plan all.shaped all.receipts;
+      planned = is_planned capacity topology kept rows passes plan all.shaped (all.receipts 0);
     },
   )
 

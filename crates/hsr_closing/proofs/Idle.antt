@@ -9,7 +9,7 @@ use Rattle.hsr_closing.specs.Receipts.{HasReceipts, IsFirstWrong, IsRight, done_
 use Rattle.hsr_closing.specs.Workers.{most_in, most_kept, most_passed, most_worker}
 use Rattle.hsr_closing.specs.declared.planned.Planned.{Planned}
 use Rattle.hsr_closing.specs.declared.reached.Reached.{Reached}
-use Rattle.hsr_closing.proofs.Decided.{not_same}
+use Rattle.hsr_index.proofs.Decided.{not_same}
 
 pub no_holds : (w n : ℕ) (xs : List Entry) → most_in xs < w → holds_of w n xs ≡ []
 no_holds w n [] h = refl
@@ -47,7 +47,7 @@ idle kept passes plan w h = record {
 
 -- ---- the lowest wrong one
 
-one_of : {X : Type 0} (xs : List X) (n : ℕ) → n < length xs → X
+pub one_of : {X : Type 0} (xs : List X) (n : ℕ) → n < length xs → X
 one_of [] n below = absurd (omega arith)
 one_of (x ∷ xs) n below = x
 

@@ -14,7 +14,7 @@ use Rattle.hsr_closing.specs.Next.{IsNext, holds_from}
 use Rattle.hsr_closing.specs.Passes.{IsAhead, IsKeptNext, IsLeft, IsOver, left_at}
 use Rattle.hsr_closing.specs.Receipts.{Shows, holds_of, named, planned_of}
 use Rattle.hsr_closing.specs.declared.planned.Planned.{Planned}
-use Rattle.hsr_closing.proofs.Decided.{not_same, same}
+use Rattle.hsr_index.proofs.Decided.{not_same, same}
 use Rattle.hsr_closing.proofs.Plan.{all_append, found_at, record_told, told_of}
 
 -- ---- what the rest of a record tells
@@ -27,10 +27,10 @@ get-drop (x ∷ xs) (suc n) i = let e : suc n + i ≡ suc (n + i) = omega arith 
 record_from : (k n : ℕ) (xs : List Entry) → filter_map (planned_by k) (drop n xs) ≡ filter_map (λ m. told_of k (slice_get xs m)) (holds_from 0 xs n)
 record_from k n xs = record_told k n xs (drop n xs) (get-drop xs n)
 
-none_told : (k : ℕ) (xs : List Entry) (from : ℕ) → holds_from 0 xs from ≡ [] → filter_map (planned_by k) (drop from xs) ≡ []
+pub none_told : (k : ℕ) (xs : List Entry) (from : ℕ) → holds_from 0 xs from ≡ [] → filter_map (planned_by k) (drop from xs) ≡ []
 none_told k xs from none = record_from k from xs ∙ ap (filter_map (λ m. told_of k (slice_get xs m))) none
 
-next_told : (k : ℕ) (xs : List Entry) (from place : ℕ) (d : Entry) → IsNext 0 xs from place → filter_map (planned_by k) (drop from xs)
+pub next_told : (k : ℕ) (xs : List Entry) (from place : ℕ) (d : Entry) → IsNext 0 xs from place → filter_map (planned_by k) (drop from xs)
     ≡ record { node = k; at = (get_or xs place d).at; event = (get_or xs place d).event } ∷ filter_map (planned_by k) (drop (place + 1) xs)
 next_told k xs from place d is =
     let told : ℕ → Option Planned = λ m. told_of k (slice_get xs m) in
@@ -47,10 +47,10 @@ module _ (kept : List Record) (next : List ℕ) (planned : Planned) (e : Record)
   k = planned.node
 
   -- what is planned for the node comes first
-  first_for : (rest : List Planned) → filter_map (planned_for k) (planned ∷ rest) ≡ planned ∷ filter_map (planned_for k) rest
+  pub first_for : (rest : List Planned) → filter_map (planned_for k) (planned ∷ rest) ≡ planned ∷ filter_map (planned_for k) rest
   first_for rest = ap (λ b. cons_option (cond b (Some planned) None) (filter_map (planned_for k) rest)) (same k k refl)
 
-  other_for : (j : ℕ) (rest : List Planned) → (k ≡ j → ⊥) → filter_map (planned_for j) (planned ∷ rest) ≡ filter_map (planned_for j) rest
+  pub other_for : (j : ℕ) (rest : List Planned) → (k ≡ j → ⊥) → filter_map (planned_for j) (planned ∷ rest) ≡ filter_map (planned_for j) rest
   other_for j rest other = ap (λ b. cons_option (cond b (Some planned) None) (filter_map (planned_for j) rest)) (not_same k j other)
 
   left_here : (d : Record) → left_at kept next k d ≡ drop from e.entries

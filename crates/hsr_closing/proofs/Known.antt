@@ -16,12 +16,12 @@ use Rattle.hsr_link.specs.declared.row.Row.{Row}
 use Rattle.hsr_closing.specs.Checked.{AreKnown, IsKnown, IsStranger}
 use Rattle.hsr_law.specs.Closed.{IsOfSend}
 use Rattle.hsr_closing.specs.Finished.{run_of}
-use Rattle.hsr_closing.specs.Origin.{IsOurs, IsOwn, given_of, given_to, sent_at, sent_of}
+use Rattle.hsr_index.specs.Origin.{IsOurs, IsOwn, given_of, given_to, sent_at, sent_of}
 use Rattle.hsr_law.specs.Run.{Run, given, given_at, past_of, peer_in, place_of}
 use Rattle.hsr_closing.specs.Shape.{IsShaped}
 use Rattle.hsr_topology.specs.Topology.{Topology}
 use Rattle.hsr_topology.specs.declared.end.End.{End}
-use Rattle.hsr_closing.proofs.Forwards as forwards
+use Rattle.hsr_index.proofs.Forwards as forwards
 use Rattle.hsr_closing.proofs.Shaped.{many}
 
 given_node : (send : Probe) (kept : List Record) (k : ℕ) → given_of send (slice_get kept k) ≡ given_at send (reverse (get_or (map (λ (r : Record). r.entries) kept) k []))

@@ -1,8 +1,4 @@
 pub mod Often
-pub mod AsOften
-pub mod Counting
-pub mod Indexing
-pub mod Decided
 pub mod Forwards
 pub mod Shaped
 pub mod Closing
@@ -15,3 +11,6 @@ pub mod Reaching
 pub mod Receiving
 pub mod Keeping
 pub mod MainPass
+pub mod Telling
+pub mod Existing
+pub mod OfRecords

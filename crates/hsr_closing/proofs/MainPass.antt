@@ -14,21 +14,21 @@ use Rattle.hsr_closing.proofs.Coming.{zero_at}
 
 -- ---- lists
 
-drop_at : {X : Type 0} (xs : List X) (i : ℕ) (x : X) → i < length xs → x ≡ get_or xs i x → drop i xs ≡ x ∷ drop (i + 1) xs
+pub drop_at : {X : Type 0} (xs : List X) (i : ℕ) (x : X) → i < length xs → x ≡ get_or xs i x → drop i xs ≡ x ∷ drop (i + 1) xs
 drop_at [] i x below is = absurd (omega arith)
 drop_at (y ∷ ys) zero x below is = ap (λ z. z ∷ ys) (sym is)
 drop_at (y ∷ ys) (suc i) x below is =
     let e : suc i + 1 ≡ suc (i + 1) = omega arith in
     drop_at ys i x (omega (arith, below)) is ∙ ap (λ n. x ∷ drop n (y ∷ ys)) (sym e)
 
-drop_all : {X : Type 0} (xs : List X) (n : ℕ) → length xs ≤ n → drop n xs ≡ []
+pub drop_all : {X : Type 0} (xs : List X) (n : ℕ) → length xs ≤ n → drop n xs ≡ []
 drop_all [] zero h = refl
 drop_all [] (suc n) h = refl
 drop_all (x ∷ xs) zero h = absurd (omega (arith, h))
 drop_all (x ∷ xs) (suc n) h = drop_all xs n (omega (arith, h))
 
 -- nothing of the main worker is left where nothing is told
-none_held : (k n : ℕ) (xs : List Entry) → filter_map (planned_by k) xs ≡ [] → holds_of 0 n xs ≡ []
+pub none_held : (k n : ℕ) (xs : List Entry) → filter_map (planned_by k) xs ≡ [] → holds_of 0 n xs ≡ []
 none_held k n [] h = refl
 none_held k n (x ∷ xs) h = by_worker (x.worker == 0) h (none_held k (n + 1) xs)
   where

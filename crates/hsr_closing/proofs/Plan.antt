@@ -14,7 +14,7 @@ use Rattle.hsr_link.specs.declared.row.Row.{Row}
 use Rattle.hsr_closing.specs.Finished.{IsPlanned, planned_by, planned_for, run_of}
 use Rattle.hsr_closing.specs.Passes.{IsToldBy}
 use Rattle.hsr_law.specs.Run.{Run}
-use Rattle.hsr_closing.specs.Receipts.{AreShown, HasReceipts, IsRight, IsShown, Shows, done_in, done_of, entry_at, holds_of, named, names_of, planned_of}
+use Rattle.hsr_closing.specs.Receipts.{AreShown, IsRight, IsShown, Shows, done_in, done_of, entry_at, holds_of, named, names_of, planned_of}
 use Rattle.hsr_closing.specs.Shape.{IsShaped}
 use Rattle.hsr_topology.specs.Topology.{Topology}
 use Rattle.hsr_closing.specs.declared.planned.Planned.{Planned}
@@ -130,10 +130,8 @@ done_inside kept (p ∷ ps) shown =
 -- ---- the plan
 
 pub is_planned : (capacity : ℕ) (topology : Topology) (kept : List Record) (rows : List (Vec Row Global)) (passes : List Receipts) (plan : List Planned) →
-    IsShaped topology kept rows → HasReceipts kept passes plan → IsPlanned (run_of capacity topology kept rows) plan
-unfolding HasReceipts
-is_planned capacity topology kept rows passes plan shaped h =
-    let right : IsRight kept passes plan 0 = h 0 in
+    IsShaped topology kept rows → IsRight kept passes plan 0 → IsPlanned (run_of capacity topology kept rows) plan
+is_planned capacity topology kept rows passes plan shaped right =
     let is : done_of passes ≡ plan = right.planned refl in
     let long = many capacity topology kept rows shaped in
     let P : List Planned → Type 0 = λ xs. (i : ℕ) (d : Planned) → i < length xs → (slice_index_or xs i d).node < length topology.places in

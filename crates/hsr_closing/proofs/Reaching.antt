@@ -14,7 +14,7 @@ use Rattle.hsr_closing.specs.Reached.{AllFollow, AreTold, Follows, AreUsedUp, Is
 use Rattle.hsr_closing.specs.Receipts.{holds_of}
 use Rattle.hsr_closing.specs.declared.reached.Reached.{Reached}
 use Rattle.hsr_closing.proofs.Coming.{kept_first}
-use Rattle.hsr_closing.proofs.Decided.{not_same, same}
+use Rattle.hsr_index.proofs.Decided.{not_same, same}
 use Rattle.hsr_closing.proofs.Plan.{all_append, all_at}
 
 -- ---- the start

@@ -10,7 +10,7 @@ use Rattle.hsr_node.specs.declared.entry.Receipt.{Receipt}
 use Rattle.hsr_closing.specs.Passes.{AreByPlan, AreByWorker, AreMain, is_other, other_in, others_in, others_of, receipts_in, receipts_of}
 use Rattle.hsr_closing.specs.Receipts.{HasReceipts, IsRight, IsShown, Shows, done_of, entry_in, holds_of, named, names_of, planned_of}
 use Rattle.hsr_closing.specs.declared.planned.Planned.{Planned}
-use Rattle.hsr_closing.proofs.Decided.{not_same, same}
+use Rattle.hsr_index.proofs.Decided.{not_same, same}
 use Rattle.hsr_closing.proofs.Plan.{all_append, all_at}
 
 -- one more pass
@@ -51,7 +51,7 @@ empty_more ps after p n count h empty is = record {
     nothing true rs none = none
     nothing false rs none = refl
 
-none_before : (w n : ℕ) (ps : List Receipts) → AreByWorker n ps → w < n → receipts_of w ps ≡ []
+pub none_before : (w n : ℕ) (ps : List Receipts) → AreByWorker n ps → w < n → receipts_of w ps ≡ []
 none_before w n [] h below = refl
 none_before w n (p ∷ ps) h below =
     let first = h.0 in
@@ -146,7 +146,7 @@ no_others_in k n (x ∷ xs) = by_worker (x.worker == 0) (no_others_in k (n + 1) 
     by_worker true rest = rest
     by_worker false rest = rest
 
-no_others : (k : ℕ) (rs : List Record) → others_of 0 k rs ≡ []
+pub no_others : (k : ℕ) (rs : List Record) → others_of 0 k rs ≡ []
 no_others k [] = refl
 no_others k (r ∷ rs) = (λ i. no_others_in k 0 r.entries i ++ others_of 0 (k + 1) rs) ∙ no_others (k + 1) rs
 

@@ -19,7 +19,7 @@ use Rattle.hsr_link.specs.declared.row.Row.{Row}
 use Rattle.hsr_topology.proofs.Ends.{end_is}
 use Rattle.hsr_law.specs.Closed.{HasLink}
 use Rattle.hsr_closing.specs.Finished.{run_of}
-use Rattle.hsr_closing.specs.InOrder.{came}
+use Rattle.hsr_index.specs.InOrder.{came}
 use Rattle.hsr_topology.specs.Links.{is_end_of, is_same_end, is_used}
 use Rattle.hsr_law.specs.Run as run
 use Rattle.hsr_law.specs.Run.{Run, from_end, to_end}
@@ -27,7 +27,7 @@ use Rattle.hsr_closing.specs.Shape.{AreLinked, IsShaped, is_linked}
 use Rattle.hsr_topology.specs.Topology.{Topology}
 use Rattle.hsr_topology.specs.Wired.{IsJoin, IsWired}
 use Rattle.hsr_topology.specs.declared.end.End.{End}
-use Rattle.hsr_closing.proofs.Forwards.{arrivals_of}
+use Rattle.hsr_index.proofs.Forwards.{arrivals_of}
 
 -- ---- ends
 

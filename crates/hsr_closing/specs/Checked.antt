@@ -20,8 +20,8 @@ use Rattle.hsr_closing.specs.Receipts.{HasReceipts, IsFirstWrong}
 use Rattle.hsr_law.specs.Run.{Run, rows_of}
 use Rattle.hsr_closing.specs.Shape.{IsShaped}
 use Rattle.hsr_topology.specs.Topology.{Topology}
-use Rattle.hsr_closing.specs.declared.agreement.Passage.{Passage}
-use Rattle.hsr_closing.specs.declared.agreement.Passage.TheVariants.{Put, Taken}
+use Rattle.hsr_index.specs.declared.agreement.Passage.{Passage}
+use Rattle.hsr_index.specs.declared.agreement.Passage.TheVariants.{Put, Taken}
 use Rattle.hsr_closing.specs.declared.disagree.CheckFault.{CheckFault}
 use Rattle.hsr_closing.specs.declared.disagree.CheckFault.TheVariants as fault
 use Rattle.hsr_closing.specs.declared.disagree.Disagree.{Disagree}
@@ -108,6 +108,15 @@ pub record IsFirstNoisy (run : Run) (l : ℕ) : Type 0 where
 
 -- ---- all
 
+-- records and rows are the topology's, and the run is closed
+pub record IsSettledRun (capacity : ℕ) (topology : Topology) (kept : List Record) (rows : List (Vec Row Global)) : Type 0 where
+  pub shaped : IsShaped topology kept rows
+  pub closed : IsClosed (run_of capacity topology kept rows)
+  pub puts : PutsAgree (run_of capacity topology kept rows) (length topology.links)
+  pub takens : TakensAgree (run_of capacity topology kept rows) (length topology.links)
+  pub known : HasNoStranger (run_of capacity topology kept rows) (length topology.links)
+  pub quiet : IsQuiet (run_of capacity topology kept rows) (length topology.links)
+
 -- The records and rows are the topology's, the run is closed, and the receipts are the records' and tell the plan.
 pub record Agrees (capacity : ℕ) (topology : Topology) (kept : List Record) (rows : List (Vec Row Global)) (passes : List Receipts) (plan : List Planned) : Type 0 where
   pub shaped : IsShaped topology kept rows
@@ -136,6 +145,10 @@ IsFirstIn run kept passes plan d = IsOpen run d
 abbrev pub IsFirst : (capacity : ℕ) → Topology → List Record → List (Vec Row Global) → List Receipts → List Planned → Disagree → Type 0
 IsFirst capacity topology kept rows passes plan Shape = ¬ IsShaped topology kept rows
 IsFirst capacity topology kept rows passes plan d = IsShaped topology kept rows × IsFirstIn (run_of capacity topology kept rows) kept passes plan d
+
+-- whatever the receipts are
+unfoldable pub IsFirstOfAll : (capacity : ℕ) → Topology → List Record → List (Vec Row Global) → Disagree → Type 0
+IsFirstOfAll capacity topology kept rows d = (passes : List Receipts) (plan : List Planned) → IsFirst capacity topology kept rows passes plan d
 
 -- of a fault that is a disagreement
 abbrev pub IfDisagree : CheckFault → (Disagree → Type 0) → Type 0

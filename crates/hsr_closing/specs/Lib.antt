@@ -5,10 +5,9 @@ pub mod Receipts
 pub mod Checked
 pub mod InOrder
 pub mod Disagree
-pub mod Origin
-pub mod Indexed
 pub mod Workers
 pub mod Next
 pub mod Passes
 pub mod Reached
+pub mod Told
 pub mod OfRecords

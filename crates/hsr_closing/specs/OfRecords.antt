@@ -33,3 +33,11 @@ pub record IsOpenOf (capacity : ℕ) (topology : Topology) (kept : List Record) 
   pub told : ArePassesOf kept plan passes
   pub first : IsFirst capacity topology kept rows passes plan d
   pub refused : ¬ Agrees capacity topology kept rows passes plan
+
+-- ---- whatever passes are told
+
+unfoldable pub AllAgreeOf : (capacity : ℕ) → Topology → List Record → List (Vec Row Global) → List Planned → Type 0
+AllAgreeOf capacity topology kept rows plan = (passes : List Receipts) → ArePassesOf kept plan passes → Agrees capacity topology kept rows passes plan
+
+unfoldable pub IsFirstOf : (capacity : ℕ) → Topology → List Record → List (Vec Row Global) → List Planned → Disagree → Type 0
+IsFirstOf capacity topology kept rows plan d = (passes : List Receipts) → ArePassesOf kept plan passes → IsFirst capacity topology kept rows passes plan d

@@ -4,10 +4,9 @@ ghost use Rattle.hsr_frame.specs.Counters.{AreWithin};
 ghost use Rattle.hsr_closing.specs.Finished.{IsFinished};
 ghost use Rattle.hsr_law.specs.Run.{past_of, place_of, record_of, rows_of};
 
-use crate::check::fault_of;
+use crate::check::{fault_of, fault_of_records};
 use crate::disagree::CheckFault;
 use crate::parts::Parts;
-use crate::passes::passes_of;
 use crate::planned::Planned;
 use crate::records::Records;
 use hsr_frame::Counters;
@@ -46,7 +45,7 @@ impl<const C: usize> Closed<C> {
     ghost use Rattle.hsr_node.specs.Counts.{counters};
     ghost use Rattle.hsr_closing.specs.Checked.{Agrees, HasNoStorm, IfDisagree, IsFirst};
     ghost use Rattle.hsr_closing.specs.Finished.{run_of};
-    ghost use Rattle.hsr_closing.specs.OfRecords.{ArePassesOf, IsClosedOf, IsOpenOf};
+    ghost use Rattle.hsr_closing.specs.OfRecords.{IsClosedOf, IsOpenOf};
 
     /// The run of these parts, if they agree: if records, rows and receipts tell the same, and nothing is under way. Else
     /// the parts come back as they were, with the first cause, which is there exactly where they don't agree; or with
@@ -95,8 +94,8 @@ impl<const C: usize> Closed<C> {
     }
 
     /// The run of these records, if they agree with the passes that they and the plan tell. Else the records come back as they
-    /// were, with the first cause, which is there exactly where they don't agree; or with `NoMemory` where room for the passes
-    /// or the check was refused.
+    /// were, with the first cause, which is there exactly where they don't agree; or with `NoMemory` where room for the check
+    /// was refused. The passes aren't made: all but the main worker's are right as they are told.
     pub fn of_records(
         alloc: Global,
         records: Records<C>,
@@ -106,18 +105,28 @@ impl<const C: usize> Closed<C> {
         ensures whole { IfErr result (λ e. e.0 ≡ records.entry) }
         ensures no_storm { IfOk result (λ closed. HasNoStorm closed.run) }
     {
-        let Ok(passes) = passes_of(alloc, records.kept.as_slice(), records.plan.as_slice()) else {
-            return Err((records, CheckFault::NoMemory));
-        };
-        let Records {
-            topology,
-            plan,
-            kept,
-            rows,
-        } = records;
-        match Closed::check(alloc, topology, plan, kept, rows, passes) {
-            Ok(closed) => Ok(closed),
-            Err((parts, fault)) => Err((parts.records(), fault)),
+        match fault_of_records(
+            alloc,
+            &records.topology,
+            records.kept.as_slice(),
+            records.rows.as_slice(),
+            records.plan.as_slice(),
+        ) {
+            Some(fault) => Err((records, fault)),
+            None => {
+                let Records {
+                    topology,
+                    plan,
+                    kept,
+                    rows,
+                } = records;
+                Ok(Closed {
+                    topology,
+                    kept,
+                    rows,
+                    plan,
+                })
+            }
         }
     }
 

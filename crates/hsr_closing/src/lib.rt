@@ -5,31 +5,24 @@
 //! - `records`: all that a run has left
 //! - `parts`: all that a run is checked by
 //! - `disagree`: why the parts of a run don't agree
-//! - `ends`: the ends that links join, by an index
-//! - `numbers`: the numbers that nodes gave to sends, by an index
 //! - `shape`: whether records and rows are the topology's
-//! - `counts`: whether copies are as often in one list as in another
-//! - `agreement`: whether what was put and taken is what was passed and came
 //! - `links_agree`: the first link that doesn't agree with the records
 //! - `strangers`: the first row that is of no send
 //! - `next`: the next entry of a worker in a record
 //! - `receipts`: whether receipts show the next entries
 //! - `reached`: how far the receipts of each worker have come
 //! - `workers`: the first worker whose receipts are wrong
+//! - `told`: whether records tell of the main worker what is planned
 //! - `check`: all of this, one after another
 //! - `passes`: the passes that records and a plan tell of
 //! - `closed`: the finished run, its calls
 #![tactic(auto)]
 
-mod agreement;
 mod check;
 mod closed;
-mod counts;
 mod disagree;
-mod ends;
 mod links_agree;
 mod next;
-mod numbers;
 mod parts;
 mod passes;
 mod planned;
@@ -38,6 +31,7 @@ mod receipts;
 mod records;
 mod shape;
 mod strangers;
+mod told;
 mod workers;
 
 pub use closed::Closed;

@@ -6,8 +6,8 @@ ghost use Rattle.hsr_closing.specs.Finished.{items_of, run_of};
 ghost use Rattle.hsr_law.specs.Run.{from_end, to_end};
 ghost use Rattle.hsr_closing.specs.Shape.{IsShaped};
 
-use crate::agreement::{Passage, puts_fit, takens_fit};
 use hsr_frame::NoMemory;
+use hsr_index::{Passage, puts_fit, takens_fit};
 use hsr_link::{Dir, Fate, Row};
 use hsr_node::Kept;
 use hsr_topology::{End, Topology};

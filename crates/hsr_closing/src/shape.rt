@@ -7,8 +7,8 @@ ghost use Rattle.hsr_closing.specs.Checked.{AreLegal};
 ghost use Rattle.hsr_closing.specs.Shape.{AreLinked, IsShaped, NodesFit, is_linked};
 ghost use Rattle.hsr_topology.specs.Wired.{IsWired};
 
-use crate::ends::Ends;
 use hsr_frame::Mac;
+use hsr_index::Ends;
 use hsr_link::Row;
 use hsr_node::{Entry, Event, Kept, Place};
 use hsr_topology::{End, Topology};

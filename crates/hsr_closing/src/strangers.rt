@@ -2,13 +2,12 @@
 ghost use Rattle.std.specs.Prelude.{◌≡◌, ◌<◌, ◌↔◌, IsTrue, MatchOption, length, map};
 ghost use Rattle.hsr_closing.specs.Checked.{AreKnown, HasNoStranger, IsFirstStranger, IsKnown, IsStranger};
 ghost use Rattle.hsr_closing.specs.Finished.{items_of, run_of};
-ghost use Rattle.hsr_closing.specs.Origin.{FitsSend, IsOurs, IsOwn, given_to, sent_at};
+ghost use Rattle.hsr_index.specs.Origin.{FitsSend, IsOurs, IsOwn, given_to, sent_at};
 ghost use Rattle.std.specs.Option.{option_or};
 ghost use Rattle.hsr_closing.specs.Shape.{IsShaped};
 
-use crate::ends::Ends;
 use crate::links_agree::rows_at;
-use crate::numbers::Numbers;
+use hsr_index::{Ends, Numbers};
 use hsr_link::Row;
 use hsr_node::{Carried, Kept, Probe, SentView, sent_view};
 use hsr_tag::{EitherView, FrameView, look_at};

@@ -4,6 +4,7 @@ use Rattle.std.specs.Prelude.{is_some}
 use Rattle.std.specs.List.{cons_option}
 use Rattle.std.proofs.lemmas.List.Sums.{sum_by-append}
 use Rattle.std.proofs.lemmas.Bool.{false≢true, cases_Bool, cases_eq, cond-true, cond-false, eqb-false}
+use Rattle.hsr_frame.specs.declared.node.Mode.{Mode}
 use Rattle.hsr_frame.specs.Send.{send_refusal}
 use Rattle.hsr_frame.specs.declared.fault.SendFault.{SendFault}
 use Rattle.hsr_frame.specs.declared.node.About.TheVariants.{Own, Proxied}
@@ -35,40 +36,40 @@ numbered_at n [] = 0
 numbered_at n (x ∷ past) = if n == length past then numbered past else numbered_at n past
 
 -- each frame of a DANH's own gets the next number
-pub danh_number : (capacity number : ℕ) (mac : List ℕ) (past : List Entry) (at : ℕ) (event : Event) (outcome : Outcome) → answer capacity (danh number mac) past at event ≡ Ok outcome → is_sending event ≡ true →
+pub danh_number : (capacity number : ℕ) (mac : List ℕ) (mode : Mode) (past : List Entry) (at : ℕ) (event : Event) (outcome : Outcome) → answer capacity (danh number mac mode) past at event ≡ Ok outcome → is_sending event ≡ true →
     number_in outcome ≡ Some (next_number past)
-danh_number capacity number mac past at (Send from dst vlan kind payload) outcome ok is = by_from (from == 0) ok
+danh_number capacity number mac mode past at (Send from dst vlan kind payload) outcome ok is = by_from (from == 0) ok
   where
     by_fault : (o : Option SendFault) → sent_or_refused o (Sent (Some (next_number past)) (true ∷ true ∷ false ∷ false ∷ [])) ≡ Ok outcome → number_in outcome ≡ Some (next_number past)
     by_fault None e = let same : Sent (Some (next_number past)) (true ∷ true ∷ false ∷ false ∷ []) ≡ outcome = cc in sym (ap number_in same)
     by_fault (Some fault) e = absurd cc
 
-    by_from : (t : Bool) → send_answer capacity (danh number mac) past at (if t then Some mac else None) dst kind (length payload) ≡ Ok outcome → number_in outcome ≡ Some (next_number past)
+    by_from : (t : Bool) → send_answer capacity (danh number mac mode) past at (if t then Some mac else None) dst kind (length payload) ≡ Ok outcome → number_in outcome ≡ Some (next_number past)
     by_from true e = by_fault (send_refusal mac (steps past) dst kind (length payload)) e
     by_from false e = absurd cc
-danh_number capacity number mac past at (Supervise (Proxied other)) outcome ok is = absurd cc
-danh_number capacity number mac past at (Supervise Own) outcome ok is = by_spent (steps past == 2 ^ 62) ok
+danh_number capacity number mac mode past at (Supervise (Proxied other)) outcome ok is = absurd cc
+danh_number capacity number mac mode past at (Supervise Own) outcome ok is = by_spent (steps past == 2 ^ 62) ok
   where
     by_spent : (t : Bool) → (if t then Err refused.Spent else Ok (Life (next_number past) (lives past % 65536) (true ∷ true ∷ false ∷ false ∷ []))) ≡ Ok outcome → number_in outcome ≡ Some (next_number past)
     by_spent true e = absurd cc
     by_spent false e = let same : Life (next_number past) (lives past % 65536) (true ∷ true ∷ false ∷ false ∷ []) ≡ outcome = cc in sym (ap number_in same)
-danh_number capacity number mac past at (Arrive port copy) outcome ok is = absurd (false≢true is)
-danh_number capacity number mac past at Age outcome ok is = absurd (false≢true is)
+danh_number capacity number mac mode past at (Arrive port copy) outcome ok is = absurd (false≢true is)
+danh_number capacity number mac mode past at Age outcome ok is = absurd (false≢true is)
 
 -- and nothing else does
-pub numbered_sends : (capacity number : ℕ) (mac : List ℕ) (past : List Entry) (at : ℕ) (event : Event) (outcome : Outcome) → answer capacity (danh number mac) past at event ≡ Ok outcome → is_some (number_in outcome) ≡ is_sending event
-numbered_sends capacity number mac past at (Send from dst vlan kind payload) outcome ok = ap is_some (danh_number capacity number mac past at (Send from dst vlan kind payload) outcome ok refl)
-numbered_sends capacity number mac past at (Supervise about) outcome ok = ap is_some (danh_number capacity number mac past at (Supervise about) outcome ok refl)
-numbered_sends capacity number mac past at Age outcome ok = let same : Aged ≡ outcome = cc in ap (λ o. is_some (number_in o)) (sym same)
-numbered_sends capacity number mac past at (Arrive port copy) outcome ok =
-    let j = judged capacity (danh number mac) past at port copy outcome ok in
-    let passes = Rattle.hsr_node.specs.Record.passing (Rattle.hsr_node.specs.Record.remembers capacity (danh number mac) past at) j.h.wants.exits (Rattle.hsr_law.proofs.Views.came copy) in
-    let O : Outcome → Type 0 = λ o. answer capacity (danh number mac) past at (Arrive port copy) ≡ Ok o in
+pub numbered_sends : (capacity number : ℕ) (mac : List ℕ) (mode : Mode) (past : List Entry) (at : ℕ) (event : Event) (outcome : Outcome) → answer capacity (danh number mac mode) past at event ≡ Ok outcome → is_some (number_in outcome) ≡ is_sending event
+numbered_sends capacity number mac mode past at (Send from dst vlan kind payload) outcome ok = ap is_some (danh_number capacity number mac mode past at (Send from dst vlan kind payload) outcome ok refl)
+numbered_sends capacity number mac mode past at (Supervise about) outcome ok = ap is_some (danh_number capacity number mac mode past at (Supervise about) outcome ok refl)
+numbered_sends capacity number mac mode past at Age outcome ok = let same : Aged ≡ outcome = cc in ap (λ o. is_some (number_in o)) (sym same)
+numbered_sends capacity number mac mode past at (Arrive port copy) outcome ok =
+    let j = judged capacity (danh number mac mode) past at port copy outcome ok in
+    let passes = Rattle.hsr_node.specs.Record.passing (Rattle.hsr_node.specs.Record.remembers capacity (danh number mac mode) past at) j.h.wants.exits (Rattle.hsr_law.proofs.Views.came copy) in
+    let O : Outcome → Type 0 = λ o. answer capacity (danh number mac mode) past at (Arrive port copy) ≡ Ok o in
     ap (λ o. is_some (number_in o)) j.out ∙ by_number (Rattle.hsr_redbox.specs.Step.number_of j.h.source (next_number past)) passes.up (Rattle.hsr_node.specs.Record.ports passes) (Rattle.hsr_frame.specs.Egress.cause_of j.h.wants passes) (subst O j.out ok)
   where
-    by_number : (o : Option ℕ) (up_too : Bool) (out_ports : List Bool) (why : Rattle.hsr_frame.specs.declared.node.Cause.Cause) → answer capacity (danh number mac) past at (Arrive port copy) ≡ Ok (Judged up_too out_ports o why) → is_some o ≡ false
+    by_number : (o : Option ℕ) (up_too : Bool) (out_ports : List Bool) (why : Rattle.hsr_frame.specs.declared.node.Cause.Cause) → answer capacity (danh number mac mode) past at (Arrive port copy) ≡ Ok (Judged up_too out_ports o why) → is_some o ≡ false
     by_number None up_too out_ports why ok = refl
-    by_number (Some seq) up_too out_ports why ok = absurd (danh_numbers_none capacity number mac past at port copy up_too out_ports seq why ok)
+    by_number (Some seq) up_too out_ports why ok = absurd (danh_numbers_none capacity number mac mode past at port copy up_too out_ports seq why ok)
 
 -- ---- counting one record
 
@@ -83,12 +84,12 @@ pub record IsNumbered (n : ℕ) (h : List Entry) : Type 0 where
   pub below : n < length h
   pub counted : numbered_at n h + 1 ≤ numbered h
 
-module _ (capacity k : ℕ) (mac : List ℕ) where
+module _ (capacity k : ℕ) (mac : List ℕ) (mode : Mode) where
   abbrev Legal : List Entry → Type 0
-  Legal h = Each (Answered capacity (danh k mac)) h
+  Legal h = Each (Answered capacity (danh k mac mode)) h
 
-  counts : (x : Entry) (past : List Entry) → Answered capacity (danh k mac) x past → is_some (number_in x.outcome) ≡ is_sending x.event
-  counts x past ok = numbered_sends capacity k mac past (now (x ∷ past)) x.event x.outcome ok
+  counts : (x : Entry) (past : List Entry) → Answered capacity (danh k mac mode) x past → is_some (number_in x.outcome) ≡ is_sending x.event
+  counts x past ok = numbered_sends capacity k mac mode past (now (x ∷ past)) x.event x.outcome ok
 
   never_less : (x : Entry) (past : List Entry) → numbered past ≤ numbered (x ∷ past)
   never_less x past = ⊎_elim (λ t. let e = one_count x past t in omega arith) (λ f. let e = no_count x past f in omega arith) (cases_Bool (is_some (number_in x.outcome)))

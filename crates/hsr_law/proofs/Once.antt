@@ -7,7 +7,7 @@ use Rattle.std.proofs.lemmas.Bool.{false≢true, not-false}
 use Rattle.hsr_frame.specs.Address.{is_group, is_same_address}
 use Rattle.hsr_frame.specs.Egress.{up}
 use Rattle.hsr_frame.specs.Grammar.{Fields, spelling}
-use Rattle.hsr_frame.specs.declared.node.Mode.TheVariants.{H}
+use Rattle.hsr_frame.specs.declared.node.Mode.{Mode}
 use Rattle.hsr_tag.specs.Seen.{classified}
 use Rattle.hsr_tag.specs.Tag.{untag_of}
 use Rattle.hsr_node.specs.Copies.{plain_in, up_octets}
@@ -26,7 +26,7 @@ use Rattle.hsr_law.specs.Closed.{IsClosed, IsSend}
 use Rattle.hsr_law.specs.Once.{ExactlyOnce, GoesUp, IsExactlyOnce, delivers, is_addressed}
 use Rattle.hsr_law.specs.Premises.{IsRing, NothingForgotten, NumbersFirst, is_note_of, mac_at}
 use Rattle.hsr_law.specs.Run.{Run, owner_of, past_of, record_of}
-use Rattle.hsr_law.proofs.Danh.{by_a, by_b, danh}
+use Rattle.hsr_law.proofs.Danh.{by_a, by_b, danh, mode_at}
 use Rattle.hsr_law.proofs.Keys.{each_of_send, tagged_of_send}
 use Rattle.hsr_law.proofs.Lists.{count_positive, count_zero}
 use Rattle.hsr_law.proofs.NotedOnce.{noted_once}
@@ -52,26 +52,26 @@ frame_up port copy (Judged true ports seq why) f e left = ap (option_map spellin
 frame_up port copy (Judged false ports seq why) f e left = absurd (false≢true left)
 
 -- no arrival of a send that isn't wanted up there went up
-none_delivered : (capacity number : ℕ) (mac : List ℕ) (send : Probe) (P : Carried → Type 0) (h : List Entry) → Each (Answered capacity (danh number mac)) h → Each (λ x past. OfArrival P x.event) h →
-    ((copy : Carried) → P copy → Rattle.hsr_law.specs.Once.is_copy send copy ≡ true → (known : List ℕ → Bool) (port : ℕ) → wants (Danh mac H) known port (classified copy.octets) up ≡ false) →
+none_delivered : (capacity number : ℕ) (mac : List ℕ) (mode : Mode) (send : Probe) (P : Carried → Type 0) (h : List Entry) → Each (Answered capacity (danh number mac mode)) h → Each (λ x past. OfArrival P x.event) h →
+    ((copy : Carried) → P copy → Rattle.hsr_law.specs.Once.is_copy send copy ≡ true → (known : List ℕ → Bool) (port : ℕ) → wants (Danh mac mode) known port (classified copy.octets) up ≡ false) →
     list_any (delivers send) h ≡ false
-none_delivered capacity number mac send P [] legal all never = refl
-none_delivered capacity number mac send P (x ∷ past) legal all never =
-    none_more (delivers send x) refl (none_delivered capacity number mac send P past legal.1 all.1 never)
+none_delivered capacity number mac mode send P [] legal all never = refl
+none_delivered capacity number mac mode send P (x ∷ past) legal all never =
+    none_more (delivers send x) refl (none_delivered capacity number mac mode send P past legal.1 all.1 never)
   where
     none_more : (b : Bool) → delivers send x ≡ b → list_any (delivers send) past ≡ false → (b || list_any (delivers send) past) ≡ false
     none_more false is rest = rest
     none_more true is rest =
-        let d = delivers_is capacity number mac x past send legal.0 is in
+        let d = delivers_is capacity number mac mode x past send legal.0 is in
         let A : Event → Type 0 = OfArrival P in
         let good = subst A d.is all.0 in
-        let wanted = leaves_wanted capacity (danh number mac) past (now (x ∷ past)) d.port d.copy x.outcome up d.ok d.left in
-        absurd (false≢true (sym (never d.copy good d.mine (knows_at (danh number mac) past (now (x ∷ past)) d.port d.copy) d.port) ∙ wanted))
+        let wanted = leaves_wanted capacity (danh number mac mode) past (now (x ∷ past)) d.port d.copy x.outcome up d.ok d.left in
+        absurd (false≢true (sym (never d.copy good d.mine (knows_at (danh number mac mode) past (now (x ∷ past)) d.port d.copy) d.port) ∙ wanted))
 
 module _ (run : Run) (macs : List (List ℕ)) (closed : IsClosed run) (ring : IsRing run macs) where
   each_good : (k : ℕ) → k < length macs → Each (λ x past. OfArrival (IsGood run) x.event) (past_of run k)
   each_good k below =
-      each_arrival (IsGood run) run.capacity k (mac_at macs k) (past_of run k) (legal run macs closed ring k below) (good_at run macs closed ring k by_a below) (good_at run macs closed ring k by_b below)
+      each_arrival (IsGood run) run.capacity k (mac_at macs k) (mode_at run k) (past_of run k) (legal run macs closed ring k below) (good_at run macs closed ring k by_a below) (good_at run macs closed ring k by_b below)
 
   -- a node takes a send up once at most
   pub at_most_once : NothingForgotten run → (send : Probe) (k : ℕ) → k < length macs → count_by (delivers send) (past_of run k) ≤ 1
@@ -80,15 +80,15 @@ module _ (run : Run) (macs : List (List ℕ)) (closed : IsClosed run) (ring : Is
       let owner = owner_is run macs closed ring k below in
       let N : Owner → Type 0 = λ o. Each (λ x past. NumbersFirst run o past x.event x.outcome) (past_of run k) in
       let C : Owner → Type 0 = λ o. count_by (delivers send) (past_of run k) ≤ count_by (is_note_of (Some send)) (notes o up (past_of run k)) in
-      let first = subst N (sym owner) (danh_numbers run k (mac_at macs k) (past_of run k) (legal run macs closed ring k below)) in
-      let less = subst C (sym owner) (delivered_counts run.capacity k (mac_at macs k) send (past_of run k) (legal run macs closed ring k below)) in
+      let first = subst N (sym owner) (danh_numbers run k (mac_at macs k) (mode_at run k) (past_of run k) (legal run macs closed ring k below)) in
+      let less = subst C (sym owner) (delivered_counts run.capacity k (mac_at macs k) (mode_at run k) send (past_of run k) (legal run macs closed ring k below)) in
       let most = (noted_once run k send up (past_of run k) (legal_each run.capacity (owner_of run k) (past_of run k) (closed.legal k in_range)) (each_of_send run closed k in_range) first (remembers k in_range)).once in
       omega arith
 
   -- what a send isn't for doesn't take it up
   not_for : (send : Probe) (sending : Sending) (k : ℕ) → IsSend run send sending → k < length macs → is_addressed macs send.node sending.frame k ≡ false → list_any (delivers send) (past_of run k) ≡ false
   not_for send sending k is below other =
-      none_delivered run.capacity k (mac_at macs k) send (IsGood run) (past_of run k) (legal run macs closed ring k below) (each_good k below) unwanted
+      none_delivered run.capacity k (mac_at macs k) (mode_at run k) send (IsGood run) (past_of run k) (legal run macs closed ring k below) (each_good k below) unwanted
     where
       why : (f : Fields) → f ≡ sending.frame → (f.src ≡ mac_at macs k) ⊎ ((is_group f.dst ≡ false) × (f.dst ≡ mac_at macs k → ⊥))
       why f same = subst (λ (g : Fields). (g.src ≡ mac_at macs k) ⊎ ((is_group g.dst ≡ false) × (g.dst ≡ mac_at macs k → ⊥))) (sym same) (by_group (is_group sending.frame.dst) refl other)
@@ -98,11 +98,11 @@ module _ (run : Run) (macs : List (List ℕ)) (closed : IsClosed run) (ring : Is
           by_group true group h = inl ((sent run macs closed ring send sending is).source ∙ ap (mac_at macs) (sym (eqb-true k send.node (not-false (k == send.node) h))))
           by_group false group h = inr (group, λ e. other_address (mac_at macs k) sending.frame.dst h (sym e))
 
-      unwanted : (copy : Carried) → IsGood run copy → Rattle.hsr_law.specs.Once.is_copy send copy ≡ true → (known : List ℕ → Bool) (port : ℕ) → wants (Danh (mac_at macs k) H) known port (classified copy.octets) up ≡ false
+      unwanted : (copy : Carried) → IsGood run copy → Rattle.hsr_law.specs.Once.is_copy send copy ≡ true → (known : List ℕ → Bool) (port : ℕ) → wants (Danh (mac_at macs k) (mode_at run k)) known port (classified copy.octets) up ≡ false
       unwanted copy good mine known port =
           let two = tagged_of_send run send sending copy good.1 mine is good.0.0 good.0.1 in
-          let W : Came → Type 0 = λ s. wants (Danh (mac_at macs k) H) known port s up ≡ false in
-          subst W (sym good.0.1) (wants_not_up (mac_at macs k) known port good.0.0 (why (untag_of good.0.0) two.0))
+          let W : Came → Type 0 = λ s. wants (Danh (mac_at macs k) (mode_at run k)) known port s up ≡ false in
+          subst W (sym good.0.1) (wants_not_up (mac_at macs k) (mode_at run k) known port good.0.0 (why (untag_of good.0.0) two.0))
 
   -- all that went up is the frame of a send
   pub nothing_else : (k : ℕ) → k < length macs → Each (λ x past. GoesUp run x.event x.outcome) (past_of run k)

@@ -7,7 +7,7 @@ use Rattle.std.proofs.lemmas.Bool.{or_left, or_right, and_from, and_parts, false
 use Rattle.hsr_frame.specs.Address.{is_group}
 use Rattle.hsr_frame.specs.Egress.{Egress, up}
 use Rattle.hsr_frame.specs.declared.node.Cause.{Cause}
-use Rattle.hsr_frame.specs.declared.node.Mode.TheVariants.{H}
+use Rattle.hsr_frame.specs.declared.node.Mode.{Mode}
 use Rattle.hsr_frame.specs.declared.node.RingPort.{RingPort}
 use Rattle.hsr_tag.specs.declared.seen.Seen.TheVariants.{Tagged}
 use Rattle.hsr_role.specs.Arrival.{key_of}
@@ -41,24 +41,24 @@ use Rattle.hsr_law.proofs.Noting.{IsNoteOf, new_note, note_from, tagged_note}
 use Rattle.hsr_law.proofs.Written.{came_fits}
 
 -- a DANH numbers nothing that comes
-pub danh_numbers_none : (capacity number : ℕ) (mac : List ℕ) (past : List Entry) (at port : ℕ) (copy : Carried) (up_too : Bool) (out_ports : List Bool) (seq : ℕ) (why : Cause) →
-    answer capacity (danh number mac) past at (Arrive port copy) ≡ Ok (Judged up_too out_ports (Some seq) why) → ⊥
-danh_numbers_none capacity number mac past at port copy up_too out_ports seq why ok =
-    let j = judged capacity (danh number mac) past at port copy (Judged up_too out_ports (Some seq) why) ok in
+pub danh_numbers_none : (capacity number : ℕ) (mac : List ℕ) (mode : Mode) (past : List Entry) (at port : ℕ) (copy : Carried) (up_too : Bool) (out_ports : List Bool) (seq : ℕ) (why : Cause) →
+    answer capacity (danh number mac mode) past at (Arrive port copy) ≡ Ok (Judged up_too out_ports (Some seq) why) → ⊥
+danh_numbers_none capacity number mac mode past at port copy up_too out_ports seq why ok =
+    let j = judged capacity (danh number mac mode) past at port copy (Judged up_too out_ports (Some seq) why) ok in
     let none : number_of j.h.source (next_number past) ≡ None = ap (λ s. number_of s (next_number past)) (by_port (ring_port port) j.h j.is) in
     let some : Some seq ≡ number_of j.h.source (next_number past) = let e = j.out in cc in
     absurd cc
   where
-    by_port : (o : Option RingPort) (h : Handling) → option_map (λ x. unnumbered (of_danh.wanted mac H x (came copy))) o ≡ Some h → h.source ≡ None
+    by_port : (o : Option RingPort) (h : Handling) → option_map (λ x. unnumbered (of_danh.wanted mac mode x (came copy))) o ≡ Some h → h.source ≡ None
     by_port None h e = absurd cc
-    by_port (Some x) h e = let same : unnumbered (of_danh.wanted mac H x (came copy)) ≡ h = cc in sym (ap (λ (g : Handling). g.source) same)
+    by_port (Some x) h e = let same : unnumbered (of_danh.wanted mac mode x (came copy)) ≡ h = cc in sym (ap (λ (g : Handling). g.source) same)
 
-pub danh_numbers : (run : Run) (number : ℕ) (mac : List ℕ) (h : List Entry) → Each (Answered run.capacity (danh number mac)) h → Each (λ x past. NumbersFirst run (danh number mac) past x.event x.outcome) h
-danh_numbers run number mac [] legal = tt
-danh_numbers run number mac (x ∷ past) legal = (step x.event x.outcome legal.0, danh_numbers run number mac past legal.1)
+pub danh_numbers : (run : Run) (number : ℕ) (mac : List ℕ) (mode : Mode) (h : List Entry) → Each (Answered run.capacity (danh number mac mode)) h → Each (λ x past. NumbersFirst run (danh number mac mode) past x.event x.outcome) h
+danh_numbers run number mac mode [] legal = tt
+danh_numbers run number mac mode (x ∷ past) legal = (step x.event x.outcome legal.0, danh_numbers run number mac mode past legal.1)
   where
-    step : (event : Event) (outcome : Outcome) → answer run.capacity (danh number mac) past (now (x ∷ past)) event ≡ Ok outcome → NumbersFirst run (danh number mac) past event outcome
-    step (Arrive port copy) (Judged up_too ports (Some seq) why) ok = absurd (danh_numbers_none run.capacity number mac past (now (x ∷ past)) port copy up_too ports seq why ok)
+    step : (event : Event) (outcome : Outcome) → answer run.capacity (danh number mac mode) past (now (x ∷ past)) event ≡ Ok outcome → NumbersFirst run (danh number mac mode) past event outcome
+    step (Arrive port copy) (Judged up_too ports (Some seq) why) ok = absurd (danh_numbers_none run.capacity number mac mode past (now (x ∷ past)) port copy up_too ports seq why ok)
     step (Arrive port copy) (Judged up_too ports None why) ok = tt
     step (Arrive port copy) (Sent seq ports) ok = tt
     step (Arrive port copy) (Life seq life ports) ok = tt
@@ -67,9 +67,9 @@ danh_numbers run number mac (x ∷ past) legal = (step x.event x.outcome legal.0
     step (Supervise about) outcome ok = tt
     step Age outcome ok = tt
 
-module _ (capacity number : ℕ) (mac : List ℕ) where
+module _ (capacity number : ℕ) (mac : List ℕ) (mode : Mode) where
   abbrev me : Owner
-  me = record { number = number; place = Danh mac H }
+  me = record { number = number; place = Danh mac mode }
 
   -- what a note of another node's send is made of
   pub record CameHere (x : Entry) (past : List Entry) (e : Egress) (send : Probe) : Type 0 where
@@ -93,7 +93,7 @@ module _ (capacity number : ℕ) (mac : List ℕ) where
       record { port = c.port; copy = c.copy; is = c.is; ok = c.ok; tagged = (t.tagged, t.is); left = t.left; mine = subst P c.probe mine })
       (λ m.
       let A : Outcome → Type 0 = λ o. answer capacity me past (now (x ∷ past)) (Arrive c.port c.copy) ≡ Ok o in
-      absurd (danh_numbers_none capacity number mac past (now (x ∷ past)) c.port c.copy m.up_too m.out_ports m.seq m.cause (subst A m.out c.ok)))
+      absurd (danh_numbers_none capacity number mac mode past (now (x ∷ past)) c.port c.copy m.up_too m.out_ports m.seq m.cause (subst A m.out c.ok)))
       c.how)
       (note_from capacity me e x past note ok n)
 
@@ -108,7 +108,7 @@ module _ (capacity number : ℕ) (mac : List ℕ) where
 
       left : CameHere x past (egress r) send → list_any (is_copy send) (passes me (exit_port r) (x ∷ past)) ≡ true
       left c =
-          let pass = danh_pass capacity number mac x past (now (x ∷ past)) c.port c.copy r c.is c.ok in
+          let pass = danh_pass capacity number mac mode x past (now (x ∷ past)) c.port c.copy r c.is c.ok in
           let Q : Option Carried → Type 0 = λ o. list_any (is_copy send) (cons_option o (passes me (exit_port r) past)) ≡ true in
           let B : Bool → Type 0 = λ t. Q (option_map (λ octets. record { probe = c.copy.probe; octets = octets }) (if t then as_came c.copy.octets else None)) in
           let F : Option (List ℕ) → Type 0 = λ o. Q (option_map (λ octets. record { probe = c.copy.probe; octets = octets }) o) in
@@ -169,7 +169,7 @@ module _ (capacity number : ℕ) (mac : List ℕ) where
 
   delivered_tagged : (x : Entry) (past : List Entry) (send : Probe) (d : Delivers x past send) → IsTagged d.copy
   delivered_tagged x past send d =
-      danh_tagged mac (knows_at me past (now (x ∷ past)) d.port d.copy) d.port (came d.copy) up
+      danh_tagged mac mode (knows_at me past (now (x ∷ past)) d.port d.copy) d.port (came d.copy) up
       (leaves_wanted capacity me past (now (x ∷ past)) d.port d.copy x.outcome up d.ok d.left)
 
   -- what was delivered was noted
@@ -210,29 +210,29 @@ module _ (capacity number : ℕ) (mac : List ℕ) where
     pub left : (r : RingExit) → list_any (is_copy (record { node = number; place = place })) (passes me (exit_port r) h) ≡ true
 
   -- what an entry that sends lets leave
-  pub own_pass : (x : Entry) (past : List Entry) → Answered capacity me x past → (s : Sending) → sent_by (Danh mac H) x.event x.outcome ≡ Some s →
-      IsOwnSend mac x.event x.outcome s × (probe_handled (record { node = number; place = length past }) x.event ≡ Some (record { node = number; place = length past }))
+  pub own_pass : (x : Entry) (past : List Entry) → Answered capacity me x past → (s : Sending) → sent_by (Danh mac mode) x.event x.outcome ≡ Some s →
+      IsOwnSend mac mode x.event x.outcome s × (probe_handled (record { node = number; place = length past }) x.event ≡ Some (record { node = number; place = length past }))
   own_pass x past ok s is = by_event x.event refl
     where
       here : Probe
       here = record { node = number; place = length past }
 
-      this : SendsOrNot mac x.event x.outcome → IsOwnSend mac x.event x.outcome s
+      this : SendsOrNot mac mode x.event x.outcome → IsOwnSend mac mode x.event x.outcome s
       this (inl none) = let both : None ≡ Some s = sym none.0 ∙ is in absurd cc
       this (inr some) =
           let both : Some some.0 ≡ Some s = sym some.1 ∙ is in
           let same : some.0 ≡ s = cc in
-          let P : Sending → Type 0 = λ t. IsOwnSend mac x.event x.outcome t in
+          let P : Sending → Type 0 = λ t. IsOwnSend mac mode x.event x.outcome t in
           subst P same some.2
 
-      by_event : (event : Event) → x.event ≡ event → IsOwnSend mac x.event x.outcome s × (probe_handled (record { node = number; place = length past }) x.event ≡ Some (record { node = number; place = length past }))
+      by_event : (event : Event) → x.event ≡ event → IsOwnSend mac mode x.event x.outcome s × (probe_handled (record { node = number; place = length past }) x.event ≡ Some (record { node = number; place = length past }))
       by_event (Send from dst vlan kind payload) e =
           let A : Event → Type 0 = λ ev. answer capacity me past (now (x ∷ past)) ev ≡ Ok x.outcome in
-          let S : Event → Type 0 = λ ev. SendsOrNot mac ev x.outcome in
-          (this (subst S (sym e) (danh_sends capacity number mac past (now (x ∷ past)) from dst vlan kind payload x.outcome (subst A e ok))), ap (probe_handled (record { node = number; place = length past })) e)
+          let S : Event → Type 0 = λ ev. SendsOrNot mac mode ev x.outcome in
+          (this (subst S (sym e) (danh_sends capacity number mac mode past (now (x ∷ past)) from dst vlan kind payload x.outcome (subst A e ok))), ap (probe_handled (record { node = number; place = length past })) e)
       by_event (Supervise about) e =
           let A : Event → Type 0 = λ ev. answer capacity me past (now (x ∷ past)) ev ≡ Ok x.outcome in
-          let S : Event → Type 0 = λ ev. SendsOrNot mac ev x.outcome in
-          (this (subst S (sym e) (danh_lives capacity number mac past (now (x ∷ past)) about x.outcome (subst A e ok))), ap (probe_handled (record { node = number; place = length past })) e)
-      by_event Age e = let none : sent_by (Danh mac H) x.event x.outcome ≡ None = ap (λ ev. sent_by (Danh mac H) ev x.outcome) e in absurd cc
-      by_event (Arrive port copy) e = let none : sent_by (Danh mac H) x.event x.outcome ≡ None = ap (λ ev. sent_by (Danh mac H) ev x.outcome) e in absurd cc
+          let S : Event → Type 0 = λ ev. SendsOrNot mac mode ev x.outcome in
+          (this (subst S (sym e) (danh_lives capacity number mac mode past (now (x ∷ past)) about x.outcome (subst A e ok))), ap (probe_handled (record { node = number; place = length past })) e)
+      by_event Age e = let none : sent_by (Danh mac mode) x.event x.outcome ≡ None = ap (λ ev. sent_by (Danh mac mode) ev x.outcome) e in absurd cc
+      by_event (Arrive port copy) e = let none : sent_by (Danh mac mode) x.event x.outcome ≡ None = ap (λ ev. sent_by (Danh mac mode) ev x.outcome) e in absurd cc

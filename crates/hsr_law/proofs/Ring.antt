@@ -1,10 +1,8 @@
 -- A closed run of a ring of DANHs: its nodes, its links, and that all that comes is tagged and of a send.
 use Rattle.std.proofs.Common.{◌≡◌, ◌⊎◌, ℕ, ◌+◌, ◌-◌, ◌%◌, ◌<◌, ◌≤◌, Bool, true, false, List, [], ◌∷◌, length, Option, Some, Ok, Err, refl, sym, ap, ◌∙◌, subst, arith, inl, inr, ⊎_elim, mod-lt}
-use Rattle.std.specs.Prelude.{slice_index_or}
 use Rattle.std.specs.List.{list_any, AllByRecursion, cons_option}
-use Rattle.std.proofs.lemmas.List.{get_or-map, length-map}
 use Rattle.hsr_frame.specs.Grammar.{Fields}
-use Rattle.hsr_frame.specs.declared.node.Mode.TheVariants.{H}
+use Rattle.hsr_frame.specs.declared.node.Mode.{Mode}
 use Rattle.hsr_tag.specs.Seen.{classified}
 use Rattle.hsr_tag.specs.Tag.{tag_of, tagged_spelling}
 use Rattle.hsr_tag.specs.declared.seen.Seen.TheVariants.{Plain, Tagged}
@@ -16,7 +14,7 @@ use Rattle.hsr_node.specs.declared.event.Carried.{Carried}
 use Rattle.hsr_node.specs.declared.event.Event.{Event}
 use Rattle.hsr_node.specs.declared.event.Event.TheVariants.{Send, Supervise, Arrive, Age}
 use Rattle.hsr_node.specs.declared.place.Place.{Place}
-use Rattle.hsr_node.specs.declared.place.Place.TheVariants.{Danh, QuadBox}
+use Rattle.hsr_node.specs.declared.place.Place.TheVariants.{Danh}
 use Rattle.hsr_link.specs.declared.row.Dir.{Dir}
 use Rattle.hsr_link.specs.declared.row.Dir.TheVariants.{Forth, Back}
 use Rattle.hsr_law.specs.Closed.{IsClosed, IsOfSend, IsSend}
@@ -25,7 +23,7 @@ use Rattle.hsr_law.specs.Premises.{IsRing, any_lost, mac_at}
 use Rattle.hsr_law.specs.Run.{Run, ends_of, from_end, is_of, owner_of, past_of, place_of, rows_of, to_end}
 use Rattle.hsr_topology.specs.declared.end.End.{End}
 use Rattle.hsr_law.proofs.Around.{around, around_below, around_end, around_next}
-use Rattle.hsr_law.proofs.Danh.{IsTagged, RingExit, by_a, by_b, danh, danh_port, exit_port}
+use Rattle.hsr_law.proofs.Danh.{Forwards, IsTagged, RingExit, by_a, by_b, danh, danh_port, exit_port, mode_at, mode_of}
 use Rattle.hsr_law.proofs.Keys.{plain_of_send}
 use Rattle.hsr_law.proofs.LinkLaws.{arrives_between, hop_between}
 use Rattle.hsr_law.proofs.Lists.{all_weaker}
@@ -50,14 +48,19 @@ tagged_or_plain run copy o never = by_came (came copy) refl o.frame
 
 module _ (run : Run) (macs : List (List ℕ)) (closed : IsClosed run) (ring : IsRing run macs) where
   pub places : length run.places ≡ length macs
-  places = ap length ring.nodes ∙ length-map macs (λ mac. Danh mac H)
+  places = ring.places
 
-  pub owner_is : (k : ℕ) → k < length macs → owner_of run k ≡ danh k (mac_at macs k)
-  owner_is k below =
-      let place : place_of run k ≡ Danh (mac_at macs k) H = ap (λ ps. slice_index_or ps k QuadBox) ring.nodes ∙ get_or-map (λ mac. Danh mac H) macs k [] QuadBox below in
-      ap (λ (p : Place). record { number = k; place = p }) place
+  place_is : (k : ℕ) → k < length macs → place_of run k ≡ Danh (mac_at macs k) (mode_at run k)
+  place_is k below =
+      ⊎_elim (λ h. h ∙ ap (λ mode. Danh (mac_at macs k) mode) (sym (ap mode_of h))) (λ u. u ∙ ap (λ mode. Danh (mac_at macs k) mode) (sym (ap mode_of u))) (ring.nodes k below)
 
-  pub legal : (k : ℕ) → k < length macs → Each (Answered run.capacity (danh k (mac_at macs k))) (past_of run k)
+  pub forwards : (k : ℕ) → k < length macs → Forwards (mode_at run k)
+  forwards k below = ⊎_elim (λ h. inl (ap mode_of h)) (λ u. inr (ap mode_of u)) (ring.nodes k below)
+
+  pub owner_is : (k : ℕ) → k < length macs → owner_of run k ≡ danh k (mac_at macs k) (mode_at run k)
+  owner_is k below = ap (λ (p : Place). record { number = k; place = p }) (place_is k below)
+
+  pub legal : (k : ℕ) → k < length macs → Each (Answered run.capacity (danh k (mac_at macs k) (mode_at run k))) (past_of run k)
   legal k below =
       let P : Owner → Type 0 = λ owner. Each (Answered run.capacity owner) (past_of run k) in
       subst P (owner_is k below) (legal_each run.capacity (owner_of run k) (past_of run k) (closed.legal k (omega (arith, places))))
@@ -68,20 +71,20 @@ module _ (run : Run) (macs : List (List ℕ)) (closed : IsClosed run) (ring : Is
   next_below : (k : ℕ) → (k + 1) % length macs < length macs
   next_below k = let two : 2 ≤ length macs = ring.two in let some : 0 < length macs = omega arith in mod-lt (k + 1) some
 
-  left_as : (k : ℕ) (r : RingExit) → k < length macs → AllByRecursion (LeavesAs run.capacity k (mac_at macs k) (past_of run k) r) (passes (owner_of run k) (exit_port r) (past_of run k))
+  left_as : (k : ℕ) (r : RingExit) → k < length macs → AllByRecursion (LeavesAs run.capacity k (mac_at macs k) (mode_at run k) (past_of run k) r) (passes (owner_of run k) (exit_port r) (past_of run k))
   left_as k r below =
-      let P : Owner → Type 0 = λ owner. AllByRecursion (LeavesAs run.capacity k (mac_at macs k) (past_of run k) r) (passes owner (exit_port r) (past_of run k)) in
+      let P : Owner → Type 0 = λ owner. AllByRecursion (LeavesAs run.capacity k (mac_at macs k) (mode_at run k) (past_of run k) r) (passes owner (exit_port r) (past_of run k)) in
       subst P (sym (owner_is k below))
-      (all_leave_as run.capacity k (mac_at macs k) (past_of run k) r (past_of run k) (legal k below) (all_at_place (Danh (mac_at macs k) H) (past_of run k)))
+      (all_leave_as run.capacity k (mac_at macs k) (mode_at run k) (past_of run k) r (past_of run k) (legal k below) (all_at_place (Danh (mac_at macs k) (mode_at run k)) (past_of run k)))
 
   -- what is of a send and left a node of the ring is tagged
-  good_if_left : (k : ℕ) (r : RingExit) → k < length macs → (copy : Carried) → LeavesAs run.capacity k (mac_at macs k) (past_of run k) r copy × IsOfSend run copy → IsGood run copy
+  good_if_left : (k : ℕ) (r : RingExit) → k < length macs → (copy : Carried) → LeavesAs run.capacity k (mac_at macs k) (mode_at run k) (past_of run k) r copy × IsOfSend run copy → IsGood run copy
   good_if_left k r below copy both =
       ⊎_elim (λ tagged. (tagged, both.1)) (λ own. (tagged_or_plain run copy both.1 (λ f plain. own_plain own f plain), both.1)) both.0
     where
-      own_plain : IsOwnCopy run.capacity k (mac_at macs k) (past_of run k) r copy → (f : Fields) → came copy ≡ Ok (Plain f) → ⊥
+      own_plain : IsOwnCopy run.capacity k (mac_at macs k) (mode_at run k) (past_of run k) r copy → (f : Fields) → came copy ≡ Ok (Plain f) → ⊥
       own_plain own f plain =
-          let count : length run.places ≡ length macs = ap length ring.nodes ∙ length-map macs (λ mac. Danh mac H) in
+          let count : length run.places ≡ length macs = ring.places in
           let place = ap (λ (o : Owner). o.place) (owner_is k below) in
           let S : Place → Type 0 = λ p. send_at p own.place (past_of run k) ≡ Some own.sending in
           let is : IsSend run (record { node = k; place = own.place }) own.sending = (omega arith, subst S (sym place) own.is) in
@@ -127,16 +130,16 @@ module _ (run : Run) (macs : List (List ℕ)) (closed : IsClosed run) (ring : Is
   good_at_b k below =
       let w = way_a k below in
       let n : ℕ = (k + 1) % length macs in
-      let all = arrives_between run closed (LeavesAs run.capacity ((k + 1) % length macs) (mac_at macs ((k + 1) % length macs)) (past_of run ((k + 1) % length macs)) by_a) k w.dir (at_a ((k + 1) % length macs)) (at_b k) (link_below k below) w.is_from w.is_to
+      let all = arrives_between run closed (LeavesAs run.capacity ((k + 1) % length macs) (mac_at macs ((k + 1) % length macs)) (mode_at run ((k + 1) % length macs)) (past_of run ((k + 1) % length macs)) by_a) k w.dir (at_a ((k + 1) % length macs)) (at_b k) (link_below k below) w.is_from w.is_to
       (left_as ((k + 1) % length macs) by_a (next_below k)) in
-      all_weaker (λ copy. LeavesAs run.capacity ((k + 1) % length macs) (mac_at macs ((k + 1) % length macs)) (past_of run ((k + 1) % length macs)) by_a copy × IsOfSend run copy) (IsGood run) (arrivals 1 (past_of run k))
+      all_weaker (λ copy. LeavesAs run.capacity ((k + 1) % length macs) (mac_at macs ((k + 1) % length macs)) (mode_at run ((k + 1) % length macs)) (past_of run ((k + 1) % length macs)) by_a copy × IsOfSend run copy) (IsGood run) (arrivals 1 (past_of run k))
       (good_if_left ((k + 1) % length macs) by_a (next_below k)) all
 
   good_after : (k : ℕ) → k < length macs → AllByRecursion (IsGood run) (arrivals 0 (past_of run ((k + 1) % length macs)))
   good_after k below =
       let w = way_b k below in
-      let all = arrives_between run closed (LeavesAs run.capacity k (mac_at macs k) (past_of run k) by_b) k w.dir (at_b k) (at_a ((k + 1) % length macs)) (link_below k below) w.is_from w.is_to (left_as k by_b below) in
-      all_weaker (λ copy. LeavesAs run.capacity k (mac_at macs k) (past_of run k) by_b copy × IsOfSend run copy) (IsGood run) (arrivals 0 (past_of run ((k + 1) % length macs)))
+      let all = arrives_between run closed (LeavesAs run.capacity k (mac_at macs k) (mode_at run k) (past_of run k) by_b) k w.dir (at_b k) (at_a ((k + 1) % length macs)) (link_below k below) w.is_from w.is_to (left_as k by_b below) in
+      all_weaker (λ copy. LeavesAs run.capacity k (mac_at macs k) (mode_at run k) (past_of run k) by_b copy × IsOfSend run copy) (IsGood run) (arrivals 0 (past_of run ((k + 1) % length macs)))
       (good_if_left k by_b below) all
 
   -- the place before is one step less than a whole round ahead
@@ -156,10 +159,10 @@ module _ (run : Run) (macs : List (List ℕ)) (closed : IsClosed run) (ring : Is
   good_at k by_b below = good_at_b k below
 
 -- each arrival of a DANH came by A or by B
-pub each_arrival : (P : Carried → Type 0) (capacity number : ℕ) (mac : List ℕ) (h : List Entry) → Each (Answered capacity (danh number mac)) h →
+pub each_arrival : (P : Carried → Type 0) (capacity number : ℕ) (mac : List ℕ) (mode : Mode) (h : List Entry) → Each (Answered capacity (danh number mac mode)) h →
     AllByRecursion P (arrivals 0 h) → AllByRecursion P (arrivals 1 h) → Each (λ x past. OfArrival P x.event) h
-each_arrival P capacity number mac [] legal on_a on_b = tt
-each_arrival P capacity number mac (x ∷ past) legal on_a on_b = step x.event x.outcome legal.0 on_a on_b (each_arrival P capacity number mac past legal.1)
+each_arrival P capacity number mac mode [] legal on_a on_b = tt
+each_arrival P capacity number mac mode (x ∷ past) legal on_a on_b = step x.event x.outcome legal.0 on_a on_b (each_arrival P capacity number mac mode past legal.1)
   where
     Rest : Type 0
     Rest = AllByRecursion P (arrivals 0 past) → AllByRecursion P (arrivals 1 past) → Each (λ x past. OfArrival P x.event) past
@@ -175,10 +178,10 @@ each_arrival P capacity number mac (x ∷ past) legal on_a on_b = step x.event x
         let B : ℕ → Type 0 = λ n. AllByRecursion P (cons_option (copy_at 1 (Arrive n copy)) (arrivals 1 past)) in
         let first = subst B e on_b in (first.0, rest (subst A e on_a) first.1)
 
-    step : (event : Event) (outcome : Rattle.hsr_node.specs.declared.event.Outcome.Outcome) → answer capacity (danh number mac) past (now (x ∷ past)) event ≡ Ok outcome →
+    step : (event : Event) (outcome : Rattle.hsr_node.specs.declared.event.Outcome.Outcome) → answer capacity (danh number mac mode) past (now (x ∷ past)) event ≡ Ok outcome →
         AllByRecursion P (cons_option (copy_at 0 event) (arrivals 0 past)) → AllByRecursion P (cons_option (copy_at 1 event) (arrivals 1 past)) → Rest →
         OfArrival P event × Each (λ x past. OfArrival P x.event) past
     step (Send from dst vlan kind payload) outcome ok on_a on_b rest = (tt, rest on_a on_b)
     step (Supervise about) outcome ok on_a on_b rest = (tt, rest on_a on_b)
     step Age outcome ok on_a on_b rest = (tt, rest on_a on_b)
-    step (Arrive port copy) outcome ok on_a on_b rest = ports port copy (danh_port capacity number mac past (now (x ∷ past)) port copy outcome ok) on_a on_b rest
+    step (Arrive port copy) outcome ok on_a on_b rest = ports port copy (danh_port capacity number mac mode past (now (x ∷ past)) port copy outcome ok) on_a on_b rest

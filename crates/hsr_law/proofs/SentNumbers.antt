@@ -1,7 +1,7 @@
 -- The number of a send by its place, and the source and number of a DANH's own frame.
 use Rattle.std.proofs.Common.{◌≡◌, ℕ, ◌%◌, ◌<◌, ◌==◌, Bool, true, false, if◌then◌else◌, List, [], ◌∷◌, length, Some, refl, ◌∙◌, arith, eq-eqb, ne_eqb}
 use Rattle.std.proofs.lemmas.Bool.{false≢true, cond-true, cond-false}
-use Rattle.hsr_frame.specs.declared.node.Mode.TheVariants.{H}
+use Rattle.hsr_frame.specs.declared.node.Mode.{Mode}
 use Rattle.hsr_node.specs.Copies.{address_at, asked_frame, life_frame, ring_address}
 use Rattle.hsr_node.specs.Flow.{send_at, sent_by}
 use Rattle.hsr_node.specs.declared.sending.Sending.{Sending}
@@ -31,15 +31,15 @@ sent_number place (Supervise about) Aged s h = absurd cc
 sent_number place (Arrive port copy) outcome s h = absurd cc
 sent_number place Age outcome s h = absurd cc
 
-pub seq_at : (capacity k : ℕ) (mac : List ℕ) (n : ℕ) (s : Sending) (h : List Entry) → Each (Answered capacity (danh k mac)) h → send_at (Danh mac H) n h ≡ Some s → s.seq ≡ Some (numbered_at n h % 65536)
-seq_at capacity k mac n s [] legal is = absurd cc
-seq_at capacity k mac n s (x ∷ past) legal is = step (n == length past) is (seq_at capacity k mac n s past legal.1)
+pub seq_at : (capacity k : ℕ) (mac : List ℕ) (mode : Mode) (n : ℕ) (s : Sending) (h : List Entry) → Each (Answered capacity (danh k mac mode)) h → send_at (Danh mac mode) n h ≡ Some s → s.seq ≡ Some (numbered_at n h % 65536)
+seq_at capacity k mac mode n s [] legal is = absurd cc
+seq_at capacity k mac mode n s (x ∷ past) legal is = step (n == length past) is (seq_at capacity k mac mode n s past legal.1)
   where
-    step : (b : Bool) → (if b then sent_by (Danh mac H) x.event x.outcome else send_at (Danh mac H) n past) ≡ Some s → (send_at (Danh mac H) n past ≡ Some s → s.seq ≡ Some (numbered_at n past % 65536)) →
+    step : (b : Bool) → (if b then sent_by (Danh mac mode) x.event x.outcome else send_at (Danh mac mode) n past) ≡ Some s → (send_at (Danh mac mode) n past ≡ Some s → s.seq ≡ Some (numbered_at n past % 65536)) →
         s.seq ≡ Some ((if b then numbered past else numbered_at n past) % 65536)
     step true is rest =
-        let two = sent_number (Danh mac H) x.event x.outcome s is in
-        two.0 ∙ danh_number capacity k mac past (now (x ∷ past)) x.event x.outcome legal.0 two.1
+        let two = sent_number (Danh mac mode) x.event x.outcome s is in
+        two.0 ∙ danh_number capacity k mac mode past (now (x ∷ past)) x.event x.outcome legal.0 two.1
     step false is rest = rest is
 
 -- how many numbered frames came before the entry at its place
@@ -51,8 +51,8 @@ each_counted whole (x ∷ past) agree = (
 )
 
 -- the key of a DANH's own frame
-pub own_key_is : (mac : List ℕ) (event : Event) (outcome : Outcome) → is_sending event ≡ true → key_handled (Danh mac H) event outcome ≡ own_key (Some mac) (number_in outcome)
-own_key_is mac (Send from dst vlan kind payload) outcome is = refl
-own_key_is mac (Supervise about) outcome is = refl
-own_key_is mac (Arrive port copy) outcome is = absurd (false≢true is)
-own_key_is mac Age outcome is = absurd (false≢true is)
+pub own_key_is : (mac : List ℕ) (mode : Mode) (event : Event) (outcome : Outcome) → is_sending event ≡ true → key_handled (Danh mac mode) event outcome ≡ own_key (Some mac) (number_in outcome)
+own_key_is mac mode (Send from dst vlan kind payload) outcome is = refl
+own_key_is mac mode (Supervise about) outcome is = refl
+own_key_is mac mode (Arrive port copy) outcome is = absurd (false≢true is)
+own_key_is mac mode Age outcome is = absurd (false≢true is)

@@ -5,7 +5,6 @@ use Rattle.std.specs.List.{list_any, AllByRecursion}
 use Rattle.std.proofs.lemmas.Bool.{false≢true, and_parts, not-true, cases_order, false_from_ne_true}
 use Rattle.hsr_frame.specs.Egress.{Egress}
 use Rattle.hsr_frame.specs.Grammar.{Fields}
-use Rattle.hsr_frame.specs.declared.node.Mode.TheVariants.{H}
 use Rattle.hsr_tag.specs.Tag.{TaggedFields}
 use Rattle.hsr_tag.specs.declared.seen.Seen.TheVariants.{Plain, Tagged}
 use Rattle.hsr_duptable.specs.Key.{Key, is_same_key}
@@ -24,7 +23,7 @@ use Rattle.hsr_law.specs.Budget.{BudgetTells, IsBudgetHeld, IsInTime, is_sending
 use Rattle.hsr_law.specs.Closed.{IsClosed, IsOfSend}
 use Rattle.hsr_law.specs.Premises.{IsRing, KnowsOwn, is_mistaken, is_note_of, mac_at}
 use Rattle.hsr_law.specs.Run.{Run, given, is_of, is_same_send, past_of, place_of}
-use Rattle.hsr_law.proofs.Danh.{danh}
+use Rattle.hsr_law.proofs.Danh.{danh, mode_at}
 use Rattle.hsr_law.proofs.InBudget.{notes_below}
 use Rattle.hsr_law.proofs.Keys.{each_of_send, tagged_of_send}
 use Rattle.hsr_law.proofs.Lists.{all_both, all_filter, all_take, any_so, any_with, filter_holds}
@@ -55,8 +54,8 @@ module _ (run : Run) (macs : List (List ℕ)) (closed : IsClosed run) (ring : Is
       let place = ap (λ (w : Owner). w.place) (owner_is run macs closed ring o.send.node below) in
       let P : Place → Type 0 = λ p. send_at p o.send.place (past_of run o.send.node) ≡ Some o.sending in
       let there = subst P place o.is_send.1 in
-      let source : o.sending.frame.src ≡ mac_at macs o.send.node = source_of (Danh (mac_at macs o.send.node) H) o.send.place (past_of run o.send.node) o.sending there in
-      let seq = seq_at run.capacity o.send.node (mac_at macs o.send.node) o.send.place o.sending (past_of run o.send.node) (legal run macs closed ring o.send.node below) there in
+      let source : o.sending.frame.src ≡ mac_at macs o.send.node = source_of (Danh (mac_at macs o.send.node) (mode_at run o.send.node)) o.send.place (past_of run o.send.node) o.sending there in
+      let seq = seq_at run.capacity o.send.node (mac_at macs o.send.node) (mode_at run o.send.node) o.send.place o.sending (past_of run o.send.node) (legal run macs closed ring o.send.node below) there in
       let number : Some (numbered_at o.send.place (past_of run o.send.node) % 65536) ≡ Some t.seq = ap (λ n. option_or n (given run o.send)) (sym seq) ∙ two.1 in
       let equal : numbered_at o.send.place (past_of run o.send.node) % 65536 ≡ t.seq = cc in
       record {
@@ -72,9 +71,9 @@ module _ (run : Run) (macs : List (List ℕ)) (closed : IsClosed run) (ring : Is
   wraps k lo hi inside first second before close same =
       let ok = legal run macs closed ring k inside in
       let in_range : k < length run.places = omega (arith, places run macs closed ring) in
-      let there = send_numbered run.capacity k (mac_at macs k) hi (past_of run k) ok second in
-      let more = later_number run.capacity k (mac_at macs k) lo hi (past_of run k) ok first before there.below in
-      let some = sends_between run.capacity k (mac_at macs k) lo hi (moment_at lo (past_of run k)) 800 (past_of run k) ok before there.below (Rattle.std.proofs.Common.le_refl _) close in
+      let there = send_numbered run.capacity k (mac_at macs k) (mode_at run k) hi (past_of run k) ok second in
+      let more = later_number run.capacity k (mac_at macs k) (mode_at run k) lo hi (past_of run k) ok first before there.below in
+      let some = sends_between run.capacity k (mac_at macs k) (mode_at run k) lo hi (moment_at lo (past_of run k)) 800 (past_of run k) ok before there.below (Rattle.std.proofs.Common.le_refl _) close in
       let all = count_below run (is_within (moment_at lo (past_of run k)) 800) k (length run.places) in_range in
       let at_start = any_so (is_sent (record { node = k; place = lo }) (moment_at lo (past_of run k))) (λ s. s.moment == moment_at lo (past_of run k)) (sends_of run)
       (λ s h. (and_parts (is_of (record { node = k; place = lo }) (Some s.send)) (s.moment == moment_at lo (past_of run k)) h).1)
@@ -105,26 +104,26 @@ module _ (run : Run) (macs : List (List ℕ)) (closed : IsClosed run) (ring : Is
     pub named : note.probe ≡ Some send
     pub key : IsKey send note.key
 
-  notes_keyed : (k : ℕ) (e : Egress) (h : List Entry) → k < length macs → Each (Answered run.capacity (danh k (mac_at macs k))) h → Each (StandsAt (past_of run k)) h →
-      Each (λ x past. numbered_at (length past) (past_of run k) ≡ numbered past) h → Each (λ x past. OfArrival (IsOfSend run) x.event) h → AllByRecursion IsKeyed (notes (danh k (mac_at macs k)) e h)
+  notes_keyed : (k : ℕ) (e : Egress) (h : List Entry) → k < length macs → Each (Answered run.capacity (danh k (mac_at macs k) (mode_at run k))) h → Each (StandsAt (past_of run k)) h →
+      Each (λ x past. numbered_at (length past) (past_of run k) ≡ numbered past) h → Each (λ x past. OfArrival (IsOfSend run) x.event) h → AllByRecursion IsKeyed (notes (danh k (mac_at macs k) (mode_at run k)) e h)
   notes_keyed k e [] below legal stands counted of_send = tt
   notes_keyed k e (x ∷ past) below legal stands counted of_send =
-      all_notes_more IsKeyed (danh k (mac_at macs k)) e x past one (notes_keyed k e past below legal.1 stands.1 counted.1 of_send.1)
+      all_notes_more IsKeyed (danh k (mac_at macs k) (mode_at run k)) e x past one (notes_keyed k e past below legal.1 stands.1 counted.1 of_send.1)
     where
-      own_is : (note : Noted) → IsNoteOf (danh k (mac_at macs k)) e x past note → is_sending x.event ≡ true → (note.key.src ≡ mac_at macs k) × (note.key.seq ≡ next_number past)
+      own_is : (note : Noted) → IsNoteOf (danh k (mac_at macs k) (mode_at run k)) e x past note → is_sending x.event ≡ true → (note.key.src ≡ mac_at macs k) × (note.key.seq ≡ next_number past)
       own_is note n is =
-          let number = danh_number run.capacity k (mac_at macs k) past (now (x ∷ past)) x.event x.outcome legal.0 is in
+          let number = danh_number run.capacity k (mac_at macs k) (mode_at run k) past (now (x ∷ past)) x.event x.outcome legal.0 is in
           let key : Some (let made : Key = record { src = mac_at macs k; seq = next_number past } in made) ≡ Some note.key =
-          ap (own_key (Some (mac_at macs k))) (sym number) ∙ (sym (own_key_is (mac_at macs k) x.event x.outcome is) ∙ n.key) in
+          ap (own_key (Some (mac_at macs k))) (sym number) ∙ (sym (own_key_is (mac_at macs k) (mode_at run k) x.event x.outcome is) ∙ n.key) in
           let made : Key = record { src = mac_at macs k; seq = next_number past } in
           let same : made ≡ note.key = cc in
           (ap (λ (q : Key). q.src) (sym same), ap (λ (q : Key). q.seq) (sym same))
 
-      not_given : (key : Key) (port : ℕ) (copy : Carried) → CameNumbered port copy x.outcome key → answer run.capacity (danh k (mac_at macs k)) past (now (x ∷ past)) (Arrive port copy) ≡ Ok x.outcome → ⊥
+      not_given : (key : Key) (port : ℕ) (copy : Carried) → CameNumbered port copy x.outcome key → answer run.capacity (danh k (mac_at macs k) (mode_at run k)) past (now (x ∷ past)) (Arrive port copy) ≡ Ok x.outcome → ⊥
       not_given key port copy m ok =
-          danh_numbers_none run.capacity k (mac_at macs k) past (now (x ∷ past)) port copy m.up_too m.out_ports m.seq m.cause (ok ∙ ap (λ (o : Outcome). Ok o) m.out)
+          danh_numbers_none run.capacity k (mac_at macs k) (mode_at run k) past (now (x ∷ past)) port copy m.up_too m.out_ports m.seq m.cause (ok ∙ ap (λ (o : Outcome). Ok o) m.out)
 
-      one : (note : Noted) → IsNoteOf (danh k (mac_at macs k)) e x past note → IsKeyed note
+      one : (note : Noted) → IsNoteOf (danh k (mac_at macs k) (mode_at run k)) e x past note → IsKeyed note
       one note n =
           ⊎_elim
           (λ own.
@@ -147,13 +146,13 @@ module _ (run : Run) (macs : List (List ℕ)) (closed : IsClosed run) (ring : Is
                 (λ m. absurd (not_given note.key c.port c.copy m c.ok))
                 c.how;
           })
-          (note_kind run.capacity (danh k (mac_at macs k)) e x past note legal.0 n)
+          (note_kind run.capacity (danh k (mac_at macs k) (mode_at run k)) e x past note legal.0 n)
 
   -- ---- what is remembered with the source and number of an arrival is of its send
 
-  knows_own : (k : ℕ) → k < length macs → (h : List Entry) → Each (Answered run.capacity (danh k (mac_at macs k))) h → Each (StandsAt (past_of run k)) h →
+  knows_own : (k : ℕ) → k < length macs → (h : List Entry) → Each (Answered run.capacity (danh k (mac_at macs k) (mode_at run k))) h → Each (StandsAt (past_of run k)) h →
       Each (λ x past. numbered_at (length past) (past_of run k) ≡ numbered past) h → Each (λ x past. OfArrival (IsOfSend run) x.event) h → Each (λ x past. IsInTime run (now (x ∷ past)) x.event) h →
-      Each (λ x past. KnowsOwn run.capacity (danh k (mac_at macs k)) past (now (x ∷ past)) x.event) h
+      Each (λ x past. KnowsOwn run.capacity (danh k (mac_at macs k) (mode_at run k)) past (now (x ∷ past)) x.event) h
   knows_own k below [] legal stands counted of_send in_time = tt
   knows_own k below (x ∷ past) legal stands counted of_send in_time =
       (by_event x.event of_send.0 in_time.0, knows_own k below past legal.1 stands.1 counted.1 of_send.1 in_time.1)
@@ -161,22 +160,22 @@ module _ (run : Run) (macs : List (List ℕ)) (closed : IsClosed run) (ring : Is
       Fact : Noted → Type 0
       Fact note = IsTimely run note × (IsKeyed note × ((note.moment ≤ now past) × (nat_lt (now (x ∷ past) - note.moment) 400 ≡ true)))
 
-      facts : (e : Egress) → AllByRecursion Fact (remembered run.capacity (now (x ∷ past)) (notes (danh k (mac_at macs k)) e past))
+      facts : (e : Egress) → AllByRecursion Fact (remembered run.capacity (now (x ∷ past)) (notes (danh k (mac_at macs k) (mode_at run k)) e past))
       facts e =
-          let kept = λ (P : Noted → Type 0) (all : AllByRecursion P (notes (danh k (mac_at macs k)) e past)).
-          all_filter P (λ n. nat_lt (now (x ∷ past) - n.moment) 400) (take run.capacity (notes (danh k (mac_at macs k)) e past)) (all_take P run.capacity (notes (danh k (mac_at macs k)) e past) all) in
+          let kept = λ (P : Noted → Type 0) (all : AllByRecursion P (notes (danh k (mac_at macs k) (mode_at run k)) e past)).
+          all_filter P (λ n. nat_lt (now (x ∷ past) - n.moment) 400) (take run.capacity (notes (danh k (mac_at macs k) (mode_at run k)) e past)) (all_take P run.capacity (notes (danh k (mac_at macs k) (mode_at run k)) e past) all) in
           let in_range : k < length run.places = omega (arith, places run macs closed ring) in
           let T : Owner → Type 0 = λ o. Each (Answered run.capacity o) past in
           let U : Owner → Type 0 = λ o. AllByRecursion (IsTimely run) (notes o e past) in
           let owner = owner_is run macs closed ring k below in
           let timely = subst U owner (notes_timely run k e past in_range (subst T (sym owner) legal.1) stands.1 of_send.1 in_time.1) in
-          all_both (IsTimely run) (λ (n : Noted). IsKeyed n × ((n.moment ≤ now past) × (nat_lt (now (x ∷ past) - n.moment) 400 ≡ true))) (remembered run.capacity (now (x ∷ past)) (notes (danh k (mac_at macs k)) e past))
+          all_both (IsTimely run) (λ (n : Noted). IsKeyed n × ((n.moment ≤ now past) × (nat_lt (now (x ∷ past) - n.moment) 400 ≡ true))) (remembered run.capacity (now (x ∷ past)) (notes (danh k (mac_at macs k) (mode_at run k)) e past))
           (kept (IsTimely run) timely)
-          (all_both IsKeyed (λ (n : Noted). (n.moment ≤ now past) × (nat_lt (now (x ∷ past) - n.moment) 400 ≡ true)) (remembered run.capacity (now (x ∷ past)) (notes (danh k (mac_at macs k)) e past))
+          (all_both IsKeyed (λ (n : Noted). (n.moment ≤ now past) × (nat_lt (now (x ∷ past) - n.moment) 400 ≡ true)) (remembered run.capacity (now (x ∷ past)) (notes (danh k (mac_at macs k) (mode_at run k)) e past))
           (kept IsKeyed (notes_keyed k e past below legal.1 stands.1 counted.1 of_send.1))
-          (all_both (λ (n : Noted). n.moment ≤ now past) (λ (n : Noted). nat_lt (now (x ∷ past) - n.moment) 400 ≡ true) (remembered run.capacity (now (x ∷ past)) (notes (danh k (mac_at macs k)) e past))
-          (kept (λ (n : Noted). n.moment ≤ now past) (notes_below (danh k (mac_at macs k)) e past))
-          (filter_holds (λ n. nat_lt (now (x ∷ past) - n.moment) 400) (take run.capacity (notes (danh k (mac_at macs k)) e past)))))
+          (all_both (λ (n : Noted). n.moment ≤ now past) (λ (n : Noted). nat_lt (now (x ∷ past) - n.moment) 400 ≡ true) (remembered run.capacity (now (x ∷ past)) (notes (danh k (mac_at macs k) (mode_at run k)) e past))
+          (kept (λ (n : Noted). n.moment ≤ now past) (notes_below (danh k (mac_at macs k) (mode_at run k)) e past))
+          (filter_holds (λ n. nat_lt (now (x ∷ past) - n.moment) 400) (take run.capacity (notes (danh k (mac_at macs k) (mode_at run k)) e past)))))
 
       key_here : (copy : Carried) (o : IsOfSend run copy) (key : Key) → key_in (came copy) None ≡ Some key → IsKey o.send key
       key_here copy o key h = by_came (came copy) refl h
@@ -210,14 +209,14 @@ module _ (run : Run) (macs : List (List ℕ)) (closed : IsClosed run) (ring : Is
           let R : Probe → Type 0 = λ p. is_of o.send (Some p) ≡ true in
           subst P (sym o.named) (subst Q (sym keyed.named) (subst R equal (is_of_itself o.send)))
 
-      by_event : (event : Event) → OfArrival (IsOfSend run) event → IsInTime run (now (x ∷ past)) event → KnowsOwn run.capacity (danh k (mac_at macs k)) past (now (x ∷ past)) event
+      by_event : (event : Event) → OfArrival (IsOfSend run) event → IsInTime run (now (x ∷ past)) event → KnowsOwn run.capacity (danh k (mac_at macs k) (mode_at run k)) past (now (x ∷ past)) event
       by_event (Send from dst vlan kind payload) o t = tt
       by_event (Supervise about) o t = tt
       by_event Age o t = tt
       by_event (Arrive port copy) o t = λ on_ring e wanted key is.
-          false_from_ne_true (list_any (is_mistaken key copy.probe) (remembered run.capacity (now (x ∷ past)) (notes (danh k (mac_at macs k)) e past)))
+          false_from_ne_true (list_any (is_mistaken key copy.probe) (remembered run.capacity (now (x ∷ past)) (notes (danh k (mac_at macs k) (mode_at run k)) e past)))
           (λ bad.
-          let found = any_with Fact (is_mistaken key copy.probe) (remembered run.capacity (now (x ∷ past)) (notes (danh k (mac_at macs k)) e past)) (facts e) bad in
+          let found = any_with Fact (is_mistaken key copy.probe) (remembered run.capacity (now (x ∷ past)) (notes (danh k (mac_at macs k) (mode_at run k)) e past)) (facts e) bad in
           let parts = and_parts (is_same_key (found.0).key key) (not (is_note_of copy.probe found.0)) found.2 in
           false≢true (sym (not-true (is_note_of copy.probe found.0) parts.1) ∙ same copy o t key is found.0 found.1 parts.0))
 

@@ -5,7 +5,6 @@ use Rattle.std.proofs.lemmas.Bool.{false≢true, cases_Bool}
 use Rattle.hsr_frame.specs.Address.{is_group, is_same_address}
 use Rattle.hsr_frame.specs.Egress.{Egress, up}
 use Rattle.hsr_frame.specs.Grammar.{Fields}
-use Rattle.hsr_frame.specs.declared.node.Mode.TheVariants.{H}
 use Rattle.hsr_tag.specs.Tag.{TaggedFields, untag_of}
 use Rattle.hsr_tag.specs.declared.seen.Seen.TheVariants.{Tagged}
 use Rattle.hsr_node.specs.Flow.{arrivals, passes, send_at, wants}
@@ -21,11 +20,11 @@ use Rattle.hsr_law.specs.Premises.{IsRing, KnowsOwn, NothingMistaken, OneLossyLi
 use Rattle.hsr_law.specs.Run.{Run, owner_of, past_of, rows_of}
 use Rattle.hsr_law.proofs.Around.{around, around_below, around_differ, around_end, around_next, around_start, search_below, steps_to}
 use Rattle.hsr_law.proofs.Arrived.{WouldGo, arrived_noted}
-use Rattle.hsr_law.proofs.Danh.{RingExit, by_a, by_b, danh, egress, exit_port}
+use Rattle.hsr_law.proofs.Danh.{RingExit, by_a, by_b, danh, egress, exit_port, mode_at}
 use Rattle.hsr_law.proofs.Keys.{tagged_of_send}
 use Rattle.hsr_law.proofs.Lists.{all_weaker}
 use Rattle.hsr_law.proofs.Passed.{SentByBoth, noted_delivered, noted_passed}
-use Rattle.hsr_law.proofs.Ring.{IsGood, good_at, hop_a, hop_b, legal, link_below, owner_is, places}
+use Rattle.hsr_law.proofs.Ring.{IsGood, forwards, good_at, hop_a, hop_b, legal, link_below, owner_is, places}
 use Rattle.hsr_law.proofs.RingWants.{across, wants_across, wants_up}
 use Rattle.hsr_law.proofs.Same.{same_address}
 use Rattle.hsr_law.proofs.Sends.{send_passed}
@@ -37,11 +36,11 @@ module _ (run : Run) (macs : List (List ℕ)) (closed : IsClosed run) (ring : Is
   pub sender_below : send.node < length macs
   sender_below = omega (arith, is.0, places run macs closed ring)
 
-  pub sent : SentByBoth run.capacity send.node (mac_at macs send.node) send.place sending (past_of run send.node)
+  pub sent : SentByBoth run.capacity send.node (mac_at macs send.node) (mode_at run send.node) send.place sending (past_of run send.node)
   sent =
       let place = ap (λ (o : Owner). o.place) (owner_is run macs closed ring send.node sender_below) in
       let P : Place → Type 0 = λ p. send_at p send.place (past_of run send.node) ≡ Some sending in
-      send_passed run.capacity send.node (mac_at macs send.node) send.place sending (past_of run send.node) (legal run macs closed ring send.node sender_below) (subst P place is.1)
+      send_passed run.capacity send.node (mac_at macs send.node) (mode_at run send.node) send.place sending (past_of run send.node) (legal run macs closed ring send.node sender_below) (subst P place is.1)
 
   abbrev Passed : RingExit → ℕ → Type 0
   Passed r k = list_any (is_copy send) (passes (owner_of run k) (exit_port r) (past_of run k)) ≡ true
@@ -51,20 +50,20 @@ module _ (run : Run) (macs : List (List ℕ)) (closed : IsClosed run) (ring : Is
 
   -- a node wants the send at an egress when it comes to a port
   abbrev Wants : ℕ → RingExit → Egress → Type 0
-  Wants k r e = (t : TaggedFields) → untag_of t ≡ sending.frame → (known : List ℕ → Bool) → wants (Danh (mac_at macs k) H) known (exit_port r) (Ok (Tagged t)) e ≡ true
+  Wants k r e = (t : TaggedFields) → untag_of t ≡ sending.frame → (known : List ℕ → Bool) → wants (Danh (mac_at macs k) (mode_at run k)) known (exit_port r) (Ok (Tagged t)) e ≡ true
 
   -- what comes to a node and wants an egress was noted there
   pub noted_there : NothingMistaken run → (k : ℕ) (r : RingExit) (e : Egress) → k < length macs → Wants k r e → Came r k →
-      list_any (is_note_of (Some send)) (notes (danh k (mac_at macs k)) e (past_of run k)) ≡ true
+      list_any (is_note_of (Some send)) (notes (danh k (mac_at macs k) (mode_at run k)) e (past_of run k)) ≡ true
   noted_there sure k r e below wanted came =
       let O : Owner → Type 0 = λ o. Each (λ x past. KnowsOwn run.capacity o past (now (x ∷ past)) x.event) (past_of run k) in
       let in_range : k < length run.places = omega (arith, places run macs closed ring) in
-      arrived_noted run.capacity (danh k (mac_at macs k)) e send (exit_port r) (past_of run k) (legal run macs closed ring k below)
+      arrived_noted run.capacity (danh k (mac_at macs k) (mode_at run k)) e send (exit_port r) (past_of run k) (legal run macs closed ring k below)
       (subst O (owner_is run macs closed ring k below) (sure k in_range))
-      (all_weaker (IsGood run) (WouldGo (danh k (mac_at macs k)) (exit_port r) e send) (arrivals (exit_port r) (past_of run k)) would (good_at run macs closed ring k r below))
+      (all_weaker (IsGood run) (WouldGo (danh k (mac_at macs k) (mode_at run k)) (exit_port r) e send) (arrivals (exit_port r) (past_of run k)) would (good_at run macs closed ring k r below))
       came
     where
-      would : (copy : Carried) → IsGood run copy → WouldGo (danh k (mac_at macs k)) (exit_port r) e send copy
+      would : (copy : Carried) → IsGood run copy → WouldGo (danh k (mac_at macs k) (mode_at run k)) (exit_port r) e send copy
       would copy good mine =
           let two = tagged_of_send run send sending copy good.1 mine is good.0.0 good.0.1 in
           record { tagged = good.0.0; is = good.0.1; wanted = wanted good.0.0 two.0 }
@@ -80,9 +79,9 @@ module _ (run : Run) (macs : List (List ℕ)) (closed : IsClosed run) (ring : Is
   passed_along sure k r below between came =
       let P : Owner → Type 0 = λ o. list_any (is_copy send) (passes o (exit_port (across r)) (past_of run k)) ≡ true in
       subst P (sym (owner_is run macs closed ring k below))
-      (noted_passed run.capacity k (mac_at macs k) (across r) send (past_of run k) (legal run macs closed ring k below) between.not_sender
+      (noted_passed run.capacity k (mac_at macs k) (mode_at run k) (across r) send (past_of run k) (legal run macs closed ring k below) between.not_sender
       (noted_there sure k r (egress (across r)) below
-      (λ t same known. wants_across (mac_at macs k) known r t (λ e. between.not_source (sym (ap (λ (f : Fields). f.src) same) ∙ e)) (λ e. between.not_receiver (sym (ap (λ (f : Fields). f.dst) same) ∙ e)))
+      (λ t same known. wants_across (mac_at macs k) (mode_at run k) (forwards run macs closed ring k below) known r t (λ e. between.not_source (sym (ap (λ (f : Fields). f.src) same) ∙ e)) (λ e. between.not_receiver (sym (ap (λ (f : Fields). f.dst) same) ∙ e)))
       came))
 
   -- ---- round the ring from the sender
@@ -205,7 +204,7 @@ module _ (run : Run) (macs : List (List ℕ)) (closed : IsClosed run) (ring : Is
     pub delivered : OneLossyLink run → (k : ℕ) → k < length macs → is_addressed macs send.node sending.frame k ≡ true → list_any (delivers send) (past_of run k) ≡ true
     delivered one k below for_it =
         let other = not_sender k for_it in
-        noted_delivered run.capacity k (mac_at macs k) send (past_of run k) (legal run macs closed ring k below) (λ e. other (sym e))
+        noted_delivered run.capacity k (mac_at macs k) (mode_at run k) send (past_of run k) (legal run macs closed ring k below) (λ e. other (sym e))
         (⊎_elim
         (λ came. noted_there sure k by_a up below (wanted by_a other) came)
         (λ came. noted_there sure k by_b up below (wanted by_b other) came)
@@ -217,6 +216,6 @@ module _ (run : Run) (macs : List (List ℕ)) (closed : IsClosed run) (ring : Is
 
         wanted : (r : RingExit) → (k ≡ send.node → ⊥) → Wants k r up
         wanted r other t same known =
-            wants_up (mac_at macs k) known r t
+            wants_up (mac_at macs k) (mode_at run k) known r t
             (λ e. other (sym (ring.differ send.node k sender_below below (sym (sent.source) ∙ (sym (ap (λ (f : Fields). f.src) same) ∙ e)))))
             (λ g. ap (λ (f : Fields). f.dst) same ∙ for_me (is_group sending.frame.dst) refl for_it (ap (λ (f : Fields). is_group f.dst) (sym same) ∙ g))

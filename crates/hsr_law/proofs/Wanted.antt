@@ -5,11 +5,11 @@ use Rattle.std.proofs.lemmas.Bool.{false≢true}
 use Rattle.hsr_frame.specs.Address.{is_group, is_same_address, supervision_address}
 use Rattle.hsr_supervision.specs.Payload as payload
 use Rattle.hsr_frame.specs.Cases.{first_of}
-use Rattle.hsr_frame.specs.Egress.{Egress, up, a, b, c, d, beyond, in_mode, is_supervision, nowhere, to, has_exit}
+use Rattle.hsr_frame.specs.Egress.{Egress, up, a, b, c, d, beyond, in_mode, is_supervision, nowhere, onward, to, has_exit}
 use Rattle.hsr_frame.specs.Grammar.{Fields}
 use Rattle.hsr_frame.specs.declared.egress.Wants.{Wants}
 use Rattle.hsr_frame.specs.declared.node.Mode.{Mode}
-use Rattle.hsr_frame.specs.declared.node.Mode.TheVariants.{H, N}
+use Rattle.hsr_frame.specs.declared.node.Mode.TheVariants.{H, N, U}
 use Rattle.hsr_frame.specs.declared.node.Cause.TheVariants.{Returned}
 use Rattle.hsr_frame.specs.declared.node.Cause.TheVariants as cause
 use Rattle.hsr_frame.specs.declared.node.RingPort.{RingPort}
@@ -103,6 +103,11 @@ nothing_left H a = refl
 nothing_left H b = refl
 nothing_left H c = refl
 nothing_left H d = refl
+nothing_left U up = refl
+nothing_left U a = refl
+nothing_left U b = refl
+nothing_left U c = refl
+nothing_left U d = refl
 nothing_left N up = refl
 nothing_left N a = refl
 nothing_left N b = refl
@@ -120,12 +125,12 @@ returned : (mode : Mode) (own : Bool) (rest : List (Bool × Wants)) (other : Wan
 returned mode true rest other e h = nothing_left mode e
 returned mode false rest other e h = absurd (false≢true h)
 
-danh_returned : (mac : List ℕ) (mode : Mode) (x : RingPort) (t : TaggedFields) (e : Egress) → t.src ≡ mac → has_exit (in_mode mode (of_danh.wanted_tagged mac x t)).exits e ≡ false
-danh_returned mac mode x t e own = returned mode (is_same_address t.src mac) ((is_same_address t.dst mac, to (up ∷ [])) ∷ (is_group t.dst, to (up ∷ beyond x ∷ [])) ∷ []) (to (beyond x ∷ [])) e (address_same t.src mac own)
+danh_returned : (mac : List ℕ) (mode : Mode) (x : RingPort) (t : TaggedFields) (e : Egress) → t.src ≡ mac → has_exit (in_mode mode (of_danh.wanted_tagged mac mode x t)).exits e ≡ false
+danh_returned mac mode x t e own = returned mode (is_same_address t.src mac) ((is_same_address t.dst mac, to (up ∷ onward mode x)) ∷ (is_group t.dst, to (up ∷ beyond x ∷ [])) ∷ []) (to (beyond x ∷ [])) e (address_same t.src mac own)
 
-box_returned : (mac : List ℕ) (mode : Mode) (known : List ℕ → Bool) (x : RingPort) (t : TaggedFields) (e : Egress) → t.src ≡ mac → has_exit (in_mode mode (of_redbox.wanted_tagged mac known x t)).exits e ≡ false
+box_returned : (mac : List ℕ) (mode : Mode) (known : List ℕ → Bool) (x : RingPort) (t : TaggedFields) (e : Egress) → t.src ≡ mac → has_exit (in_mode mode (of_redbox.wanted_tagged mac mode known x t)).exits e ≡ false
 box_returned mac mode known x t e own =
-    returned mode (is_same_address t.src mac) ((is_same_address t.dst mac, to (up ∷ [])) ∷ (is_supervision t.dst t.kind, to (up ∷ beyond x ∷ [])) ∷ (is_group t.dst, to (up ∷ of_redbox.interlink ∷ beyond x ∷ [])) ∷ (known t.dst, to (of_redbox.interlink ∷ [])) ∷ []) (to (beyond x ∷ [])) e (address_same t.src mac own)
+    returned mode (is_same_address t.src mac) ((is_same_address t.dst mac, to (up ∷ onward mode x)) ∷ (is_supervision t.dst t.kind, to (up ∷ beyond x ∷ [])) ∷ (is_group t.dst, to (up ∷ of_redbox.interlink ∷ beyond x ∷ [])) ∷ (known t.dst, to (of_redbox.interlink ∷ onward mode x)) ∷ []) (to (beyond x ∷ [])) e (address_same t.src mac own)
 
 pub own_unwanted : (place : Place) (known : List ℕ → Bool) (port : ℕ) (t : TaggedFields) (e : Egress) → IsSource place t.src → wants place known port (Ok (Tagged t)) e ≡ false
 own_unwanted (Danh mac mode) known port t e own = by_port (ring_port port)

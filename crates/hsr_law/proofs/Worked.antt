@@ -8,7 +8,7 @@ use Rattle.hsr_frame.specs.Address.{is_group}
 use Rattle.hsr_frame.specs.Grammar.{Fields}
 use Rattle.hsr_frame.specs.declared.node.Cause.{Cause}
 use Rattle.hsr_frame.specs.declared.node.Cause.TheVariants.{Passed, Returned}
-use Rattle.hsr_frame.specs.declared.node.Mode.TheVariants.{H}
+use Rattle.hsr_frame.specs.declared.node.Mode.TheVariants.{H, U}
 use Rattle.hsr_tag.specs.Seen.{classified}
 use Rattle.hsr_tag.specs.Tag.{TaggedFields, tag_of, tagged_spelling}
 use Rattle.hsr_tag.specs.declared.seen.Seen.TheVariants.{Tagged}
@@ -31,7 +31,7 @@ use Rattle.hsr_law.specs.Budget as budget
 use Rattle.hsr_law.specs.Closed.{HasLink, IsClosed, IsOfSend, IsSettled, PutAgrees, TakenAgrees}
 use Rattle.hsr_law.specs.Once.{IsExactlyOnce}
 use Rattle.hsr_law.specs.Premises.{IsRing, Joins, OneLossyLink, mac_at}
-use Rattle.hsr_law.specs.Run.{Run, ends_of, owner_of, past_of, rows_of}
+use Rattle.hsr_law.specs.Run.{Run, ends_of, owner_of, past_of, place_of, rows_of}
 use Rattle.hsr_topology.specs.declared.end.End.{End}
 use Rattle.hsr_law.proofs.WithoutBoxes.{once_in_budget}
 use Rattle.hsr_law.proofs.Lists.{count_more, one_if, zero_if}
@@ -171,8 +171,13 @@ joined_at zero h = inl (refl, refl)
 joined_at (suc zero) h = inl (refl, refl)
 joined_at (suc (suc k)) h = absurd (omega arith)
 
+nodes_at : (k : ℕ) → k < 2 → (place_of ring2 k ≡ Danh (mac_at macs k) H) ⊎ (place_of ring2 k ≡ Danh (mac_at macs k) U)
+nodes_at zero h = inl refl
+nodes_at (suc zero) h = inl refl
+nodes_at (suc (suc k)) h = absurd (omega arith)
+
 pub is_ring : IsRing ring2 macs
-is_ring = record { two = omega arith; nodes = refl; single = single_at; differ = differ_at; count = refl; joined = joined_at }
+is_ring = record { two = omega arith; places = refl; nodes = nodes_at; single = single_at; differ = differ_at; count = refl; joined = joined_at }
 
 pub lossless : OneLossyLink ring2
 lossless zero j g h here there = absurd (false≢true here)

@@ -6,7 +6,7 @@ use Rattle.std.specs.List.{AllByRecursion}
 use Rattle.std.proofs.lemmas.List.Sorted.{IsPermutation-refl}
 use Rattle.hsr_frame.specs.Grammar.{Fields}
 use Rattle.hsr_frame.specs.declared.node.Cause.TheVariants.{Passed}
-use Rattle.hsr_frame.specs.declared.node.Mode.TheVariants.{H}
+use Rattle.hsr_frame.specs.declared.node.Mode.TheVariants.{H, U}
 use Rattle.hsr_tag.specs.Seen.{classified}
 use Rattle.hsr_tag.specs.Tag.{tag_of, tagged_spelling}
 use Rattle.hsr_tag.specs.declared.seen.Seen.TheVariants.{Tagged}
@@ -26,8 +26,8 @@ use Rattle.hsr_link.specs.declared.row.Fate.TheVariants.{Taken, LostDown}
 use Rattle.hsr_link.specs.declared.row.Row.{Row}
 use Rattle.hsr_law.specs.Closed.{HasLink, IsClosed, IsOfSend, IsSettled, PutAgrees, TakenAgrees}
 use Rattle.hsr_law.specs.Once.{delivers}
-use Rattle.hsr_law.specs.Premises.{IsRing, OneLossyLink}
-use Rattle.hsr_law.specs.Run.{Run, owner_of, past_of, record_of, rows_of}
+use Rattle.hsr_law.specs.Premises.{IsRing, OneLossyLink, mac_at}
+use Rattle.hsr_law.specs.Run.{Run, owner_of, past_of, place_of, record_of, rows_of}
 use Rattle.hsr_law.proofs.Worked as two_nodes
 use Rattle.hsr_law.proofs.Worked.{entry, far, join, judged, mac, macs, nothing_far}
 use Rattle.hsr_law.proofs.WorkedRing.{of_numbered}
@@ -116,10 +116,16 @@ is_closed = record { records = refl; rows = refl; legal = legal_at; put = put_at
 
 -- ---- it is a ring
 
+nodes_at : (k : ℕ) → k < 2 → (place_of lossy k ≡ Danh (mac_at macs k) H) ⊎ (place_of lossy k ≡ Danh (mac_at macs k) U)
+nodes_at zero h = inl refl
+nodes_at (suc zero) h = inl refl
+nodes_at (suc (suc k)) h = absurd (omega arith)
+
 pub is_ring : IsRing lossy macs
 is_ring = record {
   two = two_nodes.is_ring.two;
-  nodes = refl;
+  places = refl;
+  nodes = nodes_at;
   single = two_nodes.is_ring.single;
   differ = two_nodes.is_ring.differ;
   count = refl;

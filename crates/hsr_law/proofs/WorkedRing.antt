@@ -1,6 +1,6 @@
--- Group round a ring: a ring of three nodes, of which the first sends to a group. Each of the others takes the first copy
--- up and passes both on, and both come back. All that the law asks for holds, so each of the others took the frame up
--- once; and it doesn't if a copy that was taken counts as lost.
+-- Group round a ring: a ring of three nodes, the second in mode U, of which the first sends to a group. Each of the others
+-- takes the first copy up and passes both on, and both come back. All that the law asks for holds, so each of the others took
+-- the frame up once; and it doesn't if a copy that was taken counts as lost.
 use Rattle.std.proofs.Common.{◌≡◌, if◌then◌else◌, ◌||◌, subst, slice_index_or, ◌⊎◌, ℕ, ◌+◌, ◌%◌, ◌<◌, ◌==◌, true, false, not, List, [], ◌∷◌, length, count_by, Option, Some, None, Ok, IsPermutation, refl, sym, ap, ◌∙◌, arith, inl, inr, zero, suc}
 use Rattle.std.specs.List.{list_any, AllByRecursion}
 use Rattle.std.proofs.lemmas.List.Sorted.{IsPermutation-refl, length_permutation}
@@ -9,7 +9,7 @@ use Rattle.hsr_frame.specs.Address.{is_group}
 use Rattle.hsr_frame.specs.Egress.{Egress, up, a, b, c, d}
 use Rattle.hsr_frame.specs.Grammar.{Fields}
 use Rattle.hsr_frame.specs.declared.node.Cause.TheVariants.{Passed, Returned}
-use Rattle.hsr_frame.specs.declared.node.Mode.TheVariants.{H}
+use Rattle.hsr_frame.specs.declared.node.Mode.TheVariants.{H, U}
 use Rattle.hsr_duptable.specs.Key.{Key, is_same_key}
 use Rattle.hsr_tag.specs.Seen.{classified}
 use Rattle.hsr_tag.specs.Tag.{TaggedFields, tag_of}
@@ -41,7 +41,7 @@ use Rattle.hsr_law.proofs.Worked.{copy, entry, far, frame, group, join, judged, 
 abbrev run_with : List (List Row) → Run
 run_with rows = record {
   capacity = 512;
-  places = Danh (mac 1) H ∷ Danh (mac 2) H ∷ Danh (mac 3) H ∷ [];
+  places = Danh (mac 1) H ∷ Danh (mac 2) U ∷ Danh (mac 3) H ∷ [];
   links = join 0 1 ∷ join 1 2 ∷ join 2 0 ∷ [];
   records = (entry (Send 0 group None 0x0800 (0xAA ∷ 0xBB ∷ [])) (Sent (Some 0) (true ∷ true ∷ false ∷ false ∷ []))
       ∷ entry (Arrive 0 (copy 1)) (judged false false false Returned) ∷ entry (Arrive 1 (copy 0)) (judged false false false Returned) ∷ [])
@@ -154,8 +154,14 @@ joined_at (suc zero) h = inl (refl, refl)
 joined_at (suc (suc zero)) h = inl (refl, refl)
 joined_at (suc (suc (suc k))) h = absurd (omega arith)
 
+nodes_at : (k : ℕ) → k < 3 → (place_of ring3 k ≡ Danh (mac_at macs k) H) ⊎ (place_of ring3 k ≡ Danh (mac_at macs k) U)
+nodes_at zero h = inl refl
+nodes_at (suc zero) h = inr refl
+nodes_at (suc (suc zero)) h = inl refl
+nodes_at (suc (suc (suc k))) h = absurd (omega arith)
+
 pub is_ring : IsRing ring3 macs
-is_ring = record { two = omega arith; nodes = refl; single = single_at; differ = differ_at; count = refl; joined = joined_at }
+is_ring = record { two = omega arith; places = refl; nodes = nodes_at; single = single_at; differ = differ_at; count = refl; joined = joined_at }
 
 pub lossless : OneLossyLink ring3
 lossless zero j g h here there = absurd (false≢true here)

@@ -1,14 +1,14 @@
 -- What a ring is, and what has to hold of a run for each frame to come once.
---     IsRing             a ring of DANHs in mode H
+--     IsRing             a ring of DANHs in modes H and U
 --     OneLossyLink       one lossy link
 --     NothingForgotten   nothing forgotten
 --     NothingMistaken    nothing mistaken
 --     NumberedFirst      a RedBox numbers a frame of its Station before it hears of it
-use Rattle.std.specs.Prelude.{ℕ, ◌+◌, ◌%◌, ◌<◌, ◌≤◌, ◌≡◌, ◌⊎◌, ◌&&◌, not, Bool, true, false, List, [], ◌∷◌, length, map, slice_index_or, Option, Some, None, option_map, unwrap_or}
+use Rattle.std.specs.Prelude.{ℕ, ◌+◌, ◌%◌, ◌<◌, ◌≤◌, ◌≡◌, ◌⊎◌, ◌&&◌, not, Bool, true, false, List, [], ◌∷◌, length, slice_index_or, Option, Some, None, option_map, unwrap_or}
 use Rattle.std.specs.List.{list_any}
 use Rattle.hsr_frame.specs.Address.{is_group}
 use Rattle.hsr_frame.specs.Egress.{Egress}
-use Rattle.hsr_frame.specs.declared.node.Mode.TheVariants.{H}
+use Rattle.hsr_frame.specs.declared.node.Mode.TheVariants.{H, U}
 use Rattle.hsr_duptable.specs.Key.{Key, is_same_key}
 use Rattle.hsr_tag.specs.Seen.{classified}
 use Rattle.hsr_node.specs.Copies.{is_ring, side_of}
@@ -41,11 +41,12 @@ Joins ends k next =
     ((from_end Forth ends ≡ record { node = k; port = 1 }) × (from_end Back ends ≡ record { node = next; port = 0 }))
     ⊎ ((from_end Forth ends ≡ record { node = next; port = 0 }) × (from_end Back ends ≡ record { node = k; port = 1 }))
 
--- The nodes are two DANHs or more in mode H, with addresses of their own, none a group's, and there are as many links:
--- each joins B of its node with A of the next one round the ring.
+-- The nodes are two DANHs or more, each in mode H or U, with addresses of their own, none a group's, and there are as many
+-- links: each joins B of its node with A of the next one round the ring.
 pub record IsRing (run : Run) (macs : List (List ℕ)) : Type 0 where
   pub two : 2 ≤ length macs
-  pub nodes : run.places ≡ map (λ mac. Danh mac H) macs
+  pub places : length run.places ≡ length macs
+  pub nodes : (k : ℕ) → k < length macs → (place_of run k ≡ Danh (mac_at macs k) H) ⊎ (place_of run k ≡ Danh (mac_at macs k) U)
   pub single : (k : ℕ) → k < length macs → is_group (mac_at macs k) ≡ false
   pub differ : (i j : ℕ) → i < length macs → j < length macs → mac_at macs i ≡ mac_at macs j → i ≡ j
   pub count : length run.links ≡ length macs

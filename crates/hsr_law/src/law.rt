@@ -3,7 +3,7 @@ ghost use Rattle.hsr_law.specs.Budget.{BudgetKeeps, BudgetTells, OnceInBudget};
 ghost use Rattle.hsr_law.specs.Once.{ExactlyOnce, NoStorm};
 ghost use Rattle.hsr_law.specs.Premises.{BoxlessNumbersFirst};
 
-/// In a closed run of a ring of DANHs in mode H, with losses on at most one link, nothing forgotten that was needed and
+/// In a closed run of a ring of DANHs in modes H and U, with losses on at most one link, nothing forgotten that was needed and
 /// nothing mistaken, each node that a frame is for took it up just once, and nothing else went up (IEC 62439-3
 /// clause 5.3).
 pub fn exactly_once()

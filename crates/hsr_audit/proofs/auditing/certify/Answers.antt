@@ -1,5 +1,5 @@
-use Rattle.std.proofs.Common.{rules, ◌≡◌, length}
-use Rattle.hsr_audit.specs.Listed.{listed_below}
+use Rattle.std.proofs.Common.{rules, ◌≡◌}
+use Rattle.hsr_audit.specs.Certificate.{certified}
 use Rattle.hsr_audit.specs.Round.{IsClear}
 use Rattle.hsr_law.specs.Run.{Run}
 use Rattle.hsr_audit.proofs.Clearing.{certified_is}
@@ -10,6 +10,6 @@ returns-in-Ok-clause-certified g c =
     let run : Run = c.args.closed.now.run in
     let macs = c.in_ok-macs.macs.items in
     let clear : IsClear run macs = search rules in
-    let listed : c.in-Ok.sends.items ≡ listed_below run macs (length macs) = search rules in
+    let listed : c.in-Ok.sends.items ≡ certified run macs = search rules in
     let finished = c.clear_macs.ensures.finished in
     certified_is run macs c.in-Ok.sends.items (finished.wired, finished.closed) c.exactly_once.ensures clear listed

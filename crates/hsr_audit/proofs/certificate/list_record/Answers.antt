@@ -11,7 +11,7 @@ loop-i-preserved c =
     let d : Entry = c.index-entries-i.result in
     let here : Probe = record { node = c.args.number; place = c.loop-i.i } in
     let below : c.loop-i.i < length c.args.entries.now = search rules in
-    let more = listed_more c.args.macs.now c.args.number c.args.mac c.args.entries.now c.loop-i.i d below in
-    let new : c.list_entry.new.sends.items ≡ c.loop-i.sends.items ++ listed_by c.args.macs.now here c.args.mac (slice_index_or c.args.entries.now c.loop-i.i d) = search rules in
-    new ∙ (ap (λ sends. sends ++ listed_by c.args.macs.now here c.args.mac (slice_index_or c.args.entries.now c.loop-i.i d)) c.loop-i.invariant
+    let more = listed_more c.args.macs.now c.args.number c.args.place.now c.args.entries.now c.loop-i.i d below in
+    let new : c.list_entry.new.sends.items ≡ c.loop-i.sends.items ++ listed_by c.args.macs.now here c.args.place.now (slice_index_or c.args.entries.now c.loop-i.i d) = search rules in
+    new ∙ (ap (λ sends. sends ++ listed_by c.args.macs.now here c.args.place.now (slice_index_or c.args.entries.now c.loop-i.i d)) c.loop-i.invariant
     ∙ (append_assoc c.args.sends.now.items _ _ ∙ ap (λ sends. c.args.sends.now.items ++ sends) more))

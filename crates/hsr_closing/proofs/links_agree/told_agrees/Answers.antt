@@ -1,7 +1,7 @@
 use Rattle.std.proofs.Common.{◌↔◌, IfOk, IsTrue, Bool, sym, subst}
 use Rattle.hsr_closing.specs.Checked.{ToldAgrees}
 use Rattle.hsr_closing.specs.Finished.{run_of}
-use Rattle.hsr_closing.specs.declared.agreement.Passage.{Passage}
+use Rattle.hsr_index.specs.declared.agreement.Passage.{Passage}
 use Rattle.hsr_closing.proofs.links_agree.told_agrees.Goals as goal
 
 pub returns-in-Put : goal.returns-in-Put

@@ -3,7 +3,7 @@ use Rattle.std.proofs.lemmas.Bool.{false≢true}
 use Rattle.hsr_link.specs.declared.row.Row.{Row}
 use Rattle.hsr_closing.specs.Checked.{IsStranger}
 use Rattle.hsr_closing.specs.Finished.{run_of}
-use Rattle.hsr_closing.specs.Origin.{IsOurs}
+use Rattle.hsr_index.specs.Origin.{IsOurs}
 use Rattle.hsr_closing.proofs.Known.{stranger_at}
 use Rattle.hsr_closing.proofs.strangers.stranger_of.Goals as goal
 

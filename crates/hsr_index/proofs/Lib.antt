@@ -1,0 +1,6 @@
+pub mod Often
+pub mod AsOften
+pub mod Counting
+pub mod Indexing
+pub mod Decided
+pub mod Forwards

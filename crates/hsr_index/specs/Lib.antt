@@ -1,0 +1,4 @@
+pub mod Often
+pub mod InOrder
+pub mod Origin
+pub mod Indexed

@@ -1,0 +1,17 @@
+//! What the closing check looks up: ends of links, numbers of sends, and copies, each as often.
+//!
+//! Its modules, in the order in which to read them:
+//! - `ends`: the ends that links join, by an index
+//! - `numbers`: the numbers that nodes gave to sends, by an index
+//! - `counts`: whether copies are as often in one list as in another
+//! - `agreement`: whether what was put and taken is what was passed and came
+#![tactic(auto)]
+
+mod agreement;
+mod counts;
+mod ends;
+mod numbers;
+
+pub use agreement::{Passage, puts_fit, takens_fit};
+pub use ends::Ends;
+pub use numbers::Numbers;
