@@ -1,6 +1,7 @@
 pub mod Rows
 pub mod Queue
 pub mod Link
+pub mod Parts
 pub mod Calls
 pub mod Cell
 pub mod Words

@@ -70,9 +70,7 @@ impl LinkCell {
         ensures ok { IfOk result (λ fate. is_put_fate fate ≡ true) }
         ensures err { IfErr result (λ e. e.0 ≡ carried) }
     {
-        let fate = self.desk.lock(rt).link.put(dir, carried)?;
-        self.changed.notify_all();
-        Ok(fate)
+        self.add(rt, dir, carried, false)
     }
 
     /// Waits for the lock, puts a copy that no port sent, whose row says so, wakes all who wait for one, and tells what
@@ -87,7 +85,21 @@ impl LinkCell {
         ensures ok { IfOk result (λ fate. is_put_fate fate ≡ true) }
         ensures err { IfErr result (λ e. e.0 ≡ carried) }
     {
-        let fate = self.desk.lock(rt).link.inject(dir, carried)?;
+        self.add(rt, dir, carried, true)
+    }
+
+    /// Waits for the lock, adds the row of a copy that was put or injected, and wakes all who wait for one.
+    fn add(
+        &self,
+        rt: &impl Wait,
+        dir: Dir,
+        carried: Carried,
+        injected: bool,
+    ) -> Result<Fate, (Carried, NoMemory)>
+        ensures ok { IfOk result (λ fate. is_put_fate fate ≡ true) }
+        ensures err { IfErr result (λ e. e.0 ≡ carried) }
+    {
+        let fate = self.desk.lock(rt).link.add(dir, carried, injected)?;
         self.changed.notify_all();
         Ok(fate)
     }

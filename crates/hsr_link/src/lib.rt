@@ -4,7 +4,7 @@
 //! - `row`: what a link tells of each copy
 //! - `words`: the words that texts have for directions and fates
 //! - `queue`: the copies that wait in one direction
-//! - `link`: the link and its calls
+//! - `link`: the link and its calls, and the link in two
 //! - `cell`: a link that threads share
 #![tactic(auto)]
 
@@ -15,5 +15,5 @@ mod row;
 mod words;
 
 pub use cell::LinkCell;
-pub use link::{Link, takes_in_order};
+pub use link::{Link, Queues, takes_in_order};
 pub use row::{Dir, Fate, Row};

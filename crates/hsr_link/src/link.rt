@@ -73,7 +73,7 @@ impl Link {
     }
 
     /// Adds the row of a copy that was put or injected, and lets the copy wait if it is Queued.
-    fn add(
+    pub(crate) fn add(
         &mut self,
         dir: Dir,
         carried: Carried,
@@ -160,6 +160,71 @@ impl Link {
             rows,
         } = self;
         rows
+    }
+}
+
+/// What a link is but its rows: the copies that wait in each direction, how many may, and whether it is cut.
+#[derive(Debug, Drop)]
+pub struct Queues {
+    capacity: usize,
+    is_cut: bool,
+    forth: HeapCircularBuffer<Waiting>,
+    back: HeapCircularBuffer<Waiting>,
+}
+
+impl Model for Queues {
+    ghost use Rattle.hsr_link.specs.Parts.{AreSized, Queues};
+
+    ghost Value = { Queues };
+
+    ghost view = { λ q. record { forth = q.forth; back = q.back; is_cut = q.is_cut; capacity = q.capacity } };
+
+    ghost invariant = { λ q. AreSized q.capacity };
+}
+
+impl Link {
+    ghost use Rattle.hsr_link.specs.Parts.{link_of, queues_of};
+
+    /// The link in two: its rows, in the order in which the copies were put, and all else. Needs no memory.
+    pub fn into_parts(self) -> (Vec<Row>, Queues)
+        ensures rows { result.0.items ≡ self.rows }
+        ensures queues { result.1 ≡ queues_of self }
+    {
+        let Link {
+            capacity,
+            is_cut,
+            forth,
+            back,
+            rows,
+        } = self;
+        let queues = Queues {
+            capacity,
+            is_cut,
+            forth,
+            back,
+        };
+        (rows, queues)
+    }
+
+    /// The link of rows and of the queues that were taken from it: in each direction the copies of the rows that are Queued wait.
+    /// Needs no memory.
+    pub fn of_parts(rows: Vec<Row>, queues: Queues) -> Link
+        requires { queues ≡ queues_of (link_of rows.items queues) }
+        ensures { result ≡ link_of rows.items queues }
+    {
+        let Queues {
+            capacity,
+            is_cut,
+            forth,
+            back,
+        } = queues;
+        Link {
+            capacity,
+            is_cut,
+            forth,
+            back,
+            rows,
+        }
     }
 }
 

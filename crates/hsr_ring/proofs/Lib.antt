@@ -4,9 +4,9 @@ pub mod Tried
 pub mod Entered
 pub mod Started
 pub mod Ports
-pub mod Bits
 pub mod Hands
 pub mod Next
 pub mod Looked
 pub mod Stopped
+pub mod Apart
 pub mod Ending

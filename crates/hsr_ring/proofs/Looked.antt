@@ -22,7 +22,7 @@ use Rattle.hsr_world.specs.Fit.{FitsStep}
 use Rattle.hsr_world.specs.Spans.{Lane, Span, Spot, emptied, gift, held_in, lane_of, lanes_of, on_lanes, spot_from, spread, with_lane, with_link}
 use Rattle.hsr_node.specs.Flow.{pass_of}
 use Rattle.hsr_world.specs.World.{World, and_added, cleared, entered, has_link, has_node, has_port, is_empty, judged_at, new_span, new_world, no_lane, or_same, owner_at, planned, port_worker, put_at, put_from, record_at, span_at, span_in, take_to, taken_by, tried, waits_in, with_span}
-use Rattle.hsr_ring.specs.Numbers.{has}
+use Rattle.hsr_numbers.specs.Numbers.{has}
 use Rattle.hsr_ring.specs.Pending.{AreLooked, ArePending, IsKept, hand_of, is_at, is_by, link_at, touches_box, touches_hand, touches_link}
 use Rattle.hsr_ring.specs.Ports.{AreTold, dir_at, end_at, held_at, is_held, is_ready, is_waiting, port_in, ports_in}
 use Rattle.hsr_ring.specs.Views.{port_fault, spot_view}
@@ -342,18 +342,18 @@ looked_at capacity w after list step old new done told p look = record {
   held = λ k below.
       let alike_k = alikes k in
       look.held k below
-      ∙ ap (λ t. if t then is_held list after.spans k else has old.held.words k) (hands k)
-      ∙ now_has (is_held list after.spans) (has old.held.words) (touches_hand w.spans step k) (touches_hand w.spans step k) k refl
+      ∙ ap (λ t. if t then is_held list after.spans k else has old.held k) (hands k)
+      ∙ now_has (is_held list after.spans) (has old.held) (touches_hand w.spans step k) (touches_hand w.spans step k) k refl
       (λ no. same_held w after.spans list k (touches_box step k) (touches_link list step k) told (λ j. subst (λ b. IsAlike k b (touches_box step k) (touches_link list step k) j (span_in after.spans j) (span_in w.spans j)) no (alike_k j)) ∙ sym (p.held k below));
   waiting = λ k below.
       let alike_k = alikes k in
       look.waiting k below
-      ∙ now_has (is_waiting list after.spans) (has old.waiting.words) (touches_box step k) (touches_box step k) k refl
+      ∙ now_has (is_waiting list after.spans) (has old.waiting) (touches_box step k) (touches_box step k) k refl
       (λ no. same_waiting w after.spans list k (touches_hand w.spans step k) (touches_link list step k) told (λ j. subst (λ b. IsAlike k (touches_hand w.spans step k) b (touches_link list step k) j (span_in after.spans j) (span_in w.spans j)) no (alike_k j)) ∙ sym (p.waiting k below));
   ready = λ k below.
       let alike_k = alikes k in
       look.ready k below
-      ∙ now_has (is_ready after.spans) (has old.ready.words) (touches_link list step k) (touches_link list step k) k refl
+      ∙ now_has (is_ready after.spans) (has old.ready) (touches_link list step k) (touches_link list step k) k refl
       (λ no. same_ready w after.spans k (touches_hand w.spans step k) (touches_box step k) (λ j. subst (λ b. IsAlike k (touches_hand w.spans step k) (touches_box step k) b j (span_in after.spans j) (span_in w.spans j)) no (alike_k j)) ∙ sym (p.ready k below));
 }
   where

@@ -16,17 +16,16 @@ use Rattle.hsr_node.specs.declared.place.Place.TheVariants.{QuadBox}
 use Rattle.hsr_world.specs.Spans.{Span}
 use Rattle.hsr_world.specs.World.{World, next_step, no_lane, ports_from, ports_of, span_in, take_from}
 use Rattle.hsr_world.specs.World as world
-use Rattle.hsr_ring.specs.Numbers.{IsLowest}
+use Rattle.hsr_numbers.specs.Numbers.{IsLowest}
 use Rattle.hsr_ring.specs.Pending.{ArePending, Has, IsJudgeOr, IsNext, IsPutOr, take_at}
 use Rattle.hsr_ring.specs.Ports.{AreTold, dir_at, end_at, is_held, is_ready, is_waiting, no_port, port_if, port_in, port_of, held_at}
 use Rattle.hsr_ring.specs.Views.{port_fault, spot_view}
-use Rattle.hsr_ring.specs.declared.numbers.Numbers.{Numbers}
 use Rattle.hsr_ring.specs.declared.pending.Pending.{Pending}
 use Rattle.hsr_ring.specs.declared.port.Port.{Port}
 use Rattle.hsr_step.specs.declared.step.Step.{Step}
 use Rattle.hsr_step.specs.declared.step.Step.TheVariants.{Judge, Put, Take}
 use Rattle.hsr_step.specs.declared.step.WorldFault.{WorldFault}
-use Rattle.hsr_ring.proofs.Bits.{nat_cases}
+use Rattle.hsr_numbers.proofs.Bits.{nat_cases}
 use Rattle.hsr_ring.proofs.Ports.{IsThere, few_ports, held_spot, into_there, is_there, out_there, port_beyond, port_told}
 
 -- ---- the ports of one node
@@ -117,8 +116,8 @@ record IsTest (places : List Place) (p : End → Bool) (test : ℕ → Bool) : T
   there : (n port : ℕ) → IsThere places n port → test (8 * n + port) ≡ p (end_of n port)
   only : (k : ℕ) → test k ≡ true → IsThere places (k / 8) (k % 8)
 
-found : (places : List Place) (p : End → Bool) (test : ℕ → Bool) (numbers : Numbers) → length places ≤ 64 → IsTest places p test → Has numbers test →
-    (lowest : Option ℕ) → IsLowest 512 numbers.words lowest → find p (ports_from 0 places) ≡ option_map end_at lowest
+found : (places : List Place) (p : End → Bool) (test : ℕ → Bool) (numbers : List ℕ) → length places ≤ 64 → IsTest places p test → Has numbers test →
+    (lowest : Option ℕ) → IsLowest 512 numbers lowest → find p (ports_from 0 places) ≡ option_map end_at lowest
 found places p test numbers few t is None none =
     none_from p places 0 places (same_places places)
     (λ n port from below there.
@@ -261,7 +260,7 @@ ready_within spans k h = ⊎_elim (λ below. below) (λ past. absurd (false≢tr
 same_spans : (spans : List Span) (j : ℕ) → span_in spans (0 + j) ≡ span_in spans j
 same_spans spans j = let e : 0 + j ≡ j = omega arith in ap (span_in spans) e
 
-taken : (spans : List Span) (numbers : Numbers) → length spans ≤ 128 → Has numbers (is_ready spans) → (lowest : Option ℕ) → IsLowest 512 numbers.words lowest → take_from 0 spans ≡ option_map take_at lowest
+taken : (spans : List Span) (numbers : List ℕ) → length spans ≤ 128 → Has numbers (is_ready spans) → (lowest : Option ℕ) → IsLowest 512 numbers lowest → take_from 0 spans ≡ option_map take_at lowest
 taken spans numbers few is None none = take_none spans 0 spans (same_spans spans) (λ j below. let small : j < 512 = omega (arith, few, below) in sym (is j small) ∙ none j small)
 taken spans numbers few is (Some k) lowest =
     let here : is_ready spans k ≡ true = sym (is k lowest.0) ∙ lowest.1 in
@@ -280,17 +279,17 @@ pub next_is : (w : World) (list : List Port) (left : Pending) (step : Option Ste
     step ≡ next_step w
 next_is w list left step told few pending next = by_held next.held next.lowest next.is
   where
-    held : (lowest : Option ℕ) → IsLowest 512 left.held.words lowest → option_map end_at lowest ≡ find (world.is_held w) (ports_from 0 w.places)
+    held : (lowest : Option ℕ) → IsLowest 512 left.held lowest → option_map end_at lowest ≡ find (world.is_held w) (ports_from 0 w.places)
     held lowest l = sym (found w.places (world.is_held w) (is_held list w.spans) left.held told.few (held_test w list told) pending.held lowest l)
 
-    waiting : (lowest : Option ℕ) → IsLowest 512 left.waiting.words lowest → option_map end_at lowest ≡ find (world.is_waiting w) (ports_from 0 w.places)
+    waiting : (lowest : Option ℕ) → IsLowest 512 left.waiting lowest → option_map end_at lowest ≡ find (world.is_waiting w) (ports_from 0 w.places)
     waiting lowest l = sym (found w.places (world.is_waiting w) (is_waiting list w.spans) left.waiting told.few (waiting_test w list told) pending.waiting lowest l)
 
-    by_waiting : (lowest : Option ℕ) → IsLowest 512 left.waiting.words lowest → IsPutOr left lowest step → step ≡ put_or (find (world.is_waiting w) (ports_from 0 w.places)) (take_from 0 w.spans)
+    by_waiting : (lowest : Option ℕ) → IsLowest 512 left.waiting lowest → IsPutOr left lowest step → step ≡ put_or (find (world.is_waiting w) (ports_from 0 w.places)) (take_from 0 w.spans)
     by_waiting (Some k) l is = is ∙ ap (λ (e : Option End). put_or e (take_from 0 w.spans)) (waiting (Some k) l)
     by_waiting None l is =
         is.2 ∙ sym (taken w.spans left.ready few pending.ready is.0 is.1) ∙ ap (λ (e : Option End). put_or e (take_from 0 w.spans)) (waiting None l)
 
-    by_held : (lowest : Option ℕ) → IsLowest 512 left.held.words lowest → IsJudgeOr left lowest step → step ≡ next_step w
+    by_held : (lowest : Option ℕ) → IsLowest 512 left.held lowest → IsJudgeOr left lowest step → step ≡ next_step w
     by_held (Some k) l is = is ∙ ap (λ (e : Option End). judge_or e (put_or (find (world.is_waiting w) (ports_from 0 w.places)) (take_from 0 w.spans))) (held (Some k) l)
     by_held None l is = by_waiting is.0 is.1 is.2 ∙ ap (λ (e : Option End). judge_or e (put_or (find (world.is_waiting w) (ports_from 0 w.places)) (take_from 0 w.spans))) (held None l)

@@ -31,7 +31,7 @@ use Rattle.hsr_step.specs.declared.step.Step.{Step}
 use Rattle.hsr_step.specs.declared.step.Step.TheVariants.{Clock, Send, Supervise, Age, Put, Take, Judge, Cut, Mend, Inject}
 use Rattle.hsr_step.specs.declared.step.WorldFault.{WorldFault}
 use Rattle.hsr_step.specs.declared.step.WorldFault.TheVariants.{NoSuchNode, NoSuchPort, TooLong}
-use Rattle.hsr_ring.proofs.Bits.{nat_cases}
+use Rattle.hsr_numbers.proofs.Bits.{nat_cases}
 use Rattle.hsr_world.proofs.Counts.{map_set_same}
 
 -- ---- the ends of spans

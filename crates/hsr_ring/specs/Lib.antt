@@ -5,6 +5,6 @@ pub mod Entering
 pub mod Starting
 pub mod Stopping
 pub mod Ports
-pub mod Numbers
 pub mod Pending
+pub mod Parting
 pub mod Ending

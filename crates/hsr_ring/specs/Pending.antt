@@ -8,18 +8,17 @@ use Rattle.hsr_node.specs.declared.place.Place.{Place}
 use Rattle.hsr_world.specs.Spans.{Span, Spot, lane_of}
 use Rattle.hsr_world.specs.Reached.{IsReached}
 use Rattle.hsr_world.specs.World.{World, span_in}
-use Rattle.hsr_ring.specs.Numbers.{IsLowest, has}
+use Rattle.hsr_numbers.specs.Numbers.{IsLowest, has}
 use Rattle.hsr_ring.specs.Views.{spot_view}
 use Rattle.hsr_ring.specs.Ports.{dir_at, end_at, is_held, is_ready, is_waiting, AreTold, port_of}
-use Rattle.hsr_ring.specs.declared.numbers.Numbers.{Numbers}
 use Rattle.hsr_ring.specs.declared.pending.Pending.{Pending}
 use Rattle.hsr_ring.specs.declared.port.Port.{Port}
 use Rattle.hsr_step.specs.declared.step.Step.{Step}
 use Rattle.hsr_step.specs.declared.step.Step.TheVariants.{Send, Supervise, Age, Put, Take, Judge, Cut, Inject}
 
 -- a set has exactly the numbers below 512 that pass a test
-abbrev pub Has : Numbers → (ℕ → Bool) → Type 0
-Has numbers test = (k : ℕ) → k < 512 → has numbers.words k ≡ test k
+abbrev pub Has : List ℕ → (ℕ → Bool) → Type 0
+Has numbers test = (k : ℕ) → k < 512 → has numbers k ≡ test k
 
 -- the sets are those of these ports and spans
 pub record ArePending (ports : List Port) (spans : List Span) (pending : Pending) : Type 0 where
@@ -28,8 +27,8 @@ pub record ArePending (ports : List Port) (spans : List Span) (pending : Pending
   pub ready : Has pending.ready (is_ready spans)
 
 -- a set after a look at some numbers
-abbrev pub looked : (ℕ → Bool) → (ℕ → Bool) → Numbers → ℕ → Bool
-looked touched test old k = if touched k then test k else has old.words k
+abbrev pub looked : (ℕ → Bool) → (ℕ → Bool) → List ℕ → ℕ → Bool
+looked touched test old k = if touched k then test k else has old k
 
 -- ---- what a step may change
 
@@ -104,14 +103,14 @@ take_at k = Take (k / 2) (dir_at k)
 
 -- the lowest number of the first set that has one
 abbrev pub IsTake : Pending → Option Step → Type 0
-IsTake pending step = (ready : Option ℕ) × IsLowest 512 pending.ready.words ready × (step ≡ option_map take_at ready)
+IsTake pending step = (ready : Option ℕ) × IsLowest 512 pending.ready ready × (step ≡ option_map take_at ready)
 
 abbrev pub IsPutOr : Pending → Option ℕ → Option Step → Type 0
 IsPutOr pending (Some k) step = step ≡ Some (put_at k)
 IsPutOr pending None step = IsTake pending step
 
 abbrev pub IsPut : Pending → Option Step → Type 0
-IsPut pending step = (waiting : Option ℕ) × IsLowest 512 pending.waiting.words waiting × IsPutOr pending waiting step
+IsPut pending step = (waiting : Option ℕ) × IsLowest 512 pending.waiting waiting × IsPutOr pending waiting step
 
 abbrev pub IsJudgeOr : Pending → Option ℕ → Option Step → Type 0
 IsJudgeOr pending (Some k) step = step ≡ Some (judge_at k)
@@ -119,7 +118,7 @@ IsJudgeOr pending None step = IsPut pending step
 
 pub record IsNext (pending : Pending) (step : Option Step) : Type 0 where
   pub held : Option ℕ
-  pub lowest : IsLowest 512 pending.held.words held
+  pub lowest : IsLowest 512 pending.held held
   pub is : IsJudgeOr pending held step
 
 -- a world that was reached, with its ports and what is left to do

@@ -1,13 +1,12 @@
 //! What a world hands over where it is closed.
 ghost use Rattle.std.specs.Prelude.{◌≡◌, IfErr, IfOk, map};
 ghost use Rattle.hsr_closing.specs.Checked.{IfDisagree};
-ghost use Rattle.hsr_ring.specs.Ending.{AreRowsOf, IsToldClosed, IsToldOpen};
+ghost use Rattle.hsr_ring.specs.Ending.{IsToldClosed, IsToldOpen};
 ghost use Rattle.hsr_ring.specs.Views.{span_view};
 
+use crate::parting::{Parted, join, part};
 use crate::span::Span;
 use hsr_closing::{CheckFault, Closed, Planned, Records};
-use hsr_frame::NoMemory;
-use hsr_link::Row;
 use hsr_node::Kept;
 use hsr_topology::Topology;
 use std::alloc::Global;
@@ -20,41 +19,35 @@ pub(crate) struct Rest<const C: usize> {
     pub(crate) plan: Vec<Planned>,
 }
 
-fn copies_of(alloc: Global, rows: &[Row]) -> Result<Vec<Row>, NoMemory>
-    ensures { IfOk result (λ copies. copies.items ≡ rows.now) }
-{
-    let mut copies = Vec::new(alloc);
-    for row in rows.iter() {
-        let copy = row.copy()?;
-        copies.push(copy)?;
-    }
-    Ok(copies)
+/// What was handed in where a world isn't closed, and the first cause.
+#[derive(Drop)]
+pub(crate) struct Open<const C: usize> {
+    pub(crate) rest: Rest<C>,
+    pub(crate) spans: Vec<Span>,
+    pub(crate) fault: CheckFault,
 }
 
-/// A copy of the rows of each link.
-fn rows_of(alloc: Global, spans: &[Span]) -> Result<Vec<Vec<Row>>, NoMemory>
-    ensures { IfOk result (λ rows. AreRowsOf (map span_view spans.now) rows.items) }
-{
-    let mut rows = Vec::new(alloc);
-    for span in spans.iter() {
-        let copies = copies_of(alloc, span.link.rows())?;
-        rows.push(copies)?;
-    }
-    Ok(rows)
-}
-
-/// The finished run of a world, or what was handed in, with the first cause why it is none.
+/// The finished run of a world, or what was handed in, with the first cause why it is none. The records, the plan and the rows
+/// of the links are moved, so that no room is needed for copies.
 pub(crate) fn closed_of<const C: usize>(
     alloc: Global,
     rest: Rest<C>,
-    spans: &[Span],
-) -> Result<Closed<C>, (Rest<C>, CheckFault)>
-    ensures closed { IfOk result (λ closed. IsToldClosed C rest.entry.topology rest.entry.nodes.items rest.entry.plan.items (map span_view spans.now) closed) }
-    ensures open { IfErr result (λ e. IfDisagree e.1 (IsToldOpen C rest.entry.topology rest.entry.nodes.items rest.entry.plan.items (map span_view spans.now))) }
-    ensures whole { IfErr result (λ e. e.0 ≡ rest.entry) }
+    spans: Vec<Span>,
+) -> Result<Closed<C>, Open<C>>
+    ensures closed { IfOk result (λ closed. IsToldClosed C rest.entry.topology rest.entry.nodes.items rest.entry.plan.items (map span_view spans.items) closed) }
+    ensures open { IfErr result (λ e. IfDisagree e.fault (IsToldOpen C rest.entry.topology rest.entry.nodes.items rest.entry.plan.items (map span_view spans.items))) }
+    ensures rest { IfErr result (λ e. e.rest ≡ rest.entry) }
+    ensures spans { IfErr result (λ e. map span_view e.spans.items ≡ map span_view spans.items) }
 {
-    let Ok(rows) = rows_of(alloc, spans) else {
-        return Err((rest, CheckFault::NoMemory));
+    let Parted { rows, bares, home } = match part(alloc, spans) {
+        Ok(parted) => parted,
+        Err(spans) => {
+            return Err(Open {
+                rest,
+                spans,
+                fault: CheckFault::NoMemory,
+            });
+        }
     };
     let Rest {
         topology,
@@ -74,16 +67,17 @@ pub(crate) fn closed_of<const C: usize>(
                 topology,
                 plan,
                 kept,
-                ..
+                rows,
             } = records;
-            Err((
-                Rest {
+            Err(Open {
+                rest: Rest {
                     topology,
                     nodes: kept,
                     plan,
                 },
+                spans: join(rows, bares, home),
                 fault,
-            ))
+            })
         }
     }
 }

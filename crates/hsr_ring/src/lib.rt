@@ -8,9 +8,9 @@
 //! - `hand`: what a receiving port holds
 //! - `giving`: what a new entry of a node gives to the spans
 //! - `entering`: an event that a worker brings to a node
-//! - `numbers`: sets of numbers below 512
 //! - `pending`: what is left to do, and what a drain does next
 //! - `starting`: what a world begins with
+//! - `parting`: links apart from their rows, and with them again
 //! - `closing`: what a world hands over where it is closed
 //! - `fit`: what the types of the code tell of steps and nodes
 //! - `running`: a world in code, and its steps
@@ -23,7 +23,7 @@ mod fit;
 mod giving;
 mod hand;
 mod lane;
-mod numbers;
+mod parting;
 mod pending;
 mod port;
 mod running;

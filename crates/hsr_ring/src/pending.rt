@@ -3,16 +3,16 @@ ghost use Rattle.std.specs.Prelude.{◌≡◌, ◌==◌, ◌<◌, ◌≤◌, ◌
 ghost use Rattle.hsr_topology.specs.Links.{is_same_end};
 ghost use Rattle.hsr_world.specs.Spans.{lane_of};
 ghost use Rattle.hsr_world.specs.World.{is_empty, waits_in};
-ghost use Rattle.hsr_ring.specs.Numbers.{has};
+ghost use Rattle.hsr_numbers.specs.Numbers.{has};
 ghost use Rattle.hsr_ring.specs.Pending.{Has, is_at, is_by, link_at, looked, received_at};
 ghost use Rattle.hsr_ring.specs.Ports.{dir_at, end_at, held_at, is_held, is_ready, is_waiting};
 ghost use Rattle.hsr_ring.specs.Views.{span_view, spot_view};
 
-use crate::numbers::Numbers;
 use crate::port::{Port, port_in, port_of};
 use crate::span::Span;
 use crate::spot::Spot;
 use hsr_link::Dir;
+use hsr_numbers::Numbers;
 use hsr_step::Step;
 use hsr_topology::End;
 

@@ -6,7 +6,7 @@ ghost use Rattle.hsr_ring.specs.Entering.{IsUnplanned};
 ghost use Rattle.hsr_node.specs.Kept.{Record};
 ghost use Rattle.hsr_world.specs.World.{port_worker};
 
-use crate::closing::{Rest, closed_of};
+use crate::closing::{Open, Rest, closed_of};
 use crate::entering::enter;
 use crate::hand::{change_hand, clear};
 use crate::pending::Pending;
@@ -454,9 +454,10 @@ impl<const C: usize> Running<C> {
             nodes,
             plan,
         };
-        match closed_of(alloc, rest, spans.as_slice()) {
+        match closed_of(alloc, rest, spans) {
             Ok(closed) => Ok(closed),
-            Err((rest, fault)) => {
+            Err(open) => {
+                let Open { rest, spans, fault } = open;
                 let Rest {
                     topology,
                     nodes,

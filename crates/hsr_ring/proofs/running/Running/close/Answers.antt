@@ -1,35 +1,34 @@
-use Rattle.std.proofs.Common.{map, ap, ◌∙◌, List}
-use Rattle.hsr_ring.specs.Views.{span_view, world_of}
-use Rattle.hsr_ring.specs.declared.span.Span as code
+use Rattle.std.proofs.Common.{map}
+use Rattle.hsr_ring.specs.Views.{span_view}
 use Rattle.hsr_ring.proofs.Ending.{closes, stays_open}
 use Rattle.hsr_ring.proofs.running.Running.close.Goals as goal
 
 pub returns-in-Ok-clause-closed : goal.returns-in-Ok-clause-closed
 returns-in-Ok-clause-closed g c =
     let own = c.self.inside in
-    let is = ap (λ (ls : List code.Span). world_of own.moment own.nodes.items (map span_view ls) own.plan.items) c.as_slice.ensures.value ∙ c.self.view_is in
-    (closes g.row.C c.args.topology own.moment own.nodes.items (map span_view c.as_slice.result.now) own.plan.items c.args.self is c.places.ensures.wired c.self.invariant c.requires c.in-Ok.closed c.in-Ok.ensures.closed).is
+    let is = c.self.view_is in
+    (closes g.row.C c.args.topology own.moment own.nodes.items (map span_view own.spans.items) own.plan.items c.args.self is c.places.ensures.wired c.self.invariant c.requires c.in-Ok.closed c.in-Ok.ensures.closed).is
 
 pub returns-in-Ok-clause-ended : goal.returns-in-Ok-clause-ended
 returns-in-Ok-clause-ended g c =
     let own = c.self.inside in
-    let is = ap (λ (ls : List code.Span). world_of own.moment own.nodes.items (map span_view ls) own.plan.items) c.as_slice.ensures.value ∙ c.self.view_is in
-    (closes g.row.C c.args.topology own.moment own.nodes.items (map span_view c.as_slice.result.now) own.plan.items c.args.self is c.places.ensures.wired c.self.invariant c.requires c.in-Ok.closed c.in-Ok.ensures.closed).ended
+    let is = c.self.view_is in
+    (closes g.row.C c.args.topology own.moment own.nodes.items (map span_view own.spans.items) own.plan.items c.args.self is c.places.ensures.wired c.self.invariant c.requires c.in-Ok.closed c.in-Ok.ensures.closed).ended
 
 pub returns-in-Ok-clause-no_storm : goal.returns-in-Ok-clause-no_storm
 returns-in-Ok-clause-no_storm g c =
     let own = c.self.inside in
-    let is = ap (λ (ls : List code.Span). world_of own.moment own.nodes.items (map span_view ls) own.plan.items) c.as_slice.ensures.value ∙ c.self.view_is in
-    (closes g.row.C c.args.topology own.moment own.nodes.items (map span_view c.as_slice.result.now) own.plan.items c.args.self is c.places.ensures.wired c.self.invariant c.requires c.in-Ok.closed c.in-Ok.ensures.closed).calm
+    let is = c.self.view_is in
+    (closes g.row.C c.args.topology own.moment own.nodes.items (map span_view own.spans.items) own.plan.items c.args.self is c.places.ensures.wired c.self.invariant c.requires c.in-Ok.closed c.in-Ok.ensures.closed).calm
 
 pub returns-in-Err-clause-refused : goal.returns-in-Err-clause-refused
 returns-in-Err-clause-refused g c =
     let own = c.self.inside in
-    let is = ap (λ (ls : List code.Span). world_of own.moment own.nodes.items (map span_view ls) own.plan.items) c.as_slice.ensures.value ∙ c.self.view_is in
-    (stays_open g.row.C c.args.topology own.moment own.nodes.items (map span_view c.as_slice.result.now) own.plan.items c.args.self is c.places.ensures.wired c.self.invariant c.requires c.in-Err.fault c.in-Err.ensures.open).refused
+    let is = c.self.view_is in
+    (stays_open g.row.C c.args.topology own.moment own.nodes.items (map span_view own.spans.items) own.plan.items c.args.self is c.places.ensures.wired c.self.invariant c.requires c.in-Err.open.fault c.in-Err.ensures.open).refused
 
 pub returns-in-Err-clause-first : goal.returns-in-Err-clause-first
 returns-in-Err-clause-first g c =
     let own = c.self.inside in
-    let is = ap (λ (ls : List code.Span). world_of own.moment own.nodes.items (map span_view ls) own.plan.items) c.as_slice.ensures.value ∙ c.self.view_is in
-    (stays_open g.row.C c.args.topology own.moment own.nodes.items (map span_view c.as_slice.result.now) own.plan.items c.args.self is c.places.ensures.wired c.self.invariant c.requires c.in-Err.fault c.in-Err.ensures.open).first
+    let is = c.self.view_is in
+    (stays_open g.row.C c.args.topology own.moment own.nodes.items (map span_view own.spans.items) own.plan.items c.args.self is c.places.ensures.wired c.self.invariant c.requires c.in-Err.open.fault c.in-Err.ensures.open).first

@@ -1,8 +1,8 @@
 use Rattle.std.proofs.Common.{ap, ◌∙◌, ◌==◌, sym, Bool}
 use Rattle.std.specs.Prelude.{if◌then◌else◌}
-use Rattle.hsr_ring.specs.Numbers.{has_bit}
-use Rattle.hsr_ring.proofs.Bits.{bit_set, bit_cleared}
-use Rattle.hsr_ring.proofs.numbers.with_bit.Goals as goal
+use Rattle.hsr_numbers.specs.Numbers.{has_bit}
+use Rattle.hsr_numbers.proofs.Bits.{bit_set, bit_cleared}
+use Rattle.hsr_numbers.proofs.numbers.with_bit.Goals as goal
 
 pub returns-then-is_in : goal.returns-then-is_in
 returns-then-is_in c = λ i below.

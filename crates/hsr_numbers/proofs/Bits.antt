@@ -3,7 +3,7 @@ use Rattle.std.proofs.Common.{◌≡◌, ◌⊎◌, ◌==◌, ◌<◌, ◌≤◌
 use Rattle.std.specs.Prelude.{if◌then◌else◌, slice_index_or}
 use Rattle.std.specs.Int.{bit_at, bit_not, trailing_zeros}
 use Rattle.std.proofs.lemmas.Nat.Bits.{bit_at_set_same, bit_at_set_other, bit_at_clear_same, bit_at_clear_other, bit_at-trailing_zeros}
-use Rattle.hsr_ring.specs.Numbers.{IsLowest, has, has_bit}
+use Rattle.hsr_numbers.specs.Numbers.{IsLowest, has, has_bit}
 
 -- a test of two numbers, and what it tells
 by_test : (i k : ℕ) (P : Bool → Type 0) → ((i ≡ k) → P true) → ((i ≡ k → ⊥) → P false) → P (i == k)

@@ -1,14 +1,16 @@
 //! Sets of numbers below 512.
 ghost use Rattle.std.specs.Prelude.{◌≡◌, ◌==◌, ◌<◌, ◌≤◌, ◌*◌, ℕ, true, false, if◌then◌else◌, length};
 ghost use Rattle.std.specs.Int.{bit_at};
-ghost use Rattle.hsr_ring.specs.Numbers.{has, has_bit, IsLowest};
+ghost use Rattle.hsr_numbers.specs.Numbers.{has, has_bit, IsLowest};
+
+use std::marker::Model;
 
 /// How many words a set has.
 const WORDS: usize = 8;
 
-/// A set of numbers below 512, a bit for each.
+/// A set of numbers below 512, a bit for each. A clause sees its words of 64 bits, of which `has` tells the numbers.
 #[derive(Clone, Copy)]
-pub(crate) struct Numbers {
+pub struct Numbers {
     words: [u64; WORDS],
 }
 
@@ -37,26 +39,36 @@ fn lowest_of(words: &[u64]) -> Option<usize>
     None
 }
 
+impl Model for Numbers {
+    ghost use Rattle.std.specs.Prelude.{ℕ, List};
+
+    ghost Value = { List ℕ };
+
+    ghost view = { λ s. s.words };
+
+    ghost inverse = { λ words. record { words = words } };
+}
+
 impl Numbers {
     /// The set that has no number.
-    pub(crate) fn new() -> Numbers
-        ensures { (n : ℕ) → has result.words n ≡ false }
+    pub fn new() -> Numbers
+        ensures { (n : ℕ) → has result n ≡ false }
     {
         Numbers { words: [0; WORDS] }
     }
 
     /// Lets a number be in the set or not.
-    pub(crate) fn put(&mut self, number: usize, is_in: bool)
+    pub fn put(&mut self, number: usize, is_in: bool)
         requires { number < 512 }
-        ensures { (n : ℕ) → n < 512 → has self.new.words n ≡ (if n == number then is_in else has self.old.words n) }
+        ensures { (n : ℕ) → n < 512 → has self.new n ≡ (if n == number then is_in else has self.old n) }
     {
         let index = number / 64;
         self.words[index] = with_bit(self.words[index], number % 64, is_in);
     }
 
     /// The lowest number, if there is one.
-    pub(crate) fn lowest(&self) -> Option<usize>
-        ensures { IsLowest 512 self.now.words result }
+    pub fn lowest(&self) -> Option<usize>
+        ensures { IsLowest 512 self.now result }
     {
         lowest_of(&self.words)
     }
