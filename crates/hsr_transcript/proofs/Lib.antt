@@ -12,3 +12,4 @@ pub mod OfRole
 pub mod OfFinished
 pub mod Finishing
 pub mod Answered
+pub mod Moved

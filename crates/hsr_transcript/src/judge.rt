@@ -22,7 +22,7 @@ pub(crate) fn judge<const C: usize>(alloc: Global, plain: Plain) -> Result<Recor
         nodes,
         links,
         main,
-        records,
+        mut records,
         carried,
     } = plain;
     let links_end = 4 + nodes.len() as u64 + links.len() as u64;
@@ -39,7 +39,7 @@ pub(crate) fn judge<const C: usize>(alloc: Global, plain: Plain) -> Result<Recor
         Err(_) => return Err(ReadFault::NoMemory),
     };
     let first = links_end + 2 + main.len() as u64;
-    match replay_all::<C>(alloc, topology.places(), records.as_slice(), first) {
+    match replay_all::<C>(alloc, topology.places(), records.as_mut_slice(), first) {
         Ok(kept) => Ok(Records {
             topology,
             plan,

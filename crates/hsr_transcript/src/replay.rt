@@ -8,43 +8,44 @@ ghost use Rattle.hsr_transcript_text.specs.Lines.{line_count};
 ghost use Rattle.hsr_transcript.specs.Replay.{Again, Replayed, ReplayedAll};
 
 use hsr_frame::NoMemory;
-use hsr_node::{Entry, Kept, Place, StepFault};
+use hsr_node::{Entry, Event, Kept, Place, StepFault};
 use hsr_transcript_text::ReadFault;
 use std::alloc::Global;
+use std::mem;
 
-/// Lets the event of an entry happen again, and tells whether the outcome is the entry's.
+/// Lets the event of an entry happen again, and tells whether the outcome is the entry's. The event is moved to the node.
 #[tactic(auto, using(crate::proofs::Replays::again_told, crate::proofs::Replays::again_refused))]
-fn again<const C: usize>(kept: &mut Kept<C>, entry: &Entry) -> Result<bool, NoMemory>
-    ensures { IfOk result (Again C kept.old kept.new entry.now) }
+fn again<const C: usize>(kept: &mut Kept<C>, entry: &mut Entry) -> Result<bool, NoMemory>
+    ensures { IfOk result (Again C kept.old kept.new entry.old) }
 {
     // Its clause says that the record is legal.
     let _legal = kept.entries();
-    let event = entry.event.copy()?;
-    match kept.step(entry.worker, entry.at, event) {
-        Ok(receipt) => Ok(receipt.entry.outcome.is_same(&entry.outcome)),
+    let event = mem::replace(&mut entry.event, Event::Age);
+    match kept.enter(entry.worker, entry.at, event) {
+        Ok(answer) => Ok(answer.outcome.is_same(&entry.outcome)),
         Err((_, StepFault::NoMemory)) => Err(NoMemory),
         Err((_, _)) => Ok(false),
     }
 }
 
-/// Replays a record whose first entry stands on line `first`.
+/// Replays a record whose first entry stands on line `first`; its events are moved to the node.
 pub(crate) fn replay<const C: usize>(
     alloc: Global,
     node: usize,
     place: Place,
-    entries: &[Entry],
+    entries: &mut [Entry],
     first: u64,
 ) -> Result<Kept<C>, ReadFault>
     requires station { HasOwnAddress place }
     requires capacity { (1 ≤ C) × (C ≤ 65535) }
-    requires lines { first + length entries.now < 2 ^ 64 }
-    ensures { Replayed C node place entries.now first result }
+    requires lines { first + length entries.old < 2 ^ 64 }
+    ensures { Replayed C node place entries.old first result }
 {
     let Ok(mut kept) = Kept::<C>::new(alloc, node, place) else {
         return Err(ReadFault::NoMemory);
     };
     for i in 0..entries.len() {
-        match again(&mut kept, &entries[i]) {
+        match again(&mut kept, &mut entries[i]) {
             Ok(true) => {}
             Ok(false) => {
                 return Err(ReadFault::BadLine {
@@ -59,18 +60,18 @@ pub(crate) fn replay<const C: usize>(
     Ok(kept)
 }
 
-/// Replays the records of all nodes; the first begins with its count on line `first`.
+/// Replays the records of all nodes; the first begins with its count on line `first`. Their events are moved to the nodes.
 pub(crate) fn replay_all<const C: usize>(
     alloc: Global,
     places: &[Place],
-    records: &[Vec<Entry>],
+    records: &mut [Vec<Entry>],
     first: u64,
 ) -> Result<Vec<Kept<C>>, ReadFault>
     requires stations { All HasOwnAddress places.now }
-    requires paired { length records.now ≡ length places.now }
+    requires paired { length records.old ≡ length places.now }
     requires capacity { (1 ≤ C) × (C ≤ 65535) }
-    requires lines { first + line_count (map entry_items records.now) < 2 ^ 64 }
-    ensures { ReplayedAll C places.now (map entry_items records.now) first (seen (λ v. v.items) result) }
+    requires lines { first + line_count (map entry_items records.old) < 2 ^ 64 }
+    ensures { ReplayedAll C places.now (map entry_items records.old) first (seen (λ v. v.items) result) }
 {
     let mut kept = Vec::new(alloc);
     let mut line = first;
@@ -78,11 +79,12 @@ pub(crate) fn replay_all<const C: usize>(
         let Ok(place) = places[i].copy() else {
             return Err(ReadFault::NoMemory);
         };
-        let entries = records[i].as_slice();
+        let entries = records[i].as_mut_slice();
+        let count = entries.len() as u64;
         match replay::<C>(alloc, i, place, entries, line + 1) {
             Ok(node) => {
                 kept.push(node)?;
-                line += 1 + entries.len() as u64;
+                line += 1 + count;
             }
             Err(fault) => return Err(fault),
         }

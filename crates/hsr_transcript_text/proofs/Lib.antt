@@ -19,3 +19,5 @@ pub mod Entries
 pub mod Formal
 pub mod Fitting
 pub mod Roles
+pub mod Exact
+pub mod UpperDigits

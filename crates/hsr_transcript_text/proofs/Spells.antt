@@ -6,7 +6,7 @@ use Rattle.std.proofs.lemmas.Bool.Decides.{nat_tests}
 use Rattle.hsr_frame.specs.Address.{IsAddress}
 use Rattle.hsr_text.specs.Words.{cut}
 use Rattle.hsr_frame.specs.declared.node.Mode.{Mode}
-use Rattle.hsr_frame.specs.declared.node.Mode.TheVariants.{H, N}
+use Rattle.hsr_frame.specs.declared.node.Mode.TheVariants.{H, N, U}
 use Rattle.hsr_node.specs.declared.event.Probe.{Probe}
 use Rattle.hsr_node.specs.declared.place.Place.{Place}
 use Rattle.hsr_node.specs.declared.place.Place.TheVariants.{Danh, RedBox, QuadBox, Station}
@@ -87,10 +87,12 @@ row_spelled row f = record { read = row_read row f; line = row_lacks row f }
 mode_again : (mode : Mode) → mode_of (cut 32 (mode_word mode)).0 ≡ Some mode
 mode_again H = refl
 mode_again N = refl
+mode_again U = refl
 
 mode_lacks : (mode : Mode) → Lacks 10 (mode_word mode)
 mode_lacks H = (refl, tt)
 mode_lacks N = (refl, tt)
+mode_lacks U = (refl, tt)
 
 -- an address and a mode, as they stand behind a node's name
 mac_first : (mac : List ℕ) (mode : Mode) → cut 32 (mac_text mac ++ 32 ∷ mode_word mode) ≡ (mac_text mac, Some (mode_word mode))

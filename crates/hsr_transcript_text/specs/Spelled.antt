@@ -1,5 +1,5 @@
 -- How the lines of a transcript are spelled.
---     place_text    a node: `danh <mac> <H|N>`, `redbox <mac> <H|N>`, `quadbox` or `station <mac> ..`
+--     place_text    a node: `danh <mac> <H|N|U>`, `redbox <mac> <H|N|U>`, `quadbox` or `station <mac> ..`
 --     link_text     a link: `<node>.<port> <node>.<port>`
 --     entry_text    an entry of a node's record: `<worker> <at> <event> = <outcome>`
 --     row_text      a row of a link: `<forth|back> <probe> <octets> <taken|down|cut|overrun>`

@@ -1,5 +1,5 @@
 //! Kinds of line, each with its writer and its reader, and sections of lines.
-ghost use Rattle.std.specs.Prelude.{◌≡◌, ◌<◌, ◌^◌, ◌++◌, ◌∷◌, [], ℕ, List, Option, OnOk, IfOk, length};
+ghost use Rattle.std.specs.Prelude.{◌≡◌, ◌<◌, ◌^◌, ◌++◌, ◌∷◌, [], ℕ, List, Option, OnOk, IfOk, length, true};
 ghost use Rattle.std.specs.List.{AllByRecursion};
 ghost use Rattle.std.specs.Str.{bytes_eq};
 ghost use Rattle.hsr_text.specs.Words.{Gives};
@@ -25,9 +25,16 @@ pub(crate) trait LineKind {
         ensures written { OnOk result (text.new.items ≡ text.old.items ++ spelled self.now value.now) }
         ensures fits { OnOk result (fits self.now value.now) };
 
-    /// Reads what a line says, which may be spelled otherwise.
-    fn parse(&self, alloc: Global, line: &[u8]) -> Result<Self::Value, WordFault>
-        ensures { Gives (λ v. v) result (said self.now line.now) };
+    /// Reads what a line says, which may be spelled otherwise, and tells whether it surely isn't. There is room to spell a
+    /// part of it again.
+    fn parse(
+        &self,
+        alloc: Global,
+        line: &[u8],
+        room: &mut Vec<u8>,
+    ) -> Result<(Self::Value, bool), WordFault>
+        ensures said { Gives (λ v. v.0) result (said self.now line.now) }
+        ensures sure { IfOk result (λ v. v.1 ≡ true → spelled self.now v.0 ≡ line.now) };
 }
 
 /// Whether a line is that of a value, which is spelled in the room for it.
@@ -44,7 +51,8 @@ fn is_line_of<K: LineKind>(
     Ok(spelled.as_slice() == line)
 }
 
-/// Reads the value whose line this is, with room to spell it again.
+/// Reads the value whose line this is, with room to spell it again where its words don't tell that it is.
+#[tactic(auto, using(crate::proofs::Exact::exactly_sure))]
 pub(crate) fn read_line<K: LineKind>(
     kind: &K,
     alloc: Global,
@@ -53,10 +61,13 @@ pub(crate) fn read_line<K: LineKind>(
 ) -> Result<K::Value, WordFault>
     ensures { Gives (λ v. v) result (exactly (K.spelled kind.now) (K.said kind.now) line.now) }
 {
-    let value = match kind.parse(alloc, line) {
-        Ok(value) => value,
+    let (value, sure) = match kind.parse(alloc, line, spelled) {
+        Ok(read) => read,
         Err(fault) => return Err(fault),
     };
+    if sure {
+        return Ok(value);
+    }
     match is_line_of(kind, &value, line, spelled) {
         Ok(true) => Ok(value),
         Ok(false) => Err(WordFault::Bad),

@@ -248,8 +248,14 @@ impl LineKind for PlaceLine {
         put_place(self.alloc, text, place)
     }
 
-    fn parse(&self, _alloc: Global, line: &[u8]) -> Result<Place, WordFault> {
-        read_place(line).ok_or(WordFault::Bad)
+    fn parse(
+        &self,
+        _alloc: Global,
+        line: &[u8],
+        _room: &mut Vec<u8>,
+    ) -> Result<(Place, bool), WordFault> {
+        let value = read_place(line).ok_or(WordFault::Bad)?;
+        Ok((value, false))
     }
 }
 
@@ -269,8 +275,14 @@ impl<'a> LineKind for LinkLine<'a> {
         put_link(text, self.places, ends)
     }
 
-    fn parse(&self, _alloc: Global, line: &[u8]) -> Result<[End; 2], WordFault> {
-        read_link(self.places, line).ok_or(WordFault::Bad)
+    fn parse(
+        &self,
+        _alloc: Global,
+        line: &[u8],
+        _room: &mut Vec<u8>,
+    ) -> Result<([End; 2], bool), WordFault> {
+        let value = read_link(self.places, line).ok_or(WordFault::Bad)?;
+        Ok((value, false))
     }
 }
 
@@ -290,8 +302,14 @@ impl LineKind for NumberLine {
         put_decimal(text, *n)
     }
 
-    fn parse(&self, _alloc: Global, line: &[u8]) -> Result<u64, WordFault> {
-        decimal(line).ok_or(WordFault::Bad)
+    fn parse(
+        &self,
+        _alloc: Global,
+        line: &[u8],
+        _room: &mut Vec<u8>,
+    ) -> Result<(u64, bool), WordFault> {
+        let value = decimal(line).ok_or(WordFault::Bad)?;
+        Ok((value, true))
     }
 }
 
@@ -313,8 +331,14 @@ impl<'a> LineKind for CountLine<'a> {
         put_number(text, *n)
     }
 
-    fn parse(&self, _alloc: Global, line: &[u8]) -> Result<u64, WordFault> {
-        number_behind(line).ok_or(WordFault::Bad)
+    fn parse(
+        &self,
+        _alloc: Global,
+        line: &[u8],
+        _room: &mut Vec<u8>,
+    ) -> Result<(u64, bool), WordFault> {
+        let value = number_behind(line).ok_or(WordFault::Bad)?;
+        Ok((value, false))
     }
 }
 
@@ -333,7 +357,12 @@ impl<'a> LineKind for FixedLine<'a> {
         text.extend_from_slice(self.line)
     }
 
-    fn parse(&self, _alloc: Global, _line: &[u8]) -> Result<(), WordFault> {
-        Ok(())
+    fn parse(
+        &self,
+        _alloc: Global,
+        line: &[u8],
+        _room: &mut Vec<u8>,
+    ) -> Result<((), bool), WordFault> {
+        Ok(((), self.line == line))
     }
 }

@@ -1,12 +1,12 @@
 //! The lines of entries.
-ghost use Rattle.std.specs.Prelude.{◌≡◌, ◌++◌, OnOk};
+ghost use Rattle.std.specs.Prelude.{◌≡◌, ◌++◌, ◌∷◌, OnOk, IfOk, IfSome, codes, true, false};
 ghost use Rattle.hsr_transcript_text.specs.Fits.{IsEntryFit, IsEventFit, IsOutcomeFit, IsSendFit};
 ghost use Rattle.hsr_transcript_text.specs.Spelled.{entry_text, event_text, outcome_text, port_text, ports_text, up_text};
 
 use crate::lines::LineKind;
 use crate::parsing::{
-    has_octet, read_about, read_cause, read_number, read_octet, read_port, read_ports, read_probe,
-    read_seq, read_vlan, tail_of,
+    has_octet, is_upper, read_about, read_cause, read_number, read_octet, read_port, read_ports,
+    read_probe, read_seq, read_vlan, tail_of,
 };
 use crate::words::{
     about_fits, carried_fits, mac_fits, put_about, put_cause, put_hex_u16, put_mac, put_number,
@@ -151,20 +151,30 @@ fn put_entry(
     put_outcome(text, place, &entry.outcome)
 }
 
-/// What the words of a send say, `<from> <dst> <vlan4> <type4> <payload>`, and the words behind them.
-fn read_send(alloc: Global, rest: Option<&[u8]>) -> Result<(Event, Option<&[u8]>), WordFault>
-    ensures { Gives (λ e. (e.0, option_map (λ s. s.now) e.1)) result (read_send (option_map (λ s. s.now) rest.entry)) }
+/// An event that some words say, and what stands behind them.
+struct Leading<'a> {
+    event: Event,
+    rest: Option<&'a [u8]>,
+    /// Whether the words are surely those that the event is spelled by.
+    sure: bool,
+}
+
+/// What the words of a send say, `<from> <dst> <vlan4> <type4> <payload>`; surely so where their digits are in upper case.
+fn read_send<'a>(alloc: Global, rest: Option<&'a [u8]>) -> Result<Leading<'a>, WordFault>
+    ensures said { Gives (λ e. (e.event, option_map (λ s. s.now) e.rest)) result (read_send (option_map (λ s. s.now) rest.entry)) }
+    ensures sure { IfOk result (λ e. e.sure ≡ true → (place : Place) → codes "send" ++ after (option_map (λ s. s.now) rest.entry) ≡ event_text place e.event ++ after (option_map (λ s. s.now) e.rest)) }
 {
     let (from, rest) = word(rest).ok_or(WordFault::Bad)?;
     let from = read_octet(from).ok_or(WordFault::Bad)?;
-    let (dst, rest) = word(rest).ok_or(WordFault::Bad)?;
-    let dst = Mac::from_ascii(dst).ok().ok_or(WordFault::Bad)?;
-    let (vlan, rest) = word(rest).ok_or(WordFault::Bad)?;
-    let vlan = read_vlan(vlan).ok_or(WordFault::Bad)?;
-    let (kind, rest) = word(rest).ok_or(WordFault::Bad)?;
-    let kind = hex_pair(kind).ok_or(WordFault::Bad)?;
-    let (payload, rest) = word(rest).ok_or(WordFault::Bad)?;
-    let payload = Octets::new(hex_octets(alloc, payload)?);
+    let (address, rest) = word(rest).ok_or(WordFault::Bad)?;
+    let dst = Mac::from_ascii(address).ok().ok_or(WordFault::Bad)?;
+    let (control, rest) = word(rest).ok_or(WordFault::Bad)?;
+    let vlan = read_vlan(control).ok_or(WordFault::Bad)?;
+    let (pair, rest) = word(rest).ok_or(WordFault::Bad)?;
+    let kind = hex_pair(pair).ok_or(WordFault::Bad)?;
+    let (digits, rest) = word(rest).ok_or(WordFault::Bad)?;
+    let payload = Octets::new(hex_octets(alloc, digits)?);
+    let sure = is_upper(address) & is_upper(control) & is_upper(pair) & is_upper(digits);
     let event = Event::Send {
         from,
         dst,
@@ -172,44 +182,55 @@ fn read_send(alloc: Global, rest: Option<&[u8]>) -> Result<(Event, Option<&[u8]>
         kind,
         payload,
     };
-    Ok((event, rest))
+    Ok(Leading { event, rest, sure })
 }
 
-/// What the word of a supervision says, `own` or an address, and the words behind it.
-fn read_life(rest: Option<&[u8]>) -> Option<(Event, Option<&[u8]>)>
-    ensures { option_map (λ e. (e.0, option_map (λ s. s.now) e.1)) result ≡ read_life (option_map (λ s. s.now) rest.entry) }
+/// What the word of a supervision says, `own` or an address. It is short, and spelled again.
+fn read_life<'a>(rest: Option<&'a [u8]>) -> Option<Leading<'a>>
+    ensures said { option_map (λ e. (e.event, option_map (λ s. s.now) e.rest)) result ≡ read_life (option_map (λ s. s.now) rest.entry) }
+    ensures unsure { IfSome result (λ e. e.sure ≡ false) }
 {
     let (about, rest) = word(rest)?;
     let about = read_about(about)?;
-    Some((Event::Supervise(about), rest))
+    Some(Leading {
+        event: Event::Supervise(about),
+        rest,
+        sure: false,
+    })
 }
 
-/// What the words of an arrival at this place say, `<port> <probe> <octets>`, and the words behind them.
+/// What the words of an arrival at this place say, `<port> <probe> <octets>`; surely so where the port has its letter alone and
+/// the digits are in upper case.
 fn read_arrive<'a>(
     alloc: Global,
     place: &Place,
     rest: Option<&'a [u8]>,
-) -> Result<(Event, Option<&'a [u8]>), WordFault>
-    ensures { Gives (λ e. (e.0, option_map (λ s. s.now) e.1)) result (read_arrive place.now (option_map (λ s. s.now) rest.entry)) }
+) -> Result<Leading<'a>, WordFault>
+    ensures said { Gives (λ e. (e.event, option_map (λ s. s.now) e.rest)) result (read_arrive place.now (option_map (λ s. s.now) rest.entry)) }
+    ensures sure { IfOk result (λ e. e.sure ≡ true → codes "arrive" ++ after (option_map (λ s. s.now) rest.entry) ≡ event_text place.now e.event ++ after (option_map (λ s. s.now) e.rest)) }
 {
-    let (port, rest) = word(rest).ok_or(WordFault::Bad)?;
-    let port = read_port(place, port).ok_or(WordFault::Bad)?;
+    let (name, rest) = word(rest).ok_or(WordFault::Bad)?;
+    let port = read_port(place, name).ok_or(WordFault::Bad)?;
     let (probe, rest) = word(rest).ok_or(WordFault::Bad)?;
     let probe = Some(read_probe(probe).ok_or(WordFault::Bad)?);
-    let (octets, rest) = word(rest).ok_or(WordFault::Bad)?;
-    let octets = Octets::new(hex_octets(alloc, octets)?);
+    let (digits, rest) = word(rest).ok_or(WordFault::Bad)?;
+    let octets = Octets::new(hex_octets(alloc, digits)?);
+    let letter = [place.letter(port)];
+    let sure = (name == letter.as_slice()) & is_upper(digits);
     let carried = Carried { probe, octets };
-    Ok((Event::Arrive { port, carried }, rest))
+    let event = Event::Arrive { port, carried };
+    Ok(Leading { event, rest, sure })
 }
 
-/// What the words of an event say, and the words behind it.
+/// What the words of an event say.
 #[tactic(auto, unfolding(crate::specs::Parsed::read_event))]
 fn read_event<'a>(
     alloc: Global,
     place: &Place,
     rest: Option<&'a [u8]>,
-) -> Result<(Event, Option<&'a [u8]>), WordFault>
-    ensures { Gives (λ e. (e.0, option_map (λ s. s.now) e.1)) result (read_event place.now (option_map (λ s. s.now) rest.entry)) }
+) -> Result<Leading<'a>, WordFault>
+    ensures said { Gives (λ e. (e.event, option_map (λ s. s.now) e.rest)) result (read_event place.now (option_map (λ s. s.now) rest.entry)) }
+    ensures sure { IfOk result (λ e. e.sure ≡ true → after (option_map (λ s. s.now) rest.entry) ≡ 32 ∷ (event_text place.now e.event ++ after (option_map (λ s. s.now) e.rest))) }
 {
     let (verb, rest) = word(rest).ok_or(WordFault::Bad)?;
     if verb == b"send".as_slice() {
@@ -222,7 +243,11 @@ fn read_event<'a>(
         return read_arrive(alloc, place, rest);
     }
     if verb == b"age".as_slice() {
-        return Ok((Event::Age, rest));
+        return Ok(Leading {
+            event: Event::Age,
+            rest,
+            sure: true,
+        });
     }
     Err(WordFault::Bad)
 }
@@ -289,27 +314,57 @@ fn read_outcome(place: &Place, rest: Option<&[u8]>) -> Option<Outcome>
     None
 }
 
-/// What the line of an entry says.
+/// Whether some words are the text of an outcome, which is spelled in the room for it.
+fn is_text_of(
+    room: &mut Vec<u8>,
+    place: &Place,
+    outcome: &Outcome,
+    rest: Option<&[u8]>,
+) -> Result<bool, AllocError>
+    ensures { IfOk result (λ same. same ≡ true → after (option_map (λ s. s.now) rest.entry) ≡ 32 ∷ outcome_text place.now outcome.now) }
+{
+    let Some(words) = rest else {
+        return Ok(false);
+    };
+    room.clear();
+    put_outcome(room, place, outcome)?;
+    Ok(room.as_slice() == words)
+}
+
+/// What the line of an entry says, and whether it is surely spelled so. Of a sure event only the outcome is spelled again.
 #[tactic(auto, unfolding(crate::specs::Parsed::read_entry))]
-fn read_entry(alloc: Global, place: &Place, line: &[u8]) -> Result<Entry, WordFault>
-    ensures { Gives (λ e. e) result (read_entry place.now line.now) }
+fn read_entry(
+    alloc: Global,
+    place: &Place,
+    line: &[u8],
+    room: &mut Vec<u8>,
+) -> Result<(Entry, bool), WordFault>
+    ensures said { Gives (λ e. e.0) result (read_entry place.now line.now) }
+    ensures sure { IfOk result (λ e. e.1 ≡ true → entry_text place.now e.0 ≡ line.now) }
 {
     let (worker, rest) = word(Some(line)).ok_or(WordFault::Bad)?;
     let worker = read_number(worker).ok_or(WordFault::Bad)?;
     let (at, rest) = word(rest).ok_or(WordFault::Bad)?;
     let at = decimal(at).ok_or(WordFault::Bad)?;
-    let (event, rest) = read_event(alloc, place, rest)?;
-    let (_, rest) = word(rest).ok_or(WordFault::Bad)?;
+    let Leading { event, rest, sure } = read_event(alloc, place, rest)?;
+    let (equals, rest) = word(rest).ok_or(WordFault::Bad)?;
     let outcome = read_outcome(place, rest).ok_or(WordFault::Bad)?;
-    Ok(Entry {
+    let Ok(spelled) = is_text_of(room, place, &outcome, rest) else {
+        return Err(WordFault::Memory);
+    };
+    let entry = Entry {
         worker,
         at,
         event,
         outcome,
-    })
+    };
+    let sure = sure & (equals == b"=".as_slice()) & spelled;
+    Ok((entry, sure))
 }
 
 ghost use Rattle.std.specs.Prelude.{option_map};
+ghost use Rattle.hsr_node.specs.declared.place.Place.{Place};
+ghost use Rattle.hsr_transcript_text.specs.Exact.{after};
 ghost use Rattle.hsr_text.specs.Words.{Gives};
 ghost use Rattle.hsr_transcript_text.specs.Parsed.{read_arrive, read_entry, read_event, read_judged, read_life, read_lived, read_outcome, read_send, read_sent};
 
@@ -371,7 +426,12 @@ impl<'a> LineKind for EntryLine<'a> {
         put_entry(self.alloc, text, self.place, entry)
     }
 
-    fn parse(&self, alloc: Global, line: &[u8]) -> Result<Entry, WordFault> {
-        read_entry(alloc, self.place, line)
+    fn parse(
+        &self,
+        alloc: Global,
+        line: &[u8],
+        room: &mut Vec<u8>,
+    ) -> Result<(Entry, bool), WordFault> {
+        read_entry(alloc, self.place, line, room)
     }
 }

@@ -1,9 +1,9 @@
 //! The lines of rows.
-ghost use Rattle.std.specs.Prelude.{◌≡◌, ◌++◌, OnOk};
+ghost use Rattle.std.specs.Prelude.{◌≡◌, ◌++◌, OnOk, IfOk, true};
 ghost use Rattle.hsr_transcript_text.specs.Spelled.{row_text};
 
 use crate::lines::LineKind;
-use crate::parsing::{read_fate, read_probe};
+use crate::parsing::{is_upper, read_fate, read_probe};
 use crate::words::{carried_fits, put_octets, put_probe, put_word};
 use hsr_link::{Dir, Row};
 use hsr_node::{Carried, Octets};
@@ -25,25 +25,28 @@ fn put_row(text: &mut Vec<u8>, row: &Row) -> Result<(), AllocError>
     put_word(text, row.fate.word().as_bytes())
 }
 
-/// What the line of a row says.
+/// What the line of a row says, and whether it is surely spelled so: where its digits are in upper case, and nothing follows.
 #[tactic(auto, unfolding(crate::specs::Parsed::read_row))]
-fn read_row(alloc: Global, line: &[u8]) -> Result<Row, WordFault>
-    ensures { Gives (λ r. r) result (read_row line.now) }
+fn read_row(alloc: Global, line: &[u8]) -> Result<(Row, bool), WordFault>
+    ensures said { Gives (λ r. r.0) result (read_row line.now) }
+    ensures sure { IfOk result (λ r. r.1 ≡ true → row_text r.0 ≡ line.now) }
 {
     let (dir, rest) = word(Some(line)).ok_or(WordFault::Bad)?;
     let dir = Dir::from_word(dir).ok_or(WordFault::Bad)?;
     let (probe, rest) = word(rest).ok_or(WordFault::Bad)?;
     let probe = Some(read_probe(probe).ok_or(WordFault::Bad)?);
-    let (octets, rest) = word(rest).ok_or(WordFault::Bad)?;
-    let octets = Octets::new(hex_octets(alloc, octets)?);
-    let (fate, _) = word(rest).ok_or(WordFault::Bad)?;
+    let (digits, rest) = word(rest).ok_or(WordFault::Bad)?;
+    let octets = Octets::new(hex_octets(alloc, digits)?);
+    let (fate, rest) = word(rest).ok_or(WordFault::Bad)?;
     let fate = read_fate(fate).ok_or(WordFault::Bad)?;
-    Ok(Row {
+    let sure = is_upper(digits) & rest.is_none();
+    let row = Row {
         dir,
         carried: Carried { probe, octets },
         injected: false,
         fate,
-    })
+    };
+    Ok((row, sure))
 }
 
 ghost use Rattle.hsr_text.specs.Words.{Gives};
@@ -67,7 +70,12 @@ impl LineKind for RowLine {
         put_row(text, row)
     }
 
-    fn parse(&self, alloc: Global, line: &[u8]) -> Result<Row, WordFault> {
+    fn parse(
+        &self,
+        alloc: Global,
+        line: &[u8],
+        _room: &mut Vec<u8>,
+    ) -> Result<(Row, bool), WordFault> {
         read_row(alloc, line)
     }
 }

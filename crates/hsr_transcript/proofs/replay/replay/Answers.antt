@@ -1,13 +1,19 @@
-use Rattle.std.proofs.Common.{sym, subst, refl}
-use Rattle.hsr_node.specs.Kept.{owner_of, past_of}
-use Rattle.hsr_node.specs.Record.{IsLegal}
-use Rattle.hsr_transcript.specs.Replay.{Again, Differs, front_of}
+use Rattle.std.proofs.Common.{◌<◌, ◌∙◌, arith, get_or, length, subst, sym, true}
+use Rattle.hsr_node.specs.declared.entry.Entry.{Entry}
+use Rattle.hsr_transcript.specs.Replay.{Again}
+use Rattle.hsr_transcript.proofs.Moved.{front_next, left_next, same_there}
 use Rattle.hsr_transcript.proofs.replay.replay.Goals as goal
 
-pub returns-in-Ok-false : goal.returns-in-Ok-false
-returns-in-Ok-false g c =
+pub loop-i-preserved : goal.loop-i-preserved
+loop-i-preserved g c =
+    let i = c.loop-i.i in
     let entry = c.index-entries-i.result in
-    let front = front_of c.args.node c.args.place c.loop-i.i c.args.entries.now in
-    let told : IsLegal g.row.C (owner_of front) (past_of front) × Differs g.row.C front entry =
-    subst (λ r. IsLegal g.row.C (owner_of r) (past_of r) × Differs g.row.C r entry) c.loop-i.invariant (subst (Again g.row.C c.loop-i.kept c.again.new.kept entry) c.in-Ok-false.field-0-test c.in-Ok-false.ensures) in
-    record { at = c.loop-i.i; entry = entry; within = c.loop-i-test.true; there = sym c.index-entries-i.is; legal = told.0; differs = told.1; number = refl }
+    let within : i < length c.loop-i.entries = omega arith in
+    let first : i < length c.args.entries.now = omega arith in
+    let there = sym (same_there c.loop-i.entries c.args.entries.now i entry within first c.loop-i.invariant.left) ∙ sym c.index-entries-i.is in
+    let again = subst (λ (e : Entry). Again g.row.C c.loop-i.kept c.again.new.kept e true) (sym c.index-entries-i.is)
+    (subst (Again g.row.C c.loop-i.kept c.again.new.kept (get_or c.loop-i.entries i entry)) c.in-Ok-true.field-0-test c.in-Ok-true.ensures) in
+    record {
+      replayed = front_next g.row.C c.args.node c.args.place c.args.entries.now c.loop-i.kept c.again.new.kept i entry c.loop-i.invariant.replayed first there again;
+      left = left_next c.loop-i.entries c.args.entries.now i entry c.again.new.entry within first c.loop-i.invariant.left;
+    }
