@@ -1,0 +1,73 @@
+-- How the threads of a run end.
+use Rattle.std.proofs.Common.{ℕ, ◌≡◌, ◌≤◌, Bool, true, false, subst, length, IfSome, inl, inr, refl, arith}
+use Rattle.hsr_scenario.specs.Meaning.{Meant}
+use Rattle.hsr_closing.specs.declared.disagree.CheckFault.TheVariants as check
+use Rattle.hsr_step.specs.declared.step.WorldFault.TheVariants as world
+use Rattle.hsr_runner.specs.Endings.{IsCheckFault, IsConducted, IsEnding, IsPlayFault, fault_of, worker_fault}
+use Rattle.hsr_runner.specs.Faults.{IsRunFault, is_fine_step}
+use Rattle.hsr_runner.specs.declared.conduct.Conducted.{Conducted}
+use Rattle.hsr_runner.specs.declared.conduct.Conducted.TheVariants.{All, Left, Own}
+use Rattle.hsr_runner.specs.declared.conduct.Conducted.TheVariants as conducted
+use Rattle.hsr_runner.specs.declared.fault.RunFault.{RunFault}
+use Rattle.hsr_runner.specs.declared.fault.RunFault.TheVariants as fault
+use Rattle.hsr_runner.specs.declared.ending.Ending.{Ending}
+use Rattle.hsr_runner.specs.declared.ending.Ending.TheVariants.{Stopped, Shut, Refused, NoMemory}
+
+-- who ends as one with a gate that is always open ends as one with any gate
+pub unshut : (capacity : ℕ) (may_shut : Bool) (ending : Ending) → IsEnding capacity false ending → IsEnding capacity may_shut ending
+unshut capacity may_shut Stopped h = tt
+unshut capacity may_shut Shut h = absurd cc
+unshut capacity may_shut (Refused fault) h = h
+unshut capacity may_shut NoMemory h = tt
+
+worker_end : (capacity : ℕ) (may_shut : Bool) (s : Meant) (k : ℕ) (ending : Ending) → k ≤ length s.steps → IsEnding capacity may_shut ending → IfSome (worker_fault k ending) (λ f. IsPlayFault capacity may_shut s f)
+worker_end capacity may_shut s k Stopped below h = tt
+worker_end capacity may_shut s k Shut below h = h
+worker_end capacity may_shut s k (Refused fault) below h = (below, inr h)
+worker_end capacity may_shut s k NoMemory below h = tt
+
+pub play_fault : (capacity : ℕ) (may_shut : Bool) (s : Meant) (c : Conducted) (ending : Ending) → IsConducted capacity s c → IsEnding capacity may_shut ending
+    → IfSome (fault_of c ending (length s.steps)) (λ f. IsPlayFault capacity may_shut s f)
+play_fault capacity may_shut s All ending c h = worker_end capacity may_shut s (length s.steps) ending (omega arith) h
+play_fault capacity may_shut s (Left k) ending c h = worker_end capacity may_shut s k ending c h
+play_fault capacity may_shut s (Own k world.NoMemory) ending c h = tt
+play_fault capacity may_shut s (Own k (world.Node f)) ending c h = (omega (arith, c.0), inl c.1)
+play_fault capacity may_shut s (Own k world.NoSuchNode) ending c h = (omega (arith, c.0), inl c.1)
+play_fault capacity may_shut s (Own k world.NoSuchLink) ending c h = (omega (arith, c.0), inl c.1)
+play_fault capacity may_shut s (Own k world.NoSuchPort) ending c h = (omega (arith, c.0), inl c.1)
+play_fault capacity may_shut s (Own k world.Busy) ending c h = (omega (arith, c.0), inl c.1)
+play_fault capacity may_shut s (Own k world.Nothing) ending c h = (omega (arith, c.0), inl c.1)
+play_fault capacity may_shut s (Own k world.TooLong) ending c h = (omega (arith, c.0), inl c.1)
+play_fault capacity may_shut s conducted.NoThread ending c h = tt
+play_fault capacity may_shut s conducted.NoMemory ending c h = tt
+
+-- what is known of a fault that threads leave
+pub run_fault : (capacity : ℕ) (may_shut : Bool) (s : Meant) (f : RunFault) → IsPlayFault capacity may_shut s f → IsRunFault capacity s f
+run_fault capacity may_shut s (fault.FineStep k) h = absurd h
+run_fault capacity may_shut s fault.GateShut h = tt
+run_fault capacity may_shut s (fault.Step k f) h = h
+run_fault capacity may_shut s fault.Thread h = h
+run_fault capacity may_shut s (fault.Check c) h = h
+run_fault capacity may_shut s fault.NoMemory h = h
+
+pub not_fine : (capacity : ℕ) (may_shut : Bool) (s : Meant) (f : RunFault) → IsPlayFault capacity may_shut s f → is_fine_step f ≡ false
+not_fine capacity may_shut s (fault.FineStep k) h = absurd h
+not_fine capacity may_shut s fault.GateShut h = refl
+not_fine capacity may_shut s (fault.Step k f) h = refl
+not_fine capacity may_shut s fault.Thread h = refl
+not_fine capacity may_shut s (fault.Check c) h = refl
+not_fine capacity may_shut s fault.NoMemory h = refl
+
+-- a shut gate is answered only where it may shut
+pub shuts : (capacity : ℕ) (may_shut : Bool) (s : Meant) (f : RunFault) → IsPlayFault capacity may_shut s f → f ≡ fault.GateShut → may_shut ≡ true
+shuts capacity may_shut s f h is = subst (λ g. IsPlayFault capacity may_shut s g) is h
+
+-- what the closing check leaves is a fault as well that threads may leave
+pub check_fault : (capacity : ℕ) (may_shut : Bool) (s : Meant) (f : RunFault) → IsCheckFault f → IsPlayFault capacity may_shut s f
+check_fault capacity may_shut s (fault.FineStep k) h = absurd h
+check_fault capacity may_shut s fault.GateShut h = absurd h
+check_fault capacity may_shut s (fault.Step k f) h = absurd h
+check_fault capacity may_shut s fault.Thread h = absurd h
+check_fault capacity may_shut s (fault.Check (check.Disagree d)) h = tt
+check_fault capacity may_shut s (fault.Check check.NoMemory) h = absurd h
+check_fault capacity may_shut s fault.NoMemory h = tt

@@ -1,0 +1,90 @@
+-- How the threads of a run end.
+--     IsEnding     how a worker may end
+--     IsConducted  how the main worker may end
+--     IsPlayFault  why threads that were started leave no run
+use Rattle.std.specs.Prelude.{ℕ, ◌≡◌, ◌≤◌, ◌<◌, Bool, true, length, slice_get, MatchOption, Option, Some, None}
+use Rattle.hsr_scenario.specs.Meaning.{Meant}
+use Rattle.hsr_step.specs.declared.step.WorldFault.{WorldFault}
+use Rattle.hsr_step.specs.declared.step.WorldFault.TheVariants.{Node, NoMemory as NoRoom}
+use Rattle.hsr_node.specs.declared.event.StepFault.{StepFault}
+use Rattle.hsr_node.specs.declared.event.StepFault.TheVariants as refused
+use Rattle.hsr_topology.specs.Topology.{Topology}
+use Rattle.hsr_closing.specs.declared.disagree.CheckFault.TheVariants as check
+use Rattle.hsr_closing.specs.declared.planned.Planned.{Planned}
+use Rattle.hsr_scenario.specs.declared.steps.Order.{Order}
+use Rattle.hsr_runner.specs.Faults.{IsRefusedCopy, IsRefusedEvent, IsRefusedOrder, IsRunFault, if_node}
+use Rattle.hsr_runner.specs.declared.conduct.Conducted.{Conducted}
+use Rattle.hsr_runner.specs.declared.conduct.Conducted.TheVariants.{All, Left, Own}
+use Rattle.hsr_runner.specs.declared.conduct.Conducted.TheVariants as conducted
+use Rattle.hsr_runner.specs.declared.ending.Ending.{Ending}
+use Rattle.hsr_runner.specs.declared.ending.Ending.TheVariants.{Stopped, Shut, Refused, NoMemory}
+use Rattle.hsr_runner.specs.declared.fault.RunFault.{RunFault}
+use Rattle.hsr_runner.specs.declared.fault.RunFault.TheVariants as fault
+
+-- how a worker ends whose node refused a copy
+abbrev pub ending_of : StepFault → Ending
+ending_of refused.NoMemory = NoMemory
+ending_of fault = Refused fault
+
+-- why an order isn't done that a node refused
+abbrev pub own_fault : StepFault → WorldFault
+own_fault refused.NoMemory = NoRoom
+own_fault fault = Node fault
+
+-- a worker ends by its gate only where that may shut, and by its node only where that refused a copy
+abbrev pub IsEnding : ℕ → Bool → Ending → Type 0
+IsEnding capacity may_shut Stopped = Unit {0}
+IsEnding capacity may_shut Shut = may_shut ≡ true
+IsEnding capacity may_shut (Refused fault) = IsRefusedCopy capacity fault
+IsEnding capacity may_shut NoMemory = Unit {0}
+
+-- why an order isn't done: it is refused, or want of memory
+abbrev pub IsOrderEnd : ℕ → Topology → Order → WorldFault → Type 0
+IsOrderEnd capacity topology o NoRoom = Unit {0}
+IsOrderEnd capacity topology o fault = IsRefusedOrder capacity topology o fault
+
+-- the same of what is planned
+abbrev pub IsPlanEnd : ℕ → Topology → Planned → WorldFault → Type 0
+IsPlanEnd capacity topology planned NoRoom = Unit {0}
+IsPlanEnd capacity topology planned (Node fault) = IsRefusedEvent capacity planned.at planned.event fault
+IsPlanEnd capacity topology planned fault = if_node topology planned.node ≡ Some fault
+
+-- the main worker's order at a place isn't done
+abbrev pub IsOwnEnd : ℕ → Meant → ℕ → WorldFault → Type 0
+IsOwnEnd capacity s k fault = MatchOption (slice_get s.steps k) ⊥ (λ o. IsOrderEnd capacity s.topology o fault)
+
+-- the main worker ends after all steps, or at a place
+abbrev pub IsConducted : ℕ → Meant → Conducted → Type 0
+IsConducted capacity s All = Unit {0}
+IsConducted capacity s (Left k) = k ≤ length s.steps
+IsConducted capacity s (Own k fault) = (k < length s.steps) × IsOwnEnd capacity s k fault
+IsConducted capacity s conducted.NoThread = Unit {0}
+IsConducted capacity s conducted.NoMemory = Unit {0}
+
+-- why there is no run where the main worker is at a place, and the lowest of the others that gave up ended so
+abbrev pub worker_fault : ℕ → Ending → Option RunFault
+worker_fault k Stopped = None
+worker_fault k Shut = Some fault.GateShut
+worker_fault k (Refused f) = Some (fault.Step k (Node f))
+worker_fault k NoMemory = Some fault.NoMemory
+
+-- why there is no run where the main worker ended so, of so many steps, and the lowest of the others: the main worker's reason first
+abbrev pub fault_of : Conducted → Ending → ℕ → Option RunFault
+fault_of All ending last = worker_fault last ending
+fault_of (Left k) ending last = worker_fault k ending
+fault_of (Own k NoRoom) ending last = Some fault.NoMemory
+fault_of (Own k f) ending last = Some (fault.Step k f)
+fault_of conducted.NoThread ending last = Some fault.Thread
+fault_of conducted.NoMemory ending last = Some fault.NoMemory
+
+-- no fine step is among the reasons, and a shut gate only where it may shut
+abbrev pub IsPlayFault : ℕ → Bool → Meant → RunFault → Type 0
+IsPlayFault capacity may_shut s (fault.FineStep k) = ⊥
+IsPlayFault capacity may_shut s fault.GateShut = may_shut ≡ true
+IsPlayFault capacity may_shut s f = IsRunFault capacity s f
+
+-- what the closing check leaves: what it found, or want of memory
+abbrev pub IsCheckFault : RunFault → Type 0
+IsCheckFault (fault.Check (check.Disagree disagree)) = Unit {0}
+IsCheckFault fault.NoMemory = Unit {0}
+IsCheckFault _ = ⊥

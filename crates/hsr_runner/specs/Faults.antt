@@ -1,0 +1,91 @@
+-- What is known of the reason why there is no run.
+--     misfit        why a step is refused whatever was done before it
+--     IsOwnFault    why the order at a place is refused
+--     IsRunFault    why there is no run of a scenario
+use Rattle.std.specs.Prelude.{ℕ, ◌≡◌, ◌≤◌, ◌⊎◌, nat_lt, Bool, true, false, if◌then◌else◌, List, length, slice_get, position, MatchOption, Option, Some, None, Err}
+use Rattle.hsr_topology.specs.Topology.{Topology}
+use Rattle.hsr_node.specs.Cell.{IsLegalRecord}
+use Rattle.hsr_node.specs.Kept.{Record, answer_to}
+use Rattle.hsr_node.specs.declared.event.Carried.{Carried}
+use Rattle.hsr_node.specs.declared.event.Event.{Event}
+use Rattle.hsr_node.specs.declared.event.Event.TheVariants.{Arrive}
+use Rattle.hsr_node.specs.declared.event.StepFault.{StepFault}
+use Rattle.hsr_node.specs.declared.event.StepFault.TheVariants.{NoMemory as NoRoom}
+use Rattle.hsr_closing.specs.declared.disagree.CheckFault.TheVariants.{Disagree, NoMemory as NoRoomToCheck}
+use Rattle.hsr_closing.specs.declared.planned.Planned.{Planned}
+use Rattle.hsr_scenario.specs.Meaning.{Meant}
+use Rattle.hsr_scenario.specs.declared.steps.Order.{Order}
+use Rattle.hsr_scenario.specs.declared.steps.Order.TheVariants as order
+use Rattle.hsr_step.specs.declared.step.Step.TheVariants.{Send, Supervise, Age, Cut, Mend, Inject}
+use Rattle.hsr_step.specs.declared.step.WorldFault.{WorldFault}
+use Rattle.hsr_step.specs.declared.step.WorldFault.TheVariants.{NoSuchNode, NoSuchLink, TooLong, Node}
+use Rattle.hsr_runner.specs.Plan.{is_fine, planned_at}
+use Rattle.hsr_runner.specs.declared.fault.RunFault.{RunFault}
+use Rattle.hsr_runner.specs.declared.fault.RunFault.TheVariants.{FineStep, Step, GateShut, Thread, Check, NoMemory}
+
+-- the fault names a step that is for a world alone
+abbrev pub is_fine_step : RunFault → Bool
+is_fine_step (FineStep k) = true
+is_fine_step _ = false
+
+-- ---- steps that are refused whatever was done before
+
+abbrev pub if_node : Topology → ℕ → Option WorldFault
+if_node topology node = if nat_lt node (length topology.places) then None else Some NoSuchNode
+
+abbrev pub if_link : Topology → ℕ → Option WorldFault → Option WorldFault
+if_link topology link fault = if nat_lt link (length topology.links) then fault else Some NoSuchLink
+
+abbrev pub too_long : List ℕ → Option WorldFault
+too_long octets = if nat_lt 2048 (length octets) then Some TooLong else None
+
+-- its node or link isn't there, or more than 2048 octets are injected
+abbrev pub misfit : Topology → Order → Option WorldFault
+misfit topology (order.Step (Send node from dst vlan kind payload)) = if_node topology node
+misfit topology (order.Step (Supervise node about)) = if_node topology node
+misfit topology (order.Step (Age node)) = if_node topology node
+misfit topology (order.Step (Cut link)) = if_link topology link None
+misfit topology (order.Step (Mend link)) = if_link topology link None
+misfit topology (order.Step (Inject link dir octets)) = if_link topology link (too_long octets)
+misfit topology _ = None
+
+-- ---- steps that a node refuses
+
+-- some legal record refuses an event at a moment; want of memory is no such reason
+abbrev pub IsRefusedEvent : ℕ → ℕ → Event → StepFault → Type 0
+IsRefusedEvent capacity at event NoRoom = ⊥
+IsRefusedEvent capacity at event fault = (r : Record) × IsLegalRecord capacity r × (answer_to capacity r at event ≡ Err fault)
+
+abbrev pub IsRefusedPlan : ℕ → Option Planned → StepFault → Type 0
+IsRefusedPlan capacity None fault = ⊥
+IsRefusedPlan capacity (Some planned) fault = IsRefusedEvent capacity planned.at planned.event fault
+
+-- an order of the main worker is refused: for itself, or by its node
+abbrev pub IsRefusedOrder : ℕ → Topology → Order → WorldFault → Type 0
+IsRefusedOrder capacity topology o (Node fault) = (at : ℕ) × IsRefusedPlan capacity (planned_at at o) fault
+IsRefusedOrder capacity topology o fault = misfit topology o ≡ Some fault
+
+-- a copy is refused by its node
+abbrev pub IsRefusedCopy : ℕ → StepFault → Type 0
+IsRefusedCopy capacity fault = (at : ℕ) × (port : ℕ) × (copy : Carried) × IsRefusedEvent capacity at (Arrive port copy) fault
+
+abbrev pub IsCopyFault : ℕ → WorldFault → Type 0
+IsCopyFault capacity (Node fault) = IsRefusedCopy capacity fault
+IsCopyFault capacity _ = ⊥
+
+-- the main worker's order at a place is refused
+abbrev pub IsOwnFault : ℕ → Meant → ℕ → WorldFault → Type 0
+IsOwnFault capacity s k fault = MatchOption (slice_get s.steps k) ⊥ (λ o. IsRefusedOrder capacity s.topology o fault)
+
+-- ---- faults
+
+-- Why there is no run of a scenario: its lowest fine step; an order of the main worker that is refused, or a copy that is while the main
+-- worker is at a place; or what the closing check found. Want of memory is always `NoMemory`.
+abbrev pub IsRunFault : ℕ → Meant → RunFault → Type 0
+IsRunFault capacity s (FineStep k) = position is_fine s.steps ≡ Some k
+IsRunFault capacity s (Step k fault) = (k ≤ length s.steps) × (IsOwnFault capacity s k fault ⊎ IsCopyFault capacity fault)
+IsRunFault capacity s (Check (Disagree disagree)) = Unit {0}
+IsRunFault capacity s (Check NoRoomToCheck) = ⊥
+IsRunFault capacity s GateShut = Unit {0}
+IsRunFault capacity s Thread = Unit {0}
+IsRunFault capacity s NoMemory = Unit {0}

@@ -1,0 +1,4 @@
+pub mod Plan
+pub mod Faults
+pub mod Runs
+pub mod Endings

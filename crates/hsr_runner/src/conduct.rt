@@ -1,0 +1,214 @@
+//! The main worker.
+ghost use Rattle.std.specs.Prelude.{◌≡◌, ◌⊎◌, IfErr, None, Some, length, vec_len};
+ghost use Rattle.hsr_step.specs.declared.step.WorldFault.TheVariants.{NoMemory as NoRoom};
+ghost use Rattle.hsr_runner.specs.Faults.{if_link, too_long};
+ghost use Rattle.hsr_scenario.specs.Meaning.{scenario_view};
+ghost use Rattle.hsr_runner.specs.Endings.{IsConducted, IsOrderEnd, IsPlanEnd, own_fault};
+
+use crate::cells::Cells;
+use crate::leaving::{inject, put_all};
+use crate::plan::{clock_after, planned_at};
+use hsr_closing::Planned;
+use hsr_link::Dir;
+use hsr_node::{Octets, Pass, StepFault};
+use hsr_scenario::{Order, Scenario};
+use hsr_step::{INJECT_LIMIT, Step, WorldFault};
+use hsr_topology::Topology;
+use std::alloc::Global;
+use std::sync::Wait;
+
+/// How the main worker's steps went.
+#[derive(Clone, Copy, Debug, PartialEq, Eq)]
+pub(crate) enum Conducted {
+    /// All were done, and no copy is on its way.
+    All,
+    /// It was told to stop when it was at this place.
+    Left(usize),
+    /// The step at this place was refused.
+    Own(usize, WorldFault),
+    /// A thread couldn't be started, so that no step was done.
+    NoThread,
+    /// Room for the threads was refused, so that no step was done.
+    NoMemory,
+}
+
+/// Why an order isn't done that a node refused.
+fn own_fault(fault: StepFault) -> WorldFault
+    ensures { result ≡ own_fault fault }
+{
+    match fault {
+        StepFault::NoMemory => WorldFault::NoMemory,
+        _ => WorldFault::Node(fault),
+    }
+}
+
+/// Brings about what is planned, and puts on their links the copies that leave.
+#[tactic(auto, using(crate::proofs::Refusals::plan_refused))]
+fn bring<const C: usize>(
+    rt: &impl Wait,
+    alloc: Global,
+    cells: &Cells<C>,
+    topology: &Topology,
+    pass: &mut Pass,
+    planned: Planned,
+) -> Result<(), WorldFault>
+    requires { vec_len cells.now.seats ≡ length topology.now.places }
+    ensures { IfErr result (λ fault. IsPlanEnd C topology.now planned fault) }
+{
+    let Some(seat) = cells.seats.get(planned.node) else {
+        return Err(WorldFault::NoSuchNode);
+    };
+    let receipt = match seat.cell.step(rt, pass, planned.at, planned.event) {
+        Ok(receipt) => receipt,
+        Err((_event, fault)) => return Err(own_fault(fault)),
+    };
+    match put_all(rt, alloc, cells, seat, &receipt) {
+        Ok(()) => Ok(()),
+        Err(_refused) => Err(WorldFault::NoMemory),
+    }
+}
+
+/// Brings about what an order asks of a node, if it does.
+#[tactic(auto, using(crate::proofs::Refusals::order_refused))]
+fn bring_order<const C: usize>(
+    rt: &impl Wait,
+    alloc: Global,
+    cells: &Cells<C>,
+    topology: &Topology,
+    pass: &mut Pass,
+    at: u64,
+    order: &Order,
+) -> Result<(), WorldFault>
+    requires { vec_len cells.now.seats ≡ length topology.now.places }
+    ensures { IfErr result (λ fault. IsOrderEnd C topology.now order.now fault) }
+{
+    let planned = match planned_at(at, order) {
+        Ok(Some(planned)) => planned,
+        Ok(None) => return Ok(()),
+        Err(_refused) => return Err(WorldFault::NoMemory),
+    };
+    bring(rt, alloc, cells, topology, pass, planned)
+}
+
+/// Cuts a link. The copies that waited there are on their way no more.
+fn cut<const C: usize>(
+    rt: &impl Wait,
+    cells: &Cells<C>,
+    topology: &Topology,
+    link: usize,
+) -> Result<(), WorldFault>
+    requires { vec_len cells.now.links ≡ length topology.now.links }
+    ensures { IfErr result (λ fault. if_link topology.now link None ≡ Some fault) }
+{
+    let Some(cell) = cells.links.get(link) else {
+        return Err(WorldFault::NoSuchLink);
+    };
+    cells.flight.fall(cell.cut(rt) as u64);
+    Ok(())
+}
+
+/// Mends a link.
+fn mend<const C: usize>(
+    rt: &impl Wait,
+    cells: &Cells<C>,
+    topology: &Topology,
+    link: usize,
+) -> Result<(), WorldFault>
+    requires { vec_len cells.now.links ≡ length topology.now.links }
+    ensures { IfErr result (λ fault. if_link topology.now link None ≡ Some fault) }
+{
+    let Some(cell) = cells.links.get(link) else {
+        return Err(WorldFault::NoSuchLink);
+    };
+    cell.mend(rt);
+    Ok(())
+}
+
+/// Puts octets that no port sent on a link.
+fn inject_on<const C: usize>(
+    rt: &impl Wait,
+    alloc: Global,
+    cells: &Cells<C>,
+    topology: &Topology,
+    link: usize,
+    dir: Dir,
+    octets: &Octets,
+) -> Result<(), WorldFault>
+    requires { vec_len cells.now.links ≡ length topology.now.links }
+    ensures { IfErr result (λ fault. (fault ≡ NoRoom) ⊎ (if_link topology.now link (too_long octets.now) ≡ Some fault)) }
+{
+    if link >= cells.links.len() {
+        return Err(WorldFault::NoSuchLink);
+    }
+    if octets.as_slice().len() > INJECT_LIMIT {
+        return Err(WorldFault::TooLong);
+    }
+    match inject(rt, alloc, cells, link, dir, octets) {
+        Ok(()) => Ok(()),
+        Err(_refused) => Err(WorldFault::NoMemory),
+    }
+}
+
+/// Does an order, and tells whether there is more to do: at a drain, not if it was told to stop.
+#[tactic(auto, using(crate::proofs::Refusals::inject_refused, crate::proofs::Refusals::misfit_refused))]
+fn obey<const C: usize>(
+    rt: &impl Wait,
+    alloc: Global,
+    cells: &Cells<C>,
+    topology: &Topology,
+    pass: &mut Pass,
+    at: u64,
+    order: &Order,
+) -> Result<bool, WorldFault>
+    requires nodes { vec_len cells.now.seats ≡ length topology.now.places }
+    requires links { vec_len cells.now.links ≡ length topology.now.links }
+    ensures { IfErr result (λ fault. IsOrderEnd C topology.now order.now fault) }
+{
+    let Order::Step(step) = order else {
+        return Ok(cells.flight.settles(rt));
+    };
+    let done = match step {
+        Step::Clock { at } => {
+            cells.set_clock(*at);
+            Ok(())
+        }
+        Step::Cut { link } => cut(rt, cells, topology, *link),
+        Step::Mend { link } => mend(rt, cells, topology, *link),
+        Step::Inject { link, dir, octets } => {
+            inject_on(rt, alloc, cells, topology, *link, *dir, octets)
+        }
+        _ => bring_order(rt, alloc, cells, topology, pass, at, order),
+    };
+    match done {
+        Ok(()) => Ok(true),
+        Err(fault) => Err(fault),
+    }
+}
+
+/// Does the steps of a scenario, one after another, and waits at each drain and at the end until no copy is on its way. It ends
+/// early where a step is refused, or where it was told to stop while it waited.
+pub(crate) fn conduct<const C: usize>(
+    rt: &impl Wait,
+    alloc: Global,
+    cells: &Cells<C>,
+    scenario: &Scenario,
+    pass: &mut Pass,
+) -> Conducted
+    requires nodes { vec_len cells.now.seats ≡ length scenario.now.topology.places }
+    requires links { vec_len cells.now.links ≡ length scenario.now.topology.links }
+    ensures { IsConducted C (scenario_view scenario.now) result }
+{
+    let mut at = 0;
+    for (step, order) in scenario.steps.iter().enumerate() {
+        match obey(rt, alloc, cells, &scenario.topology, pass, at, order) {
+            Ok(true) => at = clock_after(at, order),
+            Ok(false) => return Conducted::Left(step),
+            Err(fault) => return Conducted::Own(step, fault),
+        }
+    }
+    if cells.flight.settles(rt) {
+        Conducted::All
+    } else {
+        Conducted::Left(scenario.steps.len())
+    }
+}

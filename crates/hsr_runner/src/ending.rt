@@ -1,0 +1,15 @@
+//! How a worker ended.
+use hsr_node::StepFault;
+
+/// How a worker or an ager ended.
+#[derive(Clone, Copy, Debug, PartialEq, Eq)]
+pub(crate) enum Ending {
+    /// It was told to stop.
+    Stopped,
+    /// Its gate answered false.
+    Shut,
+    /// Its node refused a copy.
+    Refused(StepFault),
+    /// Room was refused.
+    NoMemory,
+}

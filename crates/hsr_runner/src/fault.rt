@@ -1,0 +1,20 @@
+//! Why there is no run.
+use hsr_closing::CheckFault;
+use hsr_step::WorldFault;
+
+/// Why a scenario has no run in threads, in the order in which the reasons are tried.
+#[derive(Clone, Copy, Debug, PartialEq, Eq)]
+pub enum RunFault {
+    /// The step at this place, counted from 0, is a Put, Take or Judge: no thread was started.
+    FineStep { step: usize },
+    /// The step at this place was refused; or a node had no room for another step when the main worker was there.
+    Step { step: usize, fault: WorldFault },
+    /// The gate answered false.
+    GateShut,
+    /// A thread couldn't be started.
+    Thread,
+    /// What the threads left isn't a finished run.
+    Check(CheckFault),
+    /// Memory ran out.
+    NoMemory,
+}

@@ -1,0 +1,62 @@
+//! How many copies are on their way.
+use std::sync::Wait;
+use std::sync::atomic::{AtomicU64, Ordering};
+use std::thread::Parker;
+
+/// Added to the count where a worker gives up, and at the main worker's end: a count of as much or more says "stop".
+const STOP: u64 = 1 << 48;
+
+/// The count of copies on their way, and the main worker, which waits for there to be none. Only waiting rests on it.
+#[derive(Drop)]
+pub(crate) struct Flight {
+    count: AtomicU64,
+    main: Parker,
+}
+
+impl Flight {
+    /// No copy is on its way.
+    pub(crate) fn new() -> Flight {
+        Flight {
+            count: AtomicU64::new(0),
+            main: Parker::new(),
+        }
+    }
+
+    /// One more copy is on its way.
+    pub(crate) fn rise(&self) {
+        self.count.fetch_add(1, Ordering::SeqCst);
+    }
+
+    /// So many copies are on their way no more.
+    pub(crate) fn fall(&self, copies: u64) {
+        if self.count.fetch_sub(copies, Ordering::SeqCst) == copies {
+            self.main.unpark();
+        }
+    }
+
+    /// Says "stop".
+    pub(crate) fn stop(&self) {
+        self.count.fetch_add(STOP, Ordering::SeqCst);
+        self.main.unpark();
+    }
+
+    /// Whether "stop" was said.
+    pub(crate) fn is_stopped(&self) -> bool {
+        self.count.load(Ordering::SeqCst) >= STOP
+    }
+
+    /// Waits until no copy is on its way or "stop" was said, and tells whether it wasn't. Only the main worker may wait here.
+    pub(crate) fn settles(&self, rt: &impl Wait) -> bool {
+        for _ in rt.forever() {
+            let count = self.count.load(Ordering::SeqCst);
+            if count >= STOP {
+                return false;
+            }
+            if count == 0 {
+                return true;
+            }
+            self.main.park(rt);
+        }
+        unreachable!()
+    }
+}
