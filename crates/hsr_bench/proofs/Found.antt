@@ -7,20 +7,21 @@ use Rattle.clap.specs.declared.error.kind.ErrorKind.TheVariants.{OutOfMemory}
 use Rattle.hsr_bench.specs.Options.{Chosen, ChosenIn, IfUsage, IsBench, IsRefused, IsTaken, ListsModes, ListsTables, Says, SaysNothing, Listed, bench_app}
 use Rattle.hsr_frame.specs.Words.{mode_of, mode_word}
 use Rattle.hsr_frame.specs.declared.node.Mode.{Mode}
-use Rattle.hsr_frame.specs.declared.node.Mode.TheVariants.{H, N}
+use Rattle.hsr_frame.specs.declared.node.Mode.TheVariants.{H, N, U}
 use Rattle.hsr_engines.specs.Tables.{table_of, table_word}
 use Rattle.hsr_engines.specs.declared.chosen.Table.{Table}
 use Rattle.hsr_engines.specs.declared.chosen.Table.TheVariants.{Small, Large}
 use Rattle.hsr_bench.specs.declared.chosen.OptionFault.{OptionFault}
 use Rattle.hsr_bench.specs.declared.chosen.OptionFault.TheVariants.{Usage, Memory}
 use Rattle.hsr_bench.specs.declared.chosen.Options.{Options}
-use Rattle.hsr_bench.specs.declared.chosen.Options.TheVariants.{Node, Run, Audit}
+use Rattle.hsr_bench.specs.declared.chosen.Options.TheVariants.{Node, Run, Threads, Audit}
 
 -- equal look-ups choose the same
 pub chosen_same : (name : Text) (f g : Text → Option Text) (o : Options) → ((id : Text) → f id ≡ g id) → Chosen name f o → Chosen name g o
 chosen_same name f g (Node node) e h =
     (h.0, ((h.1.0.0, sym (e (codes "mac")) ∙ h.1.0.1, h.1.0.2), sym (e (codes "mode")) ∙ h.1.1, sym (e (codes "table")) ∙ h.1.2))
 chosen_same name f g (Run table transcript) e h = (h.0, sym (e (codes "table")) ∙ h.1, sym (e (codes "transcript")) ∙ h.2)
+chosen_same name f g (Threads table transcript) e h = (h.0, sym (e (codes "table")) ∙ h.1, sym (e (codes "transcript")) ∙ h.2)
 chosen_same name f g (Audit table) e h = (h.0, sym (e (codes "table")) ∙ h.1)
 
 -- a name and rows that a subcommand has
@@ -101,6 +102,7 @@ mode_unread None w found e is = by_mode
     of_word : (m : Mode) → mode_of (mode_word m) ≡ Some m
     of_word H = refl
     of_word N = refl
+    of_word U = refl
 
     by_mode : (m : Mode) → found ≢ Some (mode_word m)
     by_mode m h =

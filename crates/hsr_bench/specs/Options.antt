@@ -6,14 +6,14 @@ use Rattle.clap.specs.declared.builder.ArgAction.TheVariants.{SetTrue}
 use Rattle.clap.specs.declared.builder.value_parser.ValueParser.TheVariants.{Names}
 use Rattle.hsr_frame.specs.Address.{address_of}
 use Rattle.hsr_frame.specs.Words.{mode_word}
-use Rattle.hsr_frame.specs.declared.node.Mode.TheVariants.{H, N}
+use Rattle.hsr_frame.specs.declared.node.Mode.TheVariants.{H, N, U}
 use Rattle.hsr_engines.specs.Tables.{table_word}
 use Rattle.hsr_engines.specs.declared.chosen.Table.TheVariants.{Small, Large}
 use Rattle.hsr_engines.specs.declared.chosen.NodeOptions.{NodeOptions}
 use Rattle.hsr_bench.specs.declared.chosen.OptionFault.{OptionFault}
 use Rattle.hsr_bench.specs.declared.chosen.OptionFault.TheVariants.{Usage, Memory}
 use Rattle.hsr_bench.specs.declared.chosen.Options.{Options}
-use Rattle.hsr_bench.specs.declared.chosen.Options.TheVariants.{Node, Run, Audit}
+use Rattle.hsr_bench.specs.declared.chosen.Options.TheVariants.{Node, Run, Threads, Audit}
 
 -- ---- the command line
 
@@ -23,7 +23,7 @@ Listed = Bor (List (Bor (List ℕ)))
 
 -- the words of the modes, and of the sizes of tables
 abbrev pub ListsModes : Listed → Type 0
-ListsModes modes = map (λ s. s.now) modes.now ≡ mode_word H ∷ mode_word N ∷ []
+ListsModes modes = map (λ s. s.now) modes.now ≡ mode_word H ∷ mode_word N ∷ mode_word U ∷ []
 
 abbrev pub ListsTables : Listed → Type 0
 ListsTables tables = map (λ s. s.now) tables.now ≡ table_word Small ∷ table_word Large ∷ []
@@ -50,6 +50,9 @@ node_app modes tables = with_rule (with_rule (with_rule (new_app (codes "node"))
 abbrev pub run_app : Listed → App
 run_app tables = with_rule (with_rule (new_app (codes "run")) (table_rule tables)) transcript_rule
 
+abbrev pub threads_app : Listed → App
+threads_app tables = with_rule (with_rule (new_app (codes "threads")) (table_rule tables)) transcript_rule
+
 abbrev pub audit_app : Listed → App
 audit_app tables = with_rule (new_app (codes "audit")) (table_rule tables)
 
@@ -58,7 +61,8 @@ top_app = record { top = record (new_app (codes "hsr_bench")).top { no_binary_na
 
 abbrev pub bench_app : Listed → Listed → App
 bench_app modes tables =
-    with_subcommand (with_subcommand (with_subcommand top_app (node_app modes tables).top) (run_app tables).top) (audit_app tables).top
+    with_subcommand (with_subcommand (with_subcommand (with_subcommand top_app (node_app modes tables).top) (run_app tables).top) (threads_app tables).top)
+    (audit_app tables).top
 
 -- ---- what is chosen
 
@@ -76,6 +80,8 @@ abbrev pub Chosen : Text → (Text → Option Text) → Options → Type 0
 Chosen name found (Node node) = (name ≡ codes "node") × IsNode found node
 Chosen name found (Run table transcript) =
     (name ≡ codes "run") × (found (codes "table") ≡ Some (table_word table)) × (found (codes "transcript") ≡ Some (flag_text transcript))
+Chosen name found (Threads table transcript) =
+    (name ≡ codes "threads") × (found (codes "table") ≡ Some (table_word table)) × (found (codes "transcript") ≡ Some (flag_text transcript))
 Chosen name found (Audit table) = (name ≡ codes "audit") × (found (codes "table") ≡ Some (table_word table))
 
 abbrev pub ChosenIn : Option (Text × List Row) → Options → Type 0

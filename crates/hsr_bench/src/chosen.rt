@@ -8,6 +8,8 @@ pub enum Options {
     Node(NodeOptions),
     /// Run a scenario, and write its transcript or its report.
     Run { table: Table, transcript: bool },
+    /// Run a scenario in threads, and write its transcript or its report.
+    Threads { table: Table, transcript: bool },
     /// Audit a transcript, and write its report.
     Audit { table: Table },
 }

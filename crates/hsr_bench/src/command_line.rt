@@ -7,7 +7,7 @@ ghost use Rattle.clap.specs.Words.{Text, app_of, first_value, found_of, kind_of,
 ghost use Rattle.clap.specs.declared.builder.Command.TheViews.{out-Command as fields_of};
 ghost use Rattle.clap.specs.declared.error.kind.ErrorKind.TheVariants.{OutOfMemory};
 ghost use Rattle.hsr_bench.specs.declared.chosen.OptionFault.TheVariants.{Memory};
-ghost use Rattle.hsr_bench.specs.Options.{Chosen, ChosenIn, IfUsage, IsNode, IsRefused, IsTaken, Says, SaysNothing, audit_app, bench_app, flag_text, mac_rule, mode_rule, node_app, run_app, table_rule, top_app, transcript_rule};
+ghost use Rattle.hsr_bench.specs.Options.{Chosen, ChosenIn, IfUsage, IsNode, IsRefused, IsTaken, Says, SaysNothing, audit_app, bench_app, flag_text, mac_rule, mode_rule, node_app, run_app, table_rule, threads_app, top_app, transcript_rule};
 
 use crate::chosen::{OptionFault, Options};
 use clap::error::ErrorKind;
@@ -36,7 +36,7 @@ Example: echo 'send 0 02-00-00-00-00-02 0800 AABB' | hsr_bench node";
 const RUN_ENDS: &str = "\
 A scenario is TOML, read from standard input:
   capacity = 64   how many copies wait in each direction of a link, 1 to 4096 (64 if it isn't there)
-  [[node]]        name, role, and by its role: danh and redbox mac, mode (H or N; H if it isn't there);
+  [[node]]        name, role, and by its role: danh and redbox mac, mode (H, N or U; H if it isn't there);
                   quadbox nothing; station macs, a list of at most 16 addresses
   [[link]]        ends, a list of two ends, as [\"n0.B\", \"n1.A\"]: a node's name and the letter of its port
                   (A and B on the ring, I a redbox's interlink, C and D a quadbox's other ring, P a station's)
@@ -60,6 +60,18 @@ them, and each link's copies. `audit` reads it.
 
 Examples: hsr_bench run < plan.toml
           hsr_bench run --transcript < plan.toml | hsr_bench audit";
+
+const THREADS_ENDS: &str = "\
+The scenario is that of `run`, without the steps put, take and judge: each linked port has a thread that
+takes a copy, judges it and puts what leaves, and after a step clock each node is aged by a thread. The
+main thread does the steps, and at a drain and at the end it waits until nothing is on its way. So two
+runs may differ in what came first; the report and the status are of the run that was.
+
+The statuses and --transcript are as with `run`. `fault: step <i> fine` says that step i is a put, take
+or judge; then no thread is started. `fault: thread` says that a thread couldn't be started.
+
+Examples: hsr_bench threads < plan.toml
+          hsr_bench threads --transcript < plan.toml | hsr_bench audit";
 
 const AUDIT_ENDS: &str = "\
 The transcript is one that `run --transcript` wrote with a table of the same size. Each entry is done
@@ -94,7 +106,7 @@ fn mode_arg<'a>(alloc: Global, modes: &'a [&'a str]) -> Arg<'a>
 {
     Arg::new(alloc, "mode")
         .long("mode")
-        .help("Forwards round the ring (H) or not (N)")
+        .help("Forwards round the ring (H), not (N), or what it delivers too (U)")
         .value_parser(modes)
         .default_value(Mode::H.word())
 }
@@ -149,6 +161,19 @@ fn run_command<'a>(alloc: Global, tables: &'a [&'a str]) -> Result<Command<'a>, 
         .arg(transcript_arg(alloc))
 }
 
+fn threads_command<'a>(alloc: Global, tables: &'a [&'a str]) -> Result<Command<'a>, AllocError>
+    ensures app { IfOk result (λ c. app_of c ≡ threads_app tables.entry) }
+    ensures own { IfOk result (λ c. (fields_of c).has_globals ≡ false) }
+{
+    Command::new(alloc, "threads")
+        .about(
+            "Runs the scenario on standard input in threads, and reports whether it certifies delivery",
+        )
+        .after_help(THREADS_ENDS)
+        .arg(table_arg(alloc, tables))?
+        .arg(transcript_arg(alloc))
+}
+
 fn audit_command<'a>(alloc: Global, tables: &'a [&'a str]) -> Result<Command<'a>, AllocError>
     ensures app { IfOk result (λ c. app_of c ≡ audit_app tables.entry) }
     ensures own { IfOk result (λ c. (fields_of c).has_globals ≡ false) }
@@ -177,11 +202,13 @@ fn bench_command<'a>(
 {
     let node = node_command(alloc, modes, tables)?;
     let run = run_command(alloc, tables)?;
+    let threads = threads_command(alloc, tables)?;
     let audit = audit_command(alloc, tables)?;
     let one = top_command(alloc).subcommand(node)?;
     let two = one.subcommand(run)?;
-    let three = two.subcommand(audit)?;
-    Ok(three)
+    let three = two.subcommand(threads)?;
+    let four = three.subcommand(audit)?;
+    Ok(four)
 }
 
 /// The text of a refusal.
@@ -268,6 +295,11 @@ fn options_of(name: &str, matches: &ArgMatches<'_>) -> Option<Options>
             let transcript = transcript_of(matches)?;
             Some(Options::Run { table, transcript })
         }
+        "threads" => {
+            let table = table_of(matches)?;
+            let transcript = transcript_of(matches)?;
+            Some(Options::Threads { table, transcript })
+        }
         "audit" => {
             let table = table_of(matches)?;
             Some(Options::Audit { table })
@@ -299,7 +331,7 @@ pub fn options<'a>(alloc: Global, words: &'a [&'a str]) -> Result<Options, Optio
             table: Table::Large,
         }));
     }
-    let modes = [Mode::H.word(), Mode::N.word()];
+    let modes = [Mode::H.word(), Mode::N.word(), Mode::U.word()];
     let tables = [Table::Small.word(), Table::Large.word()];
     let command = bench_command(alloc, modes.as_slice(), tables.as_slice())?;
     match command.try_get_matches_from(words) {

@@ -17,10 +17,16 @@ mod performing;
 use crate::chosen::{OptionFault, Options};
 use crate::command_line::options;
 use crate::performing::perform;
-pub use hsr_engines::{Fault, NodeOptions, Status, Table, audit_run, node_run, scenario_run};
+pub use hsr_engines::{
+    Fault, NodeOptions, Status, Table, audit_run, node_run, scenario_run, threads_run,
+};
 use std::alloc::{AllocError, Global};
-use std::io::{BufReader, BufWriter, ErrorKind, Write};
+use std::io::{BufWriter, ErrorKind, Write};
+use std::marker::Sync;
 use std::process::ExitCode;
+use std::rt::Env;
+use std::sync::Wait;
+use std::thread::Threads;
 use std::{env, io};
 
 #[cfg(test)]
@@ -49,19 +55,20 @@ fn written<W: Write>(writer: &mut W, status: Status) -> Status
 }
 
 /// Does what is chosen, over the standard streams.
-fn performed(rt: &HostRuntime, chosen: &Options) -> Status {
-    let Ok(mut reader) = BufReader::new(rt.alloc(), rt.reader()) else {
-        return Status::Fault(Fault::Memory);
-    };
+fn performed<H: AllocGlobal + Input + Print + Threads + Wait + Sync>(
+    rt: &H,
+    chosen: &Options,
+) -> Status {
+    let mut reader = rt.reader();
     let Ok(mut writer) = BufWriter::new(rt.alloc(), io::writer(rt)) else {
         return Status::Fault(Fault::Memory);
     };
-    let status = perform(rt.alloc(), &mut reader, &mut writer, chosen);
+    let status = perform(rt, rt.alloc(), &mut reader, &mut writer, chosen);
     written(&mut writer, status)
 }
 
 /// Writes a fault's line on standard error, and gives the status of the process.
-fn finish(rt: &HostRuntime, status: Status) -> io::Result<ExitCode>
+fn finish<H: Eprint>(rt: &H, status: Status) -> io::Result<ExitCode>
     ensures { IfOk result (λ code. exit_status code ≡ code_of status) }
 {
     if let Status::Fault(fault) = status {
@@ -71,7 +78,9 @@ fn finish(rt: &HostRuntime, status: Status) -> io::Result<ExitCode>
 }
 
 /// Does what the words ask for.
-fn run(rt: &HostRuntime) -> io::Result<ExitCode> {
+fn run<H: AllocGlobal + Env + Eprint + Input + Print + Threads + Wait + Sync>(
+    rt: &H,
+) -> io::Result<ExitCode> {
     let args: Vec<String> = env::args(rt)?.collect(rt.alloc())?;
     let words = words_of(rt.alloc(), &args)?;
     match options(rt.alloc(), words.as_slice()) {

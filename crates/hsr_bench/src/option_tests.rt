@@ -32,6 +32,17 @@ fn words_choose(rt: HostRuntime) -> Result<(), Fail> {
         transcript: true,
     };
     assert!(rt; options(rt.alloc(), &["run", "--transcript"]).ok() == Some(told));
+    let threads = Options::Threads {
+        table: Table::Large,
+        transcript: false,
+    };
+    assert!(rt; options(rt.alloc(), &["threads"]).ok() == Some(threads));
+    let small = Options::Threads {
+        table: Table::Small,
+        transcript: true,
+    };
+    let words = ["threads", "--transcript", "--table=small"];
+    assert!(rt; options(rt.alloc(), words.as_slice()).ok() == Some(small));
     let audit = Options::Audit {
         table: Table::Large,
     };
@@ -44,6 +55,18 @@ fn words_choose(rt: HostRuntime) -> Result<(), Fail> {
         }
     }
     Ok(())
+}
+
+#[test]
+fn words_of_modes(rt: HostRuntime) {
+    for mode in [Mode::H, Mode::N, Mode::U] {
+        let mut chosen = defaults();
+        chosen.mode = mode;
+        assert!(rt;
+            options(rt.alloc(), &["node", "--mode", mode.word()]).ok()
+                == Some(Options::Node(chosen))
+        );
+    }
 }
 
 #[test]
@@ -61,7 +84,10 @@ fn words_that_clap_refuses(rt: HostRuntime) -> Result<(), Fail> {
         &["run", "--transcript", "--transcript"],
         &["audit", "--transcript"],
         &["audit", "--table", "small", "--table", "small"],
-        &["threads"],
+        &["threads", "--table"],
+        &["threads", "--transcript=true"],
+        &["threads", "--mode", "H"],
+        &["thread"],
     ];
     for words in refused {
         match options(rt.alloc(), words) {

@@ -3,12 +3,17 @@ ghost use Rattle.std.specs.Prelude.{IfSome};
 ghost use Rattle.hsr_bench.specs.Performing.{Performs};
 
 use crate::chosen::Options;
-use hsr_engines::{Status, audit_run, node_run, scenario_run};
+use hsr_engines::{Status, audit_run, node_run, scenario_run, threads_run};
 use std::alloc::Global;
 use std::io::{Read, Write};
+use std::marker::Sync;
+use std::sync::Wait;
+use std::thread::Threads;
 
-/// Does what is chosen: answers the lines of a text as one node, runs the scenario that it means, or audits the transcript that it is.
-pub fn perform<R: Read, W: Write>(
+/// Does what is chosen: answers the lines of a text as one node, runs the scenario that it means, alone or in threads, or audits the
+/// transcript that it is.
+pub fn perform<H: Threads + Wait + Sync, R: Read, W: Write>(
+    rt: &H,
     alloc: Global,
     reader: &mut R,
     writer: &mut W,
@@ -21,6 +26,9 @@ pub fn perform<R: Read, W: Write>(
         Options::Node(node) => node_run(alloc, reader, writer, node),
         Options::Run { table, transcript } => {
             scenario_run(alloc, reader, writer, *table, *transcript)
+        }
+        Options::Threads { table, transcript } => {
+            threads_run(rt, alloc, reader, writer, *table, *transcript)
         }
         Options::Audit { table } => audit_run(alloc, reader, writer, *table),
     }

@@ -3,3 +3,4 @@ mod Orders
 mod Said
 mod Telling
 mod Sizes
+mod Runs

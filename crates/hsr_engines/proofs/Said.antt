@@ -18,7 +18,9 @@ use Rattle.hsr_step.specs.declared.step.DrainFault.{DrainFault}
 use Rattle.hsr_step.specs.declared.step.DrainFault.TheVariants as drain
 use Rattle.hsr_step.specs.declared.step.WorldFault.TheVariants as world
 use Rattle.hsr_engines.specs.Playing.{Halts}
-use Rattle.hsr_engines.specs.ScenarioRun.{IsNoScenario, IsUnplayed, Said, first_of, scenario_of, step_fault, text_fault}
+use Rattle.hsr_engines.specs.Fault.{step_fault}
+use Rattle.hsr_engines.specs.Reading.{IsNoScenario, Said, scenario_of, text_fault}
+use Rattle.hsr_engines.specs.ScenarioRun.{IsUnplayed, first_of}
 
 pub no_text : (octets : List ℕ) → ¬ IsUtf8 octets → scenario_of octets ≡ Err (record { spot = spot.Top; what = what.Text })
 no_text octets h = ⊎_elim (λ yes. absurd (h (IsUtf8-from_is_utf8 octets yes))) (λ no. ap (λ (b : Bool). if b then meaning octets else Err (record { spot = spot.Top; what = what.Text })) no) (cases_Bool (is_utf8 octets))

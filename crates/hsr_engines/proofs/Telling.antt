@@ -1,4 +1,4 @@
--- How `run` and `audit` end, by what was shown and by what was read.
+-- How `run`, `threads` and `audit` end, by what was shown and by what was read.
 use Rattle.std.proofs.Common.{ℕ, ◌≡◌, ◌≢◌, ◌^◌, Bool, List, Option, Some, None, Err, subst, sym, IfSome}
 use Rattle.std.specs.Io.KnownBytes.{Keeps}
 use Rattle.hsr_closing.specs.Finished.{Finished, IsFinished}
@@ -9,37 +9,56 @@ use Rattle.hsr_engines.specs.AuditRun.{AuditEnds, IsAudited, IsUnread, transcrip
 use Rattle.hsr_engines.specs.Text.{IsWhole}
 use Rattle.hsr_engines.specs.Report.{report}
 use Rattle.hsr_engines.specs.Shown.{IsDelivered, IsFound}
-use Rattle.hsr_engines.specs.ScenarioRun.{IsReported, IsUnreported, Said, ScenarioEnds, scenario_of}
+use Rattle.hsr_engines.specs.Ending.{Ends}
+use Rattle.hsr_engines.specs.Reading.{Said, scenario_of}
+use Rattle.hsr_engines.specs.ThreadsRun.{IsRunShown, IsUnrun, ThreadsEnds}
+use Rattle.hsr_engines.specs.ScenarioRun.{IsReported, IsUnreported, ScenarioEnds}
 use Rattle.hsr_engines.specs.declared.fault.Fault.{Fault}
-use Rattle.hsr_engines.specs.declared.fault.Fault.TheVariants.{Line, Scenario, Step, Transcript, Check, Read, Write, Memory}
+use Rattle.hsr_engines.specs.declared.fault.Fault.TheVariants.{Line, Scenario, Step, Fine, Transcript, Check, Read, Write, Memory, Thread, Gate}
 use Rattle.hsr_engines.specs.declared.fault.Status.{Status}
 use Rattle.hsr_engines.specs.declared.fault.Status.TheVariants.{Certified, Fault as Stopped, Doubt}
 use Rattle.hsr_engines.specs.declared.finding.Finding.{Finding}
 use Rattle.hsr_engines.proofs.Said.{as_read}
 
+-- what was delivered ends a run of which it is shown
+told : (IsShown : Finding → List ℕ → Type 0) (IsStopped : Fault → Type 0) (held holds : Option (List ℕ)) (found : Finding) (text : List ℕ) (status : Status)
+    → IsShown found text → IsDelivered held holds found text status → Ends IsShown IsStopped held holds status
+told IsShown IsStopped held holds found text Certified r d = (found, text, r, d.0, d.1)
+told IsShown IsStopped held holds found text Doubt r d = (found, text, r, d.0, d.1)
+told IsShown IsStopped held holds found text (Stopped Write) r d = (found, text, r)
+told IsShown IsStopped held holds found text (Stopped Read) r d = absurd d
+told IsShown IsStopped held holds found text (Stopped Memory) r d = absurd d
+told IsShown IsStopped held holds found text (Stopped (Line n)) r d = absurd d
+told IsShown IsStopped held holds found text (Stopped (Scenario f)) r d = absurd d
+told IsShown IsStopped held holds found text (Stopped (Step n f)) r d = absurd d
+told IsShown IsStopped held holds found text (Stopped (Fine n)) r d = absurd d
+told IsShown IsStopped held holds found text (Stopped (Transcript f)) r d = absurd d
+told IsShown IsStopped held holds found text (Stopped (Check f)) r d = absurd d
+told IsShown IsStopped held holds found text (Stopped Thread) r d = absurd d
+told IsShown IsStopped held holds found text (Stopped Gate) r d = absurd d
+
+-- a reason that is there, but no writer's, ends a run
+stopped : (IsShown : Finding → List ℕ → Type 0) (IsStopped : Fault → Type 0) (held holds : Option (List ℕ)) (fault : Fault) → ¬ IsStopped Write → IsStopped fault → Keeps held holds
+    → Ends IsShown IsStopped held holds (Stopped fault)
+stopped IsShown IsStopped held holds Read never u k = k
+stopped IsShown IsStopped held holds Write never u k = absurd (never u)
+stopped IsShown IsStopped held holds Memory never u k = (u, k)
+stopped IsShown IsStopped held holds (Line n) never u k = (u, k)
+stopped IsShown IsStopped held holds (Scenario f) never u k = (u, k)
+stopped IsShown IsStopped held holds (Step n f) never u k = (u, k)
+stopped IsShown IsStopped held holds (Fine n) never u k = (u, k)
+stopped IsShown IsStopped held holds (Transcript f) never u k = (u, k)
+stopped IsShown IsStopped held holds (Check f) never u k = (u, k)
+stopped IsShown IsStopped held holds Thread never u k = (u, k)
+stopped IsShown IsStopped held holds Gate never u k = (u, k)
+
 pub told_report : (capacity : ℕ) (transcript : Bool) (said : Said) (held holds : Option (List ℕ)) (found : Finding) (text : List ℕ) (status : Status)
     → IsReported capacity transcript said found text → IsDelivered held holds found text status → ScenarioEnds capacity transcript said held holds status
-told_report capacity transcript said held holds found text Certified r d = (found, text, r, d.0, d.1)
-told_report capacity transcript said held holds found text Doubt r d = (found, text, r, d.0, d.1)
-told_report capacity transcript said held holds found text (Stopped Write) r d = (found, text, r)
-told_report capacity transcript said held holds found text (Stopped Read) r d = absurd d
-told_report capacity transcript said held holds found text (Stopped Memory) r d = absurd d
-told_report capacity transcript said held holds found text (Stopped (Line n)) r d = absurd d
-told_report capacity transcript said held holds found text (Stopped (Scenario f)) r d = absurd d
-told_report capacity transcript said held holds found text (Stopped (Step n f)) r d = absurd d
-told_report capacity transcript said held holds found text (Stopped (Transcript f)) r d = absurd d
-told_report capacity transcript said held holds found text (Stopped (Check f)) r d = absurd d
+told_report capacity transcript said held holds found text status r d = told (IsReported capacity transcript said) (IsUnreported capacity said) held holds found text status r d
 
 pub told_fault : (capacity : ℕ) (transcript : Bool) (said : Said) (held holds : Option (List ℕ)) (fault : Fault) → IsUnreported capacity said fault → Keeps held holds
     → ScenarioEnds capacity transcript said held holds (Stopped fault)
-told_fault capacity transcript said held holds Read u k = k
-told_fault capacity transcript said held holds Write u k = absurd u
-told_fault capacity transcript said held holds Memory u k = (u, k)
-told_fault capacity transcript said held holds (Line n) u k = (u, k)
-told_fault capacity transcript said held holds (Scenario f) u k = (u, k)
-told_fault capacity transcript said held holds (Step n f) u k = (u, k)
-told_fault capacity transcript said held holds (Transcript f) u k = (u, k)
-told_fault capacity transcript said held holds (Check f) u k = (u, k)
+told_fault capacity transcript said held holds fault u k = stopped (IsReported capacity transcript said) (IsUnreported capacity said) held holds fault (λ h. h) u k
 
 -- what is told of what was read is told of the text
 pub told_text : (capacity : ℕ) (transcript : Bool) (all : Option (List ℕ)) (read : List ℕ) (held holds : Option (List ℕ)) (status : Status) → IfSome all (λ text. IsWhole (2 ^ 24) text read)
@@ -54,31 +73,35 @@ unreported_told capacity said fault u is = let same : fault ≡ Read = cc in sub
 pub delivered_told : (held holds : Option (List ℕ)) (found : Finding) (text : List ℕ) (status : Status) → IsDelivered held holds found text status → status ≢ Stopped Read
 delivered_told held holds found text status d is = subst (λ s. IsDelivered held holds found text s) is d
 
+-- ---- threads
+
+pub told_run : (capacity : ℕ) (transcript : Bool) (said : Said) (held holds : Option (List ℕ)) (found : Finding) (text : List ℕ) (status : Status)
+    → IsRunShown capacity transcript said found text → IsDelivered held holds found text status → ThreadsEnds capacity transcript said held holds status
+told_run capacity transcript said held holds found text status r d = told (IsRunShown capacity transcript said) (IsUnrun capacity said) held holds found text status r d
+
+pub told_unrun : (capacity : ℕ) (transcript : Bool) (said : Said) (held holds : Option (List ℕ)) (fault : Fault) → IsUnrun capacity said fault → Keeps held holds
+    → ThreadsEnds capacity transcript said held holds (Stopped fault)
+told_unrun capacity transcript said held holds fault u k = stopped (IsRunShown capacity transcript said) (IsUnrun capacity said) held holds fault (λ h. h) u k
+
+-- what is told of what was read is told of the text
+pub run_text_told : (capacity : ℕ) (transcript : Bool) (all : Option (List ℕ)) (read : List ℕ) (held holds : Option (List ℕ)) (status : Status) → IfSome all (λ text. IsWhole (2 ^ 24) text read)
+    → ThreadsEnds capacity transcript (scenario_of read) held holds status → IfSome all (λ text. ThreadsEnds capacity transcript (scenario_of text) held holds status)
+run_text_told capacity transcript None read held holds status whole told = tt
+run_text_told capacity transcript (Some text) read held holds status whole told = subst (λ (said : Said). ThreadsEnds capacity transcript said held holds status) (as_read text read whole) told
+
+-- what is told of octets is no fault of a reader
+pub unrun_told : (capacity : ℕ) (said : Said) (fault : Fault) → IsUnrun capacity said fault → Stopped fault ≢ Stopped Read
+unrun_told capacity said fault u is = let same : fault ≡ Read = cc in subst (λ f. IsUnrun capacity said f) same u
+
 -- ---- a transcript
 
 audited_report : (capacity : ℕ) (text : List ℕ) (held holds : Option (List ℕ)) (found : Finding) (written : List ℕ) (status : Status) → IsAudited capacity text found written
     → IsDelivered held holds found written status → AuditEnds capacity text held holds status
-audited_report capacity text held holds found written Certified r d = (found, written, r, d.0, d.1)
-audited_report capacity text held holds found written Doubt r d = (found, written, r, d.0, d.1)
-audited_report capacity text held holds found written (Stopped Write) r d = (found, written, r)
-audited_report capacity text held holds found written (Stopped Read) r d = absurd d
-audited_report capacity text held holds found written (Stopped Memory) r d = absurd d
-audited_report capacity text held holds found written (Stopped (Line n)) r d = absurd d
-audited_report capacity text held holds found written (Stopped (Scenario f)) r d = absurd d
-audited_report capacity text held holds found written (Stopped (Step n f)) r d = absurd d
-audited_report capacity text held holds found written (Stopped (Transcript f)) r d = absurd d
-audited_report capacity text held holds found written (Stopped (Check f)) r d = absurd d
+audited_report capacity text held holds found written status r d = told (IsAudited capacity text) (IsUnread capacity text) held holds found written status r d
 
 audited_fault : (capacity : ℕ) (text : List ℕ) (held holds : Option (List ℕ)) (fault : Fault) → IsUnread capacity text fault → Keeps held holds
     → AuditEnds capacity text held holds (Stopped fault)
-audited_fault capacity text held holds Read u k = (u, k)
-audited_fault capacity text held holds Write u k = absurd u
-audited_fault capacity text held holds Memory u k = (u, k)
-audited_fault capacity text held holds (Line n) u k = (u, k)
-audited_fault capacity text held holds (Scenario f) u k = (u, k)
-audited_fault capacity text held holds (Step n f) u k = (u, k)
-audited_fault capacity text held holds (Transcript f) u k = (u, k)
-audited_fault capacity text held holds (Check f) u k = (u, k)
+audited_fault capacity text held holds fault u k = stopped (IsAudited capacity text) (IsUnread capacity text) held holds fault (λ h. h) u k
 
 pub audited_known : (capacity : ℕ) (all held holds : Option (List ℕ)) (found : Finding) (written : List ℕ) (status : Status) → IfSome all (λ text. IsAudited capacity text found written)
     → IsDelivered held holds found written status → IfSome all (λ text. AuditEnds capacity text held holds status)

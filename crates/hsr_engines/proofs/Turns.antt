@@ -13,7 +13,7 @@ use Rattle.hsr_engines.specs.Run.{Finished, OnTheWay, Ran, Served, Turned}
 use Rattle.hsr_node_text.proofs.Replies.{counter_some, reply_some, some_before, some_behind}
 use Rattle.hsr_danh.specs.Machine.{Machine}
 use Rattle.hsr_engines.specs.declared.fault.Fault.{Fault}
-use Rattle.hsr_engines.specs.declared.fault.Fault.TheVariants.{Line, Read, Write, Scenario, Step, Transcript, Check, Memory as OutOfMemory}
+use Rattle.hsr_engines.specs.declared.fault.Fault.TheVariants.{Line, Read, Write, Scenario, Step, Fine, Transcript, Check, Memory as OutOfMemory, Thread, Gate}
 use Rattle.hsr_engines.specs.declared.fault.Status.TheVariants.{Fault as Faulty, Certified}
 
 fits_test : (line : List ℕ) → length line ≤ 4096 → nat_lt 4096 (length line) ≡ false
@@ -61,8 +61,11 @@ failed capacity old new n line ls held holds (Line k) h s =
 failed capacity old new n line ls held holds Read h s = absurd s
 failed capacity old new n line ls held holds (Scenario f) h s = absurd s
 failed capacity old new n line ls held holds (Step k f) h s = absurd s
+failed capacity old new n line ls held holds (Fine k) h s = absurd s
 failed capacity old new n line ls held holds (Transcript f) h s = absurd s
 failed capacity old new n line ls held holds (Check f) h s = absurd s
+failed capacity old new n line ls held holds Thread h s = absurd s
+failed capacity old new n line ls held holds Gate h s = absurd s
 failed capacity old new n line ls held holds Write h s =
     subst (λ out. Ended held holds out (Faulty Write)) (sym (output_some capacity old n line ls s.0 h s.1)) (some_before (reply capacity old s.0) _ (reply_some capacity old s.0))
 failed capacity old new n line ls held holds OutOfMemory h s = ([], (output capacity old n (line ∷ ls)).text, refl, nothing held holds s)
@@ -138,8 +141,11 @@ ended_on_way held holds new front out rest Read p a s =
 ended_on_way held holds new front out rest Write p a s = subst (λ o. Ended held new o (Faulty Write)) (sym p) (some_behind front rest.text s)
 ended_on_way held holds new front out rest (Scenario f) p a s = absurd s
 ended_on_way held holds new front out rest (Step k f) p a s = absurd s
+ended_on_way held holds new front out rest (Fine k) p a s = absurd s
 ended_on_way held holds new front out rest (Transcript f) p a s = absurd s
 ended_on_way held holds new front out rest (Check f) p a s = absurd s
+ended_on_way held holds new front out rest Thread p a s = absurd s
+ended_on_way held holds new front out rest Gate p a s = absurd s
 ended_on_way held holds new front out rest OutOfMemory p a s =
     subst (λ o. Ended held new o (Faulty OutOfMemory)) (sym p) (front ++ s.0, s.1, ap (λ t. front ++ t) s.2 ∙ sym (append_assoc front s.0 s.1), appends_more held holds new front s.0 a s.3)
 
@@ -183,8 +189,11 @@ last capacity held holds new out front e (Err (Line k)) p a f = absurd f
 last capacity held holds new out front e (Err Read) p a f = absurd f
 last capacity held holds new out front e (Err (Scenario g)) p a f = absurd f
 last capacity held holds new out front e (Err (Step k g)) p a f = absurd f
+last capacity held holds new out front e (Err (Fine k)) p a f = absurd f
 last capacity held holds new out front e (Err (Transcript g)) p a f = absurd f
 last capacity held holds new out front e (Err (Check g)) p a f = absurd f
+last capacity held holds new out front e (Err Thread) p a f = absurd f
+last capacity held holds new out front e (Err Gate) p a f = absurd f
 last capacity held holds new out front e (Err Write) p a f = subst (λ o. Ended held new o (Faulty Write)) (sym p) (some_behind front (output capacity e 0 []).text (counter_some e.counters))
 last capacity held holds new out front e (Err OutOfMemory) p a f =
     subst (λ o. Ended held new o (Faulty OutOfMemory)) (sym p) (front ++ [], (output capacity e 0 []).text, ap (λ l. l ++ (output capacity e 0 []).text) (sym (append-nil front)), appends_more held holds new front [] a (nothing holds new f))

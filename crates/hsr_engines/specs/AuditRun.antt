@@ -1,18 +1,17 @@
 -- What `audit` tells of a transcript.
 use Rattle.std.specs.Prelude.{ℕ, ◌≡◌, List, Option, Ok, Err}
-use Rattle.std.specs.Io.KnownBytes.{Appends, Keeps}
 use Rattle.hsr_closing.specs.Finished.{Finished, IsFinished}
 use Rattle.hsr_transcript.specs.Answers.{Disagreeing, IsBadAt, IsTextOf}
 use Rattle.hsr_transcript_text.specs.Form.{form_of}
 use Rattle.hsr_transcript_text.specs.Transcript.{Said}
 use Rattle.hsr_transcript_text.specs.declared.fault.ReadFault.{ReadFault}
 use Rattle.hsr_transcript_text.specs.declared.fault.ReadFault.TheVariants as read
-use Rattle.hsr_engines.specs.Report.{report, status_of}
+use Rattle.hsr_engines.specs.Ending.{Ends}
+use Rattle.hsr_engines.specs.Report.{report}
 use Rattle.hsr_engines.specs.Shown.{IsFound}
 use Rattle.hsr_engines.specs.declared.fault.Fault.{Fault}
-use Rattle.hsr_engines.specs.declared.fault.Fault.TheVariants.{Transcript, Check, Read, Write, Memory}
+use Rattle.hsr_engines.specs.declared.fault.Fault.TheVariants.{Transcript, Check, Read, Memory}
 use Rattle.hsr_engines.specs.declared.fault.Status.{Status}
-use Rattle.hsr_engines.specs.declared.fault.Status.TheVariants.{Certified, Fault as Stopped, Doubt}
 use Rattle.hsr_engines.specs.declared.fault.TranscriptFault.TheVariants.{Version, Line, End}
 use Rattle.hsr_engines.specs.declared.finding.Finding.{Finding}
 
@@ -43,19 +42,7 @@ transcript_fault (read.Disagrees cause) = Check cause
 transcript_fault read.Read = Read
 transcript_fault read.NoMemory = Memory
 
--- what was found is told by the status, and its report was written
-abbrev pub IsWritten : ℕ → List ℕ → Option (List ℕ) → Option (List ℕ) → Status → Type 0
-IsWritten capacity text held holds status =
-    (found : Finding) × (written : List ℕ) × IsAudited capacity text found written × (status ≡ status_of found) × Appends held holds written
-
--- there is a report to write
-abbrev pub IsReportable : ℕ → List ℕ → Type 0
-IsReportable capacity text = (found : Finding) × (written : List ℕ) × IsAudited capacity text found written
-
 -- How `audit` ends, and what it wrote: the report of the run whose text it read; or nothing, since the text is that of no run, or
 -- reading or memory failed. Of a failed write no more is said than that there was a report to write.
 abbrev pub AuditEnds : ℕ → List ℕ → Option (List ℕ) → Option (List ℕ) → Status → Type 0
-AuditEnds capacity text held holds Certified = IsWritten capacity text held holds Certified
-AuditEnds capacity text held holds Doubt = IsWritten capacity text held holds Doubt
-AuditEnds capacity text held holds (Stopped Write) = IsReportable capacity text
-AuditEnds capacity text held holds (Stopped fault) = IsUnread capacity text fault × Keeps held holds
+AuditEnds capacity text = Ends (IsAudited capacity text) (IsUnread capacity text)

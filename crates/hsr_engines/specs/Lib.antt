@@ -5,6 +5,9 @@ pub mod Output
 pub mod Run
 pub mod Playing
 pub mod Text
+pub mod Reading
 pub mod Shown
+pub mod Ending
 pub mod ScenarioRun
+pub mod ThreadsRun
 pub mod AuditRun

@@ -1,63 +1,32 @@
 -- What `run` tells of a scenario.
-use Rattle.std.specs.Prelude.{ℕ, ◌≡◌, Bool, List, Option, Ok, Err, Result, if◌then◌else◌}
-use Rattle.std.specs.Io.KnownBytes.{Appends, Keeps}
-use Rattle.std.specs.Str.{is_utf8}
+use Rattle.std.specs.Prelude.{ℕ, ◌≡◌, Bool, List, Option, Ok, Err}
 use Rattle.hsr_closing.specs.Checked.{IsOpen}
 use Rattle.hsr_closing.specs.declared.disagree.Disagree.{Disagree}
 use Rattle.hsr_world.specs.Lawful.{IsEnded, finished_of}
 use Rattle.hsr_world.specs.World.{World, new_world}
-use Rattle.hsr_step.specs.declared.step.DrainFault.{DrainFault}
 use Rattle.hsr_step.specs.declared.step.DrainFault.TheVariants as drain
 use Rattle.hsr_step.specs.declared.step.WorldFault.TheVariants as world
-use Rattle.hsr_scenario.specs.Meaning.{Meant, meaning}
-use Rattle.hsr_scenario.specs.declared.fault.ScenarioFault.{ScenarioFault}
-use Rattle.hsr_scenario.specs.declared.fault.Spot.TheVariants as spot
-use Rattle.hsr_scenario.specs.declared.fault.What.{What}
-use Rattle.hsr_scenario.specs.declared.fault.What.TheVariants as what
+use Rattle.hsr_scenario.specs.Meaning.{Meant}
+use Rattle.hsr_engines.specs.Ending.{Ends}
 use Rattle.hsr_engines.specs.Playing.{Halts, Plays}
-use Rattle.hsr_engines.specs.Report.{status_of}
+use Rattle.hsr_engines.specs.Reading.{Said}
 use Rattle.hsr_engines.specs.Shown.{IsFound, shown}
 use Rattle.hsr_engines.specs.declared.fault.Fault.{Fault}
-use Rattle.hsr_engines.specs.declared.fault.Fault.TheVariants.{Scenario, Step, Check, Read, Write, Memory}
+use Rattle.hsr_engines.specs.declared.fault.Fault.TheVariants.{Scenario, Step, Check, Memory}
 use Rattle.hsr_engines.specs.declared.fault.Status.{Status}
-use Rattle.hsr_engines.specs.declared.fault.Status.TheVariants.{Certified, Fault as Stopped, Doubt}
 use Rattle.hsr_engines.specs.declared.finding.Finding.{Finding}
 
--- ---- the scenario
-
--- what octets mean: text in UTF-8 what it means, others no scenario
-abbrev pub scenario_of : List ℕ → Result Meant ScenarioFault
-scenario_of octets = if is_utf8 octets then meaning octets else Err (record { spot = spot.Top; what = what.Text })
+-- ---- the scenario, played
 
 -- the world with which a scenario begins
 abbrev pub first_of : Meant → World
 first_of meant = new_world meant.capacity meant.topology.places meant.topology.links
-
--- what is said of a scenario, by its text
-abbrev pub Said : Type 0
-Said = Result Meant ScenarioFault
 
 -- the scenario is played, and leads to this world
 pub record IsPlayed (capacity : ℕ) (said : Said) (w : World) : Type 0 where
   pub meant : Meant
   pub means : said ≡ Ok meant
   pub plays : Plays capacity meant.steps (first_of meant) w
-
--- there is no scenario
-abbrev pub IsNoScenario : Said → Fault → Type 0
-IsNoScenario said (Scenario fault) = said ≡ Err fault
-IsNoScenario said Memory = Unit {0}
-IsNoScenario said _ = ⊥
-
--- a text that can't be read for memory is a fault of memory
-abbrev pub text_fault : ScenarioFault → What → Fault
-text_fault fault what.NoMemory = Memory
-text_fault fault w = Scenario fault
-
--- a step that is refused for memory is a fault of memory
-abbrev pub step_fault : ℕ → DrainFault → Fault
-step_fault step (drain.World world.NoMemory) = Memory
-step_fault step fault = Step step fault
 
 -- there is no scenario, or one of its steps is refused
 abbrev pub IsUnplayed : ℕ → Said → Fault → Type 0
@@ -93,20 +62,7 @@ abbrev pub IsUnreported : ℕ → Said → Fault → Type 0
 IsUnreported capacity said (Check disagree) = (w : World) × IsPlayed capacity said w × StaysOpen capacity w disagree
 IsUnreported capacity said fault = IsUnplayed capacity said fault
 
--- what was found is told by the status, and what is shown of the run was written
-abbrev pub IsWritten : ℕ → Bool → Said → Option (List ℕ) → Option (List ℕ) → Status → Type 0
-IsWritten capacity transcript said held holds status =
-    (found : Finding) × (text : List ℕ) × IsReported capacity transcript said found text × (status ≡ status_of found) × Appends held holds text
-
--- there is something to write of the run
-abbrev pub IsShowable : ℕ → Bool → Said → Type 0
-IsShowable capacity transcript said = (found : Finding) × (text : List ℕ) × IsReported capacity transcript said found text
-
 -- How `run` ends, and what it wrote: the transcript or the report of the run; or nothing, since there is none, or reading or
 -- memory failed. Of a failed write no more is said than that there was something to write.
 abbrev pub ScenarioEnds : ℕ → Bool → Said → Option (List ℕ) → Option (List ℕ) → Status → Type 0
-ScenarioEnds capacity transcript said held holds Certified = IsWritten capacity transcript said held holds Certified
-ScenarioEnds capacity transcript said held holds Doubt = IsWritten capacity transcript said held holds Doubt
-ScenarioEnds capacity transcript said held holds (Stopped Read) = Keeps held holds
-ScenarioEnds capacity transcript said held holds (Stopped Write) = IsShowable capacity transcript said
-ScenarioEnds capacity transcript said held holds (Stopped fault) = IsUnreported capacity said fault × Keeps held holds
+ScenarioEnds capacity transcript said = Ends (IsReported capacity transcript said) (IsUnreported capacity said)

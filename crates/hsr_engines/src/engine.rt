@@ -157,24 +157,6 @@ fn run<R: BufRead, W: Write, const C: usize>(
     }
 }
 
-/// Reads all lines through a buffer, and answers each.
-fn run_buffered<R: Read, W: Write, const C: usize>(
-    alloc: Global,
-    reader: &mut R,
-    writer: &mut W,
-    mac: Mac,
-    mode: Mode,
-) -> Result<(), Fault>
-    requires station { ¬ IsGroup mac }
-    requires entries { (1 ≤ C) × (C ≤ 65535) }
-    ensures { Ran (R.remaining reader.old) (W.contents writer.old) (W.contents writer.new) C (new_machine mac mode) result }
-{
-    match BufReader::new(alloc, reader) {
-        Ok(mut buffered) => run::<_, W, C>(alloc, &mut buffered, writer, mac, mode),
-        Err(_) => Err(Fault::Memory),
-    }
-}
-
 /// Answers the lines of a text by a DANH with the chosen address, mode and size of tables; moments are milliseconds. A line that
 /// is bad or has over 4096 octets ends the run as `Fault::Line`, counted from 1; what was answered stands. `Fault::Read` where
 /// the reader fails or takes over 2^40 reads, `Fault::Write`, `Fault::Memory`.
@@ -187,9 +169,12 @@ pub fn node_run<R: Read, W: Write>(
     ensures { IfSome (R.remaining reader.old) (λ text.
         Ended (W.contents writer.old) (W.contents writer.new) (output (capacity_of chosen.now.table) (new_machine chosen.now.mac chosen.now.mode) 1 (lines_of text)) result) }
 {
+    let Ok(mut lines) = BufReader::new(alloc, reader) else {
+        return Status::Fault(Fault::Memory);
+    };
     let ran = match chosen.table {
-        Table::Small => run_buffered::<R, W, 4>(alloc, reader, writer, chosen.mac, chosen.mode),
-        Table::Large => run_buffered::<R, W, 512>(alloc, reader, writer, chosen.mac, chosen.mode),
+        Table::Small => run::<_, W, 4>(alloc, &mut lines, writer, chosen.mac, chosen.mode),
+        Table::Large => run::<_, W, 512>(alloc, &mut lines, writer, chosen.mac, chosen.mode),
     };
     match ran {
         Ok(()) => Status::Certified,

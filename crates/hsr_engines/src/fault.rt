@@ -1,11 +1,11 @@
 //! How a run ended.
 ghost use Rattle.std.specs.Prelude.{◌≡◌, Some};
-ghost use Rattle.hsr_engines.specs.Fault.{code_of, fault_line, transcript_text};
+ghost use Rattle.hsr_engines.specs.Fault.{check_fault, code_of, fault_line, step_fault, transcript_text};
 ghost use Rattle.hsr_engines.specs.declared.fault.Fault.TheVariants.{Memory, Read as ReadFailed};
 
-use hsr_closing::Disagree;
+use hsr_closing::{CheckFault, Disagree};
 use hsr_scenario::ScenarioFault;
-use hsr_step::DrainFault;
+use hsr_step::{DrainFault, WorldFault};
 use hsr_text::ReaderFault;
 use std::alloc::AllocError;
 use std::fmt;
@@ -30,6 +30,8 @@ pub enum Fault {
     Scenario(ScenarioFault),
     /// A step of a scenario, counted from 0, that was refused, or a drain that didn't end.
     Step { step: usize, fault: DrainFault },
+    /// A step of a scenario, counted from 0, that moves or judges one copy: threads do that by themselves.
+    Fine { step: usize },
     /// A text that isn't read as a transcript.
     Transcript(TranscriptFault),
     /// Records, links and receipts disagree at the end.
@@ -40,6 +42,10 @@ pub enum Fault {
     Write,
     /// Memory ran out.
     Memory,
+    /// A thread couldn't be started.
+    Thread,
+    /// A gate shut on a copy.
+    Gate,
 }
 
 /// Why a text isn't read as a transcript.
@@ -66,6 +72,28 @@ impl Status {
     }
 }
 
+impl Fault {
+    /// A step that was refused, or a drain that didn't end.
+    pub(crate) fn of_step(step: usize, fault: DrainFault) -> Fault
+        ensures { result ≡ step_fault step fault }
+    {
+        match fault {
+            DrainFault::World(WorldFault::NoMemory) => Fault::Memory,
+            _ => Fault::Step { step, fault },
+        }
+    }
+
+    /// A closing that was refused.
+    pub(crate) fn of_check(fault: CheckFault) -> Fault
+        ensures { result ≡ check_fault fault }
+    {
+        match fault {
+            CheckFault::Disagree(disagree) => Fault::Check(disagree),
+            CheckFault::NoMemory => Fault::Memory,
+        }
+    }
+}
+
 /// What follows `fault: transcript`.
 impl fmt::Display for TranscriptFault {
     ghost output = { λ fault. Some (transcript_text fault) };
@@ -88,6 +116,7 @@ impl fmt::Display for Fault {
             Fault::Line(n) => write!(f, "fault: line {n}"),
             Fault::Scenario(fault) => write!(f, "fault: scenario {fault}"),
             Fault::Step { step, fault } => write!(f, "fault: step {step} {fault}"),
+            Fault::Fine { step } => write!(f, "fault: step {step} fine"),
             Fault::Transcript(fault) => write!(f, "fault: transcript {fault}"),
             Fault::Check(disagree) => {
                 let code = disagree.code();
@@ -96,6 +125,8 @@ impl fmt::Display for Fault {
             Fault::Read => write!(f, "fault: read"),
             Fault::Write => write!(f, "fault: write"),
             Fault::Memory => write!(f, "fault: memory"),
+            Fault::Thread => write!(f, "fault: thread"),
+            Fault::Gate => write!(f, "fault: gate"),
         }
     }
 }

@@ -1,6 +1,7 @@
-//! What the program does: `node`, `run` and `audit`, each over a reader and a writer.
+//! What the program does: `node`, `run`, `threads` and `audit`, each over a reader and a writer.
 //!
-//! Its modules, in the order to read them: `chosen`, `fault`, `engine`, `text`, `playing`, `finding`, `report`, `shown`, `scenario`, `audit`.
+//! Its modules, in the order to read them: `chosen`, `fault`, `engine`, `text`, `reading`, `playing`, `finding`, `report`, `shown`,
+//! `scenario`, `threads`, `audit`.
 #![tactic(auto)]
 
 mod audit;
@@ -9,13 +10,16 @@ mod engine;
 mod fault;
 mod finding;
 mod playing;
+mod reading;
 mod report;
 mod scenario;
 mod shown;
 mod text;
+mod threads;
 
 pub use audit::audit_run;
 pub use chosen::{NodeOptions, Table};
 pub use engine::node_run;
 pub use fault::{Fault, Status, TranscriptFault};
 pub use scenario::scenario_run;
+pub use threads::threads_run;

@@ -1,62 +1,24 @@
 //! Scenarios that are run, and shown by transcript or report.
-ghost use Rattle.std.specs.Prelude.{◌≡◌, ◌≢◌, ◌≤◌, IfErr, IfOk, IfSome, Ok, Err};
+ghost use Rattle.std.specs.Prelude.{◌≡◌, ◌≢◌, ◌≤◌, IfErr, IfOk, IfSome};
 ghost use Rattle.hsr_world.specs.Lawful.{IsEnded, finished_of};
-ghost use Rattle.hsr_scenario.specs.Meaning.{scenario_view};
-ghost use Rattle.hsr_engines.specs.ScenarioRun.{IsNoScenario, IsPlayed, IsReported, IsUnclosed, IsUnplayed, IsUnreported, ScenarioEnds, scenario_of, step_fault, text_fault};
+ghost use Rattle.hsr_engines.specs.Reading.{scenario_of};
+ghost use Rattle.hsr_engines.specs.ScenarioRun.{IsPlayed, IsReported, IsUnclosed, IsUnplayed, IsUnreported, ScenarioEnds};
 ghost use Rattle.hsr_engines.specs.Tables.{capacity_of};
 ghost use Rattle.hsr_engines.specs.declared.fault.Fault.TheVariants.{Read as ReadFailed};
 ghost use Rattle.hsr_engines.specs.declared.fault.Status.TheVariants.{Fault as Stopped};
 
 use crate::chosen::Table;
 use crate::fault::{Fault, Status};
-use crate::finding::{Finding, found};
+use crate::finding::Finding;
 use crate::playing::play;
-use crate::shown::{deliver, shown};
+use crate::reading::scenario_of;
+use crate::shown::{deliver, told};
 use crate::text::read_text;
-use hsr_closing::{CheckFault, Closed};
+use hsr_closing::Closed;
 use hsr_ring::World;
-use hsr_scenario::{Scenario, ScenarioFault, Spot, TEXT_LIMIT, What, read};
-use hsr_step::{DrainFault, WorldFault};
+use hsr_scenario::TEXT_LIMIT;
 use std::alloc::Global;
 use std::io::{Read, Write};
-
-/// Why a text is no scenario, as a fault of the run.
-fn text_fault(fault: ScenarioFault) -> Fault
-    ensures { result ≡ text_fault fault fault.what }
-{
-    match fault.what {
-        What::NoMemory => Fault::Memory,
-        _ => Fault::Scenario(fault),
-    }
-}
-
-/// The scenario that octets mean.
-fn scenario_of(alloc: Global, octets: &[u8]) -> Result<Scenario, Fault>
-    ensures ok { IfOk result (λ s. scenario_of octets.now ≡ Ok (scenario_view s)) }
-    ensures room { IfOk result (λ s. (1 ≤ s.capacity) × (s.capacity ≤ 4096)) }
-    ensures err { IfErr result (λ f. IsNoScenario (scenario_of octets.now) f) }
-{
-    let Ok(text) = str::from_utf8(octets) else {
-        return Err(Fault::Scenario(ScenarioFault {
-            spot: Spot::Top,
-            what: What::Text,
-        }));
-    };
-    match read(alloc, text) {
-        Ok(scenario) => Ok(scenario),
-        Err(fault) => Err(text_fault(fault)),
-    }
-}
-
-/// A step that was refused, as a fault of the run.
-fn step_fault(step: usize, fault: DrainFault) -> Fault
-    ensures { result ≡ step_fault step fault }
-{
-    match fault {
-        DrainFault::World(WorldFault::NoMemory) => Fault::Memory,
-        _ => Fault::Step { step, fault },
-    }
-}
 
 /// The world to which the scenario of a text leads.
 fn played<const C: usize>(alloc: Global, octets: &[u8]) -> Result<World<C>, Fault>
@@ -73,7 +35,7 @@ fn played<const C: usize>(alloc: Global, octets: &[u8]) -> Result<World<C>, Faul
     };
     match play(&mut world, scenario.steps.as_slice()) {
         Ok(()) => Ok(world),
-        Err((step, fault)) => Err(step_fault(step, fault)),
+        Err((step, fault)) => Err(Fault::of_step(step, fault)),
     }
 }
 
@@ -84,10 +46,7 @@ fn closed<const C: usize>(world: World<C>) -> Result<Closed<C>, Fault>
 {
     match world.close() {
         Ok(closed) => Ok(closed),
-        Err((_world, fault)) => match fault {
-            CheckFault::Disagree(disagree) => Err(Fault::Check(disagree)),
-            CheckFault::NoMemory => Err(Fault::Memory),
-        },
+        Err((_world, fault)) => Err(Fault::of_check(fault)),
     }
 }
 
@@ -109,14 +68,7 @@ fn reported<const C: usize>(
         Ok(closed) => closed,
         Err(fault) => return Err(fault),
     };
-    let finding = match found(alloc, &closed) {
-        Ok(finding) => finding,
-        Err(fault) => return Err(fault),
-    };
-    match shown(alloc, &closed, finding, transcript) {
-        Ok(text) => Ok((finding, text)),
-        Err(fault) => Err(fault),
-    }
+    told(alloc, &closed, transcript)
 }
 
 /// What is shown of the scenario that octets mean, with tables of the chosen size.

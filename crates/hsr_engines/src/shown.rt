@@ -1,11 +1,11 @@
 //! What is written of a finished run: its transcript or its report.
 ghost use Rattle.std.specs.Prelude.{◌≡◌, IfErr, IfOk};
 ghost use Rattle.hsr_transcript_text.specs.Transcript.{run_text};
-ghost use Rattle.hsr_engines.specs.Shown.{IsDelivered, shown};
+ghost use Rattle.hsr_engines.specs.Shown.{IsDelivered, IsFound, shown};
 ghost use Rattle.hsr_engines.specs.declared.fault.Fault.TheVariants.{Memory};
 
 use crate::fault::{Fault, Status};
-use crate::finding::Finding;
+use crate::finding::{Finding, found};
 use crate::report::report;
 use hsr_closing::Closed;
 use hsr_transcript::write;
@@ -26,7 +26,7 @@ fn run_text<const C: usize>(alloc: Global, closed: &Closed<C>) -> Result<Vec<u8>
 }
 
 /// The transcript of a finished run, or the report of what was found of it.
-pub fn shown<const C: usize>(
+fn shown<const C: usize>(
     alloc: Global,
     closed: &Closed<C>,
     finding: Finding,
@@ -41,6 +41,26 @@ pub fn shown<const C: usize>(
     match report(alloc, closed, finding) {
         Ok(text) => Ok(text),
         Err(_) => Err(Fault::Memory),
+    }
+}
+
+/// Audits a finished run, and forms what is shown of it.
+pub fn told<const C: usize>(
+    alloc: Global,
+    closed: &Closed<C>,
+    transcript: bool,
+) -> Result<(Finding, Vec<u8>), Fault>
+    ensures found { IfOk result (λ r. IsFound closed.now.run r.0) }
+    ensures text { IfOk result (λ r. r.1.items ≡ shown transcript closed.now r.0) }
+    ensures err { IfErr result (λ f. f ≡ Memory) }
+{
+    let finding = match found(alloc, closed) {
+        Ok(finding) => finding,
+        Err(fault) => return Err(fault),
+    };
+    match shown(alloc, closed, finding, transcript) {
+        Ok(text) => Ok((finding, text)),
+        Err(fault) => Err(fault),
     }
 }
 

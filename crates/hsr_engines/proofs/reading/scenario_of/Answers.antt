@@ -1,7 +1,7 @@
 use Rattle.std.proofs.Common.{◌∙◌, subst, sym}
-use Rattle.hsr_engines.specs.ScenarioRun.{IsNoScenario, scenario_of}
+use Rattle.hsr_engines.specs.Reading.{IsNoScenario, scenario_of}
 use Rattle.hsr_engines.proofs.Said.{a_text, no_text, unread}
-use Rattle.hsr_engines.proofs.scenario.scenario_of.Goals as goal
+use Rattle.hsr_engines.proofs.reading.scenario_of.Goals as goal
 
 pub returns-in_default-clause-err : goal.returns-in_default-clause-err
 returns-in_default-clause-err c = no_text c.args.octets.now c.in_default.ensures.cases.0

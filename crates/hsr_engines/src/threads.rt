@@ -1,0 +1,135 @@
+//! Scenarios that run in threads, and are shown by transcript or report.
+ghost use Rattle.std.specs.Prelude.{◌≡◌, ◌≢◌, ◌≤◌, IfErr, IfOk, IfSome};
+ghost use Rattle.hsr_engines.specs.Reading.{scenario_of};
+ghost use Rattle.hsr_engines.specs.Tables.{capacity_of};
+ghost use Rattle.hsr_engines.specs.ThreadsRun.{IsRan, IsRunShown, IsUnrun, ThreadsEnds, run_fault};
+ghost use Rattle.hsr_engines.specs.declared.fault.Fault.TheVariants.{Read as ReadFailed};
+ghost use Rattle.hsr_engines.specs.declared.fault.Status.TheVariants.{Fault as Stopped};
+
+use crate::chosen::Table;
+use crate::fault::{Fault, Status};
+use crate::finding::Finding;
+use crate::reading::scenario_of;
+use crate::shown::{deliver, told};
+use crate::text::read_text;
+use hsr_closing::Closed;
+use hsr_runner::{OpenGate, RunFault, run_threads};
+use hsr_scenario::TEXT_LIMIT;
+use hsr_step::DrainFault;
+use std::alloc::Global;
+use std::io::{Read, Write};
+use std::marker::Sync;
+use std::sync::Wait;
+use std::thread::Threads;
+
+/// Why there is no finished run, as a fault of the run.
+fn run_fault(fault: RunFault) -> Fault
+    ensures { result ≡ run_fault fault }
+{
+    match fault {
+        RunFault::FineStep { step } => Fault::Fine { step },
+        RunFault::Step { step, fault } => Fault::of_step(step, DrainFault::World(fault)),
+        RunFault::GateShut => Fault::Gate,
+        RunFault::Thread => Fault::Thread,
+        RunFault::Check(fault) => Fault::of_check(fault),
+        RunFault::NoMemory => Fault::Memory,
+    }
+}
+
+/// A finished run in threads of the scenario that octets mean.
+fn ran<H: Threads + Wait + Sync, const C: usize>(
+    rt: &H,
+    alloc: Global,
+    octets: &[u8],
+) -> Result<Closed<C>, Fault>
+    requires entries { (1 ≤ C) × (C ≤ 65535) }
+    ensures ok { IfOk result (λ c. IsRan C (scenario_of octets.now) c) }
+    ensures err { IfErr result (λ f. IsUnrun C (scenario_of octets.now) f) }
+{
+    let scenario = match scenario_of(alloc, octets) {
+        Ok(scenario) => scenario,
+        Err(fault) => return Err(fault),
+    };
+    match run_threads::<C, OpenGate, H>(rt, alloc, &scenario, &OpenGate) {
+        Ok(closed) => Ok(closed),
+        Err(fault) => Err(run_fault(fault)),
+    }
+}
+
+/// Runs the scenario that octets mean, and forms what is shown of the run.
+fn run_shown<H: Threads + Wait + Sync, const C: usize>(
+    rt: &H,
+    alloc: Global,
+    octets: &[u8],
+    transcript: bool,
+) -> Result<(Finding, Vec<u8>), Fault>
+    requires entries { (1 ≤ C) × (C ≤ 65535) }
+    ensures ok { IfOk result (λ r. IsRunShown C transcript (scenario_of octets.now) r.0 r.1.items) }
+    ensures err { IfErr result (λ f. IsUnrun C (scenario_of octets.now) f) }
+{
+    match ran::<H, C>(rt, alloc, octets) {
+        Ok(closed) => told(alloc, &closed, transcript),
+        Err(fault) => Err(fault),
+    }
+}
+
+/// What is shown of a run of the scenario that octets mean, with tables of the chosen size.
+fn run_shown_with<H: Threads + Wait + Sync>(
+    rt: &H,
+    alloc: Global,
+    octets: &[u8],
+    table: Table,
+    transcript: bool,
+) -> Result<(Finding, Vec<u8>), Fault>
+    ensures ok { IfOk result (λ r. IsRunShown (capacity_of table) transcript (scenario_of octets.now) r.0 r.1.items) }
+    ensures err { IfErr result (λ f. IsUnrun (capacity_of table) (scenario_of octets.now) f) }
+{
+    match table {
+        Table::Small => run_shown::<H, 4>(rt, alloc, octets, transcript),
+        Table::Large => run_shown::<H, 512>(rt, alloc, octets, transcript),
+    }
+}
+
+/// Runs the scenario that octets mean, and writes what is shown of the run.
+#[tactic(auto, using(crate::proofs::Telling::unrun_told, crate::proofs::Telling::delivered_told))]
+fn tell<H: Threads + Wait + Sync, W: Write>(
+    rt: &H,
+    alloc: Global,
+    octets: &[u8],
+    writer: &mut W,
+    table: Table,
+    transcript: bool,
+) -> Status
+    ensures shown { ThreadsEnds (capacity_of table) transcript (scenario_of octets.now) (W.contents writer.old) (W.contents writer.new) result }
+    ensures told { result ≢ Stopped ReadFailed }
+{
+    match run_shown_with(rt, alloc, octets, table, transcript) {
+        Ok((finding, text)) => deliver(writer, finding, text.as_slice()),
+        Err(fault) => Status::Fault(fault),
+    }
+}
+
+/// Runs the scenario that a text means in threads, with tables of the chosen size, and writes the transcript of that run, where it
+/// is asked for, or its report, as `scenario_run` does; the status tells what the audit of that run found. Each linked port has a
+/// thread that takes, judges and puts, and each node one that ages it after a step `clock`, so what comes first is left to them.
+///
+/// The scenario has at most 16 MiB. The text is formed whole before it is written, so that after a fault nothing is, but for
+/// `Fault::Write`. `Fault::Fine` where the scenario has a step `put`, `take` or `judge`, of which the first is named; nothing is started
+/// then. `Fault::Thread` where a thread can't be started, `Fault::Read` where the reader fails or takes over 2^40 reads,
+/// `Fault::Memory` where room is refused. No gate shuts, so `Fault::Gate` doesn't come. It waits for its threads.
+pub fn threads_run<H: Threads + Wait + Sync, R: Read, W: Write>(
+    rt: &H,
+    alloc: Global,
+    reader: &mut R,
+    writer: &mut W,
+    table: Table,
+    transcript: bool,
+) -> Status
+    ensures { IfSome (R.remaining reader.old) (λ octets.
+        ThreadsEnds (capacity_of table) transcript (scenario_of octets) (W.contents writer.old) (W.contents writer.new) result) }
+{
+    match read_text(alloc, reader, TEXT_LIMIT) {
+        Ok(octets) => tell(rt, alloc, octets.as_slice(), writer, table, transcript),
+        Err(fault) => Status::Fault(fault),
+    }
+}
