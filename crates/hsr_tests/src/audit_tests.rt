@@ -2,7 +2,8 @@
 ghost use Rattle.std.specs.Prelude.{◌≤◌};
 
 use crate::fixtures::{
-    danh, drain, group, joint, judge, mac, put, ring2, ring3, run, send, take, topology, world,
+    danh, drain, group, joint, judge, mac, put, ring2, ring3, ring3_in, run, send, take, topology,
+    world,
 };
 use hsr_audit::{AuditFault, Certificate, Doubt, audit};
 use hsr_frame::Mode;
@@ -47,7 +48,7 @@ fn doubt_of_pair(rt: &HostRuntime, links: Vec<[End; 2]>) -> Result<Option<Doubt>
     doubt_of_network(rt, vec![in rt.alloc(); danh(1), danh(2)]?, links)
 }
 
-/// A ring in which one node isn't in mode H, and one link is told from either of its ends.
+/// A ring in which one node is in mode N, and one link is told from either of its ends.
 #[test]
 fn ring_with_an_end_first(rt: HostRuntime) -> Result<(), Fail> {
     let [b, a] = joint(1, 0);
@@ -62,6 +63,33 @@ fn ring_with_an_end_first(rt: HostRuntime) -> Result<(), Fail> {
         let links = vec![in rt.alloc(); joint(0, 1), last]?;
         assert!(rt; doubt_of_pair(&rt, links)?.is_none());
     }
+    Ok(())
+}
+
+/// What the audit answers of a unicast from node 0 to node 1 of a ring of three in these modes.
+fn audited_unicast(
+    rt: &HostRuntime,
+    modes: [Mode; 3],
+) -> Result<Result<Certificate, AuditFault>, Fail> {
+    let mut world = world(rt, ring3_in(rt, modes)?)?;
+    run(&mut world, &[send(rt, 0, mac(2))?])?;
+    audited(rt, world)
+}
+
+/// A ring may have nodes in mode H and in mode U, but none in mode N.
+#[test]
+fn rings_in_mode_u(rt: HostRuntime) -> Result<(), Fail> {
+    for modes in [[Mode::U, Mode::U, Mode::U], [Mode::H, Mode::U, Mode::H]] {
+        let Ok(Certificate { sends }) = audited_unicast(&rt, modes)? else {
+            return Err("doubted".into());
+        };
+        assert_eq!(rt; sends.len(), 1);
+        assert!(rt; sends[0].receivers.as_slice() == [1].as_slice());
+    }
+    let Err(AuditFault::Doubt(doubt)) = audited_unicast(&rt, [Mode::U, Mode::U, Mode::N])? else {
+        return Err("certified".into());
+    };
+    assert!(rt; doubt == Doubt::Mode);
     Ok(())
 }
 

@@ -33,14 +33,21 @@ pub fn group() -> Mac {
 
 // ---- nodes and links
 
-/// A DANH in mode H, whose address ends in this octet.
-pub fn danh(octet: u8) -> Place
+/// A DANH in a mode, whose address ends in this octet.
+pub fn danh_in(mode: Mode, octet: u8) -> Place
     ensures { HasOwnAddress result }
 {
     Place::Danh {
         mac: mac(octet),
-        mode: Mode::H,
+        mode,
     }
+}
+
+/// A DANH in mode H, whose address ends in this octet.
+pub fn danh(octet: u8) -> Place
+    ensures { HasOwnAddress result }
+{
+    danh_in(Mode::H, octet)
 }
 
 /// A RedBox in mode H, whose address ends in 09.
@@ -89,7 +96,13 @@ pub fn topology(places: Vec<Place>, links: Vec<[End; 2]>) -> Result<Topology, Fa
 
 /// Three DANHs in a ring. Link i goes from B of node i to A of the next.
 pub fn ring3(rt: &HostRuntime) -> Result<Topology, Fail> {
-    let places = vec![in rt.alloc(); danh(1), danh(2), danh(3)]?;
+    ring3_in(rt, [Mode::H, Mode::H, Mode::H])
+}
+
+/// Three DANHs in a ring, in these modes.
+pub fn ring3_in(rt: &HostRuntime, modes: [Mode; 3]) -> Result<Topology, Fail> {
+    let [first, second, third] = modes;
+    let places = vec![in rt.alloc(); danh_in(first, 1), danh_in(second, 2), danh_in(third, 3)]?;
     topology(
         places,
         vec![in rt.alloc(); joint(0, 1), joint(1, 2), joint(2, 0)]?,

@@ -16,6 +16,8 @@ mod node_tests;
 #[cfg(test)]
 mod ring_rows_tests;
 #[cfg(test)]
+mod runner_tests;
+#[cfg(test)]
 mod topology_tests;
 #[cfg(test)]
 mod world_closing_tests;

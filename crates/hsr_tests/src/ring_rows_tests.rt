@@ -1,9 +1,9 @@
 //! Worked rows of worlds: what is done, and what the counters and links tell then.
 use crate::fixtures::{
-    PAYLOAD, Tag, drain, group, judge, mac, plain, put, quad_net, red, ring2, ring3, run, send,
-    send_from, tagged, take, world,
+    PAYLOAD, Tag, drain, group, judge, mac, plain, put, quad_net, red, ring2, ring3, ring3_in, run,
+    send, send_from, tagged, take, world,
 };
-use hsr_frame::Counters;
+use hsr_frame::{Counters, Mode};
 use hsr_link::{Dir, Fate, Row};
 use hsr_node::{Entry, Octets, up_out};
 use hsr_ring::{Step, World};
@@ -124,6 +124,38 @@ fn after_a_cut() -> [Counters; 3] {
         },
         Counters {
             up: 1,
+            forwarded: 2,
+            ..Counters::new()
+        },
+    ]
+}
+
+/// A node in mode U sends on what it delivers, so each copy goes the whole way round and comes back to the sender.
+#[test]
+fn unicast_round_a_ring_in_mode_u(rt: HostRuntime) -> Result<(), Fail> {
+    for modes in [[Mode::U, Mode::U, Mode::U], [Mode::H, Mode::U, Mode::H]] {
+        let mut world = world(&rt, ring3_in(&rt, modes)?)?;
+        run(&mut world, &[send(&rt, 0, mac(2))?])?;
+        drain(&mut world)?;
+        assert!(rt; counted(&world, &after_a_round()));
+        assert!(rt; put_taken_lost(&world, &[(2, 2, 0), (2, 2, 0), (2, 2, 0)]));
+    }
+    Ok(())
+}
+
+fn after_a_round() -> [Counters; 3] {
+    [
+        Counters {
+            sent: 1,
+            returned: 2,
+            ..Counters::new()
+        },
+        Counters {
+            up: 1,
+            forwarded: 2,
+            ..Counters::new()
+        },
+        Counters {
             forwarded: 2,
             ..Counters::new()
         },

@@ -99,3 +99,19 @@ fn the_same_links(rt: HostRuntime) -> Result<(), Fail> {
     assert!(rt; closed.plan().len() == 1);
     Ok(())
 }
+
+/// What waits on the links is there again where a world isn't closed: it is taken, and the world closes in the end.
+#[test]
+fn copies_that_wait_come_back(rt: HostRuntime) -> Result<(), Fail> {
+    let mut world = sent(&rt)?;
+    run(&mut world, &[put(0, 1), put(0, 0)])?;
+    let Err((mut world, _fault)) = world.close() else {
+        return Err("closed".into());
+    };
+    assert!(rt; world.drain(16) == Ok(16));
+    let Ok(closed) = world.close() else {
+        return Err("not closed".into());
+    };
+    assert!(rt; closed.rows(0).len() == 2);
+    Ok(())
+}

@@ -128,6 +128,52 @@ pub const GROUP_SEND: &str = r#"
 {do="drain"},
 "#;
 
+/// A send to the other node of two while the one link is cut, and one while the other is.
+pub const TWO_CUTS: &str = r#"
+{do="cut", link=0},
+{do="send", node="n0", to="02-00-00-00-00-02", type=0x0800, payload="AABB"},
+{do="drain"},
+{do="mend", link=0},
+{do="cut", link=1},
+{do="send", node="n0", to="02-00-00-00-00-02", type=0x0800, payload="AABB"},
+{do="drain"},
+"#;
+
+/// A copy of no send.
+pub const INJECTION: &str = r#"
+{do="inject", link=0, dir="forth", octets="01005E000001020000000007892F000600000800"},
+{do="drain"},
+"#;
+
+/// A send whose copies are moved by hand, up to a cut, and a send behind it.
+pub const CUT_BY_HAND: &str = r#"
+{do="send", node="n0", to="01-00-5E-00-00-01", type=0x0800, payload="AABB"},
+{do="put", port="n0.B"},
+{do="put", port="n0.A"},
+{do="take", link=0, dir="forth"},
+{do="judge", port="n1.A"},
+{do="put", port="n1.B"},
+{do="take", link=2, dir="back"},
+{do="judge", port="n2.B"},
+{do="put", port="n2.A"},
+{do="cut", link=1},
+{do="mend", link=1},
+{do="send", node="n0", to="02-00-00-00-00-02", type=0x0800, payload="AABB"},
+{do="drain"},
+"#;
+
+/// A station's send, and two to it, the second when it is forgotten.
+pub const RED_SENDS: &str = r#"
+{do="send", node="s", to="02-00-00-00-00-01", type=0x0800, payload="AABB"},
+{do="drain"},
+{do="clock", at=10},
+{do="send", node="n0", to="02-00-00-00-00-0A", type=0x0800, payload="02"},
+{do="drain"},
+{do="clock", at=60000},
+{do="send", node="n0", to="02-00-00-00-00-0A", type=0x0800, payload="02"},
+{do="drain"},
+"#;
+
 /// The report of that send round the ring.
 pub const RING_REPORT: &str = "bench 1 table 512 nodes 3 links 3
 node 0 danh sent 1 life 0 up 0 forwarded 0 duplicate 0 returned 2 dropped 0

@@ -18,4 +18,6 @@ mod scenario_step_tests;
 #[cfg(test)]
 mod scenario_tests;
 #[cfg(test)]
+mod threads_run_tests;
+#[cfg(test)]
 mod transcript_tests;

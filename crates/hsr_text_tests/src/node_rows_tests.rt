@@ -140,6 +140,31 @@ sent 0 life 0 up 2 forwarded 2 duplicate 1 returned 0 dropped 0
     Ok(())
 }
 
+/// In mode U a unicast that the node delivers goes on round the ring, as a group's frame does.
+#[test]
+fn unicast_in_mode_u(rt: HostRuntime) -> Result<(), Fail> {
+    let to_first = copy(rt.alloc(), 0, 7)?;
+    let up = frame(rt.alloc())?;
+    let input = format!(in rt.alloc();
+        "\
+arrive 0 A {to_first}
+arrive 0 B {to_first}
+"
+    )?;
+    let output = format!(in rt.alloc();
+        "\
+passed up B
+up {up}
+passed A
+sent 0 life 0 up 1 forwarded 2 duplicate 0 returned 0 dropped 0
+"
+    )?;
+    let mut chosen = defaults();
+    chosen.mode = Mode::U;
+    assert!(rt; writes(&rt, &chosen, input.as_str(), output.as_str()));
+    Ok(())
+}
+
 #[test]
 fn supervision_after_a_send(rt: HostRuntime) {
     let input = "send 0 02-00-00-00-00-02 0800 -\nlife 0\n";

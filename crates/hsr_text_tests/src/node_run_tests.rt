@@ -134,6 +134,9 @@ fn statuses_and_their_lines(rt: HostRuntime) -> Result<(), Fail> {
         (Fault::Read, "fault: read"),
         (Fault::Write, "fault: write"),
         (Fault::Memory, "fault: memory"),
+        (Fault::Fine { step: 1 }, "fault: step 1 fine"),
+        (Fault::Thread, "fault: thread"),
+        (Fault::Gate, "fault: gate"),
     ];
     for (fault, line) in rows {
         assert_eq!(rt; fault.to_string(rt.alloc())?.as_str(), line);

@@ -1,6 +1,7 @@
 //! What `run` writes of scenarios, and how it ends.
 use crate::fixtures::{
-    FailingReader, FailingWriter, GROUP_SEND, PAIR, QUAD, RED, RING, RING_REPORT, joined,
+    CUT_BY_HAND, FailingReader, FailingWriter, GROUP_SEND, INJECTION, PAIR, QUAD, RED, RED_SENDS,
+    RING, RING_REPORT, TWO_CUTS, joined,
 };
 use hsr_closing::Disagree;
 use hsr_engines::{Fault, Status, Table, scenario_run};
@@ -38,16 +39,7 @@ fn group_round_a_ring(rt: HostRuntime) -> Result<(), Fail> {
 
 #[test]
 fn two_links_lost(rt: HostRuntime) -> Result<(), Fail> {
-    let steps = r#"
-{do="cut", link=0},
-{do="send", node="n0", to="02-00-00-00-00-02", type=0x0800, payload="AABB"},
-{do="drain"},
-{do="mend", link=0},
-{do="cut", link=1},
-{do="send", node="n0", to="02-00-00-00-00-02", type=0x0800, payload="AABB"},
-{do="drain"},
-"#;
-    let (status, text) = run(rt.alloc(), PAIR, steps)?;
+    let (status, text) = run(rt.alloc(), PAIR, TWO_CUTS)?;
     let expected = "bench 1 table 512 nodes 2 links 2
 node 0 danh sent 2 life 0 up 0 forwarded 0 duplicate 0 returned 0 dropped 0
 node 1 danh sent 0 life 0 up 2 forwarded 0 duplicate 0 returned 0 dropped 0
@@ -62,11 +54,7 @@ doubt two-links
 
 #[test]
 fn injected_copy(rt: HostRuntime) -> Result<(), Fail> {
-    let steps = r#"
-{do="inject", link=0, dir="forth", octets="01005E000001020000000007892F000600000800"},
-{do="drain"},
-"#;
-    let (status, text) = run(rt.alloc(), RING, steps)?;
+    let (status, text) = run(rt.alloc(), RING, INJECTION)?;
     let stranger = Disagree::Stranger { link: 0, row: 0 };
     assert_eq!(rt; status, Status::Fault(Fault::Check(stranger)));
     assert!(rt; text.is_empty());
@@ -152,22 +140,7 @@ fn doubts_the_ring(rt: &HostRuntime, nodes: &str, steps: &str) -> Result<bool, F
 
 #[test]
 fn cut_on_the_way(rt: HostRuntime) -> Result<(), Fail> {
-    let steps = r#"
-{do="send", node="n0", to="01-00-5E-00-00-01", type=0x0800, payload="AABB"},
-{do="put", port="n0.B"},
-{do="put", port="n0.A"},
-{do="take", link=0, dir="forth"},
-{do="judge", port="n1.A"},
-{do="put", port="n1.B"},
-{do="take", link=2, dir="back"},
-{do="judge", port="n2.B"},
-{do="put", port="n2.A"},
-{do="cut", link=1},
-{do="mend", link=1},
-{do="send", node="n0", to="02-00-00-00-00-02", type=0x0800, payload="AABB"},
-{do="drain"},
-"#;
-    assert!(rt; certifies_two(&rt, RING, steps)?);
+    assert!(rt; certifies_two(&rt, RING, CUT_BY_HAND)?);
     Ok(())
 }
 
@@ -196,17 +169,7 @@ fn quad(rt: HostRuntime) -> Result<(), Fail> {
 
 #[test]
 fn red_to_and_from(rt: HostRuntime) -> Result<(), Fail> {
-    let steps = r#"
-{do="send", node="s", to="02-00-00-00-00-01", type=0x0800, payload="AABB"},
-{do="drain"},
-{do="clock", at=10},
-{do="send", node="n0", to="02-00-00-00-00-0A", type=0x0800, payload="02"},
-{do="drain"},
-{do="clock", at=60000},
-{do="send", node="n0", to="02-00-00-00-00-0A", type=0x0800, payload="02"},
-{do="drain"},
-"#;
-    assert!(rt; doubts_the_ring(&rt, RED, steps)?);
+    assert!(rt; doubts_the_ring(&rt, RED, RED_SENDS)?);
     Ok(())
 }
 
