@@ -30,7 +30,7 @@ def digits(chance, octets):
 
 
 def danh(chance, name, number):
-    return {"name": name, "role": "danh", "mac": mac(number), "mode": "N" if chance.random() < 0.06 else "H"}
+    return {"name": name, "role": "danh", "mac": mac(number), "mode": chance.choices("HUN", (64, 30, 6))[0]}
 
 
 def ring_of(names, of_quadbox="BA"):
@@ -57,7 +57,7 @@ def topology(chance):
         boxes = ["r0"] if kind == "redbox" else ["r0", "r1"]
         links = ring_of(boxes[:1] + names + boxes[1:])
         for i, box in enumerate(boxes):
-            nodes.append({"name": box, "role": "redbox", "mac": mac(9 + i), "mode": chance.choice("HHHN")})
+            nodes.append({"name": box, "role": "redbox", "mac": mac(9 + i), "mode": chance.choice("HHUUN")})
             macs = [mac(16 + 16 * i + j) for j in range(chance.randint(1, 3))]
             nodes.append({"name": f"s{i}", "role": "station", "macs": macs})
             links.append([f"{box}.I", f"s{i}.P"])
@@ -148,13 +148,13 @@ class Steps:
         self.do({"do": "drain"})
 
 
-def scenario(chance, capacity):
+def scenario(chance, capacity, by_hand=True):
     nodes, links = topology(chance)
     made = {"node": nodes, "link": links, "step": []}
     if chance.random() < 0.3:
         made["capacity"] = chance.randint(1, 4)
     steps = Steps(chance, made, capacity)
-    kinds = [steps.send] * 8 + [steps.clock] * 3 + [steps.by_hand] * 3 + [steps.drain] * 2 + [steps.life] * 2
+    kinds = [steps.send] * 8 + [steps.clock] * 3 + [steps.by_hand] * 3 * by_hand + [steps.drain] * 2 + [steps.life] * 2
     kinds += [steps.cut_or_mend] * 2 + [steps.age, steps.inject]
     try:
         for _ in range(chance.randint(1, 40)):
@@ -252,7 +252,7 @@ def compare_scenario(seed):
 
 def compare_node(seed):
     chance = random.Random(seed)
-    mode, capacity, lines = chance.choice("HN"), chance.choice([4, 512]), node_lines(chance)
+    mode, capacity, lines = chance.choice("HNU"), chance.choice([4, 512]), node_lines(chance)
     words = ["node", "--mode", mode, "--table", "small" if capacity == 4 else "large"]
     expect(f"seed {seed}", words, model.text(lines), (0, model.node_run(lines, mode, capacity), ""))
     return "node"
@@ -264,4 +264,5 @@ def main():
     print(", ".join(f"{how}: {many}" for how, many in sorted(seen.items())))
 
 
-main()
+if __name__ == "__main__":
+    main()

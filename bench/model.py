@@ -241,16 +241,17 @@ class Node:
     def wish_from_ring(self, port, frame):
         if frame.seq is None:
             return Wish(cause="untagged")
-        key, onward = (frame.src, frame.seq), {"A": ["B"], "B": ["A"]}[port] if self.mode == "H" else []
+        key, onward = (frame.src, frame.seq), {"A": ["B"], "B": ["A"]}[port] if self.mode != "N" else []
+        delivered_on = onward if self.mode == "U" else []
         if frame.src == self.mac:
             return Wish(cause="returned")
         if frame.dst == self.mac:
-            return Wish(["up"], key=key)
+            return Wish(["up"] + delivered_on, key=key)
         if is_group(frame.dst):
             interlink = ["I"] if self.role == "redbox" and not frame.is_supervision() else []
             return Wish(["up"] + interlink + onward, key=key)
         if self.role == "redbox" and self.knows(frame.dst, self.moment):
-            return Wish(["I"], key=key)
+            return Wish(["I"] + delivered_on, key=key)
         return Wish(onward, "foreign", key)
 
     def judge(self, at, port, octets, send):
@@ -457,7 +458,7 @@ class World:
     def verdict(self):
         if not self.is_ring():
             return "doubt not-ring"
-        if any(node.mode != "H" for node in self.nodes):
+        if any(node.mode == "N" for node in self.nodes):
             return "doubt mode"
         if len({node.mac for node in self.nodes}) < len(self.nodes):
             return "doubt same-address"
