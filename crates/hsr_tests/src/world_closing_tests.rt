@@ -112,6 +112,7 @@ fn copies_that_wait_come_back(rt: HostRuntime) -> Result<(), Fail> {
     let Ok(closed) = world.close() else {
         return Err("not closed".into());
     };
+    assert!(rt; closed.topology().links().len() == 3);
     assert!(rt; closed.rows(0).len() == 2);
     Ok(())
 }
