@@ -1,16 +1,15 @@
 -- How far workers' receipts come, one pass after another; and the entries that are left.
-use Rattle.std.proofs.Common.{◌≡◌, ◌↔◌, ℕ, ◌+◌, ◌<◌, ◌&&◌, zero, suc, ◌==◌, ◌-◌, cond, Bool, true, false, List, [], ◌∷◌, ◌++◌, length, drop, get_or, set, Vec, refl, sym, ap, ◌∙◌, subst, arith, ⊎_elim, ◌≤◌}
-use Rattle.std.specs.Global.{Global}
+use Rattle.std.proofs.Common.{◌≡◌, ◌↔◌, ℕ, ◌+◌, ◌<◌, ◌&&◌, zero, suc, ◌==◌, ◌-◌, cond, Bool, true, false, List, [], ◌∷◌, ◌++◌, length, drop, get_or, set, refl, sym, ap, ◌∙◌, subst, arith, ⊎_elim}
 use Rattle.std.specs.List.{AllByRecursion}
 use Rattle.std.proofs.lemmas.Bool.{and_cases, and_parts, cases_Bool, cases_eq}
 use Rattle.std.proofs.lemmas.List.{get_or-drop, get_or-set_other, get_or-set_same, length-drop, length-set}
-use Rattle.std.specs.Prelude.{slice_index_or}
 use Rattle.hsr_node.specs.Kept.{Receipts, Record}
 use Rattle.hsr_node.specs.declared.entry.Entry.{Entry}
 use Rattle.hsr_node.specs.declared.entry.Receipt.{Receipt}
-use Rattle.hsr_closing.specs.Next.{AreFirst, AreNext, holds_from}
+use Rattle.hsr_index.specs.Turns.{IsPassed, place_at}
+use Rattle.hsr_closing.specs.Next.{AreNext, holds_from}
 use Rattle.hsr_closing.specs.Passes.{receipts_of}
-use Rattle.hsr_closing.specs.Reached.{AllFollow, AreTold, Follows, AreUsedUp, IsMarked, IsStart}
+use Rattle.hsr_closing.specs.Reached.{AllFollow, AreTold, Follows, HasUsedUp, IsMarked, IsMore, IsStart}
 use Rattle.hsr_closing.specs.Receipts.{holds_of}
 use Rattle.hsr_closing.specs.declared.reached.Reached.{Reached}
 use Rattle.hsr_closing.proofs.Coming.{kept_first}
@@ -19,17 +18,15 @@ use Rattle.hsr_closing.proofs.Plan.{all_append, all_at}
 
 -- ---- the start
 
-pub start_more : (count : ℕ) (rs after : List Reached) (next : Vec ℕ Global) → AllByRecursion (IsStart count) rs → AreFirst count next.items →
-    after ≡ rs ++ record { next = next; is_right = true } ∷ [] → AllByRecursion (IsStart count) after
-start_more count rs after next all first is =
-    subst (AllByRecursion (IsStart count)) (sym is) (all_append (IsStart count) rs (record { next = next; is_right = true } ∷ []) all (record { first = first; right = refl }, tt))
+pub start_more : (rs after : List Reached) → AllByRecursion IsStart rs → IsMore rs after → AllByRecursion IsStart after
+start_more rs after all more = subst (AllByRecursion IsStart) (sym more.is) (all_append IsStart rs (more.more ∷ []) all (more.start, tt))
 
-pub start_follow : (kept : List Record) (passes : List Receipts) (rs : List Reached) → AllByRecursion (IsStart (length kept)) rs → AllFollow kept passes passes rs
+pub start_follow : (kept : List Record) (passes : List Receipts) (rs : List Reached) → AllByRecursion IsStart rs → AllFollow kept passes passes rs
 start_follow kept passes rs all = record {
   each = λ w d below.
-      let start = all_at (IsStart (length kept)) rs all w d below in
+      let start = all_at IsStart rs all w d below in
       record {
-        right = λ right. kept_first w kept passes (get_or rs w d).next.items start.first;
+        right = λ right. kept_first w kept passes (place_at (get_or rs w d).next) start.first;
         wrong = λ wrong kept_by. let no : true ≡ false = sym start.right ∙ wrong in absurd (no_true no);
       };
 }
@@ -40,8 +37,8 @@ start_follow kept passes rs all = record {
 -- ---- receipts
 
 pub follows_more : (kept : List Record) (passes : List Receipts) (w : ℕ) (rs rest : List Receipt) (old new : Reached) (comes : Bool) → new.is_right ≡ (old.is_right && comes) →
-    (comes ≡ true → (more : List Receipt) → AreNext w kept old.next.items (rs ++ more) ↔ AreNext w kept new.next.items more) →
-    (comes ≡ false → (more : List Receipt) → AreNext w kept old.next.items (rs ++ more) → ⊥) →
+    (comes ≡ true → (more : List Receipt) → AreNext w kept (place_at old.next) (rs ++ more) ↔ AreNext w kept (place_at new.next) more) →
+    (comes ≡ false → (more : List Receipt) → AreNext w kept (place_at old.next) (rs ++ more) → ⊥) →
     Follows kept passes w (rs ++ rest) old → Follows kept passes w rest new
 follows_more kept passes w rs rest old new comes is come wrong h = record {
   right = λ right.
@@ -93,20 +90,16 @@ follow_at kept passes rest p rs old new w n got worker_is place_is got_is inside
 
 -- ---- marks
 
-pub marked_as : (P Q : ℕ → List ℕ → Type 0) (a b : List Reached) → ((w : ℕ) (next : List ℕ) → P w next ↔ Q w next) → IsMarked P a b → IsMarked Q a b
+pub marked_as : (P Q : ℕ → (ℕ → ℕ) → Type 0) (a b : List Reached) → ((w : ℕ) (next : ℕ → ℕ) → P w next ↔ Q w next) → IsMarked P a b → IsMarked Q a b
 marked_as P Q a b alike h = record {
   count = h.count;
   next = h.next;
   right = λ w d below.
-      let is = alike w (get_or a w d).next.items in
+      let is = alike w (place_at (get_or a w d).next) in
       ((λ right. let parts = (h.right w d below).0 right in (parts.0, is.0 parts.1)), (λ p. (h.right w d below).1 (p.0, is.1 p.1)));
 }
 
 -- ---- what is left of a record
-
--- no entry of a worker stands from a place on and before another
-abbrev pub IsPassed : List Entry → ℕ → ℕ → ℕ → Type 0
-IsPassed entries w from end = (p : ℕ) (d : Entry) → p < end → from ≤ p → (slice_index_or entries p d).worker ≡ w → ⊥
 
 none_held : (w n : ℕ) (xs : List Entry) → ((p : ℕ) (d : Entry) → p < length xs → (get_or xs p d).worker ≡ w → ⊥) → holds_of w n xs ≡ []
 none_held w n [] h = refl
@@ -139,18 +132,18 @@ passed_all xs w from = (
 
 -- ---- the end
 
-none_next : (kept : List Record) (w : ℕ) (next : List ℕ) → AreNext w kept next [] ↔ AreUsedUp kept w next (length kept)
+none_next : (kept : List Record) (w : ℕ) (next : ℕ → ℕ) → AreNext w kept next [] ↔ HasUsedUp kept w next (length kept)
 none_next kept w next = (λ h k d below. sym (h.names k d below), λ h. record { shown = tt; names = λ k d below. sym (h k d below) })
 
 pub told_all : (kept : List Record) (passes : List Receipts) (count : ℕ) (rs after : List Reached) → length rs ≡ count → AllFollow kept passes [] rs →
-    IsMarked (λ w next. AreUsedUp kept w next (length kept)) rs after → AreTold kept passes count after
+    IsMarked (λ w next. HasUsedUp kept w next (length kept)) rs after → AreTold kept passes count after
 told_all kept passes count rs after long follow marked = record {
   long = marked.count ∙ long;
   each = λ w d below.
       let inside : w < length rs = let e = marked.count in omega (arith, e, below) in
       let h = follow.each w d inside in
       let mark = marked.right w d inside in
-      let none = none_next kept w (get_or rs w d).next.items in (
+      let none = none_next kept w (place_at (get_or rs w d).next) in (
         λ right. let parts = mark.0 right in (h.right parts.0).0 (none.1 parts.1),
         λ kept_by.
             ⊎_elim (λ right. mark.1 (right, none.0 ((h.right right).1 kept_by))) (λ wrong. absurd (h.wrong wrong kept_by)) (cases_Bool (get_or rs w d).is_right),

@@ -2,7 +2,8 @@
 --     names_of      the places of a node that a worker's receipts name
 --     holds_of      the places of a record at which its entries stand
 --     HasReceipts   right receipts of all workers
-use Rattle.std.specs.Prelude.{ℕ, ◌+◌, ◌<◌, ◌≡◌, ◌==◌, if◌then◌else◌, List, [], ◌∷◌, ◌++◌, length, map, filter_map, Option, Some, None, slice_get, slice_index_or}
+pub use Rattle.hsr_index.specs.Turns.{holds_of}
+use Rattle.std.specs.Prelude.{ℕ, ◌<◌, ◌≡◌, ◌==◌, if◌then◌else◌, List, [], ◌∷◌, ◌++◌, length, map, filter_map, Option, Some, None, slice_get, slice_index_or}
 use Rattle.hsr_node.specs.Kept.{Receipts, Record}
 use Rattle.hsr_node.specs.declared.entry.Entry.{Entry}
 use Rattle.hsr_node.specs.declared.entry.Receipt.{Receipt}
@@ -39,11 +40,6 @@ named node r = if r.node == node then Some r.place else None
 abbrev pub names_of : ℕ → ℕ → List Receipts → List ℕ
 names_of worker node [] = []
 names_of worker node (p ∷ ps) = (if p.worker == worker then filter_map (named node) p.receipts else []) ++ names_of worker node ps
-
--- the places at which a worker's entries stand, where they are numbered from n on
-abbrev pub holds_of : ℕ → ℕ → List Entry → List ℕ
-holds_of worker n [] = []
-holds_of worker n (x ∷ xs) = (if x.worker == worker then n ∷ [] else []) ++ holds_of worker (n + 1) xs
 
 -- these are the same, for the first n nodes
 abbrev pub IsPlaced : List Record → ℕ → List Receipts → ℕ → Type 0

@@ -2,30 +2,32 @@
 ghost use Rattle.std.specs.Prelude.{◌≡◌, ◌≤◌, ◌<◌, ◌+◌, ◌++◌, [], ◌∷◌, ℕ, List, length, true, IfOk, MatchOption, OnOk, slice_index_or};
 ghost use Rattle.std.specs.List.{AllByRecursion};
 ghost use Rattle.hsr_closing.specs.Next.{holds_from};
-ghost use Rattle.hsr_closing.specs.Reached.{AllFollow, AreLong, AreTold, AreUsedUp, Follows, HasNode, IsFirstLost, IsMarked, IsStart};
+ghost use Rattle.hsr_closing.specs.Reached.{AllFollow, AreTold, Follows, HasUsedUp, IsFirstLost, IsMarked, IsMore, IsStart};
 ghost use Rattle.hsr_closing.specs.declared.reached.Reached.{Reached};
 ghost use Rattle.hsr_closing.specs.Workers.{most_in, most_kept, most_passed, most_worker};
 ghost use Rattle.hsr_node.specs.Kept.{Receipts};
 ghost use Rattle.hsr_node.specs.declared.entry.Receipt.{Receipt};
 
-use crate::next::first_places;
 use crate::receipts::come_next;
 use hsr_frame::NoMemory;
+use hsr_index::{Places, Turns};
 use hsr_node::{Entry, Kept, Pass, Receipt};
 use std::alloc::Global;
 
-/// For each node the place from which on a worker's next entry is looked for, and whether its receipts are right so far.
+/// For each node of which a worker has receipts the place from which on its next entry is looked for, and whether all are
+/// right so far.
 #[derive(Drop)]
 pub(crate) struct Reached {
-    pub next: Vec<usize>,
+    pub next: Places,
     pub is_right: bool,
 }
 
-fn add_reached(all: &mut Vec<Reached>, next: Vec<usize>) -> Result<(), NoMemory>
-    ensures { OnOk result (all.new.items ≡ all.old.items ++ record { next = next; is_right = true } ∷ []) }
+/// Puts a worker last that stands before its first receipt.
+fn add_reached(alloc: Global, all: &mut Vec<Reached>) -> Result<(), NoMemory>
+    ensures { OnOk result (IsMore all.old.items all.new.items) }
 {
     all.push(Reached {
-        next,
+        next: Places::new(alloc),
         is_right: true,
     })?;
     Ok(())
@@ -33,13 +35,13 @@ fn add_reached(all: &mut Vec<Reached>, next: Vec<usize>) -> Result<(), NoMemory>
 
 /// Where workers up to one stand before their first receipt.
 #[tactic(auto, using(crate::proofs::Reaching::start_more))]
-fn first_reached(alloc: Global, nodes: usize, most: u16) -> Result<Vec<Reached>, NoMemory>
+fn first_reached(alloc: Global, most: u16) -> Result<Vec<Reached>, NoMemory>
     ensures count { IfOk result (λ all. length all.items ≡ most + 1) }
-    ensures start { IfOk result (λ all. AllByRecursion (IsStart nodes) all.items) }
+    ensures start { IfOk result (λ all. AllByRecursion IsStart all.items) }
 {
     let mut all = Vec::new(alloc);
     for worker in 0..u32::from(most) + 1 {
-        add_reached(&mut all, first_places(alloc, nodes)?)?;
+        add_reached(alloc, &mut all)?;
     }
     Ok(all)
 }
@@ -47,59 +49,67 @@ fn first_reached(alloc: Global, nodes: usize, most: u16) -> Result<Vec<Reached>,
 /// Goes on with more receipts of a worker.
 #[tactic(auto, using(crate::proofs::Reaching::follows_more))]
 fn follow<const C: usize>(
-    kept: &[Kept<C>],
+    turns: &Turns<'_, C>,
     worker: u16,
     reached: &mut Reached,
     receipts: &[Receipt],
-)
-    requires { length reached.old.next.items ≡ length kept.now }
-    ensures long { length reached.new.next.items ≡ length kept.now }
-    ensures follows { (passes : List Receipts) (rest : List Receipt) → Follows kept.now passes worker (receipts.now ++ rest) reached.old → Follows kept.now passes worker rest reached.new }
+) -> Result<(), NoMemory>
+    ensures { OnOk result ((passes : List Receipts) (rest : List Receipt) → Follows turns.now passes worker (receipts.now ++ rest) reached.old → Follows turns.now passes worker rest reached.new) }
 {
-    let comes = come_next(kept, worker, &mut reached.next, receipts);
+    let comes = come_next(turns, worker, &mut reached.next, receipts)?;
     reached.is_right &= comes;
+    Ok(())
 }
 
 /// Goes on with the receipts of a pass.
-fn follow_pass<const C: usize>(kept: &[Kept<C>], all: &mut Vec<Reached>, pass: &Pass)
-    requires worker { pass.now.worker < length all.old.items }
-    requires long { AreLong (length kept.now) all.old.items }
-    ensures count { length all.new.items ≡ length all.old.items }
-    ensures long { AreLong (length kept.now) all.new.items }
-    ensures follow { (passes : List Receipts) (rest : List Receipts) → AllFollow kept.now passes (pass.now ∷ rest) all.old.items → AllFollow kept.now passes rest all.new.items }
+fn follow_pass<const C: usize>(
+    turns: &Turns<'_, C>,
+    all: &mut Vec<Reached>,
+    pass: &Pass,
+) -> Result<(), NoMemory>
+    requires { pass.now.worker < length all.old.items }
+    ensures count { OnOk result (length all.new.items ≡ length all.old.items) }
+    ensures follow { OnOk result ((passes : List Receipts) (rest : List Receipts) → AllFollow turns.now passes (pass.now ∷ rest) all.old.items → AllFollow turns.now passes rest all.new.items) }
 {
     let worker = pass.worker();
-    follow(kept, worker, &mut all[usize::from(worker)], pass.receipts());
+    follow(
+        turns,
+        worker,
+        &mut all[usize::from(worker)],
+        pass.receipts(),
+    )?;
+    Ok(())
 }
 
 /// Goes on with the receipts of all passes.
-fn follow_passes<const C: usize>(kept: &[Kept<C>], all: &mut Vec<Reached>, passes: &[Pass])
-    requires worker { most_passed passes.now < length all.old.items }
-    requires long { AreLong (length kept.now) all.old.items }
-    ensures count { length all.new.items ≡ length all.old.items }
-    ensures long { AreLong (length kept.now) all.new.items }
-    ensures follow { (whole : List Receipts) → AllFollow kept.now whole passes.now all.old.items → AllFollow kept.now whole [] all.new.items }
+fn follow_passes<const C: usize>(
+    turns: &Turns<'_, C>,
+    all: &mut Vec<Reached>,
+    passes: &[Pass],
+) -> Result<(), NoMemory>
+    requires { most_passed passes.now < length all.old.items }
+    ensures count { OnOk result (length all.new.items ≡ length all.old.items) }
+    ensures follow { OnOk result ((whole : List Receipts) → AllFollow turns.now whole passes.now all.old.items → AllFollow turns.now whole [] all.new.items) }
 {
     for (i, pass) in passes.iter().enumerate() {
-        follow_pass(kept, all, pass);
+        follow_pass(turns, all, pass)?;
     }
+    Ok(())
 }
 
 /// Marks the worker of an entry as wrong where no receipt has come so far.
 fn mark_entry(all: &mut Vec<Reached>, node: usize, place: usize, entry: &Entry)
-    requires worker { entry.now.worker < length all.old.items }
-    requires node { HasNode node all.old.items }
-    ensures { IsMarked (λ w next. entry.now.worker ≡ w → place < slice_index_or next node 0) all.old.items all.new.items }
+    requires { entry.now.worker < length all.old.items }
+    ensures { IsMarked (λ w next. entry.now.worker ≡ w → place < next node) all.old.items all.new.items }
 {
     let reached = &mut all[usize::from(entry.worker)];
-    reached.is_right = reached.is_right && place < reached.next[node];
+    reached.is_right = reached.is_right && place < reached.next.at(node);
 }
 
 /// Marks the workers of which entries of a record are left as wrong.
 fn mark_record(all: &mut Vec<Reached>, node: usize, entries: &[Entry])
-    requires worker { most_in entries.now < length all.old.items }
-    requires node { HasNode node all.old.items }
-    ensures { IsMarked (λ w next. holds_from w entries.now (slice_index_or next node 0) ≡ []) all.old.items all.new.items }
+    requires { most_in entries.now < length all.old.items }
+    ensures { IsMarked (λ w next. holds_from w entries.now (next node) ≡ []) all.old.items all.new.items }
 {
     for (place, entry) in entries.iter().enumerate() {
         mark_entry(all, node, place, entry);
@@ -108,9 +118,8 @@ fn mark_record(all: &mut Vec<Reached>, node: usize, entries: &[Entry])
 
 /// Marks the workers of which entries of any record are left as wrong.
 fn mark_records<const C: usize>(kept: &[Kept<C>], all: &mut Vec<Reached>)
-    requires worker { most_kept kept.now < length all.old.items }
-    requires long { AreLong (length kept.now) all.old.items }
-    ensures { IsMarked (λ w next. AreUsedUp kept.now w next (length kept.now)) all.old.items all.new.items }
+    requires { most_kept kept.now < length all.old.items }
+    ensures { IsMarked (λ w next. HasUsedUp kept.now w next (length kept.now)) all.old.items all.new.items }
 {
     for (node, record) in kept.iter().enumerate() {
         mark_record(all, node, record.entries());
@@ -127,8 +136,9 @@ pub(crate) fn reached_by<const C: usize>(
     requires { most_worker kept.now passes.now ≤ most }
     ensures { IfOk result (λ all. AreTold kept.now passes.now (most + 1) all.items) }
 {
-    let mut all = first_reached(alloc, kept.len(), most)?;
-    follow_passes(kept, &mut all, passes);
+    let turns = Turns::new(alloc, kept)?;
+    let mut all = first_reached(alloc, most)?;
+    follow_passes(&turns, &mut all, passes)?;
     mark_records(kept, &mut all);
     Ok(all)
 }

@@ -1,55 +1,50 @@
 //! Whether receipts tell what records tell.
-ghost use Rattle.std.specs.Prelude.{◌≡◌, ◌↔◌, ◌++◌, ◌∷◌, List, length, true, false};
+ghost use Rattle.std.specs.Prelude.{◌≡◌, ◌↔◌, ◌++◌, ◌∷◌, List, true, false, IfOk};
 ghost use Rattle.hsr_node.specs.declared.entry.Receipt.{Receipt};
 ghost use Rattle.hsr_closing.specs.Next.{AreNext};
+ghost use Rattle.hsr_index.specs.Turns.{place_at};
 
-use crate::next::next_place;
-use hsr_node::{Kept, Receipt};
+use hsr_frame::NoMemory;
+use hsr_index::{Places, Turns};
+use hsr_node::Receipt;
 
 /// Whether a receipt shows the next entry of the worker in its node's record; the node's next place is then behind it.
-#[tactic(auto, using(crate::proofs::Coming::no_node))]
 fn comes_next<const C: usize>(
-    kept: &[Kept<C>],
+    turns: &Turns<'_, C>,
     worker: u16,
-    next: &mut Vec<usize>,
+    next: &mut Places,
     receipt: &Receipt,
-) -> bool
-    requires { length next.old.items ≡ length kept.now }
-    ensures long { length next.new.items ≡ length kept.now }
-    ensures comes { result ≡ true → (rest : List Receipt) → AreNext worker kept.now next.old.items (receipt.now ∷ rest) ↔ AreNext worker kept.now next.new.items rest }
-    ensures wrong { result ≡ false → (rest : List Receipt) → AreNext worker kept.now next.old.items (receipt.now ∷ rest) → ⊥ }
+) -> Result<bool, NoMemory>
+    ensures comes { IfOk result (λ comes. comes ≡ true → (rest : List Receipt) → AreNext worker turns.now (place_at next.old) (receipt.now ∷ rest) ↔ AreNext worker turns.now (place_at next.new) rest) }
+    ensures wrong { IfOk result (λ comes. comes ≡ false → (rest : List Receipt) → AreNext worker turns.now (place_at next.old) (receipt.now ∷ rest) → ⊥) }
 {
     let node = receipt.node;
-    if node >= kept.len() {
-        return false;
+    let place = receipt.place;
+    if !turns.is_next(worker, node, next.at(node), place) {
+        return Ok(false);
     }
-    let entries = kept[node].entries();
-    let Some(place) = next_place(entries, worker, next[node]) else {
-        return false;
-    };
-    if place != receipt.place || !receipt.entry.is_same(&entries[place]) {
-        return false;
+    let record = &turns.kept()[node];
+    if !receipt.entry.is_same(&record.entries()[place]) {
+        return Ok(false);
     }
-    next[node] = place + 1;
-    true
+    next.put(node, place + 1)?;
+    Ok(true)
 }
 
 /// Whether receipts, one after another, each show the next entry of the worker in their node's record.
 pub(crate) fn come_next<const C: usize>(
-    kept: &[Kept<C>],
+    turns: &Turns<'_, C>,
     worker: u16,
-    next: &mut Vec<usize>,
+    next: &mut Places,
     receipts: &[Receipt],
-) -> bool
-    requires { length next.old.items ≡ length kept.now }
-    ensures long { length next.new.items ≡ length kept.now }
-    ensures come { result ≡ true → (rest : List Receipt) → AreNext worker kept.now next.old.items (receipts.now ++ rest) ↔ AreNext worker kept.now next.new.items rest }
-    ensures wrong { result ≡ false → (rest : List Receipt) → AreNext worker kept.now next.old.items (receipts.now ++ rest) → ⊥ }
+) -> Result<bool, NoMemory>
+    ensures come { IfOk result (λ come. come ≡ true → (rest : List Receipt) → AreNext worker turns.now (place_at next.old) (receipts.now ++ rest) ↔ AreNext worker turns.now (place_at next.new) rest) }
+    ensures wrong { IfOk result (λ come. come ≡ false → (rest : List Receipt) → AreNext worker turns.now (place_at next.old) (receipts.now ++ rest) → ⊥) }
 {
     for (i, receipt) in receipts.iter().enumerate() {
-        if !comes_next(kept, worker, next, receipt) {
-            return false;
+        if !comes_next(turns, worker, next, receipt)? {
+            return Ok(false);
         }
     }
-    true
+    Ok(true)
 }

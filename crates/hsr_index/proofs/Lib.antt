@@ -4,3 +4,4 @@ pub mod Counting
 pub mod Indexing
 pub mod Decided
 pub mod Forwards
+pub mod Turning

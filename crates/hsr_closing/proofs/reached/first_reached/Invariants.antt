@@ -6,5 +6,5 @@ use Rattle.hsr_closing.proofs.reached.first_reached.Given as goal
 abbrev pub invariant-loop-worker : goal.invariant-loop-worker
 invariant-loop-worker l = record {
   count : length l.all.items ≡ l.worker;
-  start : AllByRecursion (IsStart l.fn.nodes) l.all.items;
+  start : AllByRecursion IsStart l.all.items;
 }

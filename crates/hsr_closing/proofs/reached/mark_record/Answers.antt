@@ -1,15 +1,16 @@
-use Rattle.std.proofs.Common.{◌≡◌, ℕ, List, [], ap, arith, get_or}
+use Rattle.std.proofs.Common.{◌≡◌, ℕ, [], ap, arith}
 use Rattle.hsr_node.specs.declared.entry.Entry.{Entry}
 use Rattle.hsr_closing.specs.Next.{holds_from}
 use Rattle.hsr_closing.proofs.Idle.{below_in}
-use Rattle.hsr_closing.proofs.Reaching.{IsPassed, marked_as, passed_all}
+use Rattle.hsr_index.specs.Turns.{IsPassed}
+use Rattle.hsr_closing.proofs.Reaching.{marked_as, passed_all}
 use Rattle.hsr_closing.proofs.reached.mark_record.Goals as goal
 
-pub mark_entry-requires-clause-worker : goal.mark_entry-requires-clause-worker
-mark_entry-requires-clause-worker c =
+pub mark_entry-requires : goal.mark_entry-requires
+mark_entry-requires c =
     let low = below_in c.args.entries.now c.loop-place.place c.index-entries-place.result c.loop-place-test.true in
     let is = ap (λ (x : Entry). x.worker) c.index-entries-place.is in
-    let most = c.requires.worker in
+    let most = c.requires in
     let count = c.loop-place.invariant.count in
     omega (arith, low, is, most, count)
 
@@ -19,9 +20,9 @@ returns c =
     let node = c.args.node in
     let past = c.loop-place-test.false in
     let end = c.loop-place.auto.place-end in
-    marked_as (λ (w : ℕ) (next : List ℕ). IsPassed entries w (get_or next node 0) c.loop-place.place) (λ (w : ℕ) (next : List ℕ). holds_from w entries (get_or next node 0) ≡ [])
+    marked_as (λ (w : ℕ) (next : ℕ → ℕ). IsPassed entries w (next node) c.loop-place.place) (λ (w : ℕ) (next : ℕ → ℕ). holds_from w entries (next node) ≡ [])
     c.args.all.now.items c.loop-place.all.items
     (λ w next.
-    let all = passed_all entries w (get_or next node 0) in
+    let all = passed_all entries w (next node) in
     (λ h. all.0 (λ p d below. h p d (omega (arith, below, past))), λ none p d below. all.1 none p d (omega (arith, below, end))))
     c.loop-place.invariant

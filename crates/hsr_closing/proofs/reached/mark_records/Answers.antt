@@ -4,11 +4,11 @@ use Rattle.hsr_closing.specs.Workers.{most_in}
 use Rattle.hsr_closing.proofs.Idle.{below_kept}
 use Rattle.hsr_closing.proofs.reached.mark_records.Goals as goal
 
-pub mark_record-requires-clause-worker : goal.mark_record-requires-clause-worker
-mark_record-requires-clause-worker g c =
+pub mark_record-requires : goal.mark_record-requires
+mark_record-requires g c =
     let low = below_kept c.args.kept.now c.loop-node.node c.index-kept-node.result c.loop-node-test.true in
     let is = ap (λ (r : Record). most_in r.entries) c.index-kept-node.is in
     let here = ap most_in c.entries.ensures.entries in
-    let most = c.requires.worker in
+    let most = c.requires in
     let count = c.loop-node.invariant.count in
     omega (arith, low, is, here, most, count)

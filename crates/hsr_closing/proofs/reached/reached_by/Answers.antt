@@ -1,8 +1,16 @@
-use Rattle.std.proofs.Common.{◌∙◌}
+use Rattle.std.proofs.Common.{◌∙◌, List, [], subst}
+use Rattle.hsr_node.specs.Kept.{Receipts, Record}
+use Rattle.hsr_closing.specs.Reached.{AllFollow}
 use Rattle.hsr_closing.proofs.Reaching.{start_follow, told_all}
 use Rattle.hsr_closing.proofs.reached.reached_by.Goals as goal
 
 pub returns : goal.returns
 returns g c =
-    told_all c.args.kept.now c.args.passes.now _ c.follow_passes.new.all.items c.mark_records.new.all.items (c.follow_passes.ensures.count ∙ c.in_ok-all.ensures.count)
-    (c.follow_passes.ensures.follow c.args.passes.now (start_follow c.args.kept.now c.args.passes.now _ c.in_ok-all.ensures.start)) c.mark_records.ensures
+    let kept = c.args.kept.now in
+    let passes = c.args.passes.now in
+    let old = c.in_ok-all.all.items in
+    let new = c.follow_passes.new.all.items in
+    let Goes : List Record → Type 0 = λ rs. (whole : List Receipts) → AllFollow rs whole passes old → AllFollow rs whole [] new in
+    let goes = subst Goes c.in_ok-turns.ensures c.in_ok-follow_passes.ensures.follow in
+    told_all kept passes _ new c.mark_records.new.all.items (c.in_ok-follow_passes.ensures.count ∙ c.in_ok-all.ensures.count)
+    (goes passes (start_follow kept passes old c.in_ok-all.ensures.start)) c.mark_records.ensures
