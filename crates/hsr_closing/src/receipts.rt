@@ -20,7 +20,8 @@ fn comes_next<const C: usize>(
 {
     let node = receipt.node;
     let place = receipt.place;
-    if !turns.is_next(worker, node, next.at(node), place) {
+    let from = next.at(node);
+    if !turns.is_next(worker, node, from, place) {
         return Ok(false);
     }
     let record = &turns.kept()[node];

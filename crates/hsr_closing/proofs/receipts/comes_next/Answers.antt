@@ -14,13 +14,13 @@ returns-then-not-is_next-clause-wrong g c is rest h =
     let next = is_next c.args.worker kept (place_at c.args.next.now) r rest h in
     let d : Record = one_of kept r.node next.0 in
     let from : ℕ → Type 0 = λ m. IsNext c.args.worker (get_or kept r.node d).entries m r.place in
-    absurd (false≢true ((c.if-not-is_next.ensures.next d).1 (next.0, subst from (sym c.at.ensures) (next.1 d))))
+    absurd (false≢true ((c.if-not-is_next.ensures.next d).1 (next.0, subst from (sym c.at-from.ensures) (next.1 d))))
 
 pub returns-then-not-is_same-clause-wrong : goal.returns-then-not-is_same-clause-wrong
 returns-then-not-is_same-clause-wrong g c is rest h =
     let e = c.index-kept-node.result in
     let next = (c.if-not-is_next.ensures.next e).0 refl in
-    let there = read_at c.args.turns.now c.args.receipt.now c.kept.result.now e c.entries.result.now c.index-entries-place.result c.at.result c.args.worker next.0 next.1 c.kept.ensures c.index-kept-node.is
+    let there = read_at c.args.turns.now c.args.receipt.now c.kept.result.now e c.entries.result.now c.index-entries-place.result c.at-from.result c.args.worker next.0 next.1 c.kept.ensures c.index-kept-node.is
     c.entries.ensures.entries c.index-entries-place.is in
     absurd (false≢true (c.if-not-is_same.ensures.1 (one_entry h.shown.0 there)))
 
@@ -30,10 +30,10 @@ returns-clause-comes g c is rest =
     let r = c.args.receipt.now in
     let e = c.index-kept-node.result in
     let next = (c.if-not-is_next.ensures.next e).0 refl in
-    let there = read_at kept r c.kept.result.now e c.entries.result.now c.index-entries-place.result c.at.result c.args.worker next.0 next.1 c.kept.ensures c.index-kept-node.is c.entries.ensures.entries
+    let there = read_at kept r c.kept.result.now e c.entries.result.now c.index-entries-place.result c.at-from.result c.args.worker next.0 next.1 c.kept.ensures c.index-kept-node.is c.entries.ensures.entries
     c.index-entries-place.is in
     next_more c.args.worker kept (place_at c.args.next.now) (place_at c.put.new.self) r (there ∙ ap Some (sym (c.if-not-is_same.ensures.0 refl)))
     (λ d.
     let from : ℕ → Type 0 = λ m. IsNext c.args.worker (get_or kept r.node d).entries m r.place in
-    subst from c.at.ensures ((c.if-not-is_next.ensures.next d).0 refl).1)
+    subst from c.at-from.ensures ((c.if-not-is_next.ensures.next d).0 refl).1)
     c.in_ok-put.ensures rest
