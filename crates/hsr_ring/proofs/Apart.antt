@@ -1,7 +1,7 @@
 -- Links apart from their rows are the same links with them again.
-use Rattle.std.proofs.Common.{◌≡◌, List, [], ◌∷◌, ◌++◌, map, refl, ap, ap₂, ◌∙◌, sym, subst}
+use Rattle.std.proofs.Common.{◌≡◌, List, [], ◌∷◌, ◌++◌, map, refl, ap, ap₂, ◌∙◌}
 use Rattle.hsr_link.specs.declared.row.Row.{Row}
-use Rattle.hsr_ring.specs.Parting.{AreWhole, Bare, bare_of, joined, rows_in, whole}
+use Rattle.hsr_ring.specs.Parting.{AreWhole, Bare, bare_of, joined, rows_in}
 use Rattle.hsr_world.specs.Spans.{Span}
 
 -- one more element is moved

@@ -17,7 +17,7 @@ use Rattle.hsr_node.specs.declared.event.StepFault.TheVariants as refused
 use Rattle.hsr_node.specs.declared.place.Place.{Place}
 use Rattle.hsr_node.specs.declared.place.Place.TheVariants.{QuadBox}
 use Rattle.hsr_ring.specs.Entering.{IsEntered, IsNotEntered, IsRefusal, IsStepped, IsThere, IsUnplanned, answer_in, past_in, places_of, world_fault}
-use Rattle.hsr_ring.specs.Giving.{emptied_span, given_lane, given_span, receipt_of}
+use Rattle.hsr_ring.specs.Giving.{given_lane, given_span, receipt_of}
 use Rattle.hsr_world.specs.Spans.{Span, emptied, held_in, lanes_of, on_lanes, spread}
 use Rattle.hsr_ring.specs.Views.{AreNumbered, span_view, world_of}
 use Rattle.hsr_world.specs.World.{World, added, and_added, cleared, entered, judged_at, planned}
@@ -112,7 +112,7 @@ same_place old new n d below places =
 
 -- ---- the world
 
-map_given : (place : Place) (receipt : Receipt) (spans : List code.Span) → map (given_span place receipt) spans ≡ map (on_lanes (given_lane place receipt)) (map span_view spans)
+pub map_given : (place : Place) (receipt : Receipt) (spans : List code.Span) → map (given_span place receipt) spans ≡ map (on_lanes (given_lane place receipt)) (map span_view spans)
 map_given place receipt [] = refl
 map_given place receipt (x ∷ spans) = ap (λ (ls : List Span). given_span place receipt x ∷ ls) (map_given place receipt spans)
 
@@ -146,10 +146,6 @@ unplanned w planned_w refused_w after n event is same undo =
     ∙ ap (λ (v : World). record v { plan = w.plan }) all
 
 -- ---- what is held
-
-pub map_emptied : (end : End) (spans : List code.Span) → map (emptied_span end) spans ≡ map (on_lanes (emptied end)) (map span_view spans)
-map_emptied end [] = refl
-map_emptied end (x ∷ spans) = ap (λ (ls : List Span). emptied_span end x ∷ ls) (map_emptied end spans)
 
 spread_emptied : (end : End) (owner : Owner) (x : Entry) (past : List Entry) (spans : List Span) →
     map (on_lanes (spread owner x past)) (map (on_lanes (emptied end)) spans) ≡ map (on_lanes (emptied end)) (map (on_lanes (spread owner x past)) spans)

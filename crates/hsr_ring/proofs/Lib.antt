@@ -1,5 +1,4 @@
 pub mod Places
-pub mod Loops
 pub mod Tried
 pub mod Entered
 pub mod Started
@@ -10,3 +9,4 @@ pub mod Looked
 pub mod Stopped
 pub mod Apart
 pub mod Ending
+pub mod Touched

@@ -35,6 +35,8 @@ use Rattle.hsr_step.specs.declared.step.WorldFault.TheVariants.{NoSuchLink, NoSu
 use Rattle.hsr_law.specs.Run.{no_end}
 use Rattle.hsr_world.specs.Reached.{IsReached}
 use Rattle.hsr_world.proofs.Reached.{reached-step}
+use Rattle.hsr_ring.specs.Touching.{AreTouching}
+use Rattle.hsr_ring.proofs.Touched.{still_touching}
 use Rattle.hsr_ring.proofs.Ports.{AreSame, Ends, ends_at, is_there, keeps_ends, out_there, port_of_number, spot_from_leads, spot_to_leads, told_same}
 
 -- ---- one span, before and after a step, as the ports and the direction of a number see it where the step doesn't touch them
@@ -370,12 +372,13 @@ looked_at capacity w after list step old new done told p look = record {
     alikes k = subst (λ (v : World). Untouched w list step k v) is_after (untouched capacity w list k told step)
 
 -- a step that was done
-pub kept_done : (capacity : ℕ) (places : List Place) (links : List (List End)) (list : List Port) (w after : World) (step : Step) (old new : Pending) → tried capacity w step ≡ Ok after →
-    FitsStep step → AreLooked list after.spans step old new → IsKept capacity places links list old w → IsKept capacity places links list new after
-kept_done capacity places links list w after step old new done fit look k = record {
+pub kept_done : (capacity : ℕ) (places : List Place) (links : List (List End)) (list : List Port) (touching : List (List ℕ)) (w after : World) (step : Step) (old new : Pending) → tried capacity w step ≡ Ok after →
+    FitsStep step → AreLooked list after.spans step old new → IsKept capacity places links list touching old w → IsKept capacity places links list touching new after
+kept_done capacity places links list touching w after step old new done fit look k = record {
   reached = reached-step capacity places links w after step done fit k.reached;
   few = subst (λ (n : ℕ). n ≤ 128) (sym long) k.few;
   told = told_same after w list same k.told;
+  touched = still_touching after w touching same k.touched;
   pending = looked_at capacity w after list step old new done k.told k.pending look;
 }
   where
@@ -438,12 +441,13 @@ first_pending room links list left p = record {
     nothing Forth = refl
     nothing Back = refl
 
-pub kept_new : (capacity room : ℕ) (places : List Place) (links : List (List End)) (list : List Port) (left : Pending) → IsReached capacity places links (new_world room places links) →
-    length places ≤ 64 → length links ≤ 128 → list ≡ ports_in places (map (new_span room) links) → ArePending [] [] left →
-    IsKept capacity places links list left (new_world room places links)
-kept_new capacity room places links list left reached few_places few_links told p = record {
+pub kept_new : (capacity room : ℕ) (places : List Place) (links : List (List End)) (list : List Port) (touching : List (List ℕ)) (left : Pending) → IsReached capacity places links (new_world room places links) →
+    length places ≤ 64 → length links ≤ 128 → list ≡ ports_in places (map (new_span room) links) →
+    AreTouching places (map (new_span room) links) touching → ArePending [] [] left → IsKept capacity places links list touching left (new_world room places links)
+kept_new capacity room places links list touching left reached few_places few_links told by p = record {
   reached = reached;
   few = let long = length-map links (new_span room) in omega (arith, long, few_links);
   told = record { few = few_places; is = told };
+  touched = by;
   pending = first_pending room links list left p;
 }

@@ -79,7 +79,7 @@ port_same places v w e k = by_fault (port_fault places (k / 8) (k % 8))
         let out : spot_from end 0 v ≡ spot_from end 0 w = from_told end 0 v ∙ (ap (from_by end 0) e ∙ sym (from_told end 0 w)) in
         λ i. record { into = option_map spot_code (into i); out = option_map spot_code (out i) }
 
-map_same : {X Y : Type 0} (f g : X → Y) → ((x : X) → f x ≡ g x) → (xs : List X) → map f xs ≡ map g xs
+pub map_same : {X Y : Type 0} (f g : X → Y) → ((x : X) → f x ≡ g x) → (xs : List X) → map f xs ≡ map g xs
 map_same f g h [] = refl
 map_same f g h (x ∷ xs) = ap₂ (λ y ys. y ∷ ys) (h x) (map_same f g h xs)
 
@@ -89,7 +89,7 @@ pub record AreSame (v w : World) : Type 0 where
   pub places : v.places ≡ w.places
   pub ends : map ends_at v.spans ≡ map ends_at w.spans
 
-same : (w : World) → AreSame w w
+pub same : (w : World) → AreSame w w
 same w = record { places = refl; ends = refl }
 
 same_span : (w : World) (l : ℕ) (span : Span) → ends_at span ≡ ends_at (span_at w l) → AreSame (with_span w l span) w
@@ -108,7 +108,7 @@ guarded w true r f met = met
 guarded w false r f met = same w
 
 -- an event at a node, in a world with the same ends
-same_entered : (capacity : ℕ) (v w : World) (worker n : ℕ) (event : Event) → AreSame v w → AreSame (or_same w (entered capacity v worker n event)) w
+pub same_entered : (capacity : ℕ) (v w : World) (worker n : ℕ) (event : Event) → AreSame v w → AreSame (or_same w (entered capacity v worker n event)) w
 same_entered capacity v w worker n event s = by_case (answer capacity (owner_at v n) (record_at v n) (max (now (record_at v n)) v.moment) event)
   where
     by_case : (r : Result Outcome StepFault) → AreSame (or_same w (and_added v worker n event r)) w

@@ -1,5 +1,5 @@
 -- What a new entry gives to the lanes of the code, and the room that it needs.
-use Rattle.std.specs.Prelude.{ℕ, ◌==◌, ◌≡◌, ◌<◌, ◌≤◌, true, List, [], ◌++◌, if◌then◌else◌, option_map, option_to_list, vec_capacity}
+use Rattle.std.specs.Prelude.{ℕ, ◌==◌, ◌≡◌, ◌<◌, ◌≤◌, true, List, [], ◌++◌, if◌then◌else◌, option_map, option_to_list, vec_capacity, length, slice_index_or}
 use Rattle.std.specs.VecDeque.{deque_len, deque_capacity}
 use Rattle.hsr_frame.specs.Layout.{max_frame}
 use Rattle.hsr_topology.specs.declared.end.End.{End}
@@ -45,6 +45,13 @@ IsReady node lane = (lane.from.node == node) ≡ true → HasRoom lane
 pub record IsSpanReady (node : ℕ) (span : code.Span) : Type 0 where
   pub forth : IsReady node span.forth
   pub back : IsReady node span.back
+
+-- so has it at each of these links
+abbrev pub IsReadyAt : ℕ → List ℕ → List code.Span → ℕ → Type 0
+IsReadyAt node links spans j = (d : code.Span) → IsSpanReady node (slice_index_or spans (slice_index_or links j 0) d)
+
+abbrev pub AreReady : ℕ → List ℕ → List code.Span → Type 0
+AreReady node links spans = (j : ℕ) → j < length links → IsReadyAt node links spans j
 
 -- what a port holds leaves its hand
 abbrev pub emptied_span : End → code.Span → Span

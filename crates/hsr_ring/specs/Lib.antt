@@ -8,3 +8,4 @@ pub mod Ports
 pub mod Pending
 pub mod Parting
 pub mod Ending
+pub mod Touching

@@ -11,6 +11,7 @@ use Rattle.hsr_world.specs.World.{World, span_in}
 use Rattle.hsr_numbers.specs.Numbers.{IsLowest, has}
 use Rattle.hsr_ring.specs.Views.{spot_view}
 use Rattle.hsr_ring.specs.Ports.{dir_at, end_at, is_held, is_ready, is_waiting, AreTold, port_of}
+use Rattle.hsr_ring.specs.Touching.{AreTouching}
 use Rattle.hsr_ring.specs.declared.pending.Pending.{Pending}
 use Rattle.hsr_ring.specs.declared.port.Port.{Port}
 use Rattle.hsr_step.specs.declared.step.Step.{Step}
@@ -122,8 +123,9 @@ pub record IsNext (pending : Pending) (step : Option Step) : Type 0 where
   pub is : IsJudgeOr pending held step
 
 -- a world that was reached, with its ports and what is left to do
-pub record IsKept (capacity : ℕ) (places : List Place) (links : List (List End)) (ports : List Port) (left : Pending) (w : World) : Type 0 where
+pub record IsKept (capacity : ℕ) (places : List Place) (links : List (List End)) (ports : List Port) (touching : List (List ℕ)) (left : Pending) (w : World) : Type 0 where
   pub reached : IsReached capacity places links w
   pub few : length w.spans ≤ 128
   pub told : AreTold w.places w.spans ports
+  pub touched : AreTouching w.places w.spans touching
   pub pending : ArePending ports w.spans left

@@ -2,6 +2,7 @@
 ghost use Rattle.std.specs.Prelude.{◌≡◌, ◌⊎◌, ◌<◌, IfErr, IfOk, OnOk, length, map, slice_index_or};
 ghost use Rattle.hsr_ring.specs.Entering.{IsEntered, IsNotEntered, IsRefusal, IsStepped, IsThere, world_fault};
 ghost use Rattle.hsr_ring.specs.Giving.{receipt_of};
+ghost use Rattle.hsr_ring.specs.Touching.{touching_from};
 ghost use Rattle.hsr_ring.specs.Views.{AreNumbered, span_view};
 ghost use Rattle.hsr_step.specs.declared.step.WorldFault.TheVariants.{NoMemory};
 
@@ -50,11 +51,13 @@ fn entry_at<const C: usize>(kept: &Kept<C>, place: usize) -> &Entry
     &kept.entries()[place]
 }
 
-/// Lets an event happen at a node, whose copies join the outboxes of its ports. A refusal hands the event back.
+/// Lets an event happen at a node, which these links touch, and whose copies join the outboxes of its ports. A refusal hands the
+/// event back.
 pub(crate) fn enter<const C: usize>(
     alloc: Global,
     nodes: &mut [Kept<C>],
     spans: &mut [Span],
+    links: &[usize],
     node: usize,
     worker: u16,
     at: u64,
@@ -62,11 +65,12 @@ pub(crate) fn enter<const C: usize>(
 ) -> Result<(), (Event, WorldFault)>
     requires below { node < length nodes.old }
     requires numbered { AreNumbered nodes.old }
+    requires touching { links.now ≡ touching_from node 0 (map span_view spans.old) }
     ensures numbered { AreNumbered nodes.new }
     ensures ok { OnOk result (IsEntered C worker node at event nodes.old nodes.new (map span_view spans.old) (map span_view spans.new)) }
     ensures err { IfErr result (λ e. (nodes.new ≡ nodes.old) × (map span_view spans.new ≡ map span_view spans.old) × (e.0 ≡ event) × ((e.1 ≡ NoMemory) ⊎ IsNotEntered C worker node at event nodes.old (map span_view spans.old) e.1)) }
 {
-    if prepare(spans, node).is_err() {
+    if prepare(spans, links, node).is_err() {
         return Err((event, WorldFault::NoMemory));
     }
     let place = match step_at(nodes, node, worker, at, event) {
@@ -75,6 +79,13 @@ pub(crate) fn enter<const C: usize>(
     };
     let kept = &nodes[node];
     let here = Probe { node, place };
-    commit(alloc, spans, kept.place(), here, entry_at(kept, place));
+    commit(
+        alloc,
+        spans,
+        links,
+        kept.place(),
+        here,
+        entry_at(kept, place),
+    );
     Ok(())
 }

@@ -1,6 +1,7 @@
 //! What a new entry of a node gives to the spans.
-ghost use Rattle.std.specs.Prelude.{◌≡◌, All, OnOk, map};
-ghost use Rattle.hsr_ring.specs.Giving.{IsSpanReady, given_span, receipt_of};
+ghost use Rattle.std.specs.Prelude.{◌≡◌, OnOk, length, map};
+ghost use Rattle.hsr_ring.specs.Giving.{AreReady, IsSpanReady, given_span, receipt_of};
+ghost use Rattle.hsr_ring.specs.Touching.{AreRising, touching_from};
 ghost use Rattle.hsr_ring.specs.Views.{span_view};
 
 use crate::lane::{commit_lane, prepare_lane};
@@ -25,23 +26,33 @@ fn commit_span(alloc: Global, span: &mut Span, place: &Place, here: Probe, entry
     commit_lane(alloc, &mut span.back, place, here, entry);
 }
 
-/// Makes room for one more copy wherever a node sends.
-pub(crate) fn prepare(spans: &mut [Span], node: usize) -> Result<(), NoMemory>
+/// Makes room for one more copy wherever a node sends at these links.
+pub(crate) fn prepare(spans: &mut [Span], links: &[usize], node: usize) -> Result<(), NoMemory>
+    requires { AreRising (length spans.old) links.now }
     ensures view { map span_view spans.new ≡ map span_view spans.old }
-    ensures ready { OnOk result (All (IsSpanReady node) spans.new) }
+    ensures ready { OnOk result (AreReady node links.now spans.new) }
 {
-    for span in spans.iter_mut() {
-        prepare_span(span, node)?;
+    for link in links.iter() {
+        prepare_span(&mut spans[*link], node)?;
     }
     Ok(())
 }
 
-/// The copies of an entry join the outboxes of the ports that they left by; `here` names the entry.
-pub(crate) fn commit(alloc: Global, spans: &mut [Span], place: &Place, here: Probe, entry: &Entry)
-    requires { All (IsSpanReady here.node) spans.old }
+/// The copies of an entry join the outboxes of the ports that they left by, at the links that touch its node; `here` names the
+/// entry.
+pub(crate) fn commit(
+    alloc: Global,
+    spans: &mut [Span],
+    links: &[usize],
+    place: &Place,
+    here: Probe,
+    entry: &Entry,
+)
+    requires touching { links.now ≡ touching_from here.node 0 (map span_view spans.old) }
+    requires ready { AreReady here.node links.now spans.old }
     ensures { map span_view spans.new ≡ map (given_span place.now (receipt_of here entry.now)) spans.old }
 {
-    for span in spans.iter_mut() {
-        commit_span(alloc, span, place, here, entry);
+    for link in links.iter() {
+        commit_span(alloc, &mut spans[*link], place, here, entry);
     }
 }

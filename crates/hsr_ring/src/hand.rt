@@ -2,6 +2,7 @@
 ghost use Rattle.std.specs.Prelude.{◌≡◌, map, option_map};
 ghost use Rattle.hsr_ring.specs.Giving.{emptied_span};
 ghost use Rattle.hsr_ring.specs.Hands.{hand_in, handed, with_hand};
+ghost use Rattle.hsr_ring.specs.Touching.{touching_from};
 ghost use Rattle.hsr_world.specs.Spans.{emptied, lane_of, on_lanes};
 ghost use Rattle.hsr_ring.specs.Views.{lane_view, span_view, spot_view};
 
@@ -54,11 +55,12 @@ fn clear_span(span: &mut Span, end: End)
     clear_lane(&mut span.back, end);
 }
 
-/// What the port at an end holds leaves its hand.
-pub(crate) fn clear(spans: &mut [Span], end: End)
+/// What the port at an end holds leaves its hand, at the links that touch its node.
+pub(crate) fn clear(spans: &mut [Span], links: &[usize], end: End)
+    requires { links.now ≡ touching_from end.node 0 (map span_view spans.old) }
     ensures { map span_view spans.new ≡ map (on_lanes (emptied end)) (map span_view spans.old) }
 {
-    for span in spans.iter_mut() {
-        clear_span(span, end);
+    for link in links.iter() {
+        clear_span(&mut spans[*link], end);
     }
 }

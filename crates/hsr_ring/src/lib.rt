@@ -9,6 +9,7 @@
 //! - `giving`: what a new entry of a node gives to the spans
 //! - `entering`: an event that a worker brings to a node
 //! - `pending`: what is left to do, and what a drain does next
+//! - `touching`: the links that touch a node
 //! - `starting`: what a world begins with
 //! - `parting`: links apart from their rows, and with them again
 //! - `closing`: what a world hands over where it is closed
@@ -30,6 +31,7 @@ mod running;
 mod span;
 mod spot;
 mod starting;
+mod touching;
 mod world;
 
 pub use hsr_step::{DrainFault, Step, WorldFault};

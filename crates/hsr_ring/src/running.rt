@@ -2,6 +2,7 @@
 ghost use Rattle.std.specs.Prelude.{◌≡◌, ◌⊎◌, ◌<◌, ◌≤◌, Ok, Err, OnOk, IfErr, IfNone, IfOk, map, length, option_map, reverse};
 ghost use Rattle.hsr_ring.specs.Views.{in_world, port_fault, put_at_spot, spot_view};
 ghost use Rattle.hsr_ring.specs.Ports.{AreTold};
+ghost use Rattle.hsr_ring.specs.Touching.{AreTouching, touching_from, touching_in};
 ghost use Rattle.hsr_ring.specs.Entering.{IsUnplanned};
 ghost use Rattle.hsr_node.specs.Kept.{Record};
 ghost use Rattle.hsr_world.specs.World.{port_worker};
@@ -14,6 +15,7 @@ use crate::port::{Port, new_ports, port_fault, port_of};
 use crate::span::{Span, cut_at, inject_at, mend_at, take_at};
 use crate::spot::{Spot, put_at_spot};
 use crate::starting::{new_nodes, new_spans};
+use crate::touching::{new_touching, touching_of};
 use hsr_closing::{CheckFault, Closed, Planned};
 use hsr_frame::{About, Counters, Mac};
 use hsr_link::{Dir, Row};
@@ -175,14 +177,16 @@ impl<const C: usize> Running<C> {
         self.put_out(port_of(ports, End { node, port }).out)
     }
 
-    /// Lets an event happen at a node; a refusal hands it back.
+    /// Lets an event happen at a node, which these links touch; a refusal hands it back.
     fn enter_at(
         &mut self,
+        links: &[usize],
         node: usize,
         worker: u16,
         event: Event,
     ) -> Result<(), (Event, WorldFault)>
-        requires { node < length self.old.places }
+        requires below { node < length self.old.places }
+        requires touching { links.now ≡ touching_from node 0 self.old.spans }
         ensures ok { OnOk result (entered C self.old worker node event ≡ Ok self.new) }
         ensures err { IfErr result (λ e. (self.new ≡ self.old) × (e.0 ≡ event) × ((e.1 ≡ NoMemory) ⊎ (entered C self.old worker node event ≡ Err e.1))) }
     {
@@ -191,6 +195,7 @@ impl<const C: usize> Running<C> {
             self.alloc,
             &mut self.nodes,
             &mut self.spans,
+            links,
             node,
             worker,
             at,
@@ -221,7 +226,13 @@ impl<const C: usize> Running<C> {
         let _last = self.plan.pop();
     }
 
-    fn by_main(&mut self, node: usize, event: Event) -> Result<(), WorldFault>
+    fn by_main(
+        &mut self,
+        touching: &[Vec<usize>],
+        node: usize,
+        event: Event,
+    ) -> Result<(), WorldFault>
+        requires { AreTouching self.old.places self.old.spans (map (λ links. links.items) touching.now) }
         ensures ok { OnOk result (by_main C self.old node event ≡ Ok self.new) }
         ensures err { IfErr result (λ f. (self.new ≡ self.old) × ((f ≡ NoMemory) ⊎ (by_main C self.old node event ≡ Err f))) }
     {
@@ -232,7 +243,7 @@ impl<const C: usize> Running<C> {
             Ok(()) => {}
             Err(fault) => return Err(fault),
         }
-        match self.enter_at(node, 0, event) {
+        match self.enter_at(touching_of(touching, node), node, 0, event) {
             Ok(()) => Ok(()),
             Err((_event, fault)) => {
                 self.plan_no_more();
@@ -257,14 +268,22 @@ impl<const C: usize> Running<C> {
         }
     }
 
-    fn clear_at(&mut self, end: End)
+    fn clear_at(&mut self, links: &[usize], end: End)
+        requires { links.now ≡ touching_from end.node 0 self.old.spans }
         ensures { self.new ≡ cleared self.old end }
     {
-        clear(&mut self.spans, end);
+        clear(&mut self.spans, links, end);
     }
 
-    fn judge(&mut self, ports: &[Port], node: usize, port: u8) -> Result<(), WorldFault>
-        requires { AreTold self.old.places self.old.spans ports.now }
+    fn judge(
+        &mut self,
+        ports: &[Port],
+        touching: &[Vec<usize>],
+        node: usize,
+        port: u8,
+    ) -> Result<(), WorldFault>
+        requires told { AreTold self.old.places self.old.spans ports.now }
+        requires touching { AreTouching self.old.places self.old.spans (map (λ links. links.items) touching.now) }
         ensures ok { OnOk result (tried C self.old (Judge node port) ≡ Ok self.new) }
         ensures err { IfErr result (λ f. (self.new ≡ self.old) × ((f ≡ NoMemory) ⊎ (tried C self.old (Judge node port) ≡ Err f))) }
     {
@@ -273,12 +292,18 @@ impl<const C: usize> Running<C> {
         }
         let end = End { node, port };
         let spot = port_of(ports, end).into;
+        let links = touching_of(touching, node);
         let Some(carried) = self.change_hand(spot, None) else {
             return Err(WorldFault::Nothing);
         };
-        match self.enter_at(node, port_worker(end), Event::Arrive { port, carried }) {
+        match self.enter_at(
+            links,
+            node,
+            port_worker(end),
+            Event::Arrive { port, carried },
+        ) {
             Ok(()) => {
-                self.clear_at(end);
+                self.clear_at(links, end);
                 Ok(())
             }
             Err((event, fault)) => {
@@ -289,24 +314,32 @@ impl<const C: usize> Running<C> {
     }
 
     #[tactic(auto, unfolding(hsr_world::specs::World::tried))]
-    fn age(&mut self, node: usize) -> Result<(), WorldFault>
+    fn age(&mut self, touching: &[Vec<usize>], node: usize) -> Result<(), WorldFault>
+        requires { AreTouching self.old.places self.old.spans (map (λ links. links.items) touching.now) }
         ensures ok { OnOk result (tried C self.old (Age node) ≡ Ok self.new) }
         ensures err { IfErr result (λ f. (self.new ≡ self.old) × ((f ≡ NoMemory) ⊎ (tried C self.old (Age node) ≡ Err f))) }
     {
-        self.by_main(node, Event::Age)
+        self.by_main(touching, node, Event::Age)
     }
 
     #[tactic(auto, unfolding(hsr_world::specs::World::tried))]
-    fn supervise(&mut self, node: usize, about: About) -> Result<(), WorldFault>
+    fn supervise(
+        &mut self,
+        touching: &[Vec<usize>],
+        node: usize,
+        about: About,
+    ) -> Result<(), WorldFault>
+        requires { AreTouching self.old.places self.old.spans (map (λ links. links.items) touching.now) }
         ensures ok { OnOk result (tried C self.old (Supervise node about) ≡ Ok self.new) }
         ensures err { IfErr result (λ f. (self.new ≡ self.old) × ((f ≡ NoMemory) ⊎ (tried C self.old (Supervise node about) ≡ Err f))) }
     {
-        self.by_main(node, Event::Supervise(about))
+        self.by_main(touching, node, Event::Supervise(about))
     }
 
     #[tactic(auto, unfolding(hsr_world::specs::World::tried))]
     fn send(
         &mut self,
+        touching: &[Vec<usize>],
         node: usize,
         from: u8,
         dst: Mac,
@@ -314,6 +347,7 @@ impl<const C: usize> Running<C> {
         kind: u16,
         payload: &Octets,
     ) -> Result<(), WorldFault>
+        requires { AreTouching self.old.places self.old.spans (map (λ links. links.items) touching.now) }
         ensures ok { OnOk result (tried C self.old (Send node from dst vlan kind payload.now) ≡ Ok self.new) }
         ensures err { IfErr result (λ f. (self.new ≡ self.old) × ((f ≡ NoMemory) ⊎ (tried C self.old (Send node from dst vlan kind payload.now) ≡ Err f))) }
     {
@@ -321,6 +355,7 @@ impl<const C: usize> Running<C> {
             return Err(WorldFault::NoMemory);
         };
         self.by_main(
+            touching,
             node,
             Event::Send {
                 from,
@@ -332,9 +367,15 @@ impl<const C: usize> Running<C> {
         )
     }
 
-    /// Does a step, exactly as `tried` says, in a world with these ports; a refusal changes nothing.
-    pub(crate) fn step(&mut self, ports: &[Port], step: &Step) -> Result<(), WorldFault>
-        requires { AreTold self.old.places self.old.spans ports.now }
+    /// Does a step, exactly as `tried` says, in a world with these ports, whose nodes these links touch; a refusal changes nothing.
+    pub(crate) fn step(
+        &mut self,
+        ports: &[Port],
+        touching: &[Vec<usize>],
+        step: &Step,
+    ) -> Result<(), WorldFault>
+        requires told { AreTold self.old.places self.old.spans ports.now }
+        requires touching { AreTouching self.old.places self.old.spans (map (λ links. links.items) touching.now) }
         ensures ok { OnOk result (tried C self.old step.now ≡ Ok self.new) }
         ensures err { IfErr result (λ f. (self.new ≡ self.old) × ((f ≡ NoMemory) ⊎ (tried C self.old step.now ≡ Err f))) }
     {
@@ -350,12 +391,12 @@ impl<const C: usize> Running<C> {
                 vlan,
                 kind,
                 payload,
-            } => self.send(*node, *from, *dst, *vlan, *kind, payload),
-            Step::Supervise { node, about } => self.supervise(*node, *about),
-            Step::Age { node } => self.age(*node),
+            } => self.send(touching, *node, *from, *dst, *vlan, *kind, payload),
+            Step::Supervise { node, about } => self.supervise(touching, *node, *about),
+            Step::Age { node } => self.age(touching, *node),
             Step::Put { node, port } => self.put(ports, *node, *port),
             Step::Take { link, dir } => self.take(*link, *dir),
-            Step::Judge { node, port } => self.judge(ports, *node, *port),
+            Step::Judge { node, port } => self.judge(ports, touching, *node, *port),
             Step::Cut { link } => self.cut(*link),
             Step::Mend { link } => self.mend(*link),
             Step::Inject { link, dir, octets } => self.inject(*link, *dir, octets),
@@ -412,6 +453,13 @@ impl<const C: usize> Running<C> {
         ensures { IfOk result (λ ports. ports.items ≡ ports_in self.now.places self.now.spans) }
     {
         new_ports(self.alloc, &self.nodes, &self.spans)
+    }
+
+    /// The links that touch each node.
+    pub(crate) fn touching(&self) -> Result<Vec<Vec<usize>>, hsr_frame::NoMemory>
+        ensures { IfOk result (λ all. map (λ links. links.items) all.items ≡ touching_in (length self.now.places) self.now.spans) }
+    {
+        new_touching(self.alloc, self.nodes.len(), &self.spans)
     }
 
     /// Looks at what a step may have changed of what is left to do.

@@ -22,10 +22,12 @@ pub struct World<const C: usize> {
     topology: Topology,
     running: Running<C>,
     ports: Vec<Port>,
+    touching: Vec<Vec<usize>>,
     pending: Pending,
 }
 
 impl<const C: usize> Model for World<C> {
+    ghost use Rattle.std.specs.Prelude.{map};
     ghost use Rattle.hsr_ring.specs.Pending.{IsKept};
     ghost use Rattle.hsr_world.specs.World.{World};
 
@@ -33,7 +35,7 @@ impl<const C: usize> Model for World<C> {
 
     ghost view = { λ w. w.running };
 
-    ghost invariant = { λ w. IsKept C w.topology.places w.topology.links w.ports.items w.pending w.running };
+    ghost invariant = { λ w. IsKept C w.topology.places w.topology.links w.ports.items (map (λ links. links.items) w.touching.items) w.pending w.running };
 }
 
 impl<const C: usize> World<C> {
@@ -54,10 +56,12 @@ impl<const C: usize> World<C> {
         places_fit(topology.places());
         let running = Running::new(alloc, &topology, capacity)?;
         let ports = running.ports()?;
+        let touching = running.touching()?;
         Ok(World {
             topology,
             running,
             ports,
+            touching,
             pending: Pending::new(),
         })
     }
@@ -68,7 +72,7 @@ impl<const C: usize> World<C> {
         ensures err { IfErr result (λ f. (self.new ≡ self.old) × ((f ≡ NoRoom) ⊎ (tried C self.old step.now ≡ Err f))) }
     {
         step_fits(step);
-        match self.running.step(&self.ports, step) {
+        match self.running.step(&self.ports, &self.touching, step) {
             Ok(()) => {
                 self.running.look(&self.ports, step, &mut self.pending);
                 Ok(())
@@ -182,6 +186,7 @@ impl<const C: usize> World<C> {
             topology,
             running,
             ports,
+            touching,
             pending,
         } = self;
         match running.close(topology) {
@@ -191,6 +196,7 @@ impl<const C: usize> World<C> {
                     topology,
                     running,
                     ports,
+                    touching,
                     pending,
                 },
                 fault,

@@ -1,8 +1,5 @@
-use Rattle.std.proofs.Common.{◌≡◌, ◌∙◌, List, Vec, map, ap}
-use Rattle.std.specs.Global.{Global}
-use Rattle.hsr_link.specs.declared.row.Row.{Row}
+use Rattle.std.proofs.Common.{◌≡◌, ◌∙◌, map, ap}
 use Rattle.hsr_closing.specs.Finished.{items_of}
-use Rattle.hsr_ring.specs.Parting.{bare_view}
 use Rattle.hsr_ring.specs.Views.{span_view}
 use Rattle.hsr_ring.proofs.Apart.{joined_again, whole_again}
 use Rattle.hsr_ring.proofs.closing.closed_of.Goals as goal

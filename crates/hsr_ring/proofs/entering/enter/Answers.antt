@@ -4,6 +4,7 @@ use Rattle.hsr_world.specs.Spans.{Span}
 use Rattle.hsr_ring.specs.Giving.{given_span, receipt_of}
 use Rattle.hsr_ring.specs.Views.{world_of}
 use Rattle.hsr_ring.proofs.Entered.{entered_ok, same_place}
+use Rattle.hsr_ring.proofs.Touched.{rising_of}
 use Rattle.hsr_ring.proofs.entering.enter.Goals as goal
 
 pub entry_at-requires : goal.entry_at-requires
@@ -21,3 +22,6 @@ returns-clause-ok g c = λ plan.
     c.prepare.ensures.view plan
     ∙ ap (λ (spans : List Span). Ok (world_of c.args.at c.step_at.new.nodes spans plan))
     (ap (λ (y : Entry). map (given_span c.place.result.now (receipt_of (record { node = c.args.node; place = c.in-Ok.answer.place }) y)) c.prepare.new.spans) (sym is) ∙ sym c.commit.ensures)
+
+pub prepare-requires : goal.prepare-requires
+prepare-requires g c = rising_of c.args.node c.args.spans.now c.args.links.now c.requires.touching

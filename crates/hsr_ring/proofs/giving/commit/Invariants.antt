@@ -1,11 +1,15 @@
-use Rattle.std.proofs.Common.{◌≡◌, map}
-use Rattle.hsr_ring.specs.Giving.{IsSpanReady, given_span, receipt_of}
+use Rattle.std.proofs.Common.{◌≡◌, ◌≤◌, ◌<◌, ℕ, drop, map, length}
+use Rattle.hsr_ring.specs.Giving.{IsReadyAt, given_lane, receipt_of}
+use Rattle.hsr_ring.specs.Touching.{at_each}
 use Rattle.hsr_ring.specs.Views.{span_view}
-use Rattle.hsr_ring.proofs.Loops.{half_done, AllFrom}
+use Rattle.hsr_world.specs.Spans.{on_lanes}
 use Rattle.hsr_ring.proofs.giving.commit.Given as goal
 
-abbrev pub invariant-loop-span : goal.invariant-loop-span
-invariant-loop-span l = record {
-  done : half_done span_view (given_span l.place (receipt_of l.here l.entry)) l.span-index l.spans ≡ map (given_span l.place (receipt_of l.here l.entry)) l.fn.spans;
-  ready : AllFrom (IsSpanReady l.here.node) l.span-index l.spans;
+abbrev pub invariant-loop-link : goal.invariant-loop-link
+invariant-loop-link l = record {
+  long : length l.spans ≡ length l.fn.spans;
+  done :
+      at_each (on_lanes (given_lane l.place (receipt_of l.here l.entry))) (drop l.link-index l.links) (map span_view l.spans)
+      ≡ at_each (on_lanes (given_lane l.place (receipt_of l.here l.entry))) l.links (map span_view l.fn.spans);
+  ready : (j : ℕ) → l.link-index ≤ j → j < length l.links → IsReadyAt l.here.node l.links l.spans j;
 }

@@ -1,11 +1,10 @@
-use Rattle.std.proofs.Common.{◌≡◌, map}
-use Rattle.std.specs.List.{AllWithin}
-use Rattle.hsr_ring.specs.Giving.{IsSpanReady}
+use Rattle.std.proofs.Common.{◌≡◌, ◌<◌, ℕ, map}
+use Rattle.hsr_ring.specs.Giving.{IsReadyAt}
 use Rattle.hsr_ring.specs.Views.{span_view}
 use Rattle.hsr_ring.proofs.giving.prepare.Given as goal
 
-abbrev pub invariant-loop-span : goal.invariant-loop-span
-invariant-loop-span l = record {
+abbrev pub invariant-loop-link : goal.invariant-loop-link
+invariant-loop-link l = record {
   view : map span_view l.spans ≡ map span_view l.fn.spans;
-  ready : AllWithin (IsSpanReady l.node) l.spans 0 l.span-index;
+  ready : (j : ℕ) → j < l.link-index → IsReadyAt l.node l.links l.spans j;
 }

@@ -1,8 +1,11 @@
-use Rattle.std.proofs.Common.{◌≡◌, map}
-use Rattle.hsr_ring.specs.Giving.{emptied_span}
+use Rattle.std.proofs.Common.{◌≡◌, drop, map, length}
+use Rattle.hsr_ring.specs.Touching.{at_each}
 use Rattle.hsr_ring.specs.Views.{span_view}
-use Rattle.hsr_ring.proofs.Loops.{half_done}
+use Rattle.hsr_world.specs.Spans.{emptied, on_lanes}
 use Rattle.hsr_ring.proofs.hand.clear.Given as goal
 
-abbrev pub invariant-loop-span : goal.invariant-loop-span
-invariant-loop-span l = half_done span_view (emptied_span l.end) l.span-index l.spans ≡ map (emptied_span l.end) l.fn.spans
+abbrev pub invariant-loop-link : goal.invariant-loop-link
+invariant-loop-link l = record {
+  long : length l.spans ≡ length l.fn.spans;
+  done : at_each (on_lanes (emptied l.end)) (drop l.link-index l.links) (map span_view l.spans) ≡ at_each (on_lanes (emptied l.end)) l.links (map span_view l.fn.spans);
+}

@@ -1,8 +1,9 @@
-use Rattle.std.proofs.Common.{List, subst, sym, ap, ◌∙◌}
+use Rattle.std.proofs.Common.{List, length, map, subst, sym, ap, ◌∙◌}
 use Rattle.std.specs.List.{All}
 use Rattle.hsr_node.specs.declared.place.Place.{Place}
 use Rattle.hsr_ring.specs.Pending.{IsKept}
 use Rattle.hsr_ring.specs.Ports.{ports_in}
+use Rattle.hsr_ring.specs.Touching.{touching_in}
 use Rattle.hsr_world.specs.Fit.{FitsPlace}
 use Rattle.hsr_world.specs.World.{World}
 use Rattle.hsr_world.proofs.Reached.{reached-new}
@@ -14,6 +15,7 @@ invariant_of-result g c =
     let fit = subst (λ (places : List Place). All FitsPlace places) c.places.ensures.value c.places_fit.ensures in
     let t = c.args.topology in
     let told = c.in_ok-ports.ensures ∙ ap (λ (w : World). ports_in w.places w.spans) c.in_ok-running.ensures in
-    subst (λ (w : World). IsKept g.row.C t.places t.links c.in_ok-ports.ports.items c.new-2.result w) (sym c.in_ok-running.ensures)
-    (kept_new g.row.C c.args.capacity t.places t.links c.in_ok-ports.ports.items c.new-2.result (reached-new g.row.C c.args.capacity t.places t.links fit)
-    c.places.ensures.wired.few_places c.places.ensures.wired.few_links told c.new-2.ensures)
+    let touching = c.in_ok-touching.ensures ∙ ap (λ (w : World). touching_in (length w.places) w.spans) c.in_ok-running.ensures in
+    subst (λ (w : World). IsKept g.row.C t.places t.links c.in_ok-ports.ports.items (map (λ links. links.items) c.in_ok-touching.touching.items) c.new-2.result w) (sym c.in_ok-running.ensures)
+    (kept_new g.row.C c.args.capacity t.places t.links c.in_ok-ports.ports.items (map (λ links. links.items) c.in_ok-touching.touching.items) c.new-2.result (reached-new g.row.C c.args.capacity t.places t.links fit)
+    c.places.ensures.wired.few_places c.places.ensures.wired.few_links told touching c.new-2.ensures)
