@@ -26,7 +26,7 @@ worker_end capacity may_shut s k Shut below h = h
 worker_end capacity may_shut s k (Refused fault) below h = (below, inr h)
 worker_end capacity may_shut s k NoMemory below h = tt
 
-pub play_fault : (capacity : ℕ) (may_shut : Bool) (s : Meant) (c : Conducted) (ending : Ending) → IsConducted capacity s c → IsEnding capacity may_shut ending
+pub play_fault : (capacity : ℕ) (may_shut : Bool) (s : Meant) (c : Conducted) (ending : Ending) → IsConducted capacity may_shut s c → IsEnding capacity may_shut ending
     → IfSome (fault_of c ending (length s.steps)) (λ f. IsPlayFault capacity may_shut s f)
 play_fault capacity may_shut s All ending c h = worker_end capacity may_shut s (length s.steps) ending (omega arith) h
 play_fault capacity may_shut s (Left k) ending c h = worker_end capacity may_shut s k ending c h
@@ -38,6 +38,7 @@ play_fault capacity may_shut s (Own k world.NoSuchPort) ending c h = (omega (ari
 play_fault capacity may_shut s (Own k world.Busy) ending c h = (omega (arith, c.0), inl c.1)
 play_fault capacity may_shut s (Own k world.Nothing) ending c h = (omega (arith, c.0), inl c.1)
 play_fault capacity may_shut s (Own k world.TooLong) ending c h = (omega (arith, c.0), inl c.1)
+play_fault capacity may_shut s conducted.Shut ending c h = c
 play_fault capacity may_shut s conducted.NoThread ending c h = tt
 play_fault capacity may_shut s conducted.NoMemory ending c h = tt
 

@@ -53,13 +53,14 @@ IsPlanEnd capacity topology planned fault = if_node topology planned.node ≡ So
 abbrev pub IsOwnEnd : ℕ → Meant → ℕ → WorldFault → Type 0
 IsOwnEnd capacity s k fault = MatchOption (slice_get s.steps k) ⊥ (λ o. IsOrderEnd capacity s.topology o fault)
 
--- the main worker ends after all steps, or at a place
-abbrev pub IsConducted : ℕ → Meant → Conducted → Type 0
-IsConducted capacity s All = Unit {0}
-IsConducted capacity s (Left k) = k ≤ length s.steps
-IsConducted capacity s (Own k fault) = (k < length s.steps) × IsOwnEnd capacity s k fault
-IsConducted capacity s conducted.NoThread = Unit {0}
-IsConducted capacity s conducted.NoMemory = Unit {0}
+-- the main worker ends after all steps, or at a place, or by its gate where that may shut
+abbrev pub IsConducted : ℕ → Bool → Meant → Conducted → Type 0
+IsConducted capacity may_shut s All = Unit {0}
+IsConducted capacity may_shut s (Left k) = k ≤ length s.steps
+IsConducted capacity may_shut s (Own k fault) = (k < length s.steps) × IsOwnEnd capacity s k fault
+IsConducted capacity may_shut s conducted.Shut = may_shut ≡ true
+IsConducted capacity may_shut s conducted.NoThread = Unit {0}
+IsConducted capacity may_shut s conducted.NoMemory = Unit {0}
 
 -- why there is no run where the main worker is at a place, and the lowest of the others that gave up ended so
 abbrev pub worker_fault : ℕ → Ending → Option RunFault
@@ -74,6 +75,7 @@ fault_of All ending last = worker_fault last ending
 fault_of (Left k) ending last = worker_fault k ending
 fault_of (Own k NoRoom) ending last = Some fault.NoMemory
 fault_of (Own k f) ending last = Some (fault.Step k f)
+fault_of conducted.Shut ending last = Some fault.GateShut
 fault_of conducted.NoThread ending last = Some fault.Thread
 fault_of conducted.NoMemory ending last = Some fault.NoMemory
 

@@ -6,6 +6,7 @@ ghost use Rattle.hsr_scenario.specs.Meaning.{scenario_view};
 ghost use Rattle.hsr_runner.specs.Endings.{IsConducted, IsOrderEnd, IsPlanEnd, own_fault};
 
 use crate::cells::Cells;
+use crate::gate::Gate;
 use crate::leaving::{inject, put_all};
 use crate::plan::{clock_after, planned_at};
 use hsr_closing::Planned;
@@ -26,6 +27,8 @@ pub(crate) enum Conducted {
     Left(usize),
     /// The step at this place was refused.
     Own(usize, WorldFault),
+    /// The gate answered false before a step.
+    Shut,
     /// A thread couldn't be started, so that no step was done.
     NoThread,
     /// Room for the threads was refused, so that no step was done.
@@ -185,21 +188,26 @@ fn obey<const C: usize>(
     }
 }
 
-/// Does the steps of a scenario, one after another, and waits at each drain and at the end until no copy is on its way. It ends
-/// early where a step is refused, or where it was told to stop while it waited.
-pub(crate) fn conduct<const C: usize>(
+/// Does the steps of a scenario, one after another, and waits at each drain and at the end until no copy is on its way. It asks the
+/// gate before each step, while no lock is held. It ends early where the gate shuts, where a step is refused, or where it was told
+/// to stop while it waited.
+pub(crate) fn conduct<const C: usize, G: Gate>(
     rt: &impl Wait,
     alloc: Global,
     cells: &Cells<C>,
     scenario: &Scenario,
+    gate: &G,
     pass: &mut Pass,
 ) -> Conducted
     requires nodes { vec_len cells.now.seats ≡ length scenario.now.topology.places }
     requires links { vec_len cells.now.links ≡ length scenario.now.topology.links }
-    ensures { IsConducted C (scenario_view scenario.now) result }
+    ensures { IsConducted C G.may_shut (scenario_view scenario.now) result }
 {
     let mut at = 0;
     for (step, order) in scenario.steps.iter().enumerate() {
+        if !gate.before(rt, step) {
+            return Conducted::Shut;
+        }
         match obey(rt, alloc, cells, &scenario.topology, pass, at, order) {
             Ok(true) => at = clock_after(at, order),
             Ok(false) => return Conducted::Left(step),

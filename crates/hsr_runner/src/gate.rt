@@ -1,11 +1,12 @@
-//! What a worker asks before it judges.
+//! What the threads of a run ask before they go on.
 ghost use Rattle.std.specs.Prelude.{◌≡◌, Bool, true, false};
 
 use hsr_node::Probe;
 use std::marker::Sync;
 use std::sync::Wait;
 
-/// What each worker asks of each copy that it has taken, before it judges it. The worker holds no lock meanwhile.
+/// What each worker asks of each copy that it has taken, before it judges it, and the main worker before each step of its scenario.
+/// Who asks holds no lock meanwhile, so a gate may hold threads back, to bring about an order of events.
 ///
 /// The type says, by `may_shut`, whether it may ever answer false.
 pub trait Gate: Sync {
@@ -14,6 +15,13 @@ pub trait Gate: Sync {
     /// Whether the worker at a port of a node, each by its number, goes on with the copy of a send. False ends the run.
     fn pass(&self, rt: &impl Wait, node: usize, port: u8, probe: Option<Probe>) -> bool
         ensures { result ≡ false → may_shut ≡ true };
+
+    /// Whether the main worker goes on with the step at this place of the scenario, counted from 0. False ends the run.
+    fn before(&self, _rt: &impl Wait, _step: usize) -> bool
+        ensures { result ≡ false → may_shut ≡ true }
+    {
+        true
+    }
 }
 
 /// A gate that is always open.

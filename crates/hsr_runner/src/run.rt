@@ -78,13 +78,14 @@ fn checked<const C: usize>(
 }
 
 /// Runs a scenario in threads: a worker for each linked port takes, asks the gate, judges and puts; each node is aged when the
-/// clock was set; the main worker, in the calling thread, does the scenario's own steps, and at a drain and at the end waits until
-/// no copy is in flight. Then all threads are joined, and what they left is checked. Duplicate tables have `C` entries each.
+/// clock was set; the main worker, in the calling thread, asks the gate before each step of the scenario and does it, and at a drain
+/// and at the end waits until no copy is in flight. Then all threads are joined, and what they left is checked. Duplicate tables have
+/// `C` entries each.
 ///
 /// Only a finished run is answered. The first of these faults is: `FineStep` exactly where the scenario has a Put, Take or
-/// Judge, with its lowest place, and then no thread was started; the main worker's own `Step`, `Thread` or `NoMemory`; that of the
-/// lowest worker that gave up, `GateShut`, `NoMemory` or `Step`; and `Check`. `GateShut` comes only where the type of the gate
-/// may answer false. It waits for its threads and may not return; what is said of its answer is said if it does.
+/// Judge, with its lowest place, and then no thread was started; the main worker's own `Step`, `GateShut`, `Thread` or `NoMemory`;
+/// that of the lowest worker that gave up, `GateShut`, `NoMemory` or `Step`; and `Check`. `GateShut` comes only where the type of the
+/// gate may answer false. It waits for its threads and may not return; what is said of its answer is said if it does.
 #[tactic(auto, using(crate::proofs::Endings::run_fault, crate::proofs::Endings::not_fine, crate::proofs::Endings::check_fault, crate::proofs::Endings::shuts))]
 pub fn run_threads<const C: usize, G: Gate, R: Threads + Wait + Sync>(
     rt: &R,

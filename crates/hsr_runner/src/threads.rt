@@ -120,6 +120,7 @@ fn fault_of(conducted: Conducted, ending: Ending, last: usize) -> Option<RunFaul
             return Some(RunFault::NoMemory);
         }
         Conducted::Own(step, fault) => return Some(RunFault::Step { step, fault }),
+        Conducted::Shut => return Some(RunFault::GateShut),
         Conducted::NoThread => return Some(RunFault::Thread),
         Conducted::Left(step) => step,
         Conducted::All => last,
@@ -143,18 +144,19 @@ fn finish<const C: usize, G: Gate, R: Threads + Wait>(
     alloc: Global,
     cells: &Cells<C>,
     scenario: &Scenario,
+    gate: &G,
     handles: Vec<PromisedHandle<Done, EndsAsItMay<C, G>>>,
     unstarted: Option<Conducted>,
 ) -> Result<Vec<Pass>, RunFault>
     requires nodes { vec_len cells.now.seats ≡ length scenario.now.topology.places }
     requires links { vec_len cells.now.links ≡ length scenario.now.topology.links }
-    requires unstarted { IfSome unstarted (λ c. IsConducted C (scenario_view scenario.now) c) }
+    requires unstarted { IfSome unstarted (λ c. IsConducted C G.may_shut (scenario_view scenario.now) c) }
     ensures { IfErr result (λ fault. IsPlayFault C G.may_shut (scenario_view scenario.now) fault) }
 {
     let mut main = Pass::new(alloc, 0);
     let conducted = match unstarted {
         Some(unstarted) => unstarted,
-        None => conduct(rt, alloc, cells, scenario, &mut main),
+        None => conduct(rt, alloc, cells, scenario, gate, &mut main),
     };
     cells.close(rt);
     let mut passes = Vec::new(alloc);
@@ -213,7 +215,7 @@ pub(crate) fn play<const C: usize, G: Gate, R: Threads + Wait + Sync>(
                     }
                 }
             }
-            finish(rt, alloc, cells, scenario, handles, unstarted)
+            finish(rt, alloc, cells, scenario, gate, handles, unstarted)
         },
     )
 }

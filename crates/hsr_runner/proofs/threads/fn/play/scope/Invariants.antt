@@ -4,4 +4,4 @@ use Rattle.hsr_runner.specs.Endings.{IsConducted}
 use Rattle.hsr_runner.proofs.threads.fn.play.scope.Given as goal
 
 abbrev pub invariant-loop-role : goal.invariant-loop-role
-invariant-loop-role g l = IfSome l.unstarted (λ c. IsConducted g.row.C (scenario_view l.scenario) c)
+invariant-loop-role g l = IfSome l.unstarted (λ c. IsConducted g.row.C g.G.Gate.may_shut (scenario_view l.scenario) c)
