@@ -368,3 +368,173 @@ fn gate_orders(rt: HostRuntime) -> Result<(), Fail> {
     }
     Ok(())
 }
+
+// ---- gates that hold the main worker back
+
+/// Lets the first cut come when the pass of this number has begun, of all passes in the order in which they begin, and holds that
+/// pass until the main worker is at its drain.
+#[derive(Drop)]
+struct CutUnderPass {
+    held: u64,
+    passes: AtomicU64,
+    begun: AtomicU64,
+    drained: AtomicU64,
+}
+
+impl Gate for CutUnderPass {
+    ghost use Rattle.std.specs.Prelude.{true};
+
+    ghost may_shut = { true };
+
+    fn pass(&self, _rt: &impl Wait, _node: usize, _port: u8, _probe: Option<Probe>) -> bool {
+        if self.passes.fetch_add(1, Ordering::SeqCst) != self.held {
+            return true;
+        }
+        self.begun.fetch_add(1, Ordering::SeqCst);
+        comes(&self.drained)
+    }
+
+    fn before(&self, _rt: &impl Wait, step: usize) -> bool {
+        if step == 1 {
+            return comes(&self.begun);
+        }
+        if step == 3 {
+            self.drained.fetch_add(1, Ordering::SeqCst);
+        }
+        true
+    }
+}
+
+/// Whether each copy that was put on a link was taken or lost there, and how many were lost.
+fn lost_on(closed: &Closed<512>, link: usize) -> Option<usize> {
+    let [put, taken, lost] = fates(closed, link)?;
+    if put == taken + lost {
+        Some(lost)
+    } else {
+        None
+    }
+}
+
+#[test]
+fn cut_in_a_running_ring(rt: HostRuntime) -> Result<(), Fail> {
+    for held in 0..6u64 {
+        let steps = vec![in rt.alloc();
+            Order::Step(send(&rt, 0, group())?),
+            Order::Step(Step::Cut { link: 1 }),
+            Order::Step(Step::Mend { link: 1 }),
+            Order::Drain,
+        ]?;
+        let gate = CutUnderPass {
+            held,
+            passes: AtomicU64::new(0),
+            begun: AtomicU64::new(0),
+            drained: AtomicU64::new(0),
+        };
+        let run = run_threads::<512, _, _>(&rt, rt.alloc(), &scenario(ring3(&rt)?, steps), &gate);
+        let closed = run.ok().ok_or("no run")?;
+        for node in 1..3usize {
+            let [_sent, up, _forwarded, _duplicate, _returned] = counted(&closed, node).ok_or(
+                "node",
+            )?;
+            assert!(rt; up == 1);
+        }
+        assert!(rt; lost_on(&closed, 0) == Some(0) && lost_on(&closed, 2) == Some(0));
+        assert!(rt; lost_on(&closed, 1).is_some());
+        assert!(rt; certified(&rt, &closed) == Some(1));
+    }
+    Ok(())
+}
+
+/// Holds every pass until the main worker is at its drain.
+#[derive(Drop)]
+struct AllHeld {
+    drained: AtomicU64,
+}
+
+impl Gate for AllHeld {
+    ghost use Rattle.std.specs.Prelude.{true};
+
+    ghost may_shut = { true };
+
+    fn pass(&self, _rt: &impl Wait, _node: usize, _port: u8, _probe: Option<Probe>) -> bool {
+        comes(&self.drained)
+    }
+
+    fn before(&self, _rt: &impl Wait, step: usize) -> bool {
+        if step == 3 {
+            self.drained.fetch_add(1, Ordering::SeqCst);
+        }
+        true
+    }
+}
+
+#[test]
+fn overrun_in_a_running_ring(rt: HostRuntime) -> Result<(), Fail> {
+    let steps = vec![in rt.alloc();
+        Order::Step(send(&rt, 0, group())?),
+        Order::Step(send(&rt, 0, group())?),
+        Order::Step(send(&rt, 0, group())?),
+        Order::Drain,
+    ]?;
+    let narrow = Scenario {
+        topology: ring3(&rt)?,
+        capacity: 1,
+        steps,
+    };
+    let gate = AllHeld {
+        drained: AtomicU64::new(0),
+    };
+    let run = run_threads::<512, _, _>(&rt, rt.alloc(), &narrow, &gate);
+    let closed = run.ok().ok_or("no run")?;
+    assert!(rt; lost_on(&closed, 0).ok_or("link")? >= 1);
+    assert!(rt; lost_on(&closed, 1).is_some());
+    assert!(rt; lost_on(&closed, 2).ok_or("link")? >= 1);
+    assert!(rt; audit(rt.alloc(), &closed).err() == Some(AuditFault::Doubt(Doubt::TwoLinks)));
+    Ok(())
+}
+
+/// Shuts before a step.
+#[derive(Drop)]
+struct ShutBefore {
+    step: usize,
+}
+
+impl Gate for ShutBefore {
+    ghost use Rattle.std.specs.Prelude.{true};
+
+    ghost may_shut = { true };
+
+    fn pass(&self, _rt: &impl Wait, _node: usize, _port: u8, _probe: Option<Probe>) -> bool {
+        true
+    }
+
+    fn before(&self, _rt: &impl Wait, step: usize) -> bool {
+        step != self.step
+    }
+}
+
+/// Why a scenario has no run under a gate that shuts before a step.
+fn fault_before<R: Threads + Wait + Sync>(
+    rt: &R,
+    alloc: Global,
+    scenario: &Scenario,
+    step: usize,
+) -> Option<RunFault> {
+    let gate = ShutBefore { step };
+    run_threads::<512, _, _>(rt, alloc, scenario, &gate).err()
+}
+
+#[test]
+fn shut_before_a_step(rt: HostRuntime) -> Result<(), Fail> {
+    let mut refused = round_a_ring(&rt)?;
+    refused.steps.push(Order::Step(Step::Age { node: 3 }))?;
+    for step in 0..3usize {
+        assert!(rt; fault_before(&rt, rt.alloc(), &refused, step) == Some(RunFault::GateShut));
+    }
+    let no_node = RunFault::Step {
+        step: 2,
+        fault: WorldFault::NoSuchNode,
+    };
+    assert!(rt; fault_before(&rt, rt.alloc(), &refused, 3) == Some(no_node));
+    Ok(())
+}

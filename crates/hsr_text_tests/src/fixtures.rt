@@ -139,6 +139,14 @@ pub const TWO_CUTS: &str = r#"
 {do="drain"},
 "#;
 
+/// The first node sends to a group while both its links of three are cut.
+pub const SENDER_CUT_OFF: &str = r#"
+{do="cut", link=0},
+{do="cut", link=2},
+{do="send", node="n0", to="01-00-5E-00-00-01", type=0x0800, payload="AABB"},
+{do="drain"},
+"#;
+
 /// A copy of no send.
 pub const INJECTION: &str = r#"
 {do="inject", link=0, dir="forth", octets="01005E000001020000000007892F000600000800"},
@@ -183,6 +191,17 @@ link 0 put 2 taken 2 lost 0
 link 1 put 2 taken 2 lost 0
 link 2 put 2 taken 2 lost 0
 certified 1
+";
+
+/// The report of that send by a sender that is cut off.
+pub const CUT_OFF_REPORT: &str = "bench 1 table 512 nodes 3 links 3
+node 0 danh sent 1 life 0 up 0 forwarded 0 duplicate 0 returned 0 dropped 0
+node 1 danh sent 0 life 0 up 0 forwarded 0 duplicate 0 returned 0 dropped 0
+node 2 danh sent 0 life 0 up 0 forwarded 0 duplicate 0 returned 0 dropped 0
+link 0 put 1 taken 0 lost 1
+link 1 put 0 taken 0 lost 0
+link 2 put 1 taken 0 lost 1
+doubt two-links
 ";
 
 // ---- transcripts

@@ -1,7 +1,7 @@
 //! What `threads` writes of scenarios, and how it ends.
 use crate::fixtures::{
-    CUT_BY_HAND, FailingReader, FailingWriter, GROUP_SEND, INJECTION, PAIR, QUAD, RED, RED_SENDS,
-    RING, RING_REPORT, TWO_CUTS, joined,
+    CUT_BY_HAND, CUT_OFF_REPORT, FailingReader, FailingWriter, GROUP_SEND, INJECTION, PAIR, QUAD,
+    RED, RED_SENDS, RING, RING_REPORT, SENDER_CUT_OFF, TWO_CUTS, joined,
 };
 use crate::scenario_run_tests::run_shown;
 use hsr_closing::Disagree;
@@ -39,6 +39,14 @@ fn group_round_a_ring_in_threads(rt: HostRuntime) -> Result<(), Fail> {
     let (status, text) = threads_shown(&rt, RING, GROUP_SEND, false)?;
     assert_eq!(rt; status, Status::Certified);
     assert!(rt; text.as_slice() == RING_REPORT.as_bytes());
+    Ok(())
+}
+
+#[test]
+fn sender_cut_off_in_threads(rt: HostRuntime) -> Result<(), Fail> {
+    let (status, text) = threads_shown(&rt, RING, SENDER_CUT_OFF, false)?;
+    assert_eq!(rt; status, Status::Doubt);
+    assert!(rt; text.as_slice() == CUT_OFF_REPORT.as_bytes());
     Ok(())
 }
 
