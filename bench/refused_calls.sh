@@ -3,13 +3,17 @@
 # .. up to a run in which none is refused. Such a test passes only where a call says that room was refused, has changed nothing,
 # handed back what it was given, and answers the same call, made again, as it does with room.
 #
-#     bench/refused_calls.sh                 the tests as `rt test` built them, under a small allocator (cc, GNU on Linux)
-#     bench/refused_calls.sh --try FROM TO   those of hsr_hostile_tests by `rt try --test --fail-alloc`, which builds anew for each
-#                                            request, and so takes a minute or two for each
+#     bench/refused_calls.sh [FOLDER [SECONDS]]   the tests as `rt test` built them, or those in a folder, under a small allocator
+#                                                 (cc, GNU on Linux); with a number of seconds it stops there
+#     bench/refused_calls.sh --try FROM TO        those of hsr_hostile_tests by `rt try --test --fail-alloc`, which builds anew for
+#                                                 each request, and so takes a minute or two for each
 set -u
 top=$(cd "$(dirname "${BASH_SOURCE[0]}")/.." && pwd)
 work=$(mktemp -d); trap 'rm -rf "$work"' EXIT
-passed=0 failed=0
+passed=0 failed=0 folder=${1:-} seconds=${2:-0}
+
+# Whether the time is over.
+is_over() { [ "$seconds" -gt 0 ] && [ $SECONDS -ge "$seconds" ]; }
 
 # Tells what a run with one refused request said of the tests that speak of refused room.
 try_one() {
@@ -26,7 +30,7 @@ try_one() {
 # sweep PROGRAM TEST: refuses each request of a test in turn.
 sweep() {
   local program=$1 test=$2 request=0 wrong=0 requests refused status
-  while :; do
+  while ! is_over; do
     request=$((request + 1))
     { timeout -k 1 60 env LD_PRELOAD="$work/refuse.so" REFUSE_AT=$request REFUSE_TALLY="$work/tally" "$program" "$test" \
       > "$work/said" 2>&1; } 2> /dev/null
@@ -39,18 +43,19 @@ sweep() {
     [ "$refused" = 1 ] || break
   done
   passed=$((passed + request - wrong)) failed=$((failed + wrong))
-  echo "$test: $((request - 1)) requests refused, $wrong wrong"
+  if is_over; then echo "$test: stopped at request $request, $wrong wrong"; else echo "$test: $((request - 1)) requests refused, $wrong wrong"; fi
 }
 
 # sweep_crate CRATE PATTERN: the tests of a crate whose names match.
 sweep_crate() {
-  local program=$top/crates/$1/out/$1_tests test
-  [ -x "$program" ] || { echo "$1: building its tests by rt test" >&2; (cd "$top/crates/$1" && rt test) > "$work/built" 2>&1; }
-  [ -x "$program" ] || { tail -5 "$work/built"; failed=$((failed + 1)); return; }
-  for test in $("$program" --list | sed -n 's/: test$//p' | grep -E "$2"); do sweep "$program" "$test"; done
+  local program=${folder:-$top/crates/$1/out}/$1_tests test
+  [ -x "$program" ] || [ -n "$folder" ] || { echo "$1: building its tests by rt test" >&2; (cd "$top/crates/$1" && rt test) > "$work/built" 2>&1; }
+  [ -x "$program" ] || { echo "$1: no tests are built"; failed=$((failed + 1)); return; }
+  for test in $("$program" --list | sed -n 's/: test$//p' | grep -E "$2"); do is_over || sweep "$program" "$test"; done
 }
 
-if [ "${1:-}" = --try ]; then
+if [ "$folder" = --try ]; then
+  seconds=0
   for request in $(seq "$2" "$3"); do try_one "$request"; done
 else
   cc -O2 -shared -fPIC -o "$work/refuse.so" "$top/bench/refuse.c" || exit 1
