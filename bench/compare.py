@@ -1,9 +1,10 @@
 """Compares the program with model.py, a second implementation: random scenarios by `run`, `run --transcript` and `audit`, and random
 lines by `node`; every octet of what is printed, and the status.
 
-    python3 bench/compare.py [COUNT [SEED]]
+    python3 bench/compare.py [COUNT [SEED [PROGRAM]]]
 
-COUNT (500) of each, from SEED (1) on. The first difference is shown, with its input, and ends it.
+COUNT (500) of each, from SEED (1) on, by PROGRAM (./hsr_bench). The first difference is shown, with its input, and ends it. The last
+line says how many agreed.
 """
 import random
 import subprocess
@@ -13,7 +14,7 @@ from pathlib import Path
 
 import model
 
-PROGRAM = Path(__file__).resolve().parent.parent / "hsr_bench"
+PROGRAM = sys.argv[3] if len(sys.argv) > 3 else Path(__file__).resolve().parent.parent / "hsr_bench"
 GROUP = "01-00-5E-00-00-01"
 DRAIN_LIMIT = 20000  # above that the model is too slow, and the scenario is left out
 
@@ -221,6 +222,10 @@ def bench(words, given):
     return done.returncode, done.stdout, done.stderr
 
 
+class Differs(Exception):
+    """What the program answers isn't what the model answers."""
+
+
 def expect(what, words, given, expected):
     got = bench(words, given)
     if got == expected:
@@ -228,7 +233,7 @@ def expect(what, words, given, expected):
     print(f"{what}: {' '.join(words)}\n--- input\n{given}")
     for name, (status, printed, fault) in (("the program", got), ("the model", expected)):
         print(f"--- {name}: status {status}\n{printed}{fault}")
-    sys.exit(1)
+    raise Differs
 
 
 def compare_scenario(seed):
@@ -259,10 +264,19 @@ def compare_node(seed):
 
 
 def main():
-    count, first = (int(word) for word in (sys.argv[1:] + ["500", "1"][len(sys.argv) - 1 :]))
-    seen = Counter(compare(seed) for seed in range(first, first + count) for compare in (compare_scenario, compare_node))
+    words = sys.argv[1:3]
+    count, first = (int(word) for word in words + ["500", "1"][len(words) :])
+    seen, failed = Counter(), 0
+    try:
+        for seed in range(first, first + count):
+            seen[compare_scenario(seed)] += 1
+            seen[compare_node(seed)] += 1
+    except Differs:
+        failed = 1
     print(", ".join(f"{how}: {many}" for how, many in sorted(seen.items())))
+    print(f"{seen.total() - seen['left out']} passed, {failed} failed")
+    return failed
 
 
 if __name__ == "__main__":
-    main()
+    sys.exit(main())

@@ -1,6 +1,6 @@
 #!/usr/bin/env bash
-# Refuses each request for memory in turn: a program, its commands over the examples, and for each row the first request, the
-# second, .. up to a run in which none is refused. Each run has to answer as the run without a refusal, where the memory wasn't
+# Refuses each request for memory in turn: a program, its commands over the examples and the worked rows, and for each of these the
+# first request, the second, .. up to a run in which none is refused. Each run has to answer as the run without a refusal, where the memory wasn't
 # needed, or has to end with status 1, `fault: memory` on standard error and nothing on standard output; of what `node` writes
 # a front stands, and `threads` may say `fault: thread`. A run of more than ten seconds has failed.
 #
@@ -77,6 +77,10 @@ for network in ring2 ring3_cut quad red segment coupled_rings ring16_cut; do
   sweep "audit of $network.toml" transcript audit
 done
 if knows threads; then for network in ring2 red; do sweep "threads $network.toml" "$examples/$network.toml" threads; done; fi
+for words in "$top"/rows/*/*.words; do
+  read -r -d '' -a given < "$words"
+  sweep "row $(basename "${words%.words}")" "${words%.words}.in" "${given[@]:-node}"
+done
 [ -z "$is_over" ] || echo "stopped after $seconds seconds, in row $rows"
 echo "$passed passed, $failed failed"
 [ "$failed" = 0 ]
