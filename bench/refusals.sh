@@ -49,6 +49,12 @@ sweep() {
     run $request "$input" "$@"
     [ "$refused" = 1 ] || [ "$status" = 124 ] || break
     judge "$1"
+    if [ $verdict = wrong ] && [ "$1" != threads ]; then
+      # without threads a run is the same each time, unless the machine itself failed
+      echo "again: $name, request $request: status $status, $(head -c 200 err | head -1)"
+      run $request "$input" "$@"
+      judge "$1"
+    fi
     case $verdict in
       want) want=$((want + 1)) ;;
       spare) spare=$((spare + 1)) ;;

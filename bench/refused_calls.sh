@@ -3,8 +3,8 @@
 # .. up to a run in which none is refused. Such a test passes only where a call says that room was refused, has changed nothing,
 # handed back what it was given, and answers the same call, made again, as it does with room.
 #
-#     bench/refused_calls.sh [FOLDER [SECONDS]]   the tests as `rt test` built them, or those in a folder, under a small allocator
-#                                                 (cc, GNU on Linux); with a number of seconds it stops there
+#     bench/refused_calls.sh [FOLDER [SECONDS]]   the tests as `rt test` built them, or those that are in a folder, under a small
+#                                                 allocator (cc, GNU on Linux); with a number of seconds it stops there
 #     bench/refused_calls.sh --try FROM TO        those of hsr_hostile_tests by `rt try --test --fail-alloc`, which builds anew for
 #                                                 each request, and so takes a minute or two for each
 set -u
@@ -49,8 +49,9 @@ sweep() {
 # sweep_crate CRATE PATTERN: the tests of a crate whose names match.
 sweep_crate() {
   local program=${folder:-$top/crates/$1/out}/$1_tests test
-  [ -x "$program" ] || [ -n "$folder" ] || { echo "$1: building its tests by rt test" >&2; (cd "$top/crates/$1" && rt test) > "$work/built" 2>&1; }
-  [ -x "$program" ] || { echo "$1: no tests are built"; failed=$((failed + 1)); return; }
+  [ -x "$program" ] || [ -z "$folder" ] || return
+  [ -x "$program" ] || { echo "$1: building its tests by rt test" >&2; (cd "$top/crates/$1" && rt test) > "$work/built" 2>&1; }
+  [ -x "$program" ] || { tail -5 "$work/built"; failed=$((failed + 1)); return; }
   for test in $("$program" --list | sed -n 's/: test$//p' | grep -E "$2"); do is_over || sweep "$program" "$test"; done
 }
 
