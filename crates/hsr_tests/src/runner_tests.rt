@@ -405,14 +405,16 @@ impl Gate for CutUnderPass {
     }
 }
 
-/// Whether each copy that was put on a link was taken or lost there, and how many were lost.
+/// How many copies a link lost, where each that was put there was taken or lost.
 fn lost_on(closed: &Closed<512>, link: usize) -> Option<usize> {
-    let [put, taken, lost] = fates(closed, link)?;
-    if put == taken + lost {
-        Some(lost)
-    } else {
-        None
+    if link >= closed.topology().links().len() {
+        return None;
     }
+    let rows = closed.rows(link);
+    if rows.iter().any(|row| row.fate == Fate::Queued) {
+        return None;
+    }
+    Some(rows.iter().filter(|row| row.fate != Fate::Taken).count())
 }
 
 #[test]
