@@ -34,6 +34,11 @@ def is_number(word, bits=64):
     return re.fullmatch(NUMBER, word) is not None and int(word) < 2**bits
 
 
+def is_moment(word, factor):
+    """Whether a word is a moment that has fewer than 2^64 microseconds, so many in one of its unit."""
+    return is_number(word) and int(word) * factor < 2**64
+
+
 # ---- changes
 
 
@@ -63,7 +68,7 @@ def is_line(line):
     words = line.split(" ")
     mac, four, octets = r"[0-9A-Fa-f]{2}(-[0-9A-Fa-f]{2}){5}", r"[0-9A-Fa-f]{4}", r"-|([0-9A-Fa-f]{2})+"
     forms = {"send": [mac, four, octets, four], "arrive": ["[AB]", octets], "life": [], "age": []}
-    if not line.isascii() or len(words) < 2 or words[0] not in forms or not is_number(words[1]):
+    if not line.isascii() or len(words) < 2 or words[0] not in forms or not is_moment(words[1], 1000):
         return False
     wanted, said = forms[words[0]], words[2:]
     lengths = (len(wanted), len(wanted) - (words[0] == "send"))
@@ -76,7 +81,7 @@ def node_answer(octets):
         lines.pop()
     bad = next((place for place, line in enumerate(lines) if not is_line(line)), None)
     node = model.Node(0, RING["node"][0], 512)
-    printed = [answer for line in lines[:bad] for answer in model.answered(node, line)]
+    printed = [answer for line in lines[:bad] for answer in model.answered(node, line, "ms")]
     if bad is None:
         return 0, model.text(printed + [node.counters()]), ""
     return 1, model.text(printed), f"fault: line {bad + 1}\n"
@@ -126,8 +131,8 @@ def port_of(said, count, lines):
     return int(number), port
 
 
-def entry(lines):
-    """A record's entry: the worker, the moment, the event as words, and the outcome."""
+def entry(lines, factor):
+    """A record's entry: the worker, the moment in microseconds, the event as words, and the outcome."""
     probe, ports = rf"({NUMBER}):({NUMBER})", r"(?: A)?(?: B)?"
     mac = r"[0-9A-F]{2}(?:-[0-9A-F]{2}){5}"
     events = [rf"send {NUMBER} {mac} (?:-|[0-9A-F]{{4}}) [0-9A-F]{{4}} {UPPER}", "life own", f"life {mac}", rf"arrive [AB] {probe} {UPPER}", "age"]
@@ -136,14 +141,14 @@ def entry(lines):
     worker, at, event, outcome = lines.match(r"(\S+) (\S+) (.*) = (.*)")
     found = next(filter(None, (re.fullmatch(form, event) for form in events)), None)
     answer = next(filter(None, (re.fullmatch(form, outcome) for form in outcomes)), None)
-    if not (found and answer and is_number(worker, 16) and is_number(at)):
+    if not (found and answer and is_number(worker, 16) and is_moment(at, factor)):
         raise lines.bad()
     small = [(number, 64) for number in found.groups() if number] + [(number, 16) for number in answer.groups() if number]
     words = event.split(" ")
     small += [(words[1], 8)] if words[0] == "send" else []
     if not all(is_number(number, bits) for number, bits in small):
         raise lines.bad()
-    return int(worker), int(at), words, outcome, lines.number
+    return int(worker), int(at) * factor, words, outcome, lines.number
 
 
 def row(lines):
@@ -155,7 +160,8 @@ def row(lines):
 
 def sections(lines):
     """All that the text tells, in form."""
-    if lines.next() != "hsr-bench 1":
+    factor = {"hsr-bench 1": 1000, "hsr-bench 2": 1}.get(lines.next())
+    if factor is None:
         raise Fault("transcript version")
     lines.match("table 512")
     nodes = [lines.match(r"danh ([0-9A-F]{2}(?:-[0-9A-F]{2}){5}) ([HN])") for _ in range(lines.count("nodes"))]
@@ -171,7 +177,7 @@ def sections(lines):
         if not is_number(said):
             raise lines.bad()
         main.append(int(said))
-    records = [[entry(lines) for _ in range(lines.count("record"))] for _ in nodes]
+    records = [[entry(lines, factor) for _ in range(lines.count("record"))] for _ in nodes]
     rows = [[row(lines) for _ in range(lines.count("carried"))] for _ in links]
     lines.match("end")
     if lines.number < len(lines.lines) or lines.rest:
@@ -274,9 +280,13 @@ def expect(program, word, given, expected):
 
 def main():
     program, each = sys.argv[1], int((sys.argv[2:] or ["1"])[0])
-    transcript = model.run(RING, 512, 1000)[3].transcript()
+    world = model.run(RING, 512, 1000)[3]
     passed = 0
-    for word, text, answer in (("node", LINES, node_answer), ("audit", transcript, audit_answer)):
+    for word, text, answer in (
+        ("node", LINES, node_answer),
+        ("audit", world.transcript("ms"), audit_answer),
+        ("audit", world.transcript("us"), audit_answer),
+    ):
         told = Counter()
         for number, given in enumerate([text.encode(), *changes(text)]):
             if number % each == 0:

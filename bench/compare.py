@@ -113,7 +113,9 @@ class Steps:
 
     def clock(self):
         later = self.chance.choice([1, 5, 100, 200, 399, 400, 401, -50, 1000, 59999, 60000])
-        self.do({"do": "clock", "at": max(0, self.world.at + later)})
+        if self.world.unit == 1:  # in microseconds: the same moments, or close to them
+            later = later * 1000 + self.chance.choice([0, 0, -1, 1])
+        self.do({"do": "clock", "at": max(0, self.world.at // self.world.unit + later)})
 
     def age(self):
         self.do({"do": "age", "node": self.chance.choice(self.scenario["node"])["name"]})
@@ -154,6 +156,8 @@ def scenario(chance, capacity, by_hand=True):
     made = {"node": nodes, "link": links, "step": []}
     if chance.random() < 0.3:
         made["capacity"] = chance.randint(1, 4)
+    if chance.random() < 0.5:
+        made["unit"] = chance.choice(["ms", "us"])
     steps = Steps(chance, made, capacity)
     kinds = [steps.send] * 8 + [steps.clock] * 3 + [steps.by_hand] * 3 * by_hand + [steps.drain] * 2 + [steps.life] * 2
     kinds += [steps.cut_or_mend] * 2 + [steps.age, steps.inject]
@@ -198,10 +202,13 @@ def frame(chance):
     return octets
 
 
-def node_lines(chance):
+def node_lines(chance, unit):
     at, lines = 0, []
     for _ in range(chance.randint(1, 60)):
-        at = max(0, at + chance.choice([0, 0, 1, 10, 100, 399, 400, -30]))
+        later = chance.choice([0, 0, 1, 10, 100, 399, 400, -30])
+        if unit == "us":
+            later = later * 1000 + chance.choice([0, 0, -1, 1])
+        at = max(0, at + later)
         kind = chance.random()
         if kind < 0.2:
             payload = chance.randbytes(chance.choice([0, 1, 46])) if chance.random() < 0.95 else bytes(chance.choice([1500, 1501]))
@@ -252,14 +259,18 @@ def compare_scenario(seed):
     transcript = world.transcript()
     expect(f"seed {seed}", ["run", "--transcript", *table], given, (status, transcript, ""))
     expect(f"seed {seed}", ["audit", *table], transcript, (status, report, ""))
+    if world.is_whole():
+        expect(f"seed {seed}", ["audit", *table], world.transcript("ms"), (status, report, ""))
     return " ".join(world.verdict().split()[: 1 if status == 0 else 2])
 
 
 def compare_node(seed):
     chance = random.Random(seed)
-    mode, capacity, lines = chance.choice("HNU"), chance.choice([4, 512]), node_lines(chance)
+    mode, capacity, unit = chance.choice("HNU"), chance.choice([4, 512]), chance.choice(["ms", "us"])
+    lines = node_lines(chance, unit)
     words = ["node", "--mode", mode, "--table", "small" if capacity == 4 else "large"]
-    expect(f"seed {seed}", words, model.text(lines), (0, model.node_run(lines, mode, capacity), ""))
+    words += ["--unit", unit] if unit == "us" else []
+    expect(f"seed {seed}", words, model.text(lines), (0, model.node_run(lines, mode, capacity, unit), ""))
     return "node"
 
 

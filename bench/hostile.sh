@@ -97,7 +97,7 @@ runs="run $threads"
 hurl "10 MB of random octets" random_octets
 hurl "a line of 1 GB" long_line
 row "a line, then one of 1 GB" 1 'fault: line 2' node < <(echo 'age 0'; long_line)
-row "a version, then a line of 1 GB" 1 'fault: transcript line 2' audit < <(echo 'hsr-bench 1'; long_line)
+row "a version, then a line of 1 GB" 1 'fault: transcript line 2' audit < <(echo 'hsr-bench 2'; long_line)
 hurl "100,000 open brackets" open_brackets
 hurl "100,000 brackets that are closed" brackets 'fault: scenario top text'
 hurl "500,000 keys" keys 'fault: scenario top unknown'
@@ -113,7 +113,7 @@ done
 row "16 MiB and one octet of lines" 0 "$none" node < <(yes 'age 0' | head -c 16777217)
 many_steps | "$program" run --transcript > many.transcript
 row "transcript of 200,000 steps" 0 'certified 0' audit < many.transcript
-row "counts of 2^64 - 1" 1 'fault: transcript line 5' audit < <(printf 'hsr-bench 1\ntable 512\nnodes 18446744073709551615\nquadbox\nquad\n')
+row "counts of 2^64 - 1" 1 'fault: transcript line 5' audit < <(printf 'hsr-bench 2\ntable 512\nnodes 18446744073709551615\nquadbox\nquad\n')
 row "a storm" 1 'fault: step 5 unsettled' run --table small < <(storm)
 
 # streams that fail

@@ -1,12 +1,14 @@
 """A second bench, written after docs/RULES.md and in another language, to compare the program with (compare.py does that).
 
-It is plain, not fast and not proved: a node keeps all that it ever noted, and looks through it. Mode H and N, all kinds of nodes.
+It is plain, not fast and not proved: a node keeps all that it ever noted, and looks through it. All modes and kinds of nodes; moments
+are in microseconds.
 """
 from dataclasses import dataclass, field
 
 SUPERVISION = bytes.fromhex("01154E000100")
 VLAN, HSR, SUPERVISION_TYPE = 0x8100, 0x892F, 0x88FB
-ENTRY_FORGET, PROXY_FORGET, PROXIES = 400, 60000, 64
+ENTRY_FORGET, PROXY_FORGET, PROXIES = 400_000, 60_000_000, 64
+MICROSECONDS = {"ms": 1000, "us": 1}  # in one of the unit in which a text tells moments
 PORTS = {"danh": "AB", "redbox": "ABI", "quadbox": "ABCD", "station": "P"}
 CAUSES = ["duplicate", "returned", "foreign", "local", "untagged", "tagged", "malformed"]
 
@@ -321,6 +323,7 @@ class Link:
 class World:
     def __init__(self, scenario, capacity):
         self.capacity, self.room = capacity, scenario.get("capacity", 64)
+        self.unit = MICROSECONDS[scenario.get("unit", "ms")]
         self.nodes = [Node(number, said, capacity) for number, said in enumerate(scenario["node"])]
         self.numbers = {said["name"]: number for number, said in enumerate(scenario["node"])}
         self.links = [Link(tuple(self.end(end) for end in said["ends"])) for said in scenario["link"]]
@@ -348,7 +351,7 @@ class World:
         getattr(self, "do_" + said["do"])(said) if said["do"] != "drain" else self.drain(limit)
 
     def do_clock(self, said):
-        self.at = said["at"]
+        self.at = said["at"] * self.unit
 
     def do_send(self, said):
         number, place, vlan = self.numbers[said["node"]], said.get("from", 0), said.get("vlan")
@@ -478,18 +481,23 @@ class World:
             lines.append(f"link {number} put {len(link.rows)} taken {taken} lost {len(link.rows) - taken}")
         return text(lines + [self.verdict()])
 
-    def transcript(self):
-        lines = ["hsr-bench 1", f"table {self.capacity}", f"nodes {len(self.nodes)}"]
+    def transcript(self, unit="us"):
+        """Its text of version 2, or of version 1, which tells milliseconds."""
+        lines = [f"hsr-bench {['ms', 'us'].index(unit) + 1}", f"table {self.capacity}", f"nodes {len(self.nodes)}"]
         lines += [node.spelled() for node in self.nodes] + [f"links {len(self.links)}"]
         lines += [" ".join(f"{number}.{port}" for number, port in link.ends) for link in self.links]
         lines += [f"main {len(self.main)}"] + [str(number) for number in self.main]
         for node in self.nodes:
             lines.append(f"record {len(node.record)}")
-            lines += [f"{worker} {at} {event.text} = {outcome}" for worker, at, event, outcome in node.record]
+            lines += [f"{worker} {at // MICROSECONDS[unit]} {event.text} = {outcome}" for worker, at, event, outcome in node.record]
         for link in self.links:
             lines.append(f"carried {len(link.rows)}")
             lines += [f"{['forth', 'back'][row.dir]} {named(row.send)} {hexadecimal(row.octets)} {row.fate}" for row in link.rows]
         return text(lines + ["end"])
+
+    def is_whole(self):
+        """Whether version 1 can tell each moment."""
+        return all(at % 1000 == 0 for node in self.nodes for _, at, _, _ in node.record)
 
 
 @dataclass
@@ -524,10 +532,10 @@ def run(scenario, capacity, limit):
 # ---- the command `node`
 
 
-def answered(node, line):
+def answered(node, line, unit):
     """The lines that answer a line of `node`."""
     words = line.split(" ")
-    at = int(words[1]) if len(words) > 1 else 0
+    at = int(words[1]) * MICROSECONDS[unit] if len(words) > 1 else 0
     try:
         if words[0] == "send":
             payload = b"" if words[4] == "-" else bytes.fromhex(words[4])
@@ -549,6 +557,6 @@ def judgement(node, at, port, octets):
     return [" ".join([cause.replace("-", " "), *outs])] + up
 
 
-def node_run(lines, mode, capacity):
+def node_run(lines, mode, capacity, unit="ms"):
     node = Node(0, {"role": "danh", "mac": "02-00-00-00-00-01", "mode": mode}, capacity)
-    return text([line for asked in lines for line in answered(node, asked)] + [node.counters()])
+    return text([line for asked in lines for line in answered(node, asked, unit)] + [node.counters()])

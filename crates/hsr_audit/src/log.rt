@@ -9,7 +9,7 @@ use hsr_frame::NoMemory;
 use std::alloc::Global;
 use std::marker::Model;
 
-/// What a DANH noted up and at its two ports, the oldest first, and its effective moment in milliseconds.
+/// What a DANH noted up and at its two ports, the oldest first, and its effective moment in microseconds.
 #[derive(Drop)]
 pub(crate) struct Log {
     moment: u64,

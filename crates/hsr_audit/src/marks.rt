@@ -16,7 +16,7 @@ use indexmap::IndexMap;
 use std::alloc::Global;
 use std::marker::Model;
 
-/// A frame that passed an egress: its source and number, the effective moment in milliseconds, and its send.
+/// A frame that passed an egress: its source and number, the effective moment in microseconds, and its send.
 #[derive(Clone, Copy)]
 pub(crate) struct Mark {
     key: Key,

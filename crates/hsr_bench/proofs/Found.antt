@@ -4,10 +4,13 @@ use Rattle.clap.specs.Kinds.{HasKind, IsAmong, Kinds}
 use Rattle.clap.specs.Words.{App, Row, Text, fault_of, first_of, is_simple, is_simple_and_free, kind_of, subcommand_of}
 use Rattle.clap.specs.declared.error.Error.{Error}
 use Rattle.clap.specs.declared.error.kind.ErrorKind.TheVariants.{OutOfMemory}
-use Rattle.hsr_bench.specs.Options.{Chosen, ChosenIn, IfUsage, IsBench, IsRefused, IsTaken, ListsModes, ListsTables, Says, SaysNothing, Listed, bench_app}
+use Rattle.hsr_bench.specs.Options.{Chosen, ChosenIn, IfUsage, IsBench, IsRefused, IsTaken, ListsModes, ListsTables, ListsUnits, Says, SaysNothing, Listed, bench_app}
 use Rattle.hsr_frame.specs.Words.{mode_of, mode_word}
 use Rattle.hsr_frame.specs.declared.node.Mode.{Mode}
 use Rattle.hsr_frame.specs.declared.node.Mode.TheVariants.{H, N, U}
+use Rattle.hsr_text.specs.Moments.{unit_of, unit_word}
+use Rattle.hsr_text.specs.declared.time_unit.TimeUnit.{TimeUnit}
+use Rattle.hsr_text.specs.declared.time_unit.TimeUnit.TheVariants.{Milliseconds, Microseconds}
 use Rattle.hsr_engines.specs.Tables.{table_of, table_word}
 use Rattle.hsr_engines.specs.declared.chosen.Table.{Table}
 use Rattle.hsr_engines.specs.declared.chosen.Table.TheVariants.{Small, Large}
@@ -19,7 +22,7 @@ use Rattle.hsr_bench.specs.declared.chosen.Options.TheVariants.{Node, Run, Threa
 -- equal look-ups choose the same
 pub chosen_same : (name : Text) (f g : Text → Option Text) (o : Options) → ((id : Text) → f id ≡ g id) → Chosen name f o → Chosen name g o
 chosen_same name f g (Node node) e h =
-    (h.0, ((h.1.0.0, sym (e (codes "mac")) ∙ h.1.0.1, h.1.0.2), sym (e (codes "mode")) ∙ h.1.1, sym (e (codes "table")) ∙ h.1.2))
+    (h.0, ((h.1.0.0, sym (e (codes "mac")) ∙ h.1.0.1, h.1.0.2), sym (e (codes "mode")) ∙ h.1.1, sym (e (codes "table")) ∙ h.1.2, sym (e (codes "unit")) ∙ h.1.3))
 chosen_same name f g (Run table transcript) e h = (h.0, sym (e (codes "table")) ∙ h.1, sym (e (codes "transcript")) ∙ h.2)
 chosen_same name f g (Threads table transcript) e h = (h.0, sym (e (codes "table")) ∙ h.1, sym (e (codes "transcript")) ∙ h.2)
 chosen_same name f g (Audit table) e h = (h.0, sym (e (codes "table")) ∙ h.1)
@@ -41,20 +44,21 @@ pub chosen_to : (found : Option (Text × List Row)) (name : Text) (rows : List R
     → ChosenIn found o → Chosen name (λ id. first_of id rows) o
 chosen_to found name rows o e h = subst (λ f. ChosenIn f o) e h
 
-pub is_simple_bench : (modes tables : Listed) → is_simple (bench_app modes tables) ≡ true
-is_simple_bench modes tables = refl
+pub is_simple_bench : (modes tables units : Listed) → is_simple (bench_app modes tables units) ≡ true
+is_simple_bench modes tables units = refl
 
-pub says : (words : List Text) (modes tables : Listed) (o : Options) → 0 < length words → ListsModes modes → ListsTables tables → ChosenIn (subcommand_of (bench_app modes tables) words) o → Says words o
-says [] modes tables o h a b c = absurd (omega arith)
-says (w ∷ ws) modes tables o h a b c = (modes, tables, a, b, c)
+pub says : (words : List Text) (modes tables units : Listed) (o : Options) → 0 < length words → ListsModes modes → ListsTables tables → ListsUnits units
+    → ChosenIn (subcommand_of (bench_app modes tables units) words) o → Says words o
+says [] modes tables units o h a b c d = absurd (omega arith)
+says (w ∷ ws) modes tables units o h a b c d = (modes, tables, units, a, b, c, d)
 
 -- ---- what is refused
 
 pub is_simple_so : (app : App) → IsBench app → is_simple app ≡ true
-is_simple_so app is = ap is_simple is.4
+is_simple_so app is = ap is_simple is.6
 
 pub is_free : (app : App) → IsBench app → is_simple_and_free app ≡ true
-is_free app is = ap is_simple_and_free is.4
+is_free app is = ap is_simple_and_free is.6
 
 pub taken : (words : List Text) (app : App) → 0 < length words → IsBench app → fault_of app words ≡ [] → IsTaken words
 taken [] app h is none = tt
@@ -89,7 +93,7 @@ pub first_part : {X A B : Type 0} (n : X → A) (r : X → B) (o : Option X) →
 first_part n r None = refl
 first_part n r (Some x) = refl
 
--- ---- a mode and a size of tables, by their words
+-- ---- a mode, a size of tables and a unit, by their words
 
 pub mode_found : (r : Option Mode) (w : Text) (found : Option Text) → IfSome r (λ m. w ≡ mode_word m) → found ≡ Some w → IfSome r (λ m. found ≡ Some (mode_word m))
 mode_found None w found h is = tt
@@ -126,4 +130,22 @@ table_unread None w found e is = by_size
     by_size t h =
         let same : w ≡ table_word t = cc in
         let none = e ∙ ap table_of same ∙ of_word t in
+        cc
+
+pub unit_found : (r : Option TimeUnit) (w : Text) (found : Option Text) → IfSome r (λ u. w ≡ unit_word u) → found ≡ Some w → IfSome r (λ u. found ≡ Some (unit_word u))
+unit_found None w found h is = tt
+unit_found (Some u) w found h is = is ∙ ap Some h
+
+pub unit_unread : (r : Option TimeUnit) (w : Text) (found : Option Text) → r ≡ unit_of w → found ≡ Some w → IfNone r ((u : TimeUnit) → found ≢ Some (unit_word u))
+unit_unread (Some u) w found e is = tt
+unit_unread None w found e is = by_unit
+  where
+    of_word : (u : TimeUnit) → unit_of (unit_word u) ≡ Some u
+    of_word Milliseconds = refl
+    of_word Microseconds = refl
+
+    by_unit : (u : TimeUnit) → found ≢ Some (unit_word u)
+    by_unit u h =
+        let same : w ≡ unit_word u = cc in
+        let none = e ∙ ap unit_of same ∙ of_word u in
         cc

@@ -7,6 +7,8 @@ use Rattle.clap.specs.declared.builder.value_parser.ValueParser.TheVariants.{Nam
 use Rattle.hsr_frame.specs.Address.{address_of}
 use Rattle.hsr_frame.specs.Words.{mode_word}
 use Rattle.hsr_frame.specs.declared.node.Mode.TheVariants.{H, N, U}
+use Rattle.hsr_text.specs.Moments.{unit_word}
+use Rattle.hsr_text.specs.declared.time_unit.TimeUnit.TheVariants.{Milliseconds, Microseconds}
 use Rattle.hsr_engines.specs.Tables.{table_word}
 use Rattle.hsr_engines.specs.declared.chosen.Table.TheVariants.{Small, Large}
 use Rattle.hsr_engines.specs.declared.chosen.NodeOptions.{NodeOptions}
@@ -21,12 +23,15 @@ use Rattle.hsr_bench.specs.declared.chosen.Options.TheVariants.{Node, Run, Threa
 abbrev pub Listed : Type 0
 Listed = Bor (List (Bor (List ℕ)))
 
--- the words of the modes, and of the sizes of tables
+-- the words of the modes, of the sizes of tables, and of the units
 abbrev pub ListsModes : Listed → Type 0
 ListsModes modes = map (λ s. s.now) modes.now ≡ mode_word H ∷ mode_word N ∷ mode_word U ∷ []
 
 abbrev pub ListsTables : Listed → Type 0
 ListsTables tables = map (λ s. s.now) tables.now ≡ table_word Small ∷ table_word Large ∷ []
+
+abbrev pub ListsUnits : Listed → Type 0
+ListsUnits units = map (λ s. s.now) units.now ≡ unit_word Milliseconds ∷ unit_word Microseconds ∷ []
 
 -- `--mac`, with its default
 abbrev pub mac_rule : Rule
@@ -40,12 +45,17 @@ mode_rule modes = record (new_rule (codes "mode")) { long = Some (codes "mode");
 abbrev pub table_rule : Listed → Rule
 table_rule tables = record (new_rule (codes "table")) { long = Some (codes "table"); defaults = table_word Large ∷ []; parser = Some (Names tables) }
 
+-- `--unit`, one of some names, with its default
+abbrev pub unit_rule : Listed → Rule
+unit_rule units = record (new_rule (codes "unit")) { long = Some (codes "unit"); defaults = unit_word Milliseconds ∷ []; parser = Some (Names units) }
+
 -- `--transcript`, which takes no value
 abbrev pub transcript_rule : Rule
 transcript_rule = record (new_rule (codes "transcript")) { long = Some (codes "transcript"); action = Some SetTrue }
 
-abbrev pub node_app : Listed → Listed → App
-node_app modes tables = with_rule (with_rule (with_rule (new_app (codes "node")) mac_rule) (mode_rule modes)) (table_rule tables)
+abbrev pub node_app : Listed → Listed → Listed → App
+node_app modes tables units =
+    with_rule (with_rule (with_rule (with_rule (new_app (codes "node")) mac_rule) (mode_rule modes)) (table_rule tables)) (unit_rule units)
 
 abbrev pub run_app : Listed → App
 run_app tables = with_rule (with_rule (new_app (codes "run")) (table_rule tables)) transcript_rule
@@ -59,9 +69,9 @@ audit_app tables = with_rule (new_app (codes "audit")) (table_rule tables)
 abbrev pub top_app : App
 top_app = record { top = record (new_app (codes "hsr_bench")).top { no_binary_name = true; subcommand_required = true }; subs = [] }
 
-abbrev pub bench_app : Listed → Listed → App
-bench_app modes tables =
-    with_subcommand (with_subcommand (with_subcommand (with_subcommand top_app (node_app modes tables).top) (run_app tables).top) (threads_app tables).top)
+abbrev pub bench_app : Listed → Listed → Listed → App
+bench_app modes tables units =
+    with_subcommand (with_subcommand (with_subcommand (with_subcommand top_app (node_app modes tables units).top) (run_app tables).top) (threads_app tables).top)
     (audit_app tables).top
 
 -- ---- what is chosen
@@ -70,10 +80,11 @@ abbrev pub flag_text : Bool → Text
 flag_text true = codes "true"
 flag_text false = codes "false"
 
--- a node's options are the values that were found: the address that a text spells, and two names
+-- a node's options are the values that were found: the address that a text spells, and three names
 abbrev pub IsNode : (Text → Option Text) → NodeOptions → Type 0
 IsNode found node = ((t : Text) × (found (codes "mac") ≡ Some t) × (address_of t ≡ Ok node.mac))
     × (found (codes "mode") ≡ Some (mode_word node.mode)) × (found (codes "table") ≡ Some (table_word node.table))
+    × (found (codes "unit") ≡ Some (unit_word node.unit))
 
 -- the options are the values of a subcommand, by its name and what it found
 abbrev pub Chosen : Text → (Text → Option Text) → Options → Type 0
@@ -90,15 +101,17 @@ ChosenIn (Some found) o = Chosen found.0 (λ id. first_of id found.1) o
 
 -- words say these options: none say `node` with its defaults, others what the command finds in them
 abbrev pub Says : List Text → Options → Type 0
-Says [] (Node node) = (node.mac ≡ 2 ∷ 0 ∷ 0 ∷ 0 ∷ 0 ∷ 1 ∷ []) × (node.mode ≡ H) × (node.table ≡ Large)
+Says [] (Node node) = (node.mac ≡ 2 ∷ 0 ∷ 0 ∷ 0 ∷ 0 ∷ 1 ∷ []) × (node.mode ≡ H) × (node.table ≡ Large) × (node.unit ≡ Milliseconds)
 Says [] o = ⊥
-Says (w ∷ ws) o = (modes : Listed) × (tables : Listed) × ListsModes modes × ListsTables tables × ChosenIn (subcommand_of (bench_app modes tables) (w ∷ ws)) o
+Says (w ∷ ws) o = (modes : Listed) × (tables : Listed) × (units : Listed) × ListsModes modes × ListsTables tables × ListsUnits units
+    × ChosenIn (subcommand_of (bench_app modes tables units) (w ∷ ws)) o
 
 -- ---- what is refused
 
--- the bench's command, with the names that it takes for modes and tables
+-- the bench's command, with the names that it takes for modes, tables and units
 abbrev pub IsBench : App → Type 0
-IsBench app = (modes : Listed) × (tables : Listed) × ListsModes modes × ListsTables tables × (app ≡ bench_app modes tables)
+IsBench app = (modes : Listed) × (tables : Listed) × (units : Listed) × ListsModes modes × ListsTables tables × ListsUnits units
+    × (app ≡ bench_app modes tables units)
 
 -- the command finds no fault in the words
 abbrev pub IsTaken : List Text → Type 0

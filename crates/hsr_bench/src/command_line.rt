@@ -2,18 +2,20 @@
 ghost use Rattle.std.specs.Prelude.{◌≡◌, ◌≢◌, IfErr, IfNone, IfOk, IfSome, OnOk, Some, Ok, codes, false, map};
 ghost use Rattle.hsr_frame.specs.Address.{IsGroup, address_of};
 ghost use Rattle.hsr_frame.specs.Words.{mode_word};
+ghost use Rattle.hsr_text.specs.Moments.{unit_word};
 ghost use Rattle.hsr_engines.specs.Tables.{table_word};
-ghost use Rattle.clap.specs.Words.{Text, app_of, first_value, found_of, kind_of, rule_of, subcommand_rows_of};
+ghost use Rattle.clap.specs.Words.{Text, app_of, first_value, found_of, kind_of, new_app, rule_of, subcommand_rows_of, with_rule};
 ghost use Rattle.clap.specs.declared.builder.Command.TheViews.{out-Command as fields_of};
 ghost use Rattle.clap.specs.declared.error.kind.ErrorKind.TheVariants.{OutOfMemory};
 ghost use Rattle.hsr_bench.specs.declared.chosen.OptionFault.TheVariants.{Memory};
-ghost use Rattle.hsr_bench.specs.Options.{Chosen, ChosenIn, IfUsage, IsNode, IsRefused, IsTaken, Says, SaysNothing, audit_app, bench_app, flag_text, mac_rule, mode_rule, node_app, run_app, table_rule, threads_app, top_app, transcript_rule};
+ghost use Rattle.hsr_bench.specs.Options.{Chosen, ChosenIn, IfUsage, IsNode, IsRefused, IsTaken, Says, SaysNothing, audit_app, bench_app, flag_text, mac_rule, mode_rule, node_app, run_app, table_rule, threads_app, top_app, transcript_rule, unit_rule};
 
 use crate::chosen::{OptionFault, Options};
 use clap::error::ErrorKind;
 use clap::{Arg, ArgAction, ArgMatches, Command, Error};
 use hsr_engines::{NodeOptions, Table};
 use hsr_frame::{Mac, Mode};
+use hsr_text::TimeUnit;
 use std::alloc::{AllocError, Global};
 
 const NODE_LINES: &str = "\
@@ -22,8 +24,9 @@ Each line of standard input, with one space between its words, is one of:
   life <at>                                   the node sends a supervision frame
   arrive <at> A|B <octets>                    octets come to a ring port
   age <at>                                    the node gives up what is expired
-where <at> is a moment in milliseconds, <dst> an address as 02-00-00-00-00-02, <type> and <vlan>
-(a VLAN tag's control information) four hexadecimal digits, and octets are in hexadecimal, - for none.
+where <at> is a moment in milliseconds, or in microseconds with --unit us, <dst> an address as
+02-00-00-00-00-02, <type> and <vlan> (a VLAN tag's control information) four hexadecimal digits, and
+octets are in hexadecimal, - for none.
 
 The answers: `sent <number>` or `life <number> <count>` with the octets of both copies; `passed` with the
 egresses up, A, B and the frame that went up; `duplicate`, `returned`, `foreign`, `untagged`,
@@ -36,6 +39,7 @@ Example: echo 'send 0 02-00-00-00-00-02 0800 AABB' | hsr_bench node";
 const RUN_ENDS: &str = "\
 A scenario is TOML, read from standard input:
   capacity = 64   how many copies wait in each direction of a link, 1 to 4096 (64 if it isn't there)
+  unit = \"ms\"     in which it tells moments: ms, or us for microseconds (ms if it isn't there)
   [[node]]        name, role, and by its role: danh and redbox mac, mode (H, N or U; H if it isn't there);
                   quadbox nothing; station macs, a list of at most 16 addresses
   [[link]]        ends, a list of two ends, as [\"n0.B\", \"n1.A\"]: a node's name and the letter of its port
@@ -44,8 +48,8 @@ A scenario is TOML, read from standard input:
                   age node; put port; judge port; take link, dir (forth or back); cut link; mend link;
                   inject link, dir, octets; drain nothing. It brings all that is on its way to its end
 Nodes, links and steps are counted from 0, as they stand. A name has 1 to 32 small letters, digits and
-hyphens. An address is written 02-00-00-00-00-02, a moment in milliseconds, type and vlan as numbers (type
-= 0x0800), payload and octets in hexadecimal. A send's payload, vlan and from (the place among a station's
+hyphens. An address is written 02-00-00-00-00-02, a moment as a number of its unit, type and vlan as numbers
+(type = 0x0800), payload and octets in hexadecimal. A send's payload, vlan and from (the place among a station's
 addresses) and a life's about may be left out.
 
 docs/USING.md says what to look up where; docs/RULES.md has the rules.
@@ -56,7 +60,7 @@ error says why.
 
 With --transcript the statuses are the same, and in place of the report comes the transcript: the nodes
 and links, the order of the steps at nodes, each node's record with its arrivals and what became of
-them, and each link's copies. `audit` reads it.
+them, and each link's copies, with all moments in microseconds. `audit` reads it.
 
 Examples: hsr_bench run < plan.toml
           hsr_bench run --transcript < plan.toml | hsr_bench audit";
@@ -74,8 +78,9 @@ Examples: hsr_bench threads < plan.toml
           hsr_bench threads --transcript < plan.toml | hsr_bench audit";
 
 const AUDIT_ENDS: &str = "\
-The transcript is one that `run --transcript` wrote with a table of the same size. Each entry is done
-anew and compared, links and records are checked against each other, and the report is that of `run`.
+The transcript is one that `run --transcript` wrote with a table of the same size; it may be of version 1,
+which tells moments in milliseconds. Each entry is done anew and compared, links and records are checked
+against each other, and the report is that of `run`.
 
 Status 0: every frame came exactly once to each node that it was for. Status 2: the run gives reason to
 doubt that, named in the last line. Status 1: there is no report, and one line on standard error says
@@ -122,6 +127,17 @@ fn table_arg<'a>(alloc: Global, tables: &'a [&'a str]) -> Arg<'a>
         .default_value(Table::Large.word())
 }
 
+fn unit_arg<'a>(alloc: Global, units: &'a [&'a str]) -> Arg<'a>
+    ensures rule { rule_of result ≡ unit_rule units.entry }
+    ensures own { result.global ≡ false }
+{
+    Arg::new(alloc, "unit")
+        .long("unit")
+        .help("The unit of moments: milliseconds (ms) or microseconds (us)")
+        .value_parser(units)
+        .default_value(TimeUnit::Milliseconds.word())
+}
+
 fn transcript_arg<'a>(alloc: Global) -> Arg<'a>
     ensures rule { rule_of result ≡ transcript_rule }
     ensures own { result.global ≡ false }
@@ -132,20 +148,30 @@ fn transcript_arg<'a>(alloc: Global) -> Arg<'a>
         .action(ArgAction::SetTrue)
 }
 
-fn node_command<'a>(
-    alloc: Global,
-    modes: &'a [&'a str],
-    tables: &'a [&'a str],
-) -> Result<Command<'a>, AllocError>
-    ensures app { IfOk result (λ c. app_of c ≡ node_app modes.entry tables.entry) }
+/// The command `node` with the options for the node's address and mode.
+fn node_placed<'a>(alloc: Global, modes: &'a [&'a str]) -> Result<Command<'a>, AllocError>
+    ensures app { IfOk result (λ c. app_of c ≡ with_rule (with_rule (new_app (codes "node")) mac_rule) (mode_rule modes.entry)) }
     ensures own { IfOk result (λ c. (fields_of c).has_globals ≡ false) }
 {
     Command::new(alloc, "node")
         .about("Answers lines of standard input as one DANH")
         .after_help(NODE_LINES)
         .arg(mac_arg(alloc))?
-        .arg(mode_arg(alloc, modes))?
-        .arg(table_arg(alloc, tables))
+        .arg(mode_arg(alloc, modes))
+}
+
+fn node_command<'a>(
+    alloc: Global,
+    modes: &'a [&'a str],
+    tables: &'a [&'a str],
+    units: &'a [&'a str],
+) -> Result<Command<'a>, AllocError>
+    ensures app { IfOk result (λ c. app_of c ≡ node_app modes.entry tables.entry units.entry) }
+    ensures own { IfOk result (λ c. (fields_of c).has_globals ≡ false) }
+{
+    node_placed(alloc, modes)?
+        .arg(table_arg(alloc, tables))?
+        .arg(unit_arg(alloc, units))
 }
 
 fn run_command<'a>(alloc: Global, tables: &'a [&'a str]) -> Result<Command<'a>, AllocError>
@@ -197,10 +223,11 @@ fn bench_command<'a>(
     alloc: Global,
     modes: &'a [&'a str],
     tables: &'a [&'a str],
+    units: &'a [&'a str],
 ) -> Result<Command<'a>, AllocError>
-    ensures { IfOk result (λ c. app_of c ≡ bench_app modes.entry tables.entry) }
+    ensures { IfOk result (λ c. app_of c ≡ bench_app modes.entry tables.entry units.entry) }
 {
-    let node = node_command(alloc, modes, tables)?;
+    let node = node_command(alloc, modes, tables, units)?;
     let run = run_command(alloc, tables)?;
     let threads = threads_command(alloc, tables)?;
     let audit = audit_command(alloc, tables)?;
@@ -249,6 +276,14 @@ fn mode_of(matches: &ArgMatches<'_>) -> Option<Mode>
     Mode::from_word(matches.get_str("mode")?.as_bytes())
 }
 
+#[tactic(auto, using(crate::proofs::Found::unit_found, crate::proofs::Found::unit_unread))]
+fn unit_of(matches: &ArgMatches<'_>) -> Option<TimeUnit>
+    ensures found { IfSome result (λ u. first_value (found_of matches.now) (codes "unit") ≡ Some (unit_word u)) }
+    ensures none { IfNone result ((u : _) → first_value (found_of matches.now) (codes "unit") ≢ Some (unit_word u)) }
+{
+    TimeUnit::from_word(matches.get_str("unit")?.as_bytes())
+}
+
 fn transcript_of(matches: &ArgMatches<'_>) -> Option<bool>
     ensures found { IfSome result (λ b. first_value (found_of matches.now) (codes "transcript") ≡ Some (flag_text b)) }
     ensures none { IfNone result ((b : _) → first_value (found_of matches.now) (codes "transcript") ≢ Some (flag_text b)) }
@@ -279,8 +314,14 @@ fn node_options(matches: &ArgMatches<'_>) -> Option<NodeOptions>
 {
     let mode = mode_of(matches)?;
     let table = table_of(matches)?;
+    let unit = unit_of(matches)?;
     let mac = mac_of(matches)?;
-    Some(NodeOptions { mac, mode, table })
+    Some(NodeOptions {
+        mac,
+        mode,
+        table,
+        unit,
+    })
 }
 
 /// The options of a subcommand.
@@ -329,11 +370,13 @@ pub fn options<'a>(alloc: Global, words: &'a [&'a str]) -> Result<Options, Optio
             mac: Mac::new([2, 0, 0, 0, 0, 1]),
             mode: Mode::H,
             table: Table::Large,
+            unit: TimeUnit::Milliseconds,
         }));
     }
     let modes = [Mode::H.word(), Mode::N.word(), Mode::U.word()];
     let tables = [Table::Small.word(), Table::Large.word()];
-    let command = bench_command(alloc, modes.as_slice(), tables.as_slice())?;
+    let units = [TimeUnit::Milliseconds.word(), TimeUnit::Microseconds.word()];
+    let command = bench_command(alloc, modes.as_slice(), tables.as_slice(), units.as_slice())?;
     match command.try_get_matches_from(words) {
         Ok(matches) => match chosen_in(&matches) {
             Some(options) => Ok(options),

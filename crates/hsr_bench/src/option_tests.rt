@@ -3,6 +3,7 @@ use crate::chosen::{OptionFault, Options};
 use crate::command_line::options;
 use hsr_engines::{NodeOptions, Table};
 use hsr_frame::{Mac, Mode};
+use hsr_text::TimeUnit;
 use std::test::Fail;
 
 /// What no words choose.
@@ -11,6 +12,7 @@ fn defaults() -> NodeOptions {
         mac: Mac::new([2, 0, 0, 0, 0, 1]),
         mode: Mode::H,
         table: Table::Large,
+        unit: TimeUnit::Milliseconds,
     }
 }
 
@@ -70,10 +72,24 @@ fn words_of_modes(rt: HostRuntime) {
 }
 
 #[test]
+fn words_of_units(rt: HostRuntime) {
+    for unit in [TimeUnit::Milliseconds, TimeUnit::Microseconds] {
+        let mut chosen = defaults();
+        chosen.unit = unit;
+        assert!(rt;
+            options(rt.alloc(), &["node", "--unit", unit.word()]).ok()
+                == Some(Options::Node(chosen))
+        );
+    }
+}
+
+#[test]
 fn words_that_clap_refuses(rt: HostRuntime) -> Result<(), Fail> {
     let refused = [
         ["node", "--mode", "X"].as_slice(),
         &["node", "--mode", "H", "--mode", "H"],
+        &["node", "--unit", "s"],
+        &["run", "--unit", "us"],
         &["node", "--help"],
         &["--help"],
         &["help"],

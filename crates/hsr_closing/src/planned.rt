@@ -1,7 +1,7 @@
 //! What a run was meant to do.
 use hsr_node::Event;
 
-/// What the main worker brought about: a send, a supervision or an age of a node, at a moment in milliseconds, as it was
+/// What the main worker brought about: a send, a supervision or an age of a node, at a moment in microseconds, as it was
 /// given.
 #[derive(Clone, Debug, Drop, PartialEq, Eq)]
 pub struct Planned {

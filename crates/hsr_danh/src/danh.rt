@@ -33,7 +33,7 @@ pub struct Verdict {
 }
 
 /// A doubly attached node (IEC 62439-3 clause 5.3), whose duplicate tables have `C` entries each, `C` from 1
-/// to 65535. Moments are in milliseconds; one that is earlier than the last is read as the last. Only `new`
+/// to 65535. Moments are in microseconds; one that is earlier than the last is read as the last. Only `new`
 /// takes memory.
 #[derive(Drop)]
 pub struct Danh<const C: usize> {
@@ -160,7 +160,7 @@ impl<const C: usize> Danh<C> {
         Ok(verdict)
     }
 
-    /// Gives up the notes that are expired at a moment in milliseconds. That changes no later answer.
+    /// Gives up the notes that are expired at a moment in microseconds. That changes no later answer.
     pub fn age(&mut self, at: u64)
         ensures { self.new ≡ age_step self.old at }
     {
@@ -185,7 +185,7 @@ impl<const C: usize> Danh<C> {
         self.counters
     }
 
-    /// The nodes that were heard less than `NODE_FORGET` milliseconds ago, the latest first.
+    /// The nodes that were heard less than `NODE_FORGET` microseconds ago, the latest first.
     pub fn nodes(&self, at: u64) -> ArrayVec<NodeRow, ROW_LIMIT>
         ensures { result.items ≡ map (λ r. r.0) (known (now_at self.now at) self.now.nodes.rows) }
     {

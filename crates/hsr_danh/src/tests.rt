@@ -84,13 +84,16 @@ fn unreadable_supervision(rt: HostRuntime) -> Result<(), Fail> {
 fn a_node_is_heard_on_both_ports(rt: HostRuntime) -> Result<(), Fail> {
     let mut node = node(&rt, Mode::N)?;
     let _on_a = node.arrive(0, RingPort::A, &said(23));
-    let on_b = node.arrive(5, RingPort::B, &said(23)).ok().ok_or("spent")?;
+    let on_b = node
+        .arrive(5_000, RingPort::B, &said(23))
+        .ok()
+        .ok_or("spent")?;
     assert_eq!(rt; on_b.cause, Cause::Duplicate);
-    let rows = node.nodes(60004);
+    let rows = node.nodes(60_004_999);
     assert_eq!(rt; rows.len(), 1);
     assert!(rt; rows.as_slice()[0].mac == Mac::new([2, 0, 0, 0, 0, 10]));
     assert_eq!(rt; rows.as_slice()[0].heard_a, Some(0));
-    assert_eq!(rt; rows.as_slice()[0].heard_b, Some(5));
-    assert!(rt; node.nodes(60005).is_empty());
+    assert_eq!(rt; rows.as_slice()[0].heard_b, Some(5_000));
+    assert!(rt; node.nodes(60_005_000).is_empty());
     Ok(())
 }

@@ -4,9 +4,9 @@ use Rattle.std.specs.List.{list_any}
 use Rattle.hsr_duptable.specs.Key.{Key, is_same_key}
 use Rattle.hsr_duptable.specs.declared.note.Note.{Note}
 
--- for how many milliseconds a frame is remembered: the EntryForgetTime of IEC 62439-3 clause 5
+-- for how many microseconds a frame is remembered: the EntryForgetTime of IEC 62439-3 clause 5
 abbrev pub entry_forget : ℕ
-entry_forget = 400
+entry_forget = 400000
 
 -- what a frame leaves in a log: its note, or none
 abbrev pub note_if : Bool → Key → ℕ → List Note

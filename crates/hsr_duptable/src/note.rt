@@ -4,8 +4,8 @@ ghost use Rattle.std.specs.Prelude.{◌≡◌};
 use hsr_frame::Mac;
 use std::marker::Model;
 
-/// For how long a frame is remembered, in milliseconds: the EntryForgetTime of IEC 62439-3 clause 5.
-pub const ENTRY_FORGET: u64 = 400;
+/// For how long a frame is remembered, in microseconds: the EntryForgetTime of IEC 62439-3 clause 5.
+pub const ENTRY_FORGET: u64 = 400_000;
 
 /// What tells a frame from others (IEC 62439-3 clause 5.3): its source, and its sequence number, modulo 65536.
 #[derive(Clone, Copy, Debug, PartialEq, Eq)]
@@ -25,7 +25,7 @@ impl Model for Key {
     ghost inverse = { λ k. record { src = k.src; seq = k.seq } };
 }
 
-/// A frame that passed, and the moment at which it did, in milliseconds.
+/// A frame that passed, and the moment at which it did, in microseconds.
 #[derive(Clone, Copy, Debug, PartialEq, Eq)]
 pub struct Note {
     pub key: Key,
@@ -35,7 +35,7 @@ pub struct Note {
 impl Note {
     ghost use Rattle.hsr_duptable.specs.Notes.{is_unexpired};
 
-    /// Whether less than `forget` milliseconds have passed since.
+    /// Whether less than `forget` microseconds have passed since.
     pub(crate) fn is_unexpired(&self, forget: u64, at: u64) -> bool
         ensures { result ≡ is_unexpired forget at self.now }
     {

@@ -40,7 +40,7 @@ impl<const C: usize> DupTable<C> {
     ghost use Rattle.hsr_duptable.specs.Table.{empty_table, remembers, after_note, after_pass, after_age};
     ghost use Rattle.hsr_duptable.specs.Buckets.{bucket_of, looks_of};
 
-    /// A table that holds nothing, and remembers a frame until `forget` milliseconds have passed;
+    /// A table that holds nothing, and remembers a frame until `forget` microseconds have passed;
     /// `NoMemory` where room for `C` notes or for the heads of `C` buckets is refused.
     pub fn new(alloc: Global, forget: u64) -> Result<Self, NoMemory>
         requires { (1 ≤ C) × (C ≤ 65535) }
@@ -82,14 +82,14 @@ impl<const C: usize> DupTable<C> {
         self.noted
     }
 
-    /// The moment of the latest `note` or `age`, in milliseconds; 0 at first.
+    /// The moment of the latest `note` or `age`, in microseconds; 0 at first.
     pub fn last(&self) -> u64
         ensures { result ≡ self.now.last }
     {
         self.last
     }
 
-    /// Whether the frame is remembered at a moment, in milliseconds.
+    /// Whether the frame is remembered at a moment, in microseconds.
     pub fn seen(&self, key: Key, at: u64) -> bool
         requires { self.now.last ≤ at }
         ensures { result ≡ remembers self.now key at }
@@ -98,7 +98,7 @@ impl<const C: usize> DupTable<C> {
     }
 
     /// What `seen` answers, and at how many notes the search looked: those held of the frame's bucket, from the youngest
-    /// down to and with the first one of the frame; all of them where none is. The moment is in milliseconds.
+    /// down to and with the first one of the frame; all of them where none is. The moment is in microseconds.
     pub fn seen_looks(&self, key: Key, at: u64) -> (bool, usize)
         requires { self.now.last ≤ at }
         ensures seen { result.0 ≡ remembers self.now key at }
@@ -110,7 +110,7 @@ impl<const C: usize> DupTable<C> {
         look_up::<C>(&self.ring, gone, head, key, self.forget, at)
     }
 
-    /// Notes that the frame passed at a moment, in milliseconds; a full table gives up its oldest note.
+    /// Notes that the frame passed at a moment, in microseconds; a full table gives up its oldest note.
     pub fn note(&mut self, key: Key, at: u64)
         requires later { self.old.last ≤ at }
         requires room { self.old.noted < step_limit }
@@ -127,7 +127,7 @@ impl<const C: usize> DupTable<C> {
     }
 
     /// Passes a frame at an egress that wants it and doesn't remember it, notes that, and tells whether it passed;
-    /// the moment is in milliseconds (IEC 62439-3 clause 5.3).
+    /// the moment is in microseconds (IEC 62439-3 clause 5.3).
     pub fn pass(&mut self, wanted: bool, key: Key, at: u64) -> bool
         requires later { self.old.last ≤ at }
         requires room { self.old.noted < step_limit }
@@ -139,7 +139,7 @@ impl<const C: usize> DupTable<C> {
         passes
     }
 
-    /// Notes a frame if it passes without a look, at a moment in milliseconds.
+    /// Notes a frame if it passes without a look, at a moment in microseconds.
     pub fn mark(&mut self, passes: bool, key: Key, at: u64)
         requires later { self.old.last ≤ at }
         requires room { self.old.noted < step_limit }
@@ -150,7 +150,7 @@ impl<const C: usize> DupTable<C> {
         }
     }
 
-    /// Gives up the notes that are expired at a moment, in milliseconds.
+    /// Gives up the notes that are expired at a moment, in microseconds.
     pub fn age(&mut self, at: u64)
         requires { self.old.last ≤ at }
         ensures { self.new ≡ after_age self.old at }

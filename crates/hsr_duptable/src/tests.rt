@@ -31,8 +31,8 @@ fn passes<const C: usize>(rt: &impl Abort, table: &mut DupTable<C>, seq: u16, at
 fn forgotten_at_400(rt: HostRuntime) -> Result<(), Fail> {
     let mut table: DupTable<512> = DupTable::new(rt.alloc(), ENTRY_FORGET)?;
     assert!(rt; passes(&rt, &mut table, 7, 0));
-    assert!(rt; !passes(&rt, &mut table, 7, 399));
-    assert!(rt; passes(&rt, &mut table, 7, 400));
+    assert!(rt; !passes(&rt, &mut table, 7, 399_999));
+    assert!(rt; passes(&rt, &mut table, 7, 400_000));
     assert_eq!(rt; table.noted(), 2);
     Ok(())
 }
@@ -41,14 +41,14 @@ fn forgotten_at_400(rt: HostRuntime) -> Result<(), Fail> {
 fn ageing_gives_up_at_400(rt: HostRuntime) -> Result<(), Fail> {
     let mut table: DupTable<512> = DupTable::new(rt.alloc(), ENTRY_FORGET)?;
     assert!(rt; passes(&rt, &mut table, 7, 0));
-    assert!(rt; passes(&rt, &mut table, 8, 1));
-    assert!(rt; table.last() <= 399);
-    table.age(399);
+    assert!(rt; passes(&rt, &mut table, 8, 1_000));
+    assert!(rt; table.last() <= 399_999);
+    table.age(399_999);
     assert_eq!(rt; table.held(), 2);
-    table.age(400);
+    table.age(400_000);
     assert_eq!(rt; table.held(), 1);
-    assert_eq!(rt; table.last(), 400);
-    assert!(rt; !passes(&rt, &mut table, 8, 400));
+    assert_eq!(rt; table.last(), 400_000);
+    assert!(rt; !passes(&rt, &mut table, 8, 400_000));
     Ok(())
 }
 
@@ -56,8 +56,8 @@ fn ageing_gives_up_at_400(rt: HostRuntime) -> Result<(), Fail> {
 fn refused_duplicates_renew_nothing(rt: HostRuntime) -> Result<(), Fail> {
     let mut table: DupTable<512> = DupTable::new(rt.alloc(), ENTRY_FORGET)?;
     assert!(rt; passes(&rt, &mut table, 7, 0));
-    assert!(rt; !passes(&rt, &mut table, 7, 300));
-    assert!(rt; passes(&rt, &mut table, 7, 450));
+    assert!(rt; !passes(&rt, &mut table, 7, 300_000));
+    assert!(rt; passes(&rt, &mut table, 7, 450_000));
     Ok(())
 }
 
@@ -108,11 +108,11 @@ fn looks_of_one_bucket(rt: HostRuntime) -> Result<(), Fail> {
     let mut table: DupTable<4> = DupTable::new(rt.alloc(), ENTRY_FORGET)?;
     note_all(&rt, &mut table, &[0, 4, 8, 12]);
     assert!(rt; table.last() == 0);
-    assert_eq!(rt; table.seen_looks(numbered(0), 399), (true, 4));
-    assert_eq!(rt; table.seen_looks(numbered(0), 400), (false, 4));
+    assert_eq!(rt; table.seen_looks(numbered(0), 399_999), (true, 4));
+    assert_eq!(rt; table.seen_looks(numbered(0), 400_000), (false, 4));
     assert_eq!(rt; table.seen_looks(numbered(16), 0), (false, 4));
-    table.age(400);
-    assert_eq!(rt; table.seen_looks(numbered(0), 400), (false, 0));
+    table.age(400_000);
+    assert_eq!(rt; table.seen_looks(numbered(0), 400_000), (false, 0));
     Ok(())
 }
 
@@ -125,6 +125,6 @@ fn new_refused_for_memory(rt: HostRuntime) -> Result<(), Fail> {
         Err(NoMemory) => DupTable::new(rt.alloc(), ENTRY_FORGET)?,
     };
     assert!(rt; passes(&rt, &mut table, 7, 0));
-    assert!(rt; !passes(&rt, &mut table, 7, 399));
+    assert!(rt; !passes(&rt, &mut table, 7, 399_999));
     Ok(())
 }

@@ -2,6 +2,7 @@
 ghost use Rattle.hsr_frame.specs.Address.{IsGroup};
 
 use hsr_frame::{Mac, Mode};
+use hsr_text::TimeUnit;
 
 /// How many entries a duplicate table holds: 4 or 512.
 #[derive(Clone, Copy, Debug, PartialEq, Eq)]
@@ -47,5 +48,7 @@ pub struct NodeOptions {
     pub mac: Mac,
     pub mode: Mode,
     pub table: Table,
+    /// The unit of the moments in its lines.
+    pub unit: TimeUnit,
     pub ghost station: { ¬ IsGroup mac },
 }

@@ -1,6 +1,5 @@
 //! The run of `node` over a reader and a writer.
 ghost use Rattle.std.specs.Prelude.{◌≡◌, ◌≢◌, ◌<◌, ◌≤◌, ℕ, IfErr, IfSome, List, OnOk, Option, length};
-ghost use Rattle.hsr_frame.specs.Address.{IsGroup};
 ghost use Rattle.hsr_text.specs.Lines.{ReadsFront, lines_of};
 ghost use Rattle.hsr_danh.specs.Machine.{new_machine};
 ghost use Rattle.hsr_engines.specs.Output.{Ended, output};
@@ -12,9 +11,8 @@ use crate::chosen::{NodeOptions, Table};
 use crate::fault::{Fault, Status};
 use arrayvec::ArrayVec;
 use hsr_danh::Danh;
-use hsr_frame::{Mac, Mode};
 use hsr_node_text::{answer_request, put_counters, read_request};
-use hsr_text::{Front, READ_LIMIT, WordFault, next_line};
+use hsr_text::{Front, READ_LIMIT, TimeUnit, WordFault, next_line};
 use std::alloc::Global;
 use std::io::{BufRead, BufReader, Read, Write};
 
@@ -31,15 +29,16 @@ struct Room {
 /// Answers one line.
 fn serve<W: Write, const C: usize>(
     alloc: Global,
+    unit: TimeUnit,
     danh: &mut Danh<C>,
     number: u64,
     line: &[u8],
     writer: &mut W,
     text: &mut Vec<u8>,
 ) -> Result<(), Fault>
-    ensures { Served C danh.old danh.new number line.now (W.contents writer.old) (W.contents writer.new) result }
+    ensures { Served unit C danh.old danh.new number line.now (W.contents writer.old) (W.contents writer.new) result }
 {
-    let request = match read_request(alloc, line) {
+    let request = match read_request(alloc, unit, line) {
         Ok(request) => request,
         Err(WordFault::Bad) => return Err(Fault::Line(number)),
         Err(WordFault::Memory) => return Err(Fault::Memory),
@@ -55,6 +54,7 @@ fn serve<W: Write, const C: usize>(
 #[tactic(auto, using(crate::proofs::Turns::turned_line, crate::proofs::Turns::turned_line_err, crate::proofs::Turns::turned_rest, crate::proofs::Turns::turned_rest_err, crate::proofs::Turns::turned_none, crate::proofs::Turns::turned_long, crate::proofs::Turns::served_told))]
 fn answer_front<W: Write, const C: usize>(
     alloc: Global,
+    unit: TimeUnit,
     danh: &mut Danh<C>,
     number: u64,
     front: Front,
@@ -62,14 +62,14 @@ fn answer_front<W: Write, const C: usize>(
     room: &mut Room,
 ) -> Result<bool, Fault>
     ensures turned { (left rest : Option (List ℕ)) → ReadsFront LINE_LIMIT left rest room.old.line.items front
-        → Turned left rest (W.contents writer.old) (W.contents writer.new) C danh.old danh.new number result }
+        → Turned unit left rest (W.contents writer.old) (W.contents writer.new) C danh.old danh.new number result }
     ensures told { IfErr result (λ f. f ≢ ReadFailed) }
 {
     let line = &room.line;
     let text = &mut room.text;
     match front {
         Front::TooLong => Err(Fault::Line(number)),
-        Front::Line => match serve(alloc, danh, number, line.as_slice(), writer, text) {
+        Front::Line => match serve(alloc, unit, danh, number, line.as_slice(), writer, text) {
             Ok(()) => Ok(true),
             Err(fault) => Err(fault),
         },
@@ -77,7 +77,7 @@ fn answer_front<W: Write, const C: usize>(
             if line.is_empty() {
                 return Ok(false);
             }
-            match serve(alloc, danh, number, line.as_slice(), writer, text) {
+            match serve(alloc, unit, danh, number, line.as_slice(), writer, text) {
                 Ok(()) => Ok(false),
                 Err(fault) => Err(fault),
             }
@@ -88,6 +88,7 @@ fn answer_front<W: Write, const C: usize>(
 /// Reads and answers the next line, and tells whether more may follow.
 fn turn<R: BufRead, W: Write, const C: usize>(
     alloc: Global,
+    unit: TimeUnit,
     danh: &mut Danh<C>,
     number: u64,
     reader: &mut R,
@@ -95,12 +96,12 @@ fn turn<R: BufRead, W: Write, const C: usize>(
     writer: &mut W,
     room: &mut Room,
 ) -> Result<bool, Fault>
-    ensures turned { Turned (R.remaining reader.old) (R.remaining reader.new) (W.contents writer.old) (W.contents writer.new) C danh.old danh.new number result }
+    ensures turned { Turned unit (R.remaining reader.old) (R.remaining reader.new) (W.contents writer.old) (W.contents writer.new) C danh.old danh.new number result }
     ensures fewer { OnOk result (reads.new < reads.old) }
     ensures bounded { reads.new ≤ reads.old }
 {
     let front = next_line(reader, reads, &mut room.line)?;
-    answer_front(alloc, danh, number, front, writer, room)
+    answer_front(alloc, unit, danh, number, front, writer, room)
 }
 
 /// Writes the line at the end.
@@ -129,14 +130,12 @@ fn run<R: BufRead, W: Write, const C: usize>(
     alloc: Global,
     reader: &mut R,
     writer: &mut W,
-    mac: Mac,
-    mode: Mode,
+    chosen: &NodeOptions,
 ) -> Result<(), Fault>
-    requires station { ¬ IsGroup mac }
-    requires entries { (1 ≤ C) × (C ≤ 65535) }
-    ensures { Ran (R.remaining reader.old) (W.contents writer.old) (W.contents writer.new) C (new_machine mac mode) result }
+    requires { (1 ≤ C) × (C ≤ 65535) }
+    ensures { Ran chosen.now.unit (R.remaining reader.old) (W.contents writer.old) (W.contents writer.new) C (new_machine chosen.now.mac chosen.now.mode) result }
 {
-    let mut danh = match Danh::<C>::new(alloc, mac, mode) {
+    let mut danh = match Danh::<C>::new(alloc, chosen.mac, chosen.mode) {
         Ok(danh) => danh,
         Err(_) => return Err(Fault::Memory),
     };
@@ -148,7 +147,14 @@ fn run<R: BufRead, W: Write, const C: usize>(
     let mut number = 1u64;
     loop {
         match turn(
-            alloc, &mut danh, number, reader, &mut reads, writer, &mut room,
+            alloc,
+            chosen.unit,
+            &mut danh,
+            number,
+            reader,
+            &mut reads,
+            writer,
+            &mut room,
         ) {
             Ok(true) => number += 1,
             Ok(false) => return finish(&danh, writer, &mut room.text),
@@ -157,8 +163,8 @@ fn run<R: BufRead, W: Write, const C: usize>(
     }
 }
 
-/// Answers the lines of a text by a DANH with the chosen address, mode and size of tables; moments are milliseconds. A line that
-/// is bad or has over 4096 octets ends the run as `Fault::Line`, counted from 1; what was answered stands. `Fault::Read` where
+/// Answers the lines of a text by a DANH with the chosen address, mode and size of tables; the lines tell moments in the chosen
+/// unit. A line that is bad or has over 4096 octets ends the run as `Fault::Line`, counted from 1; what was answered stands. `Fault::Read` where
 /// the reader fails or takes over 2^40 reads, `Fault::Write`, `Fault::Memory`.
 pub fn node_run<R: Read, W: Write>(
     alloc: Global,
@@ -167,14 +173,14 @@ pub fn node_run<R: Read, W: Write>(
     chosen: &NodeOptions,
 ) -> Status
     ensures { IfSome (R.remaining reader.old) (λ text.
-        Ended (W.contents writer.old) (W.contents writer.new) (output (capacity_of chosen.now.table) (new_machine chosen.now.mac chosen.now.mode) 1 (lines_of text)) result) }
+        Ended (W.contents writer.old) (W.contents writer.new) (output chosen.now.unit (capacity_of chosen.now.table) (new_machine chosen.now.mac chosen.now.mode) 1 (lines_of text)) result) }
 {
     let Ok(mut lines) = BufReader::new(alloc, reader) else {
         return Status::Fault(Fault::Memory);
     };
     let ran = match chosen.table {
-        Table::Small => run::<_, W, 4>(alloc, &mut lines, writer, chosen.mac, chosen.mode),
-        Table::Large => run::<_, W, 512>(alloc, &mut lines, writer, chosen.mac, chosen.mode),
+        Table::Small => run::<_, W, 4>(alloc, &mut lines, writer, chosen),
+        Table::Large => run::<_, W, 512>(alloc, &mut lines, writer, chosen),
     };
     match ran {
         Ok(()) => Status::Certified,

@@ -21,5 +21,6 @@ pub use audit::audit_run;
 pub use chosen::{NodeOptions, Table};
 pub use engine::node_run;
 pub use fault::{Fault, Status, TranscriptFault};
+pub use hsr_text::TimeUnit;
 pub use scenario::scenario_run;
 pub use threads::threads_run;

@@ -2,7 +2,7 @@
 ghost use Rattle.hsr_frame.specs.Address.{IsGroup};
 ghost use Rattle.hsr_node.specs.Place.{HasOwnAddress};
 
-use hsr_engines::{NodeOptions, Table};
+use hsr_engines::{NodeOptions, Table, TimeUnit};
 use hsr_frame::{Mac, Mode};
 use hsr_node::{Octets, Place};
 use hsr_ring::{Step, World};
@@ -115,7 +115,7 @@ certified 1
 ";
 
 /// Its transcript.
-pub const TRANSCRIPT: &str = "hsr-bench 1
+pub const TRANSCRIPT: &str = "hsr-bench 2
 table 512
 nodes 3
 danh 02-00-00-00-00-01 H
@@ -165,6 +165,7 @@ pub fn defaults() -> NodeOptions {
         mac: Mac::new([2, 0, 0, 0, 0, 1]),
         mode: Mode::H,
         table: Table::Large,
+        unit: TimeUnit::Milliseconds,
     }
 }
 

@@ -100,11 +100,11 @@ apart_take (suc n) (x ∷ ns) h = (all_take (λ z. (y : Sent) → of_one z y ≡
 -- ---- within budget a send that was noted is still remembered
 
 in_room : (run : Run) → IsBudgetHeld run → (ns : List Noted) (send : Probe) (at : ℕ) → AllByRecursion (IsTimely run) ns → Falls ns → AllByRecursion (λ (n : Noted). n.moment ≤ at) ns →
-    ((send : Probe) → count_by (is_note_of (Some send)) ns ≤ 1) → moment_of run send ≤ at → at < moment_of run send + 400 →
+    ((send : Probe) → count_by (is_note_of (Some send)) ns ≤ 1) → moment_of run send ≤ at → at < moment_of run send + 400000 →
     list_any (is_note_of (Some send)) ns ≡ true → list_any (is_note_of (Some send)) (remembered run.capacity at ns) ≡ true
 in_room run budget ns send at timely falls until once sent early some =
     ⊎_elim
-    (λ found. any_filtered (is_note_of (Some send)) (λ n. nat_lt (at - n.moment) 400) (take run.capacity ns) (young (take run.capacity ns) (all_take (IsTimely run) run.capacity ns timely)) found)
+    (λ found. any_filtered (is_note_of (Some send)) (λ n. nat_lt (at - n.moment) 400000) (take run.capacity ns) (young (take run.capacity ns) (all_take (IsTimely run) run.capacity ns timely)) found)
     (λ missing. absurd (crowded missing))
     (cases_Bool (list_any (is_note_of (Some send)) (take run.capacity ns)))
   where
@@ -116,25 +116,25 @@ in_room run budget ns send at timely falls until once sent early some =
         let P : Probe → Type 0 = λ p. moment_of run p ≤ note.moment in
         subst P same t.after
 
-    young : (xs : List Noted) → AllByRecursion (IsTimely run) xs → AllByRecursion (λ n. is_note_of (Some send) n ≡ true → nat_lt (at - n.moment) 400 ≡ true) xs
+    young : (xs : List Noted) → AllByRecursion (IsTimely run) xs → AllByRecursion (λ n. is_note_of (Some send) n ≡ true → nat_lt (at - n.moment) 400000 ≡ true) xs
     young [] a = tt
-    young (n ∷ xs) a = ((λ mine. let s = since n a.0 mine in lt-ltb (at - n.moment) 400 (omega (arith, s, early))), young xs a.1)
+    young (n ∷ xs) a = ((λ mine. let s = since n a.0 mine in lt-ltb (at - n.moment) 400000 (omega (arith, s, early))), young xs a.1)
 
     windowed : (note : Noted) → IsTimely run note → moment_of run send ≤ note.moment → note.moment ≤ at →
-        list_any (λ y. of_one note y && is_within (suc (moment_of run send) - 400) 800 y) (sends_of run) ≡ true
+        list_any (λ y. of_one note y && is_within (suc (moment_of run send) - 400000) 800000 y) (sends_of run) ≡ true
     windowed note t old before =
-        any_so (is_sent t.send (moment_of run t.send)) (λ y. of_one note y && is_within (suc (moment_of run send) - 400) 800 y) (sends_of run)
+        any_so (is_sent t.send (moment_of run t.send)) (λ y. of_one note y && is_within (suc (moment_of run send) - 400000) 800000 y) (sends_of run)
         (λ y h.
         let parts = and_parts (is_of t.send (Some y.send)) (y.moment == moment_of run t.send) h in
         let P : Option Probe → Type 0 = λ o. is_same_send o (Some y.send) ≡ true in
         let e = eqb-true y.moment (moment_of run t.send) parts.1 in
         let a = t.after in
         let b = t.before in
-        and_from _ _ (subst P (sym t.named) parts.0) (in_window (suc (moment_of run send) - 400) 800 y (omega (arith, e, a, b, old, before, early)) (omega (arith, e, a, b, old, before, early))))
+        and_from _ _ (subst P (sym t.named) parts.0) (in_window (suc (moment_of run send) - 400000) 800000 y (omega (arith, e, a, b, old, before, early)) (omega (arith, e, a, b, old, before, early))))
         t.listed
 
     each_windowed : (xs : List Noted) → AllByRecursion (IsTimely run) xs → AllByRecursion (λ (n : Noted). n.moment ≤ at) xs → AllByRecursion (λ (l : Noted). moment_of run send ≤ l.moment) xs →
-        AllByRecursion (λ x. list_any (λ y. of_one x y && is_within (suc (moment_of run send) - 400) 800 y) (sends_of run) ≡ true) xs
+        AllByRecursion (λ x. list_any (λ y. of_one x y && is_within (suc (moment_of run send) - 400000) 800000 y) (sends_of run) ≡ true) xs
     each_windowed [] a b c = tt
     each_windowed (x ∷ xs) a b c = (windowed x a.0 c.0 b.0, each_windowed xs a.1 b.1 c.1)
 
@@ -170,13 +170,13 @@ in_room run budget ns send at timely falls until once sent early some =
         let old = since found.0 (found.1).0 found.2 in
         let front = all_take (IsTimely run) run.capacity ns timely in
         let front_until = all_take (λ (n : Noted). n.moment ≤ at) run.capacity ns until in
-        let listed : list_any (λ y. of_one found.0 y && is_within (suc (moment_of run send) - 400) 800 y) (sends_of run) ≡ true = windowed (found.0) (found.1).0 old parts.0 in
+        let listed : list_any (λ y. of_one found.0 y && is_within (suc (moment_of run send) - 400000) 800000 y) (sends_of run) ≡ true = windowed (found.0) (found.1).0 old parts.0 in
         let all_listed = each_windowed (take run.capacity ns) front front_until
         (all_weaker (λ (l : Noted). (found.0).moment ≤ l.moment) (λ (l : Noted). moment_of run send ≤ l.moment) (take run.capacity ns) (λ l h. omega (arith, old, h)) parts.1) in
         let apart = apart_take run.capacity ns (notes_apart run ns timely once) in
-        let most = pigeon of_one (is_within (suc (moment_of run send) - 400) 800) (found.0 ∷ take run.capacity ns) (sends_of run)
+        let most = pigeon of_one (is_within (suc (moment_of run send) - 400000) 800000) (found.0 ∷ take run.capacity ns) (sends_of run)
         (not_in_front found.0 found.2 (take run.capacity ns) (none_all (is_note_of (Some send)) (take run.capacity ns) missing) front, apart) (listed, all_listed) in
-        let fits = no_window_crowded (sends_of run) run.capacity 800 budget.not_crowded 800 (suc (moment_of run send) - 400) (omega arith) in
+        let fits = no_window_crowded (sends_of run) run.capacity 800000 budget.not_crowded 800000 (suc (moment_of run send) - 400000) (omega arith) in
         let long = some_left (drop run.capacity ns) later in
         let length_front = length-take run.capacity ns in
         let length_rest = length-drop run.capacity ns in

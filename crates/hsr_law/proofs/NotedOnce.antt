@@ -42,7 +42,7 @@ not_again capacity owner past at port copy outcome t e send key ok tagged key_is
     let P : Option Probe → Type 0 = λ o. list_any (is_note_of o) (notes owner e past) ≡ true in
     let Q : Option Probe → Type 0 = λ o. list_any (is_note_of o) (remembered capacity at (notes owner e past)) ≡ true in
     let still = subst Q is (remembers ring e parts.0 (subst P (sym is) before)) in
-    let kept = all_filter (HasKey send key) (λ n. Rattle.std.specs.Prelude.nat_lt (Rattle.std.specs.Prelude.◌-◌ at n.moment) 400) (take capacity (notes owner e past)) (all_take (HasKey send key) capacity (notes owner e past) keys) in
+    let kept = all_filter (HasKey send key) (λ n. Rattle.std.specs.Prelude.nat_lt (Rattle.std.specs.Prelude.◌-◌ at n.moment) 400000) (take capacity (notes owner e past)) (all_take (HasKey send key) capacity (notes owner e past) keys) in
     let known : has_key (key_of t) (remembered capacity at (notes owner e past)) ≡ true =
     any_implies (is_note_of (Some send)) (λ n. is_same_key n.key (key_of t)) (remembered capacity at (notes owner e past)) (same_keys (remembered capacity at (notes owner e past)) kept) still in
     false≢true (sym (not-true _ parts.1) ∙ known)

@@ -72,7 +72,7 @@ notes_more P owner e x past one rest =
     ⊎_elim (λ none. subst Q (sym none) rest) (λ some. subst Q (sym some.1) (one some.0 some.2)) (new_note owner e x past)
 
 pub any_remembered : (capacity at : ℕ) (ns : List Noted) (p : Noted → Bool) → list_any p (remembered capacity at ns) ≡ true → list_any p ns ≡ true
-any_remembered capacity at ns p h = any_take p capacity ns (any_filter p (λ n. nat_lt (at - n.moment) 400) (take capacity ns) h)
+any_remembered capacity at ns p h = any_take p capacity ns (any_filter p (λ n. nat_lt (at - n.moment) 400000) (take capacity ns) h)
 
 -- ---- sends
 

@@ -66,27 +66,27 @@ module _ (run : Run) (macs : List (List ℕ)) (closed : IsClosed run) (ring : Is
       }
 
   -- two sends of a node with one number are further apart than a table remembers
-  wraps : (k lo hi : ℕ) → k < length macs → is_send_at lo (past_of run k) ≡ true → is_send_at hi (past_of run k) ≡ true → lo < hi → moment_at hi (past_of run k) < moment_at lo (past_of run k) + 800 →
+  wraps : (k lo hi : ℕ) → k < length macs → is_send_at lo (past_of run k) ≡ true → is_send_at hi (past_of run k) ≡ true → lo < hi → moment_at hi (past_of run k) < moment_at lo (past_of run k) + 800000 →
       numbered_at lo (past_of run k) % 65536 ≡ numbered_at hi (past_of run k) % 65536 → ⊥
   wraps k lo hi inside first second before close same =
       let ok = legal run macs closed ring k inside in
       let in_range : k < length run.places = omega (arith, places run macs closed ring) in
       let there = send_numbered run.capacity k (mac_at macs k) (mode_at run k) hi (past_of run k) ok second in
       let more = later_number run.capacity k (mac_at macs k) (mode_at run k) lo hi (past_of run k) ok first before there.below in
-      let some = sends_between run.capacity k (mac_at macs k) (mode_at run k) lo hi (moment_at lo (past_of run k)) 800 (past_of run k) ok before there.below (Rattle.std.proofs.Common.le_refl _) close in
-      let all = count_below run (is_within (moment_at lo (past_of run k)) 800) k (length run.places) in_range in
+      let some = sends_between run.capacity k (mac_at macs k) (mode_at run k) lo hi (moment_at lo (past_of run k)) 800000 (past_of run k) ok before there.below (Rattle.std.proofs.Common.le_refl _) close in
+      let all = count_below run (is_within (moment_at lo (past_of run k)) 800000) k (length run.places) in_range in
       let at_start = any_so (is_sent (record { node = k; place = lo }) (moment_at lo (past_of run k))) (λ s. s.moment == moment_at lo (past_of run k)) (sends_of run)
       (λ s h. (and_parts (is_of (record { node = k; place = lo }) (Some s.send)) (s.moment == moment_at lo (past_of run k)) h).1)
       (is_listed run (record { node = k; place = lo }) in_range first) in
       let most = budget.not_crowded (moment_at lo (past_of run k)) at_start in
       omega (arith, small, same, more, some, all, most)
 
-  one_send : (p q : Probe) (key : Key) → IsKey p key → IsKey q key → moment_of run q < moment_of run p + 800 → moment_of run p < moment_of run q + 800 → p ≡ q
+  one_send : (p q : Probe) (key : Key) → IsKey p key → IsKey q key → moment_of run q < moment_of run p + 800000 → moment_of run p < moment_of run q + 800000 → p ≡ q
   one_send p q key first second near close =
       let node = ring.differ p.node q.node first.below second.below (sym first.src ∙ second.src) in
       let S : ℕ → Type 0 = λ k. is_send_at q.place (past_of run k) ≡ true in
-      let M : ℕ → Type 0 = λ k. moment_at q.place (past_of run k) < moment_of run p + 800 in
-      let N : ℕ → Type 0 = λ k. moment_of run p < moment_at q.place (past_of run k) + 800 in
+      let M : ℕ → Type 0 = λ k. moment_at q.place (past_of run k) < moment_of run p + 800000 in
+      let N : ℕ → Type 0 = λ k. moment_of run p < moment_at q.place (past_of run k) + 800000 in
       let Q : ℕ → Type 0 = λ k. numbered_at p.place (past_of run p.node) % 65536 ≡ numbered_at q.place (past_of run k) % 65536 in
       let same = subst Q (sym node) (sym first.seq ∙ second.seq) in
       ⊎_elim
@@ -158,24 +158,24 @@ module _ (run : Run) (macs : List (List ℕ)) (closed : IsClosed run) (ring : Is
       (by_event x.event of_send.0 in_time.0, knows_own k below past legal.1 stands.1 counted.1 of_send.1 in_time.1)
     where
       Fact : Noted → Type 0
-      Fact note = IsTimely run note × (IsKeyed note × ((note.moment ≤ now past) × (nat_lt (now (x ∷ past) - note.moment) 400 ≡ true)))
+      Fact note = IsTimely run note × (IsKeyed note × ((note.moment ≤ now past) × (nat_lt (now (x ∷ past) - note.moment) 400000 ≡ true)))
 
       facts : (e : Egress) → AllByRecursion Fact (remembered run.capacity (now (x ∷ past)) (notes (danh k (mac_at macs k) (mode_at run k)) e past))
       facts e =
           let kept = λ (P : Noted → Type 0) (all : AllByRecursion P (notes (danh k (mac_at macs k) (mode_at run k)) e past)).
-          all_filter P (λ n. nat_lt (now (x ∷ past) - n.moment) 400) (take run.capacity (notes (danh k (mac_at macs k) (mode_at run k)) e past)) (all_take P run.capacity (notes (danh k (mac_at macs k) (mode_at run k)) e past) all) in
+          all_filter P (λ n. nat_lt (now (x ∷ past) - n.moment) 400000) (take run.capacity (notes (danh k (mac_at macs k) (mode_at run k)) e past)) (all_take P run.capacity (notes (danh k (mac_at macs k) (mode_at run k)) e past) all) in
           let in_range : k < length run.places = omega (arith, places run macs closed ring) in
           let T : Owner → Type 0 = λ o. Each (Answered run.capacity o) past in
           let U : Owner → Type 0 = λ o. AllByRecursion (IsTimely run) (notes o e past) in
           let owner = owner_is run macs closed ring k below in
           let timely = subst U owner (notes_timely run k e past in_range (subst T (sym owner) legal.1) stands.1 of_send.1 in_time.1) in
-          all_both (IsTimely run) (λ (n : Noted). IsKeyed n × ((n.moment ≤ now past) × (nat_lt (now (x ∷ past) - n.moment) 400 ≡ true))) (remembered run.capacity (now (x ∷ past)) (notes (danh k (mac_at macs k) (mode_at run k)) e past))
+          all_both (IsTimely run) (λ (n : Noted). IsKeyed n × ((n.moment ≤ now past) × (nat_lt (now (x ∷ past) - n.moment) 400000 ≡ true))) (remembered run.capacity (now (x ∷ past)) (notes (danh k (mac_at macs k) (mode_at run k)) e past))
           (kept (IsTimely run) timely)
-          (all_both IsKeyed (λ (n : Noted). (n.moment ≤ now past) × (nat_lt (now (x ∷ past) - n.moment) 400 ≡ true)) (remembered run.capacity (now (x ∷ past)) (notes (danh k (mac_at macs k) (mode_at run k)) e past))
+          (all_both IsKeyed (λ (n : Noted). (n.moment ≤ now past) × (nat_lt (now (x ∷ past) - n.moment) 400000 ≡ true)) (remembered run.capacity (now (x ∷ past)) (notes (danh k (mac_at macs k) (mode_at run k)) e past))
           (kept IsKeyed (notes_keyed k e past below legal.1 stands.1 counted.1 of_send.1))
-          (all_both (λ (n : Noted). n.moment ≤ now past) (λ (n : Noted). nat_lt (now (x ∷ past) - n.moment) 400 ≡ true) (remembered run.capacity (now (x ∷ past)) (notes (danh k (mac_at macs k) (mode_at run k)) e past))
+          (all_both (λ (n : Noted). n.moment ≤ now past) (λ (n : Noted). nat_lt (now (x ∷ past) - n.moment) 400000 ≡ true) (remembered run.capacity (now (x ∷ past)) (notes (danh k (mac_at macs k) (mode_at run k)) e past))
           (kept (λ (n : Noted). n.moment ≤ now past) (notes_below (danh k (mac_at macs k) (mode_at run k)) e past))
-          (filter_holds (λ n. nat_lt (now (x ∷ past) - n.moment) 400) (take run.capacity (notes (danh k (mac_at macs k) (mode_at run k)) e past)))))
+          (filter_holds (λ n. nat_lt (now (x ∷ past) - n.moment) 400000) (take run.capacity (notes (danh k (mac_at macs k) (mode_at run k)) e past)))))
 
       key_here : (copy : Carried) (o : IsOfSend run copy) (key : Key) → key_in (came copy) None ≡ Some key → IsKey o.send key
       key_here copy o key h = by_came (came copy) refl h
@@ -194,12 +194,12 @@ module _ (run : Run) (macs : List (List ℕ)) (closed : IsClosed run) (ring : Is
           let timely = f.0 in
           let keyed = (f.1).0 in
           let before = ((f.1).1).0 in
-          let fresh = ltb-true (now (x ∷ past) - note.moment) 400 ((f.1).1).1 in
+          let fresh = ltb-true (now (x ∷ past) - note.moment) 400000 ((f.1).1).1 in
           let bounds = t o.send o.named in
           let K : Key → Type 0 = λ q. IsKey keyed.send q in
           let one : timely.send ≡ keyed.send = let named = timely.named in let named' = keyed.named in let both : Some timely.send ≡ Some keyed.send = sym named ∙ named' in cc in
           let F : Probe → Type 0 = λ p. moment_of run p ≤ note.moment in
-          let G : Probe → Type 0 = λ p. note.moment < moment_of run p + 400 in
+          let G : Probe → Type 0 = λ p. note.moment < moment_of run p + 400000 in
           let after = subst F one timely.after in
           let limit = subst G one timely.before in
           let equal = one_send o.send keyed.send key (key_here copy o key is) (subst K (same_key note.key key h) keyed.key)

@@ -141,7 +141,7 @@ pub record IsTimely (run : Run) (note : Noted) : Type 0 where
   pub named : note.probe ≡ Some send
   pub listed : list_any (is_sent send (moment_of run send)) (sends_of run) ≡ true
   pub after : moment_of run send ≤ note.moment
-  pub before : note.moment < moment_of run send + 400
+  pub before : note.moment < moment_of run send + 400000
 
 pub notes_timely : (run : Run) (k : ℕ) (e : Egress) (h : List Entry) → k < length run.places → Each (Answered run.capacity (owner_of run k)) h → Each (StandsAt (past_of run k)) h →
     Each (λ x past. OfArrival (IsOfSend run) x.event) h → Each (λ x past. IsInTime run (now (x ∷ past)) x.event) h → AllByRecursion (IsTimely run) (notes (owner_of run k) e h)

@@ -186,7 +186,7 @@ lossless (suc (suc i)) j g h here there = absurd (omega arith)
 
 -- ---- it is within budget
 
-at_first : (send : Probe) → Some (let first : Probe = record { node = 0; place = 0 } in first) ≡ Some send → (moment_of ring2 send ≤ 0) × (0 < moment_of ring2 send + 400)
+at_first : (send : Probe) → Some (let first : Probe = record { node = 0; place = 0 } in first) ≡ Some send → (moment_of ring2 send ≤ 0) × (0 < moment_of ring2 send + 400000)
 at_first send e =
     let first : Probe = record { node = 0; place = 0 } in
     let same : first ≡ send = cc in
@@ -198,11 +198,11 @@ in_time_at zero h = (at_first, (at_first, (tt, tt)))
 in_time_at (suc zero) h = (at_first, (at_first, tt))
 in_time_at (suc (suc k)) h = absurd (omega arith)
 
-not_crowded_at : (start : ℕ) → list_any (λ sent. sent.moment == start) (sends_of ring2) ≡ true → count_by (is_within start 800) (sends_of ring2) ≤ 4
+not_crowded_at : (start : ℕ) → list_any (λ sent. sent.moment == start) (sends_of ring2) ≡ true → count_by (is_within start 800000) (sends_of ring2) ≤ 4
 not_crowded_at start h =
     let s : budget.Sent = record { send = record { node = 0; place = 0 }; moment = 0 } in
-    let more = count_more (is_within start 800) (let s : budget.Sent = record { send = record { node = 0; place = 0 }; moment = 0 } in s) [] in
-    ⊎_elim (λ t. let one = one_if (is_within start 800 s) t in omega arith) (λ f. let nothing = zero_if (is_within start 800 s) f in omega arith) (cases_Bool (is_within start 800 s))
+    let more = count_more (is_within start 800000) (let s : budget.Sent = record { send = record { node = 0; place = 0 }; moment = 0 } in s) [] in
+    ⊎_elim (λ t. let one = one_if (is_within start 800000 s) t in omega arith) (λ f. let nothing = zero_if (is_within start 800000 s) f in omega arith) (cases_Bool (is_within start 800000 s))
 
 pub within : IsBudgetHeld ring2
 within = record { in_time = in_time_at; not_crowded = not_crowded_at }

@@ -173,7 +173,7 @@ numbered_first (suc (suc (suc k))) h = absurd (omega arith)
 
 -- ---- it is within budget
 
-at_first : (send : Probe) → Some first ≡ Some send → (moment_of red send ≤ 0) × (0 < moment_of red send + 400)
+at_first : (send : Probe) → Some first ≡ Some send → (moment_of red send ≤ 0) × (0 < moment_of red send + 400000)
 at_first send e =
     let same : first ≡ send = cc in
     let moment : moment_of red send ≡ 0 = ap (moment_of red) (sym same) in
@@ -185,11 +185,11 @@ in_time_at (suc zero) h = (at_first, tt)
 in_time_at (suc (suc zero)) h = (tt, tt)
 in_time_at (suc (suc (suc k))) h = absurd (omega arith)
 
-not_crowded_at : (start : ℕ) → list_any (λ sent. sent.moment == start) (sends_of red) ≡ true → count_by (is_within start 800) (sends_of red) ≤ 4
+not_crowded_at : (start : ℕ) → list_any (λ sent. sent.moment == start) (sends_of red) ≡ true → count_by (is_within start 800000) (sends_of red) ≤ 4
 not_crowded_at start h =
     let s : budget.Sent = record { send = first; moment = 0 } in
-    let more = count_more (is_within start 800) (let s : budget.Sent = record { send = first; moment = 0 } in s) [] in
-    ⊎_elim (λ t. let one = one_if (is_within start 800 s) t in omega arith) (λ f. let nothing = zero_if (is_within start 800 s) f in omega arith) (cases_Bool (is_within start 800 s))
+    let more = count_more (is_within start 800000) (let s : budget.Sent = record { send = first; moment = 0 } in s) [] in
+    ⊎_elim (λ t. let one = one_if (is_within start 800000 s) t in omega arith) (λ f. let nothing = zero_if (is_within start 800000 s) f in omega arith) (cases_Bool (is_within start 800000 s))
 
 pub within : IsBudgetHeld red
 within = record { in_time = in_time_at; not_crowded = not_crowded_at }

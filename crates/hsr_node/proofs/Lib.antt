@@ -1,5 +1,6 @@
 pub mod Remembering
 pub mod Told
+mod Finer
 pub mod OfDanh
 pub mod OfRedBox
 pub mod OfQuadBox

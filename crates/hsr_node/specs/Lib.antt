@@ -2,7 +2,9 @@ pub mod Place
 pub mod Station
 pub mod Step
 pub mod Copies
+pub mod Times
 pub mod Record
+pub mod Units
 pub mod Counts
 pub mod Flow
 pub mod Kept

@@ -27,7 +27,7 @@ use Rattle.hsr_duptable.specs.Key.{Key, is_same_key}
 use Rattle.hsr_duptable.specs.Notes.{entry_forget}
 use Rattle.hsr_duptable.specs.declared.note.Note.{Note}
 use Rattle.hsr_supervision.specs.Payload.{read_of}
-use Rattle.hsr_tables.specs.Known.{known, latest_heard}
+use Rattle.hsr_tables.specs.Known.{known_within, latest_heard}
 use Rattle.hsr_tables.specs.Nodes.{Hearing, hearing_if, rows_known}
 use Rattle.hsr_tables.specs.declared.nodes.NodeRow.{NodeRow}
 use Rattle.hsr_role.specs.Arrival.{key_of}
@@ -46,6 +46,7 @@ use Rattle.hsr_quadbox.specs.Wanted as of_quadbox
 use Rattle.hsr_node.specs.Copies.{address_at, ring_address}
 use Rattle.hsr_node.specs.Station.{is_among}
 use Rattle.hsr_node.specs.Step.{box_port, life_fault, quad_port, ring_port}
+use Rattle.hsr_node.specs.Times.{Times, usual}
 use Rattle.hsr_node.specs.declared.event.Event.{Event}
 use Rattle.hsr_node.specs.declared.event.Event.TheVariants.{Send, Supervise, Arrive, Age}
 use Rattle.hsr_node.specs.declared.event.Outcome.{Outcome}
@@ -187,15 +188,22 @@ abbrev pub oldest_first : List Noted → List Note
 oldest_first [] = []
 oldest_first (n ∷ ns) = oldest_first ns ++ record { key = n.key; moment = n.moment } ∷ []
 
--- of all notes the youngest, as many as a table has entries, and of these the ones younger than 400 milliseconds
+-- of all notes the youngest, as many as a table has entries, and of these the ones younger than `forget`
+abbrev pub remembered_within : ℕ → ℕ → ℕ → List Noted → List Noted
+remembered_within forget capacity at noted = filter (λ n. nat_lt (at - n.moment) forget) (take capacity noted)
+
+-- the ones younger than 400 milliseconds
 abbrev pub remembered : ℕ → ℕ → List Noted → List Noted
-remembered capacity at noted = filter (λ n. nat_lt (at - n.moment) entry_forget) (take capacity noted)
+remembered capacity at noted = remembered_within entry_forget capacity at noted
 
 abbrev pub has_key : Key → List Noted → Bool
 has_key key noted = list_any (λ n. is_same_key n.key key) noted
 
+abbrev pub remembers_by : Times → ℕ → Owner → List Entry → ℕ → Key → Egress → Bool
+remembers_by times capacity owner past at key e = has_key key (remembered_within times.entry capacity at (notes owner e past))
+
 abbrev pub remembers : ℕ → Owner → List Entry → ℕ → Key → Egress → Bool
-remembers capacity owner past at key e = has_key key (remembered capacity at (notes owner e past))
+remembers = remembers_by usual
 
 -- ---- the addresses that a RedBox knows on its interlink
 
@@ -213,11 +221,14 @@ abbrev pub heard : Place → List Entry → List (List ℕ × ℕ)
 heard place [] = []
 heard place (x ∷ past) = heard_from place (now (x ∷ past)) x.event ++ heard place past
 
--- an address is known where it is among the `row_limit` heard latest, and was heard less than `node_forget` milliseconds ago; what comes
--- now is heard before it is decided
+-- an address is known where it is among the `row_limit` heard latest, and was heard less than its forget time ago; what comes now is
+-- heard before it is decided
+abbrev pub knows_by : Times → Place → List Entry → ℕ → Event → List ℕ → Bool
+knows_by times place past at event mac =
+    list_any (λ h. is_same_address h.0 mac) (known_within times.node at (latest_heard (λ h. h.0) (heard_from place at event ++ heard place past)))
+
 abbrev pub knows : Place → List Entry → ℕ → Event → List ℕ → Bool
-knows place past at event mac =
-    list_any (λ h. is_same_address h.0 mac) (known at (latest_heard (λ h. h.0) (heard_from place at event ++ heard place past)))
+knows = knows_by usual
 
 -- ---- the nodes that were heard on the ring
 
@@ -312,35 +323,55 @@ abbrev pub sent_or_refused : Option SendFault → Outcome → Result Outcome Ste
 sent_or_refused (Some fault) outcome = Err (refused.Send fault)
 sent_or_refused None outcome = Ok outcome
 
+abbrev pub send_answer_by : Times → ℕ → Owner → List Entry → ℕ → Option (List ℕ) → List ℕ → ℕ → ℕ → Result Outcome StepFault
+send_answer_by times capacity owner past at None dst kind len = Err WrongEvent
+send_answer_by times capacity owner past at (Some src) dst kind len =
+    sent_or_refused (send_refusal src (steps past) dst kind len)
+    (sent_as (sending owner.place (knows_by times owner.place past at Age) dst kind) (next_number past))
+
 abbrev pub send_answer : ℕ → Owner → List Entry → ℕ → Option (List ℕ) → List ℕ → ℕ → ℕ → Result Outcome StepFault
-send_answer capacity owner past at None dst kind len = Err WrongEvent
-send_answer capacity owner past at (Some src) dst kind len =
-    sent_or_refused (send_refusal src (steps past) dst kind len) (sent_as (sending owner.place (knows owner.place past at Age) dst kind) (next_number past))
+send_answer = send_answer_by usual
 
 -- a supervision frame leaves by both ring ports, with the count of those before it
 abbrev pub lived_or_refused : List Entry → Option LifeFault → Result Outcome StepFault
 lived_or_refused past (Some fault) = Err (life_fault fault)
 lived_or_refused past None = Ok (Life (next_number past) (lives past % 65536) (true ∷ true ∷ false ∷ false ∷ []))
 
+abbrev pub life_answer_by : Times → Place → List Entry → ℕ → About → Result Outcome StepFault
+life_answer_by times (Danh mac mode) past at Own = if steps past == 2 ^ 62 then Err Spent else lived_or_refused past None
+life_answer_by times (RedBox mac mode) past at about =
+    lived_or_refused past (life_refusal (knows_by times (RedBox mac mode) past at Age) (steps past) about)
+life_answer_by times _ past at about = Err WrongEvent
+
 abbrev pub life_answer : Place → List Entry → ℕ → About → Result Outcome StepFault
-life_answer (Danh mac mode) past at Own = if steps past == 2 ^ 62 then Err Spent else lived_or_refused past None
-life_answer (RedBox mac mode) past at about = lived_or_refused past (life_refusal (knows (RedBox mac mode) past at Age) (steps past) about)
-life_answer _ past at about = Err WrongEvent
+life_answer = life_answer_by usual
+
+abbrev pub arrive_answer_by : Times → ℕ → Owner → List Entry → ℕ → Option Handling → Result Seen FrameFault → Result Outcome StepFault
+arrive_answer_by times capacity owner past at None seen = Err WrongEvent
+arrive_answer_by times capacity owner past at (Some h) seen =
+    if steps past == 2 ^ 62 then Err Spent
+    else Ok (judged_as h (passing (remembers_by times capacity owner past at) h.wants.exits seen) (next_number past))
 
 abbrev pub arrive_answer : ℕ → Owner → List Entry → ℕ → Option Handling → Result Seen FrameFault → Result Outcome StepFault
-arrive_answer capacity owner past at None seen = Err WrongEvent
-arrive_answer capacity owner past at (Some h) seen =
-    if steps past == 2 ^ 62 then Err Spent
-    else Ok (judged_as h (passing (remembers capacity owner past at) h.wants.exits seen) (next_number past))
+arrive_answer = arrive_answer_by usual
+
+-- the answer of a past to an event at an effective moment, where frames and addresses are forgotten after these times
+abbrev pub answer_by : Times → ℕ → Owner → List Entry → ℕ → Event → Result Outcome StepFault
+answer_by times capacity owner past at (Send from dst vlan kind payload) =
+    send_answer_by times capacity owner past at (address_at owner.place from) dst kind (length payload)
+answer_by times capacity owner past at (Supervise about) = life_answer_by times owner.place past at about
+answer_by times capacity owner past at (Arrive port copy) =
+    arrive_answer_by times capacity owner past at (handling owner.place (knows_by times owner.place past at (Arrive port copy)) port (classified copy.octets))
+    (classified copy.octets)
+answer_by times capacity owner past at Age = Ok Aged
 
 -- the answer of a past to an event at an effective moment
 abbrev pub answer : ℕ → Owner → List Entry → ℕ → Event → Result Outcome StepFault
-answer capacity owner past at (Send from dst vlan kind payload) = send_answer capacity owner past at (address_at owner.place from) dst kind (length payload)
-answer capacity owner past at (Supervise about) = life_answer owner.place past at about
-answer capacity owner past at (Arrive port copy) =
-    arrive_answer capacity owner past at (handling owner.place (knows owner.place past at (Arrive port copy)) port (classified copy.octets)) (classified copy.octets)
-answer capacity owner past at Age = Ok Aged
+answer = answer_by usual
 
 -- Each outcome is what the past below it answers. A refused event has no outcome, so no legal record holds one.
+abbrev pub IsLegalBy : Times → ℕ → Owner → List Entry → Type 0
+IsLegalBy times capacity owner past = Each (λ x below. answer_by times capacity owner below (now (x ∷ below)) x.event ≡ Ok x.outcome) past
+
 unfoldable pub IsLegal : ℕ → Owner → List Entry → Type 0
-IsLegal capacity owner past = Each (λ x below. answer capacity owner below (now (x ∷ below)) x.event ≡ Ok x.outcome) past
+IsLegal capacity owner past = IsLegalBy usual capacity owner past

@@ -28,7 +28,7 @@ impl<const C: usize> NodeCell<C> {
         }
     }
 
-    /// Waits for the lock, lets an event happen to the node at a moment in milliseconds, and puts the receipt last in the
+    /// Waits for the lock, lets an event happen to the node at a moment in microseconds, and puts the receipt last in the
     /// pass, whose worker brings the event. The answer is that receipt: the next entry of some legal record, and what that
     /// record answers there. That it is the record in this cell is not proved.
     ///

@@ -3,7 +3,7 @@ ghost use Rattle.std.specs.Prelude.{◌≡◌, ◌↔◌, IsTrue};
 
 use crate::event::{Event, Outcome};
 
-/// An event in a node's record: who brought it, the moment as it was given, in milliseconds, and what the node answered.
+/// An event in a node's record: who brought it, the moment as it was given, in microseconds, and what the node answered.
 #[derive(Clone, Debug, Drop, PartialEq, Eq)]
 pub struct Entry {
     pub worker: u16,

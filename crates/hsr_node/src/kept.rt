@@ -61,7 +61,7 @@ impl<const C: usize> Kept<C> {
         })
     }
 
-    /// Lets an event happen that a worker brings, at a moment in milliseconds, and keeps one more entry: the worker, the
+    /// Lets an event happen that a worker brings, at a moment in microseconds, and keeps one more entry: the worker, the
     /// moment and the event as they are given, and what the machine answers that remembers, of its whole record, the
     /// youngest unexpired passed frames up to `C`. The answer names the place of the entry, and nothing is copied. A refusal
     /// hands the event back and changes nothing: `NoMemory`, or what that machine refuses it for.
@@ -96,7 +96,7 @@ impl<const C: usize> Kept<C> {
         Ok(Answer { place, outcome })
     }
 
-    /// Lets an event happen that a worker brings, at a moment in milliseconds, and keeps one more entry: the worker, the
+    /// Lets an event happen that a worker brings, at a moment in microseconds, and keeps one more entry: the worker, the
     /// moment and the event as they are given, and what the machine answers that remembers, of its whole record, the
     /// youngest unexpired passed frames up to `C`. The receipt is that entry, and names its place. A refusal hands the
     /// event back and changes nothing: `NoMemory`, or what that machine refuses it for.

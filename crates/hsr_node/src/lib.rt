@@ -17,6 +17,7 @@
 //! - `kept`: a node with its record
 //! - `pass`: what a worker was answered
 //! - `cell`: a node that threads share
+//! - `units`: what another unit of time changes in a record
 #![tactic(auto)]
 
 mod cell;
@@ -36,6 +37,7 @@ mod role;
 mod sending;
 mod side;
 mod station;
+mod units;
 
 pub use cell::NodeCell;
 pub use copies::{
@@ -51,3 +53,4 @@ pub use place::Place;
 pub use role::Role;
 pub use sending::{Sending, SentView, asked_frame, life_frame, sent_by, sent_view};
 pub use station::Station;
+pub use units::same_in_finer_unit;

@@ -15,7 +15,7 @@ use hsr_redbox::RedBox;
 use std::alloc::Global;
 
 /// A node of any kind, whose duplicate tables have `C` entries each, `C` from 1 to 65535 (IEC 62439-3 clause 5).
-/// Moments are in milliseconds; one that is earlier than the last is read as the last. Only `new` takes memory.
+/// Moments are in microseconds; one that is earlier than the last is read as the last. Only `new` takes memory.
 #[derive(Drop)]
 pub enum Node<const C: usize> {
     Danh(Danh<C>),

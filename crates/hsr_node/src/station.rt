@@ -12,7 +12,7 @@ use std::marker::Model;
 
 /// A node with up to 16 addresses and one port, behind a RedBox (a SAN of IEC 62439-3 clause 5). It sends plain frames,
 /// numbers nothing, keeps no table, and takes each frame for one of its addresses or for a group. Moments are in
-/// milliseconds; one that is earlier than the last is read as the last. It takes no memory.
+/// microseconds; one that is earlier than the last is read as the last. It takes no memory.
 #[derive(Drop)]
 pub struct Station {
     macs: ArrayVec<Mac, 16>,

@@ -5,7 +5,9 @@ use Rattle.std.specs.Str.{bytes_eq}
 use Rattle.hsr_frame.specs.Address.{address_of}
 use Rattle.hsr_frame.specs.Cases.{first_of}
 use Rattle.hsr_frame.specs.Words.{port_of}
-use Rattle.hsr_text.specs.Words.{◌>>=◌, cut, word_at, decimal_of, hex_pair_of, hex_octets_of}
+use Rattle.hsr_text.specs.Moments.{moment_of}
+use Rattle.hsr_text.specs.Words.{◌>>=◌, cut, word_at, hex_pair_of, hex_octets_of}
+use Rattle.hsr_text.specs.declared.time_unit.TimeUnit.{TimeUnit}
 use Rattle.hsr_frame.specs.declared.node.RingPort.{RingPort}
 use Rattle.hsr_node_text.specs.declared.request.Request.{Request}
 use Rattle.hsr_node_text.specs.declared.request.Request.TheVariants.{Send, Life, Arrive, Age}
@@ -39,10 +41,10 @@ vlan_of (Some text) = do
   elim word.1 [ None ↦ Some (Some control) | Some _ ↦ None ]
 
 -- <at> <dst> <type4> <payload> [<vlan4>]
-abbrev pub send_in : Option (List ℕ) → Option Asked
-send_in words = do
+abbrev pub send_in : TimeUnit → Option (List ℕ) → Option Asked
+send_in unit words = do
   at ← word_at words
-  moment ← decimal_of at.0
+  moment ← moment_of unit at.0
   dst ← word_at at.1
   address ← result_ok (address_of dst.0)
   type ← word_at dst.1
@@ -58,17 +60,17 @@ last_word words = do
   word ← word_at words
   elim word.1 [ None ↦ Some word.0 | Some _ ↦ None ]
 
--- a number that is the last word
-abbrev pub last_decimal : Option (List ℕ) → Option ℕ
-last_decimal words = do
+-- a moment that is the last word
+abbrev pub last_moment : TimeUnit → Option (List ℕ) → Option ℕ
+last_moment unit words = do
   word ← last_word words
-  decimal_of word
+  moment_of unit word
 
 -- <at> A|B <octets>
-abbrev pub arrival_in : Option (List ℕ) → Option Asked
-arrival_in words = do
+abbrev pub arrival_in : TimeUnit → Option (List ℕ) → Option Asked
+arrival_in unit words = do
   at ← word_at words
-  moment ← decimal_of at.0
+  moment ← moment_of unit at.0
   letter ← word_at at.1
   port ← port_of letter.0
   word ← last_word letter.1
@@ -76,25 +78,25 @@ arrival_in words = do
   Some (arrive moment port octets)
 
 -- <at>
-abbrev pub life_in : Option (List ℕ) → Option Asked
-life_in words = do
-  at ← last_decimal words
+abbrev pub life_in : TimeUnit → Option (List ℕ) → Option Asked
+life_in unit words = do
+  at ← last_moment unit words
   Some (life at)
 
-abbrev pub age_in : Option (List ℕ) → Option Asked
-age_in words = do
-  at ← last_decimal words
+abbrev pub age_in : TimeUnit → Option (List ℕ) → Option Asked
+age_in unit words = do
+  at ← last_moment unit words
   Some (age at)
 
--- what a line asks for, by its first word
-unfoldable pub request_of : List ℕ → Option Asked
-request_of line =
+-- what a line asks for, by its first word, where the moments of the text are in this unit
+unfoldable pub request_of : TimeUnit → List ℕ → Option Asked
+request_of unit line =
     let verb = (cut 32 line).0 in
     let words = (cut 32 line).1 in
     first_of
-    ((bytes_eq verb (codes "send"), send_in words)
-    ∷ (bytes_eq verb (codes "arrive"), arrival_in words)
-    ∷ (bytes_eq verb (codes "life"), life_in words)
-    ∷ (bytes_eq verb (codes "age"), age_in words)
+    ((bytes_eq verb (codes "send"), send_in unit words)
+    ∷ (bytes_eq verb (codes "arrive"), arrival_in unit words)
+    ∷ (bytes_eq verb (codes "life"), life_in unit words)
+    ∷ (bytes_eq verb (codes "age"), age_in unit words)
     ∷ [])
     None

@@ -1,13 +1,13 @@
 //! What an input line of `node` asks for.
 ghost use Rattle.std.specs.Prelude.{◌≡◌, option_map};
 ghost use Rattle.hsr_text.specs.Words.{Gives};
-ghost use Rattle.hsr_node_text.specs.Request.{age_in, arrival_in, last_decimal, life_in, request_of, send_in, view, vlan_of};
+ghost use Rattle.hsr_node_text.specs.Request.{age_in, arrival_in, last_moment, life_in, request_of, send_in, view, vlan_of};
 
 use hsr_frame::{Mac, RingPort};
-use hsr_text::{WordFault, decimal, hex_octets, hex_pair, word};
+use hsr_text::{TimeUnit, WordFault, hex_octets, hex_pair, word};
 use std::alloc::Global;
 
-/// What a line asks for. Moments are in milliseconds.
+/// What a line asks for. Moments are in microseconds.
 #[derive(Drop)]
 pub enum Request {
     /// The node sends a frame of its own.
@@ -46,11 +46,11 @@ fn read_vlan(rest: Option<&[u8]>) -> Result<Option<u16>, WordFault>
 }
 
 /// Reads `<at> <dst> <type4> <payload> [<vlan4>]`.
-fn read_send(alloc: Global, rest: Option<&[u8]>) -> Result<Request, WordFault>
-    ensures { Gives view result (send_in (option_map (λ s. s.now) rest.entry)) }
+fn read_send(alloc: Global, unit: TimeUnit, rest: Option<&[u8]>) -> Result<Request, WordFault>
+    ensures { Gives view result (send_in unit (option_map (λ s. s.now) rest.entry)) }
 {
     let (digits, rest) = word(rest).ok_or(WordFault::Bad)?;
-    let at = decimal(digits).ok_or(WordFault::Bad)?;
+    let at = unit.read(digits).ok_or(WordFault::Bad)?;
     let (address, rest) = word(rest).ok_or(WordFault::Bad)?;
     let dst = Mac::from_ascii(address).ok().ok_or(WordFault::Bad)?;
     let (digits, rest) = word(rest).ok_or(WordFault::Bad)?;
@@ -68,11 +68,11 @@ fn read_send(alloc: Global, rest: Option<&[u8]>) -> Result<Request, WordFault>
 }
 
 /// Reads `<at> A|B <octets>`.
-fn read_arrival(alloc: Global, rest: Option<&[u8]>) -> Result<Request, WordFault>
-    ensures { Gives view result (arrival_in (option_map (λ s. s.now) rest.entry)) }
+fn read_arrival(alloc: Global, unit: TimeUnit, rest: Option<&[u8]>) -> Result<Request, WordFault>
+    ensures { Gives view result (arrival_in unit (option_map (λ s. s.now) rest.entry)) }
 {
     let (digits, rest) = word(rest).ok_or(WordFault::Bad)?;
-    let at = decimal(digits).ok_or(WordFault::Bad)?;
+    let at = unit.read(digits).ok_or(WordFault::Bad)?;
     let (letter, rest) = word(rest).ok_or(WordFault::Bad)?;
     let port = RingPort::from_word(letter).ok_or(WordFault::Bad)?;
     match word(rest) {
@@ -84,34 +84,34 @@ fn read_arrival(alloc: Global, rest: Option<&[u8]>) -> Result<Request, WordFault
     }
 }
 
-/// Reads a number that is the last word.
-fn read_last(rest: Option<&[u8]>) -> Option<u64>
-    ensures { result ≡ last_decimal (option_map (λ s. s.now) rest.entry) }
+/// Reads a moment that is the last word.
+fn read_last(unit: TimeUnit, rest: Option<&[u8]>) -> Option<u64>
+    ensures { result ≡ last_moment unit (option_map (λ s. s.now) rest.entry) }
 {
     match word(rest) {
-        Some((digits, None)) => decimal(digits),
+        Some((digits, None)) => unit.read(digits),
         _ => None,
     }
 }
 
-/// Reads a line.
+/// Reads a line of a text whose moments are in this unit.
 #[tactic(auto, unfolding(crate::specs::Request::request_of))]
-pub fn read_request(alloc: Global, line: &[u8]) -> Result<Request, WordFault>
-    ensures { Gives view result (request_of line.now) }
+pub fn read_request(alloc: Global, unit: TimeUnit, line: &[u8]) -> Result<Request, WordFault>
+    ensures { Gives view result (request_of unit line.now) }
 {
     let (verb, rest) = word(Some(line)).ok_or(WordFault::Bad)?;
     if verb == b"send".as_slice() {
-        return read_send(alloc, rest);
+        return read_send(alloc, unit, rest);
     }
     if verb == b"arrive".as_slice() {
-        return read_arrival(alloc, rest);
+        return read_arrival(alloc, unit, rest);
     }
     if verb == b"life".as_slice() {
-        let at = read_last(rest).ok_or(WordFault::Bad)?;
+        let at = read_last(unit, rest).ok_or(WordFault::Bad)?;
         return Ok(Request::Life { at });
     }
     if verb == b"age".as_slice() {
-        let at = read_last(rest).ok_or(WordFault::Bad)?;
+        let at = read_last(unit, rest).ok_or(WordFault::Bad)?;
         return Ok(Request::Age { at });
     }
     Err(WordFault::Bad)

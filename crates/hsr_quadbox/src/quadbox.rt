@@ -18,7 +18,7 @@ pub struct QuadVerdict {
 }
 
 /// A QuadBox (IEC 62439-3 clause 5), which joins two rings. It has no address and sends nothing of its own. Each of
-/// its ports has a duplicate table of `C` entries, `C` from 1 to 65535. Moments are in milliseconds; one that is
+/// its ports has a duplicate table of `C` entries, `C` from 1 to 65535. Moments are in microseconds; one that is
 /// earlier than the last is read as the last. Only `new` takes memory.
 #[derive(Drop)]
 pub struct QuadBox<const C: usize> {
@@ -59,7 +59,7 @@ impl<const C: usize> QuadBox<C> {
         })
     }
 
-    /// Judges octets that came to a port, at a moment in milliseconds: a tagged frame leaves by each of the other
+    /// Judges octets that came to a port, at a moment in microseconds: a tagged frame leaves by each of the other
     /// ports that doesn't remember it, and is noted there (IEC 62439-3 clause 5.3); what is no tagged frame is counted
     /// and dropped. `Spent` where `STEP_LIMIT` arrivals were accepted; that changes nothing.
     pub fn arrive(&mut self, at: u64, port: QuadPort, octets: &[u8]) -> Result<QuadVerdict, Spent>
@@ -79,7 +79,7 @@ impl<const C: usize> QuadBox<C> {
         Ok(verdict)
     }
 
-    /// Gives up what is expired at a moment in milliseconds. That changes no later answer.
+    /// Gives up what is expired at a moment in microseconds. That changes no later answer.
     pub fn age(&mut self, at: u64)
         ensures { self.new ≡ age_step self.old at }
     {

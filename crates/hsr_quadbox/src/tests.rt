@@ -50,9 +50,9 @@ fn forgotten_at_400(rt: HostRuntime) -> Result<(), Fail> {
     let octets = octets.as_slice();
     let others = [true, true, true, false];
     assert_eq!(rt; quad.arrive(0, D, octets), passed(others));
-    quad.age(399);
+    quad.age(399_999);
     assert_eq!(rt; quad.arrive(0, D, octets), dropped(Cause::Duplicate));
-    quad.age(400);
+    quad.age(400_000);
     assert_eq!(rt; quad.arrive(0, D, octets), passed(others));
     Ok(())
 }

@@ -18,7 +18,7 @@ use std::alloc::Global;
 use std::marker::Model;
 
 /// A node between a ring and the stations of its interlink (IEC 62439-3 clause 5.3), whose duplicate tables have
-/// `C` entries each, `C` from 1 to 65535. Moments are in milliseconds; one that is earlier than the last is read
+/// `C` entries each, `C` from 1 to 65535. Moments are in microseconds; one that is earlier than the last is read
 /// as the last. Only `new` takes memory.
 #[derive(Drop)]
 pub struct RedBox<const C: usize> {
@@ -212,7 +212,7 @@ impl<const C: usize> RedBox<C> {
         self.accepted += 1;
     }
 
-    /// Gives up the notes that are expired at a moment in milliseconds. That changes no later answer.
+    /// Gives up the notes that are expired at a moment in microseconds. That changes no later answer.
     pub fn age(&mut self, at: u64)
         ensures { self.new ≡ age_step self.old at }
     {
@@ -237,14 +237,14 @@ impl<const C: usize> RedBox<C> {
         self.counters
     }
 
-    /// The nodes that were heard on the ring less than `NODE_FORGET` milliseconds ago, the latest first.
+    /// The nodes that were heard on the ring less than `NODE_FORGET` microseconds ago, the latest first.
     pub fn nodes(&self, at: u64) -> ArrayVec<NodeRow, ROW_LIMIT>
         ensures { result.items ≡ map (λ r. r.0) (known (now_at self.now at) self.now.nodes.rows) }
     {
         self.nodes.rows(self.moment.max(at))
     }
 
-    /// The addresses that were heard on the interlink less than `NODE_FORGET` milliseconds ago, each with the
+    /// The addresses that were heard on the interlink less than `NODE_FORGET` microseconds ago, each with the
     /// moment when it was heard last, the latest first.
     pub fn proxies(&self, at: u64) -> ArrayVec<(Mac, u64), ROW_LIMIT>
         ensures { result.items ≡ known (now_at self.now at) self.now.proxies.heard }

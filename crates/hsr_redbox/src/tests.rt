@@ -63,27 +63,27 @@ fn redbox_between_ring_and_station(rt: HostRuntime) -> Result<(), Fail> {
         })
     );
     assert_eq!(rt;
-        node.arrive(10, BoxPort::A, &tagged(STATION, NODE, 0)),
+        node.arrive(10_000, BoxPort::A, &tagged(STATION, NODE, 0)),
         Ok(BoxVerdict {
             interlink: true,
             ..none
         })
     );
     assert_eq!(rt;
-        node.arrive(10, BoxPort::B, &tagged(STATION, NODE, 0)),
+        node.arrive(10_000, BoxPort::B, &tagged(STATION, NODE, 0)),
         Ok(nowhere(Cause::Duplicate))
     );
     assert_eq!(rt;
-        node.proxies(59999).as_slice(),
+        node.proxies(59_999_999).as_slice(),
         [(Mac::new(STATION), 0)].as_slice()
     );
-    assert!(rt; node.proxies(60000).is_empty());
+    assert!(rt; node.proxies(60_000_000).is_empty());
     assert_eq!(rt;
-        node.arrive(60000, BoxPort::A, &tagged(STATION, NODE, 1)),
+        node.arrive(60_000_000, BoxPort::A, &tagged(STATION, NODE, 1)),
         Ok(BoxVerdict { b: true, ..none })
     );
     assert_eq!(rt;
-        node.send(60000, Mac::new(STATION), None, 0x0800, &[]),
+        node.send(60_000_000, Mac::new(STATION), None, 0x0800, &[]),
         Ok(BoxSent {
             seq: Some(1),
             a: true,
@@ -101,7 +101,7 @@ fn redbox_in_mode_u(rt: HostRuntime) -> Result<(), Fail> {
     let none = nowhere(Cause::Passed);
     assert!(rt; node.arrive(0, BoxPort::I, &plain(NODE, STATION)).is_ok());
     assert_eq!(rt;
-        node.arrive(10, BoxPort::A, &tagged(STATION, NODE, 0)),
+        node.arrive(10_000, BoxPort::A, &tagged(STATION, NODE, 0)),
         Ok(BoxVerdict {
             interlink: true,
             b: true,
@@ -109,11 +109,11 @@ fn redbox_in_mode_u(rt: HostRuntime) -> Result<(), Fail> {
         })
     );
     assert_eq!(rt;
-        node.arrive(10, BoxPort::B, &tagged(STATION, NODE, 0)),
+        node.arrive(10_000, BoxPort::B, &tagged(STATION, NODE, 0)),
         Ok(BoxVerdict { a: true, ..none })
     );
     assert_eq!(rt;
-        node.arrive(10, BoxPort::A, &tagged(OWN, NODE, 1)),
+        node.arrive(10_000, BoxPort::A, &tagged(OWN, NODE, 1)),
         Ok(BoxVerdict {
             up: true,
             b: true,
@@ -236,10 +236,10 @@ fn supervision_payloads(rt: HostRuntime) -> Result<(), Fail> {
     assert_eq!(rt; &on_a[..20], head.as_slice());
     assert_eq!(rt; node.supervise(0, About::Own), Ok(Life { seq: 1, life: 1 }));
     assert_eq!(rt;
-        node.supervise(60000, About::Proxied(station)),
+        node.supervise(60_000_000, About::Proxied(station)),
         Err(LifeFault::NotProxied)
     );
-    node.age(60000);
-    assert!(rt; node.nodes(60000).is_empty());
+    node.age(60_000_000);
+    assert!(rt; node.nodes(60_000_000).is_empty());
     Ok(())
 }

@@ -27,7 +27,7 @@ answers_of call state (first ∷ calls) =
 abbrev pub note_of : Result Seen FrameFault → Bool → ℕ → List Note
 note_of seen passed now = judged_by (λ key. note_if passed key now) [] (key_in seen)
 
--- of the last notes of a log, as many as a table has entries, one is younger than `entry_forget` milliseconds and has the key
+-- of the last notes of a log, as many as a table has entries, one is younger than `entry_forget` microseconds and has the key
 abbrev pub log_remembers : ℕ → List Note → ℕ → Key → Bool
 log_remembers capacity log now key = has_key key (remembered capacity entry_forget log now)
 

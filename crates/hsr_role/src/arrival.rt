@@ -24,7 +24,7 @@ pub fn key_in(seen: &Result<SeenView<'_>, FrameFault>) -> Option<Key>
     }
 }
 
-/// Hears a tagged supervision frame of another node on a ring port, at a moment in milliseconds, and tells whether what
+/// Hears a tagged supervision frame of another node on a ring port, at a moment in microseconds, and tells whether what
 /// it says could be read. A duplicate is heard too: it tells that its ring port is reached (IEC 62439-3 clause 5.7).
 pub fn hear(
     nodes: &mut NodeTable,

@@ -103,7 +103,7 @@ impl<const C: usize> Cells<C> {
         })
     }
 
-    /// The moment that the clock word has, in milliseconds.
+    /// The moment that the clock word has, in microseconds.
     pub(crate) fn moment(&self) -> u64 {
         self.clock.load(Ordering::SeqCst)
     }

@@ -4,6 +4,7 @@ use Rattle.std.proofs.lemmas.List.{drop_more}
 use Rattle.toml.specs.Data.{Members}
 use Rattle.toml.specs.View.{table_view}
 use Rattle.toml.specs.declared.value.Value.{Value}
+use Rattle.hsr_text.specs.declared.time_unit.TimeUnit.{TimeUnit}
 use Rattle.hsr_topology.specs.declared.end.End.{End}
 use Rattle.hsr_scenario.specs.Fallible.{◌>>=◌, FailsAt, Gives, GivesAt, at_spot, each}
 use Rattle.hsr_scenario.specs.Nodes.{node_in}
@@ -89,11 +90,11 @@ links_fail nodes = fail Link (λ _. link_in nodes)
 
 -- ---- steps
 
-pub orders_step : (nodes : List Named) (links : ℕ) (seen : List Order) (ts : List (Bor Table)) (i : ℕ) (d : Bor Table) (o : Order) → i < length ts
-    → at_spot (Step (length seen)) (order_in nodes links (table_view (get_or ts i d).now)) ≡ Ok o
-    → each Step (λ _. order_in nodes links) seen (map (λ t. table_view t.now) (drop i ts)) ≡ each Step (λ _. order_in nodes links) (seen ++ o ∷ []) (map (λ t. table_view t.now) (drop (i + 1) ts))
-orders_step nodes links = step Step (λ _. order_in nodes links)
+pub orders_step : (unit : TimeUnit) (nodes : List Named) (links : ℕ) (seen : List Order) (ts : List (Bor Table)) (i : ℕ) (d : Bor Table) (o : Order) → i < length ts
+    → at_spot (Step (length seen)) (order_in unit nodes links (table_view (get_or ts i d).now)) ≡ Ok o
+    → each Step (λ _. order_in unit nodes links) seen (map (λ t. table_view t.now) (drop i ts)) ≡ each Step (λ _. order_in unit nodes links) (seen ++ o ∷ []) (map (λ t. table_view t.now) (drop (i + 1) ts))
+orders_step unit nodes links = step Step (λ _. order_in unit nodes links)
 
-pub orders_fail : (nodes : List Named) (links : ℕ) (seen : List Order) (ts : List (Bor Table)) (i : ℕ) (d : Bor Table) (e : ScenarioFault) (whole : Result (List Order) ScenarioFault) → i < length ts
-    → each Step (λ _. order_in nodes links) seen (map (λ t. table_view t.now) (drop i ts)) ≡ whole → FailsAt e e.what (at_spot (Step (length seen)) (order_in nodes links (table_view (get_or ts i d).now))) → FailsAt e e.what whole
-orders_fail nodes links = fail Step (λ _. order_in nodes links)
+pub orders_fail : (unit : TimeUnit) (nodes : List Named) (links : ℕ) (seen : List Order) (ts : List (Bor Table)) (i : ℕ) (d : Bor Table) (e : ScenarioFault) (whole : Result (List Order) ScenarioFault) → i < length ts
+    → each Step (λ _. order_in unit nodes links) seen (map (λ t. table_view t.now) (drop i ts)) ≡ whole → FailsAt e e.what (at_spot (Step (length seen)) (order_in unit nodes links (table_view (get_or ts i d).now))) → FailsAt e e.what whole
+orders_fail unit nodes links = fail Step (λ _. order_in unit nodes links)

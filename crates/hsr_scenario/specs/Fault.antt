@@ -13,6 +13,7 @@ use Rattle.hsr_scenario.specs.declared.fault.ScenarioFault.{ScenarioFault}
 -- a key as it is written
 abbrev pub key_text : Key → List ℕ
 key_text key.Capacity = codes "capacity"
+key_text key.TimeUnit = codes "unit"
 key_text key.Node = codes "node"
 key_text key.Link = codes "link"
 key_text key.Step = codes "step"

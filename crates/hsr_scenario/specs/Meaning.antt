@@ -5,8 +5,11 @@ use Rattle.toml.specs.Parse.{parse_document}
 use Rattle.hsr_topology.specs.Topology.{Topology, made}
 use Rattle.hsr_topology.specs.declared.end.End.{End}
 use Rattle.hsr_topology.specs.declared.fault.TopologyFault.{TopologyFault}
+use Rattle.hsr_text.specs.Moments.{unit_of}
+use Rattle.hsr_text.specs.declared.time_unit.TimeUnit.{TimeUnit}
+use Rattle.hsr_text.specs.declared.time_unit.TimeUnit.TheVariants.{Milliseconds}
 use Rattle.hsr_scenario.specs.Fallible.{◌>>=◌, at_spot, each}
-use Rattle.hsr_scenario.specs.Tables.{between, only, optional, tables}
+use Rattle.hsr_scenario.specs.Tables.{between, only, optional, tables, word}
 use Rattle.hsr_scenario.specs.Nodes.{node_in}
 use Rattle.hsr_scenario.specs.Links.{link_in}
 use Rattle.hsr_scenario.specs.Steps.{order_in}
@@ -35,34 +38,35 @@ wired (Err fault) = Err (NoTopology fault)
 abbrev pub topology_of : List Named → List (List End) → Result Topology What
 topology_of nodes links = wired (made (map (λ node. node.place) nodes) links)
 
--- where there are this topology and these nodes and links: the steps
-unfoldable pub with_steps : ℕ → Topology → List Named → ℕ → List Members → Result Meant ScenarioFault
-with_steps capacity topology nodes links step_tables = do
-  steps ← each spot.Step (λ _. order_in nodes links) [] step_tables
+-- where there are this topology and these nodes and links, and moments are in this unit: the steps
+unfoldable pub with_steps : ℕ → TimeUnit → Topology → List Named → ℕ → List Members → Result Meant ScenarioFault
+with_steps capacity unit topology nodes links step_tables = do
+  steps ← each spot.Step (λ _. order_in unit nodes links) [] step_tables
   Ok (record { topology = topology; capacity = capacity; steps = steps })
 
 -- where there are these nodes: links, the topology, then steps
-unfoldable pub joined : ℕ → List Named → List Members → List Members → Result Meant ScenarioFault
-joined capacity nodes link_tables step_tables = do
+unfoldable pub joined : ℕ → TimeUnit → List Named → List Members → List Members → Result Meant ScenarioFault
+joined capacity unit nodes link_tables step_tables = do
   links ← each spot.Link (λ _. link_in nodes) [] link_tables
   topology ← at_spot spot.Top (topology_of nodes links)
-  with_steps capacity topology nodes (length links) step_tables
+  with_steps capacity unit topology nodes (length links) step_tables
 
 -- nodes, links, the topology, then steps
-unfoldable pub content : ℕ → List Members → List Members → List Members → Result Meant ScenarioFault
-content capacity node_tables link_tables step_tables = do
+unfoldable pub content : ℕ → TimeUnit → List Members → List Members → List Members → Result Meant ScenarioFault
+content capacity unit node_tables link_tables step_tables = do
   nodes ← each spot.Node node_in [] node_tables
-  joined capacity nodes link_tables step_tables
+  joined capacity unit nodes link_tables step_tables
 
 -- what the tables of a document say
 unfoldable pub document : Members → Result Meant ScenarioFault
 document ms = do
-  _ ← at_spot spot.Top (only (key.Capacity ∷ key.Node ∷ key.Link ∷ key.Step ∷ []) ms)
+  _ ← at_spot spot.Top (only (key.Capacity ∷ key.TimeUnit ∷ key.Node ∷ key.Link ∷ key.Step ∷ []) ms)
   capacity ← at_spot spot.Top (optional key.Capacity 64 (between 1 4096) ms)
+  unit ← at_spot spot.Top (optional key.TimeUnit Milliseconds (word unit_of) ms)
   node_tables ← at_spot spot.Top (optional key.Node [] tables ms)
   link_tables ← at_spot spot.Top (optional key.Link [] tables ms)
   step_tables ← at_spot spot.Top (optional key.Step [] tables ms)
-  content capacity node_tables link_tables step_tables
+  content capacity unit node_tables link_tables step_tables
 
 abbrev pub document_if : Option Members → Result Meant ScenarioFault
 document_if None = Err (record { spot = spot.Top; what = Text })

@@ -5,6 +5,7 @@ use Rattle.hsr_frame.specs.declared.node.About.{About}
 use Rattle.hsr_frame.specs.declared.node.About.TheVariants.{Own, Proxied}
 use Rattle.hsr_step.specs.declared.step.Step.{Step}
 use Rattle.hsr_step.specs.declared.step.Step.TheVariants.{Clock, Send, Supervise, Age, Put, Take, Judge, Cut, Mend, Inject}
+use Rattle.hsr_text.specs.declared.time_unit.TimeUnit.{TimeUnit}
 use Rattle.hsr_scenario.specs.Fallible.{◌>>=◌}
 use Rattle.hsr_scenario.specs.Tables.{between, integer, moment, needed, only, optional, word}
 use Rattle.hsr_scenario.specs.Words.{deed_of, mac_of, octets_of}
@@ -37,10 +38,10 @@ abbrev pub about_of : Option (List ℕ) → About
 about_of None = Own
 about_of (Some mac) = Proxied mac
 
-unfoldable pub clock : Members → Result Step What
-clock ms = do
+unfoldable pub clock : TimeUnit → Members → Result Step What
+clock unit ms = do
   _ ← only (key.Do ∷ key.At ∷ []) ms
-  at ← needed key.At moment ms
+  at ← needed key.At (moment unit) ms
   Ok (Clock at)
 
 unfoldable pub send : List Named → Members → Result Step What
@@ -104,21 +105,21 @@ drain ms = do
   _ ← only (key.Do ∷ []) ms
   Ok Drain
 
-abbrev pub order_of : Deed → List Named → ℕ → Members → Result Order What
-order_of deed.Clock nodes links ms = stepped (clock ms)
-order_of deed.Send nodes links ms = stepped (send nodes ms)
-order_of deed.Life nodes links ms = stepped (life nodes ms)
-order_of deed.Age nodes links ms = stepped (age nodes ms)
-order_of deed.Put nodes links ms = stepped (at_port Put nodes ms)
-order_of deed.Judge nodes links ms = stepped (at_port Judge nodes ms)
-order_of deed.Take nodes links ms = stepped (take links ms)
-order_of deed.Cut nodes links ms = stepped (at_link Cut links ms)
-order_of deed.Mend nodes links ms = stepped (at_link Mend links ms)
-order_of deed.Inject nodes links ms = stepped (inject links ms)
-order_of deed.Drain nodes links ms = drain ms
+abbrev pub order_of : Deed → TimeUnit → List Named → ℕ → Members → Result Order What
+order_of deed.Clock unit nodes links ms = stepped (clock unit ms)
+order_of deed.Send unit nodes links ms = stepped (send nodes ms)
+order_of deed.Life unit nodes links ms = stepped (life nodes ms)
+order_of deed.Age unit nodes links ms = stepped (age nodes ms)
+order_of deed.Put unit nodes links ms = stepped (at_port Put nodes ms)
+order_of deed.Judge unit nodes links ms = stepped (at_port Judge nodes ms)
+order_of deed.Take unit nodes links ms = stepped (take links ms)
+order_of deed.Cut unit nodes links ms = stepped (at_link Cut links ms)
+order_of deed.Mend unit nodes links ms = stepped (at_link Mend links ms)
+order_of deed.Inject unit nodes links ms = stepped (inject links ms)
+order_of deed.Drain unit nodes links ms = drain ms
 
--- the step of a table, where there are these nodes and so many links
-unfoldable pub order_in : List Named → ℕ → Members → Result Order What
-order_in nodes links ms = do
+-- the step of a table, where moments are in this unit, and there are these nodes and so many links
+unfoldable pub order_in : TimeUnit → List Named → ℕ → Members → Result Order What
+order_in unit nodes links ms = do
   deed ← needed key.Do (word deed_of) ms
-  order_of deed nodes links ms
+  order_of deed unit nodes links ms

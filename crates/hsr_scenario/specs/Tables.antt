@@ -1,8 +1,11 @@
 -- A table's keys, and the values that stand at them.
 use Rattle.std.specs.Prelude.{ℕ, ℤ, pos, negsuc, ◌&&◌, nat_le, Bool, true, ⊤, List, [], ◌∷◌, Option, Some, None, Result, Ok, Err, ok_or, if◌then◌else◌}
 use Rattle.std.specs.List.{list_any}
+use Rattle.std.specs.Option.{option_and_then}
 use Rattle.std.specs.Str.{bytes_eq}
 use Rattle.toml.specs.Data.{Data, Members, no_members, member, Items, no_items, item, get_member, as_str, as_integer, as_array, as_table}
+use Rattle.hsr_text.specs.Moments.{moment_in}
+use Rattle.hsr_text.specs.declared.time_unit.TimeUnit.{TimeUnit}
 use Rattle.hsr_scenario.specs.Fault.{key_text}
 use Rattle.hsr_scenario.specs.Fallible.{◌>>=◌, guard}
 use Rattle.hsr_scenario.specs.declared.fault.Key.{Key}
@@ -89,5 +92,6 @@ abbrev pub natural : ℤ → Option ℕ
 natural (pos n) = Some n
 natural (negsuc n) = None
 
-abbrev pub moment : Key → Data → Result ℕ What
-moment key d = integer key d >>= λ z. ok_or (natural z) (BadValue key)
+-- a moment in microseconds
+abbrev pub moment : TimeUnit → Key → Data → Result ℕ What
+moment unit key d = integer key d >>= λ z. ok_or (option_and_then (moment_in unit) (natural z)) (BadValue key)

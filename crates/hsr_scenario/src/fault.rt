@@ -13,6 +13,8 @@ use std::fmt;
 #[derive(Clone, Copy, Debug, PartialEq, Eq)]
 pub enum Key {
     Capacity,
+    /// Written `unit`.
+    TimeUnit,
     Node,
     Link,
     Step,
@@ -43,6 +45,7 @@ impl Key {
     {
         match self {
             Key::Capacity => "capacity",
+            Key::TimeUnit => "unit",
             Key::Node => "node",
             Key::Link => "link",
             Key::Step => "step",

@@ -1,8 +1,10 @@
 //! How a text is read as a scenario.
 ghost use Rattle.std.specs.Prelude.{◌≡◌, ◌≤◌, [], map, length, IfOk, Ok};
 ghost use Rattle.toml.specs.View.{table_view};
+ghost use Rattle.hsr_text.specs.Moments.{unit_of};
+ghost use Rattle.hsr_text.specs.declared.time_unit.TimeUnit.TheVariants.{Milliseconds};
 ghost use Rattle.hsr_scenario.specs.Fallible.{Gives, GivesAt, at_spot, each};
-ghost use Rattle.hsr_scenario.specs.Tables.{between, optional, tables};
+ghost use Rattle.hsr_scenario.specs.Tables.{between, optional, tables, word};
 ghost use Rattle.hsr_scenario.specs.Nodes.{node_in};
 ghost use Rattle.hsr_scenario.specs.Links.{link_in};
 ghost use Rattle.hsr_scenario.specs.Steps.{order_in};
@@ -16,8 +18,9 @@ use crate::links::link;
 use crate::nodes::{Named, node};
 use crate::scenario::Scenario;
 use crate::steps::{Order, order_in};
-use crate::table::{between, only, tables, value};
+use crate::table::{between, only, tables, text, value};
 use hsr_node::Place;
+use hsr_text::TimeUnit;
 use hsr_topology::{End, Topology};
 use std::alloc::Global;
 use toml::Table;
@@ -118,29 +121,34 @@ fn links_of(
 #[tactic(auto, using(crate::proofs::Lists::spotted))]
 fn order_at(
     alloc: Global,
+    unit: TimeUnit,
     nodes: &[Named],
     links: usize,
     number: usize,
     table: &Table,
 ) -> Result<Order, ScenarioFault>
-    ensures { GivesAt (λ o. o) result (at_spot (spot.Step number) (order_in nodes.now links (table_view table.now))) }
+    ensures { GivesAt (λ o. o) result (at_spot (spot.Step number) (order_in unit nodes.now links (table_view table.now))) }
 {
-    at_spot(Spot::Step(number), order_in(alloc, nodes, links, table))
+    at_spot(
+        Spot::Step(number),
+        order_in(alloc, unit, nodes, links, table),
+    )
 }
 
 /// The steps of tables.
 #[tactic(auto, using(crate::proofs::Lists::orders_step, crate::proofs::Lists::orders_fail))]
 fn orders_of(
     alloc: Global,
+    unit: TimeUnit,
     nodes: &[Named],
     links: usize,
     tables: &[&Table],
 ) -> Result<Vec<Order>, ScenarioFault>
-    ensures { GivesAt (λ v. v.items) result (each spot.Step (λ _. order_in nodes.now links) [] (map (λ t. table_view t.now) tables.now)) }
+    ensures { GivesAt (λ v. v.items) result (each spot.Step (λ _. order_in unit nodes.now links) [] (map (λ t. table_view t.now) tables.now)) }
 {
     let mut orders = Vec::new(alloc);
     for table in tables.iter() {
-        match order_at(alloc, nodes, links, orders.len(), table) {
+        match order_at(alloc, unit, nodes, links, orders.len(), table) {
             Ok(order) => {
                 let spot = Spot::Step(orders.len());
                 orders.push(order).or(Err(no_memory_at(spot)))?;
@@ -181,6 +189,7 @@ fn topology_of(alloc: Global, nodes: &[Named], links: Vec<[End; 2]>) -> Result<T
 fn with_steps(
     alloc: Global,
     capacity: usize,
+    unit: TimeUnit,
     topology: Topology,
     nodes: &[Named],
     links: usize,
@@ -188,9 +197,9 @@ fn with_steps(
 ) -> Result<Scenario, ScenarioFault>
     requires some { 1 ≤ capacity }
     requires most { capacity ≤ 4096 }
-    ensures { GivesAt scenario_view result (with_steps capacity topology nodes.now links (map (λ t. table_view t.now) step_tables.now)) }
+    ensures { GivesAt scenario_view result (with_steps capacity unit topology nodes.now links (map (λ t. table_view t.now) step_tables.now)) }
 {
-    let steps = orders_of(alloc, nodes, links, step_tables)?;
+    let steps = orders_of(alloc, unit, nodes, links, step_tables)?;
     Ok(Scenario {
         topology,
         capacity,
@@ -203,18 +212,19 @@ fn with_steps(
 fn joined(
     alloc: Global,
     capacity: usize,
+    unit: TimeUnit,
     nodes: &[Named],
     link_tables: &[&Table],
     step_tables: &[&Table],
 ) -> Result<Scenario, ScenarioFault>
     requires some { 1 ≤ capacity }
     requires most { capacity ≤ 4096 }
-    ensures { GivesAt scenario_view result (joined capacity nodes.now (map (λ t. table_view t.now) link_tables.now) (map (λ t. table_view t.now) step_tables.now)) }
+    ensures { GivesAt scenario_view result (joined capacity unit nodes.now (map (λ t. table_view t.now) link_tables.now) (map (λ t. table_view t.now) step_tables.now)) }
 {
     let links = links_of(alloc, nodes, link_tables)?;
     let count = links.len();
     let topology = at_spot(Spot::Top, topology_of(alloc, nodes, links))?;
-    with_steps(alloc, capacity, topology, nodes, count, step_tables)
+    with_steps(alloc, capacity, unit, topology, nodes, count, step_tables)
 }
 
 /// What the tables of nodes, links and steps say.
@@ -222,16 +232,24 @@ fn joined(
 fn content(
     alloc: Global,
     capacity: usize,
+    unit: TimeUnit,
     node_tables: &[&Table],
     link_tables: &[&Table],
     step_tables: &[&Table],
 ) -> Result<Scenario, ScenarioFault>
     requires some { 1 ≤ capacity }
     requires most { capacity ≤ 4096 }
-    ensures { GivesAt scenario_view result (content capacity (map (λ t. table_view t.now) node_tables.now) (map (λ t. table_view t.now) link_tables.now) (map (λ t. table_view t.now) step_tables.now)) }
+    ensures { GivesAt scenario_view result (content capacity unit (map (λ t. table_view t.now) node_tables.now) (map (λ t. table_view t.now) link_tables.now) (map (λ t. table_view t.now) step_tables.now)) }
 {
     let nodes = nodes_of(alloc, node_tables)?;
-    joined(alloc, capacity, nodes.as_slice(), link_tables, step_tables)
+    joined(
+        alloc,
+        capacity,
+        unit,
+        nodes.as_slice(),
+        link_tables,
+        step_tables,
+    )
 }
 
 /// The capacity of a document.
@@ -249,6 +267,19 @@ fn capacity(table: &Table) -> Result<usize, What>
     }
 }
 
+/// The unit of the moments of a document.
+fn unit(table: &Table) -> Result<TimeUnit, What>
+    ensures { Gives (λ u. u) result (optional key.TimeUnit Milliseconds (word unit_of) (table_view table.now)) }
+{
+    match value(table, Key::TimeUnit) {
+        None => Ok(TimeUnit::Milliseconds),
+        Some(value) => match TimeUnit::from_word(text(Key::TimeUnit, value)?.as_bytes()) {
+            Some(unit) => Ok(unit),
+            None => Err(What::BadValue(Key::TimeUnit)),
+        },
+    }
+}
+
 /// The tables of an array that may be missing.
 fn tables_at<'a>(alloc: Global, table: &'a Table, key: Key) -> Result<Vec<&'a Table>, What>
     ensures { Gives (λ v. map (λ t. table_view t.now) v.items) result (optional key [] tables (table_view table.now)) }
@@ -259,22 +290,30 @@ fn tables_at<'a>(alloc: Global, table: &'a Table, key: Key) -> Result<Vec<&'a Ta
     }
 }
 
+/// The keys of a document.
+const TOP_KEYS: [Key; 5] = [
+    Key::Capacity,
+    Key::TimeUnit,
+    Key::Node,
+    Key::Link,
+    Key::Step,
+];
+
 /// What a document says.
 #[tactic(auto, unfolding(crate::specs::Meaning::document), using(crate::proofs::Lists::spotted))]
 fn document(alloc: Global, table: &Table) -> Result<Scenario, ScenarioFault>
     ensures { GivesAt scenario_view result (document (table_view table.now)) }
 {
-    at_spot(
-        Spot::Top,
-        only(table, &[Key::Capacity, Key::Node, Key::Link, Key::Step]),
-    )?;
+    at_spot(Spot::Top, only(table, &TOP_KEYS))?;
     let capacity = at_spot(Spot::Top, capacity(table))?;
+    let unit = at_spot(Spot::Top, unit(table))?;
     let nodes = at_spot(Spot::Top, tables_at(alloc, table, Key::Node))?;
     let links = at_spot(Spot::Top, tables_at(alloc, table, Key::Link))?;
     let steps = at_spot(Spot::Top, tables_at(alloc, table, Key::Step))?;
     content(
         alloc,
         capacity,
+        unit,
         nodes.as_slice(),
         links.as_slice(),
         steps.as_slice(),
@@ -292,10 +331,11 @@ fn text_fault(what: What) -> Result<Scenario, ScenarioFault>
 }
 
 /// The scenario that a text is: a document of TOML, of at most 16 MiB, with the keys `capacity` (1 to 4096, 64 where it is
-/// missing), and `node`, `link` and `step`, arrays of tables. A fault is the first in this order: the text itself; the keys
-/// of the document; nodes, links and steps by number, the topology before the steps. Within a table come `role` or `do`,
-/// then a key that it doesn't have, and then key by key what is missing, of another type, out of its values, doubled or
-/// not there. `NoMemory` comes where a growth was refused, in place of any other answer.
+/// missing), `unit` (of its moments: `ms` or `us`, `ms` where it is missing), and `node`, `link` and `step`, arrays of
+/// tables. A fault is the first in this order: the text itself; the keys of the document; nodes, links and steps by number,
+/// the topology before the steps. Within a table come `role` or `do`, then a key that it doesn't have, and then key by key
+/// what is missing, of another type, out of its values, doubled or not there. `NoMemory` comes where a growth was refused,
+/// in place of any other answer.
 pub fn read(alloc: Global, text: &str) -> Result<Scenario, ScenarioFault>
     ensures { GivesAt scenario_view result (meaning text.now) }
 {

@@ -19,6 +19,7 @@ use hsr_frame::{About, Mac};
 use hsr_link::Dir;
 use hsr_node::Octets;
 use hsr_step::Step;
+use hsr_text::TimeUnit;
 use std::alloc::Global;
 use toml::{Table, Value};
 
@@ -33,15 +34,25 @@ pub enum Order {
 
 // ---- values
 
-/// The moment of a step, in milliseconds.
-fn moment(table: &Table) -> Result<u64, What>
-    ensures { Gives (λ n. n) result (needed key.At moment (table_view table.now)) }
+/// A number that is not below 0.
+fn natural(number: i64) -> Option<u64>
+    ensures { result ≡ natural number }
 {
-    let at = integer(Key::At, needed(table, Key::At)?)?;
-    if at < 0 {
-        return Err(What::BadValue(Key::At));
+    if number < 0 {
+        return None;
     }
-    Ok(at as u64)
+    Some(number as u64)
+}
+
+/// The moment of a step, in microseconds.
+fn moment(unit: TimeUnit, table: &Table) -> Result<u64, What>
+    ensures { Gives (λ n. n) result (needed key.At (moment unit) (table_view table.now)) }
+{
+    let at = natural(integer(Key::At, needed(table, Key::At)?)?);
+    match at.and_then(|at| unit.moment(at)) {
+        Some(at) => Ok(at),
+        None => Err(What::BadValue(Key::At)),
+    }
 }
 
 /// The link of a number.
@@ -167,11 +178,11 @@ fn about(table: &Table) -> Result<Option<Mac>, What>
 // ---- steps
 
 #[tactic(auto, unfolding(crate::specs::Steps::clock))]
-fn clock(table: &Table) -> Result<Step, What>
-    ensures { Gives (λ s. s) result (clock (table_view table.now)) }
+fn clock(unit: TimeUnit, table: &Table) -> Result<Step, What>
+    ensures { Gives (λ s. s) result (clock unit (table_view table.now)) }
 {
     only(table, &[Key::Do, Key::At])?;
-    let at = moment(table)?;
+    let at = moment(unit, table)?;
     Ok(Step::Clock { at })
 }
 
@@ -331,14 +342,15 @@ fn stepped(step: Result<Step, What>) -> Result<Order, What>
 fn order_of(
     deed: Deed,
     alloc: Global,
+    unit: TimeUnit,
     nodes: &[Named],
     links: usize,
     table: &Table,
 ) -> Result<Order, What>
-    ensures { Gives (λ o. o) result (order_of deed nodes.now links (table_view table.now)) }
+    ensures { Gives (λ o. o) result (order_of deed unit nodes.now links (table_view table.now)) }
 {
     match deed {
-        Deed::Clock => stepped(clock(table)),
+        Deed::Clock => stepped(clock(unit, table)),
         Deed::Send => stepped(send(alloc, nodes, table)),
         Deed::Life => stepped(life(nodes, table)),
         Deed::Age => stepped(age(nodes, table)),
@@ -352,16 +364,17 @@ fn order_of(
     }
 }
 
-/// What the table of a step says, where there are these nodes and so many links.
+/// What the table of a step says, where moments are in this unit, and there are these nodes and so many links.
 #[tactic(auto, unfolding(crate::specs::Steps::order_in))]
 pub(crate) fn order_in(
     alloc: Global,
+    unit: TimeUnit,
     nodes: &[Named],
     links: usize,
     table: &Table,
 ) -> Result<Order, What>
-    ensures { Gives (λ o. o) result (order_in nodes.now links (table_view table.now)) }
+    ensures { Gives (λ o. o) result (order_in unit nodes.now links (table_view table.now)) }
 {
     let deed = deed(table)?;
-    order_of(deed, alloc, nodes, links, table)
+    order_of(deed, alloc, unit, nodes, links, table)
 }

@@ -9,7 +9,7 @@ pub const INJECT_LIMIT: usize = 2048;
 /// What may happen in a world.
 #[derive(Clone, Debug, Drop, PartialEq, Eq)]
 pub enum Step {
-    /// The moment is set, in milliseconds, earlier ones too.
+    /// The moment is set, in microseconds, earlier ones too.
     Clock {
         at: u64,
     },

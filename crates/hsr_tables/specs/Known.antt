@@ -14,17 +14,21 @@ row_limit = 64
 abbrev pub put_first : {X : Type 0} → (X → List ℕ) → X → List X → List X
 put_first mac_of x xs = take row_limit (x ∷ others mac_of (mac_of x) xs)
 
--- for how many milliseconds an address is known: the NodeForgetTime and ProxyNodeTableForgetTime of IEC 62439-3 clause 5.8
+-- for how many microseconds an address is known: the NodeForgetTime and ProxyNodeTableForgetTime of IEC 62439-3 clause 5.8
 abbrev pub node_forget : ℕ
-node_forget = 60000
+node_forget = 60000000
 
--- heard less than `node_forget` milliseconds ago
+-- heard less than `node_forget` microseconds ago
 abbrev pub is_young : ℕ → ℕ → Bool
 is_young at heard = nat_lt (at - heard) node_forget
 
--- those that aren't forgotten, of what has the moment of its latest hearing beside it
+-- those that were heard less than `forget` ago, of what has the moment of its latest hearing beside it
+abbrev pub known_within : {X : Type 0} → ℕ → ℕ → List (X × ℕ) → List (X × ℕ)
+known_within forget at rows = filter (λ r. nat_lt (at - r.1) forget) rows
+
+-- those that aren't forgotten
 abbrev pub known : {X : Type 0} → ℕ → List (X × ℕ) → List (X × ℕ)
-known at rows = filter (λ r. is_young at r.1) rows
+known at rows = known_within node_forget at rows
 
 -- the latest hearing of each address
 abbrev pub latest_of_each : {X : Type 0} → (X → List ℕ) → List X → List X

@@ -91,7 +91,7 @@ abbrev pub rows_known : List Hearing → ℕ → List NodeRow
 rows_known past at = map (row_after past) (filter (λ h. is_young at h.at) (latest_heard (λ h. h.said.about) past))
 
 -- Over any list of hearings a table has the rows of the `row_limit` addresses with the latest hearings, the latest
--- first, of these the ones that were heard less than `node_forget` milliseconds ago.
+-- first, of these the ones that were heard less than `node_forget` microseconds ago.
 abbrev pub RowsOfLatest : Type 0
 RowsOfLatest = (hearings : List Hearing) (at : ℕ)
     → map (λ r. r.0) (known at (fold heard no_nodes hearings).rows) ≡ rows_known (reverse hearings) at

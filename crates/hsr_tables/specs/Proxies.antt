@@ -20,7 +20,7 @@ abbrev pub is_known : ℕ → List (List ℕ × ℕ) → List ℕ → Bool
 is_known at heard mac = list_any (λ h. is_same_address h.0 mac) (known at heard)
 
 -- Over any list of hearings a table knows the `row_limit` addresses with the latest hearings, the latest first, of
--- these the ones that were heard less than `node_forget` milliseconds ago.
+-- these the ones that were heard less than `node_forget` microseconds ago.
 abbrev pub KnowsLatest : Type 0
 KnowsLatest = (hearings : List (List ℕ × ℕ)) (at : ℕ)
     → known at (fold learned no_proxies hearings).heard ≡ known at (latest_heard (λ h. h.0) (reverse hearings))

@@ -9,7 +9,7 @@ use hsr_supervision::{SupKind, Supervision};
 use std::marker::Model;
 
 /// A node that was heard: its address, kind and RedBox as its latest
-/// supervision frame has them, and the moments in milliseconds of its latest frame on each port. They go
+/// supervision frame has them, and the moments in microseconds of its latest frame on each port. They go
 /// back to the frame that made it known, and no further.
 #[derive(Clone, Copy, Debug, Default, PartialEq, Eq)]
 pub struct NodeRow {
@@ -21,7 +21,7 @@ pub struct NodeRow {
 }
 
 /// The `ROW_LIMIT` nodes that were heard latest (the NodesTable of IEC 62439-3 clause 5), each known for `NODE_FORGET`
-/// milliseconds after it was heard last.
+/// microseconds after it was heard last.
 #[derive(Drop)]
 pub struct NodeTable {
     rows: ArrayVec<(NodeRow, u64), ROW_LIMIT>,
@@ -49,14 +49,14 @@ impl NodeTable {
         }
     }
 
-    /// The moment of the latest hearing in milliseconds, 0 at first.
+    /// The moment of the latest hearing in microseconds, 0 at first.
     pub fn last(&self) -> u64
         ensures { result ≡ self.now.last }
     {
         self.last
     }
 
-    /// Puts the node that a payload is about first, as heard on a port at this moment in milliseconds,
+    /// Puts the node that a payload is about first, as heard on a port at this moment in microseconds,
     /// and gives up what there is no room for.
     pub fn hear(&mut self, said: &Supervision, port: RingPort, at: u64)
         requires { self.old.last ≤ at }
@@ -71,7 +71,7 @@ impl NodeTable {
         self.last = at;
     }
 
-    /// Hears what a payload says, if it can be read, on a port at a moment in milliseconds, and tells whether
+    /// Hears what a payload says, if it can be read, on a port at a moment in microseconds, and tells whether
     /// it could (IEC 62439-3 clause 5.7).
     pub fn listen(&mut self, payload: &[u8], port: RingPort, at: u64) -> bool
         requires { self.old.last ≤ at }
@@ -86,7 +86,7 @@ impl NodeTable {
         }
     }
 
-    /// The nodes that aren't forgotten at this moment in milliseconds, the latest heard first.
+    /// The nodes that aren't forgotten at this moment in microseconds, the latest heard first.
     pub fn rows(&self, at: u64) -> ArrayVec<NodeRow, ROW_LIMIT>
         requires { self.now.last ≤ at }
         ensures { result.items ≡ map (λ r. r.0) (known at self.now.rows) }

@@ -11,7 +11,7 @@ use hsr_frame::Mac;
 use std::marker::Model;
 
 /// The `ROW_LIMIT` addresses that a RedBox heard latest on its interlink (the ProxyNodeTable of IEC 62439-3 clause
-/// 5), each known for `NODE_FORGET` milliseconds after it was heard last.
+/// 5), each known for `NODE_FORGET` microseconds after it was heard last.
 #[derive(Drop)]
 pub struct ProxyTable {
     rows: ArrayVec<(Mac, u64), ROW_LIMIT>,
@@ -37,14 +37,14 @@ impl ProxyTable {
         }
     }
 
-    /// The moment of the latest hearing in milliseconds, 0 at first.
+    /// The moment of the latest hearing in microseconds, 0 at first.
     pub fn last(&self) -> u64
         ensures { result ≡ self.now.last }
     {
         self.last
     }
 
-    /// Puts an address first, as heard at this moment in milliseconds, and gives up what there is no room for.
+    /// Puts an address first, as heard at this moment in microseconds, and gives up what there is no room for.
     pub fn learn(&mut self, mac: Mac, at: u64)
         requires { self.old.last ≤ at }
         ensures { self.new ≡ learned self.old (mac, at) }
@@ -56,7 +56,7 @@ impl ProxyTable {
         self.last = at;
     }
 
-    /// Whether an address is among those heard latest, and isn't forgotten at this moment in milliseconds.
+    /// Whether an address is among those heard latest, and isn't forgotten at this moment in microseconds.
     pub fn knows(&self, mac: Mac, at: u64) -> bool
         requires { self.now.last ≤ at }
         ensures { result ≡ is_known at self.now.heard mac }
@@ -65,7 +65,7 @@ impl ProxyTable {
     }
 
     /// The addresses that aren't forgotten at this moment, each with the moment when it was heard last,
-    /// the latest first; moments are in milliseconds.
+    /// the latest first; moments are in microseconds.
     pub fn list(&self, at: u64) -> ArrayVec<(Mac, u64), ROW_LIMIT>
         requires { self.now.last ≤ at }
         ensures { result.items ≡ known at self.now.heard }

@@ -25,16 +25,16 @@ fn tables_by_age(rt: HostRuntime) -> Result<(), Fail> {
     let mut nodes = NodeTable::new();
     let said = alone(station(2));
     nodes.hear(&said, RingPort::A, 0);
-    nodes.hear(&said, RingPort::B, 5);
+    nodes.hear(&said, RingPort::B, 5_000);
     let row = NodeRow {
         mac: station(2),
         kind: SupKind::Hsr,
         redbox: None,
         heard_a: Some(0),
-        heard_b: Some(5),
+        heard_b: Some(5_000),
     };
-    assert_eq!(rt; nodes.rows(60004).as_slice(), [row].as_slice());
-    assert!(rt; nodes.rows(60005).is_empty());
+    assert_eq!(rt; nodes.rows(60_004_999).as_slice(), [row].as_slice());
+    assert!(rt; nodes.rows(60_005_000).is_empty());
 
     let mut proxies = ProxyTable::new();
     for i in 0..65u8 {

@@ -145,10 +145,10 @@ fn forgotten_by_a_small_table(rt: HostRuntime) -> Result<(), Fail> {
     Ok(())
 }
 
-/// The first doubt of two nodes, where a send comes at moment 5 and again at this moment.
+/// The first doubt of two nodes, where a send comes at 5 ms and again at this moment.
 fn doubt_of_send_again(rt: &HostRuntime, at: u64) -> Result<Option<Doubt>, Fail> {
     let mut world = world(rt, ring2(rt)?)?;
-    run(&mut world, &[Step::Clock { at: 5 }])?;
+    run(&mut world, &[Step::Clock { at: 5_000 }])?;
     send_and_judge(rt, &mut world)?;
     run(&mut world, &[Step::Clock { at }])?;
     judge_again(&mut world)?;
@@ -159,8 +159,8 @@ fn doubt_of_send_again(rt: &HostRuntime, at: u64) -> Result<Option<Doubt>, Fail>
 #[test]
 fn forgotten_after_a_while(rt: HostRuntime) -> Result<(), Fail> {
     let forgot = Doubt::Forgot { node: 1, place: 1 };
-    assert!(rt; doubt_of_send_again(&rt, 405)? == Some(forgot));
-    assert!(rt; doubt_of_send_again(&rt, 404)?.is_none());
+    assert!(rt; doubt_of_send_again(&rt, 405_000)? == Some(forgot));
+    assert!(rt; doubt_of_send_again(&rt, 404_999)?.is_none());
     Ok(())
 }
 

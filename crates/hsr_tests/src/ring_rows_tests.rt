@@ -231,10 +231,10 @@ fn red_to_and_from(rt: HostRuntime) -> Result<(), Fail> {
     run(&mut world, &[send(&rt, 2, mac(1))?])?;
     drain(&mut world)?;
     let later = send_from(&rt, 0, 0, mac(10), &[2])?;
-    run(&mut world, &[Step::Clock { at: 10 }, later])?;
+    run(&mut world, &[Step::Clock { at: 10_000 }, later])?;
     drain(&mut world)?;
     let latest = send_from(&rt, 0, 0, mac(10), &[2])?;
-    run(&mut world, &[Step::Clock { at: 60_000 }, latest])?;
+    run(&mut world, &[Step::Clock { at: 60_000_000 }, latest])?;
     drain(&mut world)?;
     assert!(rt; counted(&world, &after_to_and_from()));
     assert!(rt; put_taken_lost(&world, &[(4, 4, 0), (4, 4, 0), (2, 2, 0)]));

@@ -170,10 +170,10 @@ fn red_to_and_from_by_threads(rt: HostRuntime) -> Result<(), Fail> {
     let steps = vec![in rt.alloc();
         Order::Step(send_from(&rt, 2, 0, mac(1), &[1])?),
         Order::Drain,
-        Order::Step(Step::Clock { at: 10 }),
+        Order::Step(Step::Clock { at: 10_000 }),
         Order::Step(send_from(&rt, 0, 0, mac(10), &[2])?),
         Order::Drain,
-        Order::Step(Step::Clock { at: 60000 }),
+        Order::Step(Step::Clock { at: 60_000_000 }),
         Order::Step(send_from(&rt, 0, 0, mac(10), &[2])?),
         Order::Drain,
     ]?;
@@ -184,7 +184,7 @@ fn red_to_and_from_by_threads(rt: HostRuntime) -> Result<(), Fail> {
     // the ager of each node has seen the last clock step
     for (node, worker) in [8u16, 16, 24].iter().enumerate() {
         let entries = entries(&closed, node).ok_or("node")?;
-        assert!(rt; last_age(entries, *worker) == Some(60000));
+        assert!(rt; last_age(entries, *worker) == Some(60_000_000));
     }
     Ok(())
 }

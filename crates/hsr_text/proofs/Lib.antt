@@ -3,3 +3,4 @@ pub mod Decimals
 pub mod Cuts
 pub mod LineCuts
 pub mod Pieces
+pub mod Units

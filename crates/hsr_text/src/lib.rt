@@ -1,12 +1,14 @@
-//! The lines of a text, and the words of a line.
+//! The lines of a text, the words of a line, and the unit of its moments.
 //!
-//! Its modules, in the order to read them: `lines`, `words`.
+//! Its modules, in the order to read them: `lines`, `words`, `time_unit`.
 #![tactic(auto)]
 
 mod lines;
+mod time_unit;
 mod words;
 
 pub use lines::{Front, READ_LIMIT, ReaderFault, next_line};
+pub use time_unit::TimeUnit;
 pub use words::{WordFault, decimal, hex_octets, hex_pair, put_decimal, put_hex, split_at, word};
 
 #[cfg(test)]

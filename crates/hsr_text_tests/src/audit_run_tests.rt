@@ -86,7 +86,7 @@ fn last_line_left_out(rt: HostRuntime) -> Result<(), Fail> {
 fn other_version(rt: HostRuntime) -> Result<(), Fail> {
     let fault = Fault::Transcript(TranscriptFault::Version);
     assert_eq!(rt;
-        ended(&rt, ONE_SEND, "hsr-bench 1", "hsr-bench 3")?,
+        ended(&rt, ONE_SEND, "hsr-bench 2", "hsr-bench 3")?,
         Status::Fault(fault)
     );
     Ok(())

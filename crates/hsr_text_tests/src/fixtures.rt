@@ -1,7 +1,7 @@
 //! The scenarios, transcripts, frames, readers and writers that the tests share.
 ghost use Rattle.std.specs.Prelude.{Some};
 
-use hsr_engines::{NodeOptions, Table};
+use hsr_engines::{NodeOptions, Table, TimeUnit};
 use hsr_frame::{Mac, Mode};
 use std::alloc::{AllocError, Global};
 use std::io::{self, ErrorKind, Read, Write};
@@ -207,7 +207,7 @@ doubt two-links
 // ---- transcripts
 
 /// One DANH without a link that sent one frame.
-pub const ONE_SEND: &str = "hsr-bench 1
+pub const ONE_SEND: &str = "hsr-bench 2
 table 512
 nodes 1
 danh 02-00-00-00-00-01 H
@@ -220,7 +220,7 @@ end
 ";
 
 /// A frame to a group that went both ways round a ring of three.
-pub const RING_TRANSCRIPT: &str = "hsr-bench 1
+pub const RING_TRANSCRIPT: &str = "hsr-bench 2
 table 512
 nodes 3
 danh 02-00-00-00-00-01 H
@@ -262,6 +262,7 @@ pub fn defaults() -> NodeOptions {
         mac: Mac::new([2, 0, 0, 0, 0, 1]),
         mode: Mode::H,
         table: Table::Large,
+        unit: TimeUnit::Milliseconds,
     }
 }
 

@@ -1,6 +1,6 @@
 //! What `node` writes, and how it stops.
 use crate::fixtures::{FailingReader, FailingWriter, defaults};
-use hsr_engines::{Fault, Status, TranscriptFault, node_run};
+use hsr_engines::{Fault, Status, TimeUnit, TranscriptFault, node_run};
 use std::alloc::{AllocError, Global};
 use std::test::Fail;
 
@@ -77,6 +77,29 @@ fn bad_lines(rt: HostRuntime) -> Result<(), Fail> {
         assert!(rt; text.is_empty());
     }
     Ok(())
+}
+
+/// How a line by which a node ages at a moment of a unit ends.
+fn aged(rt: &HostRuntime, unit: TimeUnit, line: &str) -> Status {
+    let mut chosen = defaults();
+    chosen.unit = unit;
+    let mut reader = line.as_bytes();
+    let mut writer = Vec::new(rt.alloc());
+    node_run(rt.alloc(), &mut reader, &mut writer, &chosen)
+}
+
+#[test]
+fn greatest_moments(rt: HostRuntime) {
+    let bad = Status::Fault(Fault::Line(1));
+    let greatest = "age 18446744073709551";
+    assert_eq!(rt; aged(&rt, TimeUnit::Milliseconds, greatest), Status::Certified);
+    let greater = "age 18446744073709552";
+    assert_eq!(rt; aged(&rt, TimeUnit::Milliseconds, greater), bad);
+    assert_eq!(rt; aged(&rt, TimeUnit::Microseconds, greater), Status::Certified);
+    let greatest = "age 18446744073709551615";
+    assert_eq!(rt; aged(&rt, TimeUnit::Microseconds, greatest), Status::Certified);
+    let greater = "age 18446744073709551616";
+    assert_eq!(rt; aged(&rt, TimeUnit::Microseconds, greater), bad);
 }
 
 #[test]

@@ -31,6 +31,10 @@ fn faults_of_steps(rt: HostRuntime) -> Result<(), Fail> {
         ("[[step]]\ndo = 'clock'\nnode = 'n0'", Unknown),
         ("[[step]]\ndo = 'clock'\nat = '1'", WrongKind(At)),
         ("[[step]]\ndo = 'clock'\nat = -1", BadValue(At)),
+        (
+            "[[step]]\ndo = 'clock'\nat = 18446744073709552",
+            BadValue(At),
+        ),
         ("[[step]]\ndo = 'age'\nport = 1", Unknown),
         ("[[step]]\ndo = 'age'", Missing(Node)),
     ];

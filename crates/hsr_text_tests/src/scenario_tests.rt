@@ -1,6 +1,8 @@
 //! One document for each fault and key of a document, its nodes and its links.
 use crate::fixtures::{NODES, joined};
-use hsr_scenario::Key::{Capacity, Ends, Link, Mac, Macs, Mode, Name, Node, Role, Step};
+use hsr_scenario::Key::{
+    Capacity, Ends, Link, Mac, Macs, Mode, Name, Node, Role, Step, TimeUnit,
+};
 use hsr_scenario::What::{
     BadValue, Missing, NameTwice, NoSuchName, Text, Topology, Unknown, WrongKind,
 };
@@ -41,6 +43,10 @@ fn faults_at_the_top(rt: HostRuntime) -> Result<(), Fail> {
         ("capacity = 0", BadValue(Capacity)),
         ("capacity = 4097", BadValue(Capacity)),
         ("capacity = -1\nnode = 1", BadValue(Capacity)),
+        ("capacity = 0\nunit = 1", BadValue(Capacity)),
+        ("unit = 1\nnode = 1", WrongKind(TimeUnit)),
+        ("unit = 'MS'\nnode = 1", BadValue(TimeUnit)),
+        ("unit = ''", BadValue(TimeUnit)),
         ("step = 1\nlink = 1\nnode = 1", WrongKind(Node)),
         ("node = [{}, 1]", WrongKind(Node)),
         ("node = [{}]\nlink = 1", WrongKind(Link)),

@@ -3,6 +3,7 @@ use crate::fixtures::{FailingWriter, ONE_SEND, RING_TRANSCRIPT, joined};
 use hsr_closing::Disagree;
 use hsr_link::Dir;
 use hsr_transcript::{ReadFault, WriteFault, read, write};
+use std::alloc::{AllocError, Global};
 use std::test::Fail;
 
 /// What is wrong with a text, for tables of 512 entries.
@@ -33,8 +34,47 @@ fn transcript_of_one_send(rt: HostRuntime) -> Result<(), Fail> {
     assert!(rt; is_read_again(&rt, ONE_SEND.as_bytes())?);
     assert!(rt; is_bad(&rt, "sent 0", "sent 1", 9)?);
     assert!(rt; is_bad(&rt, "table 512", "table 4", 2)?);
-    let version = ONE_SEND.replace(rt.alloc(), "hsr-bench 1", "hsr-bench 3")?;
+    let version = ONE_SEND.replace(rt.alloc(), "hsr-bench 2", "hsr-bench 3")?;
     assert_eq!(rt; fault_of(&rt, version.as_bytes()), Some(ReadFault::Version));
+    Ok(())
+}
+
+/// The text of one send at a moment, by this version.
+fn sent_at(alloc: Global, version: &str, at: &str) -> Result<String, AllocError> {
+    let text = ONE_SEND.replace(alloc, "hsr-bench 2", version)?;
+    let entry = joined(alloc, &["0 ", at, " send"])?;
+    text.as_str().replace(alloc, "0 0 send", entry.as_str())
+}
+
+/// Whether a text of version 1 with one send at a moment is read as the run with this moment in microseconds.
+fn is_read_in_microseconds(rt: &HostRuntime, old: &str, at: &str) -> Result<bool, Fail> {
+    let text = sent_at(rt.alloc(), "hsr-bench 1", old)?;
+    let mut reader = text.as_bytes();
+    let Ok(closed) = read::<512, _>(rt.alloc(), &mut reader) else {
+        return Ok(false);
+    };
+    let mut written = Vec::new(rt.alloc());
+    let wanted = sent_at(rt.alloc(), "hsr-bench 2", at)?;
+    Ok(write(rt.alloc(), &closed, &mut written).is_ok() && written.as_slice() == wanted.as_bytes())
+}
+
+#[test]
+fn text_of_version_1(rt: HostRuntime) -> Result<(), Fail> {
+    assert!(rt; is_read_in_microseconds(&rt, "0", "0")?);
+    assert!(rt; is_read_in_microseconds(&rt, "7", "7000")?);
+    assert!(rt; is_read_in_microseconds(&rt, "18446744073709551", "18446744073709551000")?);
+    Ok(())
+}
+
+#[test]
+fn greatest_moments(rt: HostRuntime) -> Result<(), Fail> {
+    let bad = Some(ReadFault::BadLine { number: 9 });
+    let text = sent_at(rt.alloc(), "hsr-bench 1", "18446744073709552")?;
+    assert!(rt; fault_of(&rt, text.as_bytes()) == bad);
+    let text = sent_at(rt.alloc(), "hsr-bench 2", "18446744073709551615")?;
+    assert!(rt; is_read_again(&rt, text.as_bytes())?);
+    let text = sent_at(rt.alloc(), "hsr-bench 2", "18446744073709551616")?;
+    assert!(rt; fault_of(&rt, text.as_bytes()) == bad);
     Ok(())
 }
 

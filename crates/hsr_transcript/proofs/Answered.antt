@@ -1,6 +1,9 @@
 -- A text is read as the closed run that it is the text of, or isn't read for a reason that it has.
-use Rattle.std.proofs.Common.{◌≡◌, ℕ, suc, ◌<◌, [], ◌∷◌, ◌∙◌, ◌^◌, List, length, Option, Some, None, Result, Ok, Err, inl, inr, refl, sym, ap, subst, map, IfSome, option_map, Vec}
+use Rattle.std.proofs.Common.{◌≡◌, ℕ, zero, suc, codes, slice_index_or, ◌<◌, [], ◌∷◌, ◌∙◌, ◌^◌, List, length, Option, Some, None, Result, Ok, Err, inl, inr, refl, sym, ap, subst, map, IfSome, option_map, Vec}
 use Rattle.std.specs.Global.{Global}
+use Rattle.std.specs.List.{AllByRecursion}
+use Rattle.hsr_text.specs.Moments.{IsMomentOf}
+use Rattle.hsr_text.specs.declared.time_unit.TimeUnit.{TimeUnit}
 use Rattle.hsr_node.specs.Kept.{Record}
 use Rattle.hsr_node.specs.declared.entry.Entry.{Entry}
 use Rattle.hsr_node.specs.declared.place.Place.{Place}
@@ -17,13 +20,16 @@ use Rattle.hsr_transcript_text.specs.Form.{form_of}
 use Rattle.hsr_transcript.specs.Judged.{IsRefused, Judged, Standing, Stands, records_line}
 use Rattle.hsr_transcript_text.specs.Lines.{text_of}
 use Rattle.hsr_transcript.specs.Order.{IsOrder, OrderTold}
-use Rattle.hsr_transcript_text.specs.Readable.{AreLines, FitEach}
+use Rattle.hsr_transcript_text.specs.Parsed.{entry_of}
+use Rattle.hsr_transcript_text.specs.Readable.{AreLines, FitEach, IsLineOf, IsSection}
+use Rattle.hsr_transcript_text.specs.Spelled.{entry_text}
 use Rattle.hsr_transcript.specs.Replay.{ReplayedAll}
 use Rattle.hsr_transcript_text.specs.CodeReads.{ToldWhole}
-use Rattle.hsr_transcript_text.specs.Transcript.{Said, said_lines, said_of}
+use Rattle.hsr_transcript_text.specs.Transcript.{Said, said_in, said_lines}
 use Rattle.hsr_transcript_text.specs.declared.fault.ReadFault.{ReadFault}
 use Rattle.hsr_transcript_text.specs.declared.fault.ReadFault.TheVariants.{Version, BadLine, End, Disagrees, Read, NoMemory}
 use Rattle.hsr_transcript.proofs.Finishing.{text_again}
+use Rattle.hsr_transcript_text.proofs.Entries.{entry_timed}
 use Rattle.hsr_transcript_text.proofs.Formal.{form_formal}
 use Rattle.hsr_transcript.proofs.Complete.{not_disagreeing, not_refused, plan_again, run_again}
 use Rattle.hsr_transcript.proofs.Plans.{is_told}
@@ -91,14 +97,14 @@ judged_fault capacity (Some text) t Read ok h = tt
 judged_fault capacity (Some text) t NoMemory ok h = tt
 
 -- what the text of a closed run says
-same_said : (capacity : ℕ) (text : List ℕ) (t : Said) (f : Finished) → capacity < 2 ^ 64 → IsFinished f → Fits f → IsTextOf capacity f text → form_of capacity text ≡ Ok t → t ≡ said_of f
+same_said : (capacity : ℕ) (text : List ℕ) (t : Said) (f : Finished) → capacity < 2 ^ 64 → IsFinished f → Fits f → (is : IsTextOf capacity f text) → form_of capacity text ≡ Ok t → t ≡ said_in is.unit f
 same_said capacity text t f small fin fits is ok = let again = text_again capacity text f small fin fits is in cc
 
 pub judged_again : (capacity : ℕ) (old : Option (List ℕ)) (t : Said) (fault : ReadFault) → capacity < 2 ^ 64 → IfSome old (λ text. form_of capacity text ≡ Ok t) → Judged capacity t (Err fault)
     → ReadAgain capacity old (Err fault)
 judged_again capacity None t fault small ok h = tt
 judged_again capacity (Some text) t (BadLine n) small ok h = λ f fin fits is.
-    not_refused f fin n (subst (λ c. IsRefused c (said_of f) n) (sym is.capacity_is) (subst (λ t. IsRefused capacity t n) (same_said capacity text t f small fin fits is ok) h))
+    not_refused is.unit f fin n (subst (λ c. IsRefused c (said_in is.unit f) n) (sym is.capacity_is) (subst (λ t. IsRefused capacity t n) (same_said capacity text t f small fin fits is ok) h))
 judged_again capacity (Some text) t Version small ok h = absurd h
 judged_again capacity (Some text) t End small ok h = absurd h
 judged_again capacity (Some text) t (Disagrees cause) small ok h = absurd h
@@ -106,6 +112,19 @@ judged_again capacity (Some text) t Read small ok h = λ f fin fits is. tt
 judged_again capacity (Some text) t NoMemory small ok h = λ f fin fits is. tt
 
 -- ---- closing
+
+-- the moments of entries that are read again from their lines are those of the unit
+timed_of : (unit : TimeUnit) (place : Place) (entries : List Entry) → AllByRecursion (IsLineOf (entry_of unit place) (entry_text unit place)) entries → AllByRecursion (λ x. IsMomentOf unit x.at) entries
+timed_of unit place [] h = tt
+timed_of unit place (x ∷ entries) h = (entry_timed unit place (entry_text unit place x) x h.0.0.read, timed_of unit place entries h.1)
+
+all_timed : (unit : TimeUnit) (places : List Place) (records : List (List Entry)) → FitEach (λ place. IsSection (codes "record") (entry_of unit place) (entry_text unit place)) places records
+    → (k : ℕ) → AllByRecursion (λ x. IsMomentOf unit x.at) (slice_index_or records k [])
+all_timed unit [] [] h k = tt
+all_timed unit [] (entries ∷ records) h k = absurd h
+all_timed unit (place ∷ places) [] h k = absurd h
+all_timed unit (place ∷ places) (entries ∷ records) h zero = timed_of unit place entries h.0.lines
+all_timed unit (place ∷ places) (entries ∷ records) h (suc k) = all_timed unit places records h.1 k
 
 as_long : {X Y : Type 0} (F : X → Y → Type 0) (xs : List X) (ys : List Y) → FitEach F xs ys → length ys ≡ length xs
 as_long F [] [] h = refl
@@ -115,8 +134,9 @@ as_long F (x ∷ xs) (y ∷ ys) h = ap suc (as_long F xs ys h.1)
 
 -- what stands says what the text says
 said_again : (capacity : ℕ) (t : Said) (s : Standing) (rows : List (Vec Row Global)) → length t.records ≡ length t.nodes → Stands capacity t s → map items_of rows ≡ s.rows
-    → said_of (record { run = run_of capacity s.topology s.records rows; plan = s.plan }) ≡ t
+    → said_in t.unit (record { run = run_of capacity s.topology s.records rows; plan = s.plan }) ≡ t
 said_again capacity t s rows paired stands same = λ i. record {
+  unit = t.unit;
   nodes = (ap (λ (x : Topology). x.places) stands.topology) i;
   links = (ap (λ (x : Topology). x.links) stands.topology) i;
   main = stands.plan.nodes i;
@@ -135,12 +155,14 @@ closes_answers capacity (Some text) t s rows r ok stands same closes = go r clos
     paired : length t.records ≡ length t.nodes
     paired = as_long _ t.nodes t.records spells.0.said.records
 
-    told : said_of (record { run = run_of capacity s.topology s.records rows; plan = s.plan }) ≡ t
+    told : said_in t.unit (record { run = run_of capacity s.topology s.records rows; plan = s.plan }) ≡ t
     told = said_again capacity t s rows paired stands same
 
     whole : IsTextOf capacity (record { run = run_of capacity s.topology s.records rows; plan = s.plan }) text
     whole = record {
       capacity_is = refl;
+      unit = t.unit;
+      timed = subst (λ (u : Said). (k : ℕ) → AllByRecursion (λ x. IsMomentOf t.unit x.at) (slice_index_or u.records k [])) (sym told) (all_timed t.unit t.nodes t.records spells.0.said.records);
       told = spells.1 ∙ ap (λ t. text_of (said_lines capacity t)) (sym told);
       short = subst (λ t. AreShort (said_lines capacity t)) (sym told) (short_of capacity t spells.0);
     }
@@ -172,13 +194,13 @@ pub closes_again : (capacity : ℕ) (old : Option (List ℕ)) (t : Said) (s : St
 closes_again capacity None t s rows r small ok stands same closes = tt
 closes_again capacity (Some text) t s rows r small ok stands same closes = λ f fin fits is. go f fin fits is r closes
   where
-    there : (f : Finished) → IsFinished f → Fits f → IsTextOf capacity f text → Stands f.run.capacity (said_of f) s
-    there f fin fits is = subst (λ c. Stands c (said_of f) s) (sym is.capacity_is) (subst (λ t. Stands capacity t s) (same_said capacity text t f small fin fits is ok) stands)
+    there : (f : Finished) → IsFinished f → Fits f → (is : IsTextOf capacity f text) → Stands f.run.capacity (said_in is.unit f) s
+    there f fin fits is = subst (λ c. Stands c (said_in is.unit f) s) (sym is.capacity_is) (subst (λ t. Stands capacity t s) (same_said capacity text t f small fin fits is ok) stands)
 
     whole : (f : Finished) → IsFinished f → Fits f → IsTextOf capacity f text → record { run = run_of capacity s.topology s.records rows; plan = s.plan } ≡ f
     whole f fin fits is =
-        let run : run_of capacity s.topology s.records rows ≡ f.run = subst (λ c. run_of c s.topology s.records rows ≡ f.run) is.capacity_is (run_again f fin s (there f fin fits is) rows same) in
-        λ i. record { run = run i; plan = plan_again f fin s (there f fin fits is) i }
+        let run : run_of capacity s.topology s.records rows ≡ f.run = subst (λ c. run_of c s.topology s.records rows ≡ f.run) is.capacity_is (run_again is.unit f fin s (there f fin fits is) rows same) in
+        λ i. record { run = run i; plan = plan_again is.unit f fin s (there f fin fits is) i }
 
     go : (f : Finished) → IsFinished f → Fits f → IsTextOf capacity f text → (r : Result Finished ReadFault) → Closes capacity s rows r → IsReadAs f r
     go f fin fits is (Ok g) h = h.is ∙ whole f fin fits is
@@ -187,7 +209,7 @@ closes_again capacity (Some text) t s rows r small ok stands same closes = λ f 
     go f fin fits is (Err End) h = h
     go f fin fits is (Err (Disagrees cause)) h =
         let answer = closes_answers capacity (Some text) t s rows (Err (Disagrees cause)) ok stands same h in
-        not_disagreeing f fin cause (subst (λ c. Disagreeing c (said_of f) cause) (sym is.capacity_is)
+        not_disagreeing is.unit f fin cause (subst (λ c. Disagreeing c (said_in is.unit f) cause) (sym is.capacity_is)
         (subst (λ t. Disagreeing capacity t cause) (same_said capacity text answer.0 f small fin fits is answer.1) answer.2))
     go f fin fits is (Err Read) h = tt
     go f fin fits is (Err NoMemory) h = tt

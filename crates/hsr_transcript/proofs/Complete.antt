@@ -14,39 +14,40 @@ use Rattle.hsr_closing.specs.declared.disagree.Disagree.{Disagree}
 use Rattle.hsr_transcript.specs.Answers.{Disagreeing}
 use Rattle.hsr_transcript.specs.Judged.{IsRefused, Standing, Stands, records_line}
 use Rattle.hsr_transcript.specs.Order.{IsOrder}
-use Rattle.hsr_transcript_text.specs.Transcript.{said_of}
+use Rattle.hsr_text.specs.declared.time_unit.TimeUnit.{TimeUnit}
+use Rattle.hsr_transcript_text.specs.Transcript.{said_in}
 use Rattle.hsr_transcript.proofs.Numbered.{entries_from}
 use Rattle.hsr_transcript.proofs.Plans.{one_plan, planned_order}
 use Rattle.hsr_transcript.proofs.Shapes.{shaped}
 use Rattle.hsr_transcript.proofs.Unlike.{none_unlike}
 
 -- the plan of the run has the order that is said
-has_order : (f : Finished) → IsFinished f → IsOrder (said_of f).main (said_of f).records f.plan
+has_order : (f : Finished) → IsFinished f → IsOrder (map (λ p. p.node) f.plan) f.run.records f.plan
 has_order f finished = planned_order f.run f.plan finished.closed.records finished.planned
 
-pub not_refused : (f : Finished) → IsFinished f → (line : ℕ) → IsRefused f.run.capacity (said_of f) line → ⊥
-not_refused f finished line (inl h) = h.0 finished.wired
-not_refused f finished line (inr (inl h)) = h.1 f.plan (has_order f finished)
-not_refused f finished line (inr (inr h)) = none_unlike f.run.capacity f.run.places f.run.records (records_line (said_of f)) line finished.closed.records finished.closed.legal h.2
+pub not_refused : (unit : TimeUnit) (f : Finished) → IsFinished f → (line : ℕ) → IsRefused f.run.capacity (said_in unit f) line → ⊥
+not_refused unit f finished line (inl h) = h.0 finished.wired
+not_refused unit f finished line (inr (inl h)) = h.1 f.plan (has_order f finished)
+not_refused unit f finished line (inr (inr h)) = none_unlike f.run.capacity f.run.places f.run.records (records_line (said_in unit f)) line finished.closed.records finished.closed.legal h.2
 
-pub plan_again : (f : Finished) → IsFinished f → (s : Standing) → Stands f.run.capacity (said_of f) s → s.plan ≡ f.plan
-plan_again f finished s stands = one_plan (said_of f).main (said_of f).records s.plan f.plan stands.plan (has_order f finished)
+pub plan_again : (unit : TimeUnit) (f : Finished) → IsFinished f → (s : Standing) → Stands f.run.capacity (said_in unit f) s → s.plan ≡ f.plan
+plan_again unit f finished s stands = one_plan (map (λ p. p.node) f.plan) f.run.records s.plan f.plan stands.plan (has_order f finished)
 
-pub run_again : (f : Finished) → IsFinished f → (s : Standing) → Stands f.run.capacity (said_of f) s → (rows : List (Vec Row Global)) → map items_of rows ≡ s.rows
+pub run_again : (unit : TimeUnit) (f : Finished) → IsFinished f → (s : Standing) → Stands f.run.capacity (said_in unit f) s → (rows : List (Vec Row Global)) → map items_of rows ≡ s.rows
     → run_of f.run.capacity s.topology s.records rows ≡ f.run
-run_again f finished s stands rows same =
+run_again unit f finished s stands rows same =
     let records : map (λ (r : Record). r.entries) s.records ≡ f.run.records =
     ap (map (λ (r : Record). r.entries)) stands.records ∙ entries_from 0 f.run.places f.run.records finished.closed.records in
     let carried : map items_of rows ≡ f.run.rows = same ∙ stands.rows in
     λ i. record { capacity = f.run.capacity; places = (stands.topology i).places; links = (stands.topology i).links; records = records i; rows = carried i }
 
-pub agrees_again : (f : Finished) → IsFinished f → (s : Standing) → Stands f.run.capacity (said_of f) s → (rows : List (Vec Row Global)) → map items_of rows ≡ s.rows
+pub agrees_again : (unit : TimeUnit) (f : Finished) → IsFinished f → (s : Standing) → Stands f.run.capacity (said_in unit f) s → (rows : List (Vec Row Global)) → map items_of rows ≡ s.rows
     → (passes : List Receipts) → HasReceipts s.records passes s.plan → Agrees f.run.capacity s.topology s.records rows passes s.plan
-agrees_again f finished s stands rows same passes receipts = record {
+agrees_again unit f finished s stands rows same passes receipts = record {
   shaped = subst₂ (λ (t : Topology) (kept : List Record). IsShaped t kept rows) (sym stands.topology) (sym stands.records) (shaped f.run rows finished.wired finished.closed (same ∙ stands.rows));
-  closed = subst (λ (run : Run). IsClosed run) (sym (run_again f finished s stands rows same)) finished.closed;
+  closed = subst (λ (run : Run). IsClosed run) (sym (run_again unit f finished s stands rows same)) finished.closed;
   receipts = receipts;
 }
 
-pub not_disagreeing : (f : Finished) → IsFinished f → (cause : Disagree) → Disagreeing f.run.capacity (said_of f) cause → ⊥
-not_disagreeing f finished cause d = d.refused (agrees_again f finished d.standing d.stands d.rows d.same d.passes d.receipts)
+pub not_disagreeing : (unit : TimeUnit) (f : Finished) → IsFinished f → (cause : Disagree) → Disagreeing f.run.capacity (said_in unit f) cause → ⊥
+not_disagreeing unit f finished cause d = d.refused (agrees_again unit f finished d.standing d.stands d.rows d.same d.passes d.receipts)

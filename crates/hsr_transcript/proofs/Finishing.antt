@@ -2,6 +2,9 @@
 use Rattle.std.proofs.Common.{◌≡◌, ℕ, ◌<◌, ◌≤◌, ◌^◌, suc, List, [], ◌∷◌, ◌∙◌, length, Ok, refl, sym, ap, subst, map, slice_index_or, codes, arith, Option}
 use Rattle.std.specs.List.{All, AllByRecursion}
 use Rattle.std.specs.Fmt.{decimal}
+use Rattle.hsr_text.specs.Moments.{IsMomentOf}
+use Rattle.hsr_text.specs.declared.time_unit.TimeUnit.{TimeUnit}
+use Rattle.hsr_node.specs.declared.entry.Entry.{Entry}
 use Rattle.hsr_node.specs.declared.place.Place.{Place}
 use Rattle.hsr_node.specs.declared.place.Place.TheVariants.{QuadBox}
 use Rattle.hsr_law.proofs.Lists.{all_implied}
@@ -10,18 +13,18 @@ use Rattle.hsr_topology.specs.Wired.{HasAddresses, IsJoin}
 use Rattle.hsr_topology.specs.declared.end.End.{End}
 use Rattle.hsr_closing.specs.declared.planned.Planned.{Planned}
 use Rattle.hsr_transcript_text.proofs.Again.{IsFinishedRow}
-use Rattle.hsr_transcript.specs.Answers.{AreShort, IsTextOf}
+use Rattle.hsr_transcript.specs.Answers.{AreShort, IsTextOf, IsTimed}
 use Rattle.hsr_transcript_text.specs.Fits.{AreEntriesFit, AreRowsFit, Fits, IsEntryFit, IsPlaceFit}
 use Rattle.hsr_transcript_text.specs.Form.{form_of}
 use Rattle.hsr_transcript_text.specs.Parsed.{entry_of, link_of, place_of, row_of, turn_of}
 use Rattle.hsr_transcript_text.specs.Readable.{FitEach, IsSpelled, Lacks}
 use Rattle.hsr_transcript_text.proofs.Roles.{IsEntryOf}
 use Rattle.hsr_transcript_text.specs.Spelled.{entry_text, link_text, place_text, row_text}
-use Rattle.hsr_transcript_text.specs.Transcript.{run_text, said_lines, said_of}
+use Rattle.hsr_transcript_text.specs.Transcript.{run_text_in, said_in, said_lines}
 use Rattle.hsr_transcript.proofs.OfFinished.{entries_of_role, rows_finished}
 use Rattle.hsr_transcript_text.proofs.Entries.{entry_spelled}
 use Rattle.hsr_transcript.proofs.Shorts.{AreSpelled, IsSpelledSection, are_lines}
-use Rattle.hsr_transcript_text.proofs.Spells.{count_spelled, decimal_lacks, fixed_spelled, link_spelled, place_spelled, row_spelled, turn_spelled}
+use Rattle.hsr_transcript_text.proofs.Spells.{count_spelled, decimal_lacks, fixed_spelled, link_spelled, place_spelled, row_spelled, turn_spelled, version_spelled}
 use Rattle.hsr_transcript_text.proofs.Texts.{form_again}
 
 -- ---- all of a list
@@ -73,13 +76,14 @@ section_of name of spelled ys is few all = record { count = count_spelled name (
 small : (n : ℕ) → n ≤ 128 → n < 2 ^ 64
 small n h = omega (arith, h)
 
-record_section : (f : Finished) → IsFinished f → Fits f → (k : ℕ) → k < length f.run.places
-    → IsSpelledSection (codes "record") (entry_of (slice_index_or f.run.places k QuadBox)) (entry_text (slice_index_or f.run.places k QuadBox)) (slice_index_or f.run.records k [])
-record_section f fin fits k below =
+record_section : (unit : TimeUnit) (f : Finished) → IsFinished f → Fits f → IsTimed unit f → (k : ℕ) → k < length f.run.places
+    → IsSpelledSection (codes "record") (entry_of unit (slice_index_or f.run.places k QuadBox)) (entry_text unit (slice_index_or f.run.places k QuadBox)) (slice_index_or f.run.records k [])
+record_section unit f fin fits timed k below =
     let fit : AreEntriesFit (slice_index_or f.run.records k []) = fits.records k below in
     let place = slice_index_or f.run.places k QuadBox in
-    section_of (codes "record") (entry_of place) (entry_text place) (slice_index_or f.run.records k []) ((refl, (refl, (refl, (refl, (refl, (refl, tt)))))), (refl, (refl, (refl, (refl, (refl, (refl, tt))))))) fit.0
-    (all_two IsEntryFit (IsEntryOf place) (IsSpelled (entry_of place) (entry_text place)) (entry_spelled place) _ fit.1 (entries_of_role f fin k below))
+    section_of (codes "record") (entry_of unit place) (entry_text unit place) (slice_index_or f.run.records k []) ((refl, (refl, (refl, (refl, (refl, (refl, tt)))))), (refl, (refl, (refl, (refl, (refl, (refl, tt))))))) fit.0
+    (all_two (λ (x : Entry). IsEntryFit x × IsEntryOf place x) (λ (x : Entry). IsMomentOf unit x.at) (IsSpelled (entry_of unit place) (entry_text unit place)) (λ x both whole. entry_spelled unit place x both.0 both.1 whole) _
+    (all_two IsEntryFit (IsEntryOf place) (λ (x : Entry). IsEntryFit x × IsEntryOf place x) (λ x a b. (a, b)) _ fit.1 (entries_of_role f fin k below)) (timed k))
 
 carried_section : (f : Finished) → IsFinished f → Fits f → (l : ℕ) → l < length f.run.links → IsSpelledSection (codes "carried") row_of row_text (slice_index_or f.run.rows l [])
 carried_section f fin fits l below =
@@ -88,25 +92,25 @@ carried_section f fin fits l below =
     (all_implied IsFinishedRow (IsSpelled row_of row_text) row_spelled _ (rows_finished f fin fits l below))
 
 -- the lines of a finished run are read again, each by itself
-spelled : (f : Finished) → IsFinished f → Fits f → f.run.capacity < 2 ^ 64 → AreSpelled f.run.capacity (said_of f)
-spelled f fin fits small_capacity =
+spelled : (unit : TimeUnit) (f : Finished) → IsFinished f → Fits f → IsTimed unit f → f.run.capacity < 2 ^ 64 → AreSpelled f.run.capacity (said_in unit f)
+spelled unit f fin fits timed small_capacity =
     let wired = fin.wired in
     let closed = fin.closed in
     record {
-      version = fixed_spelled _ (refl, (refl, (refl, (refl, (refl, (refl, (refl, (refl, (refl, (refl, (refl, tt)))))))))));
+      version = version_spelled unit;
       table = fixed_spelled _ (refl, (refl, (refl, (refl, (refl, (refl, decimal_lacks f.run.capacity small_capacity))))));
       nodes = section_of _ _ _ _ ((refl, (refl, (refl, (refl, (refl, tt))))), (refl, (refl, (refl, (refl, (refl, tt)))))) (omega (arith, wired.few_places)) (place_all f.run.places fits.places wired.stations);
       links = section_of _ _ _ _ ((refl, (refl, (refl, (refl, (refl, tt))))), (refl, (refl, (refl, (refl, (refl, tt)))))) (omega (arith, wired.few_links)) (link_all f.run.places f.run.links wired.few_places wired.joined);
       main = section_of _ _ _ _ ((refl, (refl, (refl, (refl, tt)))), (refl, (refl, (refl, (refl, tt))))) (rw (length_map (λ p. p.node) f.plan) fits.plan) (turn_all (length f.run.places) f.plan (omega (arith, wired.few_places)) fin.planned.nodes);
-      records = each_at _ QuadBox [] f.run.places f.run.records closed.records (record_section f fin fits);
+      records = each_at _ QuadBox [] f.run.places f.run.records closed.records (record_section unit f fin fits timed);
       carried = each_at (λ _. IsSpelledSection (codes "carried") row_of row_text) [] [] f.run.links f.run.rows closed.rows (carried_section f fin fits);
       last = fixed_spelled _ (refl, (refl, (refl, tt)));
     }
 
 -- and so is the text, where no line is too long
-pub text_again : (capacity : ℕ) (text : List ℕ) (f : Finished) → capacity < 2 ^ 64 → IsFinished f → Fits f → IsTextOf capacity f text → form_of capacity text ≡ Ok (said_of f)
+pub text_again : (capacity : ℕ) (text : List ℕ) (f : Finished) → capacity < 2 ^ 64 → IsFinished f → Fits f → (is : IsTextOf capacity f text) → form_of capacity text ≡ Ok (said_in is.unit f)
 text_again capacity text f small_capacity fin fits is =
-    let lines = spelled f fin fits (subst (λ n. n < 2 ^ 64) (sym is.capacity_is) small_capacity) in
+    let lines = spelled is.unit f fin fits is.timed (subst (λ n. n < 2 ^ 64) (sym is.capacity_is) small_capacity) in
     ap (form_of capacity) is.told
-    ∙ subst (λ n. form_of n (run_text f) ≡ Ok (said_of f)) is.capacity_is
-    (form_again f.run.capacity (said_of f) (are_lines f.run.capacity (said_of f) lines (subst (λ n. AreShort (said_lines n (said_of f))) (sym is.capacity_is) is.short)))
+    ∙ subst (λ n. form_of n (run_text_in is.unit f) ≡ Ok (said_in is.unit f)) is.capacity_is
+    (form_again f.run.capacity (said_in is.unit f) (are_lines f.run.capacity (said_in is.unit f) lines (subst (λ n. AreShort (said_lines n (said_in is.unit f))) (sym is.capacity_is) is.short)))

@@ -5,10 +5,10 @@ use Rattle.std.specs.Fmt.{decimal}
 use Rattle.hsr_transcript.specs.Answers.{AreShort}
 use Rattle.hsr_transcript_text.specs.Form.{only}
 use Rattle.hsr_transcript_text.specs.Lines.{head, lines_by, lines_each, one, section}
-use Rattle.hsr_transcript_text.specs.Parsed.{count_of, entry_of, link_of, place_of, row_of, turn_of}
+use Rattle.hsr_transcript_text.specs.Parsed.{count_of, entry_of, link_of, place_of, row_of, turn_of, version_of}
 use Rattle.hsr_transcript_text.specs.Readable.{AreLines, FitEach, IsLineOf, IsReadable, IsSection, IsSpelled}
-use Rattle.hsr_transcript_text.specs.Spelled.{entry_text, link_text, place_text, row_text}
-use Rattle.hsr_transcript_text.specs.Transcript.{Said, carried_lines, first_line, record_lines, said_front, said_lines}
+use Rattle.hsr_transcript_text.specs.Spelled.{entry_text, link_text, place_text, row_text, version_text}
+use Rattle.hsr_transcript_text.specs.Transcript.{Said, carried_lines, record_lines, said_front, said_lines}
 
 -- a section whose count and lines are spelled
 pub record IsSpelledSection {Y : Type 0} (name : List ℕ) (of : List ℕ → Option Y) (spelled : Y → List ℕ) (ys : List Y) : Type 0 where
@@ -17,12 +17,12 @@ pub record IsSpelledSection {Y : Type 0} (name : List ℕ) (of : List ℕ → Op
 
 -- a text all of whose lines are spelled, of tables with so many entries
 pub record AreSpelled (capacity : ℕ) (t : Said) : Type 0 where
-  pub version : IsSpelled (only first_line) (λ _. first_line) tt
+  pub version : IsSpelled version_of version_text t.unit
   pub table : IsSpelled (only (head (codes "table") capacity)) (λ _. head (codes "table") capacity) tt
   pub nodes : IsSpelledSection (codes "nodes") place_of place_text t.nodes
   pub links : IsSpelledSection (codes "links") (link_of t.nodes) (link_text t.nodes) t.links
   pub main : IsSpelledSection (codes "main") turn_of decimal t.main
-  pub records : FitEach (λ place. IsSpelledSection (codes "record") (entry_of place) (entry_text place)) t.nodes t.records
+  pub records : FitEach (λ place. IsSpelledSection (codes "record") (entry_of t.unit place) (entry_text t.unit place)) t.nodes t.records
   pub carried : FitEach (λ _. IsSpelledSection (codes "carried") row_of row_text) t.links t.carried
   pub last : IsSpelled (only (codes "end")) (λ _. codes "end") tt
 
@@ -84,7 +84,7 @@ are_lines capacity t f h =
     let nodes = section (codes "nodes") place_text t.nodes in
     let links = section (codes "links") (link_text t.nodes) t.links in
     let main = section (codes "main") decimal t.main in
-    let records = lines_each record_lines t.nodes t.records in
+    let records = lines_each (record_lines t.unit) t.nodes t.records in
     let carried = lines_each (λ _. carried_lines) t.links t.carried in
     let end : List (List ℕ) = codes "end" ∷ [] in
     let all = short_parts (said_front capacity t) (records ++ (carried ++ end)) h in
@@ -96,7 +96,7 @@ are_lines capacity t f h =
       nodes = section_fits (codes "nodes") place_of place_text t.nodes f.nodes in_front.0;
       links = section_fits (codes "links") (link_of t.nodes) (link_text t.nodes) t.links f.links in_middle.0;
       main = section_fits (codes "main") turn_of decimal t.main f.main in_middle.1;
-      records = each_fits (codes "record") entry_of entry_text t.nodes t.records f.records behind.0;
+      records = each_fits (codes "record") (entry_of t.unit) (entry_text t.unit) t.nodes t.records f.records behind.0;
       carried = each_fits (codes "carried") (λ _. row_of) (λ _. row_text) t.links t.carried f.carried at_end.0;
     } in
     record { version = (f.version, all.0.0); table = (f.table, all.0.1.0); said = readable; last = (f.last, at_end.1.0) }
@@ -107,13 +107,13 @@ short_of capacity t f =
     let nodes = section (codes "nodes") place_text t.nodes in
     let links = section (codes "links") (link_text t.nodes) t.links in
     let main = section (codes "main") decimal t.main in
-    let records = lines_each record_lines t.nodes t.records in
+    let records = lines_each (record_lines t.unit) t.nodes t.records in
     let carried = lines_each (λ _. carried_lines) t.links t.carried in
     let end : List (List ℕ) = codes "end" ∷ [] in
     let nodes_short : AreShort nodes = section_short (codes "nodes") place_of place_text t.nodes f.said.nodes in
     let links_short : AreShort links = section_short (codes "links") (link_of t.nodes) (link_text t.nodes) t.links f.said.links in
     let main_short : AreShort main = section_short (codes "main") turn_of decimal t.main f.said.main in
-    let records_short : AreShort records = each_short (codes "record") entry_of entry_text t.nodes t.records f.said.records in
+    let records_short : AreShort records = each_short (codes "record") (entry_of t.unit) (entry_text t.unit) t.nodes t.records f.said.records in
     let carried_short : AreShort carried = each_short (codes "carried") (λ _. row_of) (λ _. row_text) t.links t.carried f.said.carried in
     let front_short : AreShort (said_front capacity t) = (f.version.1, (f.table.1, short_both nodes (links ++ main) nodes_short (short_both links main links_short main_short))) in
     short_both (said_front capacity t) (records ++ (carried ++ end)) front_short

@@ -1,12 +1,16 @@
 -- What a text is read as.
 --     Disagreeing   what a text stands for is no closed run
+--     IsTextOf      a text of a run
 --     Answers       the closed run whose text it is, or why it is the text of none
 --     IsReadAs      no more than this run, or that reading or memory failed
 use Rattle.std.specs.Prelude.{ℕ, ◌≡◌, ◌≤◌, ◌⊎◌, List, length, Result, Ok, Err, Vec, map}
 use Rattle.std.specs.Global.{Global}
 use Rattle.std.specs.List.{AllByRecursion}
+use Rattle.hsr_text.specs.Moments.{IsMomentOf}
+use Rattle.hsr_text.specs.declared.time_unit.TimeUnit.{TimeUnit}
 use Rattle.hsr_node.specs.Kept.{Receipts}
 use Rattle.hsr_link.specs.declared.row.Row.{Row}
+use Rattle.hsr_law.specs.Run.{record_of}
 use Rattle.hsr_closing.specs.Checked.{Agrees, IsFirst}
 use Rattle.hsr_closing.specs.Finished.{Finished, items_of}
 use Rattle.hsr_closing.specs.OfRecords.{IsClosedOf, IsOpenOf}
@@ -14,7 +18,7 @@ use Rattle.hsr_closing.specs.Receipts.{HasReceipts}
 use Rattle.hsr_closing.specs.declared.disagree.Disagree.{Disagree}
 use Rattle.hsr_transcript_text.specs.Form.{form_of}
 use Rattle.hsr_transcript.specs.Judged.{IsRefused, Standing, Stands}
-use Rattle.hsr_transcript_text.specs.Transcript.{Said, run_text, said_lines, said_of}
+use Rattle.hsr_transcript_text.specs.Transcript.{Said, run_text_in, said_in, said_lines}
 use Rattle.hsr_transcript_text.specs.declared.fault.ReadFault.{ReadFault}
 use Rattle.hsr_transcript_text.specs.declared.fault.ReadFault.TheVariants.{Version, BadLine, End, Disagrees, Read, NoMemory}
 
@@ -39,11 +43,18 @@ abbrev pub IsBadAt : ℕ → List ℕ → ℕ → Type 0
 IsBadAt capacity text line =
     (form_of capacity text ≡ Err (BadLine line)) ⊎ ((t : Said) × (form_of capacity text ≡ Ok t) × IsRefused capacity t line)
 
--- the text of this run, with no line too long
+-- each moment is one of this unit
+abbrev pub IsTimed : TimeUnit → Finished → Type 0
+IsTimed unit f = (k : ℕ) → AllByRecursion (λ x. IsMomentOf unit x.at) (record_of f.run k)
+
+-- A text of this run, with no line too long: the one of version 2, or, where each moment is a multiple of 1000, the one of
+-- version 1.
 pub record IsTextOf (capacity : ℕ) (f : Finished) (text : List ℕ) : Type 0 where
   pub capacity_is : f.run.capacity ≡ capacity
-  pub told : text ≡ run_text f
-  pub short : AreShort (said_lines capacity (said_of f))
+  pub unit : TimeUnit
+  pub timed : IsTimed unit f
+  pub told : text ≡ run_text_in unit f
+  pub short : AreShort (said_lines capacity (said_in unit f))
 
 abbrev pub Answers : ℕ → Result Finished ReadFault → List ℕ → Type 0
 Answers capacity (Ok f) text = IsTextOf capacity f text

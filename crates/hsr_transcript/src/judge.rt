@@ -19,6 +19,7 @@ pub(crate) fn judge<const C: usize>(alloc: Global, plain: Plain) -> Result<Recor
     ensures { Judged C (plain_view plain) (seen (standing_of C) result) }
 {
     let Plain {
+        unit: _,
         nodes,
         links,
         main,

@@ -3,7 +3,7 @@ use Rattle.std.proofs.Common.{◌≡◌, ℕ, ◌/◌, ◌^◌, ◌<◌, ◌==�
 use Rattle.std.proofs.lemmas.Bool.{and_from, and_parts, cases_lt, or_left}
 use Rattle.std.proofs.lemmas.Bool.Decides.{nat_tests}
 use Rattle.std.proofs.lemmas.Fmt.{digits_decimal, digits_value-decimal, first_decimal, decimal_digit}
-use Rattle.std.specs.Str.{all_ascii_digits}
+use Rattle.std.specs.Str.{all_ascii_digits, bytes_eq}
 use Rattle.std.specs.Char.{is_ascii_digit}
 use Rattle.std.specs.Fmt.{decimal}
 use Rattle.std.specs.Result.{result_ok}
@@ -117,6 +117,15 @@ row_again d p octets f node place bytes gone =
 -- what is spelled is read exactly where it is read freely
 pub exactly_again : {Y : Type 0} (spelled : Y → List ℕ) (said : List ℕ → Option Y) (y : Y) → said (spelled y) ≡ Some y → exactly spelled said (spelled y) ≡ Some y
 exactly_again spelled said y e = ap (checked spelled (spelled y)) e ∙ ap (λ t. cond t (Some y) None) ((bytes_eq-Decides (spelled y) (spelled y)).1 refl)
+
+-- what is read exactly is read freely
+pub checked_was : {Y : Type 0} (spelled : Y → List ℕ) (line : List ℕ) (o : Option Y) (y : Y) → checked spelled line o ≡ Some y → o ≡ Some y
+checked_was spelled line None y e = absurd (cc)
+checked_was {Y} spelled line (Some z) y e = go (bytes_eq (spelled z) line) e
+  where
+    go : (t : Bool) → cond t (Some z) None ≡ Some y → Some z ≡ Some y
+    go true e = e
+    go false e = absurd (cc)
 
 pub row_read : (r : Row) → IsFinishedRow r → row_of (row_text r) ≡ Some r
 unfolding row_of

@@ -17,6 +17,8 @@ use Rattle.hex.specs.declared.error.FromHexError.{FromHexError}
 use Rattle.hex.proofs.HexLemmas.{decode_of-ok, decode_sized-ok, decode_sized-twice}
 use Rattle.hsr_frame.specs.Address.{address_text, upper_digit, upper_text}
 use Rattle.hsr_frame.specs.Grammar.{pair}
+use Rattle.hsr_text.specs.Moments.{moment_told}
+use Rattle.hsr_text.specs.declared.time_unit.TimeUnit.{TimeUnit}
 use Rattle.hsr_text.specs.Words.{◌>>=◌, cut, decimal_of, hex_octets_of, hex_pair_of, is_decimal, value_on, word_at}
 use Rattle.hsr_node.specs.declared.event.Event.{Event}
 use Rattle.hsr_node.specs.declared.event.Event.TheVariants.{Send, Arrive}
@@ -264,14 +266,14 @@ arrive_sure place o r1 r2 r3 w1 w2 w3 port p octets e1 e2 e3 a b c u =
     let from_1 = behind o r1 w1 (letter place port ∷ []) _ e1 (sym a) from_2 in
     ap (λ l. codes "arrive" ++ l) from_1 ∙ simp append_assoc
 
-pub entry_sure : (place : Place) (line w1 w2 w3 : List ℕ) (r1 r2 r3 r4 : Option (List ℕ)) (worker at : ℕ) (event : Event) (outcome : Outcome)
+pub entry_sure : (unit : TimeUnit) (place : Place) (line w1 w2 w3 : List ℕ) (r1 r2 r3 r4 : Option (List ℕ)) (worker at : ℕ) (event : Event) (outcome : Outcome)
     → Some (w1, r1) ≡ word_at (Some line) → Some (w2, r2) ≡ word_at r1 → after r2 ≡ 32 ∷ (event_text place event ++ after r3) → Some (w3, r4) ≡ word_at r3
-    → below (2 ^ 16) w1 ≡ Some worker → decimal_of w2 ≡ Some at → w3 ≡ codes "=" → after r4 ≡ 32 ∷ outcome_text place outcome
-    → entry_text place (record { worker = worker; at = at; event = event; outcome = outcome }) ≡ line
+    → below (2 ^ 16) w1 ≡ Some worker → decimal (moment_told unit at) ≡ w2 → w3 ≡ codes "=" → after r4 ≡ 32 ∷ outcome_text place outcome
+    → entry_text unit place (record { worker = worker; at = at; event = event; outcome = outcome }) ≡ line
 unfolding entry_text
-entry_sure place line w1 w2 w3 r1 r2 r3 r4 worker at event outcome e1 e2 e3 e4 a b c d =
+entry_sure unit place line w1 w2 w3 r1 r2 r3 r4 worker at event outcome e1 e2 e3 e4 a b c d =
     let from_4 = behind r3 r4 w3 (codes "=") _ e4 (sym c) d in
     let from_3 : after r2 ≡ 32 ∷ (event_text place event ++ 32 ∷ (codes "=" ++ 32 ∷ outcome_text place outcome)) = e3 ∙ ap (λ l. 32 ∷ (event_text place event ++ l)) from_4 in
-    let from_2 = behind r1 r2 w2 (decimal at) _ e2 (number_exact w2 at b) from_3 in
+    let from_2 = behind r1 r2 w2 (decimal (moment_told unit at)) _ e2 b from_3 in
     let from_1 = behind (Some line) r1 w1 (decimal worker) _ e1 (below_exact (2 ^ 16) w1 worker a) from_2 in
     cc

@@ -21,3 +21,4 @@ pub mod Fitting
 pub mod Roles
 pub mod Exact
 pub mod UpperDigits
+pub mod Moments

@@ -4,10 +4,12 @@ use Rattle.std.proofs.lemmas.Bool.Decides.{nat_tests}
 use Rattle.hsr_text.specs.Lines.{ReadsFront}
 use Rattle.hsr_text.specs.Words.{cut}
 use Rattle.hsr_text.specs.declared.lines.Front.TheVariants.{Line, Rest, TooLong}
+use Rattle.hsr_text.specs.declared.time_unit.TimeUnit.{TimeUnit}
+use Rattle.hsr_transcript_text.specs.Parsed.{version_of}
 use Rattle.hsr_transcript_text.specs.Reading.{At, Reader, on_with, gives, behind, line_at, taken, line_or, line_of, many, ◌>>=◌, closes, whole}
-use Rattle.hsr_transcript_text.specs.Form.{as_version, form_of, only, only_at, said_at, version_at}
+use Rattle.hsr_transcript_text.specs.Form.{as_version, form_of, said_at, version_at}
 use Rattle.hsr_transcript_text.specs.CodeReads.{Told, Gives, Ends, Says, ToldWhole, ends_at}
-use Rattle.hsr_transcript_text.specs.Transcript.{Said, first_line}
+use Rattle.hsr_transcript_text.specs.Transcript.{Said}
 use Rattle.hsr_transcript_text.specs.declared.fault.ReadFault.{ReadFault}
 use Rattle.hsr_transcript_text.specs.declared.fault.ReadFault.TheVariants.{Version, BadLine, End, Disagrees, Read, NoMemory}
 
@@ -156,19 +158,20 @@ version_line {Y} of a = go (nat_lt 8192 (length (cut 10 a.text).0)) (cut 10 a.te
     go false None = refl
     go false (Some rest) = on (of (cut 10 a.text).0) (record { number = a.number + 1; text = rest })
 
-pub version_given : (old new : Option (List ℕ)) (m n : ℕ) → Gives (λ v. v) old new m n (Ok tt) (only_at first_line) → Gives (λ v. v) old new m n (Ok tt) version_at
-unfolding version_at only_at
-version_given None new m n g = tt
-version_given (Some text) new m n g = (g.0, g.1, version_line (only first_line) (record { number = m; text = text }) ∙ ap versioned g.2)
+pub version_given : (old new : Option (List ℕ)) (m n : ℕ) (unit : TimeUnit) → Gives (λ v. v) old new m n (Ok unit) (line_of version_of)
+    → Gives (λ v. v) old new m n (Ok unit) version_at
+unfolding version_at
+version_given None new m n unit g = tt
+version_given (Some text) new m n unit g = (g.0, g.1, version_line version_of (record { number = m; text = text }) ∙ ap versioned g.2)
 
-pub version_fails : (old new : Option (List ℕ)) (m n : ℕ) (e : ReadFault) → Gives (λ (v : Unit {0}). v) old new m n (Err e) (only_at first_line)
-    → Gives (λ (v : Unit {0}). v) old new m n (Err (as_version e)) version_at
-unfolding version_at only_at
+pub version_fails : (old new : Option (List ℕ)) (m n : ℕ) (e : ReadFault) → Gives (λ (unit : TimeUnit). unit) old new m n (Err e) (line_of version_of)
+    → Gives (λ (unit : TimeUnit). unit) old new m n (Err (as_version e)) version_at
+unfolding version_at
 version_fails None new m n e g = tt
-version_fails (Some text) new m n Version g = version_line (only first_line) (record { number = m; text = text }) ∙ ap versioned g
-version_fails (Some text) new m n (BadLine k) g = version_line (only first_line) (record { number = m; text = text }) ∙ ap versioned g
-version_fails (Some text) new m n End g = version_line (only first_line) (record { number = m; text = text }) ∙ ap versioned g
-version_fails (Some text) new m n (Disagrees cause) g = version_line (only first_line) (record { number = m; text = text }) ∙ ap versioned g
+version_fails (Some text) new m n Version g = version_line version_of (record { number = m; text = text }) ∙ ap versioned g
+version_fails (Some text) new m n (BadLine k) g = version_line version_of (record { number = m; text = text }) ∙ ap versioned g
+version_fails (Some text) new m n End g = version_line version_of (record { number = m; text = text }) ∙ ap versioned g
+version_fails (Some text) new m n (Disagrees cause) g = version_line version_of (record { number = m; text = text }) ∙ ap versioned g
 version_fails (Some text) new m n Read g = tt
 version_fails (Some text) new m n NoMemory g = tt
 

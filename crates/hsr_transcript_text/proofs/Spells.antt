@@ -5,6 +5,8 @@ use Rattle.std.specs.List.{AllByRecursion}
 use Rattle.std.proofs.lemmas.Bool.Decides.{nat_tests}
 use Rattle.hsr_frame.specs.Address.{IsAddress}
 use Rattle.hsr_text.specs.Words.{cut}
+use Rattle.hsr_text.specs.declared.time_unit.TimeUnit.{TimeUnit}
+use Rattle.hsr_text.specs.declared.time_unit.TimeUnit.TheVariants.{Milliseconds, Microseconds}
 use Rattle.hsr_frame.specs.declared.node.Mode.{Mode}
 use Rattle.hsr_frame.specs.declared.node.Mode.TheVariants.{H, N, U}
 use Rattle.hsr_node.specs.declared.event.Probe.{Probe}
@@ -22,10 +24,10 @@ use Rattle.hsr_transcript_text.proofs.WordTexts.{line_end, word_octets}
 use Rattle.hsr_transcript_text.specs.Fits.{IsPlaceFit}
 use Rattle.hsr_transcript_text.specs.Form.{only}
 use Rattle.hsr_transcript_text.specs.Lines.{head}
-use Rattle.hsr_transcript_text.specs.Parsed.{count_of, read_end, link_of, read_link, number_in, place_of, read_place, read_port, row_of, turn_of}
+use Rattle.hsr_transcript_text.specs.Parsed.{count_of, read_end, link_of, read_link, number_in, place_of, read_place, read_port, row_of, turn_of, version_of}
 use Rattle.hsr_frame.specs.Words.{mode_of, mode_word}
 use Rattle.hsr_transcript_text.specs.Readable.{IsSpelled, Lacks}
-use Rattle.hsr_transcript_text.specs.Spelled.{end_text, link_text, mac_text, octets_text, place_text, probe_text, row_text, spaced}
+use Rattle.hsr_transcript_text.specs.Spelled.{end_text, link_text, mac_text, octets_text, place_text, probe_text, row_text, spaced, version_text}
 use Rattle.hsr_node.specs.Words.{letter}
 use Rattle.hsr_link.specs.Words.{dir_word, fate_word}
 use Rattle.hsr_transcript_text.proofs.Again.{IsFinishedRow, exactly_again, lacks_decimal, number_again, row_read, turn_read}
@@ -45,6 +47,11 @@ decimal_lacks n h = lacks_decimal 10 n h (inl (omega arith))
 
 pub fixed_spelled : (word : List ℕ) → Lacks 10 word → IsSpelled (only word) (λ _. word) tt
 fixed_spelled word h = record { read = exactly_again (λ _. word) (λ _. Some tt) tt refl; line = h }
+
+pub version_spelled : (unit : TimeUnit) → IsSpelled version_of version_text unit
+unfolding version_of
+version_spelled Milliseconds = record { read = refl; line = (refl, (refl, (refl, (refl, (refl, (refl, (refl, (refl, (refl, (refl, (refl, tt))))))))))) }
+version_spelled Microseconds = record { read = refl; line = (refl, (refl, (refl, (refl, (refl, (refl, (refl, (refl, (refl, (refl, (refl, tt))))))))))) }
 
 pub turn_spelled : (n : ℕ) → n < 2 ^ 64 → IsSpelled turn_of decimal n
 turn_spelled n h = record { read = turn_read n h; line = decimal_lacks n h }

@@ -8,18 +8,23 @@ use Rattle.hsr_node.specs.declared.place.Place.{Place}
 use Rattle.hsr_topology.specs.declared.end.End.{End}
 use Rattle.hsr_transcript_text.specs.Form.{carried_at, carried_on, end_on, form_of, links_on, main_on, nodes_on, only, only_at, record_at, records_at, records_on, rows_at, said_at, section_at, table_on, version_at}
 use Rattle.hsr_transcript_text.specs.Lines.{head, lines_counted, lines_each, one, section, text_of}
-use Rattle.hsr_transcript_text.specs.Parsed.{count_of, entry_of, link_of, number_in, place_of, row_of, turn_of, read_entry, read_link, read_place, read_row}
+use Rattle.hsr_transcript_text.specs.Parsed.{count_of, entry_of, link_of, number_in, place_of, row_of, turn_of, version_of, read_entry, read_link, read_place, read_row, read_version}
+use Rattle.hsr_text.specs.declared.time_unit.TimeUnit.{TimeUnit}
 use Rattle.hsr_text.specs.Words.{cut, decimal_of}
 use Rattle.hsr_transcript_text.specs.Reading.{line_of, line_or}
 use Rattle.hsr_transcript_text.specs.Readable.{AreLines, FitEach, IsFixed, IsLineOf, IsSection}
-use Rattle.hsr_transcript_text.specs.Spelled.{entry_text, link_text, place_text, row_text}
-use Rattle.hsr_transcript_text.specs.Transcript.{Said, carried_lines, first_line, record_lines, said_front, said_lines}
+use Rattle.hsr_transcript_text.specs.Spelled.{entry_text, link_text, place_text, row_text, version_text}
+use Rattle.hsr_transcript_text.specs.Transcript.{Said, carried_lines, record_lines, said_front, said_lines}
 use Rattle.hsr_transcript_text.specs.declared.fault.ReadFault.{ReadFault}
 use Rattle.hsr_transcript_text.specs.declared.fault.ReadFault.TheVariants.{Version, BadLine}
 use Rattle.hsr_transcript_text.proofs.OfKind.{Both, Kind, exactly_kind}
 use Rattle.hsr_transcript_text.proofs.Readers.{bind_both, both_by, counted_both, each_both, gives_both, line_both, whole_again, whole_spells}
 
 -- ---- kinds of line
+
+version_kind : Kind version_of version_text
+unfolding version_of
+version_kind = exactly_kind version_text read_version
 
 place_kind : Kind place_of place_text
 unfolding place_of
@@ -33,9 +38,9 @@ turn_kind : Kind turn_of decimal
 unfolding turn_of
 turn_kind = exactly_kind decimal decimal_of
 
-entry_kind : (place : Place) → Kind (entry_of place) (entry_text place)
+entry_kind : (unit : TimeUnit) (place : Place) → Kind (entry_of unit place) (entry_text unit place)
 unfolding entry_of
-entry_kind place = exactly_kind (entry_text place) (read_entry place)
+entry_kind unit place = exactly_kind (entry_text unit place) (read_entry unit place)
 
 row_kind : Kind row_of row_text
 unfolding row_of
@@ -62,20 +67,20 @@ fixed_both fault word =
 
 -- ---- whole texts
 
-from_parts : (t : Said) (nodes : List Place) (links : List (List End)) (main : List ℕ) (records : List (List Entry)) (carried : List (List Row))
-    → t.nodes ≡ nodes → t.links ≡ links → t.main ≡ main → t.records ≡ records → t.carried ≡ carried
-    → record { nodes = nodes; links = links; main = main; records = records; carried = carried } ≡ t
-from_parts t nodes links main records carried a b c d e =
-    λ i. record { nodes = sym a i; links = sym b i; main = sym c i; records = sym d i; carried = sym e i }
+from_parts : (t : Said) (unit : TimeUnit) (nodes : List Place) (links : List (List End)) (main : List ℕ) (records : List (List Entry)) (carried : List (List Row))
+    → t.unit ≡ unit → t.nodes ≡ nodes → t.links ≡ links → t.main ≡ main → t.records ≡ records → t.carried ≡ carried
+    → record { unit = unit; nodes = nodes; links = links; main = main; records = records; carried = carried } ≡ t
+from_parts t unit nodes links main records carried u a b c d e =
+    λ i. record { unit = sym u i; nodes = sym a i; links = sym b i; main = sym c i; records = sym d i; carried = sym e i }
 
 -- the lines, one section behind another
 abbrev in_row : ℕ → Said → List (List ℕ)
 in_row capacity t =
-    first_line ∷ head (codes "table") capacity
+    version_text t.unit ∷ head (codes "table") capacity
     ∷ (section (codes "nodes") place_text t.nodes
     ++ (section (codes "links") (link_text t.nodes) t.links
     ++ (section (codes "main") decimal t.main
-    ++ (lines_each record_lines t.nodes t.records
+    ++ (lines_each (record_lines t.unit) t.nodes t.records
     ++ (lines_each (λ _. carried_lines) t.links t.carried
     ++ codes "end" ∷ [])))))
 
@@ -83,33 +88,37 @@ lines_in_row : (capacity : ℕ) (t : Said) → said_lines capacity t ≡ in_row 
 unfolding said_lines said_front
 lines_in_row capacity t = simp append_assoc
 
+-- the section of a record
+abbrev Recorded : TimeUnit → Place → List Entry → Type 0
+Recorded unit place = IsSection (codes "record") (entry_of unit place) (entry_text unit place)
+
 row_both : (capacity : ℕ) → Both (said_at capacity) (in_row capacity) (AreLines capacity)
 unfolding said_at table_on nodes_on links_on main_on records_on carried_on end_on version_at only_at records_at rows_at
 row_both capacity =
     let end : List (List ℕ) = codes "end" ∷ [] in
     let t6 = λ (ls : List (List End)) (t : Said). lines_each (λ _. carried_lines) ls t.carried ++ end in
-    let t5 = λ (xs : List Place) (ls : List (List End)) (t : Said). lines_each record_lines xs t.records ++ t6 ls t in
-    let t4 = λ (xs : List Place) (ls : List (List End)) (t : Said). section (codes "main") decimal t.main ++ t5 xs ls t in
-    let t3 = λ (xs : List Place) (t : Said). section (codes "links") (link_text xs) t.links ++ t4 xs t.links t in
-    let t2 = λ (t : Said). section (codes "nodes") place_text t.nodes ++ t3 t.nodes t in
-    let t1 = λ (t : Said). head (codes "table") capacity ∷ t2 t in
+    let t5 = λ (unit : TimeUnit) (xs : List Place) (ls : List (List End)) (t : Said). lines_each (record_lines unit) xs t.records ++ t6 ls t in
+    let t4 = λ (unit : TimeUnit) (xs : List Place) (ls : List (List End)) (t : Said). section (codes "main") decimal t.main ++ t5 unit xs ls t in
+    let t3 = λ (unit : TimeUnit) (xs : List Place) (t : Said). section (codes "links") (link_text xs) t.links ++ t4 unit xs t.links t in
+    let t2 = λ (unit : TimeUnit) (t : Said). section (codes "nodes") place_text t.nodes ++ t3 unit t.nodes t in
+    let t1 = λ (unit : TimeUnit) (t : Said). head (codes "table") capacity ∷ t2 unit t in
     let no : Said → Unit {0} = λ t. tt in
-    bind_both _ (λ _. first_line ∷ []) (λ _. IsFixed first_line) _ (λ _. t1) (AreLines capacity) no (fixed_both (λ _. Version) first_line) (λ t w. w.version) (λ version h1.
-    bind_both _ (λ _. head (codes "table") capacity ∷ []) (λ _. IsFixed (head (codes "table") capacity)) _ (λ _. t2) _ no (fixed_both BadLine (head (codes "table") capacity)) (λ t w. w.0.table) (λ table h2.
-    bind_both _ _ _ _ t3 _ (λ t. t.nodes) (section_both (codes "nodes") place_of place_text place_kind) (λ t w. w.0.0.said.nodes) (λ nodes h3.
-    bind_both _ _ _ _ (t4 nodes) _ (λ t. t.links) (section_both (codes "links") (link_of nodes) (link_text nodes) (link_kind nodes))
+    bind_both _ (λ unit. version_text unit ∷ []) (IsLineOf version_of version_text) _ t1 (AreLines capacity) (λ t. t.unit) (line_both (λ _. Version) version_of version_text version_kind) (λ t w. w.version) (λ unit h1.
+    bind_both _ (λ _. head (codes "table") capacity ∷ []) (λ _. IsFixed (head (codes "table") capacity)) _ (λ _. t2 unit) _ no (fixed_both BadLine (head (codes "table") capacity)) (λ t w. w.0.table) (λ table h2.
+    bind_both _ _ _ _ (t3 unit) _ (λ t. t.nodes) (section_both (codes "nodes") place_of place_text place_kind) (λ t w. w.0.0.said.nodes) (λ nodes h3.
+    bind_both _ _ _ _ (t4 unit nodes) _ (λ t. t.links) (section_both (codes "links") (link_of nodes) (link_text nodes) (link_kind nodes))
     (λ t w. subst (λ xs. IsSection (codes "links") (link_of xs) (link_text xs) t.links) w.1 w.0.0.0.said.links) (λ links h4.
-    bind_both _ _ _ _ (λ _. t5 nodes links) _ (λ t. t.main) (section_both (codes "main") turn_of decimal turn_kind) (λ t w. w.0.0.0.0.said.main) (λ main h5.
+    bind_both _ _ _ _ (λ _. t5 unit nodes links) _ (λ t. t.main) (section_both (codes "main") turn_of decimal turn_kind) (λ t w. w.0.0.0.0.said.main) (λ main h5.
     bind_both _ _ _ _ (λ _. t6 links) _ (λ t. t.records)
-    (each_both record_at record_lines (λ place. IsSection (codes "record") (entry_of place) (entry_text place)) (λ place. section_both (codes "record") (entry_of place) (entry_text place) (entry_kind place)) nodes)
-    (λ t w. subst (λ xs. FitEach (λ place. IsSection (codes "record") (entry_of place) (entry_text place)) xs t.records) w.0.0.1 w.0.0.0.0.0.said.records) (λ records h6.
+    (each_both (record_at unit) (record_lines unit) (Recorded unit) (λ place. section_both (codes "record") (entry_of unit place) (entry_text unit place) (entry_kind unit place)) nodes)
+    (λ t w. subst (λ xs. FitEach (Recorded unit) xs t.records) w.0.0.1 (subst (λ u. FitEach (Recorded u) t.nodes t.records) w.0.0.0.0.1 w.0.0.0.0.0.said.records)) (λ records h6.
     bind_both _ _ _ _ (λ _ t. end) _ (λ t. t.carried)
     (each_both carried_at (λ _. carried_lines) (λ _. IsSection (codes "carried") row_of row_text) (λ _. section_both (codes "carried") row_of row_text row_kind) links)
     (λ t w. subst (λ ls. FitEach (λ _. IsSection (codes "carried") row_of row_text) ls t.carried) w.0.0.1 w.0.0.0.0.0.0.said.carried) (λ carried h7.
     bind_both _ (λ _. end) (λ _. IsFixed (codes "end")) _ (λ _ t. []) _ no (fixed_both BadLine (codes "end")) (λ t w. w.0.0.0.0.0.0.0.last) (λ last h8.
-    gives_both (record { nodes = nodes; links = links; main = main; records = records; carried = carried }) _
+    gives_both (record { unit = unit; nodes = nodes; links = links; main = main; records = records; carried = carried }) _
     ((((((((record { version = h1; table = h2; said = record { nodes = h3; links = h4; main = h5; records = h6; carried = h7 }; last = h8 }, refl), refl), refl), refl), refl), refl), refl), refl)
-    (λ t w. from_parts t nodes links main records carried w.0.0.0.0.0.1 w.0.0.0.0.1 w.0.0.0.1 w.0.0.1 w.0.1)))))))))
+    (λ t w. from_parts t unit nodes links main records carried w.0.0.0.0.0.0.0.1 w.0.0.0.0.0.1 w.0.0.0.0.1 w.0.0.0.1 w.0.0.1 w.0.1)))))))))
 
 said_both : (capacity : ℕ) → Both (said_at capacity) (said_lines capacity) (AreLines capacity)
 said_both capacity =

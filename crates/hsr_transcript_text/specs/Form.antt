@@ -1,13 +1,14 @@
 -- A whole text, section by section.
 use Rattle.std.specs.Prelude.{ℕ, List, Option, Some, Result, codes}
+use Rattle.hsr_text.specs.declared.time_unit.TimeUnit.{TimeUnit}
 use Rattle.hsr_topology.specs.declared.end.End.{End}
 use Rattle.hsr_node.specs.declared.entry.Entry.{Entry}
 use Rattle.hsr_node.specs.declared.place.Place.{Place}
 use Rattle.hsr_link.specs.declared.row.Row.{Row}
 use Rattle.hsr_transcript_text.specs.Lines.{head}
-use Rattle.hsr_transcript_text.specs.Parsed.{count_of, entry_of, link_of, place_of, row_of, turn_of}
+use Rattle.hsr_transcript_text.specs.Parsed.{count_of, entry_of, link_of, place_of, row_of, turn_of, version_of}
 use Rattle.hsr_transcript_text.specs.Reading.{◌>>=◌, Reader, counted, each, exactly, gives, line_of, line_or, whole}
-use Rattle.hsr_transcript_text.specs.Transcript.{Said, first_line}
+use Rattle.hsr_transcript_text.specs.Transcript.{Said}
 use Rattle.hsr_transcript_text.specs.declared.fault.ReadFault.{ReadFault}
 use Rattle.hsr_transcript_text.specs.declared.fault.ReadFault.TheVariants.{Version, BadLine}
 
@@ -20,8 +21,8 @@ unfoldable pub section_at : {Y : Type 0} → List ℕ → (List ℕ → Option Y
 section_at name of = counted (count_of name) (line_of of)
 
 -- the record of a node
-abbrev pub record_at : Place → Reader (List Entry)
-record_at place = section_at (codes "record") (entry_of place)
+abbrev pub record_at : TimeUnit → Place → Reader (List Entry)
+record_at unit place = section_at (codes "record") (entry_of unit place)
 
 -- the rows of a link
 abbrev pub carried_at : List End → Reader (List Row)
@@ -32,14 +33,14 @@ abbrev pub as_version : ReadFault → ReadFault
 as_version (BadLine n) = Version
 as_version fault = fault
 
-unfoldable pub version_at : Reader (Unit {0})
-version_at = line_or (λ _. Version) (only first_line)
+unfoldable pub version_at : Reader TimeUnit
+version_at = line_or (λ _. Version) version_of
 
 unfoldable pub only_at : List ℕ → Reader (Unit {0})
 only_at line = line_of (only line)
 
-unfoldable pub records_at : List Place → Reader (List (List Entry))
-records_at nodes = each record_at nodes
+unfoldable pub records_at : TimeUnit → List Place → Reader (List (List Entry))
+records_at unit nodes = each (record_at unit) nodes
 
 unfoldable pub rows_at : List (List End) → Reader (List (List Row))
 rows_at links = each carried_at links
@@ -49,33 +50,33 @@ unfoldable pub end_on : Said → Reader Said
 end_on said = only_at (codes "end") >>= λ _. gives said
 
 -- what follows the records
-unfoldable pub carried_on : List Place → List (List End) → List ℕ → List (List Entry) → Reader Said
-carried_on nodes links main records =
-    rows_at links >>= λ carried. end_on (record { nodes = nodes; links = links; main = main; records = records; carried = carried })
+unfoldable pub carried_on : TimeUnit → List Place → List (List End) → List ℕ → List (List Entry) → Reader Said
+carried_on unit nodes links main records =
+    rows_at links >>= λ carried. end_on (record { unit = unit; nodes = nodes; links = links; main = main; records = records; carried = carried })
 
 -- what follows the order of the main worker's entries
-unfoldable pub records_on : List Place → List (List End) → List ℕ → Reader Said
-records_on nodes links main = records_at nodes >>= λ records. carried_on nodes links main records
+unfoldable pub records_on : TimeUnit → List Place → List (List End) → List ℕ → Reader Said
+records_on unit nodes links main = records_at unit nodes >>= λ records. carried_on unit nodes links main records
 
 -- what follows the links
-unfoldable pub main_on : List Place → List (List End) → Reader Said
-main_on nodes links = section_at (codes "main") turn_of >>= λ main. records_on nodes links main
+unfoldable pub main_on : TimeUnit → List Place → List (List End) → Reader Said
+main_on unit nodes links = section_at (codes "main") turn_of >>= λ main. records_on unit nodes links main
 
 -- what follows the nodes
-unfoldable pub links_on : List Place → Reader Said
-links_on nodes = section_at (codes "links") (link_of nodes) >>= λ links. main_on nodes links
+unfoldable pub links_on : TimeUnit → List Place → Reader Said
+links_on unit nodes = section_at (codes "links") (link_of nodes) >>= λ links. main_on unit nodes links
 
 -- what follows the first two lines
-unfoldable pub nodes_on : Reader Said
-nodes_on = section_at (codes "nodes") place_of >>= λ nodes. links_on nodes
+unfoldable pub nodes_on : TimeUnit → Reader Said
+nodes_on unit = section_at (codes "nodes") place_of >>= λ nodes. links_on unit nodes
 
 -- what follows the first line, of tables with so many entries
-unfoldable pub table_on : ℕ → Reader Said
-table_on capacity = only_at (head (codes "table") capacity) >>= λ _. nodes_on
+unfoldable pub table_on : ℕ → TimeUnit → Reader Said
+table_on capacity unit = only_at (head (codes "table") capacity) >>= λ _. nodes_on unit
 
 -- all of a text
 unfoldable pub said_at : ℕ → Reader Said
-said_at capacity = version_at >>= λ _. table_on capacity
+said_at capacity = version_at >>= λ unit. table_on capacity unit
 
 -- what a text that is in form says, or its first fault
 unfoldable pub form_of : ℕ → List ℕ → Result Said ReadFault

@@ -7,6 +7,9 @@ use Rattle.std.specs.Str.{bytes_eq}
 use Rattle.std.specs.Fmt.{decimal}
 use Rattle.hsr_frame.specs.Address.{address_of}
 use Rattle.hsr_frame.specs.Cases.{first_of}
+use Rattle.hsr_text.specs.Moments.{moment_of}
+use Rattle.hsr_text.specs.declared.time_unit.TimeUnit.{TimeUnit}
+use Rattle.hsr_text.specs.declared.time_unit.TimeUnit.TheVariants.{Milliseconds, Microseconds}
 use Rattle.hsr_text.specs.Words.{◌>>=◌, cut, word_at, decimal_of, hex_pair_of, hex_octets_of}
 use Rattle.hsr_frame.specs.Words.{cause_of, fault_of, mode_of}
 use Rattle.hsr_frame.specs.declared.fault.FrameFault.{FrameFault}
@@ -33,7 +36,7 @@ use Rattle.hsr_node.specs.Words.{letter, port_of, role_of}
 use Rattle.hsr_topology.specs.declared.end.End.{End}
 use Rattle.hsr_transcript_text.specs.Reading.{exactly, tested}
 use Rattle.hsr_transcript_text.specs.Lines.{head}
-use Rattle.hsr_transcript_text.specs.Spelled.{entry_text, link_text, place_text, row_text}
+use Rattle.hsr_transcript_text.specs.Spelled.{entry_text, link_text, place_text, row_text, version_text}
 
 -- ---- words
 
@@ -218,12 +221,12 @@ read_outcome place words = do
       ((bytes_eq verb.0 (codes "sent"), read_sent place verb.1) ∷ (bytes_eq verb.0 (codes "life"), read_lived place verb.1)
       ∷ (bytes_eq verb.0 (codes "judged"), read_judged place verb.1) ∷ (bytes_eq verb.0 (codes "aged"), Some Aged) ∷ [])
 
-unfoldable pub read_entry : Place → List ℕ → Option Entry
-read_entry place line = do
+unfoldable pub read_entry : TimeUnit → Place → List ℕ → Option Entry
+read_entry unit place line = do
   first ← word_at (Some line)
   worker ← below (2 ^ 16) first.0
   second ← word_at first.1
-  at ← decimal_of second.0
+  at ← moment_of unit second.0
   event ← read_event place second.1
   equals ← word_at event.1
   outcome ← read_outcome place equals.1
@@ -245,14 +248,21 @@ read_row line = do
 
 -- ---- lines
 
+-- the unit of the moments, by the version
+abbrev pub read_version : List ℕ → Option TimeUnit
+read_version line = word_of ((bytes_eq line (codes "hsr-bench 1"), Some Milliseconds) ∷ (bytes_eq line (codes "hsr-bench 2"), Some Microseconds) ∷ [])
+
+unfoldable pub version_of : List ℕ → Option TimeUnit
+version_of line = exactly version_text read_version line
+
 unfoldable pub place_of : List ℕ → Option Place
 place_of line = exactly place_text read_place line
 
 unfoldable pub link_of : List Place → List ℕ → Option (List End)
 link_of places line = exactly (link_text places) (read_link places) line
 
-unfoldable pub entry_of : Place → List ℕ → Option Entry
-entry_of place line = exactly (entry_text place) (read_entry place) line
+unfoldable pub entry_of : TimeUnit → Place → List ℕ → Option Entry
+entry_of unit place line = exactly (entry_text unit place) (read_entry unit place) line
 
 unfoldable pub row_of : List ℕ → Option Row
 row_of line = exactly row_text read_row line

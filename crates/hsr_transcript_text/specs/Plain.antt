@@ -4,4 +4,4 @@ use Rattle.hsr_transcript_text.specs.Transcript.{Said}
 use Rattle.hsr_transcript_text.specs.declared.plain.Plain.{Plain}
 
 abbrev pub plain_view : Plain → Said
-plain_view p = record { nodes = p.nodes.items; links = p.links.items; main = p.main.items; records = entries_of p.records; carried = rows_of p.carried }
+plain_view p = record { unit = p.unit; nodes = p.nodes.items; links = p.links.items; main = p.main.items; records = entries_of p.records; carried = rows_of p.carried }

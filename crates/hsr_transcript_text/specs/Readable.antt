@@ -6,10 +6,10 @@ use Rattle.std.specs.Prelude.{◌≡◌, ◌≤◌, ◌==◌, ℕ, false, List, 
 use Rattle.std.specs.List.{AllByRecursion}
 use Rattle.std.specs.Fmt.{decimal}
 use Rattle.hsr_transcript_text.specs.Lines.{head}
-use Rattle.hsr_transcript_text.specs.Parsed.{count_of, entry_of, link_of, place_of, row_of, turn_of}
-use Rattle.hsr_transcript_text.specs.Spelled.{entry_text, link_text, place_text, row_text}
+use Rattle.hsr_transcript_text.specs.Parsed.{count_of, entry_of, link_of, place_of, row_of, turn_of, version_of}
+use Rattle.hsr_transcript_text.specs.Spelled.{entry_text, link_text, place_text, row_text, version_text}
 use Rattle.hsr_transcript_text.specs.Form.{only}
-use Rattle.hsr_transcript_text.specs.Transcript.{Said, first_line}
+use Rattle.hsr_transcript_text.specs.Transcript.{Said}
 
 -- no octet is this one
 abbrev pub Lacks : ℕ → List ℕ → Type 0
@@ -41,7 +41,7 @@ pub record IsReadable (t : Said) : Type 0 where
   pub nodes : IsSection (codes "nodes") place_of place_text t.nodes
   pub links : IsSection (codes "links") (link_of t.nodes) (link_text t.nodes) t.links
   pub main : IsSection (codes "main") turn_of decimal t.main
-  pub records : FitEach (λ place. IsSection (codes "record") (entry_of place) (entry_text place)) t.nodes t.records
+  pub records : FitEach (λ place. IsSection (codes "record") (entry_of t.unit place) (entry_text t.unit place)) t.nodes t.records
   pub carried : FitEach (λ _. IsSection (codes "carried") row_of row_text) t.links t.carried
 
 -- a line that stands in each text
@@ -50,7 +50,7 @@ IsFixed word = IsLineOf (only word) (λ _. word) tt
 
 -- all lines of a text, of tables with so many entries
 pub record AreLines (capacity : ℕ) (t : Said) : Type 0 where
-  pub version : IsFixed first_line
+  pub version : IsLineOf version_of version_text t.unit
   pub table : IsFixed (head (codes "table") capacity)
   pub said : IsReadable t
   pub last : IsFixed (codes "end")

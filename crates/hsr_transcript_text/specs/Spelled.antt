@@ -1,4 +1,5 @@
 -- How the lines of a transcript are spelled.
+--     version_text  the first line
 --     place_text    a node: `danh <mac> <H|N|U>`, `redbox <mac> <H|N|U>`, `quadbox` or `station <mac> ..`
 --     link_text     a link: `<node>.<port> <node>.<port>`
 --     entry_text    an entry of a node's record: `<worker> <at> <event> = <outcome>`
@@ -12,6 +13,9 @@ use Rattle.hsr_frame.specs.Grammar.{pair}
 use Rattle.hsr_frame.specs.Words.{cause_text, mode_word}
 use Rattle.hsr_frame.specs.declared.node.About.{About}
 use Rattle.hsr_frame.specs.declared.node.About.TheVariants.{Own, Proxied}
+use Rattle.hsr_text.specs.Moments.{moment_told}
+use Rattle.hsr_text.specs.declared.time_unit.TimeUnit.{TimeUnit}
+use Rattle.hsr_text.specs.declared.time_unit.TimeUnit.TheVariants.{Milliseconds, Microseconds}
 use Rattle.hsr_node.specs.Record.{has_port}
 use Rattle.hsr_node.specs.Words.{letter, role_word}
 use Rattle.hsr_node.specs.declared.entry.Entry.{Entry}
@@ -33,6 +37,11 @@ use Rattle.hsr_topology.specs.declared.end.End.{End}
 abbrev pub spaced : List ℕ → List (List ℕ) → List ℕ
 spaced word [] = word
 spaced word (next ∷ others) = word ++ 32 ∷ spaced next others
+
+-- version 1 tells moments in milliseconds
+abbrev pub version_text : TimeUnit → List ℕ
+version_text Milliseconds = codes "hsr-bench 1"
+version_text Microseconds = codes "hsr-bench 2"
 
 -- ---- words
 
@@ -104,9 +113,10 @@ outcome_text place (Judged up ports seq cause) =
     codes "judged " ++ (cause_text (codes "-") cause ++ 32 ∷ (seq_text seq ++ (up_text up ++ ports_text place ports)))
 outcome_text place Aged = codes "aged"
 
-unfoldable pub entry_text : Place → Entry → List ℕ
-entry_text place entry =
-    spaced (decimal entry.worker) (decimal entry.at ∷ event_text place entry.event ∷ codes "=" ∷ outcome_text place entry.outcome ∷ [])
+-- the moment is told in the unit of the text
+unfoldable pub entry_text : TimeUnit → Place → Entry → List ℕ
+entry_text unit place entry =
+    spaced (decimal entry.worker) (decimal (moment_told unit entry.at) ∷ event_text place entry.event ∷ codes "=" ∷ outcome_text place entry.outcome ∷ [])
 
 -- ---- rows
 

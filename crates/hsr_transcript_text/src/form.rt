@@ -16,20 +16,21 @@ use crate::words::put_number;
 use arrayvec::ArrayVec;
 use hsr_link::Row;
 use hsr_node::{Entry, Place};
-use hsr_text::READ_LIMIT;
+use hsr_text::{READ_LIMIT, TimeUnit};
 use hsr_topology::End;
 use std::alloc::{AllocError, Global};
 use std::io::{BufRead, BufReader, Read};
 
-/// Reads the record of each node.
+/// Reads the record of each node, with moments in this unit.
 fn records<R: BufRead>(
+    unit: TimeUnit,
     nodes: &[Place],
     alloc: Global,
     reader: &mut R,
     progress: &mut Progress,
 ) -> Result<Vec<Vec<Entry>>, ReadFault>
     requires { progress.old.number + progress.old.reads < 2 ^ 64 }
-    ensures given { Gives entries_of (R.remaining reader.old) (R.remaining reader.new) progress.old.number progress.new.number result (records_at nodes.now) }
+    ensures given { Gives entries_of (R.remaining reader.old) (R.remaining reader.new) progress.old.number progress.new.number result (records_at unit nodes.now) }
     ensures counts { progress.new.number + progress.new.reads ≤ progress.old.number + progress.old.reads }
     ensures paired { IfOk result (λ v. length v.items ≡ length nodes.now) }
     ensures numbered { IfOk result (λ v. progress.new.number ≡ progress.old.number + line_count (entries_of v)) }
@@ -37,7 +38,7 @@ fn records<R: BufRead>(
     let mut records = Vec::new(alloc);
     for i in 0..nodes.len() {
         let place = &nodes[i];
-        match record(place, alloc, reader, progress) {
+        match record(unit, place, alloc, reader, progress) {
             Ok(record) => {
                 records.push(record)?;
             }
@@ -50,19 +51,20 @@ fn records<R: BufRead>(
 /// Reads the record of a node.
 #[tactic(auto, unfolding(crate::specs::Parsed::entry_of))]
 fn record<R: BufRead>(
+    unit: TimeUnit,
     place: &Place,
     alloc: Global,
     reader: &mut R,
     progress: &mut Progress,
 ) -> Result<Vec<Entry>, ReadFault>
     requires { progress.old.number + progress.old.reads < 2 ^ 64 }
-    ensures given { Gives (λ v. v.items) (R.remaining reader.old) (R.remaining reader.new) progress.old.number progress.new.number result (record_at place.now) }
+    ensures given { Gives (λ v. v.items) (R.remaining reader.old) (R.remaining reader.new) progress.old.number progress.new.number result (record_at unit place.now) }
     ensures counts { progress.new.number + progress.new.reads ≤ progress.old.number + progress.old.reads }
     ensures numbered { IfOk result (λ v. progress.new.number ≡ progress.old.number + 1 + length v.items) }
 {
     section(
         b"record",
-        &EntryLine { alloc, place },
+        &EntryLine { alloc, unit, place },
         alloc,
         reader,
         progress,
@@ -131,6 +133,7 @@ fn end<R: BufRead>(
 /// Reads what follows the records.
 #[tactic(auto, using(crate::proofs::Parts::bind_told, crate::proofs::Parts::bind_fails), unfolding(crate::specs::Form::carried_on))]
 fn behind_records<R: BufRead>(
+    unit: TimeUnit,
     nodes: Vec<Place>,
     links: Vec<[End; 2]>,
     main: Vec<u64>,
@@ -142,12 +145,13 @@ fn behind_records<R: BufRead>(
     requires reads { progress.old.number + progress.old.reads ≤ 2 ^ 40 + 1 }
     requires lines { 6 + length nodes.items + length links.items + length main.items + line_count (entries_of records) ≤ progress.old.number }
     requires paired { length records.items ≡ length nodes.items }
-    ensures given { Gives plain_view (R.remaining reader.old) (R.remaining reader.new) progress.old.number progress.new.number result (carried_on nodes.items links.items main.items (entries_of records)) }
+    ensures given { Gives plain_view (R.remaining reader.old) (R.remaining reader.new) progress.old.number progress.new.number result (carried_on unit nodes.items links.items main.items (entries_of records)) }
     ensures counts { progress.new.number + progress.new.reads ≤ progress.old.number + progress.old.reads }
 {
     match rows(links.as_slice(), alloc, reader, progress) {
         Ok(carried) => {
             let plain = Plain {
+                unit,
                 nodes,
                 links,
                 main,
@@ -163,6 +167,7 @@ fn behind_records<R: BufRead>(
 /// Reads what follows the order of the main worker's entries.
 #[tactic(auto, using(crate::proofs::Parts::bind_told, crate::proofs::Parts::bind_fails), unfolding(crate::specs::Form::records_on))]
 fn behind_main<R: BufRead>(
+    unit: TimeUnit,
     nodes: Vec<Place>,
     links: Vec<[End; 2]>,
     main: Vec<u64>,
@@ -172,11 +177,11 @@ fn behind_main<R: BufRead>(
 ) -> Result<Plain, ReadFault>
     requires reads { progress.old.number + progress.old.reads ≤ 2 ^ 40 + 1 }
     requires lines { 6 + length nodes.items + length links.items + length main.items ≤ progress.old.number }
-    ensures given { Gives plain_view (R.remaining reader.old) (R.remaining reader.new) progress.old.number progress.new.number result (records_on nodes.items links.items main.items) }
+    ensures given { Gives plain_view (R.remaining reader.old) (R.remaining reader.new) progress.old.number progress.new.number result (records_on unit nodes.items links.items main.items) }
     ensures counts { progress.new.number + progress.new.reads ≤ progress.old.number + progress.old.reads }
 {
-    match records(nodes.as_slice(), alloc, reader, progress) {
-        Ok(records) => behind_records(nodes, links, main, records, alloc, reader, progress),
+    match records(unit, nodes.as_slice(), alloc, reader, progress) {
+        Ok(records) => behind_records(unit, nodes, links, main, records, alloc, reader, progress),
         Err(fault) => Err(fault),
     }
 }
@@ -184,6 +189,7 @@ fn behind_main<R: BufRead>(
 /// Reads what follows the links.
 #[tactic(auto, using(crate::proofs::Parts::bind_told, crate::proofs::Parts::bind_fails), unfolding(crate::specs::Form::main_on, crate::specs::Parsed::turn_of))]
 fn behind_links<R: BufRead>(
+    unit: TimeUnit,
     nodes: Vec<Place>,
     links: Vec<[End; 2]>,
     alloc: Global,
@@ -192,11 +198,11 @@ fn behind_links<R: BufRead>(
 ) -> Result<Plain, ReadFault>
     requires reads { progress.old.number + progress.old.reads ≤ 2 ^ 40 + 1 }
     requires lines { 5 + length nodes.items + length links.items ≤ progress.old.number }
-    ensures given { Gives plain_view (R.remaining reader.old) (R.remaining reader.new) progress.old.number progress.new.number result (main_on nodes.items links.items) }
+    ensures given { Gives plain_view (R.remaining reader.old) (R.remaining reader.new) progress.old.number progress.new.number result (main_on unit nodes.items links.items) }
     ensures counts { progress.new.number + progress.new.reads ≤ progress.old.number + progress.old.reads }
 {
     match section(b"main", &NumberLine, alloc, reader, progress) {
-        Ok(main) => behind_main(nodes, links, main, alloc, reader, progress),
+        Ok(main) => behind_main(unit, nodes, links, main, alloc, reader, progress),
         Err(fault) => Err(fault),
     }
 }
@@ -204,6 +210,7 @@ fn behind_links<R: BufRead>(
 /// Reads what follows the nodes.
 #[tactic(auto, using(crate::proofs::Parts::bind_told, crate::proofs::Parts::bind_fails), unfolding(crate::specs::Form::links_on, crate::specs::Parsed::link_of))]
 fn behind_nodes<R: BufRead>(
+    unit: TimeUnit,
     nodes: Vec<Place>,
     alloc: Global,
     reader: &mut R,
@@ -211,12 +218,12 @@ fn behind_nodes<R: BufRead>(
 ) -> Result<Plain, ReadFault>
     requires reads { progress.old.number + progress.old.reads ≤ 2 ^ 40 + 1 }
     requires lines { 4 + length nodes.items ≤ progress.old.number }
-    ensures given { Gives plain_view (R.remaining reader.old) (R.remaining reader.new) progress.old.number progress.new.number result (links_on nodes.items) }
+    ensures given { Gives plain_view (R.remaining reader.old) (R.remaining reader.new) progress.old.number progress.new.number result (links_on unit nodes.items) }
     ensures counts { progress.new.number + progress.new.reads ≤ progress.old.number + progress.old.reads }
 {
     let places = nodes.as_slice();
     match section(b"links", &LinkLine { places }, alloc, reader, progress) {
-        Ok(links) => behind_links(nodes, links, alloc, reader, progress),
+        Ok(links) => behind_links(unit, nodes, links, alloc, reader, progress),
         Err(fault) => Err(fault),
     }
 }
@@ -224,17 +231,18 @@ fn behind_nodes<R: BufRead>(
 /// Reads what follows the first two lines.
 #[tactic(auto, using(crate::proofs::Parts::bind_told, crate::proofs::Parts::bind_fails), unfolding(crate::specs::Form::nodes_on, crate::specs::Parsed::place_of))]
 fn behind_table<R: BufRead>(
+    unit: TimeUnit,
     alloc: Global,
     reader: &mut R,
     progress: &mut Progress,
 ) -> Result<Plain, ReadFault>
     requires reads { progress.old.number + progress.old.reads ≤ 2 ^ 40 + 1 }
     requires lines { 3 ≤ progress.old.number }
-    ensures given { Gives plain_view (R.remaining reader.old) (R.remaining reader.new) progress.old.number progress.new.number result nodes_on }
+    ensures given { Gives plain_view (R.remaining reader.old) (R.remaining reader.new) progress.old.number progress.new.number result (nodes_on unit) }
     ensures counts { progress.new.number + progress.new.reads ≤ progress.old.number + progress.old.reads }
 {
     match section(b"nodes", &PlaceLine { alloc }, alloc, reader, progress) {
-        Ok(nodes) => behind_nodes(nodes, alloc, reader, progress),
+        Ok(nodes) => behind_nodes(unit, nodes, alloc, reader, progress),
         Err(fault) => Err(fault),
     }
 }
@@ -249,24 +257,25 @@ fn table_line(alloc: Global, capacity: usize) -> Result<Vec<u8>, AllocError>
     Ok(line)
 }
 
-/// Reads what follows the first line, of tables with so many entries.
+/// Reads what follows the first line, of tables with so many entries, with moments in this unit.
 #[tactic(auto, using(crate::proofs::Parts::bind_told, crate::proofs::Parts::bind_fails), unfolding(crate::specs::Form::table_on))]
 fn behind_version<R: BufRead>(
     capacity: usize,
+    unit: TimeUnit,
     alloc: Global,
     reader: &mut R,
     progress: &mut Progress,
 ) -> Result<Plain, ReadFault>
     requires reads { progress.old.number + progress.old.reads ≤ 2 ^ 40 + 1 }
     requires lines { 2 ≤ progress.old.number }
-    ensures given { Gives plain_view (R.remaining reader.old) (R.remaining reader.new) progress.old.number progress.new.number result (table_on capacity) }
+    ensures given { Gives plain_view (R.remaining reader.old) (R.remaining reader.new) progress.old.number progress.new.number result (table_on capacity unit) }
     ensures counts { progress.new.number + progress.new.reads ≤ progress.old.number + progress.old.reads }
 {
     let Ok(line) = table_line(alloc, capacity) else {
         return Err(ReadFault::NoMemory);
     };
     match fixed(line.as_slice(), alloc, reader, progress) {
-        Ok(()) => behind_table(alloc, reader, progress),
+        Ok(()) => behind_table(unit, alloc, reader, progress),
         Err(fault) => Err(fault),
     }
 }
@@ -285,7 +294,7 @@ fn all_lines<R: BufRead>(
     ensures counts { progress.new.number + progress.new.reads ≤ progress.old.number + progress.old.reads }
 {
     match version(alloc, reader, progress) {
-        Ok(()) => behind_version(capacity, alloc, reader, progress),
+        Ok(unit) => behind_version(capacity, unit, alloc, reader, progress),
         Err(fault) => Err(fault),
     }
 }

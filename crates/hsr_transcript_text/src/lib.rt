@@ -1,6 +1,6 @@
 //! The text of a finished run: how each of its lines is spelled and read, and the whole text in form.
 //!
-//! Its modules, in the order to read them: `fault`, `words`, `parsing`, `lines`, `places`, `records`, `rows`, `writing`, `sections`, `plain`, `form`, `law`.
+//! Its modules, in the order to read them: `fault`, `words`, `parsing`, `lines`, `places`, `records`, `rows`, `version`, `writing`, `sections`, `plain`, `form`, `law`.
 #![tactic(auto)]
 
 mod fault;
@@ -13,6 +13,7 @@ mod plain;
 mod records;
 mod rows;
 mod sections;
+mod version;
 mod words;
 mod writing;
 

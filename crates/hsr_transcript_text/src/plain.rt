@@ -5,12 +5,14 @@ ghost use Rattle.hsr_transcript_text.specs.Lines.{line_count};
 
 use hsr_link::Row;
 use hsr_node::{Entry, Place};
+use hsr_text::TimeUnit;
 use hsr_topology::End;
 
-/// What a text says: nodes, links, the order of the main worker's entries, the record of each node, and the rows of each
-/// link.
+/// What a text says: the unit in which it tells moments, nodes, links, the order of the main worker's entries, the record of
+/// each node with its moments in microseconds, and the rows of each link.
 #[derive(Drop)]
 pub struct Plain {
+    pub unit: TimeUnit,
     pub nodes: Vec<Place>,
     pub links: Vec<[End; 2]>,
     pub main: Vec<u64>,

@@ -14,13 +14,14 @@ use crate::words::{
 };
 use hsr_frame::Mac;
 use hsr_node::{Carried, Entry, Event, Octets, Outcome, Place};
-use hsr_text::{WordFault, decimal, hex_octets, hex_pair, put_decimal, word};
+use hsr_text::{TimeUnit, WordFault, hex_octets, hex_pair, put_decimal, word};
 use std::alloc::{AllocError, Global};
 
-/// The line of an entry of a node at this place.
+/// The line of an entry of a node at this place, with its moment in this unit.
 #[derive(Clone, Copy)]
 pub(crate) struct EntryLine<'a> {
     pub(crate) alloc: Global,
+    pub(crate) unit: TimeUnit,
     pub(crate) place: &'a Place,
 }
 
@@ -138,13 +139,14 @@ fn put_outcome(text: &mut Vec<u8>, place: &Place, outcome: &Outcome) -> Result<(
 fn put_entry(
     alloc: Global,
     text: &mut Vec<u8>,
+    unit: TimeUnit,
     place: &Place,
     entry: &Entry,
 ) -> Result<(), AllocError>
-    ensures { OnOk result (text.new.items ≡ text.old.items ++ entry_text place.now entry.now) }
+    ensures { OnOk result (text.new.items ≡ text.old.items ++ entry_text unit place.now entry.now) }
 {
     put_decimal(text, u64::from(entry.worker))?;
-    put_number(text, entry.at)?;
+    put_number(text, unit.told(entry.at))?;
     text.push(b' ')?;
     put_event(alloc, text, place, &entry.event)?;
     text.extend_from_slice(b" = ")?;
@@ -335,17 +337,18 @@ fn is_text_of(
 #[tactic(auto, unfolding(crate::specs::Parsed::read_entry))]
 fn read_entry(
     alloc: Global,
+    unit: TimeUnit,
     place: &Place,
     line: &[u8],
     room: &mut Vec<u8>,
 ) -> Result<(Entry, bool), WordFault>
-    ensures said { Gives (λ e. e.0) result (read_entry place.now line.now) }
-    ensures sure { IfOk result (λ e. e.1 ≡ true → entry_text place.now e.0 ≡ line.now) }
+    ensures said { Gives (λ e. e.0) result (read_entry unit place.now line.now) }
+    ensures sure { IfOk result (λ e. e.1 ≡ true → entry_text unit place.now e.0 ≡ line.now) }
 {
     let (worker, rest) = word(Some(line)).ok_or(WordFault::Bad)?;
     let worker = read_number(worker).ok_or(WordFault::Bad)?;
     let (at, rest) = word(rest).ok_or(WordFault::Bad)?;
-    let at = decimal(at).ok_or(WordFault::Bad)?;
+    let at = unit.read(at).ok_or(WordFault::Bad)?;
     let Leading { event, rest, sure } = read_event(alloc, place, rest)?;
     let (equals, rest) = word(rest).ok_or(WordFault::Bad)?;
     let outcome = read_outcome(place, rest).ok_or(WordFault::Bad)?;
@@ -415,15 +418,15 @@ impl<'a> LineKind for EntryLine<'a> {
 
     type Value = Entry;
 
-    ghost spelled = { λ s. entry_text s.place.now };
+    ghost spelled = { λ s. entry_text s.unit s.place.now };
 
-    ghost said = { λ s. read_entry s.place.now };
+    ghost said = { λ s. read_entry s.unit s.place.now };
 
     ghost fits = { λ _. IsEntryFit };
 
     fn put(&self, text: &mut Vec<u8>, entry: &Entry) -> Result<(), AllocError> {
         entry_fits(entry);
-        put_entry(self.alloc, text, self.place, entry)
+        put_entry(self.alloc, text, self.unit, self.place, entry)
     }
 
     fn parse(
@@ -432,6 +435,6 @@ impl<'a> LineKind for EntryLine<'a> {
         line: &[u8],
         room: &mut Vec<u8>,
     ) -> Result<(Entry, bool), WordFault> {
-        read_entry(alloc, self.place, line, room)
+        read_entry(alloc, self.unit, self.place, line, room)
     }
 }

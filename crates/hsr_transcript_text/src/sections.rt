@@ -8,8 +8,9 @@ ghost use Rattle.hsr_transcript_text.specs.declared.fault.ReadFault.TheVariants.
 use crate::fault::ReadFault;
 use crate::lines::{LineKind, read_line};
 use crate::places::{CountLine, FixedLine};
+use crate::version::VersionLine;
 use arrayvec::ArrayVec;
-use hsr_text::{Front, WordFault, next_line};
+use hsr_text::{Front, TimeUnit, WordFault, next_line};
 use std::alloc::Global;
 use std::io::BufRead;
 
@@ -150,20 +151,20 @@ fn as_version(fault: ReadFault) -> ReadFault
 
 ghost use Rattle.hsr_transcript_text.specs.Form.{as_version};
 
-/// Reads the first line, which says the version.
-#[tactic(auto, using(crate::proofs::Parts::version_given, crate::proofs::Parts::version_fails))]
+/// Reads the first line, whose version says the unit of moments.
+#[tactic(auto, using(crate::proofs::Parts::version_given, crate::proofs::Parts::version_fails), unfolding(crate::specs::Parsed::version_of))]
 pub(crate) fn version<R: BufRead>(
     alloc: Global,
     reader: &mut R,
     progress: &mut Progress,
-) -> Result<(), ReadFault>
+) -> Result<TimeUnit, ReadFault>
     requires { progress.old.number + progress.old.reads < 2 ^ 64 }
     ensures given { Gives (λ v. v) (R.remaining reader.old) (R.remaining reader.new) progress.old.number progress.new.number result version_at }
     ensures counts { progress.new.number + progress.new.reads ≤ progress.old.number + progress.old.reads }
     ensures numbered { OnOk result (progress.new.number ≡ progress.old.number + 1) }
 {
-    match fixed(b"hsr-bench 1", alloc, reader, progress) {
-        Ok(()) => Ok(()),
+    match one(&VersionLine, alloc, reader, progress) {
+        Ok(unit) => Ok(unit),
         Err(fault) => Err(as_version(fault)),
     }
 }

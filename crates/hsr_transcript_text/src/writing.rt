@@ -3,10 +3,11 @@ ghost use Rattle.std.specs.Prelude.{◌≡◌, ◌<◌, ◌^◌, ℕ, ◌++◌, 
 ghost use Rattle.std.specs.List.{AllByRecursion};
 ghost use Rattle.std.specs.Io.KnownBytes.{Appends, Keeps};
 ghost use Rattle.hsr_law.specs.Run.{record_of, rows_of};
+ghost use Rattle.hsr_text.specs.declared.time_unit.TimeUnit.TheVariants.{Microseconds};
 ghost use Rattle.hsr_transcript_text.specs.Fits.{AreEntriesFit, AreRowsFit, Fits, IsPlaceFit};
 ghost use Rattle.hsr_transcript_text.specs.Lines.{head, lines_each, section, text_of};
 ghost use Rattle.hsr_transcript_text.specs.Spelled.{link_text, place_text};
-ghost use Rattle.hsr_transcript_text.specs.Transcript.{carried_lines, first_line, record_lines, run_text};
+ghost use Rattle.hsr_transcript_text.specs.Transcript.{carried_lines, record_lines, run_text};
 ghost use Rattle.hsr_transcript_text.specs.Written.{Written};
 
 use crate::fault::WriteFault;
@@ -15,6 +16,7 @@ use crate::places::{LinkLine, NumberLine, PlaceLine};
 use crate::records::EntryLine;
 use crate::rows::RowLine;
 use hsr_closing::{Closed, Planned};
+use hsr_text::TimeUnit;
 use std::alloc::{AllocError, Global};
 use std::io::Write;
 
@@ -33,13 +35,13 @@ fn put_front<const C: usize>(
     text: &mut Vec<u8>,
     closed: &Closed<C>,
 ) -> Result<(), AllocError>
-    ensures written { OnOk result (text.new.items ≡ text.old.items ++ text_of (said_front closed.now.run.capacity (said_of closed.now))) }
+    ensures written { OnOk result (text.new.items ≡ text.old.items ++ text_of (said_front closed.now.run.capacity (said_in Microseconds closed.now))) }
     ensures places { OnOk result (AllByRecursion IsPlaceFit closed.now.run.places) }
     ensures plan { OnOk result (length closed.now.plan < 2 ^ 64) }
 {
     let topology = closed.topology();
     let places = topology.places();
-    text.extend_from_slice(b"hsr-bench 1\n")?;
+    text.extend_from_slice(b"hsr-bench 2\n")?;
     put_head(text, b"table", C)?;
     put_section(&PlaceLine { alloc }, text, b"nodes", places)?;
     put_section(&LinkLine { places }, text, b"links", topology.links())?;
@@ -48,7 +50,7 @@ fn put_front<const C: usize>(
     Ok(())
 }
 
-ghost use Rattle.hsr_transcript_text.specs.Transcript.{said_front, said_of};
+ghost use Rattle.hsr_transcript_text.specs.Transcript.{said_front, said_in};
 
 /// Puts the record of each node.
 fn put_records<const C: usize>(
@@ -56,14 +58,18 @@ fn put_records<const C: usize>(
     text: &mut Vec<u8>,
     closed: &Closed<C>,
 ) -> Result<(), AllocError>
-    ensures written { OnOk result (text.new.items ≡ text.old.items ++ text_of (lines_each record_lines closed.now.run.places closed.now.run.records)) }
+    ensures written { OnOk result (text.new.items ≡ text.old.items ++ text_of (lines_each (record_lines Microseconds) closed.now.run.places closed.now.run.records)) }
     ensures fit { OnOk result ((k : ℕ) → k < length closed.now.run.places → AreEntriesFit (record_of closed.now.run k)) }
 {
     let places = closed.topology().places();
     for i in 0..places.len() {
         let place = &places[i];
         put_section(
-            &EntryLine { alloc, place },
+            &EntryLine {
+                alloc,
+                unit: TimeUnit::Microseconds,
+                place,
+            },
             text,
             b"record",
             closed.entries(i),
@@ -98,9 +104,9 @@ fn whole_text<const C: usize>(alloc: Global, closed: &Closed<C>) -> Result<Vec<u
     Ok(text)
 }
 
-/// Writes the one text of a closed run: nodes, links, the order of the main worker's entries, each node's record and each
-/// link's rows. The text is formed whole before the first octet is written, so that `NoMemory` leaves the writer as it
-/// was; after `Write` some of the text may stand on it.
+/// Writes the text of a closed run, of version 2, with moments in microseconds: nodes, links, the order of the main worker's
+/// entries, each node's record and each link's rows. The text is formed whole before the first octet is written, so that
+/// `NoMemory` leaves the writer as it was; after `Write` some of the text may stand on it.
 pub fn write<const C: usize, W: Write>(
     alloc: Global,
     closed: &Closed<C>,

@@ -5,7 +5,7 @@ use Rattle.hsr_engines.proofs.engine.run.Given as goal
 
 abbrev pub invariant-loop-number : goal.invariant-loop-number
 invariant-loop-number g l = record {
-  way : Way g.row.C (new_machine l.fn.mac l.fn.mode) (g.R.Read.remaining l.initial.reader) (g.R.Read.remaining l.reader)
+  way : Way l.chosen.unit g.row.C (new_machine l.chosen.mac l.chosen.mode) (g.R.Read.remaining l.initial.reader) (g.R.Read.remaining l.reader)
       (g.W.Write.contents l.initial.writer) (g.W.Write.contents l.writer) l.danh l.number;
   numbers : l.number + l.reads ≤ 2 ^ 40 + 1;
 }

@@ -1,8 +1,9 @@
 use Rattle.std.proofs.Common.{◌≡◌, ◌++◌, ◌∙◌, ◌∷◌, [], codes, map, ap, sym}
 use Rattle.std.specs.Fmt.{decimal}
+use Rattle.hsr_text.specs.declared.time_unit.TimeUnit.TheVariants.{Microseconds}
 use Rattle.hsr_transcript_text.specs.Lines.{head, section, text_of}
 use Rattle.hsr_transcript_text.specs.Spelled.{link_text, place_text}
-use Rattle.hsr_transcript_text.specs.Transcript.{first_line, said_front, said_of}
+use Rattle.hsr_transcript_text.specs.Transcript.{said_front, said_in}
 use Rattle.hsr_transcript_text.proofs.Grown.{front_text}
 use Rattle.hsr_transcript_text.proofs.writing.put_front.Goals as goal
 
@@ -20,10 +21,10 @@ returns-clause-written g c =
     let h4 : c.put_section-2.new.text.items ≡ c.put_section.new.text.items ++ text_of (section (codes "links") (link_text run.places) run.links) =
     c.in_ok-put_section-2.ensures.written ∙ ap (λ l. c.put_section.new.text.items ++ text_of (section (codes "links") (link_text l) c.links.result.now)) places
     ∙ ap (λ l. c.put_section.new.text.items ++ text_of (section (codes "links") (link_text run.places) l)) links in
-    let order : c.as_slice.result.now ≡ (said_of c.args.closed.now).main = c.as_slice.ensures.value ∙ c.in_ok-order.ensures ∙ ap (map (λ p. p.node)) c.plan.ensures in
-    let h5 : c.put_section-3.new.text.items ≡ c.put_section-2.new.text.items ++ text_of (section (codes "main") decimal (said_of c.args.closed.now).main) =
+    let order : c.as_slice.result.now ≡ (said_in Microseconds c.args.closed.now).main = c.as_slice.ensures.value ∙ c.in_ok-order.ensures ∙ ap (map (λ p. p.node)) c.plan.ensures in
+    let h5 : c.put_section-3.new.text.items ≡ c.put_section-2.new.text.items ++ text_of (section (codes "main") decimal (said_in Microseconds c.args.closed.now).main) =
     c.in_ok-put_section-3.ensures.written ∙ ap (λ l. c.put_section-2.new.text.items ++ text_of (section (codes "main") decimal l)) order in
     front_text c.args.text.now.items c.extend_from_slice.new.self.items c.put_head.new.text.items c.put_section.new.text.items c.put_section-2.new.text.items c.put_section-3.new.text.items
-    first_line (head (codes "table") run.capacity) (section (codes "nodes") place_text run.places) (section (codes "links") (link_text run.places) run.links)
-    (section (codes "main") decimal (said_of c.args.closed.now).main)
+    (codes "hsr-bench 2") (head (codes "table") run.capacity) (section (codes "nodes") place_text run.places) (section (codes "links") (link_text run.places) run.links)
+    (section (codes "main") decimal (said_in Microseconds c.args.closed.now).main)
     c.in_ok-extend_from_slice.ensures.items h2 h3 h4 h5

@@ -2,6 +2,7 @@ use Rattle.std.proofs.Common.{◌≡◌, ◌<◌, ◌+◌, ◌++◌, ◌∙◌, 
 use Rattle.hsr_law.specs.Run.{record_of}
 use Rattle.hsr_transcript_text.specs.Fits.{AreEntriesFit}
 use Rattle.hsr_transcript_text.specs.Lines.{text_of}
+use Rattle.hsr_text.specs.declared.time_unit.TimeUnit.TheVariants.{Microseconds}
 use Rattle.hsr_transcript_text.specs.Transcript.{record_lines}
 use Rattle.hsr_transcript_text.proofs.Fitting.{below_next}
 use Rattle.hsr_transcript_text.proofs.Grown.{drop_next, lines_grown}
@@ -17,11 +18,11 @@ loop-i-preserved g c =
     let records : i < length run.records = subst (λ n. i < n) (sym c.topology.ensures.finished.closed.records) below in
     let here : get_or run.places i place ≡ place = sym (ap (λ l. get_or l i place) places) ∙ sym c.index-places-i.is in
     let next : drop i run.places ≡ place ∷ drop (i + 1) run.places = drop_next run.places i place below ∙ ap (λ x. x ∷ drop (i + 1) run.places) here in
-    let put : c.put_section.new.text.items ≡ c.loop-i.text.items ++ text_of (record_lines place (get_or run.records i [])) =
-    c.in_ok-put_section.ensures.written ∙ ap (λ l. c.loop-i.text.items ++ text_of (record_lines place l)) c.entries.ensures in
+    let put : c.put_section.new.text.items ≡ c.loop-i.text.items ++ text_of (record_lines Microseconds place (get_or run.records i [])) =
+    c.in_ok-put_section.ensures.written ∙ ap (λ l. c.loop-i.text.items ++ text_of (record_lines Microseconds place l)) c.entries.ensures in
     let fit : AreEntriesFit (record_of run i) = subst AreEntriesFit c.entries.ensures (c.put_section.ensures.few, c.in_ok-put_section.ensures.fit) in
     record {
-      written = lines_grown record_lines (drop i run.places) (drop (i + 1) run.places) (drop i run.records) (drop (i + 1) run.records) place (get_or run.records i [])
+      written = lines_grown (record_lines Microseconds) (drop i run.places) (drop (i + 1) run.places) (drop i run.records) (drop (i + 1) run.records) place (get_or run.records i [])
           c.loop-i.text.items c.put_section.new.text.items _ next (drop_next run.records i [] records) put c.loop-i.invariant.written;
       fit = below_next (λ k. AreEntriesFit (record_of run k)) i c.loop-i.invariant.fit fit;
     }
