@@ -1,44 +1,14 @@
 //! The ring, the texts, the reader and the writer that these tests share.
-ghost use Rattle.hsr_frame.specs.Address.{IsGroup};
-ghost use Rattle.hsr_node.specs.Place.{HasOwnAddress};
-
 use hsr_engines::{NodeOptions, Table, TimeUnit};
 use hsr_frame::{Mac, Mode};
-use hsr_node::{Octets, Place};
+use hsr_networks::{danh, group, joint};
+use hsr_node::Octets;
 use hsr_ring::{Step, World};
-use hsr_topology::{End, Topology};
+use hsr_topology::Topology;
 use std::alloc::Global;
 use std::io::{self, ErrorKind, Read, Write};
 
 // ---- nodes and steps
-
-/// The address of a node, which ends in this octet.
-fn mac(octet: u8) -> Mac
-    ensures { ¬ IsGroup result }
-{
-    Mac::new([2, 0, 0, 0, 0, octet])
-}
-
-/// A DANH in mode H, whose address ends in this octet.
-pub fn danh(octet: u8) -> Place
-    ensures { HasOwnAddress result }
-{
-    Place::Danh {
-        mac: mac(octet),
-        mode: Mode::H,
-    }
-}
-
-/// A link from B of a node to A of the next.
-fn joint(node: usize, next: usize) -> [End; 2] {
-    [
-        End { node, port: 1 },
-        End {
-            node: next,
-            port: 0,
-        },
-    ]
-}
 
 fn ring_once(alloc: Global) -> Option<World<4>> {
     let places = vec![in alloc; danh(1), danh(2), danh(3)].ok()?;
@@ -68,7 +38,7 @@ pub fn send(alloc: Global) -> Option<Step> {
     Some(Step::Send {
         node: 0,
         from: 0,
-        dst: Mac::new([1, 0, 0x5E, 0, 0, 1]),
+        dst: group(),
         vlan: None,
         kind: 0x0800,
         payload: octets(alloc, &[0xAA, 0xBB])?,
@@ -102,52 +72,6 @@ step = [
   {do="drain"},
 ]
 "#;
-
-/// The report of that run.
-pub const REPORT: &str = "bench 1 table 512 nodes 3 links 3
-node 0 danh sent 1 life 0 up 0 forwarded 0 duplicate 0 returned 2 dropped 0
-node 1 danh sent 0 life 0 up 1 forwarded 2 duplicate 0 returned 0 dropped 0
-node 2 danh sent 0 life 0 up 1 forwarded 2 duplicate 0 returned 0 dropped 0
-link 0 put 2 taken 2 lost 0
-link 1 put 2 taken 2 lost 0
-link 2 put 2 taken 2 lost 0
-certified 1
-";
-
-/// Its transcript.
-pub const TRANSCRIPT: &str = "hsr-bench 2
-table 512
-nodes 3
-danh 02-00-00-00-00-01 H
-danh 02-00-00-00-00-02 H
-danh 02-00-00-00-00-03 H
-links 3
-0.B 1.A
-1.B 2.A
-2.B 0.A
-main 1
-0
-record 3
-0 0 send 0 01-00-5E-00-00-01 - 0800 AABB = sent 0 A B
-1 0 arrive A 0:0 01005E000001020000000001892F100800000800AABB = judged returned -
-2 0 arrive B 0:0 01005E000001020000000001892F000800000800AABB = judged returned -
-record 2
-9 0 arrive A 0:0 01005E000001020000000001892F100800000800AABB = judged passed - up B
-10 0 arrive B 0:0 01005E000001020000000001892F000800000800AABB = judged passed - A
-record 2
-17 0 arrive A 0:0 01005E000001020000000001892F100800000800AABB = judged passed - up B
-18 0 arrive B 0:0 01005E000001020000000001892F000800000800AABB = judged passed - A
-carried 2
-forth 0:0 01005E000001020000000001892F100800000800AABB taken
-back 0:0 01005E000001020000000001892F000800000800AABB taken
-carried 2
-forth 0:0 01005E000001020000000001892F100800000800AABB taken
-back 0:0 01005E000001020000000001892F000800000800AABB taken
-carried 2
-back 0:0 01005E000001020000000001892F000800000800AABB taken
-forth 0:0 01005E000001020000000001892F100800000800AABB taken
-end
-";
 
 /// One line of `node`.
 pub const LINE: &str = "send 0 02-00-00-00-00-02 0800 AABB\n";

@@ -1,8 +1,9 @@
 //! Room that is refused to those who read and write texts: they say so, nothing was written, and the same call again answers as one
 //! with room.
-use crate::fixtures::{ANSWER, LINE, REPORT, RING, TRANSCRIPT, Writer, defaults};
+use crate::fixtures::{ANSWER, LINE, RING, Writer, defaults};
 use hsr_closing::Closed;
 use hsr_engines::{Fault, Status, Table, audit_run, node_run, scenario_run, threads_run};
+use hsr_networks::{RING_REPORT, RING_TRANSCRIPT};
 use hsr_scenario::{Scenario, ScenarioFault, What};
 use hsr_transcript::{ReadFault, WriteFault, write};
 use std::alloc::Global;
@@ -36,11 +37,11 @@ fn scenario_read(rt: HostRuntime) -> Result<(), Fail> {
 
 /// The run that the transcript tells.
 fn told(alloc: Global) -> Option<Closed<512>> {
-    let mut text = TRANSCRIPT.as_bytes();
+    let mut text = RING_TRANSCRIPT.as_bytes();
     match hsr_transcript::read(alloc, &mut text) {
         Ok(closed) => Some(closed),
         Err(ReadFault::NoMemory) => {
-            let mut text = TRANSCRIPT.as_bytes();
+            let mut text = RING_TRANSCRIPT.as_bytes();
             hsr_transcript::read(alloc, &mut text).ok()
         }
         Err(_other) => None,
@@ -50,10 +51,10 @@ fn told(alloc: Global) -> Option<Closed<512>> {
 #[test]
 fn transcript_read_and_written(rt: HostRuntime) -> Result<(), Fail> {
     let closed = told(rt.alloc()).ok_or("transcript")?;
-    let mut writer = Writer::new(TRANSCRIPT);
+    let mut writer = Writer::new(RING_TRANSCRIPT);
     if let Err(fault) = write(rt.alloc(), &closed, &mut writer) {
         assert!(rt; fault == WriteFault::NoMemory);
-        assert!(rt; writer.lacks(TRANSCRIPT.len()));
+        assert!(rt; writer.lacks(RING_TRANSCRIPT.len()));
         assert!(rt; write(rt.alloc(), &closed, &mut writer).is_ok());
     }
     assert!(rt; writer.is_whole());
@@ -74,17 +75,17 @@ fn runs(alloc: Global, text: &'static str, transcript: bool) -> bool {
 
 #[test]
 fn scenario_reported(rt: HostRuntime) {
-    assert!(rt; runs(rt.alloc(), REPORT, false));
+    assert!(rt; runs(rt.alloc(), RING_REPORT, false));
 }
 
 #[test]
 fn scenario_transcribed(rt: HostRuntime) {
-    assert!(rt; runs(rt.alloc(), TRANSCRIPT, true));
+    assert!(rt; runs(rt.alloc(), RING_TRANSCRIPT, true));
 }
 
 /// The same of a run in threads, of which one may be refused too. All of them are joined, else it wouldn't end.
 fn runs_in_threads<H: AllocGlobal + Threads + Wait + Sync>(rt: &H) -> bool {
-    let mut writer = Writer::new(REPORT);
+    let mut writer = Writer::new(RING_REPORT);
     let mut reader = RING.as_bytes();
     let mut status = threads_run(
         rt,
@@ -96,7 +97,7 @@ fn runs_in_threads<H: AllocGlobal + Threads + Wait + Sync>(rt: &H) -> bool {
     );
     let is_refused = status == Status::Fault(Fault::Memory)
         || status == Status::Fault(Fault::Thread);
-    if is_refused && writer.lacks(REPORT.len()) {
+    if is_refused && writer.lacks(RING_REPORT.len()) {
         let mut reader = RING.as_bytes();
         status = threads_run(
             rt,
@@ -117,12 +118,12 @@ fn scenario_in_threads(rt: HostRuntime) {
 
 #[test]
 fn transcript_audited(rt: HostRuntime) {
-    let mut writer = Writer::new(REPORT);
-    let mut reader = TRANSCRIPT.as_bytes();
+    let mut writer = Writer::new(RING_REPORT);
+    let mut reader = RING_TRANSCRIPT.as_bytes();
     let mut status = audit_run(rt.alloc(), &mut reader, &mut writer, Table::Large);
     if status == Status::Fault(Fault::Memory) {
-        assert!(rt; writer.lacks(REPORT.len()));
-        let mut reader = TRANSCRIPT.as_bytes();
+        assert!(rt; writer.lacks(RING_REPORT.len()));
+        let mut reader = RING_TRANSCRIPT.as_bytes();
         status = audit_run(rt.alloc(), &mut reader, &mut writer, Table::Large);
     }
     assert!(rt; status == Status::Certified && writer.is_whole());

@@ -1,10 +1,11 @@
 //! Room that is refused to nodes, links, worlds, finished runs and audits: nothing has changed, what was handed in comes back, and
 //! the same call again answers as one with room.
-use crate::fixtures::{danh, octets, ring, send, size};
+use crate::fixtures::{octets, ring, send, size};
 use hsr_audit::{AuditFault, Certificate, audit};
 use hsr_closing::{CheckFault, Closed, Planned, passes_of};
 use hsr_frame::{About, Mac};
 use hsr_link::{Dir, Fate};
+use hsr_networks::danh;
 use hsr_node::{Event, Kept, Pass};
 use hsr_ring::{DrainFault, Step, World, WorldFault};
 use std::alloc::Global;

@@ -1,8 +1,9 @@
 //! Octets that no node sent, steps that are too long, and a row whose fate is told wrongly.
-use crate::fixtures::{RING, TRANSCRIPT, Writer, octets, ring};
+use crate::fixtures::{RING, Writer, octets, ring};
 use hsr_closing::{CheckFault, Disagree};
 use hsr_engines::{Fault, Status, Table, audit_run, scenario_run};
 use hsr_link::Dir;
+use hsr_networks::RING_TRANSCRIPT;
 use hsr_ring::Step;
 use hsr_step::{DrainFault, WorldFault};
 use std::test::Fail;
@@ -57,7 +58,7 @@ fn inject_that_is_too_long(rt: HostRuntime) -> Result<(), Fail> {
 /// The first row of link 0 is told as cut, though node 1 took the copy.
 #[test]
 fn cut_in_place_of_taken(rt: HostRuntime) -> Result<(), Fail> {
-    let (front, back) = TRANSCRIPT.split_once(" taken").ok_or("no row")?;
+    let (front, back) = RING_TRANSCRIPT.split_once(" taken").ok_or("no row")?;
     let text = format!(in rt.alloc(); "{front} cut{back}")?;
     let mut writer = Writer::new("");
     let mut reader = text.as_bytes();

@@ -1,6 +1,7 @@
 //! Writers that take one octet a call and fail at each of their writes, that take nothing, and whose flush fails.
-use crate::fixtures::{ANSWER, LINE, REPORT, RING, TRANSCRIPT, Writer, defaults};
+use crate::fixtures::{ANSWER, LINE, RING, Writer, defaults};
 use hsr_engines::{Fault, Status, Table, audit_run, node_run, scenario_run, threads_run};
+use hsr_networks::{RING_REPORT, RING_TRANSCRIPT};
 use std::marker::Sync;
 use std::sync::Wait;
 use std::thread::Threads;
@@ -21,7 +22,7 @@ const ENGINES: [Engine; 4] = [Engine::Node, Engine::Run, Engine::Threads, Engine
 fn text_of(engine: Engine) -> &'static str {
     match engine {
         Engine::Node => ANSWER,
-        Engine::Run | Engine::Threads | Engine::Audit => REPORT,
+        Engine::Run | Engine::Threads | Engine::Audit => RING_REPORT,
     }
 }
 
@@ -41,7 +42,7 @@ fn written<H: AllocGlobal + Threads + Wait + Sync>(
             threads_run(rt, rt.alloc(), &mut text, writer, Table::Large, false)
         }
         Engine::Audit => {
-            let mut text = TRANSCRIPT.as_bytes();
+            let mut text = RING_TRANSCRIPT.as_bytes();
             audit_run(rt.alloc(), &mut text, writer, Table::Large)
         }
     }

@@ -1,6 +1,6 @@
 //! Nodes and links under locks: what their calls answer, what threads do with them, and what comes out of the locks.
-use crate::fixtures::{PAYLOAD, arrival, danh, mac, octets, send_event};
 use hsr_link::{Dir, Fate, Link, LinkCell, Row};
+use hsr_networks::{PAYLOAD, arrival, danh, mac, octets, send_event};
 use hsr_node::{Carried, Event, Kept, NodeCell, Octets, Outcome, Pass, Probe, StepFault};
 use std::alloc::Global;
 use std::marker::Sync;

@@ -1,10 +1,10 @@
 //! What nodes of each kind make of events, and how a node keeps its record.
 ghost use Rattle.hsr_node.specs.Place.{HasOwnAddress};
 
-use crate::fixtures::{
+use hsr_frame::{About, Cause, Mac, NoMemory, SendFault};
+use hsr_networks::{
     PAYLOAD, Tag, arrival, danh, group, mac, octets, plain, redbox, send_event, station, tagged,
 };
-use hsr_frame::{About, Cause, Mac, NoMemory, SendFault};
 use hsr_node::{Event, Kept, Node, Octets, Outcome, Pass, Place, StepFault, copy_out, up_out};
 use std::test::Fail;
 

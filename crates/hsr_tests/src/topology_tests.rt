@@ -1,7 +1,7 @@
 //! Which nodes and links are a topology, and why others aren't.
-use crate::fixtures::{danh, link, mac, red, redbox, ring3};
 use arrayvec::ArrayVec;
 use hsr_frame::{Mac, Mode};
+use hsr_networks::{danh, link, mac, red, redbox, ring3};
 use hsr_node::Place;
 use hsr_topology::{End, Topology, TopologyFault};
 use std::test::Fail;

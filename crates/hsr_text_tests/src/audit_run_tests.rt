@@ -1,12 +1,10 @@
 //! What `run --transcript` writes, and what `audit` makes of it.
-use crate::fixtures::{
-    FailingReader, FailingWriter, GROUP_SEND, ONE_NODE, ONE_SEND, RING, RING_REPORT,
-    RING_TRANSCRIPT,
-};
+use crate::fixtures::{FailingReader, FailingWriter, GROUP_SEND, ONE_NODE, ONE_SEND, RING};
 use crate::scenario_run_tests::run_shown;
 use hsr_closing::Disagree;
 use hsr_engines::{Fault, Status, Table, TranscriptFault, audit_run};
 use hsr_link::Dir;
+use hsr_networks::{RING_REPORT, RING_TRANSCRIPT};
 use std::alloc::Global;
 use std::test::Fail;
 

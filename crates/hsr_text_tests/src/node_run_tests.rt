@@ -92,12 +92,21 @@ fn aged(rt: &HostRuntime, unit: TimeUnit, line: &str) -> Status {
 fn greatest_moments(rt: HostRuntime) {
     let bad = Status::Fault(Fault::Line(1));
     let greatest = "age 18446744073709551";
-    assert_eq!(rt; aged(&rt, TimeUnit::Milliseconds, greatest), Status::Certified);
+    assert_eq!(rt;
+        aged(&rt, TimeUnit::Milliseconds, greatest),
+        Status::Certified
+    );
     let greater = "age 18446744073709552";
     assert_eq!(rt; aged(&rt, TimeUnit::Milliseconds, greater), bad);
-    assert_eq!(rt; aged(&rt, TimeUnit::Microseconds, greater), Status::Certified);
+    assert_eq!(rt;
+        aged(&rt, TimeUnit::Microseconds, greater),
+        Status::Certified
+    );
     let greatest = "age 18446744073709551615";
-    assert_eq!(rt; aged(&rt, TimeUnit::Microseconds, greatest), Status::Certified);
+    assert_eq!(rt;
+        aged(&rt, TimeUnit::Microseconds, greatest),
+        Status::Certified
+    );
     let greater = "age 18446744073709551616";
     assert_eq!(rt; aged(&rt, TimeUnit::Microseconds, greater), bad);
 }

@@ -1,10 +1,11 @@
 //! What `run` writes of scenarios, and how it ends.
 use crate::fixtures::{
     CUT_BY_HAND, FailingReader, FailingWriter, GROUP_SEND, INJECTION, PAIR, QUAD, RED, RED_SENDS,
-    RING, RING_REPORT, TWO_CUTS, joined,
+    RING, TWO_CUTS, joined,
 };
 use hsr_closing::Disagree;
 use hsr_engines::{Fault, Status, Table, scenario_run};
+use hsr_networks::RING_REPORT;
 use hsr_scenario::{ScenarioFault, Spot, What};
 use hsr_step::{DrainFault, WorldFault};
 use std::alloc::{AllocError, Global};

@@ -196,10 +196,7 @@ fn steps_of_links(rt: HostRuntime) -> Result<(), Fail> {
 
 /// Whether a document with a step `clock` at a moment, behind this front, says that moment in microseconds.
 fn is_clock_at(alloc: Global, front: &str, moment: &str, at: u64) -> Result<bool, Fail> {
-    let text = joined(
-        alloc,
-        &[front, "\n[[step]]\ndo = 'clock'\nat = ", moment],
-    )?;
+    let text = joined(alloc, &[front, "\n[[step]]\ndo = 'clock'\nat = ", moment])?;
     let Ok(scenario) = read(alloc, text.as_str()) else {
         return Ok(false);
     };
@@ -212,9 +209,23 @@ fn moments_of_a_unit(rt: HostRuntime) -> Result<(), Fail> {
     let greatest = "18446744073709551";
     assert!(rt; is_clock_at(rt.alloc(), "", "7", 7_000)?);
     assert!(rt; is_clock_at(rt.alloc(), "unit = 'ms'", "7", 7_000)?);
-    assert!(rt; is_clock_at(rt.alloc(), "unit = 'ms'", greatest, 18_446_744_073_709_551_000)?);
+    assert!(rt;
+        is_clock_at(
+            rt.alloc(),
+            "unit = 'ms'",
+            greatest,
+            18_446_744_073_709_551_000
+        )?
+    );
     assert!(rt; is_clock_at(rt.alloc(), "unit = 'us'", "7", 7)?);
-    assert!(rt; is_clock_at(rt.alloc(), "unit = 'us'", "9223372036854775807", 9_223_372_036_854_775_807)?);
+    assert!(rt;
+        is_clock_at(
+            rt.alloc(),
+            "unit = 'us'",
+            "9223372036854775807",
+            9_223_372_036_854_775_807
+        )?
+    );
     Ok(())
 }
 

@@ -1,8 +1,6 @@
 //! One document for each fault and key of a document, its nodes and its links.
 use crate::fixtures::{NODES, joined};
-use hsr_scenario::Key::{
-    Capacity, Ends, Link, Mac, Macs, Mode, Name, Node, Role, Step, TimeUnit,
-};
+use hsr_scenario::Key::{Capacity, Ends, Link, Mac, Macs, Mode, Name, Node, Role, Step, TimeUnit};
 use hsr_scenario::What::{
     BadValue, Missing, NameTwice, NoSuchName, Text, Topology, Unknown, WrongKind,
 };

@@ -1,11 +1,12 @@
 //! What `threads` writes of scenarios, and how it ends.
 use crate::fixtures::{
     CUT_BY_HAND, CUT_OFF_REPORT, FailingReader, FailingWriter, GROUP_SEND, INJECTION, PAIR, QUAD,
-    RED, RED_SENDS, RING, RING_REPORT, SENDER_CUT_OFF, TWO_CUTS, joined,
+    RED, RED_SENDS, RING, SENDER_CUT_OFF, TWO_CUTS, joined,
 };
 use crate::scenario_run_tests::run_shown;
 use hsr_closing::Disagree;
 use hsr_engines::{Fault, Status, Table, audit_run, threads_run};
+use hsr_networks::RING_REPORT;
 use hsr_scenario::{ScenarioFault, Spot, What};
 use std::alloc::AllocError;
 use std::marker::Sync;

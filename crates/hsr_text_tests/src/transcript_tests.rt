@@ -1,7 +1,8 @@
 //! Transcripts of a send and of a group frame round a ring, and texts that differ from them.
-use crate::fixtures::{FailingWriter, ONE_SEND, RING_TRANSCRIPT, joined};
+use crate::fixtures::{FailingWriter, ONE_SEND, joined};
 use hsr_closing::Disagree;
 use hsr_link::Dir;
+use hsr_networks::RING_TRANSCRIPT;
 use hsr_transcript::{ReadFault, WriteFault, read, write};
 use std::alloc::{AllocError, Global};
 use std::test::Fail;

@@ -1,10 +1,10 @@
 //! Worked rows of worlds: what is done, and what the counters and links tell then.
-use crate::fixtures::{
+use hsr_frame::{Counters, Mode};
+use hsr_link::{Dir, Fate, Row};
+use hsr_networks::{
     PAYLOAD, Tag, drain, group, judge, mac, plain, put, quad_net, red, ring2, ring3, ring3_in, run,
     send, send_from, tagged, take, world,
 };
-use hsr_frame::{Counters, Mode};
-use hsr_link::{Dir, Fate, Row};
 use hsr_node::{Entry, Octets, up_out};
 use hsr_ring::{Step, World};
 use std::test::Fail;

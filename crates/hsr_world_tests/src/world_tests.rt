@@ -1,7 +1,7 @@
 //! What worlds of three DANHs in a ring do, and which steps they refuse.
-use crate::fixtures::{group, judge, mac, put, ring3, send, take, world};
 use hsr_frame::{About, SendFault};
 use hsr_link::Dir;
+use hsr_networks::{group, judge, mac, put, ring3, send, take, world};
 use hsr_node::{Octets, StepFault};
 use hsr_ring::{DrainFault, Step, World, WorldFault};
 use std::test::Fail;

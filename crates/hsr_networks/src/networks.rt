@@ -1,21 +1,13 @@
-//! The nodes, networks, frames and steps that the tests share.
+//! Addresses, nodes, links, and the networks that they make.
 ghost use Rattle.hsr_frame.specs.Address.{IsGroup};
 ghost use Rattle.hsr_node.specs.Place.{HasOwnAddress};
 
 use arrayvec::ArrayVec;
 use hsr_frame::{Mac, Mode};
-use hsr_link::Dir;
-use hsr_node::{Carried, Event, Octets, Place};
-use hsr_ring::{Step, World};
-use hsr_text::hex_octets;
+use hsr_node::Place;
+use hsr_ring::World;
 use hsr_topology::{End, Topology};
 use std::test::Fail;
-
-/// The payload of most sends.
-pub const PAYLOAD: [u8; 2] = [0xAA, 0xBB];
-
-/// How many steps a drain may take.
-const LIMIT: u64 = 1_000_000;
 
 // ---- addresses
 
@@ -137,116 +129,4 @@ pub fn quad_net(rt: &HostRuntime) -> Result<Topology, Fail> {
 /// A world in which nothing was done. In each direction of a link 64 copies may wait.
 pub fn world(rt: &HostRuntime, topology: Topology) -> Result<World<512>, Fail> {
     Ok(World::new(rt.alloc(), topology, 64)?)
-}
-
-// ---- octets
-
-/// The octets that a text of hexadecimal digits tells.
-pub fn octets(rt: &HostRuntime, text: &str) -> Result<Octets, Fail> {
-    let bytes = hex_octets(rt.alloc(), text.as_bytes())
-        .ok()
-        .ok_or("octets")?;
-    Ok(Octets::new(bytes))
-}
-
-/// What a tag tells, of which all numbers are small.
-#[derive(Clone, Copy)]
-pub struct Tag {
-    pub path: u8,
-    pub size: u8,
-    pub number: u8,
-}
-
-/// A frame of type 0800: its addresses, its tag if it has one, its type and its payload.
-fn frame(rt: &HostRuntime, dst: Mac, src: Mac, tag: &[u8], payload: &[u8]) -> Result<Octets, Fail> {
-    let mut bytes = Vec::new(rt.alloc());
-    bytes.extend_from_slice(&dst.octets())?;
-    bytes.extend_from_slice(&src.octets())?;
-    bytes.extend_from_slice(tag)?;
-    bytes.extend_from_slice(&[8, 0])?;
-    bytes.extend_from_slice(payload)?;
-    Ok(Octets::new(bytes))
-}
-
-/// A plain frame of type 0800.
-pub fn plain(rt: &HostRuntime, dst: Mac, src: Mac, payload: &[u8]) -> Result<Octets, Fail> {
-    frame(rt, dst, src, &[], payload)
-}
-
-/// A tagged frame of type 0800.
-pub fn tagged(
-    rt: &HostRuntime,
-    dst: Mac,
-    src: Mac,
-    tag: Tag,
-    payload: &[u8],
-) -> Result<Octets, Fail> {
-    let tag = [0x89, 0x2F, tag.path << 4, tag.size, 0, tag.number];
-    frame(rt, dst, src, &tag, payload)
-}
-
-/// Octets that come to a port, of no send.
-pub fn arrival(port: u8, octets: Octets) -> Event {
-    let carried = Carried {
-        probe: None,
-        octets,
-    };
-    Event::Arrive { port, carried }
-}
-
-// ---- sends and steps
-
-/// A send of type 0800 from the address at a place.
-pub fn send_event(rt: &HostRuntime, from: u8, dst: Mac, payload: &[u8]) -> Result<Event, Fail> {
-    Ok(Event::Send {
-        from,
-        dst,
-        vlan: None,
-        kind: 0x0800,
-        payload: Octets::from_slice(rt.alloc(), payload)?,
-    })
-}
-
-/// The same as a step of a node.
-pub fn send_from(
-    rt: &HostRuntime,
-    node: usize,
-    from: u8,
-    dst: Mac,
-    payload: &[u8],
-) -> Result<Step, Fail> {
-    Ok(Step::Send {
-        node,
-        from,
-        dst,
-        vlan: None,
-        kind: 0x0800,
-        payload: Octets::from_slice(rt.alloc(), payload)?,
-    })
-}
-
-/// A send of the usual payload from a node's first address.
-pub fn send(rt: &HostRuntime, node: usize, dst: Mac) -> Result<Step, Fail> {
-    send_from(rt, node, 0, dst, &PAYLOAD)
-}
-
-pub fn put(node: usize, port: u8) -> Step {
-    Step::Put { node, port }
-}
-
-pub fn take(link: usize, dir: Dir) -> Step {
-    Step::Take { link, dir }
-}
-
-pub fn judge(node: usize, port: u8) -> Step {
-    Step::Judge { node, port }
-}
-
-pub fn run<const C: usize>(world: &mut World<C>, steps: &[Step]) -> Result<(), Fail> {
-    Ok(world.run(steps).ok().ok_or("a step was refused")?)
-}
-
-pub fn drain<const C: usize>(world: &mut World<C>) -> Result<(), Fail> {
-    let _steps = world.drain(LIMIT).ok().ok_or("a drain was refused")?;
-    Ok(())
 }

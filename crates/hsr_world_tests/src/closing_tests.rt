@@ -1,11 +1,9 @@
 //! Which records, rows and receipts agree, and the first cause why others don't.
 ghost use Rattle.std.specs.Prelude.{◌≤◌};
 
-use crate::fixtures::{
-    PAYLOAD, Tag, arrival, danh, group, mac, ring3, send_event, tagged, topology,
-};
 use hsr_closing::{CheckFault, Closed, Disagree, Planned, passes_of};
 use hsr_link::{Dir, Fate, Row};
+use hsr_networks::{PAYLOAD, Tag, arrival, danh, group, mac, ring3, send_event, tagged, topology};
 use hsr_node::{Carried, Event, Kept, Octets, Pass, Probe, Receipt, copy_out};
 use hsr_topology::{End, Topology};
 use std::test::Fail;

@@ -1,9 +1,9 @@
 //! Scenarios that run in threads: what comes out of them, whatever the schedule.
-use crate::fixtures::{group, mac, red, ring2, ring3, send, send_from};
 use hsr_audit::{AuditFault, Doubt, audit};
 use hsr_closing::{CheckFault, Closed, Disagree};
 use hsr_frame::Counters;
 use hsr_link::{Dir, Fate};
+use hsr_networks::{group, mac, red, ring2, ring3, send, send_from};
 use hsr_node::{Entry, Event, Octets, Outcome, Probe};
 use hsr_runner::{Gate, OpenGate, RunFault, run_threads};
 use hsr_scenario::{Order, Scenario};

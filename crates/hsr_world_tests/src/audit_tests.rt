@@ -1,13 +1,13 @@
 //! What an audit certifies of small runs, and what it doubts first.
 ghost use Rattle.std.specs.Prelude.{◌≤◌};
 
-use crate::fixtures::{
-    danh, drain, group, joint, judge, mac, put, ring2, ring3, ring3_in, run, send, take, topology,
-    world,
-};
 use hsr_audit::{AuditFault, Certificate, Doubt, audit};
 use hsr_frame::Mode;
 use hsr_link::Dir;
+use hsr_networks::{
+    danh, drain, group, joint, judge, mac, put, ring2, ring3, ring3_in, run, send, take, topology,
+    world,
+};
 use hsr_node::Place;
 use hsr_ring::{Step, World};
 use hsr_topology::End;

@@ -1,7 +1,7 @@
 //! Which worlds close, and the first cause why others don't.
-use crate::fixtures::{Tag, group, mac, put, ring3, run, send, tagged, world};
 use hsr_closing::{CheckFault, Disagree};
 use hsr_link::Dir;
+use hsr_networks::{Tag, group, mac, put, ring3, run, send, tagged, world};
 use hsr_ring::{Step, World};
 use std::test::Fail;
 

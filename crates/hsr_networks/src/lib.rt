@@ -1,0 +1,17 @@
+//! What the tests of several crates share: networks, frames, steps and texts. Nothing else stands on it.
+//!
+//! Its modules, in the order to read them: `networks`, `frames`, `steps`, `texts`.
+#![tactic(auto)]
+
+mod frames;
+mod networks;
+mod steps;
+mod texts;
+
+pub use frames::{Tag, arrival, octets, plain, tagged};
+pub use networks::{
+    danh, danh_in, group, joint, link, mac, quad_net, red, redbox, ring2, ring3, ring3_in, station,
+    topology, world,
+};
+pub use steps::{PAYLOAD, drain, judge, put, run, send, send_event, send_from, take};
+pub use texts::{RING_REPORT, RING_TRANSCRIPT};

@@ -1,0 +1,5 @@
+//! Tests of runs in threads, over their public calls.
+#![tactic(auto)]
+
+#[cfg(test)]
+mod runner_tests;
