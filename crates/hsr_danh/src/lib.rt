@@ -14,6 +14,3 @@ mod wanted;
 
 pub use danh::{Danh, Sent, Verdict};
 pub use past::answers_as_past;
-
-#[cfg(test)]
-mod tests;

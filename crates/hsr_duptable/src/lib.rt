@@ -12,6 +12,3 @@ mod table;
 
 pub use note::{ENTRY_FORGET, Key, Note};
 pub use table::{DupTable, answers_as_log};
-
-#[cfg(test)]
-mod tests;

@@ -36,6 +36,3 @@ pub use node::{About, Cause, Life, Mode, RingPort, STEP_LIMIT};
 pub use octets::{copied, put, put_head, put_u16, u16_at};
 pub use raw::{Head, Raw};
 pub use send::send_fault;
-
-#[cfg(test)]
-mod tests;

@@ -15,6 +15,3 @@ mod wanted;
 pub use past::answers_as_past;
 pub use quadbox::{QuadBox, QuadVerdict};
 pub use wanted::QuadPort;
-
-#[cfg(test)]
-mod tests;

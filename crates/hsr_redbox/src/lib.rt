@@ -18,6 +18,3 @@ pub use call::{BoxPort, BoxSent, BoxVerdict, LifeFault};
 pub use hsr_frame::About;
 pub use past::answers_as_past;
 pub use redbox::RedBox;
-
-#[cfg(test)]
-mod tests;

@@ -24,6 +24,7 @@ use Rattle.hsr_law.specs.Once.{IsCalm}
 use Rattle.hsr_closing.specs.OfRecords.{ArePassesOf}
 use Rattle.hsr_closing.specs.Passes.{IsToldBy}
 use Rattle.hsr_closing.specs.Receipts.{HasReceipts}
+use Rattle.hsr_law.specs.Premises.{NumberedFirst}
 use Rattle.hsr_law.specs.Run.{Run}
 use Rattle.hsr_closing.specs.Shape.{IsShaped, NodesFit, is_linked}
 use Rattle.hsr_topology.specs.Topology.{Topology}
@@ -163,10 +164,12 @@ module _ (capacity : ℕ) (topology : Topology) (moment : ℕ) (kept : List Reco
       receipts = receipts;
     }
 
+    numbered_first : IsClosed (finished.run_of capacity topology kept rows) → NumberedFirst (finished.run_of capacity topology kept rows)
+    numbered_first closed = subst (λ (run : Run). NumberedFirst run) run_same (always_numbered_first capacity topology.places topology.links world (own (ended closed)))
+
     calm : IsClosed (finished.run_of capacity topology kept rows) → IsCalm (finished.run_of capacity topology kept rows)
     calm closed =
-        no_storm (finished.run_of capacity topology kept rows) (λ l dir below. from_there topology.places topology.links wired l dir below) closed
-        (subst (λ (run : Run). Rattle.hsr_law.specs.Premises.NumberedFirst run) run_same (always_numbered_first capacity topology.places topology.links world (own (ended closed))))
+        no_storm (finished.run_of capacity topology kept rows) (λ l dir below. from_there topology.places topology.links wired l dir below) closed (numbered_first closed)
 
     open_as : (d : Disagree) → IsFirst capacity topology kept rows passes plan d → IsOpen (finished.run_of capacity topology kept rows) d
     unfolding HasReceipts
@@ -188,6 +191,9 @@ module _ (capacity : ℕ) (topology : Topology) (moment : ℕ) (kept : List Reco
   pub closed_calm : (closed : Finished) → IsToldClosed capacity topology kept plan spans closed → IsCalm closed.run
   closed_calm closed c = subst (λ (f : Finished). IsCalm f.run) (sym c.told.is) (calm c.rows c.told.passes c.of_links c.told.told c.told.agrees.closed)
 
+  pub closed_numbered : (closed : Finished) → IsToldClosed capacity topology kept plan spans closed → NumberedFirst closed.run
+  closed_numbered closed c = subst (λ (f : Finished). NumberedFirst f.run) (sym c.told.is) (numbered_first c.rows c.told.passes c.of_links c.told.told c.told.agrees.closed)
+
   pub open_refused : (d : Disagree) → IsToldOpen capacity topology kept plan spans d → ¬ IsEnded world
   open_refused d o end = o.told.refused (agrees o.rows o.told.passes o.of_links o.told.told end)
 
@@ -199,6 +205,7 @@ module _ (capacity : ℕ) (topology : Topology) (moment : ℕ) (kept : List Reco
 pub record Closes (capacity : ℕ) (w : World) (closed : Finished) : Type 0 where
   pub is : closed ≡ finished_of capacity w
   pub ended : IsEnded w
+  pub numbered : NumberedFirst closed.run
   pub calm : IsCalm closed.run
 
 pub record StaysOpen (capacity : ℕ) (w : World) (fault : CheckFault) : Type 0 where
@@ -218,6 +225,7 @@ module _ (capacity : ℕ) (topology : Topology) (moment : ℕ) (kept : List Reco
   closes closed c = subst (λ (v : World). Closes capacity v closed) is (record {
     is = closed_is capacity topology moment kept spans plan wired numbered reached closed c;
     ended = closed_ended capacity topology moment kept spans plan wired numbered reached closed c;
+    numbered = closed_numbered capacity topology moment kept spans plan wired numbered reached closed c;
     calm = closed_calm capacity topology moment kept spans plan wired numbered reached closed c;
   })
 

@@ -16,15 +16,18 @@ use Rattle.hsr_node.specs.declared.event.StepFault.{StepFault}
 use Rattle.hsr_node.specs.declared.event.StepFault.TheVariants as refused
 use Rattle.hsr_node.specs.declared.place.Place.{Place}
 use Rattle.hsr_node.specs.declared.place.Place.TheVariants.{QuadBox}
-use Rattle.hsr_ring.specs.Entering.{IsEntered, IsNotEntered, IsRefusal, IsStepped, IsThere, IsUnplanned, answer_in, past_in, places_of, world_fault}
-use Rattle.hsr_ring.specs.Giving.{given_lane, given_span, receipt_of}
+use Rattle.hsr_ring.specs.Entering.{IsEntered, IsNotEntered, IsRefusal, IsStepped, IsThere, IsUnplanned, answer_in, past_in, world_fault}
+use Rattle.hsr_spans.specs.Ports.{places_of}
+use Rattle.hsr_spans.specs.Giving.{given_lane, given_span, receipt_of}
 use Rattle.hsr_world.specs.Spans.{Span, emptied, held_in, lanes_of, on_lanes, spread}
-use Rattle.hsr_ring.specs.Views.{AreNumbered, span_view, world_of}
+use Rattle.hsr_ring.specs.Views.{AreNumbered, world_of}
+use Rattle.hsr_spans.specs.Views.{span_view}
 use Rattle.hsr_world.specs.World.{World, added, and_added, cleared, entered, judged_at, planned}
-use Rattle.hsr_ring.specs.declared.span.Span as code
+use Rattle.hsr_spans.specs.declared.span.Span as code
 use Rattle.hsr_step.specs.declared.step.WorldFault.{WorldFault}
 use Rattle.hsr_step.specs.declared.step.WorldFault.TheVariants.{NoMemory, Node, Nothing}
-use Rattle.hsr_ring.proofs.Places.{or_map}
+use Rattle.hsr_spans.proofs.Places.{or_map}
+use Rattle.hsr_spans.proofs.Touched.{map_given}
 use Rattle.hsr_world.proofs.Counts.{map_set_same}
 
 -- ---- numbers
@@ -111,10 +114,6 @@ same_place old new n d below places =
     sym (get_or-map (λ (r : Record). r.place) new n d QuadBox within) ∙ ap (λ ps. get_or ps n QuadBox) places
 
 -- ---- the world
-
-pub map_given : (place : Place) (receipt : Receipt) (spans : List code.Span) → map (given_span place receipt) spans ≡ map (on_lanes (given_lane place receipt)) (map span_view spans)
-map_given place receipt [] = refl
-map_given place receipt (x ∷ spans) = ap (λ (ls : List Span). given_span place receipt x ∷ ls) (map_given place receipt spans)
 
 pub entered_ok : (capacity worker n at : ℕ) (event : Event) (old new : List Record) (receipt : Receipt) (place : Place) (before : List Span) (spans : List code.Span) →
     IsStepped capacity worker n at event old new receipt → place ≡ (owner_in (places_of old) n).place → map span_view spans ≡ before →

@@ -1,12 +1,9 @@
-pub mod Places
 pub mod Tried
 pub mod Entered
 pub mod Started
-pub mod Ports
+pub mod Ends
 pub mod Hands
 pub mod Next
 pub mod Looked
 pub mod Stopped
-pub mod Apart
 pub mod Ending
-pub mod Touched

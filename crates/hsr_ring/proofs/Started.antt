@@ -4,7 +4,7 @@ use Rattle.std.specs.List.{range_with_len}
 use Rattle.hsr_node.specs.Kept.{Record, past_of}
 use Rattle.hsr_node.specs.declared.entry.Entry.{Entry}
 use Rattle.hsr_node.specs.declared.place.Place.{Place}
-use Rattle.hsr_ring.specs.Entering.{places_of}
+use Rattle.hsr_spans.specs.Ports.{places_of}
 use Rattle.hsr_world.specs.Spans.{Span}
 use Rattle.hsr_ring.specs.Starting.{new_records}
 use Rattle.hsr_ring.specs.Views.{AreNumbered, world_of}

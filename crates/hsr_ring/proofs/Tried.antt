@@ -3,7 +3,9 @@ use Rattle.std.proofs.Common.{◌≡◌, ℕ, List, [], ◌∷◌, Option, Some,
 use Rattle.std.proofs.lemmas.Grind.{common_steps}
 use Rattle.hsr_node.specs.declared.event.Carried.{Carried}
 use Rattle.hsr_world.specs.Spans.{held_in, lanes_of, Spot, lane_of, spot_from}
-use Rattle.hsr_ring.specs.Views.{in_span, in_spans, in_world, port_fault, put_at_spot, put_out}
+use Rattle.hsr_spans.specs.Views.{in_span, in_spans, put_at_spot, put_out}
+use Rattle.hsr_ring.specs.Views.{in_world}
+use Rattle.hsr_spans.specs.Ports.{port_fault}
 use Rattle.hsr_world.specs.World.{World, if_port, judged_at, span_at, put_at, put_from, tried}
 use Rattle.hsr_step.specs.declared.step.Step.TheVariants.{Judge, Put}
 use Rattle.hsr_step.specs.declared.step.WorldFault.{WorldFault}

@@ -12,7 +12,7 @@ use Rattle.hsr_topology.specs.Topology.{Topology}
 use Rattle.hsr_closing.specs.declared.disagree.Disagree.{Disagree}
 use Rattle.hsr_closing.specs.declared.planned.Planned.{Planned}
 use Rattle.hsr_world.specs.Spans.{Span}
-use Rattle.hsr_ring.specs.Parting.{rows_in}
+use Rattle.hsr_spans.specs.Parting.{rows_in}
 
 abbrev pub AreRowsOf : List Span → List (Vec Row Global) → Type 0
 AreRowsOf spans rows = map items_of rows ≡ map rows_in spans

@@ -1,11 +1,7 @@
 pub mod Views
 pub mod Hands
-pub mod Giving
 pub mod Entering
 pub mod Starting
 pub mod Stopping
-pub mod Ports
 pub mod Pending
-pub mod Parting
 pub mod Ending
-pub mod Touching

@@ -9,11 +9,11 @@ use Rattle.hsr_world.specs.Spans.{Span, Spot, lane_of}
 use Rattle.hsr_world.specs.Reached.{IsReached}
 use Rattle.hsr_world.specs.World.{World, span_in}
 use Rattle.hsr_numbers.specs.Numbers.{IsLowest, has}
-use Rattle.hsr_ring.specs.Views.{spot_view}
-use Rattle.hsr_ring.specs.Ports.{dir_at, end_at, is_held, is_ready, is_waiting, AreTold, port_of}
-use Rattle.hsr_ring.specs.Touching.{AreTouching}
+use Rattle.hsr_spans.specs.Views.{spot_view}
+use Rattle.hsr_spans.specs.Ports.{dir_at, end_at, is_held, is_ready, is_waiting, AreTold, port_of}
+use Rattle.hsr_spans.specs.Touching.{AreTouching}
 use Rattle.hsr_ring.specs.declared.pending.Pending.{Pending}
-use Rattle.hsr_ring.specs.declared.port.Port.{Port}
+use Rattle.hsr_spans.specs.declared.port.Port.{Port}
 use Rattle.hsr_step.specs.declared.step.Step.{Step}
 use Rattle.hsr_step.specs.declared.step.Step.TheVariants.{Send, Supervise, Age, Put, Take, Judge, Cut, Inject}
 

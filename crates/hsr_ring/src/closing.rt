@@ -2,12 +2,11 @@
 ghost use Rattle.std.specs.Prelude.{◌≡◌, IfErr, IfOk, map};
 ghost use Rattle.hsr_closing.specs.Checked.{IfDisagree};
 ghost use Rattle.hsr_ring.specs.Ending.{IsToldClosed, IsToldOpen};
-ghost use Rattle.hsr_ring.specs.Views.{span_view};
+ghost use Rattle.hsr_spans.specs.Views.{span_view};
 
-use crate::parting::{Parted, join, part};
-use crate::span::Span;
 use hsr_closing::{CheckFault, Closed, Planned, Records};
 use hsr_node::Kept;
+use hsr_spans::{Parted, Span, join, part};
 use hsr_topology::Topology;
 use std::alloc::Global;
 

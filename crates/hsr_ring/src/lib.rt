@@ -1,17 +1,9 @@
 //! A ring of nodes in one world: what a step makes of it, and what holds of it after any steps.
 //!
 //! Its modules, in the order in which to read them:
-//! - `lane`: one direction of a link, with what its ports keep
-//! - `span`: a link, with what the ports at its ends keep
-//! - `spot`: where a port sends
-//! - `port`: the ports of a world, each with where it receives and sends
-//! - `hand`: what a receiving port holds
-//! - `giving`: what a new entry of a node gives to the spans
 //! - `entering`: an event that a worker brings to a node
 //! - `pending`: what is left to do, and what a drain does next
-//! - `touching`: the links that touch a node
-//! - `starting`: what a world begins with
-//! - `parting`: links apart from their rows, and with them again
+//! - `starting`: the nodes that a world begins with
 //! - `closing`: what a world hands over where it is closed
 //! - `fit`: what the types of the code tell of steps and nodes
 //! - `running`: a world in code, and its steps
@@ -21,17 +13,9 @@
 mod closing;
 mod entering;
 mod fit;
-mod giving;
-mod hand;
-mod lane;
-mod parting;
 mod pending;
-mod port;
 mod running;
-mod span;
-mod spot;
 mod starting;
-mod touching;
 mod world;
 
 pub use hsr_step::{DrainFault, Step, WorldFault};

@@ -1,25 +1,25 @@
 //! A world in code, and its steps.
 ghost use Rattle.std.specs.Prelude.{◌≡◌, ◌⊎◌, ◌<◌, ◌≤◌, Ok, Err, OnOk, IfErr, IfNone, IfOk, map, length, option_map, reverse};
-ghost use Rattle.hsr_ring.specs.Views.{in_world, port_fault, put_at_spot, spot_view};
-ghost use Rattle.hsr_ring.specs.Ports.{AreTold};
-ghost use Rattle.hsr_ring.specs.Touching.{AreTouching, touching_from, touching_in};
+ghost use Rattle.hsr_ring.specs.Views.{in_world};
+ghost use Rattle.hsr_spans.specs.Ports.{port_fault, AreTold};
+ghost use Rattle.hsr_spans.specs.Views.{put_at_spot, spot_view};
+ghost use Rattle.hsr_spans.specs.Touching.{AreTouching, touching_from, touching_in};
 ghost use Rattle.hsr_ring.specs.Entering.{IsUnplanned};
 ghost use Rattle.hsr_node.specs.Kept.{Record};
 ghost use Rattle.hsr_world.specs.World.{port_worker};
 
 use crate::closing::{Open, Rest, closed_of};
 use crate::entering::enter;
-use crate::hand::{change_hand, clear};
 use crate::pending::Pending;
-use crate::port::{Port, new_ports, port_fault, port_of};
-use crate::span::{Span, cut_at, inject_at, mend_at, take_at};
-use crate::spot::{Spot, put_at_spot};
-use crate::starting::{new_nodes, new_spans};
-use crate::touching::{new_touching, touching_of};
+use crate::starting::new_nodes;
 use hsr_closing::{CheckFault, Closed, Planned};
 use hsr_frame::{About, Counters, Mac};
 use hsr_link::{Dir, Row};
 use hsr_node::{Carried, Entry, Event, Kept, Octets};
+use hsr_spans::{
+    Port, Span, Spot, change_hand, clear, cut_at, inject_at, mend_at, new_ports, new_spans,
+    new_touching, port_fault, port_of, put_at_spot, take_at, touching_of,
+};
 use hsr_step::{INJECT_LIMIT, Step, WorldFault};
 use hsr_topology::{End, Topology};
 use std::alloc::Global;
@@ -37,7 +37,8 @@ pub(crate) struct Running<const C: usize> {
 
 impl<const C: usize> Model for Running<C> {
     ghost use Rattle.std.specs.Prelude.{map};
-    ghost use Rattle.hsr_ring.specs.Views.{AreNumbered, span_view, world_of};
+    ghost use Rattle.hsr_ring.specs.Views.{AreNumbered, world_of};
+    ghost use Rattle.hsr_spans.specs.Views.{span_view};
     ghost use Rattle.hsr_world.specs.World.{World};
 
     ghost Value = { World };
@@ -81,7 +82,8 @@ impl<const C: usize> Running<C> {
 }
 
 impl<const C: usize> Running<C> {
-    ghost use Rattle.hsr_ring.specs.Hands.{given_back, hand_in, in_hand};
+    ghost use Rattle.hsr_ring.specs.Hands.{given_back, in_hand};
+    ghost use Rattle.hsr_spans.specs.Hands.{hand_in};
     ghost use Rattle.hsr_world.specs.World.{by_main, cleared, entered, planned, tried};
     ghost use Rattle.hsr_step.specs.declared.step.Step.TheVariants.{Age, Clock, Cut, Inject, Judge, Mend, Put, Send, Supervise, Take};
     ghost use Rattle.hsr_step.specs.declared.step.WorldFault.TheVariants.{NoMemory};
@@ -406,7 +408,7 @@ impl<const C: usize> Running<C> {
 
 impl<const C: usize> Running<C> {
     ghost use Rattle.hsr_node.specs.Counts.{counters};
-    ghost use Rattle.hsr_ring.specs.Ports.{ports_in};
+    ghost use Rattle.hsr_spans.specs.Ports.{ports_in};
     ghost use Rattle.hsr_ring.specs.Pending.{AreLooked};
     ghost use Rattle.hsr_world.specs.World.{span_at, owner_at, record_at};
 
@@ -473,6 +475,7 @@ impl<const C: usize> Running<C> {
 impl<const C: usize> Running<C> {
     ghost use Rattle.hsr_closing.specs.Checked.{IfDisagree, IsOpen};
     ghost use Rattle.hsr_law.specs.Once.{IsCalm};
+    ghost use Rattle.hsr_law.specs.Premises.{NumberedFirst};
     ghost use Rattle.hsr_world.specs.Lawful.{IsEnded, finished_of};
     ghost use Rattle.hsr_world.specs.Reached.{IsReached};
 
@@ -484,6 +487,7 @@ impl<const C: usize> Running<C> {
         requires { IsReached C topology.places topology.links self }
         ensures closed { IfOk result (λ closed. closed ≡ finished_of C self.entry) }
         ensures ended { IfOk result (λ closed. IsEnded self.entry) }
+        ensures numbered { IfOk result (λ closed. NumberedFirst closed.run) }
         ensures no_storm { IfOk result (λ closed. IsCalm closed.run) }
         ensures whole { IfErr result (λ e. (e.0 ≡ topology) × (e.1 ≡ self.entry)) }
         ensures refused { IfErr result (λ e. IfDisagree e.2 (λ d. ¬ IsEnded self.entry)) }

@@ -1,18 +1,11 @@
-//! What a world begins with.
-ghost use Rattle.std.specs.Prelude.{◌≡◌, ◌≤◌, IfOk, [], All, map, length};
+//! The nodes that a world begins with.
+ghost use Rattle.std.specs.Prelude.{◌≡◌, ◌≤◌, IfOk, [], All, length};
 ghost use Rattle.hsr_node.specs.Place.{HasOwnAddress};
 ghost use Rattle.hsr_ring.specs.Starting.{new_records};
-ghost use Rattle.hsr_ring.specs.Views.{lane_view, span_view};
-ghost use Rattle.hsr_world.specs.World.{new_lane, new_span};
 
-use crate::lane::Lane;
-use crate::span::Span;
 use hsr_frame::NoMemory;
-use hsr_link::Link;
 use hsr_node::{Kept, Place};
-use hsr_topology::End;
 use std::alloc::Global;
-use std::collections::VecDeque;
 
 /// A node of this number for each place.
 pub(crate) fn new_nodes<const C: usize>(
@@ -29,46 +22,4 @@ pub(crate) fn new_nodes<const C: usize>(
         nodes.push(kept)?;
     }
     Ok(nodes)
-}
-
-fn new_lane(alloc: Global, from: End, to: End) -> Lane
-    ensures { lane_view result ≡ new_lane from to }
-{
-    Lane {
-        from,
-        to,
-        outbox: VecDeque::new(alloc),
-        hand: None,
-        room: Vec::new(alloc),
-    }
-}
-
-fn new_span(alloc: Global, capacity: usize, link: &[End; 2]) -> Result<Span, NoMemory>
-    requires { (1 ≤ capacity) × (capacity ≤ 4096) }
-    ensures { IfOk result (λ span. span_view span ≡ new_span capacity link.now) }
-{
-    let [a, b] = *link;
-    let link = Link::new(alloc, capacity)?;
-    Ok(Span {
-        link,
-        forth: new_lane(alloc, a, b),
-        back: new_lane(alloc, b, a),
-    })
-}
-
-/// A span for each link.
-pub(crate) fn new_spans(
-    alloc: Global,
-    capacity: usize,
-    links: &[[End; 2]],
-) -> Result<Vec<Span>, NoMemory>
-    requires { (1 ≤ capacity) × (capacity ≤ 4096) }
-    ensures { IfOk result (λ spans. map span_view spans.items ≡ map (new_span capacity) links.now) }
-{
-    let mut spans = Vec::new(alloc);
-    for link in links.iter() {
-        let span = new_span(alloc, capacity, link)?;
-        spans.push(span)?;
-    }
-    Ok(spans)
 }

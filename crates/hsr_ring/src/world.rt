@@ -4,12 +4,12 @@ ghost use Rattle.hsr_step.specs.declared.step.WorldFault.TheVariants.{NoMemory a
 
 use crate::fit::{places_fit, step_fits};
 use crate::pending::Pending;
-use crate::port::Port;
 use crate::running::Running;
 use hsr_closing::{CheckFault, Closed};
 use hsr_frame::{Counters, NoMemory};
 use hsr_link::Row;
 use hsr_node::Entry;
+use hsr_spans::Port;
 use hsr_step::{DrainFault, Step, WorldFault};
 use hsr_topology::Topology;
 use std::alloc::Global;
@@ -41,6 +41,7 @@ impl<const C: usize> Model for World<C> {
 impl<const C: usize> World<C> {
     ghost use Rattle.hsr_closing.specs.Checked.{IfDisagree, IsOpen};
     ghost use Rattle.hsr_law.specs.Once.{IsCalm};
+    ghost use Rattle.hsr_law.specs.Premises.{NumberedFirst};
     ghost use Rattle.hsr_world.specs.Lawful.{IsEnded, IsLawful, finished_of};
     ghost use Rattle.hsr_ring.specs.Stopping.{IsDrainFault, Runs, Stops};
     ghost use Rattle.hsr_world.specs.World.{Drains, span_at, new_world, next_step, owner_at, record_at, tried};
@@ -172,11 +173,13 @@ impl<const C: usize> World<C> {
     }
 
     /// Closes the world: a finished run exactly where nothing waits in an outbox, in a hand or on a link and nothing was
-    /// injected. Else the world comes back as it was, with the first cause; or with `NoMemory` where room for copies or
+    /// injected. In that run each RedBox numbers a frame of its Station before anything tagged of it comes, with the number
+    /// of its send. Else the world comes back as it was, with the first cause; or with `NoMemory` where room for copies or
     /// the check was refused.
     pub fn close(self) -> Result<Closed<C>, (World<C>, CheckFault)>
         ensures closed { IfOk result (λ closed. closed ≡ finished_of C self.entry) }
         ensures ended { IfOk result (λ closed. IsEnded self.entry) }
+        ensures numbered { IfOk result (λ closed. NumberedFirst closed.run) }
         ensures no_storm { IfOk result (λ closed. IsCalm closed.run) }
         ensures whole { IfErr result (λ e. e.0 ≡ self.entry) }
         ensures refused { IfErr result (λ e. IfDisagree e.1 (λ d. ¬ IsEnded self.entry)) }

@@ -7,6 +7,3 @@
 mod payload;
 
 pub use payload::{MIN_PAYLOAD, SupFault, SupKind, Supervision};
-
-#[cfg(test)]
-mod tests;

@@ -13,6 +13,3 @@ mod times;
 pub use nodes::{NodeRow, NodeTable, known_nodes};
 pub use proxies::{ProxyTable, known_proxies};
 pub use times::{LIFE_CHECK, NODE_FORGET, ROW_LIMIT};
-
-#[cfg(test)]
-mod tests;

@@ -19,6 +19,3 @@ pub use payload::{Payload, SHORT_PAYLOAD};
 pub use seen::{Seen, classify, look_at};
 pub use spelled::{HEAD_ROOM, Spelled};
 pub use view::{EitherView, FrameView, SeenView, TaggedView};
-
-#[cfg(test)]
-mod tests;

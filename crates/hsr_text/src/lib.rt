@@ -10,6 +10,3 @@ mod words;
 pub use lines::{Front, READ_LIMIT, ReaderFault, next_line};
 pub use time_unit::TimeUnit;
 pub use words::{WordFault, decimal, hex_octets, hex_pair, put_decimal, put_hex, split_at, word};
-
-#[cfg(test)]
-mod tests;

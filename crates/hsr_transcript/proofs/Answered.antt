@@ -18,18 +18,19 @@ use Rattle.hsr_transcript.specs.Answers.{Answers, AreShort, Closes, Disagreeing,
 use Rattle.hsr_transcript_text.specs.Fits.{Fits}
 use Rattle.hsr_transcript_text.specs.Form.{form_of}
 use Rattle.hsr_transcript.specs.Judged.{IsRefused, Judged, Standing, Stands, records_line}
-use Rattle.hsr_transcript_text.specs.Lines.{text_of}
+use Rattle.hsr_transcript_lines.specs.Lines.{text_of}
 use Rattle.hsr_transcript.specs.Order.{IsOrder, OrderTold}
-use Rattle.hsr_transcript_text.specs.Parsed.{entry_of}
-use Rattle.hsr_transcript_text.specs.Readable.{AreLines, FitEach, IsLineOf, IsSection}
-use Rattle.hsr_transcript_text.specs.Spelled.{entry_text}
+use Rattle.hsr_transcript_lines.specs.Parsed.{entry_of}
+use Rattle.hsr_transcript_text.specs.Readable.{AreLines, FitEach, IsSection}
+use Rattle.hsr_transcript_lines.specs.Readable.{IsLineOf}
+use Rattle.hsr_transcript_lines.specs.Spelled.{entry_text}
 use Rattle.hsr_transcript.specs.Replay.{ReplayedAll}
 use Rattle.hsr_transcript_text.specs.CodeReads.{ToldWhole}
 use Rattle.hsr_transcript_text.specs.Transcript.{Said, said_in, said_lines}
 use Rattle.hsr_transcript_text.specs.declared.fault.ReadFault.{ReadFault}
 use Rattle.hsr_transcript_text.specs.declared.fault.ReadFault.TheVariants.{Version, BadLine, End, Disagrees, Read, NoMemory}
 use Rattle.hsr_transcript.proofs.Finishing.{text_again}
-use Rattle.hsr_transcript_text.proofs.Entries.{entry_timed}
+use Rattle.hsr_transcript_lines.proofs.Entries.{entry_timed}
 use Rattle.hsr_transcript_text.proofs.Formal.{form_formal}
 use Rattle.hsr_transcript.proofs.Complete.{not_disagreeing, not_refused, plan_again, run_again}
 use Rattle.hsr_transcript.proofs.Plans.{is_told}

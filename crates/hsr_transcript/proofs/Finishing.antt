@@ -12,19 +12,21 @@ use Rattle.hsr_closing.specs.Finished.{Finished, IsFinished}
 use Rattle.hsr_topology.specs.Wired.{HasAddresses, IsJoin}
 use Rattle.hsr_topology.specs.declared.end.End.{End}
 use Rattle.hsr_closing.specs.declared.planned.Planned.{Planned}
-use Rattle.hsr_transcript_text.proofs.Again.{IsFinishedRow}
+use Rattle.hsr_transcript_lines.proofs.Again.{IsFinishedRow}
 use Rattle.hsr_transcript.specs.Answers.{AreShort, IsTextOf, IsTimed}
-use Rattle.hsr_transcript_text.specs.Fits.{AreEntriesFit, AreRowsFit, Fits, IsEntryFit, IsPlaceFit}
+use Rattle.hsr_transcript_text.specs.Fits.{AreEntriesFit, AreRowsFit, Fits}
+use Rattle.hsr_transcript_lines.specs.Fits.{IsEntryFit, IsPlaceFit}
 use Rattle.hsr_transcript_text.specs.Form.{form_of}
-use Rattle.hsr_transcript_text.specs.Parsed.{entry_of, link_of, place_of, row_of, turn_of}
-use Rattle.hsr_transcript_text.specs.Readable.{FitEach, IsSpelled, Lacks}
-use Rattle.hsr_transcript_text.proofs.Roles.{IsEntryOf}
-use Rattle.hsr_transcript_text.specs.Spelled.{entry_text, link_text, place_text, row_text}
+use Rattle.hsr_transcript_lines.specs.Parsed.{entry_of, link_of, place_of, row_of, turn_of}
+use Rattle.hsr_transcript_text.specs.Readable.{FitEach}
+use Rattle.hsr_transcript_lines.specs.Readable.{IsSpelled, Lacks}
+use Rattle.hsr_transcript_lines.proofs.Roles.{IsEntryOf}
+use Rattle.hsr_transcript_lines.specs.Spelled.{entry_text, link_text, place_text, row_text}
 use Rattle.hsr_transcript_text.specs.Transcript.{run_text_in, said_in, said_lines}
 use Rattle.hsr_transcript.proofs.OfFinished.{entries_of_role, rows_finished}
-use Rattle.hsr_transcript_text.proofs.Entries.{entry_spelled}
+use Rattle.hsr_transcript_lines.proofs.Entries.{entry_spelled}
 use Rattle.hsr_transcript.proofs.Shorts.{AreSpelled, IsSpelledSection, are_lines}
-use Rattle.hsr_transcript_text.proofs.Spells.{count_spelled, decimal_lacks, fixed_spelled, link_spelled, place_spelled, row_spelled, turn_spelled, version_spelled}
+use Rattle.hsr_transcript_lines.proofs.Spells.{count_spelled, decimal_lacks, fixed_spelled, link_spelled, place_spelled, row_spelled, turn_spelled, version_spelled}
 use Rattle.hsr_transcript_text.proofs.Texts.{form_again}
 
 -- ---- all of a list

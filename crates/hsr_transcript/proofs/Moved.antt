@@ -4,7 +4,7 @@ use Rattle.std.proofs.lemmas.List.{drop-set-lt}
 use Rattle.hsr_node.specs.Kept.{Record}
 use Rattle.hsr_node.specs.declared.entry.Entry.{Entry}
 use Rattle.hsr_node.specs.declared.place.Place.{Place}
-use Rattle.hsr_transcript_text.proofs.Grown.{drop_next}
+use Rattle.hsr_transcript_lines.proofs.Grown.{drop_next}
 use Rattle.hsr_transcript.specs.Replay.{Again, front_of}
 use Rattle.hsr_transcript.proofs.ReplayAll.{taken}
 

@@ -8,7 +8,7 @@ use Rattle.hsr_closing.specs.Next as audit
 use Rattle.hsr_closing.specs.Next.{holds_from}
 use Rattle.hsr_closing.specs.Receipts.{holds_of}
 use Rattle.hsr_transcript.specs.Order.{IsNext, planned_at}
-use Rattle.hsr_transcript_text.proofs.Grown.{drop_next}
+use Rattle.hsr_transcript_lines.proofs.Grown.{drop_next}
 use Rattle.hsr_transcript.proofs.Orders.{found_here, passed_over}
 
 held_over : (x : Entry) (xs : List Entry) (n : ℕ) → (x.worker == 0) ≡ false → holds_of 0 n (x ∷ xs) ≡ holds_of 0 (n + 1) xs

@@ -23,9 +23,10 @@ use Rattle.hsr_law.specs.Run.{Run, owner_of, past_of, place_of, record_of, rows_
 use Rattle.hsr_topology.specs.declared.end.End.{End}
 use Rattle.hsr_law.proofs.Lists.{all_permutation}
 use Rattle.hsr_law.proofs.Records.{Answered, OfArrival, each_from_ports, legal_each}
-use Rattle.hsr_transcript_text.proofs.Again.{IsFinishedRow, IsGone}
-use Rattle.hsr_transcript_text.specs.Fits.{Fits, IsProbeFit, IsRowFit}
-use Rattle.hsr_transcript_text.proofs.Roles.{IsEntryOf, IsEventOf, IsNamed}
+use Rattle.hsr_transcript_lines.proofs.Again.{IsFinishedRow, IsGone}
+use Rattle.hsr_transcript_text.specs.Fits.{Fits}
+use Rattle.hsr_transcript_lines.specs.Fits.{IsProbeFit, IsRowFit}
+use Rattle.hsr_transcript_lines.proofs.Roles.{IsEntryOf, IsEventOf, IsNamed}
 use Rattle.hsr_transcript.proofs.OfRole.{outcome_of, port_of}
 
 -- ---- copies name a send

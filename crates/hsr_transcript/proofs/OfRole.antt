@@ -32,7 +32,7 @@ use Rattle.hsr_node.proofs.OfStation as of_station
 use Rattle.hsr_node.proofs.Told.{Call, Keeps, Stays}
 use Rattle.hsr_law.proofs.Records.{Answered}
 use Rattle.hsr_law.proofs.Views.{Came, came, judged, knows_at}
-use Rattle.hsr_transcript_text.proofs.Roles.{AreExitsOf, IsOutcomeOf, IsPortOf}
+use Rattle.hsr_transcript_lines.proofs.Roles.{AreExitsOf, IsOutcomeOf, IsPortOf}
 
 -- ---- the exits of each role
 

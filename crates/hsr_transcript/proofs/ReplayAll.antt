@@ -6,11 +6,11 @@ use Rattle.hsr_node.specs.Kept.{Record, owner_of, past_of}
 use Rattle.hsr_node.specs.Record.{IsLegal}
 use Rattle.hsr_node.specs.declared.entry.Entry.{Entry}
 use Rattle.hsr_node.specs.declared.place.Place.{Place}
-use Rattle.hsr_transcript_text.specs.Lines.{line_count}
+use Rattle.hsr_transcript_lines.specs.Lines.{line_count}
 use Rattle.hsr_transcript.specs.Replay.{AreLegal, IsUnlike, Replayed, ReplayedAll, records_from}
 use Rattle.hsr_transcript_text.specs.declared.fault.ReadFault.{ReadFault}
 use Rattle.hsr_transcript_text.specs.declared.fault.ReadFault.TheVariants.{Version, BadLine, End, Disagrees, Read, NoMemory}
-use Rattle.hsr_transcript_text.proofs.Grown.{line_count_push}
+use Rattle.hsr_transcript_lines.proofs.Grown.{line_count_push}
 
 -- the front with one more element
 pub taken : {A : Type 0} (xs : List A) (i : ℕ) (x : A) → i < length xs → get_or xs i x ≡ x → take (i + 1) xs ≡ take i xs ++ x ∷ []

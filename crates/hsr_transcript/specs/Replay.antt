@@ -7,7 +7,7 @@ use Rattle.hsr_node.specs.Kept.{Record, answer_to, owner_of, past_of}
 use Rattle.hsr_node.specs.Record.{IsLegal}
 use Rattle.hsr_node.specs.declared.entry.Entry.{Entry}
 use Rattle.hsr_node.specs.declared.place.Place.{Place}
-use Rattle.hsr_transcript_text.specs.Lines.{line_count}
+use Rattle.hsr_transcript_lines.specs.Lines.{line_count}
 use Rattle.hsr_transcript_text.specs.declared.fault.ReadFault.{ReadFault}
 use Rattle.hsr_transcript_text.specs.declared.fault.ReadFault.TheVariants.{BadLine, NoMemory}
 

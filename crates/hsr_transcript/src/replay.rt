@@ -4,7 +4,7 @@ ghost use Rattle.std.specs.List.{All};
 ghost use Rattle.hsr_transcript_text.specs.CodeReads.{seen};
 ghost use Rattle.hsr_node.specs.Place.{HasOwnAddress};
 ghost use Rattle.hsr_transcript_text.specs.Items.{entry_items};
-ghost use Rattle.hsr_transcript_text.specs.Lines.{line_count};
+ghost use Rattle.hsr_transcript_lines.specs.Lines.{line_count};
 ghost use Rattle.hsr_transcript.specs.Replay.{Again, Replayed, ReplayedAll};
 
 use hsr_frame::NoMemory;

@@ -1,29 +1,11 @@
 -- The first line of a text, both ways.
-use Rattle.std.proofs.Common.{◌≡◌, ℕ, ◌+◌, ◌≤◌, ◌==◌, nat_lt, List, [], ◌∷◌, ◌++◌, ◌∙◌, length, Option, Some, None, Ok, Err, refl, sym, ap, cond, arith, Bool, true, false}
+use Rattle.std.proofs.Common.{◌≡◌, ℕ, ◌+◌, ◌≤◌, nat_lt, List, ◌∷◌, ◌++◌, ◌∙◌, length, Option, Some, None, Ok, Err, refl, sym, ap, cond, arith, Bool, true, false}
 use Rattle.std.proofs.lemmas.Bool.Decides.{nat_tests}
-use borrow.Author.Tests.{eqb-true}
 use Rattle.hsr_text.specs.Words.{cut}
-use Rattle.hsr_transcript_text.specs.Readable.{Lacks}
-use Rattle.hsr_transcript_text.proofs.CutWords.{cut_word}
+use Rattle.hsr_transcript_lines.specs.Readable.{Lacks}
+use Rattle.hsr_transcript_lines.proofs.CutWords.{cut_lacks, cut_spells, cut_word}
 use Rattle.hsr_transcript_text.specs.Reading.{At, gives, behind, line_at}
 use Rattle.hsr_transcript_text.specs.declared.fault.ReadFault.{ReadFault}
-
-pub cut_lacks : (s : ℕ) (xs : List ℕ) → Lacks s (cut s xs).0
-cut_lacks s [] = tt
-cut_lacks s (b ∷ bs) = go (cut_lacks s bs) (b == s) refl
-  where
-    go : Lacks s (cut s bs).0 → (t : Bool) → (b == s) ≡ t → Lacks s (cond {A = List ℕ × Option (List ℕ)} t ([], Some bs) (b ∷ (cut s bs).0, (cut s bs).1)).0
-    go more true e = tt
-    go more false e = (e, more)
-
-pub cut_spells : (s : ℕ) (xs rest : List ℕ) → (cut s xs).1 ≡ Some rest → xs ≡ (cut s xs).0 ++ s ∷ rest
-cut_spells s [] rest e = absurd (cc)
-cut_spells s (b ∷ bs) rest e = go (λ f. cut_spells s bs rest f) (b == s) refl e
-  where
-    go : ((cut s bs).1 ≡ Some rest → bs ≡ (cut s bs).0 ++ s ∷ rest) → (t : Bool) → (b == s) ≡ t → (cond {A = List ℕ × Option (List ℕ)} t ([], Some bs) (b ∷ (cut s bs).0, (cut s bs).1)).1 ≡ Some rest
-        → b ∷ bs ≡ (cond {A = List ℕ × Option (List ℕ)} t ([], Some bs) (b ∷ (cut s bs).0, (cut s bs).1)).0 ++ s ∷ rest
-    go more true e f = let same : b ≡ s = eqb-true b s e in cc
-    go more false e f = ap (λ l. b ∷ l) (more f)
 
 -- two readings that are one
 pub ok_parts : {Y : Type 0} {x y : Y} {a b : At} → gives x a ≡ Ok (y, b) → (x ≡ y) × (a ≡ b)

@@ -2,9 +2,10 @@
 use Rattle.std.proofs.Common.{◌≡◌, ℕ, ◌+◌, List, ◌++◌, ◌∙◌, length, Option, Some, None, Ok, refl, sym, ap, subst, cond, Bool, true, false}
 use Rattle.std.proofs.lemmas.Slice.Eq.{bytes_eq-Decides}
 use Rattle.std.specs.Str.{bytes_eq}
-use Rattle.hsr_transcript_text.specs.Lines.{text_of}
-use Rattle.hsr_transcript_text.specs.Reading.{At, Reader, checked, exactly}
-use Rattle.hsr_transcript_text.specs.Readable.{IsSpelled, Lacks}
+use Rattle.hsr_transcript_lines.specs.Lines.{text_of}
+use Rattle.hsr_transcript_text.specs.Reading.{At, Reader}
+use Rattle.hsr_transcript_lines.specs.Exact.{checked, exactly}
+use Rattle.hsr_transcript_lines.specs.Readable.{IsSpelled, Lacks}
 
 -- what is read of a line is what has this line
 pub record Kind {Y : Type 0} (of : List ℕ → Option Y) (spelled : Y → List ℕ) : Type 0 where

@@ -5,7 +5,7 @@ use Rattle.hsr_text.specs.Lines.{ReadsFront}
 use Rattle.hsr_text.specs.Words.{cut}
 use Rattle.hsr_text.specs.declared.lines.Front.TheVariants.{Line, Rest, TooLong}
 use Rattle.hsr_text.specs.declared.time_unit.TimeUnit.{TimeUnit}
-use Rattle.hsr_transcript_text.specs.Parsed.{version_of}
+use Rattle.hsr_transcript_lines.specs.Parsed.{version_of}
 use Rattle.hsr_transcript_text.specs.Reading.{At, Reader, on_with, gives, behind, line_at, taken, line_or, line_of, many, ◌>>=◌, closes, whole}
 use Rattle.hsr_transcript_text.specs.Form.{as_version, form_of, said_at, version_at}
 use Rattle.hsr_transcript_text.specs.CodeReads.{Told, Gives, Ends, Says, ToldWhole, ends_at}

@@ -3,8 +3,9 @@ use Rattle.std.proofs.Common.{◌≡◌, ℕ, zero, suc, ◌+◌, ◌≤◌, Lis
 use Rattle.std.specs.List.{AllByRecursion}
 use Rattle.std.proofs.lemmas.List.{append-nil}
 use Rattle.hsr_transcript_text.specs.Reading.{At, Reader, on_with, gives, ◌>>=◌, line_at, taken, line_or, line_of, many, each, counted, whole, closes}
-use Rattle.hsr_transcript_text.specs.Lines.{lines_by, lines_counted, lines_each, text_of}
-use Rattle.hsr_transcript_text.specs.Readable.{FitEach, IsLineOf}
+use Rattle.hsr_transcript_lines.specs.Lines.{lines_by, lines_counted, lines_each, text_of}
+use Rattle.hsr_transcript_text.specs.Readable.{FitEach}
+use Rattle.hsr_transcript_lines.specs.Readable.{IsLineOf}
 use Rattle.hsr_transcript_text.proofs.OfKind.{Both, Kind}
 use Rattle.hsr_transcript_text.specs.declared.fault.ReadFault.{ReadFault}
 use Rattle.hsr_transcript_text.specs.declared.fault.ReadFault.TheVariants.{BadLine}

@@ -6,14 +6,15 @@ use Rattle.hsr_link.specs.declared.row.Row.{Row}
 use Rattle.hsr_node.specs.declared.entry.Entry.{Entry}
 use Rattle.hsr_node.specs.declared.place.Place.{Place}
 use Rattle.hsr_topology.specs.declared.end.End.{End}
-use Rattle.hsr_transcript_text.specs.Form.{carried_at, carried_on, end_on, form_of, links_on, main_on, nodes_on, only, only_at, record_at, records_at, records_on, rows_at, said_at, section_at, table_on, version_at}
-use Rattle.hsr_transcript_text.specs.Lines.{head, lines_counted, lines_each, one, section, text_of}
-use Rattle.hsr_transcript_text.specs.Parsed.{count_of, entry_of, link_of, number_in, place_of, row_of, turn_of, version_of, read_entry, read_link, read_place, read_row, read_version}
+use Rattle.hsr_transcript_text.specs.Form.{carried_at, carried_on, end_on, form_of, links_on, main_on, nodes_on, only_at, record_at, records_at, records_on, rows_at, said_at, section_at, table_on, version_at}
+use Rattle.hsr_transcript_lines.specs.Parsed.{only, count_of, entry_of, link_of, number_in, place_of, row_of, turn_of, version_of, read_entry, read_link, read_place, read_row, read_version}
+use Rattle.hsr_transcript_lines.specs.Lines.{head, lines_counted, lines_each, one, section, text_of}
 use Rattle.hsr_text.specs.declared.time_unit.TimeUnit.{TimeUnit}
 use Rattle.hsr_text.specs.Words.{cut, decimal_of}
 use Rattle.hsr_transcript_text.specs.Reading.{line_of, line_or}
-use Rattle.hsr_transcript_text.specs.Readable.{AreLines, FitEach, IsFixed, IsLineOf, IsSection}
-use Rattle.hsr_transcript_text.specs.Spelled.{entry_text, link_text, place_text, row_text, version_text}
+use Rattle.hsr_transcript_text.specs.Readable.{AreLines, FitEach, IsFixed, IsSection}
+use Rattle.hsr_transcript_lines.specs.Readable.{IsLineOf}
+use Rattle.hsr_transcript_lines.specs.Spelled.{entry_text, link_text, place_text, row_text, version_text}
 use Rattle.hsr_transcript_text.specs.Transcript.{Said, carried_lines, record_lines, said_front, said_lines}
 use Rattle.hsr_transcript_text.specs.declared.fault.ReadFault.{ReadFault}
 use Rattle.hsr_transcript_text.specs.declared.fault.ReadFault.TheVariants.{Version, BadLine}

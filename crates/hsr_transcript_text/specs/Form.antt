@@ -1,20 +1,16 @@
 -- A whole text, section by section.
-use Rattle.std.specs.Prelude.{ℕ, List, Option, Some, Result, codes}
+use Rattle.std.specs.Prelude.{ℕ, List, Option, Result, codes}
 use Rattle.hsr_text.specs.declared.time_unit.TimeUnit.{TimeUnit}
 use Rattle.hsr_topology.specs.declared.end.End.{End}
 use Rattle.hsr_node.specs.declared.entry.Entry.{Entry}
 use Rattle.hsr_node.specs.declared.place.Place.{Place}
 use Rattle.hsr_link.specs.declared.row.Row.{Row}
-use Rattle.hsr_transcript_text.specs.Lines.{head}
-use Rattle.hsr_transcript_text.specs.Parsed.{count_of, entry_of, link_of, place_of, row_of, turn_of, version_of}
-use Rattle.hsr_transcript_text.specs.Reading.{◌>>=◌, Reader, counted, each, exactly, gives, line_of, line_or, whole}
+use Rattle.hsr_transcript_lines.specs.Lines.{head}
+use Rattle.hsr_transcript_lines.specs.Parsed.{count_of, entry_of, link_of, only, place_of, row_of, turn_of, version_of}
+use Rattle.hsr_transcript_text.specs.Reading.{◌>>=◌, Reader, counted, each, gives, line_of, line_or, whole}
 use Rattle.hsr_transcript_text.specs.Transcript.{Said}
 use Rattle.hsr_transcript_text.specs.declared.fault.ReadFault.{ReadFault}
 use Rattle.hsr_transcript_text.specs.declared.fault.ReadFault.TheVariants.{Version, BadLine}
-
--- a line that stands in each text
-abbrev pub only : List ℕ → List ℕ → Option (Unit {0})
-only word = exactly (λ _. word) (λ _. Some tt)
 
 -- as many lines of a kind as the line before them says
 unfoldable pub section_at : {Y : Type 0} → List ℕ → (List ℕ → Option Y) → Reader (List Y)

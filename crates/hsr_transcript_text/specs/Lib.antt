@@ -1,9 +1,5 @@
-pub mod Spelled
-pub mod Lines
 pub mod Transcript
 pub mod Reading
-pub mod Exact
-pub mod Parsed
 pub mod Form
 pub mod Items
 pub mod Plain

@@ -1,29 +1,14 @@
 -- What is read again from its lines.
---     IsLineOf     a line that is read as the value whose line it is, and is not too long
 --     IsReadable   what is said is read again, line by line
 --     AreLines     and so are the lines that each text has
-use Rattle.std.specs.Prelude.{◌≡◌, ◌≤◌, ◌==◌, ℕ, false, List, [], ◌∷◌, length, Option, Some, codes}
+use Rattle.std.specs.Prelude.{ℕ, List, [], ◌∷◌, length, Option, codes}
 use Rattle.std.specs.List.{AllByRecursion}
 use Rattle.std.specs.Fmt.{decimal}
-use Rattle.hsr_transcript_text.specs.Lines.{head}
-use Rattle.hsr_transcript_text.specs.Parsed.{count_of, entry_of, link_of, place_of, row_of, turn_of, version_of}
-use Rattle.hsr_transcript_text.specs.Spelled.{entry_text, link_text, place_text, row_text, version_text}
-use Rattle.hsr_transcript_text.specs.Form.{only}
+use Rattle.hsr_transcript_lines.specs.Readable.{IsLineOf}
+use Rattle.hsr_transcript_lines.specs.Lines.{head}
+use Rattle.hsr_transcript_lines.specs.Parsed.{count_of, entry_of, link_of, place_of, row_of, turn_of, version_of, only}
+use Rattle.hsr_transcript_lines.specs.Spelled.{entry_text, link_text, place_text, row_text, version_text}
 use Rattle.hsr_transcript_text.specs.Transcript.{Said}
-
--- no octet is this one
-abbrev pub Lacks : ℕ → List ℕ → Type 0
-Lacks s [] = Unit {0}
-Lacks s (b ∷ bs) = ((b == s) ≡ false) × Lacks s bs
-
--- what a value is spelled as is a line, and is read as that value
-pub record IsSpelled {Y : Type 0} (of : List ℕ → Option Y) (spelled : Y → List ℕ) (y : Y) : Type 0 where
-  pub read : of (spelled y) ≡ Some y
-  pub line : Lacks 10 (spelled y)
-
--- and has at most 8192 octets
-abbrev pub IsLineOf : {Y : Type 0} → (List ℕ → Option Y) → (Y → List ℕ) → Y → Type 0
-IsLineOf of spelled y = IsSpelled of spelled y × (length (spelled y) ≤ 8192)
 
 -- each of some values, and each beside its own
 abbrev pub FitEach : {X Y : Type 0} → (X → Y → Type 0) → List X → List Y → Type 0

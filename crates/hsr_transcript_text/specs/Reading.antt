@@ -1,6 +1,5 @@
 -- Readers of lines, one after another: each goes on where the one before it stopped.
-use Rattle.std.specs.Prelude.{ℕ, zero, suc, ◌+◌, nat_lt, List, [], ◌∷◌, length, Option, Some, None, Result, Ok, Err, if◌then◌else◌, Bool}
-use Rattle.std.specs.Str.{bytes_eq}
+use Rattle.std.specs.Prelude.{ℕ, zero, suc, ◌+◌, nat_lt, List, [], ◌∷◌, length, Option, Some, None, Result, Ok, Err, if◌then◌else◌}
 use Rattle.hsr_text.specs.Words.{cut}
 use Rattle.hsr_transcript_text.specs.declared.fault.ReadFault.{ReadFault}
 use Rattle.hsr_transcript_text.specs.declared.fault.ReadFault.TheVariants.{BadLine, End}
@@ -43,19 +42,6 @@ line_or fault of = λ a. on_with (line_at fault a) (λ l b. taken (of l) b (faul
 
 abbrev pub line_of : {Y : Type 0} → (List ℕ → Option Y) → Reader Y
 line_of of = line_or BadLine of
-
--- the value whose line this is: what the line says, if it is spelled so
-abbrev pub checked : {Y : Type 0} → (Y → List ℕ) → List ℕ → Option Y → Option Y
-checked spelled line None = None
-checked spelled line (Some y) = if bytes_eq (spelled y) line then Some y else None
-
-abbrev pub exactly : {Y : Type 0} → (Y → List ℕ) → (List ℕ → Option Y) → List ℕ → Option Y
-exactly spelled said = λ line. checked spelled line (said line)
-
--- what is said, where it meets a test
-abbrev pub tested : {Y : Type 0} → (Y → Bool) → Option Y → Option Y
-tested test None = None
-tested test (Some y) = if test y then Some y else None
 
 -- k values, one after another
 abbrev pub many : {Y : Type 0} → Reader Y → ℕ → Reader (List Y)

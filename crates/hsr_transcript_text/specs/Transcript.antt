@@ -12,8 +12,8 @@ use Rattle.hsr_node.specs.declared.place.Place.{Place}
 use Rattle.hsr_link.specs.declared.row.Row.{Row}
 use Rattle.hsr_closing.specs.Finished.{Finished}
 use Rattle.hsr_topology.specs.declared.end.End.{End}
-use Rattle.hsr_transcript_text.specs.Lines.{head, lines_each, section, text_of}
-use Rattle.hsr_transcript_text.specs.Spelled.{entry_text, link_text, place_text, row_text, version_text}
+use Rattle.hsr_transcript_lines.specs.Lines.{head, lines_each, section, text_of}
+use Rattle.hsr_transcript_lines.specs.Spelled.{entry_text, link_text, place_text, row_text, version_text}
 
 pub record Said : Type 0 where
   -- in which the text tells moments

@@ -1,23 +1,20 @@
 //! The form of a whole text, read section by section.
 ghost use Rattle.std.specs.Prelude.{◌≡◌, ◌+◌, ◌≤◌, ◌<◌, ◌^◌, ℕ, List, IfOk, length};
 ghost use Rattle.hsr_transcript_text.specs.Form.{carried_on, end_on, form_of, links_on, main_on, nodes_on, records_at, records_on, rows_at, said_at, table_on};
-ghost use Rattle.hsr_transcript_text.specs.Lines.{head, line_count};
+ghost use Rattle.hsr_transcript_lines.specs.Lines.{head, line_count};
 ghost use Rattle.hsr_transcript_text.specs.Items.{entries_of, rows_of};
 ghost use Rattle.hsr_transcript_text.specs.Plain.{plain_view};
 ghost use Rattle.hsr_transcript_text.specs.CodeReads.{Gives, Says};
 
 use crate::fault::ReadFault;
-use crate::places::{LinkLine, NumberLine, PlaceLine};
 use crate::plain::Plain;
-use crate::records::EntryLine;
-use crate::rows::RowLine;
 use crate::sections::{Progress, fixed, nothing_more, section, version};
-use crate::words::put_number;
 use arrayvec::ArrayVec;
 use hsr_link::Row;
 use hsr_node::{Entry, Place};
 use hsr_text::{READ_LIMIT, TimeUnit};
 use hsr_topology::End;
+use hsr_transcript_lines::{EntryLine, LinkLine, NumberLine, PlaceLine, RowLine, put_number};
 use std::alloc::{AllocError, Global};
 use std::io::{BufRead, BufReader, Read};
 
@@ -49,7 +46,7 @@ fn records<R: BufRead>(
 }
 
 /// Reads the record of a node.
-#[tactic(auto, unfolding(crate::specs::Parsed::entry_of))]
+#[tactic(auto, unfolding(hsr_transcript_lines::specs::Parsed::entry_of))]
 fn record<R: BufRead>(
     unit: TimeUnit,
     place: &Place,
@@ -72,11 +69,11 @@ fn record<R: BufRead>(
 }
 
 ghost use Rattle.hsr_transcript_text.specs.Form.{record_at, section_at};
-ghost use Rattle.hsr_transcript_text.specs.Parsed.{entry_of, row_of};
+ghost use Rattle.hsr_transcript_lines.specs.Parsed.{entry_of, row_of};
 ghost use Rattle.std.specs.Prelude.{codes};
 
 /// Reads the rows of a link.
-#[tactic(auto, unfolding(crate::specs::Parsed::row_of))]
+#[tactic(auto, unfolding(hsr_transcript_lines::specs::Parsed::row_of))]
 fn carried<R: BufRead>(
     alloc: Global,
     reader: &mut R,
@@ -187,7 +184,7 @@ fn behind_main<R: BufRead>(
 }
 
 /// Reads what follows the links.
-#[tactic(auto, using(crate::proofs::Parts::bind_told, crate::proofs::Parts::bind_fails), unfolding(crate::specs::Form::main_on, crate::specs::Parsed::turn_of))]
+#[tactic(auto, using(crate::proofs::Parts::bind_told, crate::proofs::Parts::bind_fails), unfolding(crate::specs::Form::main_on, hsr_transcript_lines::specs::Parsed::turn_of))]
 fn behind_links<R: BufRead>(
     unit: TimeUnit,
     nodes: Vec<Place>,
@@ -208,7 +205,7 @@ fn behind_links<R: BufRead>(
 }
 
 /// Reads what follows the nodes.
-#[tactic(auto, using(crate::proofs::Parts::bind_told, crate::proofs::Parts::bind_fails), unfolding(crate::specs::Form::links_on, crate::specs::Parsed::link_of))]
+#[tactic(auto, using(crate::proofs::Parts::bind_told, crate::proofs::Parts::bind_fails), unfolding(crate::specs::Form::links_on, hsr_transcript_lines::specs::Parsed::link_of))]
 fn behind_nodes<R: BufRead>(
     unit: TimeUnit,
     nodes: Vec<Place>,
@@ -229,7 +226,7 @@ fn behind_nodes<R: BufRead>(
 }
 
 /// Reads what follows the first two lines.
-#[tactic(auto, using(crate::proofs::Parts::bind_told, crate::proofs::Parts::bind_fails), unfolding(crate::specs::Form::nodes_on, crate::specs::Parsed::place_of))]
+#[tactic(auto, using(crate::proofs::Parts::bind_told, crate::proofs::Parts::bind_fails), unfolding(crate::specs::Form::nodes_on, hsr_transcript_lines::specs::Parsed::place_of))]
 fn behind_table<R: BufRead>(
     unit: TimeUnit,
     alloc: Global,

@@ -1,7 +1,7 @@
 //! What holds of texts.
 ghost use Rattle.std.specs.Prelude.{◌≡◌, ℕ, List, Ok};
 ghost use Rattle.hsr_transcript_text.specs.Form.{form_of};
-ghost use Rattle.hsr_transcript_text.specs.Lines.{text_of};
+ghost use Rattle.hsr_transcript_lines.specs.Lines.{text_of};
 ghost use Rattle.hsr_transcript_text.specs.Readable.{AreLines};
 ghost use Rattle.hsr_transcript_text.specs.Transcript.{Said, said_lines};
 

@@ -1,20 +1,14 @@
-//! The text of a finished run: how each of its lines is spelled and read, and the whole text in form.
+//! The whole text of a finished run in form, written and read line by line.
 //!
-//! Its modules, in the order to read them: `fault`, `words`, `parsing`, `lines`, `places`, `records`, `rows`, `version`, `writing`, `sections`, `plain`, `form`, `law`.
+//! Its modules, in the order to read them: `fault`, `version`, `writing`, `sections`, `plain`, `form`, `law`.
 #![tactic(auto)]
 
 mod fault;
 mod form;
 mod law;
-mod lines;
-mod parsing;
-mod places;
 mod plain;
-mod records;
-mod rows;
 mod sections;
 mod version;
-mod words;
 mod writing;
 
 pub use fault::{ReadFault, WriteFault};

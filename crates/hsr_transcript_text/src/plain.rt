@@ -1,7 +1,7 @@
 //! What a text says that is in form.
 ghost use Rattle.std.specs.Prelude.{◌≡◌, ◌+◌, ◌≤◌, ◌^◌, length};
 ghost use Rattle.hsr_transcript_text.specs.Items.{entries_of};
-ghost use Rattle.hsr_transcript_text.specs.Lines.{line_count};
+ghost use Rattle.hsr_transcript_lines.specs.Lines.{line_count};
 
 use hsr_link::Row;
 use hsr_node::{Entry, Place};

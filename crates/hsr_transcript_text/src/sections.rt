@@ -1,16 +1,16 @@
 //! Sections of lines, read.
 ghost use Rattle.std.specs.Prelude.{◌≡◌, ◌+◌, ◌≤◌, ◌<◌, ◌^◌, List, Option, ℕ, codes, length, IfOk, OnOk};
 ghost use Rattle.hsr_transcript_text.specs.Form.{only_at, section_at, version_at};
-ghost use Rattle.hsr_transcript_text.specs.Reading.{exactly, line_at, line_of, many as many_at};
+ghost use Rattle.hsr_transcript_lines.specs.Exact.{exactly};
+ghost use Rattle.hsr_transcript_text.specs.Reading.{line_at, line_of, many as many_at};
 ghost use Rattle.hsr_transcript_text.specs.CodeReads.{Ends, Gives};
 ghost use Rattle.hsr_transcript_text.specs.declared.fault.ReadFault.TheVariants.{BadLine, Version};
 
 use crate::fault::ReadFault;
-use crate::lines::{LineKind, read_line};
-use crate::places::{CountLine, FixedLine};
 use crate::version::VersionLine;
 use arrayvec::ArrayVec;
 use hsr_text::{Front, TimeUnit, WordFault, next_line};
+use hsr_transcript_lines::{CountLine, FixedLine, LineKind, read_line};
 use std::alloc::Global;
 use std::io::BufRead;
 
@@ -104,7 +104,7 @@ pub(crate) fn many<R: BufRead, K: LineKind>(
 }
 
 /// Reads a section: a line that says how many, and as many lines of a kind.
-#[tactic(auto, using(crate::proofs::Parts::bind_told, crate::proofs::Parts::bind_fails), unfolding(crate::specs::Form::section_at, crate::specs::Parsed::count_of))]
+#[tactic(auto, using(crate::proofs::Parts::bind_told, crate::proofs::Parts::bind_fails), unfolding(crate::specs::Form::section_at, hsr_transcript_lines::specs::Parsed::count_of))]
 pub(crate) fn section<R: BufRead, K: LineKind>(
     name: &[u8],
     kind: &K,
@@ -152,7 +152,7 @@ fn as_version(fault: ReadFault) -> ReadFault
 ghost use Rattle.hsr_transcript_text.specs.Form.{as_version};
 
 /// Reads the first line, whose version says the unit of moments.
-#[tactic(auto, using(crate::proofs::Parts::version_given, crate::proofs::Parts::version_fails), unfolding(crate::specs::Parsed::version_of))]
+#[tactic(auto, using(crate::proofs::Parts::version_given, crate::proofs::Parts::version_fails), unfolding(hsr_transcript_lines::specs::Parsed::version_of))]
 pub(crate) fn version<R: BufRead>(
     alloc: Global,
     reader: &mut R,

@@ -1,10 +1,10 @@
 //! The first line of a text.
 ghost use Rattle.std.specs.Prelude.{◌≡◌};
-ghost use Rattle.hsr_transcript_text.specs.Parsed.{read_version};
-ghost use Rattle.hsr_transcript_text.specs.Spelled.{version_text};
+ghost use Rattle.hsr_transcript_lines.specs.Parsed.{read_version};
+ghost use Rattle.hsr_transcript_lines.specs.Spelled.{version_text};
 
-use crate::lines::LineKind;
 use hsr_text::{TimeUnit, WordFault};
+use hsr_transcript_lines::LineKind;
 use std::alloc::{AllocError, Global};
 
 /// The first line, whose version says in which unit the text tells moments.
@@ -35,8 +35,8 @@ fn read_version(line: &[u8]) -> Option<TimeUnit>
 }
 
 impl LineKind for VersionLine {
-    ghost use Rattle.hsr_transcript_text.specs.Parsed.{read_version};
-    ghost use Rattle.hsr_transcript_text.specs.Spelled.{version_text};
+    ghost use Rattle.hsr_transcript_lines.specs.Parsed.{read_version};
+    ghost use Rattle.hsr_transcript_lines.specs.Spelled.{version_text};
 
     type Value = TimeUnit;
 

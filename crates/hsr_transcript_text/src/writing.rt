@@ -4,19 +4,19 @@ ghost use Rattle.std.specs.List.{AllByRecursion};
 ghost use Rattle.std.specs.Io.KnownBytes.{Appends, Keeps};
 ghost use Rattle.hsr_law.specs.Run.{record_of, rows_of};
 ghost use Rattle.hsr_text.specs.declared.time_unit.TimeUnit.TheVariants.{Microseconds};
-ghost use Rattle.hsr_transcript_text.specs.Fits.{AreEntriesFit, AreRowsFit, Fits, IsPlaceFit};
-ghost use Rattle.hsr_transcript_text.specs.Lines.{head, lines_each, section, text_of};
-ghost use Rattle.hsr_transcript_text.specs.Spelled.{link_text, place_text};
+ghost use Rattle.hsr_transcript_text.specs.Fits.{AreEntriesFit, AreRowsFit, Fits};
+ghost use Rattle.hsr_transcript_lines.specs.Fits.{IsPlaceFit};
+ghost use Rattle.hsr_transcript_lines.specs.Lines.{head, lines_each, section, text_of};
+ghost use Rattle.hsr_transcript_lines.specs.Spelled.{link_text, place_text};
 ghost use Rattle.hsr_transcript_text.specs.Transcript.{carried_lines, record_lines, run_text};
 ghost use Rattle.hsr_transcript_text.specs.Written.{Written};
 
 use crate::fault::WriteFault;
-use crate::lines::{put_head, put_section};
-use crate::places::{LinkLine, NumberLine, PlaceLine};
-use crate::records::EntryLine;
-use crate::rows::RowLine;
 use hsr_closing::{Closed, Planned};
 use hsr_text::TimeUnit;
+use hsr_transcript_lines::{
+    EntryLine, LinkLine, NumberLine, PlaceLine, RowLine, put_head, put_section,
+};
 use std::alloc::{AllocError, Global};
 use std::io::Write;
 

@@ -5,7 +5,7 @@ use Rattle.std.proofs.lemmas.List.Elements.{All-get_or}
 use Rattle.hsr_node.specs.Place.{HasOwnAddress}
 use Rattle.hsr_node.specs.declared.place.Place.{Place}
 use Rattle.hsr_transcript_text.specs.Items.{entry_items}
-use Rattle.hsr_transcript_text.specs.Lines.{line_count}
+use Rattle.hsr_transcript_lines.specs.Lines.{line_count}
 use Rattle.hsr_transcript.specs.Replay.{AreLegal}
 use Rattle.hsr_transcript.proofs.Moved.{left_next, same_there}
 use Rattle.hsr_transcript.proofs.ReplayAll.{count_next, held, legal_push, lines_fit, replayed_next, unlike_first}

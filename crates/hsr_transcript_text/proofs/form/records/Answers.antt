@@ -3,8 +3,8 @@ use Rattle.std.proofs.lemmas.Grind.{common_steps}
 use Rattle.std.proofs.lemmas.List.{map-append, drop_all}
 use Rattle.hsr_transcript_text.specs.Form.{record_at, records_at}
 use Rattle.hsr_transcript_text.specs.Items.{entries_of, entry_items}
-use Rattle.hsr_transcript_text.specs.Lines.{line_count}
-use Rattle.hsr_transcript_text.proofs.Grown.{drop_next, line_count_push}
+use Rattle.hsr_transcript_lines.specs.Lines.{line_count}
+use Rattle.hsr_transcript_lines.proofs.Grown.{drop_next, line_count_push}
 use Rattle.hsr_transcript_text.proofs.Eaches.{each_pushed, each_fail, each_done}
 use Rattle.hsr_transcript_text.proofs.form.records.Goals as goal
 

@@ -1,6 +1,6 @@
 use Rattle.std.proofs.Common.{◌≡◌, ◌+◌, ◌≤◌, drop, length}
 use Rattle.hsr_transcript_text.specs.Form.{record_at}
-use Rattle.hsr_transcript_text.specs.Lines.{line_count}
+use Rattle.hsr_transcript_lines.specs.Lines.{line_count}
 use Rattle.hsr_transcript_text.specs.Items.{entries_of}
 use Rattle.hsr_transcript_text.proofs.Eaches.{Through}
 use Rattle.hsr_transcript_text.proofs.form.records.Given as goal

@@ -3,7 +3,7 @@ use Rattle.std.proofs.lemmas.Grind.{common_steps}
 use Rattle.std.proofs.lemmas.List.{map-append, drop_all}
 use Rattle.hsr_transcript_text.specs.Form.{carried_at, rows_at}
 use Rattle.hsr_transcript_text.specs.Items.{rows_of, row_items}
-use Rattle.hsr_transcript_text.proofs.Grown.{drop_next}
+use Rattle.hsr_transcript_lines.proofs.Grown.{drop_next}
 use Rattle.hsr_transcript_text.proofs.Eaches.{each_pushed, each_fail, each_done}
 use Rattle.hsr_transcript_text.proofs.form.rows.Goals as goal
 

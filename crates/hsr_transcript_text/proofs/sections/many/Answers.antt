@@ -1,6 +1,7 @@
 use Rattle.std.proofs.Common.{Vec, Global, ◌≡◌, ◌-◌, ◌++◌, ◌∷◌, [], ◌+◌, ◌∙◌, length, length-append, ap, arith}
 use Rattle.std.proofs.lemmas.Grind.{common_steps}
-use Rattle.hsr_transcript_text.specs.Reading.{exactly, line_of}
+use Rattle.hsr_transcript_lines.specs.Exact.{exactly}
+use Rattle.hsr_transcript_text.specs.Reading.{line_of}
 use Rattle.hsr_transcript_text.proofs.Parts.{many_pushed, many_fail}
 use Rattle.hsr_transcript_text.proofs.sections.many.Goals as goal
 

@@ -1,5 +1,6 @@
 use Rattle.std.proofs.Common.{◌≡◌, ◌+◌, ◌≤◌, length}
-use Rattle.hsr_transcript_text.specs.Reading.{exactly, line_of}
+use Rattle.hsr_transcript_lines.specs.Exact.{exactly}
+use Rattle.hsr_transcript_text.specs.Reading.{line_of}
 use Rattle.hsr_transcript_text.proofs.Parts.{Partly}
 use Rattle.hsr_transcript_text.proofs.sections.many.Given as goal
 

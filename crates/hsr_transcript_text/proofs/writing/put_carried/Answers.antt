@@ -1,10 +1,11 @@
 use Rattle.std.proofs.Common.{◌≡◌, ◌<◌, ◌+◌, ◌++◌, ◌∙◌, [], drop, length, get_or, ap, sym, subst}
 use Rattle.hsr_law.specs.Run.{rows_of}
 use Rattle.hsr_transcript_text.specs.Fits.{AreRowsFit}
-use Rattle.hsr_transcript_text.specs.Lines.{text_of}
+use Rattle.hsr_transcript_lines.specs.Lines.{text_of}
 use Rattle.hsr_transcript_text.specs.Transcript.{carried_lines}
 use Rattle.hsr_transcript_text.proofs.Fitting.{below_next}
-use Rattle.hsr_transcript_text.proofs.Grown.{drop_next, lines_grown}
+use Rattle.hsr_transcript_lines.proofs.Grown.{drop_next}
+use Rattle.hsr_transcript_text.proofs.Grown.{lines_grown}
 use Rattle.hsr_transcript_text.proofs.writing.put_carried.Goals as goal
 
 pub loop-i-preserved : goal.loop-i-preserved

@@ -1,7 +1,7 @@
 use Rattle.std.proofs.Common.{ℕ, ◌<◌, ◌≡◌, ◌++◌, drop}
 use Rattle.hsr_law.specs.Run.{rows_of}
 use Rattle.hsr_transcript_text.specs.Fits.{AreRowsFit}
-use Rattle.hsr_transcript_text.specs.Lines.{lines_each, text_of}
+use Rattle.hsr_transcript_lines.specs.Lines.{lines_each, text_of}
 use Rattle.hsr_transcript_text.specs.Transcript.{carried_lines}
 use Rattle.hsr_transcript_text.proofs.writing.put_carried.Given as goal
 

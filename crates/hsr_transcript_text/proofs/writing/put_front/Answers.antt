@@ -1,8 +1,8 @@
 use Rattle.std.proofs.Common.{◌≡◌, ◌++◌, ◌∙◌, ◌∷◌, [], codes, map, ap, sym}
 use Rattle.std.specs.Fmt.{decimal}
 use Rattle.hsr_text.specs.declared.time_unit.TimeUnit.TheVariants.{Microseconds}
-use Rattle.hsr_transcript_text.specs.Lines.{head, section, text_of}
-use Rattle.hsr_transcript_text.specs.Spelled.{link_text, place_text}
+use Rattle.hsr_transcript_lines.specs.Lines.{head, section, text_of}
+use Rattle.hsr_transcript_lines.specs.Spelled.{link_text, place_text}
 use Rattle.hsr_transcript_text.specs.Transcript.{said_front, said_in}
 use Rattle.hsr_transcript_text.proofs.Grown.{front_text}
 use Rattle.hsr_transcript_text.proofs.writing.put_front.Goals as goal

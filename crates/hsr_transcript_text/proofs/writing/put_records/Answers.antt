@@ -1,11 +1,12 @@
 use Rattle.std.proofs.Common.{◌≡◌, ◌<◌, ◌+◌, ◌++◌, ◌∙◌, ◌∷◌, [], drop, length, get_or, ap, sym, subst}
 use Rattle.hsr_law.specs.Run.{record_of}
 use Rattle.hsr_transcript_text.specs.Fits.{AreEntriesFit}
-use Rattle.hsr_transcript_text.specs.Lines.{text_of}
+use Rattle.hsr_transcript_lines.specs.Lines.{text_of}
 use Rattle.hsr_text.specs.declared.time_unit.TimeUnit.TheVariants.{Microseconds}
 use Rattle.hsr_transcript_text.specs.Transcript.{record_lines}
 use Rattle.hsr_transcript_text.proofs.Fitting.{below_next}
-use Rattle.hsr_transcript_text.proofs.Grown.{drop_next, lines_grown}
+use Rattle.hsr_transcript_lines.proofs.Grown.{drop_next}
+use Rattle.hsr_transcript_text.proofs.Grown.{lines_grown}
 use Rattle.hsr_transcript_text.proofs.writing.put_records.Goals as goal
 
 pub loop-i-preserved : goal.loop-i-preserved

@@ -1,7 +1,7 @@
 use Rattle.std.proofs.Common.{ℕ, ◌<◌, ◌≡◌, ◌++◌, drop}
 use Rattle.hsr_law.specs.Run.{record_of}
 use Rattle.hsr_transcript_text.specs.Fits.{AreEntriesFit}
-use Rattle.hsr_transcript_text.specs.Lines.{lines_each, text_of}
+use Rattle.hsr_transcript_lines.specs.Lines.{lines_each, text_of}
 use Rattle.hsr_text.specs.declared.time_unit.TimeUnit.TheVariants.{Microseconds}
 use Rattle.hsr_transcript_text.specs.Transcript.{record_lines}
 use Rattle.hsr_transcript_text.proofs.writing.put_records.Given as goal

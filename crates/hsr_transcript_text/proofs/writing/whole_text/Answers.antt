@@ -1,5 +1,5 @@
 use Rattle.std.proofs.Common.{codes}
-use Rattle.hsr_transcript_text.specs.Lines.{lines_each}
+use Rattle.hsr_transcript_lines.specs.Lines.{lines_each}
 use Rattle.hsr_text.specs.declared.time_unit.TimeUnit.TheVariants.{Microseconds}
 use Rattle.hsr_transcript_text.specs.Transcript.{carried_lines, record_lines, said_front, said_lines, said_in}
 use Rattle.hsr_transcript_text.proofs.Grown.{whole_text}

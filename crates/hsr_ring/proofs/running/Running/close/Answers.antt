@@ -1,5 +1,5 @@
 use Rattle.std.proofs.Common.{map}
-use Rattle.hsr_ring.specs.Views.{span_view}
+use Rattle.hsr_spans.specs.Views.{span_view}
 use Rattle.hsr_ring.proofs.Ending.{closes, stays_open}
 use Rattle.hsr_ring.proofs.running.Running.close.Goals as goal
 
@@ -14,6 +14,12 @@ returns-in-Ok-clause-ended g c =
     let own = c.self.inside in
     let is = c.self.view_is in
     (closes g.row.C c.args.topology own.moment own.nodes.items (map span_view own.spans.items) own.plan.items c.args.self is c.places.ensures.wired c.self.invariant c.requires c.in-Ok.closed c.in-Ok.ensures.closed).ended
+
+pub returns-in-Ok-clause-numbered : goal.returns-in-Ok-clause-numbered
+returns-in-Ok-clause-numbered g c =
+    let own = c.self.inside in
+    let is = c.self.view_is in
+    (closes g.row.C c.args.topology own.moment own.nodes.items (map span_view own.spans.items) own.plan.items c.args.self is c.places.ensures.wired c.self.invariant c.requires c.in-Ok.closed c.in-Ok.ensures.closed).numbered
 
 pub returns-in-Ok-clause-no_storm : goal.returns-in-Ok-clause-no_storm
 returns-in-Ok-clause-no_storm g c =

@@ -2,13 +2,14 @@ use Rattle.std.proofs.Common.{rules, ℕ, ◌<◌, refl, sym, ap, ◌∙◌, inr
 use Rattle.hsr_topology.specs.declared.end.End.{End}
 use Rattle.hsr_node.specs.declared.event.Event.TheVariants as event
 use Rattle.hsr_world.specs.World.{World, entered}
-use Rattle.hsr_ring.specs.Views.{spot_view}
-use Rattle.hsr_ring.specs.declared.port.Port.{Port}
-use Rattle.hsr_ring.proofs.Places.{or_map}
+use Rattle.hsr_spans.specs.Views.{spot_view}
+use Rattle.hsr_spans.specs.declared.port.Port.{Port}
+use Rattle.hsr_spans.proofs.Places.{or_map}
 use Rattle.hsr_ring.proofs.Entered.{cleared_result, judged_none}
 use Rattle.hsr_ring.proofs.Hands.{held_again, holds_nothing, judged_from, same_hand}
-use Rattle.hsr_ring.proofs.Ports.{ends_at, into_there, is_there}
-use Rattle.hsr_ring.proofs.Touched.{entered_ends, hand_ends, touching_at, touching_same}
+use Rattle.hsr_spans.proofs.Ports.{ends_at, into_there, is_there}
+use Rattle.hsr_ring.proofs.Ends.{entered_ends}
+use Rattle.hsr_spans.proofs.Touched.{hand_ends, touching_at, touching_same}
 use Rattle.hsr_ring.proofs.Tried.{judge_is, judge_refused}
 use Rattle.hsr_ring.proofs.running.Running.judge.Goals as goal
 

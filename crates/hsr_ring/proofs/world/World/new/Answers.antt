@@ -2,8 +2,8 @@ use Rattle.std.proofs.Common.{List, length, map, subst, sym, ap, ◌∙◌}
 use Rattle.std.specs.List.{All}
 use Rattle.hsr_node.specs.declared.place.Place.{Place}
 use Rattle.hsr_ring.specs.Pending.{IsKept}
-use Rattle.hsr_ring.specs.Ports.{ports_in}
-use Rattle.hsr_ring.specs.Touching.{touching_in}
+use Rattle.hsr_spans.specs.Ports.{ports_in}
+use Rattle.hsr_spans.specs.Touching.{touching_in}
 use Rattle.hsr_world.specs.Fit.{FitsPlace}
 use Rattle.hsr_world.specs.World.{World}
 use Rattle.hsr_world.proofs.Reached.{reached-new}

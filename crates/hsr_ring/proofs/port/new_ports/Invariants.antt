@@ -1,9 +1,0 @@
-use Rattle.std.proofs.Common.{◌≡◌, map}
-use Rattle.std.specs.List.{range_with_len}
-use Rattle.hsr_ring.specs.Entering.{places_of}
-use Rattle.hsr_ring.specs.Ports.{port_at}
-use Rattle.hsr_ring.specs.Views.{span_view}
-use Rattle.hsr_ring.proofs.port.new_ports.Given as goal
-
-abbrev pub invariant-loop-number : goal.invariant-loop-number
-invariant-loop-number g l = l.all.items ≡ map (port_at (places_of l.nodes) (map span_view l.spans)) (range_with_len 0 l.number)

@@ -1,0 +1,4 @@
+pub mod Places
+pub mod Ports
+pub mod Touched
+pub mod Apart

@@ -1,0 +1,6 @@
+pub mod Views
+pub mod Hands
+pub mod Giving
+pub mod Ports
+pub mod Touching
+pub mod Parting

@@ -1,0 +1,16 @@
+pub mod Grown
+pub mod Macs
+pub mod CutWords
+pub mod Again
+pub mod Spells
+pub mod WordTexts
+pub mod Addressed
+pub mod Worded
+pub mod Ports
+pub mod Events
+pub mod Outcomes
+pub mod Entries
+pub mod Roles
+pub mod Exact
+pub mod UpperDigits
+pub mod Moments
