@@ -1,5 +1,5 @@
-"""Compares the program with model.py, a second implementation: random scenarios by `run`, `run --transcript` and `audit`, and random
-lines by `node`; every octet of what is printed, and the status.
+"""Compares the program with model.py, a second implementation: random scenarios by `run` and `audit`, with and without `--budget`, and by
+`run --transcript`, and random lines by `node`; every octet of what is printed, and the status.
 
     python3 bench/compare.py [COUNT [SEED [PROGRAM]]]
 
@@ -256,9 +256,12 @@ def compare_scenario(seed):
     expect(f"seed {seed}", ["run", *table], given, (status, report, fault))
     if fault:
         return fault.rstrip("\n") if "check" in fault else "fault: step .. " + fault.split()[-1]
+    budget = world.report(with_budget=True)
+    expect(f"seed {seed}", ["run", "--budget", *table], given, (status, budget, ""))
     transcript = world.transcript()
-    expect(f"seed {seed}", ["run", "--transcript", *table], given, (status, transcript, ""))
+    expect(f"seed {seed}", ["run", "--transcript", "--budget", *table], given, (status, transcript, ""))
     expect(f"seed {seed}", ["audit", *table], transcript, (status, report, ""))
+    expect(f"seed {seed}", ["audit", "--budget", *table], transcript, (status, budget, ""))
     if world.is_whole():
         expect(f"seed {seed}", ["audit", *table], world.transcript("ms"), (status, report, ""))
     return " ".join(world.verdict().split()[: 1 if status == 0 else 2])

@@ -4,6 +4,7 @@ It is plain, not fast and not proved: a node keeps all that it ever noted, and l
 are in microseconds.
 """
 from dataclasses import dataclass, field
+from itertools import accumulate
 
 SUPERVISION = bytes.fromhex("01154E000100")
 VLAN, HSR, SUPERVISION_TYPE = 0x8100, 0x892F, 0x88FB
@@ -473,13 +474,30 @@ class World:
                     return f"doubt {what} {node.number} {getattr(node, what)}"
         return f"certified {sum(node.sent + node.lives for node in self.nodes)}"
 
-    def report(self):
+    def budget(self):
+        """The line of the budget, by its definition: each arrival, and each window that begins with a send."""
+        moments = [list(accumulate((at for _, at, _, _ in node.record), max)) for node in self.nodes]
+        sends = []
+        for node in self.nodes:
+            for place, (_, _, event, _) in enumerate(node.record):
+                moment = moments[node.number][place]
+                if event.send:
+                    sent = moments[event.send[0]][event.send[1]]
+                    if not sent <= moment < sent + ENTRY_FORGET:
+                        return f"budget late {node.number} {place}"
+                elif event.text != "age":
+                    sends.append(moment)
+        crowds = {start: sum(start <= moment < start + 2 * ENTRY_FORGET for moment in sends) for start in sends}
+        crowded = [start for start, count in crowds.items() if count > self.capacity]
+        return f"budget crowded {min(crowded)}" if crowded else f"budget {max(crowds.values(), default=0)}"
+
+    def report(self, with_budget=False):
         lines = [f"bench 1 table {self.capacity} nodes {len(self.nodes)} links {len(self.links)}"]
         lines += [f"node {node.number} {node.role} {node.counters()}" for node in self.nodes]
         for number, link in enumerate(self.links):
             taken = sum(row.fate == "taken" for row in link.rows)
             lines.append(f"link {number} put {len(link.rows)} taken {taken} lost {len(link.rows) - taken}")
-        return text(lines + [self.verdict()])
+        return text(lines + [self.budget()] * with_budget + [self.verdict()])
 
     def transcript(self, unit="us"):
         """Its text of version 2, or of version 1, which tells milliseconds."""

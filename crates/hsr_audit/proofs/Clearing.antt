@@ -1,5 +1,5 @@
 -- From what is found in the records of a ring to its first doubt.
-use Rattle.std.proofs.Common.{◌≡◌, ℕ, ◌+◌, ◌<◌, ◌≤◌, true, false, List, ◌∷◌, ◌++◌, length, reverse, take, slice_index_or, Some, refl, sym, ap, ◌∙◌, subst, arith, zero, suc, take_all, ⊎_elim}
+use Rattle.std.proofs.Common.{◌≡◌, ℕ, ◌+◌, ◌<◌, ◌≤◌, true, false, List, ◌∷◌, length, reverse, take, slice_index_or, Some, sym, ap, ◌∙◌, subst, arith, zero, suc, take_all, ⊎_elim}
 use Rattle.std.proofs.lemmas.Bool.{cases_lt}
 use Rattle.hsr_frame.specs.declared.node.Mode.{Mode}
 use Rattle.hsr_node.specs.Record.{Each, now}
@@ -19,7 +19,7 @@ use Rattle.hsr_topology.specs.Wired.{IsWired}
 use Rattle.std.proofs.lemmas.List.{length-map}
 use Rattle.hsr_audit.specs.Logged.{ClearBelow, IsDoubt, IsFirstPlace, at_node, forgets, forgets_in, log_at, mistakes, mistakes_in, reading}
 use Rattle.hsr_law.specs.Premises.{KnowsOwn, NothingForgotten, NothingMistaken, OneLossyLink, IsRing, Remembers, mac_at}
-use Rattle.hsr_law.specs.Run.{Run, owner_of, past_of, place_of, record_of}
+use Rattle.hsr_law.specs.Run.{Run, owner_of, place_of, record_of}
 use Rattle.hsr_audit.proofs.Doubting.{no_entry}
 use Rattle.hsr_audit.proofs.Judging.{forgets_on, forgotten, knows_own, mistaken, mistakes_on, remembers}
 use Rattle.hsr_audit.proofs.Logging.{past_length, past_more}

@@ -6,3 +6,6 @@ pub mod Premised
 pub mod Clearing
 pub mod Placing
 pub mod Losses
+pub mod Crowding
+pub mod Timing
+pub mod Spending

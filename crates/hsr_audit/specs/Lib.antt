@@ -4,3 +4,6 @@ pub mod Places
 pub mod Round
 pub mod Certificate
 pub mod Listed
+pub mod Budgeted
+pub mod Timed
+pub mod Windows

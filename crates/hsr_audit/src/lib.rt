@@ -1,5 +1,6 @@
-//! The audit of a finished run: a certificate of delivery, or the first reason for doubt. What runs, their topologies and
-//! the laws over them are is offered again, so that who audits needs this crate alone.
+//! The audit of a finished run: a certificate of delivery, or the first reason for doubt; and its budget: whether duplicate
+//! tables are large enough for what was sent. What runs, their topologies and the laws over them are is offered again, so
+//! that who audits needs this crate alone.
 //!
 //! Its modules, in the order in which to read them:
 //! - `round`: whether nodes and links are a ring, and whether it lost copies on one link at most
@@ -11,19 +12,31 @@
 //! - `doubt`: why a run isn't certified
 //! - `certificate`: what a certificate lists
 //! - `auditing`: the audit, its call
+//! - `moments`: the effective moments of a run's entries and sends
+//! - `late`: the first arrival that comes late
+//! - `windows`: how many sends come together at most
+//! - `breach`: what a budget is, and why a run isn't within it
+//! - `budgeting`: whether a run is within budget, its call
 #![tactic(auto)]
 
 mod auditing;
+mod breach;
+mod budgeting;
 mod certificate;
 mod doubt;
 mod doubted;
 mod found;
+mod late;
 mod log;
 mod marks;
+mod moments;
 mod reading;
 mod round;
+mod windows;
 
 pub use auditing::audit;
+pub use breach::{Budget, BudgetFault};
+pub use budgeting::budget;
 pub use certificate::{Certificate, Certified};
 pub use doubt::{AuditFault, Doubt};
 pub use hsr_closing::{CheckFault, Closed, Disagree, Parts, Planned, Records, passes_of};

@@ -23,9 +23,9 @@ use Rattle.hsr_bench.specs.declared.chosen.Options.TheVariants.{Node, Run, Threa
 pub chosen_same : (name : Text) (f g : Text → Option Text) (o : Options) → ((id : Text) → f id ≡ g id) → Chosen name f o → Chosen name g o
 chosen_same name f g (Node node) e h =
     (h.0, ((h.1.0.0, sym (e (codes "mac")) ∙ h.1.0.1, h.1.0.2), sym (e (codes "mode")) ∙ h.1.1, sym (e (codes "table")) ∙ h.1.2, sym (e (codes "unit")) ∙ h.1.3))
-chosen_same name f g (Run table transcript) e h = (h.0, sym (e (codes "table")) ∙ h.1, sym (e (codes "transcript")) ∙ h.2)
-chosen_same name f g (Threads table transcript) e h = (h.0, sym (e (codes "table")) ∙ h.1, sym (e (codes "transcript")) ∙ h.2)
-chosen_same name f g (Audit table) e h = (h.0, sym (e (codes "table")) ∙ h.1)
+chosen_same name f g (Run table showing) e h = (h.0, sym (e (codes "table")) ∙ h.1, (sym (e (codes "transcript")) ∙ h.2.0, sym (e (codes "budget")) ∙ h.2.1))
+chosen_same name f g (Threads table showing) e h = (h.0, sym (e (codes "table")) ∙ h.1, (sym (e (codes "transcript")) ∙ h.2.0, sym (e (codes "budget")) ∙ h.2.1))
+chosen_same name f g (Audit table budget) e h = (h.0, sym (e (codes "table")) ∙ h.1, sym (e (codes "budget")) ∙ h.2)
 
 -- a name and rows that a subcommand has
 pub joined : (found : Option (Text × List Row)) (name : Text) (rows : List Row) → Some name ≡ option_map (λ p. p.0) found → Some rows ≡ option_map (λ p. p.1) found

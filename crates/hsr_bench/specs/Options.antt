@@ -12,6 +12,7 @@ use Rattle.hsr_text.specs.declared.time_unit.TimeUnit.TheVariants.{Milliseconds,
 use Rattle.hsr_engines.specs.Tables.{table_word}
 use Rattle.hsr_engines.specs.declared.chosen.Table.TheVariants.{Small, Large}
 use Rattle.hsr_engines.specs.declared.chosen.NodeOptions.{NodeOptions}
+use Rattle.hsr_engines.specs.declared.chosen.Showing.{Showing}
 use Rattle.hsr_bench.specs.declared.chosen.OptionFault.{OptionFault}
 use Rattle.hsr_bench.specs.declared.chosen.OptionFault.TheVariants.{Usage, Memory}
 use Rattle.hsr_bench.specs.declared.chosen.Options.{Options}
@@ -53,18 +54,22 @@ unit_rule units = record (new_rule (codes "unit")) { long = Some (codes "unit");
 abbrev pub transcript_rule : Rule
 transcript_rule = record (new_rule (codes "transcript")) { long = Some (codes "transcript"); action = Some SetTrue }
 
+-- `--budget`, which takes no value
+abbrev pub budget_rule : Rule
+budget_rule = record (new_rule (codes "budget")) { long = Some (codes "budget"); action = Some SetTrue }
+
 abbrev pub node_app : Listed → Listed → Listed → App
 node_app modes tables units =
     with_rule (with_rule (with_rule (with_rule (new_app (codes "node")) mac_rule) (mode_rule modes)) (table_rule tables)) (unit_rule units)
 
 abbrev pub run_app : Listed → App
-run_app tables = with_rule (with_rule (new_app (codes "run")) (table_rule tables)) transcript_rule
+run_app tables = with_rule (with_rule (with_rule (new_app (codes "run")) (table_rule tables)) transcript_rule) budget_rule
 
 abbrev pub threads_app : Listed → App
-threads_app tables = with_rule (with_rule (new_app (codes "threads")) (table_rule tables)) transcript_rule
+threads_app tables = with_rule (with_rule (with_rule (new_app (codes "threads")) (table_rule tables)) transcript_rule) budget_rule
 
 abbrev pub audit_app : Listed → App
-audit_app tables = with_rule (new_app (codes "audit")) (table_rule tables)
+audit_app tables = with_rule (with_rule (new_app (codes "audit")) (table_rule tables)) budget_rule
 
 abbrev pub top_app : App
 top_app = record { top = record (new_app (codes "hsr_bench")).top { no_binary_name = true; subcommand_required = true }; subs = [] }
@@ -86,14 +91,17 @@ IsNode found node = ((t : Text) × (found (codes "mac") ≡ Some t) × (address_
     × (found (codes "mode") ≡ Some (mode_word node.mode)) × (found (codes "table") ≡ Some (table_word node.table))
     × (found (codes "unit") ≡ Some (unit_word node.unit))
 
+-- what is to be shown is told by two flags
+abbrev pub IsShowing : (Text → Option Text) → Showing → Type 0
+IsShowing found showing = (found (codes "transcript") ≡ Some (flag_text showing.transcript)) × (found (codes "budget") ≡ Some (flag_text showing.budget))
+
 -- the options are the values of a subcommand, by its name and what it found
 abbrev pub Chosen : Text → (Text → Option Text) → Options → Type 0
 Chosen name found (Node node) = (name ≡ codes "node") × IsNode found node
-Chosen name found (Run table transcript) =
-    (name ≡ codes "run") × (found (codes "table") ≡ Some (table_word table)) × (found (codes "transcript") ≡ Some (flag_text transcript))
-Chosen name found (Threads table transcript) =
-    (name ≡ codes "threads") × (found (codes "table") ≡ Some (table_word table)) × (found (codes "transcript") ≡ Some (flag_text transcript))
-Chosen name found (Audit table) = (name ≡ codes "audit") × (found (codes "table") ≡ Some (table_word table))
+Chosen name found (Run table showing) = (name ≡ codes "run") × (found (codes "table") ≡ Some (table_word table)) × IsShowing found showing
+Chosen name found (Threads table showing) = (name ≡ codes "threads") × (found (codes "table") ≡ Some (table_word table)) × IsShowing found showing
+Chosen name found (Audit table budget) =
+    (name ≡ codes "audit") × (found (codes "table") ≡ Some (table_word table)) × (found (codes "budget") ≡ Some (flag_text budget))
 
 abbrev pub ChosenIn : Option (Text × List Row) → Options → Type 0
 ChosenIn None o = ⊥

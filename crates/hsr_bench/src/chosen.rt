@@ -1,5 +1,5 @@
 //! What a command line chooses.
-use hsr_engines::{NodeOptions, Table};
+use hsr_engines::{NodeOptions, Showing, Table};
 
 /// What to do.
 #[derive(Clone, Copy, Debug, PartialEq, Eq)]
@@ -7,11 +7,11 @@ pub enum Options {
     /// Answer lines as one node.
     Node(NodeOptions),
     /// Run a scenario, and write its transcript or its report.
-    Run { table: Table, transcript: bool },
+    Run { table: Table, showing: Showing },
     /// Run a scenario in threads, and write its transcript or its report.
-    Threads { table: Table, transcript: bool },
-    /// Audit a transcript, and write its report.
-    Audit { table: Table },
+    Threads { table: Table, showing: Showing },
+    /// Audit a transcript, and write its report, with a line of its budget where that is asked for.
+    Audit { table: Table, budget: bool },
 }
 
 /// Why words are refused.

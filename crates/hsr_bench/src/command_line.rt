@@ -8,12 +8,12 @@ ghost use Rattle.clap.specs.Words.{Text, app_of, first_value, found_of, kind_of,
 ghost use Rattle.clap.specs.declared.builder.Command.TheViews.{out-Command as fields_of};
 ghost use Rattle.clap.specs.declared.error.kind.ErrorKind.TheVariants.{OutOfMemory};
 ghost use Rattle.hsr_bench.specs.declared.chosen.OptionFault.TheVariants.{Memory};
-ghost use Rattle.hsr_bench.specs.Options.{Chosen, ChosenIn, IfUsage, IsNode, IsRefused, IsTaken, Says, SaysNothing, audit_app, bench_app, flag_text, mac_rule, mode_rule, node_app, run_app, table_rule, threads_app, top_app, transcript_rule, unit_rule};
+ghost use Rattle.hsr_bench.specs.Options.{Chosen, ChosenIn, IfUsage, IsNode, IsRefused, IsShowing, IsTaken, Says, SaysNothing, audit_app, bench_app, budget_rule, flag_text, mac_rule, mode_rule, node_app, run_app, table_rule, threads_app, top_app, transcript_rule, unit_rule};
 
 use crate::chosen::{OptionFault, Options};
 use clap::error::ErrorKind;
 use clap::{Arg, ArgAction, ArgMatches, Command, Error};
-use hsr_engines::{NodeOptions, Table};
+use hsr_engines::{NodeOptions, Showing, Table};
 use hsr_frame::{Mac, Mode};
 use hsr_text::TimeUnit;
 use std::alloc::{AllocError, Global};
@@ -62,7 +62,14 @@ With --transcript the statuses are the same, and in place of the report comes th
 and links, the order of the steps at nodes, each node's record with its arrivals and what became of
 them, and each link's copies, with all moments in microseconds. `audit` reads it.
 
+With --budget a line before the report's last says whether tables of this size remember all that they must,
+in whatever order the copies move: `budget <n>` (yes: each copy comes in less than 400 ms, and at most n
+frames are sent in any 800 ms), `budget late <node> <place>` (this entry of a node is a copy that comes
+later), `budget crowded <moment>` (in the 800 ms from this moment on, in microseconds, more frames are sent
+than a table has entries). It changes no status.
+
 Examples: hsr_bench run < plan.toml
+          hsr_bench run --table small --budget < plan.toml
           hsr_bench run --transcript < plan.toml | hsr_bench audit";
 
 const THREADS_ENDS: &str = "\
@@ -71,7 +78,7 @@ takes a copy, judges it and puts what leaves, and after a step clock each node i
 main thread does the steps, and at a drain and at the end it waits until nothing is on its way. So two
 runs may differ in what came first; the report and the status are of the run that was.
 
-The statuses and --transcript are as with `run`. `fault: step <i> fine` says that step i is a put, take
+The statuses, --transcript and --budget are as with `run`. `fault: step <i> fine` says that step i is a put, take
 or judge; then no thread is started. `fault: thread` says that a thread couldn't be started.
 
 Examples: hsr_bench threads < plan.toml
@@ -80,7 +87,7 @@ Examples: hsr_bench threads < plan.toml
 const AUDIT_ENDS: &str = "\
 The transcript is one that `run --transcript` wrote with a table of the same size; it may be of version 1,
 which tells moments in milliseconds. Each entry is done anew and compared, links and records are checked
-against each other, and the report is that of `run`.
+against each other, and the report is that of `run`, with --budget too.
 
 Status 0: every frame came exactly once to each node that it was for. Status 2: the run gives reason to
 doubt that, named in the last line. Status 1: there is no report, and one line on standard error says
@@ -148,6 +155,16 @@ fn transcript_arg<'a>(alloc: Global) -> Arg<'a>
         .action(ArgAction::SetTrue)
 }
 
+fn budget_arg<'a>(alloc: Global) -> Arg<'a>
+    ensures rule { rule_of result ≡ budget_rule }
+    ensures own { result.global ≡ false }
+{
+    Arg::new(alloc, "budget")
+        .long("budget")
+        .help("Says in a line of the report whether the tables hold all that is sent")
+        .action(ArgAction::SetTrue)
+}
+
 /// The command `node` with the options for the node's address and mode.
 fn node_placed<'a>(alloc: Global, modes: &'a [&'a str]) -> Result<Command<'a>, AllocError>
     ensures app { IfOk result (λ c. app_of c ≡ with_rule (with_rule (new_app (codes "node")) mac_rule) (mode_rule modes.entry)) }
@@ -184,7 +201,8 @@ fn run_command<'a>(alloc: Global, tables: &'a [&'a str]) -> Result<Command<'a>, 
         )
         .after_help(RUN_ENDS)
         .arg(table_arg(alloc, tables))?
-        .arg(transcript_arg(alloc))
+        .arg(transcript_arg(alloc))?
+        .arg(budget_arg(alloc))
 }
 
 fn threads_command<'a>(alloc: Global, tables: &'a [&'a str]) -> Result<Command<'a>, AllocError>
@@ -197,7 +215,8 @@ fn threads_command<'a>(alloc: Global, tables: &'a [&'a str]) -> Result<Command<'
         )
         .after_help(THREADS_ENDS)
         .arg(table_arg(alloc, tables))?
-        .arg(transcript_arg(alloc))
+        .arg(transcript_arg(alloc))?
+        .arg(budget_arg(alloc))
 }
 
 fn audit_command<'a>(alloc: Global, tables: &'a [&'a str]) -> Result<Command<'a>, AllocError>
@@ -207,7 +226,8 @@ fn audit_command<'a>(alloc: Global, tables: &'a [&'a str]) -> Result<Command<'a>
     Command::new(alloc, "audit")
         .about("Audits the transcript on standard input, and reports whether it certifies delivery")
         .after_help(AUDIT_ENDS)
-        .arg(table_arg(alloc, tables))
+        .arg(table_arg(alloc, tables))?
+        .arg(budget_arg(alloc))
 }
 
 fn top_command<'a>(alloc: Global) -> Command<'a>
@@ -284,15 +304,26 @@ fn unit_of(matches: &ArgMatches<'_>) -> Option<TimeUnit>
     TimeUnit::from_word(matches.get_str("unit")?.as_bytes())
 }
 
-fn transcript_of(matches: &ArgMatches<'_>) -> Option<bool>
-    ensures found { IfSome result (λ b. first_value (found_of matches.now) (codes "transcript") ≡ Some (flag_text b)) }
-    ensures none { IfNone result ((b : _) → first_value (found_of matches.now) (codes "transcript") ≢ Some (flag_text b)) }
+/// Whether a flag is among the words.
+fn flag_of(matches: &ArgMatches<'_>, name: &str) -> Option<bool>
+    ensures found { IfSome result (λ b. first_value (found_of matches.now) name.now ≡ Some (flag_text b)) }
+    ensures none { IfNone result ((b : _) → first_value (found_of matches.now) name.now ≢ Some (flag_text b)) }
 {
-    match matches.get_str("transcript") {
+    match matches.get_str(name) {
         Some("true") => Some(true),
         Some("false") => Some(false),
         _ => None,
     }
+}
+
+/// What is to be written of a run.
+fn showing_of(matches: &ArgMatches<'_>) -> Option<Showing>
+    ensures found { IfSome result (IsShowing (first_value (found_of matches.now))) }
+    ensures none { IfNone result ((showing : Showing) → ¬ IsShowing (first_value (found_of matches.now)) showing) }
+{
+    let transcript = flag_of(matches, "transcript")?;
+    let budget = flag_of(matches, "budget")?;
+    Some(Showing { transcript, budget })
 }
 
 /// The address of `--mac`, if it is one and no group's.
@@ -333,17 +364,18 @@ fn options_of(name: &str, matches: &ArgMatches<'_>) -> Option<Options>
         "node" => Some(Options::Node(node_options(matches)?)),
         "run" => {
             let table = table_of(matches)?;
-            let transcript = transcript_of(matches)?;
-            Some(Options::Run { table, transcript })
+            let showing = showing_of(matches)?;
+            Some(Options::Run { table, showing })
         }
         "threads" => {
             let table = table_of(matches)?;
-            let transcript = transcript_of(matches)?;
-            Some(Options::Threads { table, transcript })
+            let showing = showing_of(matches)?;
+            Some(Options::Threads { table, showing })
         }
         "audit" => {
             let table = table_of(matches)?;
-            Some(Options::Audit { table })
+            let budget = flag_of(matches, "budget")?;
+            Some(Options::Audit { table, budget })
         }
         _ => None,
     }

@@ -18,7 +18,7 @@ use crate::chosen::{OptionFault, Options};
 use crate::command_line::options;
 use crate::performing::perform;
 pub use hsr_engines::{
-    Fault, NodeOptions, Status, Table, audit_run, node_run, scenario_run, threads_run,
+    Fault, NodeOptions, Showing, Status, Table, audit_run, node_run, scenario_run, threads_run,
 };
 use std::alloc::{AllocError, Global};
 use std::io::{BufWriter, ErrorKind, Write};

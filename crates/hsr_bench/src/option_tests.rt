@@ -1,7 +1,7 @@
 //! What words choose, and which are refused.
 use crate::chosen::{OptionFault, Options};
 use crate::command_line::options;
-use hsr_engines::{NodeOptions, Table};
+use hsr_engines::{NodeOptions, Showing, Table};
 use hsr_frame::{Mac, Mode};
 use hsr_text::TimeUnit;
 use std::test::Fail;
@@ -26,27 +26,28 @@ fn words_choose(rt: HostRuntime) -> Result<(), Fail> {
     assert!(rt; options(rt.alloc(), &["node", "--mode=N", "--"]).is_ok());
     let run = Options::Run {
         table: Table::Small,
-        transcript: false,
+        showing: Showing::REPORT,
     };
     assert!(rt; options(rt.alloc(), &["run", "--table", "small"]).ok() == Some(run));
     let told = Options::Run {
         table: Table::Large,
-        transcript: true,
+        showing: Showing::TRANSCRIPT,
     };
     assert!(rt; options(rt.alloc(), &["run", "--transcript"]).ok() == Some(told));
     let threads = Options::Threads {
         table: Table::Large,
-        transcript: false,
+        showing: Showing::REPORT,
     };
     assert!(rt; options(rt.alloc(), &["threads"]).ok() == Some(threads));
     let small = Options::Threads {
         table: Table::Small,
-        transcript: true,
+        showing: Showing::TRANSCRIPT,
     };
     let words = ["threads", "--transcript", "--table=small"];
     assert!(rt; options(rt.alloc(), words.as_slice()).ok() == Some(small));
     let audit = Options::Audit {
         table: Table::Large,
+        budget: false,
     };
     assert!(rt; options(rt.alloc(), &["audit"]).ok() == Some(audit));
     assert!(rt; options(rt.alloc(), &[]).ok() == Some(Options::Node(defaults())));
@@ -84,6 +85,26 @@ fn words_of_units(rt: HostRuntime) {
 }
 
 #[test]
+fn words_of_budgets(rt: HostRuntime) {
+    let run = Options::Run {
+        table: Table::Small,
+        showing: Showing::BUDGET,
+    };
+    let words = ["run", "--table", "small", "--budget"];
+    assert!(rt; options(rt.alloc(), words.as_slice()).ok() == Some(run));
+    let threads = Options::Threads {
+        table: Table::Large,
+        showing: Showing::BUDGET,
+    };
+    assert!(rt; options(rt.alloc(), &["threads", "--budget"]).ok() == Some(threads));
+    let audit = Options::Audit {
+        table: Table::Large,
+        budget: true,
+    };
+    assert!(rt; options(rt.alloc(), &["audit", "--budget"]).ok() == Some(audit));
+}
+
+#[test]
 fn words_that_clap_refuses(rt: HostRuntime) -> Result<(), Fail> {
     let refused = [
         ["node", "--mode", "X"].as_slice(),
@@ -99,6 +120,8 @@ fn words_that_clap_refuses(rt: HostRuntime) -> Result<(), Fail> {
         &["run", "--transcript=x"],
         &["run", "--transcript", "--transcript"],
         &["audit", "--transcript"],
+        &["node", "--budget"],
+        &["run", "--budget=1"],
         &["audit", "--table", "small", "--table", "small"],
         &["threads", "--table"],
         &["threads", "--transcript=true"],

@@ -24,12 +24,10 @@ pub fn perform<H: Threads + Wait + Sync, R: Read, W: Write>(
 {
     match chosen {
         Options::Node(node) => node_run(alloc, reader, writer, node),
-        Options::Run { table, transcript } => {
-            scenario_run(alloc, reader, writer, *table, *transcript)
+        Options::Run { table, showing } => scenario_run(alloc, reader, writer, *table, *showing),
+        Options::Threads { table, showing } => {
+            threads_run(rt, alloc, reader, writer, *table, *showing)
         }
-        Options::Threads { table, transcript } => {
-            threads_run(rt, alloc, reader, writer, *table, *transcript)
-        }
-        Options::Audit { table } => audit_run(alloc, reader, writer, *table),
+        Options::Audit { table, budget } => audit_run(alloc, reader, writer, *table, *budget),
     }
 }

@@ -7,12 +7,12 @@ use Rattle.hsr_transcript_text.specs.declared.fault.ReadFault.{ReadFault}
 use Rattle.hsr_transcript_text.specs.declared.fault.ReadFault.TheVariants as read
 use Rattle.hsr_engines.specs.AuditRun.{AuditEnds, IsAudited, IsUnread, transcript_fault}
 use Rattle.hsr_engines.specs.Text.{IsWhole}
-use Rattle.hsr_engines.specs.Report.{report}
-use Rattle.hsr_engines.specs.Shown.{IsDelivered, IsFound}
+use Rattle.hsr_engines.specs.Shown.{IsDelivered, IsFound, IsReportOf}
 use Rattle.hsr_engines.specs.Ending.{Ends}
 use Rattle.hsr_engines.specs.Reading.{Said, scenario_of}
 use Rattle.hsr_engines.specs.ThreadsRun.{IsRunShown, IsUnrun, ThreadsEnds}
 use Rattle.hsr_engines.specs.ScenarioRun.{IsReported, IsUnreported, ScenarioEnds}
+use Rattle.hsr_engines.specs.declared.chosen.Showing.{Showing}
 use Rattle.hsr_engines.specs.declared.fault.Fault.{Fault}
 use Rattle.hsr_engines.specs.declared.fault.Fault.TheVariants.{Line, Scenario, Step, Fine, Transcript, Check, Read, Write, Memory, Thread, Gate}
 use Rattle.hsr_engines.specs.declared.fault.Status.{Status}
@@ -52,19 +52,19 @@ stopped IsShown IsStopped held holds (Check f) never u k = (u, k)
 stopped IsShown IsStopped held holds Thread never u k = (u, k)
 stopped IsShown IsStopped held holds Gate never u k = (u, k)
 
-pub told_report : (capacity : ℕ) (transcript : Bool) (said : Said) (held holds : Option (List ℕ)) (found : Finding) (text : List ℕ) (status : Status)
-    → IsReported capacity transcript said found text → IsDelivered held holds found text status → ScenarioEnds capacity transcript said held holds status
-told_report capacity transcript said held holds found text status r d = told (IsReported capacity transcript said) (IsUnreported capacity said) held holds found text status r d
+pub told_report : (capacity : ℕ) (showing : Showing) (said : Said) (held holds : Option (List ℕ)) (found : Finding) (text : List ℕ) (status : Status)
+    → IsReported capacity showing said found text → IsDelivered held holds found text status → ScenarioEnds capacity showing said held holds status
+told_report capacity showing said held holds found text status r d = told (IsReported capacity showing said) (IsUnreported capacity said) held holds found text status r d
 
-pub told_fault : (capacity : ℕ) (transcript : Bool) (said : Said) (held holds : Option (List ℕ)) (fault : Fault) → IsUnreported capacity said fault → Keeps held holds
-    → ScenarioEnds capacity transcript said held holds (Stopped fault)
-told_fault capacity transcript said held holds fault u k = stopped (IsReported capacity transcript said) (IsUnreported capacity said) held holds fault (λ h. h) u k
+pub told_fault : (capacity : ℕ) (showing : Showing) (said : Said) (held holds : Option (List ℕ)) (fault : Fault) → IsUnreported capacity said fault → Keeps held holds
+    → ScenarioEnds capacity showing said held holds (Stopped fault)
+told_fault capacity showing said held holds fault u k = stopped (IsReported capacity showing said) (IsUnreported capacity said) held holds fault (λ h. h) u k
 
 -- what is told of what was read is told of the text
-pub told_text : (capacity : ℕ) (transcript : Bool) (all : Option (List ℕ)) (read : List ℕ) (held holds : Option (List ℕ)) (status : Status) → IfSome all (λ text. IsWhole (2 ^ 24) text read)
-    → ScenarioEnds capacity transcript (scenario_of read) held holds status → IfSome all (λ text. ScenarioEnds capacity transcript (scenario_of text) held holds status)
-told_text capacity transcript None read held holds status whole told = tt
-told_text capacity transcript (Some text) read held holds status whole told = subst (λ (said : Said). ScenarioEnds capacity transcript said held holds status) (as_read text read whole) told
+pub told_text : (capacity : ℕ) (showing : Showing) (all : Option (List ℕ)) (read : List ℕ) (held holds : Option (List ℕ)) (status : Status) → IfSome all (λ text. IsWhole (2 ^ 24) text read)
+    → ScenarioEnds capacity showing (scenario_of read) held holds status → IfSome all (λ text. ScenarioEnds capacity showing (scenario_of text) held holds status)
+told_text capacity showing None read held holds status whole told = tt
+told_text capacity showing (Some text) read held holds status whole told = subst (λ (said : Said). ScenarioEnds capacity showing said held holds status) (as_read text read whole) told
 
 -- what is told of octets is no fault of a reader
 pub unreported_told : (capacity : ℕ) (said : Said) (fault : Fault) → IsUnreported capacity said fault → Stopped fault ≢ Stopped Read
@@ -75,19 +75,19 @@ delivered_told held holds found text status d is = subst (λ s. IsDelivered held
 
 -- ---- threads
 
-pub told_run : (capacity : ℕ) (transcript : Bool) (said : Said) (held holds : Option (List ℕ)) (found : Finding) (text : List ℕ) (status : Status)
-    → IsRunShown capacity transcript said found text → IsDelivered held holds found text status → ThreadsEnds capacity transcript said held holds status
-told_run capacity transcript said held holds found text status r d = told (IsRunShown capacity transcript said) (IsUnrun capacity said) held holds found text status r d
+pub told_run : (capacity : ℕ) (showing : Showing) (said : Said) (held holds : Option (List ℕ)) (found : Finding) (text : List ℕ) (status : Status)
+    → IsRunShown capacity showing said found text → IsDelivered held holds found text status → ThreadsEnds capacity showing said held holds status
+told_run capacity showing said held holds found text status r d = told (IsRunShown capacity showing said) (IsUnrun capacity said) held holds found text status r d
 
-pub told_unrun : (capacity : ℕ) (transcript : Bool) (said : Said) (held holds : Option (List ℕ)) (fault : Fault) → IsUnrun capacity said fault → Keeps held holds
-    → ThreadsEnds capacity transcript said held holds (Stopped fault)
-told_unrun capacity transcript said held holds fault u k = stopped (IsRunShown capacity transcript said) (IsUnrun capacity said) held holds fault (λ h. h) u k
+pub told_unrun : (capacity : ℕ) (showing : Showing) (said : Said) (held holds : Option (List ℕ)) (fault : Fault) → IsUnrun capacity said fault → Keeps held holds
+    → ThreadsEnds capacity showing said held holds (Stopped fault)
+told_unrun capacity showing said held holds fault u k = stopped (IsRunShown capacity showing said) (IsUnrun capacity said) held holds fault (λ h. h) u k
 
 -- what is told of what was read is told of the text
-pub run_text_told : (capacity : ℕ) (transcript : Bool) (all : Option (List ℕ)) (read : List ℕ) (held holds : Option (List ℕ)) (status : Status) → IfSome all (λ text. IsWhole (2 ^ 24) text read)
-    → ThreadsEnds capacity transcript (scenario_of read) held holds status → IfSome all (λ text. ThreadsEnds capacity transcript (scenario_of text) held holds status)
-run_text_told capacity transcript None read held holds status whole told = tt
-run_text_told capacity transcript (Some text) read held holds status whole told = subst (λ (said : Said). ThreadsEnds capacity transcript said held holds status) (as_read text read whole) told
+pub run_text_told : (capacity : ℕ) (showing : Showing) (all : Option (List ℕ)) (read : List ℕ) (held holds : Option (List ℕ)) (status : Status) → IfSome all (λ text. IsWhole (2 ^ 24) text read)
+    → ThreadsEnds capacity showing (scenario_of read) held holds status → IfSome all (λ text. ThreadsEnds capacity showing (scenario_of text) held holds status)
+run_text_told capacity showing None read held holds status whole told = tt
+run_text_told capacity showing (Some text) read held holds status whole told = subst (λ (said : Said). ThreadsEnds capacity showing said held holds status) (as_read text read whole) told
 
 -- what is told of octets is no fault of a reader
 pub unrun_told : (capacity : ℕ) (said : Said) (fault : Fault) → IsUnrun capacity said fault → Stopped fault ≢ Stopped Read
@@ -95,28 +95,28 @@ unrun_told capacity said fault u is = let same : fault ≡ Read = cc in subst (�
 
 -- ---- a transcript
 
-audited_report : (capacity : ℕ) (text : List ℕ) (held holds : Option (List ℕ)) (found : Finding) (written : List ℕ) (status : Status) → IsAudited capacity text found written
-    → IsDelivered held holds found written status → AuditEnds capacity text held holds status
-audited_report capacity text held holds found written status r d = told (IsAudited capacity text) (IsUnread capacity text) held holds found written status r d
+audited_report : (capacity : ℕ) (budget : Bool) (text : List ℕ) (held holds : Option (List ℕ)) (found : Finding) (written : List ℕ) (status : Status) → IsAudited capacity budget text found written
+    → IsDelivered held holds found written status → AuditEnds capacity budget text held holds status
+audited_report capacity budget text held holds found written status r d = told (IsAudited capacity budget text) (IsUnread capacity text) held holds found written status r d
 
-audited_fault : (capacity : ℕ) (text : List ℕ) (held holds : Option (List ℕ)) (fault : Fault) → IsUnread capacity text fault → Keeps held holds
-    → AuditEnds capacity text held holds (Stopped fault)
-audited_fault capacity text held holds fault u k = stopped (IsAudited capacity text) (IsUnread capacity text) held holds fault (λ h. h) u k
+audited_fault : (capacity : ℕ) (budget : Bool) (text : List ℕ) (held holds : Option (List ℕ)) (fault : Fault) → IsUnread capacity text fault → Keeps held holds
+    → AuditEnds capacity budget text held holds (Stopped fault)
+audited_fault capacity budget text held holds fault u k = stopped (IsAudited capacity budget text) (IsUnread capacity text) held holds fault (λ h. h) u k
 
-pub audited_known : (capacity : ℕ) (all held holds : Option (List ℕ)) (found : Finding) (written : List ℕ) (status : Status) → IfSome all (λ text. IsAudited capacity text found written)
-    → IsDelivered held holds found written status → IfSome all (λ text. AuditEnds capacity text held holds status)
-audited_known capacity None held holds found written status r d = tt
-audited_known capacity (Some text) held holds found written status r d = audited_report capacity text held holds found written status r d
+pub audited_known : (capacity : ℕ) (budget : Bool) (all held holds : Option (List ℕ)) (found : Finding) (written : List ℕ) (status : Status) → IfSome all (λ text. IsAudited capacity budget text found written)
+    → IsDelivered held holds found written status → IfSome all (λ text. AuditEnds capacity budget text held holds status)
+audited_known capacity budget None held holds found written status r d = tt
+audited_known capacity budget (Some text) held holds found written status r d = audited_report capacity budget text held holds found written status r d
 
-pub unread_known : (capacity : ℕ) (all held holds : Option (List ℕ)) (fault : Fault) → IfSome all (λ text. IsUnread capacity text fault) → Keeps held holds
-    → IfSome all (λ text. AuditEnds capacity text held holds (Stopped fault))
-unread_known capacity None held holds fault u k = tt
-unread_known capacity (Some text) held holds fault u k = audited_fault capacity text held holds fault u k
+pub unread_known : (capacity : ℕ) (budget : Bool) (all held holds : Option (List ℕ)) (fault : Fault) → IfSome all (λ text. IsUnread capacity text fault) → Keeps held holds
+    → IfSome all (λ text. AuditEnds capacity budget text held holds (Stopped fault))
+unread_known capacity budget None held holds fault u k = tt
+unread_known capacity budget (Some text) held holds fault u k = audited_fault capacity budget text held holds fault u k
 
-pub audited_run : (capacity : ℕ) (all : Option (List ℕ)) (f : Finished) (found : Finding) (written : List ℕ) → IfSome all (λ text. IsTextOf capacity f text) → IsFinished f → IsFound f.run found
-    → written ≡ report f.run found → IfSome all (λ text. IsAudited capacity text found written)
-audited_run capacity None f found written text holds is_found is_report = tt
-audited_run capacity (Some text) f found written is_text holds is_found is_report =
+pub audited_run : (capacity : ℕ) (budget : Bool) (all : Option (List ℕ)) (f : Finished) (found : Finding) (written : List ℕ) → IfSome all (λ text. IsTextOf capacity f text) → IsFinished f → IsFound f.run found
+    → IsReportOf budget f.run found written → IfSome all (λ text. IsAudited capacity budget text found written)
+audited_run capacity budget None f found written text holds is_found is_report = tt
+audited_run capacity budget (Some text) f found written is_text holds is_found is_report =
     record { finished = f; is_text = is_text; holds = holds; is_found = is_found; is_report = is_report }
 
 pub memory_known : (capacity : ℕ) (all : Option (List ℕ)) (fault : Fault) → fault ≡ Memory → IfSome all (λ text. IsUnread capacity text fault)

@@ -1,5 +1,6 @@
--- The report of a finished run: a line for the bench, one for each node and each link, and what the audit found.
-use Rattle.std.specs.Prelude.{ℕ, zero, suc, Bool, List, [], ◌++◌, length, count_by, codes}
+-- The report of a finished run: a line for the bench, one for each node and each link, one for the budget where that is asked
+-- for, and what the audit found.
+use Rattle.std.specs.Prelude.{ℕ, zero, suc, Bool, List, [], ◌++◌, length, count_by, codes, Option, Some, None}
 use Rattle.std.specs.Fmt.{decimal}
 use Rattle.hsr_node.specs.Counts.{counters}
 use Rattle.hsr_node.specs.Words.{role_in, role_word}
@@ -13,6 +14,8 @@ use Rattle.hsr_engines.specs.declared.fault.Status.{Status}
 use Rattle.hsr_engines.specs.declared.fault.Status.TheVariants as status
 use Rattle.hsr_engines.specs.declared.finding.Finding.{Finding}
 use Rattle.hsr_engines.specs.declared.finding.Finding.TheVariants as finding
+use Rattle.hsr_engines.specs.declared.spending.Spending.{Spending}
+use Rattle.hsr_engines.specs.declared.spending.Spending.TheVariants.{Within, Late, Crowded}
 
 -- a node: its number, its role, and how often each thing happened there
 unfoldable pub node_line : Run → ℕ → List ℕ
@@ -62,8 +65,23 @@ abbrev pub status_of : Finding → Status
 status_of (finding.Certified sends) = status.Certified
 status_of (finding.Doubt doubt) = status.Doubt
 
+-- ---- the budget
+
+abbrev pub spending_text : Spending → List ℕ
+spending_text (Within most) = decimal most
+spending_text (Late k place) = codes "late " ++ decimal k ++ codes " " ++ decimal place
+spending_text (Crowded moment) = codes "crowded " ++ decimal moment
+
+abbrev pub spending_line : Spending → List ℕ
+spending_line spent = codes "budget " ++ spending_text spent ++ codes "\n"
+
+-- the line of the budget, if there is one
+abbrev pub spending_lines : Option Spending → List ℕ
+spending_lines None = []
+spending_lines (Some spent) = spending_line spent
+
 -- ---- the report
 
-unfoldable pub report : Run → Finding → List ℕ
-report run found =
-    head_line run ++ node_lines run (length run.places) ++ link_lines run (length run.links) ++ finding_line found
+unfoldable pub report : Run → Finding → Option Spending → List ℕ
+report run found spent =
+    head_line run ++ node_lines run (length run.places) ++ link_lines run (length run.links) ++ spending_lines spent ++ finding_line found

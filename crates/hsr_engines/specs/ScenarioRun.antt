@@ -1,5 +1,5 @@
 -- What `run` tells of a scenario.
-use Rattle.std.specs.Prelude.{ℕ, ◌≡◌, Bool, List, Option, Ok, Err}
+use Rattle.std.specs.Prelude.{ℕ, ◌≡◌, List, Option, Ok, Err}
 use Rattle.hsr_closing.specs.Checked.{IsOpen}
 use Rattle.hsr_closing.specs.declared.disagree.Disagree.{Disagree}
 use Rattle.hsr_world.specs.Lawful.{IsEnded, finished_of}
@@ -10,7 +10,8 @@ use Rattle.hsr_scenario.specs.Meaning.{Meant}
 use Rattle.hsr_engines.specs.Ending.{Ends}
 use Rattle.hsr_engines.specs.Playing.{Halts, Plays}
 use Rattle.hsr_engines.specs.Reading.{Said}
-use Rattle.hsr_engines.specs.Shown.{IsFound, shown}
+use Rattle.hsr_engines.specs.Shown.{IsFound, IsShown}
+use Rattle.hsr_engines.specs.declared.chosen.Showing.{Showing}
 use Rattle.hsr_engines.specs.declared.fault.Fault.{Fault}
 use Rattle.hsr_engines.specs.declared.fault.Fault.TheVariants.{Scenario, Step, Check, Memory}
 use Rattle.hsr_engines.specs.declared.fault.Status.{Status}
@@ -50,12 +51,12 @@ IsUnclosed capacity w _ = ⊥
 -- ---- what was found
 
 -- the scenario is played, its world ends and is a finished run, of which this was found; and this is shown of it
-pub record IsReported (capacity : ℕ) (transcript : Bool) (said : Said) (found : Finding) (text : List ℕ) : Type 0 where
+pub record IsReported (capacity : ℕ) (showing : Showing) (said : Said) (found : Finding) (text : List ℕ) : Type 0 where
   pub world : World
   pub played : IsPlayed capacity said world
   pub ended : IsEnded world
   pub is_found : IsFound (finished_of capacity world).run found
-  pub is_report : text ≡ shown transcript (finished_of capacity world) found
+  pub is_shown : IsShown showing (finished_of capacity world) found text
 
 -- there is nothing to report: no scenario, or a step that is refused, or a world that can't be closed
 abbrev pub IsUnreported : ℕ → Said → Fault → Type 0
@@ -64,5 +65,5 @@ IsUnreported capacity said fault = IsUnplayed capacity said fault
 
 -- How `run` ends, and what it wrote: the transcript or the report of the run; or nothing, since there is none, or reading or
 -- memory failed. Of a failed write no more is said than that there was something to write.
-abbrev pub ScenarioEnds : ℕ → Bool → Said → Option (List ℕ) → Option (List ℕ) → Status → Type 0
-ScenarioEnds capacity transcript said = Ends (IsReported capacity transcript said) (IsUnreported capacity said)
+abbrev pub ScenarioEnds : ℕ → Showing → Said → Option (List ℕ) → Option (List ℕ) → Status → Type 0
+ScenarioEnds capacity showing said = Ends (IsReported capacity showing said) (IsUnreported capacity said)

@@ -2,7 +2,7 @@
 --     run_fault    why there is no run, as a fault of the program
 --     IsNoRun      why there is no run of a scenario whose steps threads can do
 --     ThreadsEnds  how a run ends, and what it wrote
-use Rattle.std.specs.Prelude.{ℕ, ◌≡◌, Bool, List, Option, None, Some, Ok, Err, position}
+use Rattle.std.specs.Prelude.{ℕ, ◌≡◌, List, Option, None, Some, Ok, Err, position}
 use Rattle.hsr_closing.specs.Finished.{Finished}
 use Rattle.hsr_closing.specs.declared.disagree.CheckFault.TheVariants as check
 use Rattle.hsr_runner.specs.Faults.{IsRunFault}
@@ -16,7 +16,8 @@ use Rattle.hsr_step.specs.declared.step.WorldFault.TheVariants as world
 use Rattle.hsr_engines.specs.Ending.{Ends}
 use Rattle.hsr_engines.specs.Fault.{check_fault, step_fault}
 use Rattle.hsr_engines.specs.Reading.{Said}
-use Rattle.hsr_engines.specs.Shown.{IsFound, shown}
+use Rattle.hsr_engines.specs.Shown.{IsFound, IsShown}
+use Rattle.hsr_engines.specs.declared.chosen.Showing.{Showing}
 use Rattle.hsr_engines.specs.declared.fault.Fault.{Fault}
 use Rattle.hsr_engines.specs.declared.fault.Fault.TheVariants.{Scenario, Step, Fine, Check, Memory, Thread, Gate}
 use Rattle.hsr_engines.specs.declared.fault.Status.{Status}
@@ -55,13 +56,13 @@ pub record IsRan (capacity : ℕ) (said : Said) (f : Finished) : Type 0 where
   pub is_run : IsRunOf capacity meant f
 
 -- this was found of such a run, and this is shown of it
-pub record IsRunShown (capacity : ℕ) (transcript : Bool) (said : Said) (found : Finding) (text : List ℕ) : Type 0 where
+pub record IsRunShown (capacity : ℕ) (showing : Showing) (said : Said) (found : Finding) (text : List ℕ) : Type 0 where
   pub finished : Finished
   pub is_run : IsRan capacity said finished
   pub is_found : IsFound finished.run found
-  pub is_shown : text ≡ shown transcript finished found
+  pub is_shown : IsShown showing finished found text
 
 -- How `threads` ends, and what it wrote: the transcript or the report of some finished run of the scenario; or nothing, since there
 -- is none, or reading or memory failed. Of a failed write no more is said than that there was something to write.
-abbrev pub ThreadsEnds : ℕ → Bool → Said → Option (List ℕ) → Option (List ℕ) → Status → Type 0
-ThreadsEnds capacity transcript said = Ends (IsRunShown capacity transcript said) (IsUnrun capacity said)
+abbrev pub ThreadsEnds : ℕ → Showing → Said → Option (List ℕ) → Option (List ℕ) → Status → Type 0
+ThreadsEnds capacity showing said = Ends (IsRunShown capacity showing said) (IsUnrun capacity said)

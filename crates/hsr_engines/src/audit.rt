@@ -7,8 +7,7 @@ ghost use Rattle.hsr_engines.specs.Tables.{capacity_of};
 use crate::chosen::Table;
 use crate::fault::{Fault, Status, TranscriptFault};
 use crate::finding::{Finding, found};
-use crate::report::report;
-use crate::shown::deliver;
+use crate::shown::{deliver, report_of};
 use hsr_closing::Closed;
 use hsr_transcript::{ReadFault, read};
 use std::alloc::Global;
@@ -45,9 +44,10 @@ fn closed<R: Read, const C: usize>(alloc: Global, reader: &mut R) -> Result<Clos
 fn audited<R: Read, const C: usize>(
     alloc: Global,
     reader: &mut R,
+    budget: bool,
 ) -> Result<(Finding, Vec<u8>), Fault>
     requires entries { (1 ≤ C) × (C ≤ 65535) }
-    ensures ok { IfOk result (λ r. IfSome (R.remaining reader.old) (λ text. IsAudited C text r.0 r.1.items)) }
+    ensures ok { IfOk result (λ r. IfSome (R.remaining reader.old) (λ text. IsAudited C budget text r.0 r.1.items)) }
     ensures err { IfErr result (λ f. IfSome (R.remaining reader.old) (λ text. IsUnread C text f)) }
 {
     let closed = match closed::<R, C>(alloc, reader) {
@@ -58,9 +58,9 @@ fn audited<R: Read, const C: usize>(
         Ok(finding) => finding,
         Err(fault) => return Err(fault),
     };
-    match report(alloc, &closed, finding) {
+    match report_of(alloc, &closed, finding, budget) {
         Ok(text) => Ok((finding, text)),
-        Err(_) => Err(Fault::Memory),
+        Err(fault) => Err(fault),
     }
 }
 
@@ -69,13 +69,14 @@ fn audited_with<R: Read>(
     alloc: Global,
     reader: &mut R,
     table: Table,
+    budget: bool,
 ) -> Result<(Finding, Vec<u8>), Fault>
-    ensures ok { IfOk result (λ r. IfSome (R.remaining reader.old) (λ text. IsAudited (capacity_of table) text r.0 r.1.items)) }
+    ensures ok { IfOk result (λ r. IfSome (R.remaining reader.old) (λ text. IsAudited (capacity_of table) budget text r.0 r.1.items)) }
     ensures err { IfErr result (λ f. IfSome (R.remaining reader.old) (λ text. IsUnread (capacity_of table) text f)) }
 {
     match table {
-        Table::Small => audited::<R, 4>(alloc, reader),
-        Table::Large => audited::<R, 512>(alloc, reader),
+        Table::Small => audited::<R, 4>(alloc, reader, budget),
+        Table::Large => audited::<R, 512>(alloc, reader, budget),
     }
 }
 
@@ -89,11 +90,12 @@ pub fn audit_run<R: Read, W: Write>(
     reader: &mut R,
     writer: &mut W,
     table: Table,
+    budget: bool,
 ) -> Status
     ensures { IfSome (R.remaining reader.old) (λ text.
-        AuditEnds (capacity_of table) text (W.contents writer.old) (W.contents writer.new) result) }
+        AuditEnds (capacity_of table) budget text (W.contents writer.old) (W.contents writer.new) result) }
 {
-    match audited_with(alloc, reader, table) {
+    match audited_with(alloc, reader, table, budget) {
         Ok((finding, text)) => deliver(writer, finding, text.as_slice()),
         Err(fault) => Status::Fault(fault),
     }

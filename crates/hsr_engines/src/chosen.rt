@@ -42,6 +42,35 @@ impl Table {
     }
 }
 
+/// What is written of a finished run.
+#[derive(Clone, Copy, Debug, PartialEq, Eq)]
+pub struct Showing {
+    /// The transcript is written in place of the report.
+    pub transcript: bool,
+    /// The report has a line of the budget before its last.
+    pub budget: bool,
+}
+
+impl Showing {
+    /// The report alone.
+    pub const REPORT: Showing = Showing {
+        transcript: false,
+        budget: false,
+    };
+
+    /// The report, with the line of the budget.
+    pub const BUDGET: Showing = Showing {
+        transcript: false,
+        budget: true,
+    };
+
+    /// The transcript.
+    pub const TRANSCRIPT: Showing = Showing {
+        transcript: true,
+        budget: false,
+    };
+}
+
 /// The node that `node` runs. No group has its address.
 #[derive(Clone, Copy, Debug, PartialEq, Eq)]
 pub struct NodeOptions {

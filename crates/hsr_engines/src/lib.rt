@@ -1,6 +1,6 @@
 //! What the program does: `node`, `run`, `threads` and `audit`, each over a reader and a writer.
 //!
-//! Its modules, in the order to read them: `chosen`, `fault`, `engine`, `text`, `reading`, `playing`, `finding`, `report`, `shown`,
+//! Its modules, in the order to read them: `chosen`, `fault`, `engine`, `text`, `reading`, `playing`, `finding`, `spending`, `report`, `shown`,
 //! `scenario`, `threads`, `audit`.
 #![tactic(auto)]
 
@@ -14,11 +14,12 @@ mod reading;
 mod report;
 mod scenario;
 mod shown;
+mod spending;
 mod text;
 mod threads;
 
 pub use audit::audit_run;
-pub use chosen::{NodeOptions, Table};
+pub use chosen::{NodeOptions, Showing, Table};
 pub use engine::node_run;
 pub use fault::{Fault, Status, TranscriptFault};
 pub use hsr_text::TimeUnit;

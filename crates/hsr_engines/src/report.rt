@@ -2,9 +2,10 @@
 ghost use Rattle.std.specs.Prelude.{◌≡◌, ◌<◌, ◌++◌, count_by, length, IfOk, OnOk};
 ghost use Rattle.hsr_closing.specs.Finished.{IsFinished};
 ghost use Rattle.hsr_law.specs.Run.{place_of};
-ghost use Rattle.hsr_engines.specs.Report.{head_line, is_row_lost, is_row_taken, link_line, link_lines, node_line, node_lines, report};
+ghost use Rattle.hsr_engines.specs.Report.{head_line, is_row_lost, is_row_taken, link_line, link_lines, node_line, node_lines, report, spending_lines};
 
 use crate::finding::{Finding, put_finding};
+use crate::spending::{Spending, put_spending};
 use hsr_closing::Closed;
 use hsr_link::{Fate, Row};
 use hsr_node::Place;
@@ -95,20 +96,32 @@ fn put_links<const C: usize>(text: &mut Vec<u8>, closed: &Closed<C>) -> Result<(
     Ok(())
 }
 
-/// The report of a finished run of which this was found.
+/// Puts the line of the budget, if there is one.
+fn put_asked(text: &mut Vec<u8>, spending: Option<Spending>) -> Result<(), AllocError>
+    ensures { OnOk result (text.new.items ≡ text.old.items ++ spending_lines spending) }
+{
+    match spending {
+        Some(spending) => put_spending(text, spending),
+        None => Ok(()),
+    }
+}
+
+/// The report of a finished run of which this was found, with the line of its budget, if there is one.
 #[tactic(auto, unfolding(crate::specs::Report::report))]
 pub fn report<const C: usize>(
     alloc: Global,
     closed: &Closed<C>,
     finding: Finding,
+    spending: Option<Spending>,
 ) -> Result<Vec<u8>, AllocError>
-    ensures text { IfOk result (λ text. text.items ≡ report closed.now.run finding) }
+    ensures text { IfOk result (λ text. text.items ≡ report closed.now.run finding spending) }
     ensures finished { IsFinished closed.now }
 {
     let mut text = Vec::new(alloc);
     put_head(&mut text, closed)?;
     put_nodes(&mut text, closed)?;
     put_links(&mut text, closed)?;
+    put_asked(&mut text, spending)?;
     put_finding(&mut text, finding)?;
     Ok(text)
 }

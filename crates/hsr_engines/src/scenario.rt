@@ -7,7 +7,7 @@ ghost use Rattle.hsr_engines.specs.Tables.{capacity_of};
 ghost use Rattle.hsr_engines.specs.declared.fault.Fault.TheVariants.{Read as ReadFailed};
 ghost use Rattle.hsr_engines.specs.declared.fault.Status.TheVariants.{Fault as Stopped};
 
-use crate::chosen::Table;
+use crate::chosen::{Showing, Table};
 use crate::fault::{Fault, Status};
 use crate::finding::Finding;
 use crate::playing::play;
@@ -54,10 +54,10 @@ fn closed<const C: usize>(world: World<C>) -> Result<Closed<C>, Fault>
 fn reported<const C: usize>(
     alloc: Global,
     octets: &[u8],
-    transcript: bool,
+    showing: Showing,
 ) -> Result<(Finding, Vec<u8>), Fault>
     requires entries { (1 ≤ C) × (C ≤ 65535) }
-    ensures ok { IfOk result (λ r. IsReported C transcript (scenario_of octets.now) r.0 r.1.items) }
+    ensures ok { IfOk result (λ r. IsReported C showing (scenario_of octets.now) r.0 r.1.items) }
     ensures err { IfErr result (λ f. IsUnreported C (scenario_of octets.now) f) }
 {
     let world = match played::<C>(alloc, octets) {
@@ -68,7 +68,7 @@ fn reported<const C: usize>(
         Ok(closed) => closed,
         Err(fault) => return Err(fault),
     };
-    told(alloc, &closed, transcript)
+    told(alloc, &closed, showing)
 }
 
 /// What is shown of the scenario that octets mean, with tables of the chosen size.
@@ -76,14 +76,14 @@ fn reported_with(
     alloc: Global,
     octets: &[u8],
     table: Table,
-    transcript: bool,
+    showing: Showing,
 ) -> Result<(Finding, Vec<u8>), Fault>
-    ensures ok { IfOk result (λ r. IsReported (capacity_of table) transcript (scenario_of octets.now) r.0 r.1.items) }
+    ensures ok { IfOk result (λ r. IsReported (capacity_of table) showing (scenario_of octets.now) r.0 r.1.items) }
     ensures err { IfErr result (λ f. IsUnreported (capacity_of table) (scenario_of octets.now) f) }
 {
     match table {
-        Table::Small => reported::<4>(alloc, octets, transcript),
-        Table::Large => reported::<512>(alloc, octets, transcript),
+        Table::Small => reported::<4>(alloc, octets, showing),
+        Table::Large => reported::<512>(alloc, octets, showing),
     }
 }
 
@@ -94,12 +94,12 @@ fn tell<W: Write>(
     octets: &[u8],
     writer: &mut W,
     table: Table,
-    transcript: bool,
+    showing: Showing,
 ) -> Status
-    ensures shown { ScenarioEnds (capacity_of table) transcript (scenario_of octets.now) (W.contents writer.old) (W.contents writer.new) result }
+    ensures shown { ScenarioEnds (capacity_of table) showing (scenario_of octets.now) (W.contents writer.old) (W.contents writer.new) result }
     ensures told { result ≢ Stopped ReadFailed }
 {
-    match reported_with(alloc, octets, table, transcript) {
+    match reported_with(alloc, octets, table, showing) {
         Ok((finding, text)) => deliver(writer, finding, text.as_slice()),
         Err(fault) => Status::Fault(fault),
     }
@@ -115,13 +115,13 @@ pub fn scenario_run<R: Read, W: Write>(
     reader: &mut R,
     writer: &mut W,
     table: Table,
-    transcript: bool,
+    showing: Showing,
 ) -> Status
     ensures { IfSome (R.remaining reader.old) (λ octets.
-        ScenarioEnds (capacity_of table) transcript (scenario_of octets) (W.contents writer.old) (W.contents writer.new) result) }
+        ScenarioEnds (capacity_of table) showing (scenario_of octets) (W.contents writer.old) (W.contents writer.new) result) }
 {
     match read_text(alloc, reader, TEXT_LIMIT) {
-        Ok(octets) => tell(alloc, octets.as_slice(), writer, table, transcript),
+        Ok(octets) => tell(alloc, octets.as_slice(), writer, table, showing),
         Err(fault) => Status::Fault(fault),
     }
 }

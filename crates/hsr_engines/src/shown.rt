@@ -1,12 +1,15 @@
 //! What is written of a finished run: its transcript or its report.
-ghost use Rattle.std.specs.Prelude.{◌≡◌, IfErr, IfOk};
+ghost use Rattle.std.specs.Prelude.{◌≡◌, IfErr, IfOk, OnOk};
 ghost use Rattle.hsr_transcript_text.specs.Transcript.{run_text};
-ghost use Rattle.hsr_engines.specs.Shown.{IsDelivered, IsFound, shown};
+ghost use Rattle.hsr_closing.specs.Finished.{IsFinished};
+ghost use Rattle.hsr_engines.specs.Shown.{IsAsked, IsDelivered, IsFound, IsReportOf, IsShown};
 ghost use Rattle.hsr_engines.specs.declared.fault.Fault.TheVariants.{Memory};
 
+use crate::chosen::Showing;
 use crate::fault::{Fault, Status};
 use crate::finding::{Finding, found};
 use crate::report::report;
+use crate::spending::{Spending, spending_of};
 use hsr_closing::Closed;
 use hsr_transcript::write;
 use std::alloc::Global;
@@ -25,22 +28,59 @@ fn run_text<const C: usize>(alloc: Global, closed: &Closed<C>) -> Result<Vec<u8>
     }
 }
 
+/// What a finished run spent of its tables, where that is asked for.
+fn asked<const C: usize>(
+    alloc: Global,
+    closed: &Closed<C>,
+    budget: bool,
+) -> Result<Option<Spending>, Fault>
+    ensures ok { IfOk result (λ spent. IsAsked budget closed.now.run spent) }
+    ensures err { IfErr result (λ f. f ≡ Memory) }
+{
+    if !budget {
+        return Ok(None);
+    }
+    match spending_of(alloc, closed) {
+        Ok(spending) => Ok(Some(spending)),
+        Err(fault) => Err(fault),
+    }
+}
+
+/// The report of a finished run of which this was found, with the line of its budget where that is asked for.
+pub fn report_of<const C: usize>(
+    alloc: Global,
+    closed: &Closed<C>,
+    finding: Finding,
+    budget: bool,
+) -> Result<Vec<u8>, Fault>
+    ensures ok { IfOk result (λ text. IsReportOf budget closed.now.run finding text.items) }
+    ensures finished { OnOk result (IsFinished closed.now) }
+    ensures err { IfErr result (λ f. f ≡ Memory) }
+{
+    let spending = match asked(alloc, closed, budget) {
+        Ok(spending) => spending,
+        Err(fault) => return Err(fault),
+    };
+    match report(alloc, closed, finding, spending) {
+        Ok(text) => Ok(text),
+        Err(_) => Err(Fault::Memory),
+    }
+}
+
 /// The transcript of a finished run, or the report of what was found of it.
 fn shown<const C: usize>(
     alloc: Global,
     closed: &Closed<C>,
     finding: Finding,
-    transcript: bool,
+    showing: Showing,
 ) -> Result<Vec<u8>, Fault>
-    ensures ok { IfOk result (λ text. text.items ≡ shown transcript closed.now finding) }
+    ensures ok { IfOk result (λ text. IsShown showing closed.now finding text.items) }
     ensures err { IfErr result (λ f. f ≡ Memory) }
 {
-    if transcript {
-        return run_text(alloc, closed);
-    }
-    match report(alloc, closed, finding) {
-        Ok(text) => Ok(text),
-        Err(_) => Err(Fault::Memory),
+    if showing.transcript {
+        run_text(alloc, closed)
+    } else {
+        report_of(alloc, closed, finding, showing.budget)
     }
 }
 
@@ -48,17 +88,17 @@ fn shown<const C: usize>(
 pub fn told<const C: usize>(
     alloc: Global,
     closed: &Closed<C>,
-    transcript: bool,
+    showing: Showing,
 ) -> Result<(Finding, Vec<u8>), Fault>
     ensures found { IfOk result (λ r. IsFound closed.now.run r.0) }
-    ensures text { IfOk result (λ r. r.1.items ≡ shown transcript closed.now r.0) }
+    ensures text { IfOk result (λ r. IsShown showing closed.now r.0 r.1.items) }
     ensures err { IfErr result (λ f. f ≡ Memory) }
 {
     let finding = match found(alloc, closed) {
         Ok(finding) => finding,
         Err(fault) => return Err(fault),
     };
-    match shown(alloc, closed, finding, transcript) {
+    match shown(alloc, closed, finding, showing) {
         Ok(text) => Ok((finding, text)),
         Err(fault) => Err(fault),
     }

@@ -6,7 +6,7 @@ ghost use Rattle.hsr_engines.specs.ThreadsRun.{IsRan, IsRunShown, IsUnrun, Threa
 ghost use Rattle.hsr_engines.specs.declared.fault.Fault.TheVariants.{Read as ReadFailed};
 ghost use Rattle.hsr_engines.specs.declared.fault.Status.TheVariants.{Fault as Stopped};
 
-use crate::chosen::Table;
+use crate::chosen::{Showing, Table};
 use crate::fault::{Fault, Status};
 use crate::finding::Finding;
 use crate::reading::scenario_of;
@@ -61,14 +61,14 @@ fn run_shown<H: Threads + Wait + Sync, const C: usize>(
     rt: &H,
     alloc: Global,
     octets: &[u8],
-    transcript: bool,
+    showing: Showing,
 ) -> Result<(Finding, Vec<u8>), Fault>
     requires entries { (1 ≤ C) × (C ≤ 65535) }
-    ensures ok { IfOk result (λ r. IsRunShown C transcript (scenario_of octets.now) r.0 r.1.items) }
+    ensures ok { IfOk result (λ r. IsRunShown C showing (scenario_of octets.now) r.0 r.1.items) }
     ensures err { IfErr result (λ f. IsUnrun C (scenario_of octets.now) f) }
 {
     match ran::<H, C>(rt, alloc, octets) {
-        Ok(closed) => told(alloc, &closed, transcript),
+        Ok(closed) => told(alloc, &closed, showing),
         Err(fault) => Err(fault),
     }
 }
@@ -79,14 +79,14 @@ fn run_shown_with<H: Threads + Wait + Sync>(
     alloc: Global,
     octets: &[u8],
     table: Table,
-    transcript: bool,
+    showing: Showing,
 ) -> Result<(Finding, Vec<u8>), Fault>
-    ensures ok { IfOk result (λ r. IsRunShown (capacity_of table) transcript (scenario_of octets.now) r.0 r.1.items) }
+    ensures ok { IfOk result (λ r. IsRunShown (capacity_of table) showing (scenario_of octets.now) r.0 r.1.items) }
     ensures err { IfErr result (λ f. IsUnrun (capacity_of table) (scenario_of octets.now) f) }
 {
     match table {
-        Table::Small => run_shown::<H, 4>(rt, alloc, octets, transcript),
-        Table::Large => run_shown::<H, 512>(rt, alloc, octets, transcript),
+        Table::Small => run_shown::<H, 4>(rt, alloc, octets, showing),
+        Table::Large => run_shown::<H, 512>(rt, alloc, octets, showing),
     }
 }
 
@@ -98,12 +98,12 @@ fn tell<H: Threads + Wait + Sync, W: Write>(
     octets: &[u8],
     writer: &mut W,
     table: Table,
-    transcript: bool,
+    showing: Showing,
 ) -> Status
-    ensures shown { ThreadsEnds (capacity_of table) transcript (scenario_of octets.now) (W.contents writer.old) (W.contents writer.new) result }
+    ensures shown { ThreadsEnds (capacity_of table) showing (scenario_of octets.now) (W.contents writer.old) (W.contents writer.new) result }
     ensures told { result ≢ Stopped ReadFailed }
 {
-    match run_shown_with(rt, alloc, octets, table, transcript) {
+    match run_shown_with(rt, alloc, octets, table, showing) {
         Ok((finding, text)) => deliver(writer, finding, text.as_slice()),
         Err(fault) => Status::Fault(fault),
     }
@@ -123,13 +123,13 @@ pub fn threads_run<H: Threads + Wait + Sync, R: Read, W: Write>(
     reader: &mut R,
     writer: &mut W,
     table: Table,
-    transcript: bool,
+    showing: Showing,
 ) -> Status
     ensures { IfSome (R.remaining reader.old) (λ octets.
-        ThreadsEnds (capacity_of table) transcript (scenario_of octets) (W.contents writer.old) (W.contents writer.new) result) }
+        ThreadsEnds (capacity_of table) showing (scenario_of octets) (W.contents writer.old) (W.contents writer.new) result) }
 {
     match read_text(alloc, reader, TEXT_LIMIT) {
-        Ok(octets) => tell(rt, alloc, octets.as_slice(), writer, table, transcript),
+        Ok(octets) => tell(rt, alloc, octets.as_slice(), writer, table, showing),
         Err(fault) => Status::Fault(fault),
     }
 }

@@ -1,6 +1,6 @@
 //! Readers that fail at each of their reads, that give one octet a call, and that are interrupted.
 use crate::fixtures::{ANSWER, LINE, RING, Reader, Writer, defaults};
-use hsr_engines::{Fault, Status, Table, audit_run, node_run, scenario_run, threads_run};
+use hsr_engines::{Fault, Showing, Status, Table, audit_run, node_run, scenario_run, threads_run};
 use hsr_networks::{RING_REPORT, RING_TRANSCRIPT};
 use std::marker::Sync;
 use std::sync::Wait;
@@ -10,7 +10,13 @@ use std::thread::Threads;
 fn runs(rt: &HostRuntime, reader: &mut Reader) -> bool {
     let is_enough = reader.reads_left > RING.len();
     let mut writer = Writer::new(RING_REPORT);
-    let status = scenario_run(rt.alloc(), reader, &mut writer, Table::Large, false);
+    let status = scenario_run(
+        rt.alloc(),
+        reader,
+        &mut writer,
+        Table::Large,
+        Showing::REPORT,
+    );
     if is_enough {
         status == Status::Certified && writer.is_whole()
     } else {
@@ -33,7 +39,14 @@ fn scenario_read_by_octets(rt: HostRuntime) {
 fn runs_in_threads<H: AllocGlobal + Threads + Wait + Sync>(rt: &H, reader: &mut Reader) -> bool {
     let is_enough = reader.reads_left > RING.len();
     let mut writer = Writer::new(RING_REPORT);
-    let status = threads_run(rt, rt.alloc(), reader, &mut writer, Table::Large, false);
+    let status = threads_run(
+        rt,
+        rt.alloc(),
+        reader,
+        &mut writer,
+        Table::Large,
+        Showing::REPORT,
+    );
     if is_enough {
         status == Status::Certified && writer.is_whole()
     } else {
@@ -56,7 +69,7 @@ fn scenario_read_by_octets_for_threads(rt: HostRuntime) {
 fn audits(rt: &HostRuntime, reader: &mut Reader) -> bool {
     let is_enough = reader.reads_left > RING_TRANSCRIPT.len();
     let mut writer = Writer::new(RING_REPORT);
-    let status = audit_run(rt.alloc(), reader, &mut writer, Table::Large);
+    let status = audit_run(rt.alloc(), reader, &mut writer, Table::Large, false);
     if is_enough {
         status == Status::Certified && writer.is_whole()
     } else {

@@ -2,7 +2,7 @@
 //! with room.
 use crate::fixtures::{ANSWER, LINE, RING, Writer, defaults};
 use hsr_closing::Closed;
-use hsr_engines::{Fault, Status, Table, audit_run, node_run, scenario_run, threads_run};
+use hsr_engines::{Fault, Showing, Status, Table, audit_run, node_run, scenario_run, threads_run};
 use hsr_networks::{RING_REPORT, RING_TRANSCRIPT};
 use hsr_scenario::{Scenario, ScenarioFault, What};
 use hsr_transcript::{ReadFault, WriteFault, write};
@@ -62,25 +62,25 @@ fn transcript_read_and_written(rt: HostRuntime) -> Result<(), Fail> {
 }
 
 /// Whether a run of the scenario writes this text, or says that room was refused, and then, once more, writes it.
-fn runs(alloc: Global, text: &'static str, transcript: bool) -> bool {
+fn runs(alloc: Global, text: &'static str, showing: Showing) -> bool {
     let mut writer = Writer::new(text);
     let mut reader = RING.as_bytes();
-    let mut status = scenario_run(alloc, &mut reader, &mut writer, Table::Large, transcript);
+    let mut status = scenario_run(alloc, &mut reader, &mut writer, Table::Large, showing);
     if status == Status::Fault(Fault::Memory) && writer.lacks(text.len()) {
         let mut reader = RING.as_bytes();
-        status = scenario_run(alloc, &mut reader, &mut writer, Table::Large, transcript);
+        status = scenario_run(alloc, &mut reader, &mut writer, Table::Large, showing);
     }
     status == Status::Certified && writer.is_whole()
 }
 
 #[test]
 fn scenario_reported(rt: HostRuntime) {
-    assert!(rt; runs(rt.alloc(), RING_REPORT, false));
+    assert!(rt; runs(rt.alloc(), RING_REPORT, Showing::REPORT));
 }
 
 #[test]
 fn scenario_transcribed(rt: HostRuntime) {
-    assert!(rt; runs(rt.alloc(), RING_TRANSCRIPT, true));
+    assert!(rt; runs(rt.alloc(), RING_TRANSCRIPT, Showing::TRANSCRIPT));
 }
 
 /// The same of a run in threads, of which one may be refused too. All of them are joined, else it wouldn't end.
@@ -93,7 +93,7 @@ fn runs_in_threads<H: AllocGlobal + Threads + Wait + Sync>(rt: &H) -> bool {
         &mut reader,
         &mut writer,
         Table::Large,
-        false,
+        Showing::REPORT,
     );
     let is_refused = status == Status::Fault(Fault::Memory)
         || status == Status::Fault(Fault::Thread);
@@ -105,7 +105,7 @@ fn runs_in_threads<H: AllocGlobal + Threads + Wait + Sync>(rt: &H) -> bool {
             &mut reader,
             &mut writer,
             Table::Large,
-            false,
+            Showing::REPORT,
         );
     }
     status == Status::Certified && writer.is_whole()
@@ -120,11 +120,11 @@ fn scenario_in_threads(rt: HostRuntime) {
 fn transcript_audited(rt: HostRuntime) {
     let mut writer = Writer::new(RING_REPORT);
     let mut reader = RING_TRANSCRIPT.as_bytes();
-    let mut status = audit_run(rt.alloc(), &mut reader, &mut writer, Table::Large);
+    let mut status = audit_run(rt.alloc(), &mut reader, &mut writer, Table::Large, false);
     if status == Status::Fault(Fault::Memory) {
         assert!(rt; writer.lacks(RING_REPORT.len()));
         let mut reader = RING_TRANSCRIPT.as_bytes();
-        status = audit_run(rt.alloc(), &mut reader, &mut writer, Table::Large);
+        status = audit_run(rt.alloc(), &mut reader, &mut writer, Table::Large, false);
     }
     assert!(rt; status == Status::Certified && writer.is_whole());
 }

@@ -1,7 +1,7 @@
-//! Room that is refused to nodes, links, worlds, finished runs and audits: nothing has changed, what was handed in comes back, and
+//! Room that is refused to nodes, links, worlds, finished runs, audits and budgets: nothing has changed, what was handed in comes back, and
 //! the same call again answers as one with room.
 use crate::fixtures::{octets, ring, send, size};
-use hsr_audit::{AuditFault, Certificate, audit};
+use hsr_audit::{AuditFault, Budget, BudgetFault, Certificate, audit, budget};
 use hsr_closing::{CheckFault, Closed, Planned, passes_of};
 use hsr_frame::{About, Mac};
 use hsr_link::{Dir, Fate};
@@ -164,6 +164,18 @@ fn close_and_audit(rt: HostRuntime) -> Result<(), Fail> {
         return Err("sends".into());
     };
     assert!(rt; only.receivers.as_slice() == [1, 2].as_slice());
+    Ok(())
+}
+
+/// The budget of a finished run, asked for once more where room was refused.
+#[test]
+fn budget_again(rt: HostRuntime) -> Result<(), Fail> {
+    let closed = closed(settled(rt.alloc())?)?;
+    let mut found = budget(rt.alloc(), &closed);
+    if found == Err(BudgetFault::NoMemory) {
+        found = budget(rt.alloc(), &closed);
+    }
+    assert!(rt; found == Ok(Budget { most: 1 }));
     Ok(())
 }
 

@@ -1,7 +1,7 @@
 //! Octets that no node sent, steps that are too long, and a row whose fate is told wrongly.
 use crate::fixtures::{RING, Writer, octets, ring};
 use hsr_closing::{CheckFault, Disagree};
-use hsr_engines::{Fault, Status, Table, audit_run, scenario_run};
+use hsr_engines::{Fault, Showing, Status, Table, audit_run, scenario_run};
 use hsr_link::Dir;
 use hsr_networks::RING_TRANSCRIPT;
 use hsr_ring::Step;
@@ -38,7 +38,13 @@ fn injected(rt: &HostRuntime, count: usize) -> Result<Status, Fail> {
     )?;
     let mut writer = Writer::new("");
     let mut reader = text.as_bytes();
-    Ok(scenario_run(rt.alloc(), &mut reader, &mut writer, Table::Large, false))
+    Ok(scenario_run(
+        rt.alloc(),
+        &mut reader,
+        &mut writer,
+        Table::Large,
+        Showing::REPORT,
+    ))
 }
 
 #[test]
@@ -62,7 +68,7 @@ fn cut_in_place_of_taken(rt: HostRuntime) -> Result<(), Fail> {
     let text = format!(in rt.alloc(); "{front} cut{back}")?;
     let mut writer = Writer::new("");
     let mut reader = text.as_bytes();
-    let status = audit_run(rt.alloc(), &mut reader, &mut writer, Table::Large);
+    let status = audit_run(rt.alloc(), &mut reader, &mut writer, Table::Large, false);
     let fault = Fault::Check(Disagree::LinkTaken {
         link: 0,
         dir: Dir::Forth,

@@ -1,6 +1,6 @@
 //! Writers that take one octet a call and fail at each of their writes, that take nothing, and whose flush fails.
 use crate::fixtures::{ANSWER, LINE, RING, Writer, defaults};
-use hsr_engines::{Fault, Status, Table, audit_run, node_run, scenario_run, threads_run};
+use hsr_engines::{Fault, Showing, Status, Table, audit_run, node_run, scenario_run, threads_run};
 use hsr_networks::{RING_REPORT, RING_TRANSCRIPT};
 use std::marker::Sync;
 use std::sync::Wait;
@@ -35,15 +35,22 @@ fn written<H: AllocGlobal + Threads + Wait + Sync>(
         Engine::Node => node_run(rt.alloc(), &mut LINE.as_bytes(), writer, &defaults()),
         Engine::Run => {
             let mut text = RING.as_bytes();
-            scenario_run(rt.alloc(), &mut text, writer, Table::Large, false)
+            scenario_run(rt.alloc(), &mut text, writer, Table::Large, Showing::REPORT)
         }
         Engine::Threads => {
             let mut text = RING.as_bytes();
-            threads_run(rt, rt.alloc(), &mut text, writer, Table::Large, false)
+            threads_run(
+                rt,
+                rt.alloc(),
+                &mut text,
+                writer,
+                Table::Large,
+                Showing::REPORT,
+            )
         }
         Engine::Audit => {
             let mut text = RING_TRANSCRIPT.as_bytes();
-            audit_run(rt.alloc(), &mut text, writer, Table::Large)
+            audit_run(rt.alloc(), &mut text, writer, Table::Large, false)
         }
     }
 }

@@ -4,7 +4,7 @@ use crate::fixtures::{
     RING, TWO_CUTS, joined,
 };
 use hsr_closing::Disagree;
-use hsr_engines::{Fault, Status, Table, scenario_run};
+use hsr_engines::{Fault, Showing, Status, Table, scenario_run};
 use hsr_networks::RING_REPORT;
 use hsr_scenario::{ScenarioFault, Spot, What};
 use hsr_step::{DrainFault, WorldFault};
@@ -16,18 +16,18 @@ pub fn run_shown(
     alloc: Global,
     nodes: &str,
     steps: &str,
-    transcript: bool,
+    showing: Showing,
 ) -> Result<(Status, Vec<u8>), AllocError> {
     let text = joined(alloc, &[nodes, "step = [\n", steps, "]\n"])?;
     let mut reader = text.as_bytes();
     let mut writer = Vec::new(alloc);
-    let status = scenario_run(alloc, &mut reader, &mut writer, Table::Large, transcript);
+    let status = scenario_run(alloc, &mut reader, &mut writer, Table::Large, showing);
     Ok((status, writer))
 }
 
 /// What a run of nodes and links with these steps reports, and how it ends.
 fn run(alloc: Global, nodes: &str, steps: &str) -> Result<(Status, Vec<u8>), AllocError> {
-    run_shown(alloc, nodes, steps, false)
+    run_shown(alloc, nodes, steps, Showing::REPORT)
 }
 
 #[test]
@@ -90,7 +90,13 @@ fn scenario_that_cannot_be_read(rt: HostRuntime) -> Result<(), Fail> {
         reads_left: 0,
     };
     let mut writer = Vec::new(rt.alloc());
-    let status = scenario_run(rt.alloc(), &mut reader, &mut writer, Table::Large, false);
+    let status = scenario_run(
+        rt.alloc(),
+        &mut reader,
+        &mut writer,
+        Table::Large,
+        Showing::REPORT,
+    );
     assert_eq!(rt; status, Status::Fault(Fault::Read));
     assert!(rt; writer.is_empty());
     Ok(())
@@ -98,19 +104,13 @@ fn scenario_that_cannot_be_read(rt: HostRuntime) -> Result<(), Fail> {
 
 #[test]
 fn text_that_cannot_be_written(rt: HostRuntime) -> Result<(), Fail> {
-    for transcript in [false, true] {
+    for showing in [Showing::REPORT, Showing::TRANSCRIPT] {
         let mut reader = RING.as_bytes();
         let mut writer = FailingWriter {
             held: Vec::new(rt.alloc()),
             writes_left: 0,
         };
-        let status = scenario_run(
-            rt.alloc(),
-            &mut reader,
-            &mut writer,
-            Table::Small,
-            transcript,
-        );
+        let status = scenario_run(rt.alloc(), &mut reader, &mut writer, Table::Small, showing);
         assert_eq!(rt; status, Status::Fault(Fault::Write));
         assert!(rt; writer.held.is_empty());
     }

@@ -5,7 +5,7 @@ use crate::fixtures::{
 };
 use crate::scenario_run_tests::run_shown;
 use hsr_closing::Disagree;
-use hsr_engines::{Fault, Status, Table, audit_run, threads_run};
+use hsr_engines::{Fault, Showing, Status, Table, audit_run, threads_run};
 use hsr_networks::RING_REPORT;
 use hsr_scenario::{ScenarioFault, Spot, What};
 use std::alloc::AllocError;
@@ -19,7 +19,7 @@ fn threads_shown<H: AllocGlobal + Threads + Wait + Sync>(
     rt: &H,
     nodes: &str,
     steps: &str,
-    transcript: bool,
+    showing: Showing,
 ) -> Result<(Status, Vec<u8>), AllocError> {
     let text = joined(rt.alloc(), &[nodes, "step = [\n", steps, "]\n"])?;
     let mut reader = text.as_bytes();
@@ -30,14 +30,14 @@ fn threads_shown<H: AllocGlobal + Threads + Wait + Sync>(
         &mut reader,
         &mut writer,
         Table::Large,
-        transcript,
+        showing,
     );
     Ok((status, writer))
 }
 
 #[test]
 fn group_round_a_ring_in_threads(rt: HostRuntime) -> Result<(), Fail> {
-    let (status, text) = threads_shown(&rt, RING, GROUP_SEND, false)?;
+    let (status, text) = threads_shown(&rt, RING, GROUP_SEND, Showing::REPORT)?;
     assert_eq!(rt; status, Status::Certified);
     assert!(rt; text.as_slice() == RING_REPORT.as_bytes());
     Ok(())
@@ -45,7 +45,7 @@ fn group_round_a_ring_in_threads(rt: HostRuntime) -> Result<(), Fail> {
 
 #[test]
 fn sender_cut_off_in_threads(rt: HostRuntime) -> Result<(), Fail> {
-    let (status, text) = threads_shown(&rt, RING, SENDER_CUT_OFF, false)?;
+    let (status, text) = threads_shown(&rt, RING, SENDER_CUT_OFF, Showing::REPORT)?;
     assert_eq!(rt; status, Status::Doubt);
     assert!(rt; text.as_slice() == CUT_OFF_REPORT.as_bytes());
     Ok(())
@@ -60,8 +60,8 @@ fn reports_as_without_threads(rt: HostRuntime) -> Result<(), Fail> {
         (RING, ""),
     ];
     for (nodes, steps) in rows {
-        let (status, text) = threads_shown(&rt, nodes, steps, false)?;
-        let (same, report) = run_shown(rt.alloc(), nodes, steps, false)?;
+        let (status, text) = threads_shown(&rt, nodes, steps, Showing::REPORT)?;
+        let (same, report) = run_shown(rt.alloc(), nodes, steps, Showing::REPORT)?;
         assert_eq!(rt; status, same);
         assert!(rt; text.as_slice() == report.as_slice());
     }
@@ -70,10 +70,10 @@ fn reports_as_without_threads(rt: HostRuntime) -> Result<(), Fail> {
 
 #[test]
 fn transcript_of_threads_is_audited(rt: HostRuntime) -> Result<(), Fail> {
-    let (status, text) = threads_shown(&rt, RING, GROUP_SEND, true)?;
+    let (status, text) = threads_shown(&rt, RING, GROUP_SEND, Showing::TRANSCRIPT)?;
     let mut reader = text.as_slice();
     let mut writer = Vec::new(rt.alloc());
-    let audited = audit_run(rt.alloc(), &mut reader, &mut writer, Table::Large);
+    let audited = audit_run(rt.alloc(), &mut reader, &mut writer, Table::Large, false);
     assert_eq!(rt; audited, status);
     assert!(rt; writer.as_slice() == RING_REPORT.as_bytes());
     Ok(())
@@ -92,7 +92,7 @@ fn faults_of_threads(rt: HostRuntime) -> Result<(), Fail> {
         ("{do=\"age\", node=\"nx\"},\n", Fault::Scenario(no_name)),
     ];
     for (steps, fault) in rows {
-        let (status, text) = threads_shown(&rt, RING, steps, false)?;
+        let (status, text) = threads_shown(&rt, RING, steps, Showing::REPORT)?;
         assert_eq!(rt; status, Status::Fault(fault));
         assert!(rt; text.is_empty());
     }
@@ -112,7 +112,7 @@ fn threads_without_a_reader_or_a_writer(rt: HostRuntime) -> Result<(), Fail> {
         &mut failing,
         &mut writer,
         Table::Small,
-        false,
+        Showing::REPORT,
     );
     assert_eq!(rt; status, Status::Fault(Fault::Read));
     assert!(rt; writer.is_empty());
@@ -121,7 +121,14 @@ fn threads_without_a_reader_or_a_writer(rt: HostRuntime) -> Result<(), Fail> {
         held: Vec::new(rt.alloc()),
         writes_left: 0,
     };
-    let status = threads_run(&rt, rt.alloc(), &mut reader, &mut full, Table::Small, true);
+    let status = threads_run(
+        &rt,
+        rt.alloc(),
+        &mut reader,
+        &mut full,
+        Table::Small,
+        Showing::TRANSCRIPT,
+    );
     assert_eq!(rt; status, Status::Fault(Fault::Write));
     assert!(rt; full.held.is_empty());
     Ok(())

@@ -4,6 +4,8 @@
 #[cfg(test)]
 mod audit_tests;
 #[cfg(test)]
+mod budget_tests;
+#[cfg(test)]
 mod closing_tests;
 #[cfg(test)]
 mod ring_rows_tests;

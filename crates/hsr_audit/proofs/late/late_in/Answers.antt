@@ -1,0 +1,31 @@
+use Rattle.std.proofs.Common.{rules, ◌≡◌, ◌<◌, true, false, length, slice_index_or}
+use borrow.Author.Count.{below_more}
+use Rattle.hsr_node.specs.declared.entry.Entry.{Entry}
+use Rattle.hsr_law.specs.Run.{Run, record_of}
+use Rattle.hsr_audit.specs.Budgeted.{IsInTimeAt}
+use Rattle.hsr_audit.specs.Timed.{is_in_time, lists_of}
+use Rattle.hsr_audit.proofs.Timing.{in_time_at, late_at}
+use Rattle.hsr_audit.proofs.late.late_in.Goals as goal
+
+pub returns-then-not-is_in_time : goal.returns-then-not-is_in_time
+returns-then-not-is_in_time g c =
+    let run : Run = c.args.closed.now.run in
+    let x : Entry = c.x-item.result in
+    let below : c.loop-place.place < length (record_of run c.args.node) = search rules in
+    let x_is : x ≡ slice_index_or (record_of run c.args.node) c.loop-place.place x = search rules in
+    let not : is_in_time (lists_of c.args.moments.now) c.moment_in-at.result x.event ≡ false = search rules in
+    record {
+      below = below;
+      late = late_at run (lists_of c.args.moments.now) c.args.node c.loop-place.place c.moment_in-at.result x c.requires.moments below c.moment_in-at.ensures x_is not;
+      before = c.loop-place.invariant;
+    }
+
+pub loop-place-preserved : goal.loop-place-preserved
+loop-place-preserved g c =
+    let run : Run = c.args.closed.now.run in
+    let x : Entry = c.x-item.result in
+    let below : c.loop-place.place < length (record_of run c.args.node) = search rules in
+    let x_is : x ≡ slice_index_or (record_of run c.args.node) c.loop-place.place x = search rules in
+    let timely : is_in_time (lists_of c.args.moments.now) c.moment_in-at.result x.event ≡ true = search rules in
+    below_more (IsInTimeAt run c.args.node) c.loop-place.place c.loop-place.invariant
+    (in_time_at run (lists_of c.args.moments.now) c.args.node c.loop-place.place c.moment_in-at.result x c.requires.moments below c.moment_in-at.ensures x_is timely)

@@ -1,0 +1,26 @@
+-- How crowded the windows of a list of moments are.
+--     crowd_in       how many of the moments lie in the window from a moment on
+--     IsMostBelow    the most that lie in the window of one of the first of them
+--     IsFirstOver    the first of them whose window has more than there is room for
+use Rattle.std.specs.Prelude.{ℕ, ◌-◌, ◌*◌, ◌<◌, ◌≤◌, ◌≡◌, ◌⊎◌, ◌&&◌, nat_le, nat_lt, Bool, List, length, count_by, slice_index}
+use Rattle.hsr_duptable.specs.Notes.{entry_forget}
+
+-- a moment lies in the window from a start on
+abbrev pub lies_in : ℕ → ℕ → Bool
+lies_in start m = nat_le start m && nat_lt (m - start) (2 * entry_forget)
+
+abbrev pub crowd_in : List ℕ → ℕ → ℕ
+crowd_in ms start = count_by (lies_in start) ms
+
+-- of the windows of the first n moments none has more, and one has as many
+pub record IsMostBelow (ms : List ℕ) (n most : ℕ) : Type 0 where
+  pub upper : (i : ℕ) → i < n → crowd_in ms (slice_index ms i) ≤ most
+  pub reached : ((i : ℕ) × (i < n) × (crowd_in ms (slice_index ms i) ≡ most)) ⊎ ((n ≡ 0) × (most ≡ 0))
+
+-- the window of this moment has more than there is room for, and those of the moments before it have not
+pub record IsFirstOver (room : ℕ) (ms : List ℕ) (m : ℕ) : Type 0 where
+  pub place : ℕ
+  pub below : place < length ms
+  pub is : slice_index ms place ≡ m
+  pub crowded : room < crowd_in ms m
+  pub before : (j : ℕ) → j < place → crowd_in ms (slice_index ms j) ≤ room

@@ -1,0 +1,54 @@
+//! How crowded the windows of a run's sends are.
+ghost use Rattle.std.specs.Prelude.{◌≡◌, ◌-◌, ◌*◌, ◌≤◌, nat_lt, length, count_by, IfErr, IfOk};
+ghost use Rattle.std.specs.List.Sorted.{IsNonDecreasing};
+ghost use Rattle.hsr_duptable.specs.Notes.{entry_forget};
+ghost use Rattle.hsr_audit.specs.Windows.{IsFirstOver, IsMostBelow, crowd_in};
+
+use hsr_duptable::ENTRY_FORGET;
+
+/// How long a window is, in microseconds: twice the time for which a frame is remembered.
+const WINDOW: u64 = 2 * ENTRY_FORGET;
+
+/// How many of these moments come before one.
+fn count_before(moments: &[u64], start: u64) -> usize
+    requires { IsNonDecreasing moments.now }
+    ensures { result ≡ count_by (λ m. nat_lt m start) moments.now }
+{
+    moments.partition_point(|moment| *moment < start)
+}
+
+/// How many of these moments come before the end of the window from one on.
+fn count_until_end(moments: &[u64], start: u64) -> usize
+    requires { IsNonDecreasing moments.now }
+    ensures { result ≡ count_by (λ m. nat_lt (m - start) (2 * entry_forget)) moments.now }
+{
+    // No sum is made: a window may end after the last moment that there is.
+    moments.partition_point(|moment| moment.saturating_sub(start) < WINDOW)
+}
+
+/// How many of these moments lie in the window from one on.
+fn crowd_in(moments: &[u64], start: u64) -> usize
+    requires { IsNonDecreasing moments.now }
+    ensures { result ≡ crowd_in moments.now start }
+{
+    count_until_end(moments, start) - count_before(moments, start)
+}
+
+/// The most of these moments that lie in the window from one of them on, or the first of them whose window has more than
+/// there is room for.
+pub(crate) fn most_crowded(room: usize, moments: &[u64]) -> Result<usize, u64>
+    requires { IsNonDecreasing moments.now }
+    ensures most { IfOk result (λ most. IsMostBelow moments.now (length moments.now) most) }
+    ensures room { IfOk result (λ most. most ≤ room) }
+    ensures crowded { IfErr result (IsFirstOver room moments.now) }
+{
+    let mut most = 0;
+    for start in moments {
+        let count = crowd_in(moments, *start);
+        if count > room {
+            return Err(*start);
+        }
+        most = most.max(count);
+    }
+    Ok(most)
+}
