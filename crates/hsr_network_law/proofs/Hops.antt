@@ -1,0 +1,164 @@
+-- What comes to a port on a ring is tagged, and what comes to an edge plain; none of a send comes back to an interlink from another
+-- node's Station; and one copy of a send at most comes to a port.
+use Rattle.std.proofs.Common.{◌≡◌, ℕ, ◌<◌, ◌≤◌, ◌||◌, Bool, true, false, cond, if◌then◌else◌, List, [], ◌∷◌, length, count_by, filter_map, Option, Some, None, Ok, refl, sym, ap, ◌∙◌, subst, arith, ⊎_elim}
+use Rattle.std.specs.Prelude.{option_map}
+use Rattle.std.specs.List.{list_any, AllByRecursion, cons_option}
+use Rattle.std.proofs.lemmas.List.Sorted.{sum_by-IsPermutation}
+use Rattle.std.proofs.lemmas.Bool.{cases_Bool}
+use Rattle.hsr_node.specs.Copies.{copy_octets, forwarded, ports_of, side_of}
+use Rattle.hsr_node.specs.Flow.{arrivals, passes}
+use Rattle.hsr_node.specs.Record.{Each, answer, has_port, now, number_in, probe_handled}
+use Rattle.hsr_node.specs.declared.entry.Entry.{Entry}
+use Rattle.hsr_node.specs.declared.event.Carried.{Carried}
+use Rattle.hsr_node.specs.declared.event.Event.{Event}
+use Rattle.hsr_node.specs.declared.event.Event.TheVariants.{Send, Supervise, Arrive, Age}
+use Rattle.hsr_node.specs.declared.event.Probe.{Probe}
+use Rattle.hsr_link.specs.Rows.{put_copy, taken_copy}
+use Rattle.hsr_link.specs.declared.row.Dir.{Dir}
+use Rattle.hsr_link.specs.declared.row.Dir.TheVariants.{Forth, Back}
+use Rattle.hsr_law.specs.Closed.{IsClosed, IsOfSend}
+use Rattle.hsr_network_law.specs.Network.{IsPortOf, IsNetwork, Way, is_edge, is_station, start_of, stop_of}
+use Rattle.hsr_law.specs.Once.{is_copy}
+use Rattle.hsr_law.specs.Premises.{NothingForgotten, NumberedFirst}
+use Rattle.hsr_law.specs.Run.{Run, ends_of, from_end, owner_of, past_of, place_of, rows_of, to_end}
+use Rattle.hsr_topology.specs.declared.end.End.{End}
+use Rattle.hsr_network_law.proofs.Leaving.{came_by, came_pass, leaves_port}
+use Rattle.hsr_network_law.proofs.Sides.{exit_of, few_ports}
+use Rattle.hsr_network_law.proofs.Unwanted.{station_lets_none}
+use Rattle.hsr_law.proofs.LinkLaws.{arrives_between}
+use Rattle.hsr_law.proofs.NoStorm.{leaves_once}
+use Rattle.hsr_law.proofs.Records.{Answered}
+use Rattle.hsr_law.proofs.Same.{probe_is}
+use Rattle.hsr_law.proofs.Views.{came, knows_at, leaves_wanted}
+use Rattle.hsr_network_law.proofs.Fits.{IsFit, all_fit_left, legal}
+use Rattle.hsr_network_law.proofs.Links.{taken_less}
+
+module _ (run : Run) (closed : IsClosed run) (net : IsNetwork run) where
+  pub stop_port : (way : Way) → way.link < length run.links → IsPortOf run (stop_of run way)
+  stop_port way below = by_dir way.dir
+    where
+      by_dir : (dir : Dir) → IsPortOf run (to_end dir (ends_of run way.link))
+      by_dir Forth = net.ends (record { link = way.link; dir = Back }) below
+      by_dir Back = net.ends (record { link = way.link; dir = Forth }) below
+
+  -- the other direction of the same link
+  pub record IsBack (way : Way) : Type 0 where
+    pub back : Way
+    pub below : back.link < length run.links
+    pub starts : start_of run back ≡ stop_of run way
+    pub stops : stop_of run back ≡ start_of run way
+
+  pub back_of : (way : Way) → way.link < length run.links → IsBack way
+  back_of way below = by_dir way.dir refl
+    where
+      by_dir : (dir : Dir) → way.dir ≡ dir → IsBack way
+      by_dir Forth e = record { back = record { link = way.link; dir = Back }; below = below; starts = ap (λ d. to_end d (ends_of run way.link)) (sym e); stops = ap (λ d. from_end d (ends_of run way.link)) (sym e) }
+      by_dir Back e = record { back = record { link = way.link; dir = Forth }; below = below; starts = ap (λ d. to_end d (ends_of run way.link)) (sym e); stops = ap (λ d. from_end d (ends_of run way.link)) (sym e) }
+
+  -- ---- so what comes is
+
+  abbrev pub IsGoodAt : Bool → Carried → Type 0
+  IsGoodAt edge copy = IsFit run edge copy × IsOfSend run copy
+
+  pub all_fit : (k port : ℕ) → k < length run.places → AllByRecursion (IsGoodAt (is_edge (place_of run k) port)) (arrivals port (past_of run k))
+  all_fit k port below =
+      ⊎_elim
+      (λ at.
+      let way : Way = record { link = at.link; dir = at.dir } in
+      let from : End = from_end at.dir (ends_of run at.link) in
+      let all = arrives_between run closed (IsFit run (is_edge (place_of run (from_end at.dir (ends_of run at.link)).node) (from_end at.dir (ends_of run at.link)).port)) at.link at.dir (from_end at.dir (ends_of run at.link)) (record { node = k; port = port }) at.below refl at.ends
+      (all_fit_left run closed net (from_end at.dir (ends_of run at.link)) (net.ends (record { link = at.link; dir = at.dir }) at.below)) in
+      let S : End → Type 0 = λ end. is_edge (place_of run (from_end at.dir (ends_of run at.link)).node) (from_end at.dir (ends_of run at.link)).port ≡ is_edge (place_of run end.node) end.port in
+      let same = subst S at.ends (net.sides (record { link = at.link; dir = at.dir }) at.below) in
+      let B : Bool → Type 0 = λ b. AllByRecursion (IsGoodAt b) (arrivals port (past_of run k)) in
+      subst B same all)
+      (λ none. let Q : List Carried → Type 0 = AllByRecursion (IsGoodAt (is_edge (place_of run k) port)) in subst Q (sym none) tt)
+      (closed.linked k port below)
+
+  -- ---- what a Station lets leave is its own
+
+  abbrev IsFrom : ℕ → Carried → Type 0
+  IsFrom j copy = (p : Probe) × (copy.probe ≡ Some p) × (p.node ≡ j)
+
+  station_own : (k n : ℕ) → is_station (place_of run k) ≡ true → n < 4 → (h : List Entry) → Each (Answered run.capacity (owner_of run k)) h → AllByRecursion (IsFrom k) (passes (owner_of run k) n h)
+  station_own k n station few [] legal = tt
+  station_own k n station few (x ∷ past) legal = by_event x.event refl (station_own k n station few past legal.1)
+    where
+      Goal : Type 0
+      Goal = AllByRecursion (IsFrom k) (passes (owner_of run k) n (x ∷ past))
+
+      own : probe_handled (record { node = k; place = length past }) x.event ≡ Some (record { node = k; place = length past }) → AllByRecursion (IsFrom k) (passes (owner_of run k) n past) → Goal
+      own probe rest = by_octets (copy_octets (place_of run k) x.event x.outcome n)
+        where
+          by_octets : (o : Option (List ℕ)) → AllByRecursion (IsFrom k) (cons_option (option_map (λ octets. let c : Carried = record { probe = probe_handled (record { node = k; place = length past }) x.event; octets = octets } in c) o) (passes (owner_of run k) n past))
+          by_octets None = rest
+          by_octets (Some octets) = ((record { node = k; place = length past }, probe, refl), rest)
+
+      by_event : (event : Event) → x.event ≡ event → AllByRecursion (IsFrom k) (passes (owner_of run k) n past) → Goal
+      by_event (Send from dst vlan kind data') e rest = own (ap (probe_handled (record { node = k; place = length past })) e) rest
+      by_event (Supervise about) e rest = own (ap (probe_handled (record { node = k; place = length past })) e) rest
+      by_event Age e rest = own (ap (probe_handled (record { node = k; place = length past })) e) rest
+      by_event (Arrive port come) e rest =
+          let A : Event → Type 0 = λ ev. answer run.capacity (owner_of run k) past (now (x ∷ past)) ev ≡ Ok x.outcome in
+          let ok = subst A e legal.0 in
+          let Q : Option Carried → Type 0 = λ o. AllByRecursion (IsFrom k) (cons_option o (passes (owner_of run k) n past)) in
+          subst Q (sym (came_pass run.capacity (owner_of run k) n x past port come e ok)) (by_out (has_port (ports_of x.outcome) n) refl ok)
+        where
+          by_out : (t : Bool) → has_port (ports_of x.outcome) n ≡ t → answer run.capacity (owner_of run k) past (now (x ∷ past)) (Arrive port come) ≡ Ok x.outcome →
+              AllByRecursion (IsFrom k) (cons_option (option_map (λ octets. record { probe = come.probe; octets = octets }) (if t then forwarded (side_of (place_of run k) port) (side_of (place_of run k) n) (number_in x.outcome) come.octets else None)) (passes (owner_of run k) n past))
+          by_out false gone ok = rest
+          by_out true gone ok =
+              let left = sym (leaves_port run.capacity (owner_of run k) x past port n come e ok few) ∙ gone in
+              absurd (station_lets_none (place_of run k) station (knows_at (owner_of run k) past (now (x ∷ past)) port come) port (came come) n (came_by run.capacity (owner_of run k) past (now (x ∷ past)) port come x.outcome ok)
+              (leaves_wanted run.capacity (owner_of run k) past (now (x ∷ past)) port come x.outcome (exit_of n) ok left))
+
+  -- none of a send came to the port from which a way starts that doesn't end at its sender, if the port is an interlink
+  pub none_back : (send : Probe) (way : Way) → way.link < length run.links → is_edge (place_of run (start_of run way).node) (start_of run way).port ≡ true → is_station (place_of run (start_of run way).node) ≡ false →
+      ((stop_of run way).node ≡ send.node → ⊥) → list_any (is_copy send) (arrivals (start_of run way).port (past_of run (start_of run way).node)) ≡ false
+  none_back send way below edge no_station away =
+      ⊎_elim
+      (λ at.
+      let coming : Way = record { link = at.link; dir = at.dir } in
+      let b = back_of (record { link = at.link; dir = at.dir }) at.below in
+      let starts : start_of run way ≡ start_of run b.back = sym (b.starts ∙ at.ends) in
+      let stops : stop_of run way ≡ start_of run (record { link = at.link; dir = at.dir }) = net.apart way b.back below b.below starts ∙ b.stops in
+      let S : End → Type 0 = λ end. is_station (place_of run end.node) ≡ true in
+      let station = subst S stops (net.faces way below edge no_station) in
+      let port = net.ends (record { link = at.link; dir = at.dir }) at.below in
+      let from : End = from_end at.dir (ends_of run at.link) in
+      let all = arrives_between run closed (IsFrom (from_end at.dir (ends_of run at.link)).node) at.link at.dir (from_end at.dir (ends_of run at.link)) (start_of run way) at.below refl at.ends
+      (station_own (from_end at.dir (ends_of run at.link)).node (from_end at.dir (ends_of run at.link)).port station (few_ports (place_of run (from_end at.dir (ends_of run at.link)).node) (from_end at.dir (ends_of run at.link)).port port.port) (past_of run (from_end at.dir (ends_of run at.link)).node) (legal run closed net (from_end at.dir (ends_of run at.link)).node port.node)) in
+      none_of (from_end at.dir (ends_of run at.link)).node (λ e. away (ap (λ (end : End). end.node) stops ∙ e)) (arrivals (start_of run way).port (past_of run (start_of run way).node)) all)
+      (λ none. ap (list_any (is_copy send)) none)
+      (closed.linked (start_of run way).node (start_of run way).port (net.ends way below).node)
+    where
+      none_of : (j : ℕ) → (j ≡ send.node → ⊥) → (cs : List Carried) → AllByRecursion (λ copy. IsFrom j copy × IsOfSend run copy) cs → list_any (is_copy send) cs ≡ false
+      none_of j other [] all = refl
+      none_of j other (c ∷ cs) all =
+          ⊎_elim
+          (λ mine.
+          let there = probe_is send c.probe mine in
+          let both : Some all.0.0.0 ≡ Some send = sym all.0.0.1 ∙ there in
+          let same : all.0.0.0 ≡ send = cc in
+          absurd (other (sym all.0.0.2 ∙ ap (λ (p : Probe). p.node) same)))
+          (λ not_mine. ap (λ b. b || list_any (is_copy send) cs) not_mine ∙ none_of j other cs all.1)
+          (cases_Bool (is_copy send c))
+
+  -- ---- one copy of a send comes to a port
+
+  pub comes_once : NumberedFirst run → NothingForgotten run → (send : Probe) (k port : ℕ) → k < length run.places → count_by (is_copy send) (arrivals port (past_of run k)) ≤ 1
+  comes_once first remembers send k port below =
+      ⊎_elim
+      (λ at.
+      let there = net.ends (record { link = at.link; dir = at.dir }) at.below in
+      let once = leaves_once run closed first remembers (from_end at.dir (ends_of run at.link)).node (from_end at.dir (ends_of run at.link)).port send there.node in
+      let put = sum_by-IsPermutation (λ x. cond (is_copy send x) 1 0) _ _ (closed.put at.link at.dir at.below) in
+      let less = taken_less run (is_copy send) at.dir (rows_of run at.link) (closed.settled at.link at.below) in
+      let taken = sum_by-IsPermutation (λ x. cond (is_copy send x) 1 0) _ _ (closed.taken at.link at.dir at.below) in
+      let P : End → Type 0 = λ end. count_by (is_copy send) (arrivals end.port (past_of run end.node)) ≤ 1 in
+      let M : ℕ → Type 0 = λ m. m ≤ 1 in
+      let put_once : count_by (is_copy send) (filter_map (put_copy at.dir) (rows_of run at.link)) ≤ 1 = subst M (sym put) once in
+      let taken_once : count_by (is_copy send) (filter_map (taken_copy at.dir) (rows_of run at.link)) ≤ 1 = omega arith in
+      subst P at.ends (subst M (sym taken) taken_once))
+      (λ none. let Q : List Carried → Type 0 = λ cs. count_by (is_copy send) cs ≤ 1 in subst Q (sym none) (omega arith))
+      (closed.linked k port below)

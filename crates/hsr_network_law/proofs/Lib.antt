@@ -1,0 +1,12 @@
+pub mod PlainReads
+pub mod Sides
+pub mod Wants
+pub mod Unwanted
+pub mod Leaving
+pub mod Sending
+pub mod Fits
+pub mod Links
+pub mod Hops
+pub mod Counts
+pub mod Delivered
+pub mod Search

@@ -1,0 +1,4 @@
+pub mod Network
+pub mod Ways
+pub mod Delivered
+pub mod Search
