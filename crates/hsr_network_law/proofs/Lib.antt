@@ -10,3 +10,6 @@ pub mod Hops
 pub mod Counts
 pub mod Delivered
 pub mod Search
+pub mod Wired
+pub mod WorkedBox
+pub mod WorkedRings
