@@ -25,6 +25,7 @@ use Rattle.hsr_node.specs.declared.event.Outcome.{Outcome}
 use Rattle.hsr_node.specs.declared.event.Outcome.TheVariants.{Sent, Life, Judged, Aged}
 use Rattle.std.specs.Prelude.{option_map, reverse}
 use Rattle.std.proofs.lemmas.List.Sorted.{IsPermutation-reverse, sum_by-IsPermutation}
+use Rattle.hsr_node.specs.Station.{is_among}
 use Rattle.hsr_law.specs.Closed.{IsClosed, IsOfSend, IsSend}
 use Rattle.hsr_network_law.specs.Ways.{ComesOver, IsReached, keeps_own, lets_out, on, passes_on, sent}
 use Rattle.hsr_network_law.specs.Delivered.{OnceInNetwork, is_meant, is_said}
@@ -36,7 +37,7 @@ use Rattle.hsr_law.specs.Run.{Run, owner_of, past_of, place_of, record_of}
 use Rattle.hsr_topology.specs.declared.end.End.{End}
 use Rattle.hsr_law.proofs.Arrived.{WouldGo, arrived_noted}
 use Rattle.hsr_network_law.proofs.Counts.{IsNotOwn, delivered_came, delivered_noted, delivers_is, no_fault_up}
-use Rattle.hsr_network_law.proofs.Unwanted.{own_plain_unwanted, quad_not_up}
+use Rattle.hsr_network_law.proofs.Unwanted.{at_among, own_plain_unwanted, quad_not_up, single_plain, single_tagged}
 use Rattle.hsr_network_law.proofs.Sides.{exit_of, few_ports, one_port}
 use Rattle.hsr_network_law.proofs.Fits.{legal}
 use Rattle.hsr_network_law.proofs.Hops.{IsGoodAt, all_fit, comes_once, none_back, stop_port}
@@ -52,8 +53,6 @@ use Rattle.hsr_law.proofs.Views.{Came, came, knows_at, leaves_wanted}
 use Rattle.hsr_law.proofs.Wanted.{own_unwanted, source_of}
 use Rattle.hsr_law.proofs.Same.{other_address, same_address}
 use Rattle.hsr_law.proofs.Sends.{send_passed}
-use Rattle.hsr_law.proofs.RingWants.{wants_not_up}
-use Rattle.hsr_law.proofs.Danh.{danh_tagged}
 
 has_source : (place : Place) (address : List ℕ) → IsSource place address → HasAddress place address
 has_source (Danh mac mode) address h = h
@@ -348,19 +347,35 @@ module _ (run : Run) (closed : IsClosed run) (net : IsNetwork run) (send : Probe
   pub not_for : (k : ℕ) → k < length run.places → is_said sending.frame (place_of run k) ≡ true → is_meant send.node sending.frame k (place_of run k) ≡ false → list_any (delivers send) (past_of run k) ≡ false
   not_for k below said other = none_of (past_of run k) (legal run closed net k below) (each_of_send run closed k below)
     where
-      -- it sent it, or is no node for it
+      -- it sent it, or a single frame is to another
       IsKeptOut : Place → Type 0
-      IsKeptOut place = (place ≡ QuadBox) ⊎ (k ≡ send.node) ⊎ ((mac : List ℕ) × (mode : Mode) × (place ≡ Danh mac mode) × (is_group sending.frame.dst ≡ false) × (sending.frame.dst ≡ mac → ⊥))
+      IsKeptOut place = (place ≡ QuadBox) ⊎ (k ≡ send.node) ⊎ ((is_group sending.frame.dst ≡ false) × (HasAddress place sending.frame.dst → ⊥))
+
+      sent_here : (g : Bool) → g ≡ true → (g && not (k == send.node)) ≡ false → k ≡ send.node
+      sent_here true e m = eqb-true k send.node (not-false (k == send.node) m)
+      sent_here false e m = absurd (false≢true e)
+
+      -- where something is said of a frame that isn't to a group, it isn't to this node
+      to_other : (b : Bool) → (false || not b) ≡ true → b ≡ false
+      to_other b h = not-true b h
 
       kept_out : (place : Place) → is_said sending.frame place ≡ true → is_meant send.node sending.frame k place ≡ false → IsKeptOut place
       kept_out (Danh mac mode) said m = by_group (is_group sending.frame.dst) refl m
         where
           by_group : (g : Bool) → is_group sending.frame.dst ≡ g → (if g then not (k == send.node) else is_same_address mac sending.frame.dst) ≡ false → IsKeptOut (Danh mac mode)
           by_group true g m = inr (inl (eqb-true k send.node (not-false (k == send.node) m)))
-          by_group false g m = inr (inr (mac, mode, refl, g, λ e. other_address mac sending.frame.dst m (sym e)))
-      kept_out (RedBox mac mode) said m = inr (inl (eqb-true k send.node (not-false (k == send.node) (sym (ap (λ b. b && not (k == send.node)) said) ∙ m))))
+          by_group false g m = inr (inr (g, λ e. other_address mac sending.frame.dst m (sym e)))
+      kept_out (RedBox mac mode) said m = by_group (is_group sending.frame.dst) refl said m
+        where
+          by_group : (g : Bool) → is_group sending.frame.dst ≡ g → (g || not (is_same_address mac sending.frame.dst)) ≡ true → (g && not (k == send.node)) ≡ false → IsKeptOut (RedBox mac mode)
+          by_group true g said m = inr (inl (sent_here true refl m))
+          by_group false g said m = inr (inr (g, λ e. other_address mac sending.frame.dst (to_other (is_same_address mac sending.frame.dst) said) (sym e)))
       kept_out QuadBox said m = inl refl
-      kept_out (Station macs) said m = inr (inl (eqb-true k send.node (not-false (k == send.node) (sym (ap (λ b. b && not (k == send.node)) said) ∙ m))))
+      kept_out (Station macs) said m = by_group (is_group sending.frame.dst) refl said m
+        where
+          by_group : (g : Bool) → is_group sending.frame.dst ≡ g → (g || not (is_among macs.items sending.frame.dst)) ≡ true → (g && not (k == send.node)) ≡ false → IsKeptOut (Station macs)
+          by_group true g said m = inr (inl (sent_here true refl m))
+          by_group false g said m = inr (inr (g, λ e. false≢true (sym (to_other (is_among macs.items sending.frame.dst) said) ∙ at_among macs.items sending.frame.dst e.0 e.1)))
 
       unwanted : (known : List ℕ → Bool) (port : ℕ) (copy : Carried) → IsOfSend run copy → is_copy send copy ≡ true → ((fault : FrameFault) → came copy ≡ Err fault → ⊥) → wants (place_of run k) known port (came copy) up ≡ false
       unwanted known port copy o mine no_fault =
@@ -368,17 +383,18 @@ module _ (run : Run) (closed : IsClosed run) (net : IsNetwork run) (send : Probe
           (λ quad. let W : Place → Type 0 = λ p. wants p known port (came copy) up ≡ false in subst W (sym quad) (quad_not_up known port (came copy)))
           (λ rest. ⊎_elim
           (λ own. by_came (own_source run k send copy o mine (sym own)) (came copy) refl)
-          (λ danh. let W : Place → Type 0 = λ p. wants p known port (came copy) up ≡ false in subst W (sym danh.2) (single danh.0 danh.1 danh.3 danh.4 (came copy) refl))
+          (λ single. by_kind single.0 single.1 (came copy) refl)
           rest)
           (kept_out (place_of run k) said other)
         where
-          single : (mac : List ℕ) (mode : Mode) → is_group sending.frame.dst ≡ false → (sending.frame.dst ≡ mac → ⊥) → (seen : Came) → came copy ≡ seen → wants (Danh mac mode) known port seen up ≡ false
-          single mac mode group far (Err fault) e = absurd (no_fault fault e)
-          single mac mode group far (Ok (Tagged t)) e =
+          by_kind : is_group sending.frame.dst ≡ false → (HasAddress (place_of run k) sending.frame.dst → ⊥) → (seen : Came) → came copy ≡ seen → wants (place_of run k) known port seen up ≡ false
+          by_kind group far (Err fault) e = absurd (no_fault fault e)
+          by_kind group far (Ok (Tagged t)) e =
               let two = tagged_of_send run send sending copy o mine is t e in
-              wants_not_up mac mode known port t (inr (ap (λ (g : Fields). is_group g.dst) two.0 ∙ group, λ same. far (sym (ap (λ (g : Fields). g.dst) two.0) ∙ same)))
-          single mac mode group far (Ok (Plain f)) e =
-              ⊎_elim (λ yes. let t = danh_tagged mac mode known port (Ok (Plain f)) up yes in let bad = t.1 in absurd cc) (λ no. no) (cases_Bool (wants (Danh mac mode) known port (Ok (Plain f)) up))
+              single_tagged (place_of run k) known port t (ap (λ (g : Fields). is_group g.dst) two.0 ∙ group) (subst (λ (g : Fields). HasAddress (place_of run k) g.dst → ⊥) (sym two.0) far)
+          by_kind group far (Ok (Plain f)) e =
+              let same = plain_of_send run send sending copy o mine is f e in
+              single_plain (place_of run k) known port f (ap (λ (g : Fields). is_group g.dst) same ∙ group) (subst (λ (g : Fields). HasAddress (place_of run k) g.dst → ⊥) (sym same) far)
 
           by_came : IsSource (place_of run k) o.sending.frame.src → (seen : Came) → came copy ≡ seen → wants (place_of run k) known port seen up ≡ false
           by_came src (Err fault) e = absurd (no_fault fault e)

@@ -1,20 +1,23 @@
 -- What no node wants: what is no frame, what it sent itself, what came plain from a ring, and, for a Station, anything on.
-use Rattle.std.proofs.Common.{◌≡◌, ℕ, ◌<◌, ◌==◌, ◌||◌, Bool, true, false, if◌then◌else◌, List, [], ◌∷◌, Option, Some, None, Ok, Err, refl, sym, ◌∙◌, arith, zero, suc}
+use Rattle.std.proofs.Common.{ap, Bool, Err, List, None, Ok, Option, Some, [], arith, false, if◌then◌else◌, inr, refl, suc, sym, true, zero, ℕ, ◌&&◌, ◌<◌, ◌==◌, ◌||◌, ◌∙◌, ◌∷◌, ◌≡◌}
 use Rattle.std.specs.Prelude.{option_map, slice_get}
 use Rattle.std.proofs.lemmas.Bool.{false≢true, or_left, or_right}
-use Rattle.hsr_frame.specs.Address.{is_group, is_same_address}
+use Rattle.hsr_frame.specs.Address.{is_group, is_same_address, supervision_address}
 use Rattle.hsr_frame.specs.Cases.{first_of}
-use Rattle.hsr_frame.specs.Egress.{Egress, has_exit, nowhere, to, up}
+use Rattle.hsr_frame.specs.Egress.{Egress, beyond, has_exit, in_mode, is_supervision, nowhere, onward, to, up}
 use Rattle.hsr_frame.specs.Egress as out
 use Rattle.hsr_frame.specs.Grammar.{Fields}
 use Rattle.hsr_frame.specs.declared.egress.Wants.{Wants}
 use Rattle.hsr_frame.specs.declared.fault.FrameFault.{FrameFault}
 use Rattle.hsr_frame.specs.declared.node.Cause.TheVariants as cause
 use Rattle.hsr_frame.specs.declared.node.Mode.{Mode}
+use Rattle.hsr_frame.specs.declared.node.Mode.TheVariants.{H, N, U}
 use Rattle.hsr_frame.specs.declared.node.RingPort.{RingPort}
+use Rattle.hsr_frame.specs.declared.node.RingPort.TheVariants as ring
 use Rattle.hsr_tag.specs.Tag.{TaggedFields}
 use Rattle.hsr_tag.specs.declared.seen.Seen.TheVariants.{Plain, Tagged}
 use Rattle.hsr_danh.specs.Wanted as of_danh
+use Rattle.hsr_redbox.specs.Wanted as of_redbox
 use Rattle.hsr_redbox.specs.Wanted.{numbered, unnumbered}
 use Rattle.hsr_redbox.specs.declared.call.BoxPort.{BoxPort}
 use Rattle.hsr_redbox.specs.declared.call.BoxPort.TheVariants as box
@@ -29,12 +32,15 @@ use Rattle.hsr_node.specs.Station.{is_among}
 use Rattle.hsr_node.specs.Step.{box_port, quad_port, ring_port}
 use Rattle.hsr_node.specs.declared.place.Place.{Place}
 use Rattle.hsr_node.specs.declared.place.Place.TheVariants.{Danh, RedBox, QuadBox, Station}
+use Rattle.hsr_frame.specs.Layout.{ethertype_supervision}
+use Rattle.hsr_network_law.proofs.Wants.{not_among}
+use Rattle.hsr_law.proofs.RingWants.{wants_not_up}
 use Rattle.hsr_law.proofs.Danh.{danh_tagged}
 use Rattle.hsr_law.proofs.Records.{IsSource}
-use Rattle.hsr_law.proofs.Same.{address_same}
+use Rattle.hsr_law.proofs.Same.{address_other, address_same, same_address}
 use Rattle.hsr_law.proofs.Views.{Came}
 use Rattle.hsr_law.proofs.Wanted.{no_exit}
-use Rattle.hsr_network_law.specs.Network.{is_edge, is_station}
+use Rattle.hsr_network_law.specs.Network.{HasAddress, is_edge, is_station}
 use Rattle.hsr_network_law.proofs.Sides.{exit_of}
 
 -- ---- what is no frame
@@ -101,7 +107,7 @@ own_shut : (own : Bool) (rest : List (Bool × Wants)) (other : Wants) (e : Egres
 own_shut true rest other e h = no_exit cause.Returned e
 own_shut false rest other e h = absurd (false≢true h)
 
-at_among : (macs : List (List ℕ)) (mac : List ℕ) (i : ℕ) → slice_get macs i ≡ Some mac → is_among macs mac ≡ true
+pub at_among : (macs : List (List ℕ)) (mac : List ℕ) (i : ℕ) → slice_get macs i ≡ Some mac → is_among macs mac ≡ true
 at_among [] mac i h = absurd cc
 at_among (own ∷ macs) mac zero h = let same : own ≡ mac = cc in or_left _ _ (address_same own mac same)
 at_among (own ∷ macs) mac (suc i) h = or_right _ _ (at_among macs mac i h)
@@ -161,3 +167,89 @@ station_lets_none (Station macs) s known zero (Ok (Plain f)) n h w = false≢tru
 station_lets_none (Station macs) s known zero (Ok (Tagged t)) n h w = false≢true (sym (no_exit cause.Tagged (exit_of n)) ∙ w)
 station_lets_none (Station macs) s known zero (Err fault) n h w = false≢true (sym (no_exit (cause.Malformed fault) (exit_of n)) ∙ w)
 station_lets_none (Station macs) s known (suc port) seen n h w = omega arith
+
+-- ---- a single frame goes up at no node but the one with its address
+
+-- mode N takes nothing from up
+up_in : (mode : Mode) (w : Wants) → has_exit (in_mode mode w).exits up ≡ has_exit w.exits up
+up_in H w = refl
+up_in N w = refl
+up_in U w = refl
+
+box_shut : (mode : Mode) (own same life group near : Bool) (p : RingPort) → same ≡ false → life ≡ false → group ≡ false →
+    has_exit (first_of ((own, nowhere cause.Returned) ∷ (same, to (up ∷ onward mode p)) ∷ (life, to (up ∷ beyond p ∷ [])) ∷ (group, to (up ∷ of_redbox.interlink ∷ beyond p ∷ [])) ∷ (near, to (of_redbox.interlink ∷ onward mode p)) ∷ []) (to (beyond p ∷ []))).exits up ≡ false
+box_shut mode own true life group near p s l g = absurd (false≢true (sym s))
+box_shut mode own false true group near p s l g = absurd (false≢true (sym l))
+box_shut mode own false false true near p s l g = absurd (false≢true (sym g))
+box_shut mode true false false false near p s l g = refl
+box_shut H false false false false true p s l g = refl
+box_shut N false false false false true p s l g = refl
+box_shut U false false false false true ring.A s l g = refl
+box_shut U false false false false true ring.B s l g = refl
+box_shut mode false false false false false ring.A s l g = refl
+box_shut mode false false false false false ring.B s l g = refl
+
+edge_shut : (own same near group : Bool) (src : List ℕ) → same ≡ false → group ≡ false →
+    has_exit (first_of ((own, unnumbered (nowhere cause.Returned)) ∷ (same, unnumbered (to (up ∷ []))) ∷ (near, unnumbered (nowhere cause.Local)) ∷ (group, numbered src (to (up ∷ out.a ∷ out.b ∷ []))) ∷ []) (numbered src (to (out.a ∷ out.b ∷ [])))).wants.exits up ≡ false
+edge_shut own true near group src s g = absurd (false≢true (sym s))
+edge_shut own same near true src s g = absurd (false≢true (sym g))
+edge_shut true false near false src s g = refl
+edge_shut false false true false src s g = refl
+edge_shut false false false false src s g = refl
+
+station_not_up : (own mine : Bool) → mine ≡ false → has_exit (first_of ((own, nowhere cause.Returned) ∷ (mine, to (up ∷ [])) ∷ []) (to [])).exits up ≡ false
+station_not_up own true m = absurd (false≢true (sym m))
+station_not_up true false m = refl
+station_not_up false false m = refl
+
+-- no supervision frame is single
+no_life : (dst : List ℕ) (kind : ℕ) → is_group dst ≡ false → is_supervision dst kind ≡ false
+no_life dst kind single = by_test (is_same_address dst supervision_address) refl
+  where
+    by_test : (b : Bool) → is_same_address dst supervision_address ≡ b → (b && (kind == ethertype_supervision)) ≡ false
+    by_test false e = refl
+    by_test true e = absurd (false≢true (sym single ∙ ap is_group (same_address dst supervision_address e)))
+
+-- of what comes tagged, and of what comes plain
+pub single_tagged : (place : Place) (known : List ℕ → Bool) (port : ℕ) (t : TaggedFields) → is_group t.dst ≡ false → (HasAddress place t.dst → ⊥) → wants place known port (Ok (Tagged t)) up ≡ false
+single_tagged (Danh mac mode) known port t single other = wants_not_up mac mode known port t (inr (single, other))
+single_tagged (RedBox mac mode) known port t single other = by_port (box_port port)
+  where
+    on_ring : (p : RingPort) → has_exit (in_mode mode (of_redbox.wanted_tagged mac mode known p t)).exits up ≡ false
+    on_ring p = up_in mode (of_redbox.wanted_tagged mac mode known p t)
+        ∙ box_shut mode (is_same_address t.src mac) (is_same_address t.dst mac) (is_supervision t.dst t.kind) (is_group t.dst) (known t.dst) p (address_other t.dst mac other) (no_life t.dst t.kind single) single
+
+    by_port : (o : Option BoxPort) → wanted_at (option_map (λ x. box_handling mac mode known x (Ok (Tagged t))) o) up ≡ false
+    by_port None = refl
+    by_port (Some box.A) = on_ring ring.A
+    by_port (Some box.B) = on_ring ring.B
+    by_port (Some box.I) = refl
+single_tagged QuadBox known port t single other = quad_not_up known port (Ok (Tagged t))
+single_tagged (Station macs) known port t single other = by_port (port == 0)
+  where
+    by_port : (b : Bool) → wanted_at (if b then Some (unnumbered (station_wanted macs.items (Ok (Tagged t)))) else None) up ≡ false
+    by_port true = refl
+    by_port false = refl
+
+pub single_plain : (place : Place) (known : List ℕ → Bool) (port : ℕ) (f : Fields) → is_group f.dst ≡ false → (HasAddress place f.dst → ⊥) → wants place known port (Ok (Plain f)) up ≡ false
+single_plain (Danh mac mode) known port f single other = by_port (ring_port port)
+  where
+    by_port : (o : Option RingPort) → wanted_at (option_map (λ x. unnumbered (of_danh.wanted mac mode x (Ok (Plain f)))) o) up ≡ false
+    by_port None = refl
+    by_port (Some x) = refl
+single_plain (RedBox mac mode) known port f single other = by_port (box_port port)
+  where
+    by_port : (o : Option BoxPort) → wanted_at (option_map (λ x. box_handling mac mode known x (Ok (Plain f))) o) up ≡ false
+    by_port None = refl
+    by_port (Some box.A) = refl
+    by_port (Some box.B) = refl
+    by_port (Some box.I) = edge_shut (is_same_address f.src mac) (is_same_address f.dst mac) (known f.dst) (is_group f.dst) f.src (address_other f.dst mac other) single
+single_plain QuadBox known port f single other = quad_not_up known port (Ok (Plain f))
+single_plain (Station macs) known port f single other = by_port (port == 0)
+  where
+    mine : (is_among macs.items f.dst || is_group f.dst) ≡ false
+    mine = ap (λ b. b || is_group f.dst) (not_among macs.items f.dst other) ∙ single
+
+    by_port : (b : Bool) → wanted_at (if b then Some (unnumbered (station_wanted macs.items (Ok (Plain f)))) else None) up ≡ false
+    by_port true = station_not_up (is_among macs.items f.src) (is_among macs.items f.dst || is_group f.dst) mine
+    by_port false = refl

@@ -214,7 +214,7 @@ station_by true mine o m = absurd (false≢true (sym o))
 station_by false true o m = refl
 station_by false false o m = absurd (false≢true m)
 
-not_among : (macs : List (List ℕ)) (mac : List ℕ) → ((i : ℕ) × (slice_get macs i ≡ Some mac) → ⊥) → list_any (λ own. is_same_address own mac) macs ≡ false
+pub not_among : (macs : List (List ℕ)) (mac : List ℕ) → ((i : ℕ) × (slice_get macs i ≡ Some mac) → ⊥) → list_any (λ own. is_same_address own mac) macs ≡ false
 not_among macs mac other = ⊎_elim (λ yes. absurd (other (among_at macs mac yes))) (λ no. no) (cases_Bool (list_any (λ own. is_same_address own mac) macs))
 
 -- a Station wants it up

@@ -2,10 +2,11 @@
 --     is_meant        whom a frame is for
 --     is_said         of which nodes something is said
 --     OnceInNetwork   each node that a frame is for and reaches took it up once, and nothing else went up
-use Rattle.std.specs.Prelude.{ℕ, ◌<◌, ◌≤◌, ◌≡◌, ◌==◌, ◌&&◌, not, Bool, true, false, length, count_by, if◌then◌else◌}
+use Rattle.std.specs.Prelude.{ℕ, ◌<◌, ◌≤◌, ◌≡◌, ◌==◌, ◌&&◌, ◌||◌, not, Bool, true, false, length, count_by, if◌then◌else◌}
 use Rattle.hsr_frame.specs.Address.{is_group, is_same_address}
 use Rattle.hsr_frame.specs.Grammar.{Fields}
 use Rattle.hsr_node.specs.Record.{Each}
+use Rattle.hsr_node.specs.Station.{is_among}
 use Rattle.hsr_node.specs.declared.event.Probe.{Probe}
 use Rattle.hsr_node.specs.declared.place.Place.{Place}
 use Rattle.hsr_node.specs.declared.place.Place.TheVariants.{Danh, RedBox, QuadBox, Station}
@@ -24,12 +25,12 @@ is_meant sender frame k (RedBox mac mode) = is_group frame.dst && not (k == send
 is_meant sender frame k QuadBox = false
 is_meant sender frame k (Station macs) = is_group frame.dst && not (k == sender)
 
--- nothing is said of single frames at RedBoxes and Stations
+-- nothing is said of a single frame at the RedBox or Station that has its address
 abbrev pub is_said : Fields → Place → Bool
 is_said frame (Danh mac mode) = true
-is_said frame (RedBox mac mode) = is_group frame.dst
+is_said frame (RedBox mac mode) = is_group frame.dst || not (is_same_address mac frame.dst)
 is_said frame QuadBox = true
-is_said frame (Station macs) = is_group frame.dst
+is_said frame (Station macs) = is_group frame.dst || not (is_among macs.items frame.dst)
 
 -- At each node that a send is for and reaches one arrival of it went up, at no node that it is for more than one, at none
 -- that it isn't for (of which something is said), and all that went up anywhere was the frame of a send.

@@ -5,7 +5,8 @@ ghost use Rattle.hsr_network_law.specs.Search.{SearchDecides};
 /// In a closed run of a network of DANHs and RedBoxes in modes H and U, QuadBoxes and Stations, with nothing forgotten that was
 /// needed and nothing mistaken, and where each RedBox numbers a frame of its Station once and before it hears of it, each
 /// node that a frame is for took it up just once if some way to it lost no copy of the frame, and nothing else went up
-/// (IEC 62439-3 clause 5.3). Of single frames it speaks for DANHs, over DANHs and QuadBoxes.
+/// (IEC 62439-3 clause 5.3). A single frame is promised to a DANH alone, over DANHs and QuadBoxes, and nothing is said of it at
+/// the RedBox or Station that has its address.
 pub fn once_in_network()
     ensures { OnceInNetwork }
 {}
