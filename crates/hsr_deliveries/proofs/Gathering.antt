@@ -1,0 +1,75 @@
+-- Deliveries of one more node, entry or record.
+use Rattle.std.proofs.Common.{◌≡◌, ℕ, ◌+◌, ◌<◌, ◌≤◌, ◌&&◌, ◌==◌, not, nat_lt, suc, zero, Bool, List, [], ◌∷◌, ◌++◌, length, reverse, take, slice_index_or, Option, Some, None, refl, sym, ap, ◌∙◌, subst, arith}
+use Rattle.std.specs.Prelude.{filter, filter_map, option_map}
+use Rattle.std.specs.List.{cons_option, range_with_len}
+use Rattle.std.proofs.lemmas.List.{length-reverse, length-take, reverse-append, take_all, take_more}
+use Rattle.std.proofs.lemmas.List.Elements.{filter-append, filter_map-append}
+use Rattle.hsr_node.specs.Flow.{sent_by}
+use Rattle.hsr_node.specs.declared.entry.Entry.{Entry}
+use Rattle.hsr_node.specs.declared.event.Probe.{Probe}
+use Rattle.hsr_node.specs.declared.place.Place.{Place}
+use Rattle.hsr_link.specs.declared.row.Row.{Row}
+use Rattle.hsr_law.specs.Run.{Run, owner_of, past_of, place_of, record_of}
+use Rattle.hsr_deliveries.specs.Counted.{added, deliveries_at, delivered_by, if_one}
+use Rattle.hsr_deliveries.specs.Delivered.{deliveries_below, deliveries_in, delivery_below, delivery_of, is_due, is_missed, is_strayed, is_twice, loss_of, nodes_below, times}
+use Rattle.hsr_deliveries.specs.declared.loss.Loss.{Loss}
+
+-- ---- one more node
+
+range_more : (a n : ℕ) → range_with_len a (n + 1) ≡ range_with_len a n ++ (a + n) ∷ []
+range_more a zero = let e : a ≡ a + 0 = omega arith in ap (λ m. m ∷ []) e
+range_more a (suc n) =
+    let more : suc n + 1 ≡ suc (n + 1) = omega arith in
+    let last : (a + 1) + n ≡ a + suc n = omega arith in
+    ap (range_with_len a) more ∙ ap (λ ns. a ∷ ns) (range_more (a + 1) n ∙ ap (λ m. range_with_len (a + 1) n ++ m ∷ []) last)
+
+nodes_more : (test : ℕ → Bool) (k : ℕ) → nodes_below (k + 1) test ≡ nodes_below k test ++ if_one (test k) k
+nodes_more test k =
+    let last : 0 + k ≡ k = omega arith in
+    ap (filter test) (range_more 0 k ∙ ap (λ m. range_with_len 0 k ++ m ∷ []) last) ∙ filter-append test (range_with_len 0 k) (k ∷ [])
+
+pub delivery_more : (run : Run) (send : Probe) (at : ℕ) (dst : List ℕ) (kind k : ℕ) →
+    delivery_below run send at dst kind (k + 1) ≡ added (delivery_below run send at dst kind k) k (is_due run send.node dst kind k) (times run send k)
+delivery_more run send at dst kind k =
+    ap (λ ns. record (delivery_below run send at dst kind (k + 1)) { due = ns }) (nodes_more (is_due run send.node dst kind) k)
+    ∙ (ap (λ ns. record (delivery_below run send at dst kind (k + 1)) { due = nodes_below k (is_due run send.node dst kind) ++ if_one (is_due run send.node dst kind k) k; missed = ns }) (nodes_more (is_missed run send dst kind) k)
+    ∙ (ap (λ ns. record (added (delivery_below run send at dst kind k) k (is_due run send.node dst kind k) (times run send k)) { twice = ns; strayed = nodes_below (k + 1) (is_strayed run send dst kind) }) (nodes_more (is_twice run send dst kind) k)
+    ∙ ap (λ ns. record (added (delivery_below run send at dst kind k) k (is_due run send.node dst kind k) (times run send k)) { strayed = ns }) (nodes_more (is_strayed run send dst kind) k)))
+
+-- ---- one more entry
+
+past_more : (xs : List Entry) (i : ℕ) (d : Entry) → i < length xs → reverse (take (i + 1) xs) ≡ slice_index_or xs i d ∷ reverse (take i xs)
+past_more xs i d below = ap reverse (take_more xs i d below) ∙ reverse-append (take i xs) (slice_index_or xs i d ∷ [])
+
+past_length : (xs : List Entry) (i : ℕ) → i ≤ length xs → length (reverse (take i xs)) ≡ i
+past_length xs i below = let taken = length-take i xs in length-reverse (take i xs) ∙ (let e : length (take i xs) ≡ i = omega (arith, taken, below) in e)
+
+pub listed_more : (run : Run) (number : ℕ) (place : Place) (xs : List Entry) (i : ℕ) (d : Entry) → i < length xs →
+    deliveries_at run number place xs i ++ delivered_by run (record { node = number; place = i }) place (slice_index_or xs i d) ≡ deliveries_at run number place xs (i + 1)
+unfolding delivered_by
+listed_more run number place xs i d below =
+    let x = slice_index_or xs i d in
+    let sent = sent_by place x.event x.outcome in
+    let P : ℕ → Type 0 = λ n. deliveries_at run number place xs i ++ cons_option (option_map (delivery_of run (record { node = number; place = i }) x.at) sent) []
+    ≡ deliveries_at run number place xs i ++ cons_option (option_map (delivery_of run (record { node = number; place = n }) x.at) sent) [] in
+    subst P (sym (past_length xs i (omega (arith, below)))) refl
+    ∙ sym (ap (deliveries_in run (record { number = number; place = place })) (past_more xs i d below))
+
+-- ---- one more row
+
+pub rows_more : (send : Probe) (link : ℕ) (rows : List Row) (i : ℕ) (d : Row) → i < length rows →
+    filter_map (loss_of send link) (take (i + 1) rows) ≡ filter_map (loss_of send link) (take i rows) ++ cons_option (loss_of send link (slice_index_or rows i d)) []
+rows_more send link rows i d below =
+    ap (filter_map (loss_of send link)) (take_more rows i d below) ∙ filter_map-append (loss_of send link) (take i rows) (slice_index_or rows i d ∷ []) ∙ ap (λ ls. filter_map (loss_of send link) (take i rows) ++ ls) (one (loss_of send link (slice_index_or rows i d)) refl)
+  where
+    one : (o : Option Loss) → loss_of send link (slice_index_or rows i d) ≡ o → filter_map (loss_of send link) (slice_index_or rows i d ∷ []) ≡ cons_option (loss_of send link (slice_index_or rows i d)) []
+    one o is = refl
+
+-- ---- one more record
+
+pub deliveries_more : (run : Run) (k : ℕ) → deliveries_below run (k + 1) ≡ deliveries_below run k ++ deliveries_in run (owner_of run k) (past_of run k)
+deliveries_more run k = let next : k + 1 ≡ suc k = omega arith in ap (deliveries_below run) next
+
+pub listed_whole : (run : Run) (number : ℕ) (place : Place) (xs : List Entry) →
+    deliveries_at run number place xs (length xs) ≡ deliveries_in run (record { number = number; place = place }) (reverse xs)
+listed_whole run number place xs = ap (λ ys. deliveries_in run (record { number = number; place = place }) (reverse ys)) (take_all (length xs) xs (omega arith))

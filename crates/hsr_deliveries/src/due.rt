@@ -1,0 +1,54 @@
+//! The nodes that a send is due at.
+ghost use Rattle.std.specs.Prelude.{◌≡◌, ◌==◌, ◌&&◌, not};
+ghost use Rattle.hsr_node.specs.Station.{is_among};
+ghost use Rattle.hsr_deliveries.specs.Delivered.{has_address, is_for, takes_groups};
+
+use hsr_frame::{Mac, is_supervision};
+use hsr_node::Place;
+
+/// Whether a frame to a group of this destination and type is for a kind of node. A Station gets no supervision frames
+/// (IEC 62439-3 clause 5.7).
+fn takes_groups(place: &Place, dst: Mac, kind: u16) -> bool
+    ensures { result ≡ takes_groups place.now dst kind }
+{
+    match place {
+        Place::Danh { .. } | Place::RedBox { .. } => true,
+        Place::QuadBox => false,
+        Place::Station { .. } => !is_supervision(dst, kind),
+    }
+}
+
+fn is_among(macs: &[Mac], mac: Mac) -> bool
+    ensures { result ≡ is_among macs.now mac }
+{
+    macs.iter().any(|own| *own == mac)
+}
+
+/// Whether an address is a node's own.
+fn has_address(place: &Place, dst: Mac) -> bool
+    ensures { result ≡ has_address place.now dst }
+{
+    match place {
+        Place::Danh { mac, .. } | Place::RedBox { mac, .. } => *mac == dst,
+        Place::QuadBox => false,
+        Place::Station { macs } => is_among(macs.as_slice(), dst),
+    }
+}
+
+/// Whether a frame of this destination and type is for a node.
+fn is_for(place: &Place, dst: Mac, kind: u16) -> bool
+    ensures { result ≡ is_for place.now dst kind }
+{
+    if dst.is_group() {
+        takes_groups(place, dst, kind)
+    } else {
+        has_address(place, dst)
+    }
+}
+
+/// Whether a send of this destination and type is due at a node: at each but the sender that it is for.
+pub(crate) fn is_due(place: &Place, sender: usize, node: usize, dst: Mac, kind: u16) -> bool
+    ensures { result ≡ (not (node == sender) && is_for place.now dst kind) }
+{
+    node != sender && is_for(place, dst, kind)
+}
