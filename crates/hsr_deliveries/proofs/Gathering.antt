@@ -23,7 +23,7 @@ range_more a (suc n) =
     let last : (a + 1) + n ≡ a + suc n = omega arith in
     ap (range_with_len a) more ∙ ap (λ ns. a ∷ ns) (range_more (a + 1) n ∙ ap (λ m. range_with_len (a + 1) n ++ m ∷ []) last)
 
-nodes_more : (test : ℕ → Bool) (k : ℕ) → nodes_below (k + 1) test ≡ nodes_below k test ++ if_one (test k) k
+pub nodes_more : (test : ℕ → Bool) (k : ℕ) → nodes_below (k + 1) test ≡ nodes_below k test ++ if_one (test k) k
 nodes_more test k =
     let last : 0 + k ≡ k = omega arith in
     ap (filter test) (range_more 0 k ∙ ap (λ m. range_with_len 0 k ++ m ∷ []) last) ∙ filter-append test (range_with_len 0 k) (k ∷ [])

@@ -9,6 +9,7 @@ ghost use Rattle.hsr_deliveries.specs.Delivered.{IsComplete, deliveries, deliver
 
 use crate::delivery::{Deliveries, Delivery};
 use crate::due::is_due;
+use crate::law::once_is_complete;
 use crate::loss::Loss;
 use crate::losses::{ByProbe, losses_by_send, losses_of};
 use crate::tally::Tally;
@@ -70,7 +71,8 @@ fn tallies_of<'a, const C: usize>(
 impl<'a, const C: usize> Traces<'a, C> {
     /// What the records and rows of a run tell.
     fn new(alloc: Global, closed: &'a Closed<C>) -> Result<Traces<'a, C>, NoMemory>
-        ensures { IfOk result (λ traces. traces ≡ closed.now.run) }
+        ensures finished { IsFinished closed.now }
+        ensures run { IfOk result (λ traces. traces ≡ closed.now.run) }
     {
         Ok(Traces {
             closed,
@@ -173,7 +175,8 @@ fn list_sends<const C: usize>(
     alloc: Global,
     closed: &Closed<C>,
 ) -> Result<Vec<Delivery>, NoMemory>
-    ensures { IfOk result (λ sends. sends.items ≡ deliveries closed.now.run) }
+    ensures finished { IsFinished closed.now }
+    ensures value { IfOk result (λ sends. sends.items ≡ deliveries closed.now.run) }
 {
     let traces = Traces::new(alloc, closed)?;
     let mut sends = Vec::new(alloc);
@@ -190,8 +193,10 @@ pub fn deliveries<const C: usize>(
     alloc: Global,
     closed: &Closed<C>,
 ) -> Result<Deliveries, NoMemory>
-    ensures { IfOk result (λ d. d.sends.items ≡ deliveries closed.now.run) }
+    ensures value { IfOk result (λ d. d.sends.items ≡ deliveries closed.now.run) }
+    ensures complete { IfOk result (λ d. (macs : List (List ℕ)) → IsRing closed.now.run macs → IsExactlyOnce closed.now.run macs → AllByRecursion IsComplete d.sends.items) }
 {
+    once_is_complete();
     Ok(Deliveries {
         sends: list_sends(alloc, closed)?,
     })

@@ -7,16 +7,19 @@
 //! - `due`: the nodes that a send is due at
 //! - `tally`: how often a node took each send up
 //! - `losses`: the lost copies of each send
+//! - `law`: what holds of deliveries where a ring delivered each frame exactly once
 //! - `delivering`: the deliveries of a run, its call
 #![tactic(auto)]
 
 mod delivering;
 mod delivery;
 mod due;
+mod law;
 mod loss;
 mod losses;
 mod tally;
 
 pub use delivering::deliveries;
 pub use delivery::{Deliveries, Delivery};
+pub use law::once_is_complete;
 pub use loss::Loss;
