@@ -1,8 +1,7 @@
 -- In a ring that delivered each frame exactly once each send is complete.
-use Rattle.std.proofs.Common.{◌≡◌, ◌⊎◌, ℕ, zero, suc, ◌+◌, ◌<◌, ◌==◌, ◌&&◌, nat_lt, not, Bool, true, false, if◌then◌else◌, List, [], ◌∷◌, ◌++◌, length, count_by, Option, Some, None, refl, sym, ap, ◌∙◌, subst, arith, eq-eqb, eqb-true, ne_eqb}
+use Rattle.std.proofs.Common.{◌≡◌, ℕ, zero, suc, ◌+◌, ◌<◌, ◌==◌, ◌&&◌, nat_lt, not, Bool, true, false, if◌then◌else◌, List, [], ◌∷◌, ◌++◌, length, Option, Some, None, refl, sym, ap, ◌∙◌, arith, eq-eqb, eqb-true, ne_eqb}
 use Rattle.std.specs.Prelude.{option_map}
 use Rattle.std.specs.List.{AllByRecursion, cons_option}
-use Rattle.std.proofs.lemmas.Bool.{false≢true}
 use Rattle.std.proofs.lemmas.Option.{none-some}
 use Rattle.hsr_frame.specs.Address.{is_group, is_same_address}
 use Rattle.hsr_node.specs.Flow.{send_at, sent_by}
@@ -14,14 +13,14 @@ use Rattle.hsr_node.specs.declared.place.Place.TheVariants.{Danh}
 use Rattle.hsr_node.specs.declared.sending.Sending.{Sending}
 use Rattle.hsr_closing.proofs.Plan.{all_append}
 use Rattle.hsr_law.specs.Closed.{IsClosed, IsSend}
-use Rattle.hsr_law.specs.Once.{IsExactlyOnce, delivers, is_addressed}
+use Rattle.hsr_law.specs.Once.{IsExactlyOnce, is_addressed}
 use Rattle.hsr_law.specs.Premises.{IsRing, mac_at}
-use Rattle.hsr_law.specs.Run.{Run, owner_of, past_of, place_of, record_of}
+use Rattle.hsr_law.specs.Run.{Run, owner_of, past_of, place_of}
 use Rattle.hsr_law.proofs.Danh.{mode_at}
 use Rattle.hsr_law.proofs.Ring.{owner_is}
 use Rattle.hsr_law.proofs.Same.{same_address}
 use Rattle.hsr_law.proofs.Walk.{sent}
-use Rattle.hsr_deliveries.specs.Delivered.{AreComplete, IsComplete, OnceIsComplete, deliveries_below, deliveries_in, delivery_by, delivery_of, is_due, is_for, is_missed, is_strayed, is_twice, nodes_below, times}
+use Rattle.hsr_deliveries.specs.Delivered.{IsComplete, OnceIsComplete, deliveries_below, deliveries_in, delivery_by, delivery_of, is_due, is_for, is_missed, is_strayed, is_twice, nodes_below, times}
 use Rattle.hsr_deliveries.specs.Counted.{if_one}
 use Rattle.hsr_deliveries.proofs.Gathering.{nodes_more}
 

@@ -1,5 +1,5 @@
 -- Deliveries of one more node, entry or record.
-use Rattle.std.proofs.Common.{◌≡◌, ℕ, ◌+◌, ◌<◌, ◌≤◌, ◌&&◌, ◌==◌, not, nat_lt, suc, zero, Bool, List, [], ◌∷◌, ◌++◌, length, reverse, take, slice_index_or, Option, Some, None, refl, sym, ap, ◌∙◌, subst, arith}
+use Rattle.std.proofs.Common.{◌≡◌, ℕ, ◌+◌, ◌<◌, ◌≤◌, suc, zero, Bool, List, [], ◌∷◌, ◌++◌, length, reverse, take, slice_index_or, Option, refl, sym, ap, ◌∙◌, subst, arith}
 use Rattle.std.specs.Prelude.{filter, filter_map, option_map}
 use Rattle.std.specs.List.{cons_option, range_with_len}
 use Rattle.std.proofs.lemmas.List.{length-reverse, length-take, reverse-append, take_all, take_more}
@@ -9,7 +9,7 @@ use Rattle.hsr_node.specs.declared.entry.Entry.{Entry}
 use Rattle.hsr_node.specs.declared.event.Probe.{Probe}
 use Rattle.hsr_node.specs.declared.place.Place.{Place}
 use Rattle.hsr_link.specs.declared.row.Row.{Row}
-use Rattle.hsr_law.specs.Run.{Run, owner_of, past_of, place_of, record_of}
+use Rattle.hsr_law.specs.Run.{Run, owner_of, past_of}
 use Rattle.hsr_deliveries.specs.Counted.{added, deliveries_at, delivered_by, if_one}
 use Rattle.hsr_deliveries.specs.Delivered.{deliveries_below, deliveries_in, delivery_below, delivery_of, is_due, is_missed, is_strayed, is_twice, loss_of, nodes_below, times}
 use Rattle.hsr_deliveries.specs.declared.loss.Loss.{Loss}

@@ -1,5 +1,5 @@
 -- Deliveries as they are gathered: node by node, and by indexes of sends.
-use Rattle.std.specs.Prelude.{ℕ, ◌==◌, ◌&&◌, nat_eq, nat_lt, not, Bool, true, if◌then◌else◌, List, [], ◌∷◌, ◌++◌, reverse, take, Option, Some, None, option_map, unwrap_or, Vec}
+use Rattle.std.specs.Prelude.{ℕ, ◌==◌, ◌&&◌, nat_eq, nat_lt, not, Bool, if◌then◌else◌, List, [], ◌∷◌, ◌++◌, reverse, take, Option, Some, None, option_map, unwrap_or, Vec}
 use Rattle.std.specs.Global.{Global}
 use Rattle.indexmap.specs.IndexMap.{IndexMap, get}
 use Rattle.std.specs.List.{cons_option}

@@ -6,7 +6,7 @@
 --     delivery_of   all that is told of a send
 --     deliveries    that of each send, by node and place
 --     IsComplete    each node that a send is due at took it up once, and no other did
-use Rattle.std.specs.Prelude.{ℕ, zero, suc, ◌<◌, ◌≡◌, ◌==◌, ◌&&◌, nat_lt, not, Bool, true, false, if◌then◌else◌, List, [], ◌∷◌, ◌++◌, length, filter, filter_map, count_by, Option, Some, None, option_map}
+use Rattle.std.specs.Prelude.{ℕ, zero, suc, ◌≡◌, ◌==◌, ◌&&◌, nat_lt, not, Bool, true, false, if◌then◌else◌, List, [], ◌∷◌, ◌++◌, length, filter, filter_map, count_by, Option, Some, None, option_map}
 use Rattle.std.specs.List.{AllByRecursion, cons_option, range_with_len}
 use Rattle.hsr_frame.specs.Address.{is_group, is_same_address}
 use Rattle.hsr_frame.specs.Egress.{is_supervision}

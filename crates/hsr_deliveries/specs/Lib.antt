@@ -1,2 +1,3 @@
 pub mod Delivered
 pub mod Counted
+pub mod Lines

@@ -171,17 +171,21 @@ fn list_record<const C: usize>(
 
 /// Lists the sends of a run.
 #[tactic(auto, using(crate::proofs::Gathering::deliveries_more, crate::proofs::Gathering::listed_whole))]
-fn list_sends<const C: usize>(
-    alloc: Global,
-    closed: &Closed<C>,
-) -> Result<Vec<Delivery>, NoMemory>
+fn list_sends<const C: usize>(alloc: Global, closed: &Closed<C>) -> Result<Vec<Delivery>, NoMemory>
     ensures finished { IsFinished closed.now }
     ensures value { IfOk result (λ sends. sends.items ≡ deliveries closed.now.run) }
 {
     let traces = Traces::new(alloc, closed)?;
     let mut sends = Vec::new(alloc);
     for (node, place) in traces.places().iter().enumerate() {
-        list_record(alloc, &mut sends, &traces, node, place, closed.entries(node))?;
+        list_record(
+            alloc,
+            &mut sends,
+            &traces,
+            node,
+            place,
+            closed.entries(node),
+        )?;
     }
     Ok(sends)
 }
@@ -189,10 +193,7 @@ fn list_sends<const C: usize>(
 /// Who got each send of a finished run, by node and place: the nodes that it was due at, which of these missed it or took it
 /// up twice, which others took it up, and its losses. Modes, links and cuts don't matter to where a send is due. Where a ring
 /// delivered each frame exactly once (IEC 62439-3 clause 5.3), each send is complete. `NoMemory` where room is refused.
-pub fn deliveries<const C: usize>(
-    alloc: Global,
-    closed: &Closed<C>,
-) -> Result<Deliveries, NoMemory>
+pub fn deliveries<const C: usize>(alloc: Global, closed: &Closed<C>) -> Result<Deliveries, NoMemory>
     ensures value { IfOk result (λ d. d.sends.items ≡ deliveries closed.now.run) }
     ensures complete { IfOk result (λ d. (macs : List (List ℕ)) → IsRing closed.now.run macs → IsExactlyOnce closed.now.run macs → AllByRecursion IsComplete d.sends.items) }
 {

@@ -55,7 +55,10 @@ fn keep_rows(alloc: Global, kept: &mut ByProbe, link: usize, rows: &[Row]) -> Re
 }
 
 /// The losses of a run.
-pub(crate) fn losses_by_send<const C: usize>(alloc: Global, closed: &Closed<C>) -> Result<ByProbe, NoMemory>
+pub(crate) fn losses_by_send<const C: usize>(
+    alloc: Global,
+    closed: &Closed<C>,
+) -> Result<ByProbe, NoMemory>
     ensures { IfOk result (λ kept. (send : spec.Probe) → losses_in kept send ≡ lost closed.now.run send) }
 {
     let mut kept = IndexMap::new(alloc);

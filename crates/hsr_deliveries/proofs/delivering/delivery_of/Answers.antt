@@ -4,7 +4,7 @@ use Rattle.hsr_node.specs.declared.place.Place.TheVariants.{QuadBox}
 use Rattle.hsr_node.specs.declared.place.Place.{Place}
 use Rattle.hsr_law.specs.Run.{Run, place_of}
 use Rattle.hsr_deliveries.specs.Counted.{added}
-use Rattle.hsr_deliveries.specs.Delivered.{delivery_below, is_due, is_for, times}
+use Rattle.hsr_deliveries.specs.Delivered.{delivery_below, is_due, is_for}
 use Rattle.hsr_deliveries.proofs.Gathering.{delivery_more}
 use Rattle.hsr_deliveries.proofs.delivering.delivery_of.Goals as goal
 

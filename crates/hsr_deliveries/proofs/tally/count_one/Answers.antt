@@ -1,4 +1,4 @@
-use Rattle.std.proofs.Common.{rules, ◌+◌, ◌∙◌, ap, unwrap_or, arith}
+use Rattle.std.proofs.Common.{◌+◌, ◌∙◌, ap, unwrap_or, arith}
 use Rattle.indexmap.specs.Entry.{map_with_value}
 use Rattle.std.proofs.lemmas.Grind.{common_steps}
 use Rattle.hsr_deliveries.proofs.Counting.{one_counted}
