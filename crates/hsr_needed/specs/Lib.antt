@@ -1,0 +1,3 @@
+pub mod Needs
+pub mod Tallied
+pub mod Read
