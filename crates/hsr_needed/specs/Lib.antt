@@ -1,3 +1,4 @@
 pub mod Needs
 pub mod Tallied
 pub mod Read
+pub mod Logged

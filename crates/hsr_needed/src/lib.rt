@@ -1,6 +1,7 @@
 //! How many entries the duplicate tables of a finished run needed.
 #![tactic(auto)]
 
+mod log;
 mod most;
 mod reading;
 mod tally;
