@@ -1,0 +1,6 @@
+pub mod Latest
+pub mod Hearing
+pub mod Logging
+pub mod Places
+pub mod Walking
+pub mod Sufficing

@@ -2,3 +2,4 @@ pub mod Needs
 pub mod Tallied
 pub mod Read
 pub mod Logged
+pub mod Walked

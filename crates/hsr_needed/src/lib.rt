@@ -1,10 +1,20 @@
 //! How many entries the duplicate tables of a finished run needed.
+//!
+//! Its modules, in the order in which to read them:
+//! - `tally`: how many notes an egress made, and the latest of each send
+//! - `wanted`: where what comes from a ring is wanted
+//! - `reading`: what an entry asks of the notes, and what it adds to them
+//! - `log`: what a node noted and heard
+//! - `most`: the greatest number that was needed
+//! - `needing`: how many entries a run needed, its call
 #![tactic(auto)]
 
 mod log;
 mod most;
+mod needing;
 mod reading;
 mod tally;
 mod wanted;
 
 pub use most::Needed;
+pub use needing::needed;

@@ -1,0 +1,49 @@
+use Rattle.std.proofs.Common.{rules, ◌≡◌, ◌+◌, ◌<◌, ◌≤◌, ◌^◌, ℕ, length, slice_index_or, refl, sym, ap, ◌∙◌, subst}
+use Rattle.hsr_node.specs.declared.entry.Entry.{Entry}
+use Rattle.hsr_node.specs.declared.event.Probe.{Probe}
+use Rattle.hsr_node.specs.declared.place.Place.{Place}
+use Rattle.hsr_law.specs.Run.{Run, place_of, record_of}
+use Rattle.hsr_needed.specs.Logged.{IsLoggedAfter, moment_of, needs_by, read_by}
+use Rattle.hsr_needed.specs.Walked.{IsMostBefore, needs_at}
+use Rattle.hsr_needed.specs.declared.most.Needed.{Needed}
+use Rattle.hsr_needed.proofs.Walking.{most_more, most_next, place_at, walk_aged, walk_more, walk_needs, walk_room}
+use Rattle.hsr_needed.proofs.needing.needed_with.Goals as goal
+
+pub step-requires-clause-aged : goal.step-requires-clause-aged
+step-requires-clause-aged g c = walk_aged c.args.closed.now.run c.args.node c.loop-i.i c.loop-i.log c.loop-i.invariant.log
+
+pub step-requires-clause-room : goal.step-requires-clause-room
+step-requires-clause-room g c =
+    let run : Run = c.args.closed.now.run in
+    let x : Entry = c.x-item.result in
+    let below : c.loop-i.i < length (record_of run c.args.node) = search rules in
+    let x_is : x ≡ slice_index_or (record_of run c.args.node) c.loop-i.i x = search rules in
+    let few : c.loop-i.i + 1 < 2 ^ 64 = search rules in
+    walk_room run c.args.node c.loop-i.i x below x_is c.loop-i.log c.loop-i.invariant.log few
+
+pub loop-i-preserved : goal.loop-i-preserved
+loop-i-preserved g c =
+    let run : Run = c.args.closed.now.run in
+    let k : ℕ = c.args.node in
+    let i : ℕ = c.loop-i.i in
+    let x : Entry = c.x-item.result in
+    let here : Probe = record { node = k; place = i } in
+    let p : Place = c.index-places-node.result in
+    let below : i < length (record_of run k) = search rules in
+    let x_is : x ≡ slice_index_or (record_of run k) i x = search rules in
+    let p_is : p ≡ slice_index_or run.places k p = search rules in
+    let at : p ≡ place_of run k = place_at run.places k p c.requires.node p_is in
+    let needs : c.in_ok-needs.needs ≡ needs_at run k i =
+    c.in_ok-needs.ensures.needs ∙ (ap (λ (q : Place). needs_by c.loop-i.log (read_by c.loop-i.log q here x) (moment_of c.loop-i.log x)) at ∙ walk_needs run k i x below x_is c.loop-i.log here refl c.loop-i.invariant.log) in
+    let L : Place → Type 0 = λ q. IsLoggedAfter c.loop-i.log q here x c.step.new.self in
+    let M : Needed → Type 0 = λ m. IsMostBefore run k (i + 1) m in
+    record {
+      log = walk_more run k i x below x_is c.loop-i.log c.step.new.self here refl c.loop-i.invariant.log (subst L at c.in_ok-needs.ensures.logged);
+      most = subst M (sym c.or_more-needed.ensures) (most_more run k i c.in_ok-needs.needs c.loop-i.needed needs below c.loop-i.invariant.most);
+    }
+
+pub returns : goal.returns
+returns g c =
+    let run : Run = c.args.closed.now.run in
+    let all : length (record_of run c.args.node) ≤ c.loop-i.i = search rules in
+    most_next run c.args.node c.loop-i.i c.loop-i.needed all c.loop-i.invariant.most
