@@ -4,17 +4,50 @@
 # needed, or has to end with status 1, `fault: memory` on standard error and nothing on standard output; of what `node` writes
 # a front stands, and `threads` may say `fault: thread`. A run of more than ten seconds has failed.
 #
-#     bench/refusals.sh PROGRAM [SECONDS]
-#
-# With a number of seconds it stops there, and says how far it came. It needs cc and the C library of GNU on Linux.
+#     bench/refusals.sh PROGRAM [SECONDS]   the built program under a small allocator (cc, GNU on Linux); with a number of seconds
+#                                           it stops there, and says how far it came
+#     bench/refusals.sh --try FROM TO       `run` and `threads` of a group round a ring by `rt try --fail-alloc`, which builds anew
+#                                           for each request, and so takes some minutes for each
 set -u
-program=$(realpath "${1:?bench/refusals.sh PROGRAM [SECONDS]}")
-seconds=${2:-0}
 top=$(cd "$(dirname "${BASH_SOURCE[0]}")/.." && pwd)
+program=${1:?bench/refusals.sh PROGRAM [SECONDS]}
 work=$(mktemp -d); trap 'rm -rf "$work"' EXIT
+passed=0 failed=0 rows=0 is_over=
+
+# tried WORD [FLAG..]: what a command makes of a group round a ring by `rt try`. Sets status and said, its line on standard error.
+tried() {
+  local command=$1; shift
+  (cd "$top/crates/hsr_bench" && rt try "$@" -- "$command" < "$top/examples/ring3.toml" > "$work/out" 2> "$work/told")
+  status=$?
+  said=$(grep -m 1 '^fault: ' "$work/told")
+}
+
+# try_all FROM TO: refuses these requests, one a run.
+try_all() {
+  local command request verdict
+  for command in run threads; do
+    tried "$command"
+    mv "$work/out" "$work/whole.out"
+    grep -q '^run=ended status=0' "$work/told" || { tail -3 "$work/told"; failed=$((failed + 1)); }
+    for request in $(seq "$1" "$2"); do
+      tried "$command" --fail-alloc "$request"
+      verdict=wrong
+      if [ $status = 1 ] && [ ! -s "$work/out" ]; then
+        [ "$said" = 'fault: memory' ] || { [ $command = threads ] && [ "$said" = 'fault: thread' ]; } && verdict=$said
+      elif [ $status = 0 ] && cmp -s "$work/out" "$work/whole.out"; then verdict='not needed'; fi
+      if [ "$verdict" = wrong ]; then failed=$((failed + 1)); tail -3 "$work/told"; else passed=$((passed + 1)); fi
+      echo "$command ring3.toml, request $request: $verdict"
+    done
+  done
+  echo "$passed passed, $failed failed"
+  [ "$failed" = 0 ]
+}
+
+if [ "$program" = --try ]; then try_all "$2" "$3"; exit; fi
+program=$(realpath "$program")
+seconds=${2:-0}
 cd "$work"
 cc -O2 -shared -fPIC -o refuse.so "$top/bench/refuse.c" || exit 1
-passed=0 failed=0 rows=0 is_over=
 
 # run REQUEST INPUT WORD..: runs the program with that request refused, none where it is 0. Sets status, requests and refused.
 run() {

@@ -4,13 +4,19 @@
 #     bench/rows.sh PROGRAM [FOLDER..]     the folders of rows/, or these
 #
 # Each row NAME has NAME.words (the words after the program's name), NAME.in, NAME.out, NAME.err and NAME.status. Standard error is
-# compared where the status is 1: what is said of words that are no command is free.
+# compared where the status is 1 or an address is refused. What else is said of refused words is free, but something is said.
 set -u
 program=$(realpath "${1:?bench/rows.sh PROGRAM [FOLDER..]}"); shift
 top=$(cd "$(dirname "${BASH_SOURCE[0]}")/.." && pwd)
 [ $# -gt 0 ] || set -- "$top"/rows/*/
 work=$(mktemp -d); trap 'rm -rf "$work"' EXIT
 passed=0 failed=0
+
+# Whether standard error says what it has to.
+is_told() {
+  if [ "$wanted" = 1 ] || grep -qx 'usage: --mac' "$1.err"; then cmp -s "$work/err" "$1.err"
+  else [ "$wanted" != 3 ] || [ "$(stat -c %s "$work/err")" -gt 20 ]; fi
+}
 
 # try ROW: runs one row, and says in which ways it differs.
 try() {
@@ -21,7 +27,7 @@ try() {
   wanted=$(cat "$row.status")
   cmp -s "$work/out" "$row.out" || why="$why output"
   [ "$status" = "$wanted" ] || why="$why status=$status"
-  [ "$wanted" != 1 ] || cmp -s "$work/err" "$row.err" || why="$why error"
+  is_told "$row" || why="$why error"
   if [ -z "$why" ]; then passed=$((passed + 1)); else failed=$((failed + 1)); echo "differs: $row:$why"; fi
 }
 

@@ -2,7 +2,7 @@
 use hsr_engines::{NodeOptions, Showing, Table};
 
 /// What to do.
-#[derive(Clone, Copy, Debug, PartialEq, Eq)]
+#[derive(Clone, Copy)]
 pub enum Options {
     /// Answer lines as one node.
     Node(NodeOptions),
@@ -15,7 +15,7 @@ pub enum Options {
 }
 
 /// Why words are refused.
-#[derive(Debug, Drop)]
+#[derive(Drop)]
 pub enum OptionFault {
     /// They are no command of the bench; the text says why, or is the help that was asked for.
     Usage { text: String },

@@ -29,9 +29,6 @@ use std::sync::Wait;
 use std::thread::Threads;
 use std::{env, io};
 
-#[cfg(test)]
-mod option_tests;
-
 /// The words after the program's name.
 fn words_of(alloc: Global, args: &Vec<String>) -> Result<Vec<&str>, AllocError>
     ensures { IfOk result (λ words. map (λ s. s.now) words.items ≡ map string_bytes (drop 1 args.now.items)) }
