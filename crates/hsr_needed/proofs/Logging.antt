@@ -1,8 +1,7 @@
 -- What is kept of a node tells of its past, entry by entry.
-use Rattle.std.proofs.Common.{◌≡◌, ℕ, ◌+◌, ◌<◌, ◌≤◌, ◌^◌, Bool, true, false, cond, ◌&&◌, max, if◌then◌else◌, List, [], ◌∷◌, length, Option, Some, None, refl, sym, ap, ◌∙◌, subst, arith}
+use Rattle.std.proofs.Common.{◌≡◌, ℕ, ◌+◌, ◌<◌, ◌≤◌, ◌^◌, Bool, true, false, ◌&&◌, max, if◌then◌else◌, List, [], ◌∷◌, length, Option, Some, None, refl, ap, ◌∙◌, subst, arith}
 use Rattle.std.specs.Prelude.{is_some}
 use Rattle.std.specs.List.{cons_option}
-use Rattle.std.proofs.lemmas.Bool.{false≢true}
 use Rattle.hsr_frame.specs.Egress.{Egress, up, a, b, c, d, has_exit, no_exits}
 use Rattle.hsr_frame.specs.declared.egress.Exits.{Exits}
 use Rattle.hsr_duptable.specs.Key.{Key}
@@ -13,9 +12,8 @@ use Rattle.hsr_node.specs.declared.event.Probe.{Probe}
 use Rattle.hsr_tables.specs.Proxies.{Proxies, is_known}
 use Rattle.hsr_needed.specs.Logged.{HasRoom, IsLogOf, IsLoggedAfter, IsNotedAfter, moment_of, needs_by, needs_of, read_by, tally_at, widest}
 use Rattle.hsr_needed.specs.Read.{Reading, heard_in, noted_at, stations_of, wanted_in}
-use Rattle.hsr_needed.specs.Tallied.{IsTalliedAfter, Tells, reach_in, reach_of}
+use Rattle.hsr_needed.specs.Tallied.{IsTalliedAfter, Tells, reach_of}
 use Rattle.hsr_needed.specs.declared.log.Log.{Log}
-use Rattle.hsr_needed.specs.declared.tally.Tally.{Tally}
 use Rattle.hsr_needed.proofs.Hearing.{known_same, stations_last}
 use Rattle.hsr_needed.proofs.Latest.{reach_told, told_more}
 

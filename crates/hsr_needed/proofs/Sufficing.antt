@@ -1,22 +1,20 @@
 -- What was needed was not forgotten just where it wasn't expired and tables have room for it.
-use Rattle.std.proofs.Common.{◌≡◌, ◌↔◌, ◌⊎◌, inl, inr, ⊎_elim, ℕ, zero, suc, ◌+◌, ◌-◌, ◌<◌, ◌≤◌, Bool, true, false, cond, ◌||◌, nat_lt, max, List, [], ◌∷◌, ◌++◌, length, take, reverse, filter, slice_index_or, Option, Some, None, refl, sym, ap, ◌∙◌, subst, arith}
+use Rattle.std.proofs.Common.{◌≡◌, ℕ, zero, suc, ◌+◌, ◌-◌, ◌<◌, ◌≤◌, Bool, true, false, cond, ◌||◌, nat_lt, List, [], ◌∷◌, ◌++◌, length, take, reverse, filter, slice_index_or, Option, Some, None, refl, sym, ap, ◌∙◌, subst, arith}
 use Rattle.std.specs.List.{list_any}
 use Rattle.std.proofs.lemmas.Bool.{false≢true, le-ltb, ltb-false, or_parts}
 use Rattle.std.proofs.Math.Nat.{le-max_left}
 use Rattle.hsr_frame.specs.Egress.{Egress}
 use Rattle.hsr_duptable.specs.Notes.{entry_forget}
-use Rattle.hsr_tag.specs.Seen.{classified}
-use Rattle.hsr_node.specs.Flow.{wants}
-use Rattle.hsr_node.specs.Record.{Each, Noted, Owner, knows, notes, now, remembered}
+use Rattle.hsr_node.specs.Record.{Each, Noted, Owner, notes, now}
 use Rattle.hsr_node.specs.declared.entry.Entry.{Entry}
 use Rattle.hsr_node.specs.declared.event.Carried.{Carried}
 use Rattle.hsr_node.specs.declared.event.Event.{Event}
 use Rattle.hsr_node.specs.declared.event.Event.TheVariants.{Send, Supervise, Arrive, Age}
 use Rattle.hsr_node.specs.declared.event.Probe.{Probe}
-use Rattle.hsr_law.specs.Premises.{NothingForgotten, Remembers, is_note_of, is_on_ring}
+use Rattle.hsr_law.specs.Premises.{NothingForgotten, Remembers, is_note_of}
 use Rattle.hsr_law.specs.Run.{Run, owner_of, past_of, record_of}
 use Rattle.hsr_law.proofs.Records.{each_so, notes_more}
-use Rattle.hsr_needed.specs.Needs.{IsLatest, IsMet, IsMost, IsWanted, IsYoung, NeededSuffice, Needs, NothingExpired, is_unexpired}
+use Rattle.hsr_needed.specs.Needs.{IsLatest, IsJustEnough, IsMet, IsMost, IsWanted, IsYoung, Needs, NothingExpired, is_unexpired}
 use Rattle.hsr_needed.specs.declared.most.Needed.{Needed}
 use Rattle.hsr_needed.proofs.Places.{from_each, no_entry}
 
@@ -202,5 +200,5 @@ module _ (run : Run) (needed : Needed) (most : IsMost run needed) where
       (λ x past fresh bound. remembers run.capacity (owner_of run k) past (now (x ∷ past)) x.event fresh (λ n needs. let h = bound n needs in omega (arith, h, low)))
       (unexpired k below) (most.most k below)
 
-pub needed_suffice : NeededSuffice
-needed_suffice run needed most = (λ all. (expired run needed most all, room run needed most needed.entries needed.at most.met all), λ both. forgotten run needed most both.0 both.1)
+pub just_enough : (run : Run) (needed : Needed) → IsMost run needed → IsJustEnough run needed.entries
+just_enough run needed most = (λ all. (expired run needed most all, room run needed most needed.entries needed.at most.met all), λ both. forgotten run needed most both.0 both.1)

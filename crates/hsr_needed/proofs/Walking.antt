@@ -1,15 +1,14 @@
 -- The most that was needed, from entry to entry and from node to node.
 use Rattle.std.proofs.Common.{◌≡◌, ◌⊎◌, inl, inr, ⊎_elim, ℕ, ◌+◌, ◌<◌, ◌≤◌, ◌^◌, Bool, true, false, cond, nat_lt, max, if◌then◌else◌, List, [], ◌∷◌, length, take, reverse, slice_index_or, Option, Some, None, refl, sym, ap, ◌∙◌, subst, arith}
-use Rattle.std.proofs.lemmas.Bool.{cases_lt, cases_eq, false≢true, ltb-false}
+use Rattle.std.proofs.lemmas.Bool.{cases_lt, false≢true, ltb-false}
 use Rattle.std.proofs.lemmas.List.{get_or_default}
-use Rattle.std.proofs.Math.Nat.{le-max_left, le-max_right}
 use borrow.Author.Tests.{ltb-true}
 use Rattle.hsr_frame.specs.Egress.{Egress, up, a, b, c, d, has_exit, no_exits}
 use Rattle.hsr_frame.specs.declared.egress.Exits.{Exits}
 use Rattle.hsr_tag.specs.Seen.{classified}
 use Rattle.hsr_redbox.specs.declared.wanted.Handling.{Handling}
-use Rattle.hsr_node.specs.Flow.{wanted_at, wants}
-use Rattle.hsr_node.specs.Record.{Each, Owner, handling, knows, notes, now, probe_handled}
+use Rattle.hsr_node.specs.Flow.{wanted_at}
+use Rattle.hsr_node.specs.Record.{Owner, handling, knows, notes, now, probe_handled}
 use Rattle.hsr_node.specs.declared.entry.Entry.{Entry}
 use Rattle.hsr_node.specs.declared.event.Carried.{Carried}
 use Rattle.hsr_node.specs.declared.event.Event.{Event}
@@ -18,10 +17,10 @@ use Rattle.hsr_node.specs.declared.event.Probe.{Probe}
 use Rattle.hsr_node.specs.declared.place.Place.{Place}
 use Rattle.hsr_node.specs.declared.place.Place.TheVariants.{QuadBox}
 use Rattle.hsr_law.specs.Premises.{is_on_ring}
-use Rattle.hsr_law.specs.Run.{Run, owner_of, past_of, place_of, record_of}
+use Rattle.hsr_law.specs.Run.{Run, owner_of, place_of, record_of}
 use Rattle.hsr_needed.specs.Logged.{HasRoom, IsLogOf, IsLoggedAfter, moment_of, needs_by, needs_of, read_by, widest}
-use Rattle.hsr_needed.specs.Needs.{IsFirst, IsLatest, IsMet, IsMost, IsWanted, Needs, NeedsAt, NeedsThere}
-use Rattle.hsr_needed.specs.Read.{exits_of, wanted_from, wanted_in}
+use Rattle.hsr_needed.specs.Needs.{IsFirst, IsMet, IsMost, IsWanted, Needs, NeedsThere}
+use Rattle.hsr_needed.specs.Read.{exits_of, wanted_in}
 use Rattle.hsr_needed.specs.Tallied.{reach_in}
 use Rattle.hsr_needed.specs.Walked.{IsBefore, IsFoundBefore, IsMetBefore, IsMostBefore, needs_at, nothing_needed, or_more}
 use Rattle.hsr_needed.specs.declared.log.Log.{Log}
@@ -121,7 +120,6 @@ module _ (owner : Owner) (past : List Entry) (at : ℕ) (here : Probe) where
       at_widest (wanted_in owner.place (knows owner.place past at (Arrive port copy)) (Arrive port copy)) (λ e. reach_in at copy.probe (notes owner e past)) needs.egress (wanted_is port copy needs.egress needs.wanted) in
       let count = needs.count in
       omega (arith, same, most, count)
-
   needs_most (Send from dst vlan kind payload) n needs = absurd needs
   needs_most (Supervise about) n needs = absurd needs
   needs_most Age n needs = absurd needs

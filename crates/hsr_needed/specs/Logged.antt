@@ -5,7 +5,7 @@
 --     IsLogOf         what is kept tells of this past
 --     IsLoggedAfter   what is kept, after one more entry
 use Rattle.std.specs.Prelude.{ℕ, ◌+◌, ◌<◌, ◌^◌, ◌≡◌, max, if◌then◌else◌, List, [], ◌∷◌, length}
-use Rattle.hsr_frame.specs.Egress.{Egress, up, a, b, c, d, has_exit}
+use Rattle.hsr_frame.specs.Egress.{Egress, up, a, b, c, d}
 use Rattle.hsr_frame.specs.declared.egress.Exits.{Exits}
 use Rattle.hsr_node.specs.Record.{Owner, knows, notes, now, probe_handled}
 use Rattle.hsr_node.specs.declared.entry.Entry.{Entry}

@@ -2,7 +2,7 @@
 --     Needs             an arrival needs so many of the youngest notes of an egress
 --     IsMost            the greatest number that an arrival needs, and where first
 --     NothingExpired    nothing was forgotten by age
---     NeededSuffice     nothing that was needed was forgotten where tables are as large
+--     IsJustEnough      nothing that was needed was forgotten where tables have so many entries
 use Rattle.std.specs.Prelude.{ℕ, ◌+◌, ◌-◌, ◌<◌, ◌≤◌, ◌≡◌, ◌↔◌, nat_lt, Bool, true, false, List, ◌∷◌, ◌++◌, length, reverse, take, slice_index_or, Option, Some, None}
 use Rattle.std.specs.List.{list_any}
 use Rattle.hsr_frame.specs.Egress.{Egress}
@@ -89,6 +89,6 @@ IsYoung owner past at event = Unit {0}
 abbrev pub NothingExpired : Run → Type 0
 NothingExpired run = (k : ℕ) → k < length run.places → Each (λ x past. IsYoung (owner_of run k) past (now (x ∷ past)) x.event) (past_of run k)
 
--- Nothing that was needed was forgotten just where nothing was forgotten by age and tables have as many entries as were needed.
-abbrev pub NeededSuffice : Type 0
-NeededSuffice = (run : Run) (needed : Needed) → IsMost run needed → NothingForgotten run ↔ (NothingExpired run × (needed.entries ≤ run.capacity))
+-- Nothing that was needed was forgotten just where nothing was forgotten by age and tables have so many entries.
+abbrev pub IsJustEnough : Run → ℕ → Type 0
+IsJustEnough run n = NothingForgotten run ↔ (NothingExpired run × (n ≤ run.capacity))

@@ -3,7 +3,7 @@
 --     wanted_from  where what comes from a ring is wanted
 --     noted_in     where an entry is noted
 --     Reading      all of it
-use Rattle.std.specs.Prelude.{ℕ, Bool, true, false, if◌then◌else◌, List, [], ◌∷◌, fold, length, Option, Some, None, is_some, option_map, Result}
+use Rattle.std.specs.Prelude.{ℕ, Bool, if◌then◌else◌, List, [], ◌∷◌, fold, Option, Some, None, is_some, option_map, Result}
 use Rattle.hsr_frame.specs.Egress.{up, a, b, c, d, no_exits, to}
 use Rattle.hsr_frame.specs.declared.egress.Exits.{Exits}
 use Rattle.hsr_frame.specs.declared.fault.FrameFault.{FrameFault}

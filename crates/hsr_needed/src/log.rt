@@ -47,7 +47,11 @@ impl Log {
     fn needs(&self, r: Reading, at: u64) -> usize
         ensures { result ≡ needs_by self.now r at }
     {
-        let reach = |is_wanted: bool, tally: &Tally| if is_wanted { tally.reach(at, r.send) } else { 0 };
+        let reach = |is_wanted: bool, tally: &Tally| if is_wanted {
+            tally.reach(at, r.send)
+        } else {
+            0
+        };
         reach(r.wanted.up, &self.up)
             .max(reach(r.wanted.a, &self.a))
             .max(reach(r.wanted.b, &self.b))

@@ -1,7 +1,6 @@
 //! How many entries a finished run needed.
-ghost use Rattle.std.specs.Prelude.{◌≡◌, ◌+◌, ◌<◌, ◌≤◌, ◌↔◌, length, IfOk};
-ghost use Rattle.hsr_law.specs.Premises.{NothingForgotten};
-ghost use Rattle.hsr_needed.specs.Needs.{IsMost, NothingExpired};
+ghost use Rattle.std.specs.Prelude.{◌+◌, ◌<◌, length, IfOk};
+ghost use Rattle.hsr_needed.specs.Needs.{IsJustEnough, IsMost};
 ghost use Rattle.hsr_needed.specs.Walked.{IsMostBefore};
 
 use crate::log::Log;
@@ -40,7 +39,7 @@ fn needed_with<const C: usize>(
 /// Nothing that was needed was forgotten exactly where nothing was forgotten by age and tables have as many entries.
 pub fn needed<const C: usize>(alloc: Global, closed: &Closed<C>) -> Result<Needed, NoMemory>
     ensures most { IfOk result (λ needed. IsMost closed.now.run needed) }
-    ensures suffice { IfOk result (λ needed. NothingForgotten closed.now.run ↔ (NothingExpired closed.now.run × (needed.entries ≤ closed.now.run.capacity))) }
+    ensures enough { IfOk result (λ needed. IsJustEnough closed.now.run needed.entries) }
 {
     let mut needed = Needed::nothing();
     for node in 0..closed.topology().places().len() {

@@ -129,13 +129,7 @@ fn noted_if(is_numbered: bool, outcome: &Outcome) -> Exits
 }
 
 /// Reads an entry that stands here, by the stations that are known at its effective moment in microseconds.
-pub(crate) fn read(
-    place: &Place,
-    stations: &ProxyTable,
-    at: u64,
-    here: Probe,
-    x: &Entry,
-) -> Reading
+pub(crate) fn read(place: &Place, stations: &ProxyTable, at: u64, here: Probe, x: &Entry) -> Reading
     requires { stations.now.last ≤ at }
     ensures { result ≡ reading place.now stations.now at here x.now }
 {
