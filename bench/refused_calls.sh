@@ -61,7 +61,8 @@ if [ "$folder" = --try ]; then
 else
   cc -O2 -shared -fPIC -o "$work/refuse.so" "$top/bench/refuse.c" || exit 1
   sweep_crate hsr_hostile_tests '^refused_'
-  sweep_crate hsr_tests 'refused_for_memory|^link_tests'
+  sweep_crate hsr_tests refused_for_memory
+  sweep_crate hsr_cell_tests 'refused_for_memory|^link_tests'
 fi
 echo "$passed passed, $failed failed"
 [ "$failed" = 0 ]

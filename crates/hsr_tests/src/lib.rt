@@ -1,10 +1,6 @@
-//! Tests of topologies, nodes, nodes under a lock and links, over their public calls.
+//! Tests of topologies and nodes, over their public calls.
 #![tactic(auto)]
 
-#[cfg(test)]
-mod cell_tests;
-#[cfg(test)]
-mod link_tests;
 #[cfg(test)]
 mod node_tests;
 #[cfg(test)]
