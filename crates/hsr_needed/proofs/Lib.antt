@@ -4,3 +4,4 @@ pub mod Logging
 pub mod Places
 pub mod Walking
 pub mod Sufficing
+pub mod Larger

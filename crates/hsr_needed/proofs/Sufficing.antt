@@ -185,7 +185,7 @@ module _ (run : Run) (needed : Needed) (most : IsMost run needed) where
   abbrev Bound : ℕ → Entry → List Entry → Type 0
   Bound k x past = (n : ℕ) → Needs (owner_of run k) past (now (x ∷ past)) x.event n → n ≤ needed.entries
 
-  expired : NothingForgotten run → NothingExpired run
+  pub expired : NothingForgotten run → NothingExpired run
   expired all k below = each_so (Kept k) (Young k) (past_of run k) (λ x past rem. young run.capacity (owner_of run k) past (now (x ∷ past)) x.event rem) (all k below)
 
   room : (n : ℕ) (at : Option (ℕ × ℕ)) → IsMet run n at → NothingForgotten run → n ≤ run.capacity
@@ -195,10 +195,11 @@ module _ (run : Run) (needed : Needed) (most : IsMost run needed) where
       let x = slice_index_or (record_of run at.0) at.1 no_entry in
       fits run.capacity (owner_of run at.0) past (now (x ∷ past)) x.event n (from_each (Kept at.0) (record_of run at.0) (all at.0 met.node) at.1 met.place no_entry) (met.needs no_entry)
 
-  forgotten : NothingExpired run → needed.entries ≤ run.capacity → NothingForgotten run
-  forgotten unexpired low k below = each_two (Young k) (Bound k) (Kept k) (past_of run k)
-      (λ x past fresh bound. remembers run.capacity (owner_of run k) past (now (x ∷ past)) x.event fresh (λ n needs. let h = bound n needs in omega (arith, h, low)))
+  pub remembered_by : (n : ℕ) → NothingExpired run → needed.entries ≤ n → (k : ℕ) → k < length run.places →
+      Each (λ x past. Remembers n (owner_of run k) past (now (x ∷ past)) x.event) (past_of run k)
+  remembered_by n unexpired low k below = each_two (Young k) (Bound k) (λ x past. Remembers n (owner_of run k) past (now (x ∷ past)) x.event) (past_of run k)
+      (λ x past fresh bound. remembers n (owner_of run k) past (now (x ∷ past)) x.event fresh (λ m needs. let h = bound m needs in omega (arith, h, low)))
       (unexpired k below) (most.most k below)
 
 pub just_enough : (run : Run) (needed : Needed) → IsMost run needed → IsJustEnough run needed.entries
-just_enough run needed most = (λ all. (expired run needed most all, room run needed most needed.entries needed.at most.met all), λ both. forgotten run needed most both.0 both.1)
+just_enough run needed most = (λ all. (expired run needed most all, room run needed most needed.entries needed.at most.met all), λ both. remembered_by run needed most run.capacity both.0 both.1)

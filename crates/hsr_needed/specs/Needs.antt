@@ -2,6 +2,7 @@
 --     Needs             an arrival needs so many of the youngest notes of an egress
 --     IsMost            the greatest number that an arrival needs, and where first
 --     NothingExpired    nothing was forgotten by age
+--     LegalWithNeeded   the same records are legal with all tables that are as large
 --     IsJustEnough      nothing that was needed was forgotten where tables have so many entries
 use Rattle.std.specs.Prelude.{ℕ, ◌+◌, ◌-◌, ◌<◌, ◌≤◌, ◌≡◌, ◌↔◌, nat_lt, Bool, true, false, List, ◌∷◌, ◌++◌, length, reverse, take, slice_index_or, Option, Some, None}
 use Rattle.std.specs.List.{list_any}
@@ -9,13 +10,14 @@ use Rattle.hsr_frame.specs.Egress.{Egress}
 use Rattle.hsr_duptable.specs.Notes.{entry_forget}
 use Rattle.hsr_tag.specs.Seen.{classified}
 use Rattle.hsr_node.specs.Flow.{wants}
-use Rattle.hsr_node.specs.Record.{Each, Noted, Owner, knows, notes, now}
+use Rattle.hsr_node.specs.Record.{Each, IsLegal, Noted, Owner, knows, notes, now}
 use Rattle.hsr_node.specs.declared.entry.Entry.{Entry}
 use Rattle.hsr_node.specs.declared.event.Carried.{Carried}
 use Rattle.hsr_node.specs.declared.event.Event.{Event}
 use Rattle.hsr_node.specs.declared.event.Event.TheVariants.{Arrive}
 use Rattle.hsr_node.specs.declared.event.Probe.{Probe}
-use Rattle.hsr_law.specs.Premises.{NothingForgotten, is_note_of, is_on_ring}
+use Rattle.hsr_law.specs.Closed.{IsClosed}
+use Rattle.hsr_law.specs.Premises.{NothingForgotten, NothingMistaken, NumberedFirst, is_note_of, is_on_ring}
 use Rattle.hsr_law.specs.Run.{Run, owner_of, past_of, record_of}
 use Rattle.hsr_needed.specs.declared.most.Needed.{Needed}
 
@@ -92,3 +94,15 @@ NothingExpired run = (k : ℕ) → k < length run.places → Each (λ x past. Is
 -- Nothing that was needed was forgotten just where nothing was forgotten by age and tables have so many entries.
 abbrev pub IsJustEnough : Run → ℕ → Type 0
 IsJustEnough run n = NothingForgotten run ↔ (NothingExpired run × (n ≤ run.capacity))
+
+-- ---- other tables
+
+-- the same run, with tables of so many entries
+abbrev pub with_tables : ℕ → Run → Run
+with_tables n run = record run { capacity = n }
+
+-- Where nothing needed was forgotten, each RedBox numbers a frame of its Station first, and no number is mistaken by the
+-- tables of the run nor by others, the same records are legal with those, if they have as many entries as were needed.
+abbrev pub LegalWithNeeded : Type 0
+LegalWithNeeded = (run : Run) (needed : Needed) (n : ℕ) → IsClosed run → NumberedFirst run → IsMost run needed → NothingForgotten run →
+    NothingMistaken run → NothingMistaken (with_tables n run) → needed.entries ≤ n → (k : ℕ) → k < length run.places → IsLegal n (owner_of run k) (past_of run k)

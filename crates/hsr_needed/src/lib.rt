@@ -7,8 +7,10 @@
 //! - `log`: what a node noted and heard
 //! - `most`: the greatest number that was needed
 //! - `needing`: how many entries a run needed, its call
+//! - `law`: with which tables the records of a run are legal
 #![tactic(auto)]
 
+mod law;
 mod log;
 mod most;
 mod needing;
@@ -16,5 +18,6 @@ mod reading;
 mod tally;
 mod wanted;
 
+pub use law::legal_with_needed;
 pub use most::Needed;
 pub use needing::needed;
