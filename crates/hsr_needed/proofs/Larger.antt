@@ -1,14 +1,14 @@
 -- Where nothing needed is forgotten, tables that have as many entries as were needed answer alike.
-use Rattle.std.proofs.Common.{◌≡◌, ℕ, ◌<◌, ◌≤◌, ◌==◌, ◌^◌, Bool, true, false, ◌&&◌, not, if◌then◌else◌, List, [], ◌∷◌, length, take, filter, Option, Some, None, Result, Ok, Err, refl, sym, ap, ◌∙◌, subst}
+use Rattle.std.proofs.Common.{◌≡◌, ℕ, zero, suc, ◌-◌, ◌||◌, max, nat_lt, arith, ◌≤◌, ◌==◌, ◌^◌, Bool, true, false, ◌&&◌, not, if◌then◌else◌, List, [], ◌∷◌, length, take, filter, Option, Some, None, Result, Ok, Err, refl, sym, ap, ◌∙◌, subst}
 use Rattle.std.specs.List.{AllByRecursion, list_any}
-use Rattle.std.proofs.lemmas.Bool.{cases_Bool, false≢true}
+use Rattle.std.proofs.lemmas.Bool.{false≢true, or_parts}
+use Rattle.std.proofs.Math.Nat.{le-max_left, le-max_right}
+use Rattle.hsr_duptable.specs.Notes.{entry_forget}
 use Rattle.hsr_frame.specs.Egress.{Egress, up, a, b, c, d, has_exit}
 use Rattle.hsr_frame.specs.Grammar.{Fields}
 use Rattle.hsr_frame.specs.declared.egress.Exits.{Exits}
-use Rattle.hsr_frame.specs.declared.fault.FrameFault.{FrameFault}
 use Rattle.hsr_tag.specs.Seen.{classified}
 use Rattle.hsr_tag.specs.Tag.{TaggedFields, untag_of}
-use Rattle.hsr_tag.specs.declared.seen.Seen.{Seen}
 use Rattle.hsr_tag.specs.declared.seen.Seen.TheVariants.{Plain, Tagged}
 use Rattle.hsr_duptable.specs.Key.{Key, is_same_key}
 use Rattle.hsr_role.specs.Arrival.{key_of}
@@ -24,19 +24,18 @@ use Rattle.hsr_node.specs.declared.event.Outcome.{Outcome}
 use Rattle.hsr_node.specs.declared.event.Probe.{Probe}
 use Rattle.hsr_node.specs.declared.event.StepFault.{StepFault}
 use Rattle.hsr_node.specs.declared.event.StepFault.TheVariants.{Spent}
-use Rattle.hsr_law.specs.Closed.{IsClosed, IsOfSend}
+use Rattle.hsr_law.specs.Closed.{IsOfSend}
 use Rattle.hsr_law.specs.Once.{is_copy}
-use Rattle.hsr_law.specs.Premises.{KnowsOwn, NothingForgotten, NothingMistaken, NumberedFirst, NumbersFirst, Remembers, is_note_of, is_on_ring}
+use Rattle.hsr_law.specs.Premises.{KnowsOwn, NumbersFirst, Remembers, is_mistaken, is_note_of, is_on_ring}
 use Rattle.hsr_law.specs.Run.{Run, owner_of, past_of, place_of}
 use Rattle.hsr_law.proofs.Keys.{HasKey, each_of_send, send_key}
 use Rattle.hsr_law.proofs.Lists.{all_filter, all_take, any_implies, any_other, any_take, any_filter}
 use Rattle.hsr_law.proofs.NotedOnce.{noted_once, own_source}
-use Rattle.hsr_law.proofs.Records.{Answered, IsSource, OfArrival, any_remembered, legal_each}
+use Rattle.hsr_law.proofs.Records.{Answered, IsSource, OfArrival, any_remembered, each_so, legal_each}
 use Rattle.hsr_law.proofs.Same.{is_of_itself, key_same}
 use Rattle.hsr_law.proofs.Views.{Came, came, knows_at, wants_at}
 use Rattle.hsr_law.proofs.Wanted.{own_unwanted, wanted_on_ring}
-use Rattle.hsr_needed.specs.Needs.{IsMost, LegalWithNeeded}
-use Rattle.hsr_needed.specs.declared.most.Needed.{Needed}
+use Rattle.hsr_needed.specs.Needs.{LegalWithNeeded}
 use Rattle.hsr_needed.proofs.Sufficing.{expired, remembered_by}
 
 -- ---- answers
@@ -83,9 +82,6 @@ answer_same m n owner past at (Arrive port copy) alike = by_handling (handling o
 -- ---- one arrival
 
 module _ (run : Run) (k n : ℕ) where
-  abbrev owner : Owner
-  owner = owner_of run k
-
   -- a note with the key is of the send, where no number is mistaken
   of_send : (m : ℕ) (past : List Entry) (at port : ℕ) (copy : Carried) (t : TaggedFields) (e : Egress) → came copy ≡ Ok (Tagged t) → KnowsOwn m (owner_of run k) past at (Arrive port copy) →
       is_on_ring (place_of run k) port ≡ true → wants_at (owner_of run k) past at port copy e ≡ true → remembers m (owner_of run k) past at (key_of t) e ≡ true →
@@ -158,14 +154,40 @@ module _ (run : Run) (k n : ℕ) where
   legal_more [] legal sends first here there own owns = tt
   legal_more (x ∷ past) legal sends first here there own owns =
       let keys : (send : Probe) (e : Egress) → (send.node ≡ k → ⊥) → AllByRecursion (HasKey send (send_key run send).key) (notes (owner_of run k) e past) =
-      λ send e other. (noted_once run k send e past legal.1 sends.1 first.1 here.1).keys other in
-      (
+      λ send e other. (noted_once run k send e past legal.1 sends.1 first.1 here.1).keys other in (
         answer_same n run.capacity (owner_of run k) past (now (x ∷ past)) x.event (alike past (now (x ∷ past)) x.event keys sends.0 here.0 there.0 own.0 owns.0) ∙ legal.0,
         legal_more past legal.1 sends.1 first.1 here.1 there.1 own.1 owns.1,
       )
 
+-- ---- smaller tables mistake no more
+
+none_sooner : (p young : Noted → Bool) (ns : List Noted) (m n : ℕ) → m ≤ n → list_any p (filter young (take n ns)) ≡ false → list_any p (filter young (take m ns)) ≡ false
+none_sooner p young [] zero n low none = refl
+none_sooner p young [] (suc m) n low none = refl
+none_sooner p young (note ∷ ns) zero n low none = refl
+none_sooner p young (note ∷ ns) (suc m) zero low none = absurd (omega (arith, low))
+none_sooner p young (note ∷ ns) (suc m) (suc n) low none = by_age (young note) none (none_sooner p young ns m n (omega (arith, low)))
+  where
+    by_age : (b : Bool) → list_any p (if b then note ∷ filter young (take n ns) else filter young (take n ns)) ≡ false →
+        (list_any p (filter young (take n ns)) ≡ false → list_any p (filter young (take m ns)) ≡ false) →
+        list_any p (if b then note ∷ filter young (take m ns) else filter young (take m ns)) ≡ false
+    by_age true none rest = let parts = or_parts (p note) (list_any p (filter young (take n ns))) none in ap (λ t. t || list_any p (filter young (take m ns))) parts.0 ∙ rest parts.1
+    by_age false none rest = rest none
+
+knows_sooner : (m n : ℕ) (owner : Owner) (past : List Entry) (at : ℕ) (event : Event) → m ≤ n → KnowsOwn n owner past at event → KnowsOwn m owner past at event
+knows_sooner m n owner past at (Send from dst vlan kind payload) low own = tt
+knows_sooner m n owner past at (Supervise about) low own = tt
+knows_sooner m n owner past at Age low own = tt
+knows_sooner m n owner past at (Arrive port copy) low own = λ ring e wanted key keyed.
+    none_sooner (is_mistaken key copy.probe) (λ note. nat_lt (at - note.moment) entry_forget) (notes owner e past) m n low (own ring e wanted key keyed)
+
 pub legal_with_needed : LegalWithNeeded
 unfolding IsLegal
-legal_with_needed run needed n closed first most kept known knows low k below =
+legal_with_needed run needed n closed first most kept known low k below =
     legal_more run k n (past_of run k) (legal_each run.capacity (owner_of run k) (past_of run k) (closed.legal k below)) (each_of_send run closed k below) (first k below) (kept k below)
-    (remembered_by run needed most n (expired run needed most kept) low k below) (known k below) (knows k below)
+    (remembered_by run needed most n (expired run needed most kept) low k below)
+    (knows run.capacity (le-max_left run.capacity n)) (knows n (le-max_right run.capacity n))
+  where
+    knows : (m : ℕ) → m ≤ max run.capacity n → Each (λ x past. KnowsOwn m (owner_of run k) past (now (x ∷ past)) x.event) (past_of run k)
+    knows m low = each_so (λ x past. KnowsOwn (max run.capacity n) (owner_of run k) past (now (x ∷ past)) x.event) (λ x past. KnowsOwn m (owner_of run k) past (now (x ∷ past)) x.event) (past_of run k)
+        (λ x past own. knows_sooner m (max run.capacity n) (owner_of run k) past (now (x ∷ past)) x.event low own) (known k below)

@@ -129,6 +129,7 @@ module _ (owner : Owner) (past : List Entry) (at : ℕ) (here : Probe) where
       let w = widest_at (wanted_in owner.place (knows owner.place past at (Arrive port copy)) (Arrive port copy)) (λ e. reach_in at copy.probe (notes owner e past)) n some is in
       let reach = w.widest_is in
       let r = reached at copy.probe (notes owner w.egress past) (omega (arith, some, reach)) in
+      let counted = r.count in
       record {
         egress = w.egress;
         wanted = is_wanted port copy w.egress w.is;
@@ -136,7 +137,7 @@ module _ (owner : Owner) (past : List Entry) (at : ℕ) (here : Probe) where
         note = r.note;
         latest = r.latest;
         unexpired = r.unexpired;
-        count = sym reach ∙ r.count;
+        count = omega (arith, reach, counted);
       }
   needs_met (Send from dst vlan kind payload) n some is = absurd (omega (arith, some, is))
   needs_met (Supervise about) n some is = absurd (omega (arith, some, is))

@@ -4,7 +4,7 @@
 --     NothingExpired    nothing was forgotten by age
 --     LegalWithNeeded   the same records are legal with all tables that are as large
 --     IsJustEnough      nothing that was needed was forgotten where tables have so many entries
-use Rattle.std.specs.Prelude.{ℕ, ◌+◌, ◌-◌, ◌<◌, ◌≤◌, ◌≡◌, ◌↔◌, nat_lt, Bool, true, false, List, ◌∷◌, ◌++◌, length, reverse, take, slice_index_or, Option, Some, None}
+use Rattle.std.specs.Prelude.{ℕ, ◌+◌, ◌-◌, ◌<◌, ◌≤◌, ◌≡◌, ◌↔◌, nat_lt, Bool, true, false, max, List, ◌∷◌, ◌++◌, length, reverse, take, slice_index_or, Option, Some, None}
 use Rattle.std.specs.List.{list_any}
 use Rattle.hsr_frame.specs.Egress.{Egress}
 use Rattle.hsr_duptable.specs.Notes.{entry_forget}
@@ -101,8 +101,8 @@ IsJustEnough run n = NothingForgotten run ↔ (NothingExpired run × (n ≤ run.
 abbrev pub with_tables : ℕ → Run → Run
 with_tables n run = record run { capacity = n }
 
--- Where nothing needed was forgotten, each RedBox numbers a frame of its Station first, and no number is mistaken by the
--- tables of the run nor by others, the same records are legal with those, if they have as many entries as were needed.
+-- Where nothing needed was forgotten, each RedBox numbers a frame of its Station first, and the larger of both tables mistakes
+-- no number, the same records are legal with tables of any size, if these have as many entries as were needed.
 abbrev pub LegalWithNeeded : Type 0
 LegalWithNeeded = (run : Run) (needed : Needed) (n : ℕ) → IsClosed run → NumberedFirst run → IsMost run needed → NothingForgotten run →
-    NothingMistaken run → NothingMistaken (with_tables n run) → needed.entries ≤ n → (k : ℕ) → k < length run.places → IsLegal n (owner_of run k) (past_of run k)
+    NothingMistaken (with_tables (max run.capacity n) run) → needed.entries ≤ n → (k : ℕ) → k < length run.places → IsLegal n (owner_of run k) (past_of run k)
