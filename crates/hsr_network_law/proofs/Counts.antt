@@ -1,4 +1,4 @@
--- How often a send to a group went up at a node of any kind: as often as it was noted, or as it came.
+-- How often a send went up at a node of any kind: as often as it was noted, or as it came.
 use Rattle.std.proofs.Common.{◌≡◌, ℕ, ◌+◌, ◌≤◌, Bool, true, false, if◌then◌else◌, List, [], ◌∷◌, length, count_by, Option, Some, None, Ok, Err, refl, sym, ap, ◌∙◌, subst, arith, ⊎_elim, eq-eqb}
 use Rattle.std.specs.Prelude.{option_map}
 use Rattle.std.specs.List.{cons_option}
@@ -37,10 +37,8 @@ use Rattle.hsr_network_law.specs.Network.{HasAddress, is_station}
 use Rattle.hsr_law.specs.Once.{delivers, delivers_by, is_copy}
 use Rattle.hsr_law.specs.Premises.{is_note_of, is_redbox}
 use Rattle.hsr_law.specs.Run.{is_of}
-use Rattle.hsr_network_law.proofs.Leaving.{came_by}
 use Rattle.hsr_law.proofs.Lists.{count_more, one_if, zero_if}
 use Rattle.hsr_law.proofs.Noting.{tagged_note}
-use Rattle.hsr_network_law.proofs.Sides.{one_port}
 use Rattle.hsr_network_law.proofs.Unwanted.{fault_unwanted}
 use Rattle.hsr_law.proofs.Records.{Answered, OfArrival}
 use Rattle.hsr_law.proofs.Same.{address_other, is_of_itself, probe_is}
@@ -190,30 +188,29 @@ module _ (capacity : ℕ) (owner : Owner) where
           let one = one_if (is_note_of (Some send) n.0) it in
           subst Q (sym n.1) (omega arith)
 
-  -- at a Station no more went up than came
-  pub delivered_came : is_station owner.place ≡ true → (send : Probe) (h : List Entry) → Each (Answered capacity owner) h → count_by (delivers send) h ≤ count_by (is_copy send) (arrivals 0 h)
-  delivered_came station send [] legal = omega arith
-  delivered_came station send (x ∷ past) legal =
-      let rest = delivered_came station send past legal.1 in
+  -- where all that went up came by one port, no more went up than came there
+  pub delivered_came : (n : ℕ) (send : Probe) (h : List Entry) → Each (Answered capacity owner) h → Each (λ x past. (d : Delivers x past send) → d.port ≡ n) h → count_by (delivers send) h ≤ count_by (is_copy send) (arrivals n h)
+  delivered_came n send [] legal by = omega arith
+  delivered_came n send (x ∷ past) legal by =
+      let rest = delivered_came n send past legal.1 by.1 in
       let more = count_more (delivers send) x past in
       ⊎_elim
       (λ it. let one = one_if (delivers send x) it in
-      let n = came_here (delivers_is x past send legal.0 it) in
+      let here = came_here (delivers_is x past send legal.0 it) in
       omega arith)
       (λ other. let zero_more = zero_if (delivers send x) other in
-      let n = more_came (copy_at 0 x.event) in
+      let here = more_came (copy_at n x.event) in
       omega arith)
       (cases_Bool (delivers send x))
     where
-      more_came : (o : Option Carried) → count_by (is_copy send) (arrivals 0 past) ≤ count_by (is_copy send) (cons_option o (arrivals 0 past))
+      more_came : (o : Option Carried) → count_by (is_copy send) (arrivals n past) ≤ count_by (is_copy send) (cons_option o (arrivals n past))
       more_came None = omega arith
-      more_came (Some c) = let more = count_more (is_copy send) c (arrivals 0 past) in omega arith
+      more_came (Some c) = let more = count_more (is_copy send) c (arrivals n past) in omega arith
 
-      came_here : Delivers x past send → count_by (is_copy send) (arrivals 0 (x ∷ past)) ≡ 1 + count_by (is_copy send) (arrivals 0 past)
+      came_here : Delivers x past send → count_by (is_copy send) (arrivals n (x ∷ past)) ≡ 1 + count_by (is_copy send) (arrivals n past)
       came_here d =
-          let first = one_port owner.place d.port station (came_by capacity owner past (now (x ∷ past)) d.port d.copy x.outcome d.ok) in
-          let A : Event → Type 0 = λ ev. count_by (is_copy send) (cons_option (copy_at 0 ev) (arrivals 0 past)) ≡ 1 + count_by (is_copy send) (arrivals 0 past) in
-          let B : Bool → Type 0 = λ b. count_by (is_copy send) (cons_option (if b then Some d.copy else None) (arrivals 0 past)) ≡ 1 + count_by (is_copy send) (arrivals 0 past) in
-          let more = count_more (is_copy send) d.copy (arrivals 0 past) in
+          let A : Event → Type 0 = λ ev. count_by (is_copy send) (cons_option (copy_at n ev) (arrivals n past)) ≡ 1 + count_by (is_copy send) (arrivals n past) in
+          let B : Bool → Type 0 = λ b. count_by (is_copy send) (cons_option (if b then Some d.copy else None) (arrivals n past)) ≡ 1 + count_by (is_copy send) (arrivals n past) in
+          let more = count_more (is_copy send) d.copy (arrivals n past) in
           let one = one_if (is_copy send d.copy) d.mine in
-          subst A (sym d.is) (subst B (sym (eq-eqb d.port 0 first)) (omega arith))
+          subst A (sym d.is) (subst B (sym (eq-eqb d.port n (by.0 d))) (omega arith))

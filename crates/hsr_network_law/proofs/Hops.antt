@@ -1,12 +1,12 @@
 -- What comes to a port on a ring is tagged, and what comes to an edge plain; none of a send comes back to an interlink from another
 -- node's Station; and one copy of a send at most comes to a port.
-use Rattle.std.proofs.Common.{◌≡◌, ℕ, ◌<◌, ◌≤◌, ◌||◌, Bool, true, false, cond, if◌then◌else◌, List, [], ◌∷◌, length, count_by, filter_map, Option, Some, None, Ok, refl, sym, ap, ◌∙◌, subst, arith, ⊎_elim}
+use Rattle.std.proofs.Common.{◌≡◌, ℕ, ◌<◌, ◌≤◌, ◌||◌, Bool, true, false, cond, if◌then◌else◌, List, [], ◌∷◌, length, count_by, filter_map, Option, Some, None, Ok, refl, sym, ap, ◌∙◌, subst, arith, ⊎_elim, eq-eqb}
 use Rattle.std.specs.Prelude.{option_map}
 use Rattle.std.specs.List.{list_any, AllByRecursion, cons_option}
 use Rattle.std.proofs.lemmas.List.Sorted.{sum_by-IsPermutation}
 use Rattle.std.proofs.lemmas.Bool.{cases_Bool}
 use Rattle.hsr_node.specs.Copies.{copy_octets, forwarded, ports_of, side_of}
-use Rattle.hsr_node.specs.Flow.{arrivals, passes}
+use Rattle.hsr_node.specs.Flow.{arrivals, copy_at, passes}
 use Rattle.hsr_node.specs.Record.{Each, answer, has_port, now, number_in, probe_handled}
 use Rattle.hsr_node.specs.declared.entry.Entry.{Entry}
 use Rattle.hsr_node.specs.declared.event.Carried.{Carried}
@@ -23,9 +23,10 @@ use Rattle.hsr_law.specs.Premises.{NothingForgotten, NumberedFirst}
 use Rattle.hsr_law.specs.Run.{Run, ends_of, from_end, owner_of, past_of, place_of, rows_of, to_end}
 use Rattle.hsr_topology.specs.declared.end.End.{End}
 use Rattle.hsr_network_law.proofs.Leaving.{came_by, came_pass, leaves_port}
-use Rattle.hsr_network_law.proofs.Sides.{exit_of, few_ports}
+use Rattle.hsr_network_law.proofs.Sides.{exit_of, few_ports, one_port}
 use Rattle.hsr_network_law.proofs.Unwanted.{station_lets_none}
 use Rattle.hsr_law.proofs.LinkLaws.{arrives_between}
+use Rattle.hsr_law.proofs.Lists.{all_weaker}
 use Rattle.hsr_law.proofs.NoStorm.{leaves_once}
 use Rattle.hsr_law.proofs.Records.{Answered}
 use Rattle.hsr_law.proofs.Same.{probe_is}
@@ -77,7 +78,7 @@ module _ (run : Run) (closed : IsClosed run) (net : IsNetwork run) where
 
   -- ---- what a Station lets leave is its own
 
-  abbrev IsFrom : ℕ → Carried → Type 0
+  abbrev pub IsFrom : ℕ → Carried → Type 0
   IsFrom j copy = (p : Probe) × (copy.probe ≡ Some p) × (p.node ≡ j)
 
   station_own : (k n : ℕ) → is_station (place_of run k) ≡ true → n < 4 → (h : List Entry) → Each (Answered run.capacity (owner_of run k)) h → AllByRecursion (IsFrom k) (passes (owner_of run k) n h)
@@ -112,37 +113,89 @@ module _ (run : Run) (closed : IsClosed run) (net : IsNetwork run) where
               absurd (station_lets_none (place_of run k) station (knows_at (owner_of run k) past (now (x ∷ past)) port come) port (came come) n (came_by run.capacity (owner_of run k) past (now (x ∷ past)) port come x.outcome ok)
               (leaves_wanted run.capacity (owner_of run k) past (now (x ∷ past)) port come x.outcome (exit_of n) ok left))
 
+  -- ---- what comes to an interlink comes from a Station
+
+  -- a copy came over a way that starts at a Station, and is of its own
+  pub record IsByStation (k port : ℕ) (copy : Carried) : Type 0 where
+    pub way : Way
+    pub below : way.link < length run.links
+    pub stops : stop_of run way ≡ record { node = k; port = port }
+    pub station : is_station (place_of run (start_of run way).node) ≡ true
+    pub first : (start_of run way).port ≡ 0
+    pub from : IsFrom (start_of run way).node copy
+    pub of_send : IsOfSend run copy
+
+  pub all_by_station : (k port : ℕ) → k < length run.places → is_edge (place_of run k) port ≡ true → is_station (place_of run k) ≡ false → AllByRecursion (IsByStation k port) (arrivals port (past_of run k))
+  all_by_station k port below edge no_station =
+      ⊎_elim
+      (λ at.
+      let way : Way = record { link = at.link; dir = at.dir } in
+      let b = back_of (record { link = at.link; dir = at.dir }) at.below in
+      let starts : start_of run b.back ≡ record { node = k; port = port } = b.starts ∙ at.ends in
+      let S : End → Type 0 = λ end. is_station (place_of run end.node) ≡ true in
+      let E : End → Type 0 = λ end. is_edge (place_of run end.node) end.port ≡ true in
+      let N : End → Type 0 = λ end. is_station (place_of run end.node) ≡ false in
+      let station = subst S b.stops (net.faces b.back b.below (subst E (sym starts) edge) (subst N (sym starts) no_station)) in
+      let there = net.ends (record { link = at.link; dir = at.dir }) at.below in
+      let from : End = from_end at.dir (ends_of run at.link) in
+      all_weaker (λ copy. IsFrom (from_end at.dir (ends_of run at.link)).node copy × IsOfSend run copy) (IsByStation k port) (arrivals port (past_of run k))
+      (λ copy both. record {
+        way = record { link = at.link; dir = at.dir };
+        below = at.below;
+        stops = at.ends;
+        station = station;
+        first = one_port (place_of run (from_end at.dir (ends_of run at.link)).node) (from_end at.dir (ends_of run at.link)).port station there.port;
+        from = both.0;
+        of_send = both.1;
+      })
+      (arrives_between run closed (IsFrom (from_end at.dir (ends_of run at.link)).node) at.link at.dir (from_end at.dir (ends_of run at.link)) (record { node = k; port = port }) at.below refl at.ends
+      (station_own (from_end at.dir (ends_of run at.link)).node (from_end at.dir (ends_of run at.link)).port station (few_ports (place_of run (from_end at.dir (ends_of run at.link)).node) (from_end at.dir (ends_of run at.link)).port there.port) (past_of run (from_end at.dir (ends_of run at.link)).node) (legal run closed net (from_end at.dir (ends_of run at.link)).node there.node))))
+      (λ none. let Q : List Carried → Type 0 = AllByRecursion (IsByStation k port) in subst Q (sym none) tt)
+      (closed.linked k port below)
+
+  abbrev pub FromEdge : ℕ → Event → Type 0
+  FromEdge k (Arrive port copy) = is_edge (place_of run k) port ≡ true → is_station (place_of run k) ≡ false → IsByStation k port copy
+  FromEdge k event = Unit {0}
+
+  pub each_from_edge : (k : ℕ) → k < length run.places → Each (λ x past. FromEdge k x.event) (past_of run k)
+  each_from_edge k below = in_record (past_of run k) (λ port edge no_station. all_by_station k port below edge no_station)
+    where
+      AllFrom : List Entry → Type 0
+      AllFrom h = (port : ℕ) → is_edge (place_of run k) port ≡ true → is_station (place_of run k) ≡ false → AllByRecursion (IsByStation k port) (arrivals port h)
+
+      in_record : (h : List Entry) → AllFrom h → Each (λ x past. FromEdge k x.event) h
+      in_record [] all = tt
+      in_record (x ∷ past) all = (step x.event all, in_record past (λ port edge no_station. rest port (copy_at port x.event) (all port edge no_station)))
+        where
+          rest : (port : ℕ) (o : Option Carried) → AllByRecursion (IsByStation k port) (cons_option o (arrivals port past)) → AllByRecursion (IsByStation k port) (arrivals port past)
+          rest port None h = h
+          rest port (Some copy) h = h.1
+
+          step : (event : Event) → ((port : ℕ) → is_edge (place_of run k) port ≡ true → is_station (place_of run k) ≡ false → AllByRecursion (IsByStation k port) (cons_option (copy_at port event) (arrivals port past))) → FromEdge k event
+          step (Send from dst vlan kind payload) all = tt
+          step (Supervise about) all = tt
+          step Age all = tt
+          step (Arrive number copy) all = λ edge no_station.
+              let Q : Bool → Type 0 = λ b. AllByRecursion (IsByStation k number) (cons_option (if b then Some copy else None) (arrivals number past)) in
+              (subst Q (eq-eqb number number refl) (all number edge no_station)).0
+
   -- none of a send came to the port from which a way starts that doesn't end at its sender, if the port is an interlink
   pub none_back : (send : Probe) (way : Way) → way.link < length run.links → is_edge (place_of run (start_of run way).node) (start_of run way).port ≡ true → is_station (place_of run (start_of run way).node) ≡ false →
       ((stop_of run way).node ≡ send.node → ⊥) → list_any (is_copy send) (arrivals (start_of run way).port (past_of run (start_of run way).node)) ≡ false
   none_back send way below edge no_station away =
-      ⊎_elim
-      (λ at.
-      let coming : Way = record { link = at.link; dir = at.dir } in
-      let b = back_of (record { link = at.link; dir = at.dir }) at.below in
-      let starts : start_of run way ≡ start_of run b.back = sym (b.starts ∙ at.ends) in
-      let stops : stop_of run way ≡ start_of run (record { link = at.link; dir = at.dir }) = net.apart way b.back below b.below starts ∙ b.stops in
-      let S : End → Type 0 = λ end. is_station (place_of run end.node) ≡ true in
-      let station = subst S stops (net.faces way below edge no_station) in
-      let port = net.ends (record { link = at.link; dir = at.dir }) at.below in
-      let from : End = from_end at.dir (ends_of run at.link) in
-      let all = arrives_between run closed (IsFrom (from_end at.dir (ends_of run at.link)).node) at.link at.dir (from_end at.dir (ends_of run at.link)) (start_of run way) at.below refl at.ends
-      (station_own (from_end at.dir (ends_of run at.link)).node (from_end at.dir (ends_of run at.link)).port station (few_ports (place_of run (from_end at.dir (ends_of run at.link)).node) (from_end at.dir (ends_of run at.link)).port port.port) (past_of run (from_end at.dir (ends_of run at.link)).node) (legal run closed net (from_end at.dir (ends_of run at.link)).node port.node)) in
-      none_of (from_end at.dir (ends_of run at.link)).node (λ e. away (ap (λ (end : End). end.node) stops ∙ e)) (arrivals (start_of run way).port (past_of run (start_of run way).node)) all)
-      (λ none. ap (list_any (is_copy send)) none)
-      (closed.linked (start_of run way).node (start_of run way).port (net.ends way below).node)
+      none_of (arrivals (start_of run way).port (past_of run (start_of run way).node)) (all_by_station (start_of run way).node (start_of run way).port (net.ends way below).node edge no_station)
     where
-      none_of : (j : ℕ) → (j ≡ send.node → ⊥) → (cs : List Carried) → AllByRecursion (λ copy. IsFrom j copy × IsOfSend run copy) cs → list_any (is_copy send) cs ≡ false
-      none_of j other [] all = refl
-      none_of j other (c ∷ cs) all =
-          ⊎_elim
-          (λ mine.
-          let there = probe_is send c.probe mine in
-          let both : Some all.0.0.0 ≡ Some send = sym all.0.0.1 ∙ there in
-          let same : all.0.0.0 ≡ send = cc in
-          absurd (other (sym all.0.0.2 ∙ ap (λ (p : Probe). p.node) same)))
-          (λ not_mine. ap (λ b. b || list_any (is_copy send) cs) not_mine ∙ none_of j other cs all.1)
-          (cases_Bool (is_copy send c))
+      not_mine : (copy : Carried) → IsByStation (start_of run way).node (start_of run way).port copy → is_copy send copy ≡ true → ⊥
+      not_mine copy by mine =
+          let b = back_of by.way by.below in
+          let stops : stop_of run way ≡ start_of run by.way = net.apart way b.back below b.below (sym (b.starts ∙ by.stops)) ∙ b.stops in
+          let both : Some by.from.0 ≡ Some send = sym by.from.1 ∙ probe_is send copy.probe mine in
+          let same : by.from.0 ≡ send = cc in
+          away (ap (λ (end : End). end.node) stops ∙ (sym by.from.2 ∙ ap (λ (p : Probe). p.node) same))
+
+      none_of : (cs : List Carried) → AllByRecursion (IsByStation (start_of run way).node (start_of run way).port) cs → list_any (is_copy send) cs ≡ false
+      none_of [] all = refl
+      none_of (c ∷ cs) all = ⊎_elim (λ mine. absurd (not_mine c all.0 mine)) (λ other. ap (λ b. b || list_any (is_copy send) cs) other ∙ none_of cs all.1) (cases_Bool (is_copy send c))
 
   -- ---- one copy of a send comes to a port
 

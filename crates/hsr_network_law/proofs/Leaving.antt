@@ -1,8 +1,9 @@
--- The record of any node: what comes of a send to a group leaves by each port where it is wanted, or went up.
+-- The record of any node: what comes of a send leaves by each port where it is wanted, or went up.
 use Rattle.std.proofs.Common.{◌≡◌, ◌⊎◌, ℕ, ◌+◌, ◌<◌, ◌≤◌, ◌==◌, ◌&&◌, ◌||◌, Bool, true, false, not, if◌then◌else◌, List, [], ◌∷◌, length, count_by, Option, Some, None, Ok, Err, refl, sym, ap, ◌∙◌, subst, arith, inl, inr, ⊎_elim, zero, suc, eqb-true, eq-eqb}
 use Rattle.std.specs.Prelude.{option_map, unwrap_or}
 use Rattle.std.specs.List.{list_any, AllByRecursion, cons_option}
 use Rattle.std.proofs.lemmas.Bool.{false≢true, and_from, or_left, or_right, or_cases, or_parts, cases_Bool}
+use Rattle.hsr_frame.specs.Address.{is_group}
 use Rattle.hsr_frame.specs.Egress.{Egress, has_exit, to, up}
 use Rattle.hsr_frame.specs.Egress as out
 use Rattle.hsr_frame.specs.Grammar.{Fields, spelling}
@@ -20,7 +21,7 @@ use Rattle.hsr_quadbox.specs.Wanted as of_quadbox
 use Rattle.hsr_redbox.specs.declared.wanted.Handling.{Handling}
 use Rattle.hsr_node.specs.Copies.{copy_octets, forwarded, passed_octets, plain_in, ports_of, side_of, written}
 use Rattle.hsr_node.specs.Flow.{arrivals, copy_at, pass_of, passes, wanted_at, wants}
-use Rattle.hsr_node.specs.Record.{Each, Noted, Owner, answer, handling, has_left, has_port, is_noted, leaves, next_number, note_of, noted_on, notes, now, number_in, passing, probe_handled, remembers, station_wanted}
+use Rattle.hsr_node.specs.Record.{Each, Noted, Owner, answer, handling, has_left, has_port, is_noted, knows, leaves, next_number, note_of, noted_on, notes, now, number_in, passing, probe_handled, remembers, station_wanted}
 use Rattle.hsr_node.specs.Step.{quad_port, ring_port}
 use Rattle.hsr_node.specs.declared.entry.Entry.{Entry}
 use Rattle.hsr_node.specs.declared.event.Carried.{Carried}
@@ -31,14 +32,15 @@ use Rattle.hsr_node.specs.declared.event.Outcome.TheVariants.{Judged}
 use Rattle.hsr_node.specs.declared.event.Probe.{Probe}
 use Rattle.hsr_node.specs.declared.place.Place.{Place}
 use Rattle.hsr_node.specs.declared.place.Place.TheVariants.{Danh, RedBox, QuadBox, Station}
-use Rattle.hsr_network_law.specs.Network.{is_edge, is_station}
+use Rattle.hsr_network_law.specs.Network.{is_edge}
 use Rattle.hsr_node.specs.Place.{ports}
 use Rattle.hsr_law.specs.Once.{delivers, delivers_by, is_copy}
 use Rattle.hsr_law.specs.Premises.{is_note_of}
 use Rattle.hsr_law.specs.Run.{is_of}
 use Rattle.hsr_network_law.proofs.Sides.{IsEdgeSide, any_port_there, edge_side, exit_of, forward_down, forward_ring, forward_up, on_ring_no_edge, ring_at, ring_side, writes_ring}
-use Rattle.hsr_network_law.proofs.Wants.{IsForeign, interlink_is, station_up}
-use Rattle.hsr_network_law.proofs.PlainReads.{knows_no_group}
+use Rattle.hsr_network_law.proofs.Unknown.{Unknown}
+use Rattle.hsr_network_law.proofs.Wants.{from_interlink, interlink_is}
+use Rattle.hsr_law.proofs.Arrived.{Knowing, MayKnow}
 use Rattle.hsr_law.proofs.NoStorm.{PassCame, came_leaves}
 use Rattle.hsr_law.proofs.Noting.{CameNumbered, CameTagged, IsNoteOf, NoteCame, new_note, note_from}
 use Rattle.hsr_law.proofs.Records.{Answered}
@@ -65,7 +67,7 @@ station_unnumbered : (b : Bool) (w : Wants) (h : Handling) → (if b then Some (
 station_unnumbered false w h is = absurd cc
 station_unnumbered true w h is = let same : unnumbered w ≡ h = cc in sym (ap (λ (g : Handling). g.source) same)
 
-numbered_at_edge : (place : Place) (known : List ℕ → Bool) (port : ℕ) (f : Fields) (h : Handling) → handling place known port (Ok (Plain f)) ≡ Some h → (h.source ≡ None) ⊎ IsInterlink place port
+pub numbered_at_edge : (place : Place) (known : List ℕ → Bool) (port : ℕ) (f : Fields) (h : Handling) → handling place known port (Ok (Plain f)) ≡ Some h → (h.source ≡ None) ⊎ IsInterlink place port
 numbered_at_edge (Danh mac mode) known port f h is = inl (unnumbered_at (ring_port port) (λ x. of_danh.wanted mac mode x (Ok (Plain f))) h is)
 numbered_at_edge (RedBox mac mode) known zero f h is = inl (ap (λ (o : Option Handling). unwrap_or (option_map (λ (g : Handling). g.source) o) None) (sym is))
 numbered_at_edge (RedBox mac mode) known (suc zero) f h is = inl (ap (λ (o : Option Handling). unwrap_or (option_map (λ (g : Handling). g.source) o) None) (sym is))
@@ -125,11 +127,11 @@ module _ (capacity : ℕ) (owner : Owner) where
   -- ---- from each arrival of a send
 
   -- what an arrival brings about, and what lasts, holds after one
-  pub from_arrival : (send : Probe) (port : ℕ) (P : Carried → Type 0) (Q : List Entry → Type 0) → ((x : Entry) (past : List Entry) → Q past → Q (x ∷ past)) →
-      ((x : Entry) (past : List Entry) (copy : Carried) → x.event ≡ Arrive port copy → answer capacity owner past (now (x ∷ past)) (Arrive port copy) ≡ Ok x.outcome → P copy → is_copy send copy ≡ true → Q (x ∷ past)) →
-      (h : List Entry) → Each (Answered capacity owner) h → AllByRecursion P (arrivals port h) → list_any (is_copy send) (arrivals port h) ≡ true → Q h
-  from_arrival send port P Q lasts brings [] legal all some = absurd (false≢true some)
-  from_arrival send port P Q lasts brings (x ∷ past) legal all some = by_event x.event refl all some (from_arrival send port P Q lasts brings past legal.1)
+  pub from_arrival : (send : Probe) (port : ℕ) (may : Knowing) (P : Carried → Type 0) (Q : List Entry → Type 0) → ((x : Entry) (past : List Entry) → Q past → Q (x ∷ past)) →
+      ((x : Entry) (past : List Entry) (copy : Carried) → x.event ≡ Arrive port copy → answer capacity owner past (now (x ∷ past)) (Arrive port copy) ≡ Ok x.outcome → may (knows_at owner past (now (x ∷ past)) port copy) → P copy → is_copy send copy ≡ true → Q (x ∷ past)) →
+      (h : List Entry) → Each (Answered capacity owner) h → Each (MayKnow owner send may) h → AllByRecursion P (arrivals port h) → list_any (is_copy send) (arrivals port h) ≡ true → Q h
+  from_arrival send port may P Q lasts brings [] legal knowing all some = absurd (false≢true some)
+  from_arrival send port may P Q lasts brings (x ∷ past) legal knowing all some = by_event x.event refl all some (from_arrival send port may P Q lasts brings past legal.1 knowing.1)
     where
       Rest : Type 0
       Rest = AllByRecursion P (arrivals port past) → list_any (is_copy send) (arrivals port past) ≡ true → Q past
@@ -141,9 +143,10 @@ module _ (capacity : ℕ) (owner : Owner) where
           ⊎_elim
           (λ mine.
           let A : Event → Type 0 = λ ev. answer capacity owner past (now (x ∷ past)) ev ≡ Ok x.outcome in
+          let M : Event → Type 0 = λ ev. is_of send (probe_handled (record { node = owner.number; place = length past }) ev) ≡ true → may (knows owner.place past (now (x ∷ past)) ev) in
           let E : ℕ → Type 0 = λ n. x.event ≡ Arrive n copy in
           let here = subst E (same refl) is in
-          brings x past copy here (subst A here legal.0) all.0 mine)
+          brings x past copy here (subst A here legal.0) (subst M here knowing.0 mine) all.0 mine)
           (λ later. lasts x past (rest all.1 later))
           (or_cases (is_copy send copy) (list_any (is_copy send) (arrivals port past)) some)
 
@@ -317,34 +320,33 @@ module _ (capacity : ℕ) (owner : Owner) where
   abbrev pub HasGoneUp : Probe → List Entry → Type 0
   HasGoneUp send h = list_any (delivers send) h ≡ true
 
-  -- what comes to an interlink goes up, and leaves by both ring ports with a number
+  -- what comes to an interlink, is to another and isn't known there gets a number
   record IsTakenIn (x : Entry) (f : Fields) : Type 0 where
     seq : ℕ
     number : number_in x.outcome ≡ Some seq
-    goes : (e : Egress) → has_exit (to (up ∷ out.a ∷ out.b ∷ [])).exits e ≡ leaves x.outcome e
+    goes : (e : Egress) → has_exit (from_interlink (is_group f.dst)).exits e ≡ leaves x.outcome e
 
-  taken_in : (mac : List ℕ) (mode : Mode) → owner.place ≡ RedBox mac mode → (x : Entry) (past : List Entry) (copy : Carried) (f : Fields) → IsForeign (RedBox mac mode) f.dst f.src →
+  taken_in : (mac : List ℕ) (mode : Mode) → owner.place ≡ RedBox mac mode → (x : Entry) (past : List Entry) (copy : Carried) (f : Fields) → (f.src ≡ mac → ⊥) → (f.dst ≡ mac → ⊥) → knows_at owner past (now (x ∷ past)) 2 copy f.dst ≡ false →
       answer capacity owner past (now (x ∷ past)) (Arrive 2 copy) ≡ Ok x.outcome → came copy ≡ Ok (Plain f) → IsTakenIn x f
-  taken_in mac mode place x past copy f foreign ok is =
-      let known = knows_at owner past (now (x ∷ past)) 2 copy in
-      let near = knows_no_group owner.place past (now (x ∷ past)) (Arrive 2 copy) f.dst (foreign.group refl) in
-      let there = interlink_is mac mode (knows_at owner past (now (x ∷ past)) 2 copy) f foreign near in
+  taken_in mac mode place x past copy f src dst near ok is =
+      let there = interlink_is mac mode (knows_at owner past (now (x ∷ past)) 2 copy) f src dst near in
       let j = judged capacity owner past (now (x ∷ past)) 2 copy x.outcome ok in
-      let C : Came → Type 0 = λ s. handling owner.place (knows_at owner past (now (x ∷ past)) 2 copy) 2 s ≡ Some (numbered f.src (to (up ∷ out.a ∷ out.b ∷ []))) in
-      let L : Place → Type 0 = λ p. handling p (knows_at owner past (now (x ∷ past)) 2 copy) 2 (Ok (Plain f)) ≡ Some (numbered f.src (to (up ∷ out.a ∷ out.b ∷ []))) in
-      let handled : handling owner.place (knows_at owner past (now (x ∷ past)) 2 copy) 2 (came copy) ≡ Some (numbered f.src (to (up ∷ out.a ∷ out.b ∷ []))) = subst C (sym is) (subst L (sym place) there) in
-      let both : Some j.h ≡ Some (numbered f.src (to (up ∷ out.a ∷ out.b ∷ []))) = sym j.is ∙ handled in
-      let same : j.h ≡ numbered f.src (to (up ∷ out.a ∷ out.b ∷ [])) = cc in
+      let C : Came → Type 0 = λ s. handling owner.place (knows_at owner past (now (x ∷ past)) 2 copy) 2 s ≡ Some (numbered f.src (from_interlink (is_group f.dst))) in
+      let L : Place → Type 0 = λ p. handling p (knows_at owner past (now (x ∷ past)) 2 copy) 2 (Ok (Plain f)) ≡ Some (numbered f.src (from_interlink (is_group f.dst))) in
+      let handled : handling owner.place (knows_at owner past (now (x ∷ past)) 2 copy) 2 (came copy) ≡ Some (numbered f.src (from_interlink (is_group f.dst))) = subst C (sym is) (subst L (sym place) there) in
+      let both : Some j.h ≡ Some (numbered f.src (from_interlink (is_group f.dst))) = sym j.is ∙ handled in
+      let same : j.h ≡ numbered f.src (from_interlink (is_group f.dst)) = cc in
       record {
         seq = next_number past;
         number = ap number_in j.out ∙ ap (λ (h : Handling). number_of h.source (next_number past)) same;
         goes = λ e. sym (leaves_plain past (now (x ∷ past)) 2 copy x.outcome f e ok is ∙ ap (λ o. wanted_at o e) handled);
       }
 
-  pub interlink_left : (mac : List ℕ) (mode : Mode) → owner.place ≡ RedBox mac mode → (n : ℕ) → n < 2 → (send : Probe) (f : Fields) → IsForeign (RedBox mac mode) f.dst f.src → (h : List Entry) → Each (Answered capacity owner) h →
+  -- and leaves by both ring ports
+  pub interlink_left : (mac : List ℕ) (mode : Mode) → owner.place ≡ RedBox mac mode → (n : ℕ) → n < 2 → (send : Probe) (f : Fields) → (f.src ≡ mac → ⊥) → (f.dst ≡ mac → ⊥) → (h : List Entry) → Each (Answered capacity owner) h → Each (MayKnow owner send (Unknown f.dst)) h →
       AllByRecursion (IsPlainOf send f) (arrivals 2 h) → list_any (is_copy send) (arrivals 2 h) ≡ true → HasLeft n send h
-  interlink_left mac mode place n few send f foreign h legal all some =
-      from_arrival send 2 (IsPlainOf send f) (HasLeft n send) (left_lasts n send) goes h legal all some
+  interlink_left mac mode place n few send f src dst h legal knowing all some =
+      from_arrival send 2 (Unknown f.dst) (IsPlainOf send f) (HasLeft n send) (left_lasts n send) goes h legal knowing all some
     where
       below : n < ports owner.place
       below = let B : Place → Type 0 = λ p. n < ports p in subst B (sym place) (omega arith)
@@ -358,42 +360,33 @@ module _ (capacity : ℕ) (owner : Owner) where
       edge : IsEdgeSide owner.place 2
       edge = let S : Place → Type 0 = λ p. IsEdgeSide p 2 in subst S (sym place) refl
 
-      goes : (x : Entry) (past : List Entry) (copy : Carried) → x.event ≡ Arrive 2 copy → answer capacity owner past (now (x ∷ past)) (Arrive 2 copy) ≡ Ok x.outcome → IsPlainOf send f copy → is_copy send copy ≡ true → HasLeft n send (x ∷ past)
-      goes x past copy is ok plain mine =
-          let t = taken_in mac mode place x past copy f foreign ok (plain mine) in
+      goes : (x : Entry) (past : List Entry) (copy : Carried) → x.event ≡ Arrive 2 copy → answer capacity owner past (now (x ∷ past)) (Arrive 2 copy) ≡ Ok x.outcome → Unknown f.dst (knows_at owner past (now (x ∷ past)) 2 copy) → IsPlainOf send f copy → is_copy send copy ≡ true →
+          HasLeft n send (x ∷ past)
+      goes x past copy is ok near plain mine =
+          let t = taken_in mac mode place x past copy f src dst near ok (plain mine) in
           let side = ring_side owner.place n below no_edge in
           let w = writes_ring side.0 t.seq f in
-          let gone = leaves_port x past 2 n copy is ok (omega arith) ∙ (sym (t.goes (exit_of n)) ∙ out_there n few) in
+          let gone = leaves_port x past 2 n copy is ok (omega arith) ∙ (sym (t.goes (exit_of n)) ∙ out_there (is_group f.dst) n few) in
           let forward = forward_up owner.place 2 n (number_in x.outcome) copy.octets edge side
           ∙ ap (λ s. written (side_of QuadBox (ring_at side.0)) (number_in x.outcome) (plain_in s)) (plain mine)
           ∙ ap (λ o. written (side_of QuadBox (ring_at side.0)) o (Some f)) t.number in
           leaves_with n x past 2 copy w.0 send is ok gone (forward ∙ w.1) mine
         where
-          out_there : (n : ℕ) → n < 2 → has_exit (to (up ∷ out.a ∷ out.b ∷ [])).exits (exit_of n) ≡ true
-          out_there zero few = refl
-          out_there (suc zero) few = refl
-          out_there (suc (suc n)) few = absurd (omega arith)
+          out_there : (group : Bool) (n : ℕ) → n < 2 → has_exit (from_interlink group).exits (exit_of n) ≡ true
+          out_there true zero few = refl
+          out_there true (suc zero) few = refl
+          out_there false zero few = refl
+          out_there false (suc zero) few = refl
+          out_there group (suc (suc n)) few = absurd (omega arith)
 
-  up_lasts : (send : Probe) (x : Entry) (past : List Entry) → HasGoneUp send past → HasGoneUp send (x ∷ past)
-  up_lasts send x past h = or_right _ _ h
-
-  pub interlink_up : (mac : List ℕ) (mode : Mode) → owner.place ≡ RedBox mac mode → (send : Probe) (f : Fields) → IsForeign (RedBox mac mode) f.dst f.src → (h : List Entry) → Each (Answered capacity owner) h →
-      AllByRecursion (IsPlainOf send f) (arrivals 2 h) → list_any (is_copy send) (arrivals 2 h) ≡ true → HasGoneUp send h
-  interlink_up mac mode place send f foreign h legal all some =
-      from_arrival send 2 (IsPlainOf send f) (HasGoneUp send) (up_lasts send)
-      (λ x past copy is ok plain mine.
-      let t = taken_in mac mode place x past copy f foreign ok (plain mine) in
+  -- what comes to an edge and is wanted up goes up
+  pub edge_went_up : (port : ℕ) (send : Probe) (may : Knowing) (f : Fields) → ((known : List ℕ → Bool) → may known → wants owner.place known port (Ok (Plain f)) up ≡ true) → (h : List Entry) → Each (Answered capacity owner) h → Each (MayKnow owner send may) h →
+      AllByRecursion (IsPlainOf send f) (arrivals port h) → list_any (is_copy send) (arrivals port h) ≡ true → HasGoneUp send h
+  edge_went_up port send may f wanted h legal knowing all some =
+      from_arrival send port may (IsPlainOf send f) (HasGoneUp send) (λ x past gone. or_right _ _ gone)
+      (λ x past copy is ok near plain mine.
       let D : Event → Type 0 = λ ev. delivers_by send ev x.outcome ≡ true in
-      or_left _ _ (subst D (sym is) (and_from _ _ mine (sym (t.goes up)))))
-      h legal all some
-
-  pub station_took : is_station owner.place ≡ true → (send : Probe) (f : Fields) → IsForeign owner.place f.dst f.src → (h : List Entry) → Each (Answered capacity owner) h →
-      AllByRecursion (IsPlainOf send f) (arrivals 0 h) → list_any (is_copy send) (arrivals 0 h) ≡ true → HasGoneUp send h
-  station_took station send f foreign h legal all some =
-      from_arrival send 0 (IsPlainOf send f) (HasGoneUp send) (up_lasts send)
-      (λ x past copy is ok plain mine.
-      let D : Event → Type 0 = λ ev. delivers_by send ev x.outcome ≡ true in
-      let W : Came → Type 0 = λ s. wants owner.place (knows_at owner past (now (x ∷ past)) 0 copy) 0 s up ≡ true in
-      let wanted = subst W (sym (plain mine)) (station_up owner.place station (knows_at owner past (now (x ∷ past)) 0 copy) f foreign) in
-      or_left _ _ (subst D (sym is) (and_from _ _ mine (leaves_plain past (now (x ∷ past)) 0 copy x.outcome f up ok (plain mine) ∙ wanted))))
-      h legal all some
+      let W : Came → Type 0 = λ s. wants owner.place (knows_at owner past (now (x ∷ past)) port copy) port s up ≡ true in
+      let wanted_here = subst W (sym (plain mine)) (wanted (knows_at owner past (now (x ∷ past)) port copy) near) in
+      or_left _ _ (subst D (sym is) (and_from _ _ mine (leaves_plain past (now (x ∷ past)) port copy x.outcome f up ok (plain mine) ∙ wanted_here))))
+      h legal knowing all some

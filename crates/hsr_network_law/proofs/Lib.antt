@@ -1,5 +1,6 @@
 pub mod PlainReads
 pub mod Sides
+pub mod Unknown
 pub mod Wants
 pub mod Unwanted
 pub mod Leaving
@@ -7,9 +8,16 @@ pub mod Sending
 pub mod Fits
 pub mod Links
 pub mod Hops
+pub mod Late
+pub mod Covered
 pub mod Counts
+pub mod AtMost
 pub mod Delivered
+pub mod Stations
 pub mod Search
 pub mod Wired
+pub mod Rings
 pub mod WorkedBox
+pub mod WorkedLate
+pub mod WorkedAnswer
 pub mod WorkedRings

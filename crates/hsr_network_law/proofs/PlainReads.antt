@@ -1,11 +1,8 @@
--- What is read of plain frames: a frame that is written plain isn't read as the same frame with a tag, no group is a frame's
--- source, and so no group is known on an interlink.
-use Rattle.std.proofs.Common.{◌≡◌, ℕ, ◌+◌, ◌-◌, ◌%◌, ◌≤◌, ◌==◌, ◌&&◌, ◌||◌, Bool, true, false, not, if◌then◌else◌, List, [], ◌∷◌, ◌++◌, length, Option, Some, None, Ok, Err, refl, sym, ap, ◌∙◌, subst, arith, ⊎_elim, take, length-take, length-drop, length-append, nat_lt, ltb-false}
+-- What is read of plain frames: a frame that is written plain isn't read as the same frame with a tag.
+use Rattle.std.proofs.Common.{◌≡◌, ℕ, ◌+◌, ◌-◌, ◌%◌, ◌≤◌, ◌==◌, ◌&&◌, ◌||◌, Bool, true, false, if◌then◌else◌, List, [], ◌∷◌, length, Option, Some, None, Ok, refl, sym, ap, ◌∙◌, subst, arith, length-take, length-drop, length-append, nat_lt, ltb-false}
 use Rattle.std.specs.Prelude.{slice_index, drop}
-use Rattle.std.specs.List.{list_any, AllByRecursion}
 use Rattle.std.specs.Option.{option_or}
-use Rattle.std.proofs.lemmas.Bool.{false≢true, cases_Bool, or_parts}
-use Rattle.hsr_frame.specs.Address.{is_group, is_same_address}
+use Rattle.std.proofs.lemmas.Bool.{or_parts}
 use Rattle.hsr_frame.specs.Cases.{first_of, unless}
 use Rattle.hsr_frame.specs.Grammar.{Fields, fields_of, has_vlan, head_len, number_at, raw_fault, spelling}
 use Rattle.hsr_frame.specs.declared.fault.FrameFault.{FrameFault}
@@ -13,20 +10,6 @@ use Rattle.hsr_frame.specs.declared.fault.FrameFault.TheVariants.{DoubleVlan, Gr
 use Rattle.hsr_tag.specs.Seen.{classified, frame_fault, seen_in, tag_fault, tagged_of}
 use Rattle.hsr_tag.specs.Tag.{TaggedFields, untag_of}
 use Rattle.hsr_tag.specs.declared.seen.Seen.TheVariants.{Plain, Tagged}
-use Rattle.hsr_redbox.specs.Past.{source_in}
-use Rattle.hsr_redbox.specs.declared.call.BoxPort.{BoxPort}
-use Rattle.hsr_redbox.specs.declared.call.BoxPort.TheVariants as box
-use Rattle.hsr_tables.specs.Known.{is_young, known, latest_heard, latest_of_each}
-use Rattle.hsr_node.specs.Record.{heard, heard_from, knows, now, source_at}
-use Rattle.hsr_node.specs.Step.{box_port}
-use Rattle.hsr_node.specs.declared.entry.Entry.{Entry}
-use Rattle.hsr_node.specs.declared.event.Event.{Event}
-use Rattle.hsr_node.specs.declared.event.Event.TheVariants.{Send, Supervise, Arrive, Age}
-use Rattle.hsr_node.specs.declared.place.Place.{Place}
-use Rattle.hsr_node.specs.declared.place.Place.TheVariants.{Danh, RedBox, QuadBox, Station}
-use Rattle.hsr_law.proofs.Lists.{all_filter, all_take}
-use Rattle.hsr_law.proofs.Same.{same_address}
-use Rattle.hsr_law.proofs.Views.{Came}
 
 -- ---- what is read
 
@@ -105,93 +88,3 @@ never_tagged f t e is =
     none : (b : Bool) (n m l d s : ℕ) → n ≡ d + (s + ((if b then 6 else 2) + l)) → d ≡ 6 → s ≡ 6 → l ≡ m - 6 → m ≡ n - (if b then 18 else 14) → 6 ≤ m → ⊥
     none true n m l d s whole dst src rest head room = omega arith
     none false n m l d s whole dst src rest head room = omega arith
-
--- ---- no group is a source
-
-source_at_6 : (octets : List ℕ) → slice_index (take 6 (drop 6 octets)) 0 ≡ slice_index octets 6
-source_at_6 [] = refl
-source_at_6 (a ∷ []) = refl
-source_at_6 (a ∷ b ∷ []) = refl
-source_at_6 (a ∷ b ∷ c ∷ []) = refl
-source_at_6 (a ∷ b ∷ c ∷ d ∷ []) = refl
-source_at_6 (a ∷ b ∷ c ∷ d ∷ e ∷ []) = refl
-source_at_6 (a ∷ b ∷ c ∷ d ∷ e ∷ f ∷ []) = refl
-source_at_6 (a ∷ b ∷ c ∷ d ∷ e ∷ f ∷ g ∷ octets) = refl
-
-third : (p q r : Bool) (x y z : FrameFault) (rest : List (Bool × Option FrameFault)) → first_of ((p, Some x) ∷ (q, Some y) ∷ (r, Some z) ∷ rest) None ≡ None → r ≡ false
-third true q r x y z rest e = absurd cc
-third false true r x y z rest e = absurd cc
-third false false true x y z rest e = absurd cc
-third false false false x y z rest e = refl
-
-plain_is : (g f : Fields) → seen_in g ≡ Plain f → g ≡ f
-plain_is g f e = by_kind (g.kind == 0x892F) e
-  where
-    by_kind : (b : Bool) → (if b then Tagged (tagged_of g) else Plain g) ≡ Plain f → g ≡ f
-    by_kind true e = absurd cc
-    by_kind false e = cc
-
-pub single_source : (octets : List ℕ) (f : Fields) → classified octets ≡ Ok (Plain f) → is_group f.src ≡ false
-unfolding classified
-single_source octets f e =
-    let parts = accepted (frame_fault octets) (seen_in (fields_of octets)) (Plain f) e in
-    let raw = none_before (raw_fault octets) (tag_fault (fields_of octets)) parts.0 in
-    let single = third (nat_lt (length octets) 14 || (has_vlan octets && nat_lt (length octets) 18)) (nat_lt (head_len octets + 1506) (length octets)) (slice_index octets 6 % 2 == 1) Short Long GroupSource
-    ((has_vlan octets && (number_at 16 octets == 0x8100), Some DoubleVlan) ∷ []) raw in
-    let src : f.src ≡ take 6 (drop 6 octets) = ap (λ (h : Fields). h.src) (sym (plain_is (fields_of octets) f parts.1)) in
-    ap is_group src ∙ (ap (λ n. n % 2 == 1) (source_at_6 octets) ∙ single)
-
--- ---- so none is known on an interlink
-
-abbrev Single : List ℕ × ℕ → Type 0
-Single h = is_group h.0 ≡ false
-
-both_all : (xs ys : List (List ℕ × ℕ)) → AllByRecursion Single xs → AllByRecursion Single ys → AllByRecursion Single (xs ++ ys)
-both_all [] ys a b = b
-both_all (x ∷ xs) ys a b = (a.0, both_all xs ys a.1 b)
-
-heard_single : (place : Place) (at : ℕ) (event : Event) → AllByRecursion Single (heard_from place at event)
-heard_single (Danh mac mode) at event = tt
-heard_single (RedBox mac mode) at (Send from dst vlan seen payload) = tt
-heard_single (RedBox mac mode) at (Supervise about) = tt
-heard_single (RedBox mac mode) at Age = tt
-heard_single (RedBox mac mode) at (Arrive port copy) = by_port (box_port port)
-  where
-    by_seen : (seen : Came) → classified copy.octets ≡ seen → AllByRecursion Single (source_in mac at seen)
-    by_seen (Err fault) is = tt
-    by_seen (Ok (Tagged t)) is = tt
-    by_seen (Ok (Plain f)) is = by_own (is_same_address f.src mac)
-      where
-        by_own : (b : Bool) → AllByRecursion Single (if b then [] else (f.src, at) ∷ [])
-        by_own true = tt
-        by_own false = (single_source copy.octets f is, tt)
-
-    by_port : (o : Option BoxPort) → AllByRecursion Single (source_at o mac at (classified copy.octets))
-    by_port None = tt
-    by_port (Some box.A) = tt
-    by_port (Some box.B) = tt
-    by_port (Some box.I) = by_seen (classified copy.octets) refl
-heard_single QuadBox at event = tt
-heard_single (Station macs) at event = tt
-
-all_heard_single : (place : Place) (past : List Entry) → AllByRecursion Single (heard place past)
-all_heard_single place [] = tt
-all_heard_single place (x ∷ past) = both_all (heard_from place (now (x ∷ past)) x.event) (heard place past) (heard_single place (now (x ∷ past)) x.event) (all_heard_single place past)
-
-latest_single : (hs : List (List ℕ × ℕ)) → AllByRecursion Single hs → AllByRecursion Single (latest_of_each (λ h. h.0) hs)
-latest_single [] all = tt
-latest_single (h ∷ hs) all = (all.0, all_filter Single (λ x. not (is_same_address x.0 h.0)) (latest_of_each (λ h. h.0) hs) (latest_single hs all.1))
-
-none_same : (mac : List ℕ) → is_group mac ≡ true → (hs : List (List ℕ × ℕ)) → AllByRecursion Single hs → list_any (λ h. is_same_address h.0 mac) hs ≡ false
-none_same mac group [] all = refl
-none_same mac group (h ∷ hs) all =
-    ⊎_elim (λ same. absurd (false≢true (sym all.0 ∙ (ap is_group (same_address h.0 mac same) ∙ group))))
-    (λ other. ap (λ b. b || list_any (λ h. is_same_address h.0 mac) hs) other ∙ none_same mac group hs all.1)
-    (cases_Bool (is_same_address h.0 mac))
-
-pub knows_no_group : (place : Place) (past : List Entry) (at : ℕ) (event : Event) (mac : List ℕ) → is_group mac ≡ true → knows place past at event mac ≡ false
-knows_no_group place past at event mac group =
-    let hs : List (List ℕ × ℕ) = heard_from place at event ++ heard place past in
-    let all = both_all (heard_from place at event) (heard place past) (heard_single place at event) (all_heard_single place past) in
-    let latest = all_take Single 64 (latest_of_each (λ h. h.0) hs) (latest_single hs all) in
-    none_same mac group (known at (latest_heard (λ h. h.0) hs)) (all_filter Single (λ r. is_young at r.1) (latest_heard (λ h. h.0) hs) latest)

@@ -1,8 +1,8 @@
--- A send to a group leaves its sender by each port, but a supervision frame by no interlink.
-use Rattle.std.proofs.Common.{◌≡◌, ℕ, ◌<◌, ◌%◌, ◌==◌, ◌&&◌, Bool, true, false, if◌then◌else◌, List, [], ◌∷◌, length, Option, Some, None, Ok, refl, sym, ap, ◌∙◌, subst, arith, ⊎_elim, zero, suc, eqb-true, not}
+-- A send leaves its sender by each port where it is let out.
+use Rattle.std.proofs.Common.{◌≡◌, ℕ, ◌<◌, ◌%◌, ◌==◌, ◌&&◌, ◌||◌, Bool, true, false, if◌then◌else◌, List, [], ◌∷◌, length, Option, Some, None, Ok, refl, sym, ap, ◌∙◌, subst, arith, ⊎_elim, zero, suc, eqb-true, not}
 use Rattle.std.specs.Prelude.{option_map}
 use Rattle.std.specs.List.{list_any, cons_option}
-use Rattle.std.proofs.lemmas.Bool.{false≢true, or_left, cases_Bool, not-true, and_parts}
+use Rattle.std.proofs.lemmas.Bool.{false≢true, or_left, cases_Bool}
 use Rattle.hsr_frame.specs.Address.{is_group, supervision_address}
 use Rattle.hsr_frame.specs.Cases.{first_of}
 use Rattle.hsr_frame.specs.Egress.{is_supervision, to}
@@ -26,7 +26,7 @@ use Rattle.hsr_node.specs.declared.event.Carried.{Carried}
 use Rattle.hsr_node.specs.declared.event.Event.{Event}
 use Rattle.hsr_node.specs.declared.event.Event.TheVariants.{Send, Supervise, Arrive, Age}
 use Rattle.hsr_node.specs.declared.event.Outcome.{Outcome}
-use Rattle.hsr_node.specs.declared.event.Outcome.TheVariants.{Life}
+use Rattle.hsr_node.specs.declared.event.Outcome.TheVariants.{Sent, Life, Judged, Aged}
 use Rattle.hsr_node.specs.declared.event.Probe.{Probe}
 use Rattle.hsr_node.specs.declared.place.Place.{Place}
 use Rattle.hsr_node.specs.declared.place.Place.TheVariants.{Danh, RedBox, QuadBox, Station}
@@ -35,11 +35,10 @@ use Rattle.hsr_network_law.specs.Network.{is_edge}
 use Rattle.hsr_network_law.specs.Ways.{lets_out}
 use Rattle.hsr_node.specs.Place.{ports as ports_there}
 use Rattle.hsr_law.specs.Once.{is_copy}
-use Rattle.hsr_law.specs.Premises.{is_redbox}
 use Rattle.hsr_law.specs.Run.{is_of}
 use Rattle.hsr_law.proofs.Danh.{by_a, by_b}
 use Rattle.hsr_network_law.proofs.Sides.{edge_side, ring_at, ring_side, writes_edge, writes_ring}
-use Rattle.hsr_network_law.proofs.PlainReads.{knows_no_group}
+use Rattle.hsr_network_law.proofs.Unknown.{UnknownBefore}
 use Rattle.hsr_law.proofs.Passed.{own_pass}
 use Rattle.hsr_law.proofs.Records.{Answered, same_frame, sending_frame}
 use Rattle.hsr_law.proofs.Same.{any_one_more, is_of_itself}
@@ -58,7 +57,7 @@ writes place n seq f below number =
     (cases_Bool (is_edge place n))
 
 -- a send's outcome
-sent_outcome : (capacity : ℕ) (owner : Owner) (past : List Entry) (at from : ℕ) (dst : List ℕ) (vlan : Option ℕ) (kind : ℕ) (data' : List ℕ) (outcome : Outcome) →
+pub sent_outcome : (capacity : ℕ) (owner : Owner) (past : List Entry) (at from : ℕ) (dst : List ℕ) (vlan : Option ℕ) (kind : ℕ) (data' : List ℕ) (outcome : Outcome) →
     answer capacity owner past at (Send from dst vlan kind data') ≡ Ok outcome → outcome ≡ sent_as (of_record.sending owner.place (knows owner.place past at Age) dst kind) (next_number past)
 sent_outcome capacity owner past at from dst vlan kind data' outcome ok = by_address (address_at owner.place from) ok
   where
@@ -90,17 +89,19 @@ abbrev send_by : Bool → Bool → Bool → List ℕ → Handling
 send_by near life group own =
     first_of ((near, unnumbered (to (of_redbox.interlink ∷ []))) ∷ (life, numbered own (to (out.a ∷ out.b ∷ []))) ∷ (group, numbered own (to (out.a ∷ out.b ∷ of_redbox.interlink ∷ []))) ∷ []) (numbered own (to (out.a ∷ out.b ∷ [])))
 
-box_sends : (near life group : Bool) (own : List ℕ) (n : ℕ) → near ≡ false → group ≡ true → n < 3 → ((n == 2) && life) ≡ false → (has_port (ports (send_by near life group own).wants.exits) n ≡ true) × ((send_by near life group own).source ≡ Some own)
-box_sends true life group own n e g h l = absurd (false≢true (sym e))
-box_sends false life false own n e g h l = absurd (false≢true g)
-box_sends false true true own zero e g h l = (refl, refl)
-box_sends false true true own (suc zero) e g h l = (refl, refl)
-box_sends false true true own (suc (suc zero)) e g h l = absurd (false≢true (sym l))
-box_sends false true true own (suc (suc (suc n))) e g h l = absurd (omega arith)
-box_sends false false true own zero e g h l = (refl, refl)
-box_sends false false true own (suc zero) e g h l = (refl, refl)
-box_sends false false true own (suc (suc zero)) e g h l = (refl, refl)
-box_sends false false true own (suc (suc (suc n))) e g h l = absurd (omega arith)
+box_sends : (near life group : Bool) (own : List ℕ) (n : ℕ) → near ≡ false → n < 3 → (not (n == 2) || (group && not life)) ≡ true → (has_port (ports (send_by near life group own).wants.exits) n ≡ true) × ((send_by near life group own).source ≡ Some own)
+box_sends true life group own n e h l = absurd (false≢true (sym e))
+box_sends false life group own (suc (suc (suc n))) e h l = absurd (omega arith)
+box_sends false true group own zero e h l = (refl, refl)
+box_sends false true group own (suc zero) e h l = (refl, refl)
+box_sends false true true own (suc (suc zero)) e h l = absurd (false≢true l)
+box_sends false true false own (suc (suc zero)) e h l = absurd (false≢true l)
+box_sends false false true own zero e h l = (refl, refl)
+box_sends false false true own (suc zero) e h l = (refl, refl)
+box_sends false false true own (suc (suc zero)) e h l = (refl, refl)
+box_sends false false false own zero e h l = (refl, refl)
+box_sends false false false own (suc zero) e h l = (refl, refl)
+box_sends false false false own (suc (suc zero)) e h l = absurd (false≢true l)
 
 -- what an entry that sends lets leave by a port
 pub record IsSentOut (owner : Owner) (n : ℕ) (x : Entry) (past : List Entry) : Type 0 where
@@ -116,7 +117,7 @@ module _ (capacity number : ℕ) where
   danh_out mac mode (suc (suc n)) x past s h ok is = absurd (omega arith)
 
   -- of an entry that is a send, by its event
-  by_event : (place : Place) (x : Entry) (past : List Entry) (s : Sending) (P : Type 0) → sent_by place x.event x.outcome ≡ Some s →
+  pub by_event : (place : Place) (x : Entry) (past : List Entry) (s : Sending) (P : Type 0) → sent_by place x.event x.outcome ≡ Some s →
       ((from : ℕ) (dst : List ℕ) (vlan : Option ℕ) (kind : ℕ) (data' : List ℕ) → x.event ≡ Send from dst vlan kind data' → P) → ((about : About) → x.event ≡ Supervise about → P) → P
   by_event place x past s P is send life = go x.event refl
     where
@@ -158,12 +159,9 @@ module _ (capacity number : ℕ) where
       let g : Fields = record { dst = supervision_address; src = own; vlan = None; kind = 0x88FB; rest = payload.spelling (life_said own about life) } in
       ap (λ (x : Fields). is_supervision x.dst x.kind) (sym (same_frame g f h))
 
-  no_life : (n : ℕ) (f : Fields) (mac : List ℕ) (mode : Mode) → lets_out f (RedBox mac mode) n ≡ true → ((n == 2) && is_supervision f.dst f.kind) ≡ false
-  no_life n f mac mode h = not-true ((n == 2) && is_supervision f.dst f.kind) (and_parts (is_group f.dst) (not ((n == 2) && is_supervision f.dst f.kind)) h).1
-
-  box_out : (mac : List ℕ) (mode : Mode) (n : ℕ) (x : Entry) (past : List Entry) (s : Sending) → n < 3 → is_group s.frame.dst ≡ true → lets_out s.frame (RedBox mac mode) n ≡ true → Answered capacity (record { number = number; place = RedBox mac mode }) x past →
-      sent_by (RedBox mac mode) x.event x.outcome ≡ Some s → IsSentOut (record { number = number; place = RedBox mac mode }) n x past
-  box_out mac mode n x past s below group lets ok is = by_event (RedBox mac mode) x past s (IsSentOut (record { number = number; place = RedBox mac mode }) n x past) is send life
+  box_out : (mac : List ℕ) (mode : Mode) (n : ℕ) (x : Entry) (past : List Entry) (s : Sending) → n < 3 → lets_out s.frame (RedBox mac mode) n ≡ true → Answered capacity (record { number = number; place = RedBox mac mode }) x past →
+      UnknownBefore (record { number = number; place = RedBox mac mode }) s.frame.dst x past → sent_by (RedBox mac mode) x.event x.outcome ≡ Some s → IsSentOut (record { number = number; place = RedBox mac mode }) n x past
+  box_out mac mode n x past s below lets ok near is = by_event (RedBox mac mode) x past s (IsSentOut (record { number = number; place = RedBox mac mode }) n x past) is send life
     where
       send : (from : ℕ) (dst : List ℕ) (vlan : Option ℕ) (kind : ℕ) (data' : List ℕ) → x.event ≡ Send from dst vlan kind data' → IsSentOut (record { number = number; place = RedBox mac mode }) n x past
       send from dst vlan kind data' e = sent_out (RedBox mac mode) n x past s from dst vlan kind data' below ok is e how
@@ -175,11 +173,10 @@ module _ (capacity number : ℕ) where
               let two = asked_is (address_at (RedBox mac mode) from) dst vlan kind data' f asked in
               let dst_is : s.frame.dst ≡ dst = ap (λ (g : Fields). g.dst) same ∙ two.0 in
               let kind_is : s.frame.kind ≡ kind = ap (λ (g : Fields). g.kind) same ∙ two.1 in
-              let grouped : is_group dst ≡ true = ap is_group (sym dst_is) ∙ group in
-              let D : List ℕ → Type 0 = λ m. ((n == 2) && is_supervision m s.frame.kind) ≡ false in
-              let K : ℕ → Type 0 = λ m. ((n == 2) && is_supervision dst m) ≡ false in
-              let b = box_sends (knows (RedBox mac mode) past (now (x ∷ past)) Age dst) (is_supervision dst kind) (is_group dst) mac n (knows_no_group (RedBox mac mode) past (now (x ∷ past)) Age dst grouped) grouped below
-              (subst K kind_is (subst D dst_is (no_life n s.frame mac mode lets))) in
+              let D : List ℕ → Type 0 = λ m. (not (n == 2) || (is_group m && not (is_supervision m s.frame.kind))) ≡ true in
+              let K : ℕ → Type 0 = λ m. (not (n == 2) || (is_group dst && not (is_supervision dst m))) ≡ true in
+              let U : List ℕ → Type 0 = λ m. knows (RedBox mac mode) past (now (x ∷ past)) Age m ≡ false in
+              let b = box_sends (knows (RedBox mac mode) past (now (x ∷ past)) Age dst) (is_supervision dst kind) (is_group dst) mac n (subst U dst_is near) below (subst K kind_is (subst D dst_is lets)) in
               (b.0, λ no_edge. (mac, b.1))
 
       life : (about : About) → x.event ≡ Supervise about → IsSentOut (record { number = number; place = RedBox mac mode }) n x past
@@ -189,7 +186,7 @@ module _ (capacity number : ℕ) where
           let S : Event → Type 0 = λ ev. sent_by (RedBox mac mode) ev x.outcome ≡ Some s in
           let O : Outcome → Type 0 = λ o. sent_by (RedBox mac mode) (Supervise about) o ≡ Some s in
           let told = (sending_frame (Some (next_number past)) (life_frame (Some mac) about (lives past % 65536)) s (subst O outcome (subst S e is))).0 in
-          let few = by_number n below (no_life n s.frame mac mode lets) (life_is mac about (lives past % 65536) s.frame told) in
+          let few = by_number n (is_group s.frame.dst) (is_supervision s.frame.dst s.frame.kind) below lets (life_is mac about (lives past % 65536) s.frame told) in
           let w = writes (RedBox mac mode) n (Some (next_number past)) s.frame below (λ no_edge. (next_number past, refl)) in
           record {
             octets = w.0;
@@ -201,42 +198,86 @@ module _ (capacity number : ℕ) where
           lived None e = cc
           lived (Some fault) e = absurd cc
 
-          by_number : (n : ℕ) → n < 3 → ((n == 2) && is_supervision s.frame.dst s.frame.kind) ≡ false → is_supervision s.frame.dst s.frame.kind ≡ true → n < 2
-          by_number zero h a b = omega arith
-          by_number (suc zero) h a b = omega arith
-          by_number (suc (suc zero)) h a b = absurd (false≢true (sym a ∙ b))
-          by_number (suc (suc (suc n))) h a b = absurd (omega arith)
+          by_number : (n : ℕ) (group life : Bool) → n < 3 → (not (n == 2) || (group && not life)) ≡ true → life ≡ true → n < 2
+          by_number zero group life h l t = omega arith
+          by_number (suc zero) group life h l t = omega arith
+          by_number (suc (suc zero)) group false h l t = absurd (false≢true t)
+          by_number (suc (suc zero)) false true h l t = absurd (false≢true l)
+          by_number (suc (suc zero)) true true h l t = absurd (false≢true l)
+          by_number (suc (suc (suc n))) group life h l t = absurd (omega arith)
 
-  -- a send to a group leaves by each port where it is let out
-  out_of : (place : Place) (n : ℕ) (x : Entry) (past : List Entry) (s : Sending) → n < ports_there place → (is_redbox place ≡ true → is_group s.frame.dst ≡ true) → lets_out s.frame place n ≡ true → Answered capacity (record { number = number; place = place }) x past →
+  -- a send leaves by each port where it is let out, if its destination isn't known on an interlink
+  out_of : (place : Place) (n : ℕ) (x : Entry) (past : List Entry) (s : Sending) → n < ports_there place → lets_out s.frame place n ≡ true → Answered capacity (record { number = number; place = place }) x past → UnknownBefore (record { number = number; place = place }) s.frame.dst x past →
       sent_by place x.event x.outcome ≡ Some s → IsSentOut (record { number = number; place = place }) n x past
-  out_of (Danh mac mode) n x past s below group lets ok is = danh_out mac mode n x past s below ok is
-  out_of (RedBox mac mode) n x past s below group lets ok is = box_out mac mode n x past s below (group refl) lets ok is
-  out_of QuadBox n x past s below group lets ok is = absurd (Rattle.hsr_law.proofs.Wanted.sent_source QuadBox x.event x.outcome s is)
-  out_of (Station macs) zero x past s below group lets ok is =
+  out_of (Danh mac mode) n x past s below lets ok near is = danh_out mac mode n x past s below ok is
+  out_of (RedBox mac mode) n x past s below lets ok near is = box_out mac mode n x past s below lets ok near is
+  out_of QuadBox n x past s below lets ok near is = absurd (Rattle.hsr_law.proofs.Wanted.sent_source QuadBox x.event x.outcome s is)
+  out_of (Station macs) zero x past s below lets ok near is =
       by_event (Station macs) x past s (IsSentOut (record { number = number; place = Station macs }) 0 x past) is
       (λ from dst vlan kind data' e. sent_out (Station macs) 0 x past s from dst vlan kind data' (omega arith) ok is e (λ f asked same. (refl, λ no_edge. absurd (false≢true (sym no_edge)))))
       (λ about e. let A : Event → Type 0 = λ ev. answer capacity (record { number = number; place = Station macs }) past (now (x ∷ past)) ev ≡ Ok x.outcome in let no = subst A e ok in absurd cc)
-  out_of (Station macs) (suc n) x past s below group lets ok is = absurd (omega arith)
+  out_of (Station macs) (suc n) x past s below lets ok near is = absurd (omega arith)
 
-  pub group_sent : (place : Place) (n at : ℕ) (s : Sending) (h : List Entry) → n < ports_there place → (is_redbox place ≡ true → is_group s.frame.dst ≡ true) → lets_out s.frame place n ≡ true → Each (Answered capacity (record { number = number; place = place })) h →
-      send_at place at h ≡ Some s → list_any (is_copy (record { node = number; place = at })) (passes (record { number = number; place = place }) n h) ≡ true
-  group_sent place n at s [] below group lets legal is = absurd cc
-  group_sent place n at s (x ∷ past) below group lets legal is = step (at == length past) (eqb-true at (length past)) is (group_sent place n at s past below group lets legal.1)
+  -- what is let out where it was sent left
+  pub sent_left : (place : Place) (n at : ℕ) (s : Sending) (Q : Entry → List Entry → Type 0) →
+      ((x : Entry) (past : List Entry) → at ≡ length past → Answered capacity (record { number = number; place = place }) x past → Q x past → sent_by place x.event x.outcome ≡ Some s → IsSentOut (record { number = number; place = place }) n x past) →
+      (h : List Entry) → Each (Answered capacity (record { number = number; place = place })) h → Each Q h → send_at place at h ≡ Some s →
+      list_any (is_copy (record { node = number; place = at })) (passes (record { number = number; place = place }) n h) ≡ true
+  sent_left place n at s Q out [] legal all is = absurd cc
+  sent_left place n at s Q out (x ∷ past) legal all is = step (at == length past) (eqb-true at (length past)) is (sent_left place n at s Q out past legal.1 all.1)
     where
-      me : Owner
-      me = record { number = number; place = place }
-
       left : (m : ℕ) → m ≡ length past → IsSentOut (record { number = number; place = place }) n x past → list_any (is_copy (record { node = number; place = m })) (passes (record { number = number; place = place }) n (x ∷ past)) ≡ true
       left m same o =
-          let Q : Option (List ℕ) → Type 0 = λ c. list_any (is_copy (record { node = number; place = length past }))
+          let Q' : Option (List ℕ) → Type 0 = λ c. list_any (is_copy (record { node = number; place = length past }))
           (cons_option (option_map (λ octets. let c : Carried = record { probe = probe_handled (record { node = number; place = length past }) x.event; octets = octets } in c) c) (passes (record { number = number; place = place }) n past)) ≡ true in
           let B : Option Probe → Type 0 = λ p. is_of (record { node = number; place = length past }) p ≡ true in
           let M : ℕ → Type 0 = λ m. list_any (is_copy (record { node = number; place = m })) (passes (record { number = number; place = place }) n (x ∷ past)) ≡ true in
-          subst M (sym same) (subst Q (sym o.is) (or_left _ _ (subst B (sym o.probe) (is_of_itself (record { node = number; place = length past })))))
+          subst M (sym same) (subst Q' (sym o.is) (or_left _ _ (subst B (sym o.probe) (is_of_itself (record { node = number; place = length past })))))
 
       step : (b : Bool) → (b ≡ true → at ≡ length past) → (if b then sent_by place x.event x.outcome else send_at place at past) ≡ Some s →
           (send_at place at past ≡ Some s → list_any (is_copy (record { node = number; place = at })) (passes (record { number = number; place = place }) n past) ≡ true) →
           list_any (is_copy (record { node = number; place = at })) (passes (record { number = number; place = place }) n (x ∷ past)) ≡ true
       step false same is rest = any_one_more (is_copy (record { node = number; place = at })) (pass_of (record { number = number; place = place }) n x past) (passes (record { number = number; place = place }) n past) (rest is)
-      step true same is rest = left at (same refl) (out_of place n x past s below group lets legal.0 is)
+      step true same is rest = left at (same refl) (out x past (same refl) legal.0 all.0 is)
+
+  pub send_left : (place : Place) (n at : ℕ) (s : Sending) (h : List Entry) → n < ports_there place → lets_out s.frame place n ≡ true → Each (Answered capacity (record { number = number; place = place })) h → Each (UnknownBefore (record { number = number; place = place }) s.frame.dst) h →
+      send_at place at h ≡ Some s → list_any (is_copy (record { node = number; place = at })) (passes (record { number = number; place = place }) n h) ≡ true
+  send_left place n at s h below lets legal near is =
+      sent_left place n at s (UnknownBefore (record { number = number; place = place }) s.frame.dst) (λ x past same ok unknown is. out_of place n x past s below lets ok unknown is) h legal near is
+
+  -- ---- what a RedBox sends to an address that it knows on its interlink leaves there
+
+  near_sends : (near life group : Bool) (own : List ℕ) → near ≡ true → has_port (ports (send_by near life group own).wants.exits) 2 ≡ true
+  near_sends true life group own e = refl
+  near_sends false life group own e = absurd (false≢true e)
+
+  -- supervision is to a group
+  no_life : (mac : List ℕ) (mode : Mode) (about : About) (outcome : Outcome) (s : Sending) → sent_by (RedBox mac mode) (Supervise about) outcome ≡ Some s → is_group s.frame.dst ≡ false → ⊥
+  no_life mac mode about (Life seq life out_ports) s is single = false≢true (sym single ∙ ap is_group (life_group mac about life s.frame (sending_frame (Some seq) (life_frame (Some mac) about life) s is).0))
+  no_life mac mode about (Sent seq out_ports) s is single = absurd cc
+  no_life mac mode about (Judged up_too out_ports seq why) s is single = absurd cc
+  no_life mac mode about Aged s is single = absurd cc
+
+  -- it is known where it is sent
+  abbrev pub KnownWhereSent : Place → ℕ → List ℕ → Entry → List Entry → Type 0
+  KnownWhereSent place at dst x past = is_of (record { node = number; place = at }) (probe_handled (record { node = number; place = length past }) x.event) ≡ true → knows place past (now (x ∷ past)) x.event dst ≡ true
+
+  known_out : (mac : List ℕ) (mode : Mode) (at : ℕ) (s : Sending) → is_group s.frame.dst ≡ false → (x : Entry) (past : List Entry) → at ≡ length past → Answered capacity (record { number = number; place = RedBox mac mode }) x past →
+      KnownWhereSent (RedBox mac mode) at s.frame.dst x past → sent_by (RedBox mac mode) x.event x.outcome ≡ Some s → IsSentOut (record { number = number; place = RedBox mac mode }) 2 x past
+  known_out mac mode at s single x past same ok near is =
+      by_event (RedBox mac mode) x past s (IsSentOut (record { number = number; place = RedBox mac mode }) 2 x past) is
+      (λ from dst vlan kind data' e.
+      let N : Event → Type 0 = λ ev. is_of (record { node = number; place = at }) (probe_handled (record { node = number; place = length past }) ev) ≡ true → knows (RedBox mac mode) past (now (x ∷ past)) ev s.frame.dst ≡ true in
+      let M : ℕ → Type 0 = λ m. is_of (record { node = number; place = m }) (Some (let here : Probe = record { node = number; place = length past } in here)) ≡ true in
+      let known = subst N e near (subst M (sym same) (is_of_itself (record { node = number; place = length past }))) in
+      sent_out (RedBox mac mode) 2 x past s from dst vlan kind data' (omega arith) ok is e
+      (λ f asked equal.
+      let dst_is : s.frame.dst ≡ dst = ap (λ (g : Fields). g.dst) equal ∙ (asked_is (address_at (RedBox mac mode) from) dst vlan kind data' f asked).0 in
+      let K : List ℕ → Type 0 = λ m. knows (RedBox mac mode) past (now (x ∷ past)) Age m ≡ true in
+      (near_sends (knows (RedBox mac mode) past (now (x ∷ past)) Age dst) (is_supervision dst kind) (is_group dst) mac (subst K dst_is known), λ no_edge. absurd (false≢true (sym no_edge)))))
+      (λ about e. let S : Event → Type 0 = λ ev. sent_by (RedBox mac mode) ev x.outcome ≡ Some s in absurd (no_life mac mode about x.outcome s (subst S e is) single))
+
+  pub known_left : (mac : List ℕ) (mode : Mode) (at : ℕ) (s : Sending) (h : List Entry) → is_group s.frame.dst ≡ false → Each (Answered capacity (record { number = number; place = RedBox mac mode })) h → Each (KnownWhereSent (RedBox mac mode) at s.frame.dst) h →
+      send_at (RedBox mac mode) at h ≡ Some s → list_any (is_copy (record { node = number; place = at })) (passes (record { number = number; place = RedBox mac mode }) 2 h) ≡ true
+  known_left mac mode at s h single legal near is =
+      sent_left (RedBox mac mode) 2 at s (KnownWhereSent (RedBox mac mode) at s.frame.dst) (known_out mac mode at s single) h legal near is

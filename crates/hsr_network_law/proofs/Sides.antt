@@ -2,7 +2,6 @@
 use Rattle.std.proofs.Common.{◌≡◌, ℕ, ◌<◌, ◌==◌, Bool, true, false, if◌then◌else◌, List, [], ◌∷◌, Option, Some, None, refl, sym, ap, ◌∙◌, subst, arith, zero, suc, ne_eqb}
 use Rattle.std.specs.Prelude.{option_map}
 use Rattle.std.proofs.lemmas.Bool.{false≢true}
-use Rattle.hsr_frame.specs.Cases.{first_of}
 use Rattle.hsr_frame.specs.Egress.{Egress}
 use Rattle.hsr_frame.specs.Egress as out
 use Rattle.hsr_frame.specs.Grammar.{Fields, spelling}
@@ -19,12 +18,11 @@ use Rattle.hsr_quadbox.specs.declared.wanted.QuadPort.{QuadPort}
 use Rattle.hsr_node.specs.Copies.{as_came, forwarded, plain_in, side_of, written}
 use Rattle.hsr_node.specs.Place.{ports}
 use Rattle.hsr_node.specs.Record.{box_handling, handling, station_wanted}
-use Rattle.hsr_node.specs.Step.{box_port, quad_port}
 use Rattle.hsr_node.specs.declared.place.Place.{Place}
 use Rattle.hsr_node.specs.declared.place.Place.TheVariants.{Danh, RedBox, QuadBox, Station}
 use Rattle.hsr_law.specs.Premises.{is_on_ring}
 use Rattle.hsr_law.proofs.Views.{Came}
-use Rattle.hsr_law.proofs.Wanted.{no_ring_port}
+use Rattle.hsr_law.proofs.Wanted.{no_box_port, no_quad_port, no_ring_port}
 use Rattle.hsr_network_law.specs.Network.{is_edge, is_station}
 
 -- ---- egresses
@@ -100,23 +98,6 @@ one_port QuadBox port s h = absurd (false≢true s)
 one_port (Station macs) port s h = omega arith
 
 -- ---- a node takes what comes by a port that it has
-
--- the tests of a port that is none of the first ones
-past_ports : {X : Type 0} (p q r s : Bool) (w x y z : Option X) → p ≡ false → q ≡ false → r ≡ false → s ≡ false → first_of ((p, w) ∷ (q, x) ∷ (r, y) ∷ (s, z) ∷ []) None ≡ None
-past_ports false false false false w x y z ha hb hc hd = refl
-past_ports true q r s w x y z ha hb hc hd = absurd (false≢true (sym ha))
-past_ports false true r s w x y z ha hb hc hd = absurd (false≢true (sym hb))
-past_ports false false true s w x y z ha hb hc hd = absurd (false≢true (sym hc))
-past_ports false false false true w x y z ha hb hc hd = absurd (false≢true (sym hd))
-
-other_port : (n k : ℕ) → k < n → (n == k) ≡ false
-other_port n k h = ne_eqb n k (λ e. omega arith)
-
-no_box_port : (n : ℕ) → 2 < n → box_port n ≡ None
-no_box_port n h = past_ports (n == 0) (n == 1) (n == 2) false _ _ _ None (other_port n 0 (omega arith)) (other_port n 1 (omega arith)) (other_port n 2 (omega arith)) refl
-
-no_quad_port : (n : ℕ) → 3 < n → quad_port n ≡ None
-no_quad_port n h = past_ports (n == 0) (n == 1) (n == 2) (n == 3) _ _ _ _ (other_port n 0 (omega arith)) (other_port n 1 (omega arith)) (other_port n 2 (omega arith)) (other_port n 3 (omega arith))
 
 pub any_port_there : (place : Place) (known : List ℕ → Bool) (port : ℕ) (seen : Came) (h : Handling) → handling place known port seen ≡ Some h → port < ports place
 any_port_there (Danh mac mode) known zero seen h is = omega arith

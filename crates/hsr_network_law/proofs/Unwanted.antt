@@ -203,7 +203,7 @@ station_not_up true false m = refl
 station_not_up false false m = refl
 
 -- no supervision frame is single
-no_life : (dst : List ℕ) (kind : ℕ) → is_group dst ≡ false → is_supervision dst kind ≡ false
+pub no_life : (dst : List ℕ) (kind : ℕ) → is_group dst ≡ false → is_supervision dst kind ≡ false
 no_life dst kind single = by_test (is_same_address dst supervision_address) refl
   where
     by_test : (b : Bool) → is_same_address dst supervision_address ≡ b → (b && (kind == ethertype_supervision)) ≡ false

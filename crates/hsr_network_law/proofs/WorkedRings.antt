@@ -1,19 +1,16 @@
 -- A run that is all that the law of networks asks for: two rings, of a DANH each, that a QuadBox couples, with a cut in each
 -- ring. The DANH of the first ring, in mode H, sends to a group; that of the second, in mode U, takes it up once.
-use Rattle.std.proofs.Common.{◌≡◌, ◌⊎◌, ℕ, ◌+◌, ◌<◌, ◌≤◌, ◌==◌, Bool, true, false, List, [], ◌∷◌, if◌then◌else◌, Some, None, Ok, refl, sym, ap, ◌∙◌, arith, inl, inr, zero, suc, count_by, ⊎_elim}
-use Rattle.std.specs.List.{list_any, AllByRecursion, cons_option}
+use Rattle.std.proofs.Common.{◌≡◌, ◌⊎◌, ℕ, ◌+◌, ◌<◌, ◌≤◌, ◌==◌, true, false, List, [], ◌∷◌, Some, None, refl, sym, ap, ◌∙◌, arith, inl, inr, zero, suc, count_by}
+use Rattle.std.specs.List.{list_any, AllByRecursion}
 use Rattle.std.proofs.lemmas.List.Sorted.{IsPermutation-refl}
-use Rattle.std.proofs.lemmas.Bool.{cases_Bool, false≢true}
+use Rattle.std.proofs.lemmas.Bool.{false≢true}
 use Rattle.hsr_frame.specs.Address.{is_group}
 use Rattle.hsr_frame.specs.declared.node.Cause.TheVariants.{Passed}
 use Rattle.hsr_frame.specs.declared.node.Mode.TheVariants.{H, U}
 use Rattle.hsr_tag.specs.Seen.{classified}
-use Rattle.hsr_tag.specs.Tag.{TaggedFields, tag_of}
-use Rattle.hsr_tag.specs.declared.seen.Seen.TheVariants.{Tagged}
-use Rattle.hsr_node.specs.Copies.{copy_octets, passed_octets, plain_in}
+use Rattle.hsr_node.specs.Copies.{copy_octets, passed_octets}
 use Rattle.hsr_node.specs.Flow.{arrivals}
 use Rattle.hsr_node.specs.Record.{Each, IsLegal, now}
-use Rattle.hsr_node.specs.declared.event.Carried.{Carried}
 use Rattle.hsr_node.specs.declared.event.Event.TheVariants.{Send, Arrive}
 use Rattle.hsr_node.specs.declared.event.Outcome.TheVariants.{Sent, Judged}
 use Rattle.hsr_node.specs.declared.event.Probe.{Probe}
@@ -23,29 +20,25 @@ use Rattle.hsr_link.specs.declared.row.Dir.TheVariants.{Forth, Back}
 use Rattle.hsr_link.specs.declared.row.Fate.{Fate}
 use Rattle.hsr_link.specs.declared.row.Fate.TheVariants.{Taken, LostDown}
 use Rattle.hsr_link.specs.declared.row.Row.{Row}
-use Rattle.hsr_topology.specs.declared.end.End.{End}
-use Rattle.hsr_law.specs.Budget.{IsBudgetHeld, IsInTime, is_within, moment_of, sends_of}
-use Rattle.hsr_law.specs.Budget as budget
+use Rattle.hsr_law.specs.Budget.{IsInTime, is_within, moment_of, sends_of}
 use Rattle.hsr_law.specs.Closed.{HasLink, IsClosed, IsOfSend, IsSettled, PutAgrees, TakenAgrees}
 use Rattle.hsr_law.specs.Once.{delivers}
 use Rattle.hsr_law.specs.Premises.{HasNoRedBox, NothingForgotten, NothingMistaken, NumberedFirst}
 use Rattle.hsr_law.specs.Run.{Run, owner_of, past_of, peer_in, place_of, record_of, rows_of}
 use Rattle.hsr_law.proofs.InBudget.{budget_keeps}
-use Rattle.hsr_law.proofs.Lists.{count_more, one_if, zero_if}
 use Rattle.hsr_law.proofs.WithoutBoxes.{boxless}
-use Rattle.hsr_law.proofs.Worked.{copy, entry, far, frame, group, mac, tagged_copy}
-use Rattle.hsr_network_law.specs.Network.{HasAddress, IsNetwork, IsPortOf, Way, is_edge_of, is_in_h_or_u, start_of, stop_of}
+use Rattle.hsr_law.proofs.Worked.{at_start, copy, entry, far, frame, group, mac, nothing_else, of_tagged, one_within, tagged_copy}
+use Rattle.hsr_law.proofs.WorkedBox.{end_at}
+use Rattle.hsr_network_law.specs.Network.{HasAddress, IsNetwork, IsPortOf, is_edge_of, is_in_h_or_u, start_of, stop_of}
 use Rattle.hsr_network_law.specs.Ways.{ComesOver, on, sent}
 use Rattle.hsr_network_law.proofs.Delivered.{once_in_network}
+use Rattle.hsr_network_law.proofs.WorkedBox.{apart_by, fifth, way_at}
 
 abbrev first : Probe
 first = record { node = 0; place = 0 }
 
 abbrev row : Dir → ℕ → Fate → Row
 row dir path fate = record { dir = dir; carried = copy path; injected = false; fate = fate }
-
-abbrev end_at : ℕ → ℕ → End
-end_at node port = record { node = node; port = port }
 
 -- the links 0 and 3 are cut
 abbrev rings : Run
@@ -69,15 +62,7 @@ legal_at (suc (suc zero)) h = (refl, tt)
 legal_at (suc (suc (suc k))) h = absurd (omega arith)
 
 of_send : (path : ℕ) → path < 2 → IsOfSend rings (copy path)
-of_send path h = record {
-  send = first;
-  sending = record { frame = frame; seq = Some 0 };
-  named = refl;
-  is_send = (omega arith, refl);
-  frame = ap plain_in (tagged_copy path h);
-  number = λ t is. let both : Ok (Tagged (tag_of frame path 0)) ≡ Ok (Tagged t) = sym (tagged_copy path h) ∙ is in
-      let same : tag_of frame path 0 ≡ t = cc in ap (λ (t : TaggedFields). Some t.seq) same;
-}
+of_send path h = of_tagged rings first (record { frame = frame; seq = Some 0 }) path 0 (copy path) refl (tagged_copy path h) (omega arith, refl) refl
 
 settled_at : (l : ℕ) → l < 4 → AllByRecursion (IsSettled rings) (rows_of rings l)
 settled_at zero h = (record { put = refl; origin = of_send 1 (omega arith); gone = refl }, (record { put = refl; origin = of_send 0 (omega arith); gone = refl }, tt))
@@ -109,18 +94,14 @@ taken_at (suc (suc (suc zero))) Forth h = IsPermutation-refl []
 taken_at (suc (suc (suc zero))) Back h = IsPermutation-refl []
 taken_at (suc (suc (suc (suc l)))) dir h = absurd (omega arith)
 
-elsewhere : (p : Bool) (x : Carried) → p ≡ false → cons_option (if p then Some x else None) [] ≡ []
-elsewhere false x e = refl
-elsewhere true x e = absurd (false≢true (sym e))
-
 linked_at : (k port : ℕ) → k < 3 → HasLink rings k port ⊎ (arrivals port (past_of rings k) ≡ [])
 linked_at zero p h = inr refl
 linked_at (suc zero) zero h = inl (record { link = 0; dir = Forth; below = omega arith; ends = refl })
 linked_at (suc zero) (suc zero) h = inl (record { link = 1; dir = Back; below = omega arith; ends = refl })
-linked_at (suc zero) (suc (suc p)) h = inr (elsewhere (1 == suc (suc p)) (copy 0) (far 1 p (omega arith)))
+linked_at (suc zero) (suc (suc p)) h = inr (nothing_else (1 == suc (suc p)) (copy 0) (far 1 p (omega arith)))
 linked_at (suc (suc zero)) zero h = inl (record { link = 3; dir = Forth; below = omega arith; ends = refl })
 linked_at (suc (suc zero)) (suc zero) h = inl (record { link = 2; dir = Forth; below = omega arith; ends = refl })
-linked_at (suc (suc zero)) (suc (suc p)) h = inr (elsewhere (1 == suc (suc p)) (copy 0) (far 1 p (omega arith)))
+linked_at (suc (suc zero)) (suc (suc p)) h = inr (nothing_else (1 == suc (suc p)) (copy 0) (far 1 p (omega arith)))
 linked_at (suc (suc (suc k))) p h = absurd (omega arith)
 
 pub is_closed : IsClosed rings
@@ -138,10 +119,7 @@ pub numbered_first : NumberedFirst rings
 numbered_first = boxless rings is_closed no_box
 
 at_first : (send : Probe) → Some first ≡ Some send → (moment_of rings send ≤ 0) × (0 < moment_of rings send + 400000)
-at_first send e =
-    let same : first ≡ send = cc in
-    let moment : moment_of rings send ≡ 0 = ap (moment_of rings) (sym same) in
-    (omega arith, omega arith)
+at_first send e = at_start rings first refl send e
 
 in_time_at : (k : ℕ) → k < 3 → Each (λ x past. IsInTime rings (now (x ∷ past)) x.event) (past_of rings k)
 in_time_at zero h = (tt, tt)
@@ -150,10 +128,7 @@ in_time_at (suc (suc zero)) h = (at_first, tt)
 in_time_at (suc (suc (suc k))) h = absurd (omega arith)
 
 not_crowded_at : (start : ℕ) → list_any (λ sent. sent.moment == start) (sends_of rings) ≡ true → count_by (is_within start 800000) (sends_of rings) ≤ 4
-not_crowded_at start h =
-    let s : budget.Sent = record { send = first; moment = 0 } in
-    let more = count_more (is_within start 800000) (let s : budget.Sent = record { send = first; moment = 0 } in s) [] in
-    ⊎_elim (λ t. let one = one_if (is_within start 800000 s) t in omega arith) (λ f. let nothing = zero_if (is_within start 800000 s) f in omega arith) (cases_Bool (is_within start 800000 s))
+not_crowded_at start h = one_within start (record { send = first; moment = 0 })
 
 pub remembers : NothingForgotten rings
 remembers = budget_keeps rings is_closed numbered_first (record { in_time = in_time_at; not_crowded = not_crowded_at })
@@ -167,9 +142,6 @@ sure (suc (suc (suc k))) h = absurd (omega arith)
 
 -- ---- it is a network
 
-abbrev way_at : ℕ → Dir → Way
-way_at link dir = record { link = link; dir = dir }
-
 modes_at : (k : ℕ) → k < 3 → is_in_h_or_u (place_of rings k) ≡ true
 modes_at zero h = refl
 modes_at (suc zero) h = refl
@@ -181,9 +153,6 @@ single_at zero address h e = ap is_group e ∙ refl
 single_at (suc zero) address h e = absurd e
 single_at (suc (suc zero)) address h e = ap is_group e ∙ refl
 single_at (suc (suc (suc k))) address h e = absurd (omega arith)
-
-abbrev fifth : List ℕ → ℕ
-fifth xs = Rattle.std.specs.Prelude.slice_index xs 5
 
 apart : mac 1 ≡ mac 2 → ⊥
 apart e = let last : fifth (mac 1) ≡ fifth (mac 2) = ap fifth e in omega arith
@@ -233,11 +202,6 @@ peer_at (suc (suc (suc zero))) Forth h = refl
 peer_at (suc (suc (suc zero))) Back h = refl
 peer_at (suc (suc (suc (suc l)))) dir h = absurd (omega arith)
 
-apart_at : (way other : Way) → way.link < 4 → other.link < 4 → start_of rings way ≡ start_of rings other → stop_of rings way ≡ stop_of rings other
-apart_at way other g h e =
-    let both : Some (stop_of rings way) ≡ Some (stop_of rings other) = sym (peer_at way.link way.dir g) ∙ (ap (λ (end : End). peer_in end rings.links) e ∙ peer_at other.link other.dir h) in
-    cc
-
 pub is_network : IsNetwork rings
 is_network = record {
   modes = modes_at;
@@ -246,7 +210,7 @@ is_network = record {
   ends = λ way h. ends_at way.link way.dir h;
   sides = λ way h. let two = no_edge_at way.link way.dir h in two.0 ∙ sym two.1;
   faces = λ way h edge no_station. absurd (false≢true (sym (no_edge_at way.link way.dir h).0 ∙ edge));
-  apart = apart_at;
+  apart = apart_by rings 4 peer_at;
 }
 
 -- ---- the send reaches the DANH of the other ring
@@ -262,4 +226,4 @@ to_danh =
 -- so it took it up once
 pub danh_once : count_by (delivers first) (record_of rings 2) ≡ 1
 danh_once =
-    (once_in_network rings is_closed is_network numbered_first remembers sure).once first (record { frame = frame; seq = Some 0 }) 2 (omega arith, refl) (omega arith) refl (record { way = way_at 2 Forth; comes = to_danh; here = refl })
+    (once_in_network rings is_closed is_network numbered_first remembers sure).once first (record { frame = frame; seq = Some 0 }) 2 (omega arith, refl) refl (omega arith) refl (record { way = way_at 2 Forth; comes = to_danh; here = refl })

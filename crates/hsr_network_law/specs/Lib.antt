@@ -1,4 +1,7 @@
 pub mod Network
 pub mod Ways
+pub mod Late
 pub mod Delivered
+pub mod Stations
 pub mod Search
+pub mod Rings

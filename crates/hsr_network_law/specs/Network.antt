@@ -8,6 +8,7 @@ use Rattle.hsr_frame.specs.Address.{is_group}
 use Rattle.hsr_frame.specs.declared.node.Mode.{Mode}
 use Rattle.hsr_frame.specs.declared.node.Mode.TheVariants.{H, N, U}
 use Rattle.hsr_node.specs.Place.{ports}
+use Rattle.hsr_node.specs.Station.{is_among}
 use Rattle.hsr_node.specs.declared.place.Place.{Place}
 use Rattle.hsr_node.specs.declared.place.Place.TheVariants.{Danh, RedBox, QuadBox, Station}
 use Rattle.hsr_link.specs.declared.row.Dir.{Dir}
@@ -41,6 +42,13 @@ is_station (Danh mac mode) = false
 is_station (RedBox mac mode) = false
 is_station QuadBox = false
 is_station (Station macs) = true
+
+-- a Station with this address
+abbrev pub is_station_with : List ℕ → Place → Bool
+is_station_with address (Danh mac mode) = false
+is_station_with address (RedBox mac mode) = false
+is_station_with address QuadBox = false
+is_station_with address (Station macs) = is_among macs.items address
 
 -- ---- ports
 

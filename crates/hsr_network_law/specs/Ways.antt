@@ -1,9 +1,9 @@
 -- The ways of a frame through a network.
---     passes_on, lets_out   which nodes pass it on, and by which ports
+--     passes_on, lets_out   which nodes pass it on, and by which ports, where no Station has its destination
 --     Carries               no copy of a send was lost on a way
 --     ComesOver             a send comes to the end of a way, over ways that carry it
 --     IsReached             and to a node
-use Rattle.std.specs.Prelude.{ℕ, ◌<◌, ◌≡◌, ◌==◌, ◌&&◌, not, Bool, true, false, length}
+use Rattle.std.specs.Prelude.{ℕ, ◌<◌, ◌≡◌, ◌==◌, ◌&&◌, ◌||◌, not, Bool, true, false, length}
 use Rattle.std.specs.List.{list_any}
 use Rattle.hsr_frame.specs.Address.{is_group, is_same_address}
 use Rattle.hsr_frame.specs.Egress.{is_supervision}
@@ -28,18 +28,18 @@ keeps_own H = true
 keeps_own N = true
 keeps_own U = false
 
--- A QuadBox passes each frame on. A DANH passes on what it didn't send, but in mode H nothing that it alone is to have. A
--- RedBox passes on what is to a group and that it didn't send.
-abbrev pub passes_on : ℕ → Fields → ℕ → Place → Bool
-passes_on sender frame k (Danh mac mode) = not (k == sender) && not (keeps_own mode && is_same_address mac frame.dst)
-passes_on sender frame k (RedBox mac mode) = not (k == sender) && is_group frame.dst
-passes_on sender frame k QuadBox = true
-passes_on sender frame k (Station macs) = false
+-- A QuadBox passes each frame on. A DANH or a RedBox passes on what it didn't send; but what it alone is to have it passes on in
+-- mode U only, and a RedBox never from its interlink. The last number is the port of arrival.
+abbrev pub passes_on : ℕ → Fields → ℕ → Place → ℕ → Bool
+passes_on sender frame k (Danh mac mode) port = not (k == sender) && not (keeps_own mode && is_same_address mac frame.dst)
+passes_on sender frame k (RedBox mac mode) port = not (k == sender) && not ((keeps_own mode || port == 2) && is_same_address mac frame.dst)
+passes_on sender frame k QuadBox port = true
+passes_on sender frame k (Station macs) port = false
 
--- by each port but that of arrival; but a supervision frame doesn't leave a RedBox by the interlink
+-- by each port but that of arrival; but by an interlink only what is to a group, and no supervision frame
 abbrev pub lets_out : Fields → Place → ℕ → Bool
 lets_out frame (Danh mac mode) port = true
-lets_out frame (RedBox mac mode) port = is_group frame.dst && not ((port == 2) && is_supervision frame.dst frame.kind)
+lets_out frame (RedBox mac mode) port = not (port == 2) || (is_group frame.dst && not (is_supervision frame.dst frame.kind))
 lets_out frame QuadBox port = true
 lets_out frame (Station macs) port = true
 
@@ -65,7 +65,7 @@ pub record IsFirstWay (run : Run) (send : Probe) (frame : Fields) (way : Way) : 
 pub record IsNextWay (run : Run) (send : Probe) (frame : Fields) (way next : Way) : Type 0 where
   pub node : (start_of run next).node ≡ (stop_of run way).node
   pub port : (start_of run next).port ≡ (stop_of run way).port → ⊥
-  pub passes : passes_on send.node frame (stop_of run way).node (place_of run (stop_of run way).node) ≡ true
+  pub passes : passes_on send.node frame (stop_of run way).node (place_of run (stop_of run way).node) (stop_of run way).port ≡ true
   pub out : lets_out frame (place_of run (start_of run next).node) (start_of run next).port ≡ true
   pub away : (stop_of run next).node ≡ send.node → ⊥
 

@@ -3,4 +3,4 @@
 
 mod law;
 
-pub use law::{once_in_network, search_decides};
+pub use law::{late_decides, once_in_network, once_to_station, ring_is_crossed, search_decides};
