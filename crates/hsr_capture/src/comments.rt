@@ -1,0 +1,304 @@
+//! What a capture says of links and rows, in words.
+ghost use Rattle.std.specs.Prelude.{◌≡◌, ◌++◌, ◌∷◌, [], codes, if◌then◌else◌, slice_get, OnOk, Some};
+ghost use Rattle.std.specs.Fmt.{decimal};
+ghost use Rattle.hsr_frame.specs.declared.node.Cause.TheVariants.{Passed};
+ghost use Rattle.hsr_node.specs.Words.{letter};
+ghost use Rattle.hsr_law.specs.Run.{ends_of, record_of, to_end};
+ghost use Rattle.hsr_order.specs.Fronts.{lists_of};
+ghost use Rattle.hsr_capture.specs.Comments.{comment, interface_description, judged_if, judged_text, judgement, letter_if, letters_from, loss_reason, loss_text, name_from, name_of, number_text, outcome_text, port_text, send_if, send_text, send_words};
+
+use hsr_closing::Closed;
+use hsr_frame::{Cause, NoMemory};
+use hsr_link::{Dir, Fate, Row};
+use hsr_node::{Entry, Outcome, Place, Probe};
+use hsr_story::Shown;
+use hsr_text::put_decimal;
+use hsr_topology::End;
+
+/// Puts words last.
+fn put(text: &mut Vec<u8>, words: &[u8]) -> Result<(), NoMemory>
+    ensures { OnOk result (text.new.items ≡ text.old.items ++ words.now) }
+{
+    text.extend_from_slice(words)?;
+    Ok(())
+}
+
+/// Puts a number last.
+fn put_number(text: &mut Vec<u8>, n: u64) -> Result<(), NoMemory>
+    ensures { OnOk result (text.new.items ≡ text.old.items ++ decimal n) }
+{
+    put_decimal(text, n)?;
+    Ok(())
+}
+
+/// Puts the name of a node last; n and its number, where it has none.
+#[tactic(auto, unfolding(crate::specs::Comments::name_of))]
+fn put_name(text: &mut Vec<u8>, names: &[Vec<u8>], node: usize) -> Result<(), NoMemory>
+    ensures { OnOk result (text.new.items ≡ text.old.items ++ name_of (lists_of names.now) node) }
+{
+    match names.get(node) {
+        Some(name) => put(text, name.as_slice()),
+        None => {
+            put(text, b"n")?;
+            put_number(text, node as u64)
+        }
+    }
+}
+
+/// Puts the letter of a port last, if there is such a node.
+fn put_letter(text: &mut Vec<u8>, places: &[Place], end: End) -> Result<(), NoMemory>
+    ensures { OnOk result (text.new.items ≡ text.old.items ++ letter_if (slice_get places.now end.node) end.port) }
+{
+    match places.get(end.node) {
+        Some(place) => {
+            text.push(place.letter(end.port))?;
+            Ok(())
+        }
+        None => Ok(()),
+    }
+}
+
+/// Puts a port of a node last: its name and its letter.
+#[tactic(auto, unfolding(crate::specs::Comments::port_text))]
+fn put_port(
+    text: &mut Vec<u8>,
+    parted: &[u8],
+    names: &[Vec<u8>],
+    places: &[Place],
+    end: End,
+) -> Result<(), NoMemory>
+    ensures { OnOk result (text.new.items ≡ text.old.items ++ port_text parted.now (lists_of names.now) places.now end) }
+{
+    put_name(text, names, end.node)?;
+    put(text, parted)?;
+    put_letter(text, places, end)
+}
+
+/// Puts the name of an interface last: the port from which its copies come, and the one to which they go.
+pub(crate) fn put_interface_name(
+    text: &mut Vec<u8>,
+    names: &[Vec<u8>],
+    places: &[Place],
+    from: End,
+    to: End,
+) -> Result<(), NoMemory>
+    ensures { OnOk result (text.new.items ≡ text.old.items ++ name_from (lists_of names.now) places.now from to) }
+{
+    put_port(text, b".", names, places, from)?;
+    put(text, b">")?;
+    put_port(text, b".", names, places, to)
+}
+
+/// Puts the description of an interface last: its link and its direction.
+#[tactic(auto, unfolding(crate::specs::Comments::interface_description))]
+pub(crate) fn put_interface_description(
+    text: &mut Vec<u8>,
+    link: usize,
+    dir: Dir,
+) -> Result<(), NoMemory>
+    ensures { OnOk result (text.new.items ≡ text.old.items ++ interface_description link dir) }
+{
+    put(text, b"link ")?;
+    put_number(text, link as u64)?;
+    put(text, b" ")?;
+    put(text, dir.word().as_bytes())
+}
+
+/// Puts the words before a send last.
+#[tactic(auto, unfolding(crate::specs::Comments::send_words))]
+fn put_send_words(text: &mut Vec<u8>) -> Result<(), NoMemory>
+    ensures { OnOk result (text.new.items ≡ text.old.items ++ send_words) }
+{
+    put(text, b"; copy of send ")
+}
+
+/// Puts last of which send a copy is.
+#[tactic(auto, unfolding(crate::specs::Comments::send_text))]
+fn put_send(text: &mut Vec<u8>, names: &[Vec<u8>], send: Probe) -> Result<(), NoMemory>
+    ensures { OnOk result (text.new.items ≡ text.old.items ++ send_text (lists_of names.now) send) }
+{
+    put_send_words(text)?;
+    put_name(text, names, send.node)?;
+    put(text, b":")?;
+    put_number(text, send.place as u64)
+}
+
+/// Puts last of which send a copy is, if it is of one.
+fn put_send_if(text: &mut Vec<u8>, names: &[Vec<u8>], probe: Option<Probe>) -> Result<(), NoMemory>
+    ensures { OnOk result (text.new.items ≡ text.old.items ++ send_if (lists_of names.now) probe) }
+{
+    match probe {
+        Some(send) => put_send(text, names, send),
+        None => Ok(()),
+    }
+}
+
+/// Why a copy was lost.
+fn loss_reason(fate: Fate) -> &'static [u8]
+    ensures { result.now ≡ loss_reason fate }
+{
+    match fate {
+        Fate::LostDown => b"the link was cut",
+        Fate::LostCut => b"the link was cut while it waited",
+        Fate::LostOverrun => b"no room on the link",
+        Fate::Queued | Fate::Taken => b"",
+    }
+}
+
+/// Puts a loss last.
+#[tactic(auto, unfolding(crate::specs::Comments::loss_text))]
+fn put_loss(text: &mut Vec<u8>, fate: Fate) -> Result<(), NoMemory>
+    ensures { OnOk result (text.new.items ≡ text.old.items ++ loss_text fate) }
+{
+    put(text, b"lost (")?;
+    put(text, fate.word().as_bytes())?;
+    put(text, b": ")?;
+    put(text, loss_reason(fate))?;
+    put(text, b")")
+}
+
+/// Puts a port's letter behind a space, if a copy left by it.
+fn put_left(text: &mut Vec<u8>, place: &Place, port: u8, leaves: bool) -> Result<(), NoMemory>
+    ensures { OnOk result (text.new.items ≡ text.old.items ++ (if leaves then codes " " ++ letter place.now port ∷ [] else [])) }
+{
+    if leaves {
+        put(text, b" ")?;
+        text.push(place.letter(port))?;
+    }
+    Ok(())
+}
+
+/// Puts the ports by which a copy left.
+fn put_ports(text: &mut Vec<u8>, place: &Place, ports: [bool; 4]) -> Result<(), NoMemory>
+    ensures { OnOk result (text.new.items ≡ text.old.items ++ letters_from place.now 0 ports) }
+{
+    let [a, b, c, d] = ports;
+    put_left(text, place, 0, a)?;
+    put_left(text, place, 1, b)?;
+    put_left(text, place, 2, c)?;
+    put_left(text, place, 3, d)
+}
+
+/// Puts the number that a node gave to a frame, if it did.
+fn put_seq(text: &mut Vec<u8>, seq: Option<u16>) -> Result<(), NoMemory>
+    ensures { OnOk result (text.new.items ≡ text.old.items ++ number_text seq) }
+{
+    match seq {
+        Some(seq) => {
+            put(text, b", numbered ")?;
+            put_number(text, u64::from(seq))
+        }
+        None => Ok(()),
+    }
+}
+
+/// Puts last that an arrival was passed, and where.
+fn put_passed(
+    text: &mut Vec<u8>,
+    place: &Place,
+    up: bool,
+    ports: [bool; 4],
+    seq: Option<u16>,
+) -> Result<(), NoMemory>
+    ensures { OnOk result (text.new.items ≡ text.old.items ++ judgement place.now up ports seq Passed) }
+{
+    put(text, b"passed")?;
+    put(text, if up { b" up" } else { b"" })?;
+    put_ports(text, place, ports)?;
+    put_seq(text, seq)
+}
+
+/// Puts last what became of an arrival.
+fn put_outcome(text: &mut Vec<u8>, place: &Place, outcome: &Outcome) -> Result<(), NoMemory>
+    ensures { OnOk result (text.new.items ≡ text.old.items ++ outcome_text place.now outcome.now) }
+{
+    match *outcome {
+        Outcome::Judged {
+            up,
+            ports,
+            seq,
+            cause: Cause::Passed,
+        } => put_passed(text, place, up, ports, seq),
+        Outcome::Judged { cause, .. } => put(text, cause.word().as_bytes()),
+        _ => Ok(()),
+    }
+}
+
+/// Puts last what became of the arrival that an entry is, if there is one.
+fn put_entry(
+    text: &mut Vec<u8>,
+    place: &Place,
+    entries: &[Entry],
+    at: usize,
+) -> Result<(), NoMemory>
+    ensures { OnOk result (text.new.items ≡ text.old.items ++ judged_if (Some place.now) (slice_get entries.now at)) }
+{
+    match entries.get(at) {
+        Some(entry) => put_outcome(text, place, &entry.outcome),
+        None => Ok(()),
+    }
+}
+
+/// Puts that last, if there is such a node.
+fn put_judged(
+    text: &mut Vec<u8>,
+    places: &[Place],
+    node: usize,
+    entries: &[Entry],
+    at: usize,
+) -> Result<(), NoMemory>
+    ensures { OnOk result (text.new.items ≡ text.old.items ++ judged_if (slice_get places.now node) (slice_get entries.now at)) }
+{
+    match places.get(node) {
+        Some(place) => put_entry(text, place, entries, at),
+        None => Ok(()),
+    }
+}
+
+/// The record of a node; nothing where there is no such node.
+fn entries_at<const C: usize>(closed: &Closed<C>, node: usize) -> &[Entry]
+    ensures { result.now ≡ record_of closed.now.run node }
+{
+    if node < closed.topology().places().len() {
+        closed.entries(node)
+    } else {
+        &[]
+    }
+}
+
+/// Puts last where a copy came, and what became of it by the entry at a place of that node's record.
+fn put_arrival<const C: usize>(
+    text: &mut Vec<u8>,
+    names: &[Vec<u8>],
+    closed: &Closed<C>,
+    end: End,
+    place: usize,
+) -> Result<(), NoMemory>
+    ensures { OnOk result (text.new.items ≡ text.old.items ++ judged_text (lists_of names.now) closed.now.run end place) }
+{
+    let places = closed.topology().places();
+    put_port(text, b" ", names, places, end)?;
+    put(text, b": ")?;
+    put_judged(text, places, end.node, entries_at(closed, end.node), place)
+}
+
+/// Puts the comment of a row last: what became of its copy, by the entry that judged it or by its fate, and of which send it is. `to`
+/// is the end to which it went.
+pub(crate) fn put_comment<const C: usize>(
+    text: &mut Vec<u8>,
+    names: &[Vec<u8>],
+    closed: &Closed<C>,
+    shown: &Shown,
+    row: &Row,
+    to: End,
+) -> Result<(), NoMemory>
+    requires { to ≡ to_end row.now.dir (ends_of closed.now.run shown.now.link) }
+    ensures { OnOk result (text.new.items ≡ text.old.items ++ comment (lists_of names.now) closed.now.run shown.now row.now) }
+{
+    if shown.is_lost {
+        put_loss(text, row.fate)?;
+    } else {
+        put_arrival(text, names, closed, to, shown.place)?;
+    }
+    put_send_if(text, names, row.carried.probe)
+}

@@ -1,0 +1,128 @@
+//! Interfaces and packets.
+ghost use Rattle.std.specs.Prelude.{◌≡◌, ◌<◌, ◌≤◌, ◌++◌, length, Some, OnOk};
+ghost use Rattle.hsr_law.specs.Run.{ends_of, from_end, rows_of, to_end};
+ghost use Rattle.hsr_order.specs.Fronts.{lists_of};
+ghost use Rattle.hsr_capture.specs.Capture.{interface_number, interface_of, packet_if, packet_of};
+
+use crate::comments::{put_comment, put_interface_description, put_interface_name};
+use hsr_closing::Closed;
+use hsr_link::{Dir, Row};
+use hsr_pcapng::{BlockFault, put_interface, put_packet};
+use hsr_story::Shown;
+use hsr_topology::End;
+use std::alloc::Global;
+
+/// The end of a link from which the copies of a direction come.
+fn from_end<const C: usize>(closed: &Closed<C>, link: usize, dir: Dir) -> End
+    requires { link < length closed.now.run.links }
+    ensures { result ≡ from_end dir (ends_of closed.now.run link) }
+{
+    let [a, b] = closed.topology().links()[link];
+    match dir {
+        Dir::Forth => a,
+        Dir::Back => b,
+    }
+}
+
+/// The end of a link to which the copies of a direction go.
+fn to_end<const C: usize>(closed: &Closed<C>, link: usize, dir: Dir) -> End
+    requires { link < length closed.now.run.links }
+    ensures { result ≡ to_end dir (ends_of closed.now.run link) }
+{
+    let [a, b] = closed.topology().links()[link];
+    match dir {
+        Dir::Forth => b,
+        Dir::Back => a,
+    }
+}
+
+/// Puts the interface of a link's direction last.
+pub(crate) fn put_direction<const C: usize>(
+    alloc: Global,
+    text: &mut Vec<u8>,
+    names: &[Vec<u8>],
+    closed: &Closed<C>,
+    link: usize,
+    dir: Dir,
+) -> Result<(), BlockFault>
+    requires { link < length closed.now.run.links }
+    ensures { OnOk result (text.new.items ≡ text.old.items ++ interface_of (lists_of names.now) closed.now.run link dir) }
+{
+    let mut name = Vec::new(alloc);
+    let from = from_end(closed, link, dir);
+    let to = to_end(closed, link, dir);
+    put_interface_name(&mut name, names, closed.topology().places(), from, to)?;
+    let mut description = Vec::new(alloc);
+    put_interface_description(&mut description, link, dir)?;
+    put_interface(alloc, text, name.as_slice(), description.as_slice())
+}
+
+/// The number of a link's direction among the interfaces.
+fn interface_number(link: usize, dir: Dir) -> u32
+    requires { link < 128 }
+    ensures { result ≡ interface_number link dir }
+{
+    let forth = 2 * (link as u32);
+    match dir {
+        Dir::Forth => forth,
+        Dir::Back => forth + 1,
+    }
+}
+
+/// Puts the packet of a row last.
+fn put_row<const C: usize>(
+    alloc: Global,
+    text: &mut Vec<u8>,
+    names: &[Vec<u8>],
+    closed: &Closed<C>,
+    shown: &Shown,
+    row: &Row,
+) -> Result<(), BlockFault>
+    requires below { shown.now.link < length closed.now.run.links }
+    requires few { shown.now.link < 128 }
+    ensures { OnOk result (text.new.items ≡ text.old.items ++ packet_if (lists_of names.now) closed.now.run shown.now (Some row.now)) }
+{
+    let to = to_end(closed, shown.link, row.dir);
+    let mut comment = Vec::new(alloc);
+    put_comment(&mut comment, names, closed, shown, row, to)?;
+    put_packet(
+        alloc,
+        text,
+        interface_number(shown.link, row.dir),
+        shown.moment,
+        row.carried.octets.as_slice(),
+        comment.as_slice(),
+    )
+}
+
+/// The rows of a link; none where there is no such link. No topology has over 128 links.
+fn rows_at<const C: usize>(closed: &Closed<C>, link: usize) -> &[Row]
+    ensures rows { result.now ≡ rows_of closed.now.run link }
+    ensures few { length closed.now.run.links ≤ 128 }
+{
+    let topology = closed.topology();
+    if link < topology.links().len() {
+        closed.rows(link)
+    } else {
+        &[]
+    }
+}
+
+/// Puts the packet of a row last, if there is such a row.
+pub(crate) fn put_shown<const C: usize>(
+    alloc: Global,
+    text: &mut Vec<u8>,
+    names: &[Vec<u8>],
+    closed: &Closed<C>,
+    shown: &Shown,
+) -> Result<(), BlockFault>
+    ensures { OnOk result (text.new.items ≡ text.old.items ++ packet_of (lists_of names.now) closed.now.run shown.now) }
+{
+    if shown.link >= closed.topology().links().len() {
+        return Ok(());
+    }
+    match rows_at(closed, shown.link).get(shown.number) {
+        Some(row) => put_row(alloc, text, names, closed, shown, row),
+        None => Ok(()),
+    }
+}

@@ -1,0 +1,105 @@
+-- Where copies stand, gathered by an index.
+use Rattle.std.proofs.Common.{◌≡◌, ℕ, zero, suc, ◌+◌, ◌<◌, ◌&&◌, Bool, true, false, cond, nat_eq, List, [], ◌∷◌, ◌++◌, length, take, get_or, count_by, filter, Option, Some, None, unwrap_or, Bor, refl, sym, ap, ◌∙◌, subst, arith}
+use Rattle.std.specs.Prelude.{Vec, slice_get}
+use Rattle.std.specs.Global.{Global}
+use Rattle.std.specs.List.{range_with_len}
+use Rattle.std.specs.Option.{option_eq}
+use Rattle.std.specs.Str.{bytes_eq}
+use Rattle.std.proofs.lemmas.Bool.{false≢true}
+use Rattle.std.proofs.lemmas.List.{append-nil}
+use Rattle.std.proofs.lemmas.List.Elements.{filter-append}
+use Rattle.std.proofs.lemmas.List.Sums.{count_by_more_no, count_by_more_yes}
+use Rattle.indexmap.specs.IndexMap.{IndexMap, Updates, get_by}
+use Rattle.hsr_node.specs.declared.event.Carried.{Carried}
+use Rattle.hsr_node.specs.declared.event.Probe.{Probe}
+use Rattle.hsr_law.proofs.Same.{address_same, same_address}
+use Rattle.hsr_index.specs.Often.{count_of, is_key_of, is_same_carried, is_same_probe, place_of}
+use Rattle.hsr_index.proofs.Counting.{is_same_key}
+use Rattle.hsr_index.proofs.Often.{carried_tells}
+use Rattle.hsr_hops.specs.Indexed.{found_at, items_if, places_in}
+use Rattle.hsr_hops.specs.Partners.{is_at, partner_of, places, places_below}
+
+-- ---- keys
+
+bytes_turned : (a b : List ℕ) → bytes_eq a b ≡ bytes_eq b a
+bytes_turned a b = by_first (bytes_eq a b) (bytes_eq b a) refl refl
+  where
+    by_first : (x y : Bool) → bytes_eq a b ≡ x → bytes_eq b a ≡ y → x ≡ y
+    by_first true true one other = refl
+    by_first false false one other = refl
+    by_first true false one other = absurd (false≢true (sym other ∙ address_same b a (sym (same_address a b one))))
+    by_first false true one other = absurd (false≢true (sym one ∙ address_same a b (sym (same_address b a other))))
+
+places_same : (p q : Option Probe) → option_eq (λ a b. nat_eq a.0 b.0 && nat_eq a.1 b.1) (place_of p) (place_of q) ≡ is_same_probe q p
+places_same None None = refl
+places_same None (Some q) = refl
+places_same (Some p) None = refl
+places_same (Some p) (Some q) = refl
+
+keys_same : (copy other : Carried) (octets : List ℕ) → octets ≡ copy.octets →
+    (option_eq (λ a b. nat_eq a.0 b.0 && nat_eq a.1 b.1) (place_of copy.probe) (place_of other.probe) && bytes_eq octets other.octets) ≡ is_same_carried other copy
+keys_same copy other octets is =
+    ap (λ b. b && bytes_eq octets other.octets) (places_same copy.probe other.probe)
+    ∙ ap (λ b. is_same_probe other.probe copy.probe && b) (ap (λ xs. bytes_eq xs other.octets) is ∙ bytes_turned copy.octets other.octets)
+
+-- ---- one more place
+
+pub one_kept : {S : Type 0} (old new : IndexMap (Option (ℕ × ℕ) × Bor (List ℕ)) (Vec ℕ Global) S) (copy : Carried) (key : Option (ℕ × ℕ) × Bor (List ℕ)) (place : ℕ) (places : Vec ℕ Global) →
+    key.0 ≡ place_of copy.probe → key.1.now ≡ copy.octets → places.items ≡ places_in old copy ++ place ∷ [] → Updates is_same_key old new key (Some places) →
+    (other : Carried) → places_in new other ≡ places_in old other ++ cond (is_same_carried other copy) (place ∷ []) []
+one_kept old new copy key place places at octets more updates other =
+    let other_key : Option (ℕ × ℕ) × Bor (List ℕ) = (place_of other.probe, record key.1 { now = other.octets }) in
+    let P : Option (ℕ × ℕ) → Type 0 = λ p. (option_eq (λ a b. nat_eq a.0 b.0 && nat_eq a.1 b.1) p (place_of other.probe) && bytes_eq key.1.now other.octets) ≡ is_same_carried other copy in
+    let same : is_same_key key other_key ≡ is_same_carried other copy = subst P (sym at) (keys_same copy other key.1.now octets) in
+    let found : get_by (is_key_of other) new ≡ cond (is_same_carried other copy) (Some places) (get_by (is_key_of other) old) =
+    updates.0 other_key ∙ ap (λ b. cond b (Some places) (get_by (is_key_of other) old)) same in
+    ap items_if found ∙ by_same (is_same_carried other copy) refl
+  where
+    by_same : (b : Bool) → is_same_carried other copy ≡ b →
+        items_if (cond b (Some places) (get_by (is_key_of other) old)) ≡ places_in old other ++ cond b (place ∷ []) []
+    by_same true is = more ∙ ap (λ xs. xs ++ place ∷ []) (ap (places_in old) (sym (carried_tells other copy is)))
+    by_same false is = sym (append-nil (places_in old other))
+
+pub items_kept : (o : Option (Vec ℕ Global)) (none : Vec ℕ Global) → none.items ≡ [] → (unwrap_or o none).items ≡ items_if o
+items_kept None none is = is
+items_kept (Some places) none is = refl
+
+pub found : {S : Type 0} (kept : IndexMap (Option (ℕ × ℕ) × Bor (List ℕ)) (Vec ℕ Global) S) (copy : Carried) (key : Option (ℕ × ℕ) × Bor (List ℕ)) →
+    key.0 ≡ place_of copy.probe → key.1.now ≡ copy.octets → get_by (is_same_key key) kept ≡ get_by (is_key_of copy) kept
+found kept copy key place octets =
+    let by : Option (ℕ × ℕ) → List ℕ → Option (Vec ℕ Global) = λ p xs. get_by (λ k. option_eq (λ a b. nat_eq a.0 b.0 && nat_eq a.1 b.1) p k.0 && bytes_eq xs k.1.now) kept in
+    ap (λ p. by p key.1.now) place ∙ ap (by (place_of copy.probe)) octets
+
+-- ---- one more copy
+
+range_more : (a n : ℕ) → range_with_len a (n + 1) ≡ range_with_len a n ++ (a + n) ∷ []
+range_more a zero = let e : a ≡ a + 0 = omega arith in ap (λ m. m ∷ []) e
+range_more a (suc n) =
+    let more : suc n + 1 ≡ suc (n + 1) = omega arith in
+    let last : (a + 1) + n ≡ a + suc n = omega arith in
+    ap (range_with_len a) more ∙ ap (λ ns. a ∷ ns) (range_more (a + 1) n ∙ ap (λ m. range_with_len (a + 1) n ++ m ∷ []) last)
+
+pub range_push : (n : ℕ) → range_with_len 0 (n + 1) ≡ range_with_len 0 n ++ n ∷ []
+range_push n = let last : 0 + n ≡ n = omega arith in range_more 0 n ∙ ap (λ m. range_with_len 0 n ++ m ∷ []) last
+
+pub places_more : (copy : Carried) (xs : List (Option Carried)) (i : ℕ) →
+    places_below copy xs (i + 1) ≡ places_below copy xs i ++ cond (is_at copy (get_or xs i None)) (i ∷ []) []
+places_more copy xs i =
+    ap (filter (λ k. is_at copy (get_or xs k None))) (range_push i)
+    ∙ filter-append (λ k. is_at copy (get_or xs k None)) (range_with_len 0 i) (i ∷ [])
+
+-- ---- one more row
+
+pub counted_more : (copy : Carried) (ys : List (Option Carried)) (j : ℕ) → j < length ys →
+    count_by (is_at copy) (take (j + 1) ys) ≡ count_by (is_at copy) (take j ys) + cond (is_at copy (get_or ys j None)) 1 0
+counted_more copy ys j below = by_same (is_at copy (get_or ys j None)) refl
+  where
+    by_same : (b : Bool) → is_at copy (get_or ys j None) ≡ b → count_by (is_at copy) (take (j + 1) ys) ≡ count_by (is_at copy) (take j ys) + cond b 1 0
+    by_same true is = count_by_more_yes (is_at copy) ys j None below is
+    by_same false is = let e = count_by_more_no (is_at copy) ys j None below is in omega (arith, e)
+
+pub found_partner : {S T : Type 0} (kept : IndexMap (Option (ℕ × ℕ) × Bor (List ℕ)) (Vec ℕ Global) S) (counts : IndexMap (Option (ℕ × ℕ) × Bor (List ℕ)) ℕ T) (xs ys : List (Option Carried)) (j : ℕ) →
+    ((copy : Carried) → places_in kept copy ≡ places copy xs) → ((copy : Carried) → count_of counts copy ≡ count_by (is_at copy) (take j ys)) → (o : Option Carried) →
+    found_at kept counts o ≡ partner_of xs ys j o
+found_partner kept counts xs ys j places_are counts_are None = refl
+found_partner kept counts xs ys j places_are counts_are (Some copy) = ap (λ ps. slice_get ps (count_of counts copy)) (places_are copy) ∙ ap (slice_get (places copy xs)) (counts_are copy)

@@ -1,0 +1,4 @@
+pub mod Partners
+pub mod Hops
+pub mod Indexed
+pub mod Sides

@@ -1,0 +1,119 @@
+//! What the entries of a record passed, and what they let in.
+ghost use Rattle.std.specs.Prelude.{◌≡◌, ◌∷◌, [], ◌++◌, map, option_map, IfOk, OnOk};
+ghost use Rattle.hsr_node.specs.Record.{probe_handled};
+ghost use Rattle.hsr_index.specs.InOrder.{came_by, passed_by};
+ghost use Rattle.hsr_hops.specs.Hops.{came_at, passed_at, passed_from};
+
+use hsr_closing::Closed;
+use hsr_frame::NoMemory;
+use hsr_node::{Carried, Entry, Event, Octets, Place, Probe, spelled_out};
+use hsr_topology::End;
+use std::alloc::Global;
+
+/// The send that the copy of an entry is of.
+fn probe_of(number: usize, place: usize, event: &Event) -> Option<Probe>
+    ensures { result ≡ probe_handled (record { node = number; place = place }) event.now }
+{
+    match event {
+        Event::Arrive { port: _, carried } => carried.probe,
+        _ => Some(Probe {
+            node: number,
+            place,
+        }),
+    }
+}
+
+/// The copy that an entry let leave by a port.
+fn passed_by(
+    alloc: Global,
+    number: usize,
+    place: &Place,
+    port: u8,
+    at: usize,
+    entry: &Entry,
+) -> Result<Option<Carried>, NoMemory>
+    ensures { IfOk result (λ copy. copy ≡ passed_by (record { number = number; place = place.now }) port at entry.now) }
+{
+    let Some(octets) = spelled_out(place, &entry.event, &entry.outcome, port) else {
+        return Ok(None);
+    };
+    let octets = Octets::from_spelled(alloc, &octets)?;
+    let probe = probe_of(number, at, &entry.event);
+    Ok(Some(Carried { probe, octets }))
+}
+
+/// The copy that came to a port with an entry.
+fn came_by(port: u8, entry: &Entry) -> Result<Option<Carried>, NoMemory>
+    ensures { IfOk result (λ copy. copy ≡ came_by port entry.now) }
+{
+    match &entry.event {
+        Event::Arrive { port: by, carried } if *by == port => Ok(Some(carried.copy()?)),
+        _ => Ok(None),
+    }
+}
+
+fn add(copies: &mut Vec<Option<Carried>>, copy: Option<Carried>) -> Result<(), NoMemory>
+    ensures { OnOk result (copies.new.items ≡ copies.old.items ++ copy ∷ []) }
+{
+    copies.push(copy)?;
+    Ok(())
+}
+
+/// What each entry of a record passed by a port.
+fn passed(
+    alloc: Global,
+    number: usize,
+    place: &Place,
+    port: u8,
+    entries: &[Entry],
+) -> Result<Vec<Option<Carried>>, NoMemory>
+    ensures { IfOk result (λ copies. copies.items ≡ passed_from (record { number = number; place = place.now }) port 0 entries.now) }
+{
+    let mut copies = Vec::new(alloc);
+    for (at, entry) in entries.iter().enumerate() {
+        add(
+            &mut copies,
+            passed_by(alloc, number, place, port, at, entry)?,
+        )?;
+    }
+    Ok(copies)
+}
+
+/// What each entry of a record let in by a port.
+fn came(alloc: Global, port: u8, entries: &[Entry]) -> Result<Vec<Option<Carried>>, NoMemory>
+    ensures { IfOk result (λ copies. copies.items ≡ map (came_by port) entries.now) }
+{
+    let mut copies = Vec::new(alloc);
+    for (at, entry) in entries.iter().enumerate() {
+        add(&mut copies, came_by(port, entry)?)?;
+    }
+    Ok(copies)
+}
+
+/// What each entry of the node at an end passed there.
+pub(crate) fn passed_at<const C: usize>(
+    alloc: Global,
+    closed: &Closed<C>,
+    end: End,
+) -> Result<Vec<Option<Carried>>, NoMemory>
+    ensures { IfOk result (λ copies. copies.items ≡ passed_at closed.now.run end) }
+{
+    match closed.topology().places().get(end.node) {
+        Some(place) => passed(alloc, end.node, place, end.port, closed.entries(end.node)),
+        None => Ok(Vec::new(alloc)),
+    }
+}
+
+/// What each entry of the node at an end let in there.
+pub(crate) fn came_at<const C: usize>(
+    alloc: Global,
+    closed: &Closed<C>,
+    end: End,
+) -> Result<Vec<Option<Carried>>, NoMemory>
+    ensures { IfOk result (λ copies. copies.items ≡ came_at closed.now.run end) }
+{
+    match closed.topology().places().get(end.node) {
+        Some(_) => came(alloc, end.port, closed.entries(end.node)),
+        None => Ok(Vec::new(alloc)),
+    }
+}

@@ -1,0 +1,156 @@
+//! Which of some copies is which of others, by an index.
+ghost use Rattle.std.specs.Prelude.{◌≡◌, ◌+◌, ◌<◌, ◌^◌, ◌∷◌, [], ◌++◌, count_by, if◌then◌else◌, length, map, option_map, IfOk, OnOk};
+ghost use Rattle.hsr_node.specs.declared.event.Carried as spec;
+ghost use Rattle.hsr_index.specs.InOrder.{told_copy};
+ghost use Rattle.hsr_index.specs.Often.{count_of, is_same_carried, place_of};
+ghost use Rattle.hsr_hops.specs.Partners.{is_at, partners, places};
+ghost use Rattle.hsr_hops.specs.Indexed.{found_at, places_in};
+
+use hsr_frame::NoMemory;
+use hsr_index::Passage;
+use hsr_link::{Dir, Fate, Row};
+use hsr_node::Carried;
+use indexmap::IndexMap;
+use std::alloc::Global;
+
+/// A copy by the node and place of its send, and its octets.
+type Key<'a> = (Option<(usize, usize)>, &'a [u8]);
+
+/// Where each copy stands, rising.
+type PlacesByCopy<'a> = IndexMap<Key<'a>, Vec<usize>>;
+
+/// How often each copy came so far.
+type Counts<'a> = IndexMap<Key<'a>, usize>;
+
+/// The node and place of a copy's send, and its octets.
+fn key_of<'a>(copy: &'a Carried) -> Key<'a>
+    ensures place { result.0 ≡ place_of copy.now.probe }
+    ensures octets { result.1.now ≡ copy.now.octets }
+{
+    let place = match copy.probe {
+        Some(send) => Some((send.node, send.place)),
+        None => None,
+    };
+    (place, copy.octets.as_slice())
+}
+
+/// Keeps one more place of a copy.
+fn keep<'a>(
+    alloc: Global,
+    kept: &mut PlacesByCopy<'a>,
+    copy: &'a Carried,
+    place: usize,
+) -> Result<(), NoMemory>
+    ensures { OnOk result ((other : spec.Carried) → places_in kept.new other ≡ places_in kept.old other ++ (if is_same_carried other copy.now then place ∷ [] else [])) }
+{
+    kept.entry(key_of(copy))?
+        .or_insert(Vec::new(alloc))
+        .push(place)?;
+    Ok(())
+}
+
+/// Keeps one more place of a copy, if there is one.
+fn keep_if<'a>(
+    alloc: Global,
+    kept: &mut PlacesByCopy<'a>,
+    copy: &'a Option<Carried>,
+    place: usize,
+) -> Result<(), NoMemory>
+    ensures { OnOk result ((other : spec.Carried) → places_in kept.new other ≡ places_in kept.old other ++ (if is_at other copy.now then place ∷ [] else [])) }
+{
+    match copy {
+        Some(copy) => keep(alloc, kept, copy, place),
+        None => Ok(()),
+    }
+}
+
+/// Where each of some copies stands.
+fn places_by_copy<'a>(
+    alloc: Global,
+    copies: &'a [Option<Carried>],
+) -> Result<PlacesByCopy<'a>, NoMemory>
+    ensures { IfOk result (λ kept. (copy : spec.Carried) → places_in kept copy ≡ places copy copies.now) }
+{
+    let mut kept = IndexMap::new(alloc);
+    for (i, copy) in copies.iter().enumerate() {
+        keep_if(alloc, &mut kept, copy, i)?;
+    }
+    Ok(kept)
+}
+
+fn count_of(counts: &Counts<'_>, copy: &Carried) -> usize
+    ensures { result ≡ count_of counts.now copy.now }
+{
+    counts.get(&key_of(copy)).copied().unwrap_or(0)
+}
+
+/// Counts one more copy.
+fn count_one<'a>(counts: &mut Counts<'a>, copy: &'a Carried) -> Result<(), NoMemory>
+    requires { count_of counts.old copy.now + 1 < 2 ^ 64 }
+    ensures { OnOk result ((other : spec.Carried) → count_of counts.new other ≡ count_of counts.old other + (if is_same_carried other copy.now then 1 else 0)) }
+{
+    let count = count_of(counts, copy);
+    match counts.insert(key_of(copy), count + 1) {
+        Ok(_) => Ok(()),
+        Err(_) => Err(NoMemory),
+    }
+}
+
+/// Where a copy stands.
+fn places_of<'b>(kept: &'b PlacesByCopy<'_>, copy: &'b Carried) -> &'b [usize]
+    ensures { result.now ≡ places_in kept.now copy.now }
+{
+    match kept.get(&key_of(copy)) {
+        Some(places) => places.as_slice(),
+        None => &[],
+    }
+}
+
+/// The copy of a row, if it was put, or taken, in a direction.
+fn told<'a>(which: Passage, dir: Dir, row: &'a Row) -> Option<&'a Carried>
+    ensures { option_map (λ c. c.now) result ≡ told_copy which dir row.now }
+{
+    let is_told = match which {
+        Passage::Put => row.dir == dir && !row.injected,
+        Passage::Taken => row.dir == dir && row.fate == Fate::Taken,
+    };
+    if is_told { Some(&row.carried) } else { None }
+}
+
+/// Where the copy of a row stands, by how many equal ones came so far; and counts it.
+fn next_partner<'a>(
+    kept: &PlacesByCopy<'_>,
+    counts: &mut Counts<'a>,
+    copy: Option<&'a Carried>,
+) -> Result<Option<usize>, NoMemory>
+    requires { (other : spec.Carried) → count_of counts.old other + 1 < 2 ^ 64 }
+    ensures place { IfOk result (λ place. place ≡ found_at kept.now counts.old (option_map (λ c. c.now) copy.entry)) }
+    ensures counts { OnOk result ((other : spec.Carried) → count_of counts.new other ≡ count_of counts.old other + (if is_at other (option_map (λ c. c.now) copy.entry) then 1 else 0)) }
+{
+    let Some(copy) = copy else {
+        return Ok(None);
+    };
+    let place = places_of(kept, copy).get(count_of(counts, copy)).copied();
+    count_one(counts, copy)?;
+    Ok(place)
+}
+
+/// Where the copies of rows that were put, or taken, in a direction stand among others, row by row.
+pub(crate) fn partners(
+    alloc: Global,
+    copies: &[Option<Carried>],
+    which: Passage,
+    dir: Dir,
+    rows: &[Row],
+) -> Result<Vec<Option<usize>>, NoMemory>
+    ensures { IfOk result (λ places. places.items ≡ partners copies.now (map (told_copy which dir) rows.now)) }
+{
+    let kept = places_by_copy(alloc, copies)?;
+    let mut counts = IndexMap::new(alloc);
+    let mut places = Vec::new(alloc);
+    for (j, row) in rows.iter().enumerate() {
+        let place = next_partner(&kept, &mut counts, told(which, dir, row))?;
+        places.push(place)?;
+    }
+    Ok(places)
+}

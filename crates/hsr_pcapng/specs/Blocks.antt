@@ -1,0 +1,80 @@
+-- Blocks of the file format pcapng (draft-ietf-opsawg-pcapng), little endian.
+--     block            any block (section 3.1)
+--     option_of        an option (section 3.5)
+--     section_header   the block that begins a section (section 4.1)
+--     interface        the description of an interface (section 4.2)
+--     packet           an enhanced packet (section 4.3)
+use Rattle.std.specs.Prelude.{ℕ, ◌+◌, ◌-◌, ◌/◌, ◌%◌, ◌<◌, ◌^◌, List, [], ◌∷◌, ◌++◌, length, replicate}
+use Rattle.std.specs.Int.{w16, w32, to_le_bytes}
+
+-- ---- numbers and octets
+
+abbrev pub number16 : ℕ → List ℕ
+number16 n = to_le_bytes w16 n
+
+abbrev pub number32 : ℕ → List ℕ
+number32 n = to_le_bytes w32 n
+
+-- zeros from this length up to a multiple of four
+abbrev pub padding : ℕ → List ℕ
+padding n = replicate ((4 - n % 4) % 4) 0
+
+abbrev pub padded : List ℕ → List ℕ
+padded octets = octets ++ padding (length octets)
+
+-- ---- options
+
+-- its code, the length of its value, and the value
+unfoldable pub option_of : ℕ → List ℕ → List ℕ
+option_of code value = number16 code ++ number16 (length value) ++ padded value
+
+abbrev pub end_of_options : List ℕ
+end_of_options = number16 0 ++ number16 0
+
+-- ---- any block
+
+-- its type, its length, its body, and its length again
+unfoldable pub block : ℕ → List ℕ → List ℕ
+block kind body = number32 kind ++ number32 (length body + 12) ++ body ++ number32 (length body + 12)
+
+-- ---- the blocks of a capture
+
+-- the magic number, version 1.0, a section of unknown length, and the program's name (shb_userappl)
+unfoldable pub section_body : List ℕ → List ℕ
+section_body program = number32 439041101 ++ number16 1 ++ number16 0 ++ replicate 8 255 ++ option_of 4 program ++ end_of_options
+
+abbrev pub section_header : List ℕ → List ℕ
+section_header program = block 168627466 (section_body program)
+
+-- Ethernet, packets of any length; its name (if_name), its description (if_description) and microseconds (if_tsresol)
+unfoldable pub interface_body : List ℕ → List ℕ → List ℕ
+interface_body name description = number16 1 ++ number16 0 ++ number32 0 ++ option_of 2 name ++ option_of 3 description ++ option_of 9 (6 ∷ []) ++ end_of_options
+
+abbrev pub interface : List ℕ → List ℕ → List ℕ
+interface name description = block 1 (interface_body name description)
+
+-- its interface, its moment in microseconds in two halves, how many octets were captured and are in the packet, the octets, and
+-- a comment (opt_comment)
+unfoldable pub packet_body : ℕ → ℕ → List ℕ → List ℕ → List ℕ
+packet_body number moment octets comment =
+    number32 number ++ number32 (moment / 2 ^ 32) ++ number32 (moment % 2 ^ 32) ++ number32 (length octets) ++ number32 (length octets) ++ padded octets
+    ++ option_of 1 comment ++ end_of_options
+
+abbrev pub packet : ℕ → ℕ → List ℕ → List ℕ → List ℕ
+packet number moment octets comment = block 6 (packet_body number moment octets comment)
+
+-- ---- what fits
+
+-- the lengths in a block fit their fields
+pub record FitsSection (program : List ℕ) : Type 0 where
+  pub program_fits : length program < 2 ^ 16
+  pub block_fits : length (section_body program) + 12 < 2 ^ 32
+
+pub record FitsInterface (name description : List ℕ) : Type 0 where
+  pub name_fits : length name < 2 ^ 16
+  pub description_fits : length description < 2 ^ 16
+  pub block_fits : length (interface_body name description) + 12 < 2 ^ 32
+
+pub record FitsPacket (number moment : ℕ) (octets comment : List ℕ) : Type 0 where
+  pub comment_fits : length comment < 2 ^ 16
+  pub block_fits : length (packet_body number moment octets comment) + 12 < 2 ^ 32

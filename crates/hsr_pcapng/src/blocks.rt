@@ -1,0 +1,140 @@
+//! The section header, an interface, a packet.
+ghost use Rattle.std.specs.Prelude.{◌≡◌, ◌+◌, ◌++◌, ◌≤◌, ◌<◌, ◌^◌, length, IfErr, IfOk, OnOk};
+ghost use Rattle.hsr_pcapng.specs.Blocks.{FitsInterface, FitsPacket, FitsSection, block, interface, interface_body, packet, packet_body, section_body, section_header};
+ghost use Rattle.hsr_pcapng.specs.Faults.{IfTooLong};
+
+use crate::fault::BlockFault;
+use crate::octets::{put_end_of_options, put_option, put_padded, put_u16, put_u32};
+use std::alloc::Global;
+
+/// Puts a block last: its type, its length, its body, and its length again. `TooLong` exactly where its length doesn't fit.
+#[tactic(auto, unfolding(crate::specs::Blocks::block))]
+fn put_block(text: &mut Vec<u8>, kind: u32, body: &[u8]) -> Result<(), BlockFault>
+    ensures bytes { OnOk result (text.new.items ≡ text.old.items ++ block kind body.now) }
+    ensures fits { OnOk result (length body.now + 12 < 2 ^ 32) }
+    ensures too_long { IfErr result (IfTooLong (2 ^ 32 ≤ length body.now + 12)) }
+{
+    let Ok(length) = u32::try_from(body.len()) else {
+        return Err(BlockFault::TooLong);
+    };
+    let Some(length) = length.checked_add(12) else {
+        return Err(BlockFault::TooLong);
+    };
+    put_u32(text, kind)?;
+    put_u32(text, length)?;
+    text.extend_from_slice(body)?;
+    put_u32(text, length)?;
+    Ok(())
+}
+
+/// Puts a section header last, with the name of the program that wrote the capture. `TooLong` exactly where a length doesn't fit.
+pub fn put_section_header(
+    alloc: Global,
+    text: &mut Vec<u8>,
+    program: &[u8],
+) -> Result<(), BlockFault>
+    ensures bytes { OnOk result (text.new.items ≡ text.old.items ++ section_header program.now) }
+    ensures fits { OnOk result (FitsSection program.now) }
+    ensures too_long { IfErr result (IfTooLong (FitsSection program.now → ⊥)) }
+{
+    let body = section_body(alloc, program)?;
+    put_block(text, 0x0A0D_0D0A, body.as_slice())
+}
+
+/// The body of a section header.
+#[tactic(auto, unfolding(crate::specs::Blocks::section_body))]
+fn section_body(alloc: Global, program: &[u8]) -> Result<Vec<u8>, BlockFault>
+    ensures bytes { IfOk result (λ body. body.items ≡ section_body program.now) }
+    ensures fits { OnOk result (length program.now < 2 ^ 16) }
+    ensures too_long { IfErr result (IfTooLong (2 ^ 16 ≤ length program.now)) }
+{
+    let mut body = Vec::new(alloc);
+    put_u32(&mut body, 0x1A2B_3C4D)?;
+    put_u16(&mut body, 1)?;
+    put_u16(&mut body, 0)?;
+    body.extend_from_slice(b"\xFF\xFF\xFF\xFF\xFF\xFF\xFF\xFF")?;
+    put_option(&mut body, 4, program)?;
+    put_end_of_options(&mut body)?;
+    Ok(body)
+}
+
+/// The body of an interface's description.
+#[tactic(auto, unfolding(crate::specs::Blocks::interface_body))]
+fn interface_body(alloc: Global, name: &[u8], description: &[u8]) -> Result<Vec<u8>, BlockFault>
+    ensures bytes { IfOk result (λ body. body.items ≡ interface_body name.now description.now) }
+    ensures name { OnOk result (length name.now < 2 ^ 16) }
+    ensures description { OnOk result (length description.now < 2 ^ 16) }
+    ensures too_long { IfErr result (IfTooLong (length name.now < 2 ^ 16 → length description.now < 2 ^ 16 → ⊥)) }
+{
+    let mut body = Vec::new(alloc);
+    put_u16(&mut body, 1)?;
+    put_u16(&mut body, 0)?;
+    put_u32(&mut body, 0)?;
+    put_option(&mut body, 2, name)?;
+    put_option(&mut body, 3, description)?;
+    put_option(&mut body, 9, b"\x06")?;
+    put_end_of_options(&mut body)?;
+    Ok(body)
+}
+
+/// Puts the description of an Ethernet interface last, with its name and its description; its moments are microseconds.
+/// `TooLong` exactly where a length doesn't fit.
+pub fn put_interface(
+    alloc: Global,
+    text: &mut Vec<u8>,
+    name: &[u8],
+    description: &[u8],
+) -> Result<(), BlockFault>
+    ensures bytes { OnOk result (text.new.items ≡ text.old.items ++ interface name.now description.now) }
+    ensures fits { OnOk result (FitsInterface name.now description.now) }
+    ensures too_long { IfErr result (IfTooLong (FitsInterface name.now description.now → ⊥)) }
+{
+    let body = interface_body(alloc, name, description)?;
+    put_block(text, 1, body.as_slice())
+}
+
+/// The body of a packet.
+#[tactic(auto, unfolding(crate::specs::Blocks::packet_body))]
+fn packet_body(
+    alloc: Global,
+    interface: u32,
+    moment: u64,
+    octets: &[u8],
+    comment: &[u8],
+) -> Result<Vec<u8>, BlockFault>
+    ensures bytes { IfOk result (λ body. body.items ≡ packet_body interface moment octets.now comment.now) }
+    ensures fits { OnOk result (length comment.now < 2 ^ 16) }
+    ensures too_long { IfErr result (IfTooLong (FitsPacket interface moment octets.now comment.now → ⊥)) }
+{
+    let Ok(length) = u32::try_from(octets.len()) else {
+        return Err(BlockFault::TooLong);
+    };
+    let mut body = Vec::new(alloc);
+    put_u32(&mut body, interface)?;
+    put_u32(&mut body, (moment >> 32) as u32)?;
+    put_u32(&mut body, (moment & 0xFFFF_FFFF) as u32)?;
+    put_u32(&mut body, length)?;
+    put_u32(&mut body, length)?;
+    put_padded(&mut body, octets)?;
+    put_option(&mut body, 1, comment)?;
+    put_end_of_options(&mut body)?;
+    Ok(body)
+}
+
+/// Puts a packet last: the number of its interface, its moment in microseconds, its octets, and a comment. `TooLong` exactly
+/// where a length doesn't fit.
+pub fn put_packet(
+    alloc: Global,
+    text: &mut Vec<u8>,
+    interface: u32,
+    moment: u64,
+    octets: &[u8],
+    comment: &[u8],
+) -> Result<(), BlockFault>
+    ensures bytes { OnOk result (text.new.items ≡ text.old.items ++ packet interface moment octets.now comment.now) }
+    ensures fits { OnOk result (FitsPacket interface moment octets.now comment.now) }
+    ensures too_long { IfErr result (IfTooLong (FitsPacket interface moment octets.now comment.now → ⊥)) }
+{
+    let body = packet_body(alloc, interface, moment, octets, comment)?;
+    put_block(text, 6, body.as_slice())
+}

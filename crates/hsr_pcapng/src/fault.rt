@@ -1,0 +1,34 @@
+//! Why a block can't be written.
+use hsr_frame::NoMemory;
+use std::alloc::AllocError;
+
+/// Why a block can't be written.
+#[derive(Clone, Copy, Debug, PartialEq, Eq)]
+pub enum BlockFault {
+    /// The value of an option has over 65535 octets, or a block 2^32 octets or more.
+    TooLong,
+    /// Room was refused.
+    NoMemory,
+}
+
+impl From<AllocError> for BlockFault {
+    ghost use Rattle.std.specs.Prelude.{◌≡◌};
+    ghost use Rattle.hsr_pcapng.specs.declared.fault.BlockFault.TheVariants.{NoMemory as NoRoom};
+
+    ghost from_gives = { λ _ fault. fault ≡ NoRoom };
+
+    fn from(_refused: AllocError) -> BlockFault {
+        BlockFault::NoMemory
+    }
+}
+
+impl From<NoMemory> for BlockFault {
+    ghost use Rattle.std.specs.Prelude.{◌≡◌};
+    ghost use Rattle.hsr_pcapng.specs.declared.fault.BlockFault.TheVariants.{NoMemory as NoRoom};
+
+    ghost from_gives = { λ _ fault. fault ≡ NoRoom };
+
+    fn from(_refused: NoMemory) -> BlockFault {
+        BlockFault::NoMemory
+    }
+}

@@ -1,0 +1,18 @@
+//! The rows of a finished run in the order of time.
+//!
+//! Its modules, in the order in which to read them:
+//! - `shown`: a row in that order
+//! - `pairs`: effects with their causes, by an index
+//! - `mains`: the main worker's entries, each with the one before
+//! - `origins`: of each entry, its moment and what it follows
+//! - `telling`: the rows in order, its call
+#![tactic(auto)]
+
+mod mains;
+mod origins;
+mod pairs;
+mod shown;
+mod telling;
+
+pub use shown::Shown;
+pub use telling::{StoryFault, story};
