@@ -1,0 +1,85 @@
+//! Reads the words of a command line, by clap.
+ghost use Rattle.std.specs.Prelude.{◌≡◌};
+
+use clap::error::ErrorKind;
+use clap::{Arg, Command, Error};
+use std::alloc::{AllocError, Global};
+
+const ENDS: &str = "\
+A plan is TOML, read from standard input:
+  title, ring = [names] or a table [rings] with a list of names for each (a name in two rings is a QuadBox),
+  redbox = {name = [stations]}, address = {name = \"02-..\"}, mode = {name = \"N\"}, capacity, life_ms (2000, 0 for
+  none), until_us, and moves: \"each send drains\" (where it isn't there) or \"each moment drains\"
+  [[stream]]  from (a name or a list), to (a name or an address), type (\"goose\", \"sv\" or a number), size, vlan,
+              priority, start_us (one or a list), every_us, grow, most_us, count, until_us
+  [[event]]   at_us, and one of cut = [two ends], mend = [two ends], off = name, on = name
+The scenario is written on standard output.
+
+docs/USING.md says what to look up where.
+
+Status 0: the scenario was written. Status 1: there is none, and one line on standard error says why, with line
+and column of the word. Status 3: the words of the command line are refused.
+
+Example: hsr_plan < plan.toml > plan.scenario && hsr_bench run --budget < plan.scenario";
+
+/// Why words are refused.
+#[derive(Drop)]
+pub enum WordsFault {
+    /// The text says why, or is the help that was asked for.
+    Usage { text: String },
+    Memory,
+}
+
+impl From<AllocError> for WordsFault {
+    ghost use Rattle.hsr_plan.specs.declared.command_line.WordsFault.TheVariants.{Memory};
+
+    ghost from_gives = { λ _ f. f ≡ Memory };
+
+    fn from(_e: AllocError) -> WordsFault {
+        WordsFault::Memory
+    }
+}
+
+fn table_arg<'a>(alloc: Global, tables: &'a [&'a str]) -> Arg<'a> {
+    Arg::new(alloc, "table")
+        .long("table")
+        .help(
+            "The tables of the run that will follow: small or large; these plans don't depend on it",
+        )
+        .value_parser(tables)
+        .default_value(size_word(true))
+}
+
+fn plan_command<'a>(alloc: Global, tables: &'a [&'a str]) -> Result<Command<'a>, AllocError> {
+    Command::new(alloc, "hsr_plan")
+        .about("Writes the scenario that a plan of a network means, for hsr_bench")
+        .no_binary_name(true)
+        .after_help(ENDS)
+        .arg(table_arg(alloc, tables))
+}
+
+/// The text of a refusal.
+fn refused(alloc: Global, error: &Error) -> WordsFault {
+    if error.kind() == ErrorKind::OutOfMemory {
+        return WordsFault::Memory;
+    }
+    match format!(in alloc; "{error}") {
+        Ok(text) => WordsFault::Usage { text },
+        Err(_) => WordsFault::Memory,
+    }
+}
+
+/// The word of a size of tables.
+fn size_word(is_large: bool) -> &'static str {
+    if is_large { "large" } else { "small" }
+}
+
+/// Refuses words that the program doesn't take. What is taken is `--table`, with `small` or `large`.
+pub fn check_words<'a>(alloc: Global, words: &'a [&'a str]) -> Result<(), WordsFault> {
+    let tables = [size_word(false), size_word(true)];
+    let command = plan_command(alloc, tables.as_slice())?;
+    match command.try_get_matches_from(words) {
+        Ok(_) => Ok(()),
+        Err(error) => Err(refused(alloc, &error)),
+    }
+}

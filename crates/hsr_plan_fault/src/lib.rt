@@ -1,0 +1,10 @@
+//! How a fault of a plan is told: line, column, and what is wrong.
+//!
+//! Its modules, in the order to read them: `position`, `telling`.
+#![tactic(auto)]
+
+mod position;
+mod telling;
+
+pub use position::{Position, position_of, whole_word};
+pub use telling::told;

@@ -1,0 +1,4 @@
+pub mod Lists
+pub mod Moments
+pub mod Running
+pub mod Telling

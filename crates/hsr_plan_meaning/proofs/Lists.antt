@@ -1,0 +1,58 @@
+-- Each name, event and stream of a list.
+use Rattle.std.proofs.Common.{◌≡◌, ℕ, ◌+◌, ◌<◌, ◌∙◌, ◌++◌, length, get_or, drop, List, [], ◌∷◌, Option, Result, Ok, ap, sym, subst}
+use Rattle.std.proofs.lemmas.List.{drop_more}
+use Rattle.hsr_topology.specs.declared.end.End.{End}
+use Rattle.hsr_plan_text.proofs.Lists.{stays, stays_at}
+use Rattle.hsr_plan_text.specs.Fallible.{◌>>=◌, Fails, FailsAt, at_spot}
+use Rattle.hsr_plan_text.specs.Plan.{Stream}
+use Rattle.hsr_plan_text.specs.declared.fault.PlanFault.{PlanFault}
+use Rattle.hsr_plan_text.specs.declared.fault.Spot.TheVariants as spot
+use Rattle.hsr_plan_text.specs.declared.fault.What.{What}
+use Rattle.hsr_plan_text.specs.declared.plan.Event.{Event}
+use Rattle.hsr_plan_network.specs.Nodes.{Node}
+use Rattle.hsr_plan_meaning.specs.Senders.{source, sources}
+use Rattle.hsr_plan_meaning.specs.Events.{event}
+use Rattle.hsr_plan_meaning.specs.Moments.{sends}
+use Rattle.hsr_plan_meaning.specs.Occasions.{events_from, sends_from}
+use Rattle.hsr_plan_meaning.specs.declared.occasion.Occasion.{Occasion}
+use Rattle.hsr_plan_meaning.specs.declared.occasion.Sender.{Sender}
+
+-- ---- senders
+
+pub sources_step : (nodes : List Node) (dst : List ℕ) (seen : List Sender) (ns : List (List ℕ)) (i : ℕ) (d : List ℕ) (s : Sender) → i < length ns
+    → source nodes dst (get_or ns i d) ≡ Ok s → sources nodes dst seen (drop i ns) ≡ sources nodes dst (seen ++ s ∷ []) (drop (i + 1) ns)
+sources_step nodes dst seen ns i d s h e =
+    ap (sources nodes dst seen) (drop_more ns i d h) ∙ ap (λ r. r >>= λ s. sources nodes dst (seen ++ s ∷ []) (drop (i + 1) ns)) e
+
+pub sources_fail : (nodes : List Node) (dst : List ℕ) (seen : List Sender) (ns : List (List ℕ)) (i : ℕ) (d : List ℕ) (what : What) (whole : Result (List Sender) What) → i < length ns
+    → sources nodes dst seen (drop i ns) ≡ whole → Fails what (source nodes dst (get_or ns i d)) → Fails what whole
+sources_fail nodes dst seen ns i d what whole h same f =
+    subst (Fails what) (sym (ap (sources nodes dst seen) (drop_more ns i d h)) ∙ same) (stays what (source nodes dst (get_or ns i d)) (λ s. sources nodes dst (seen ++ s ∷ []) (drop (i + 1) ns)) f)
+
+-- ---- events
+
+pub events_step : (nodes : List Node) (links : List (List End)) (seen : List Occasion) (es : List Event) (i : ℕ) (d : Event) (o : Occasion) → i < length es
+    → at_spot (spot.Event (length seen)) (event nodes links (get_or es i d)) ≡ Ok o
+    → events_from nodes links seen (drop i es) ≡ events_from nodes links (seen ++ o ∷ []) (drop (i + 1) es)
+events_step nodes links seen es i d o h e =
+    ap (events_from nodes links seen) (drop_more es i d h) ∙ ap (λ r. r >>= λ o. events_from nodes links (seen ++ o ∷ []) (drop (i + 1) es)) e
+
+pub events_fail : (nodes : List Node) (links : List (List End)) (seen : List Occasion) (es : List Event) (i : ℕ) (d : Event) (e : PlanFault) (whole : Result (List Occasion) PlanFault) → i < length es
+    → events_from nodes links seen (drop i es) ≡ whole → FailsAt e e.what (at_spot (spot.Event (length seen)) (event nodes links (get_or es i d))) → FailsAt e e.what whole
+events_fail nodes links seen es i d e whole h same f =
+    subst (FailsAt e e.what) (sym (ap (events_from nodes links seen) (drop_more es i d h)) ∙ same)
+    (stays_at e e.what (at_spot (spot.Event (length seen)) (event nodes links (get_or es i d))) (λ o. events_from nodes links (seen ++ o ∷ []) (drop (i + 1) es)) f)
+
+-- ---- streams
+
+pub sends_step : (nodes : List Node) (until : Option ℕ) (seen : List Occasion) (ss : List Stream) (i : ℕ) (d : Stream) (os : List Occasion) → i < length ss
+    → at_spot (spot.Stream i) (sends nodes until i (get_or ss i d)) ≡ Ok os
+    → sends_from nodes until seen i (drop i ss) ≡ sends_from nodes until (seen ++ os) (i + 1) (drop (i + 1) ss)
+sends_step nodes until seen ss i d os h e =
+    ap (sends_from nodes until seen i) (drop_more ss i d h) ∙ ap (λ r. r >>= λ os. sends_from nodes until (seen ++ os) (i + 1) (drop (i + 1) ss)) e
+
+pub sends_fail : (nodes : List Node) (until : Option ℕ) (seen : List Occasion) (ss : List Stream) (i : ℕ) (d : Stream) (e : PlanFault) (whole : Result (List Occasion) PlanFault) → i < length ss
+    → sends_from nodes until seen i (drop i ss) ≡ whole → FailsAt e e.what (at_spot (spot.Stream i) (sends nodes until i (get_or ss i d))) → FailsAt e e.what whole
+sends_fail nodes until seen ss i d e whole h same f =
+    subst (FailsAt e e.what) (sym (ap (sends_from nodes until seen i) (drop_more ss i d h)) ∙ same)
+    (stays_at e e.what (at_spot (spot.Stream i) (sends nodes until i (get_or ss i d))) (λ os. sends_from nodes until (seen ++ os) (i + 1) (drop (i + 1) ss)) f)

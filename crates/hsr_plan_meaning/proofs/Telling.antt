@@ -1,0 +1,25 @@
+-- Links that change, and occasions that are told.
+use Rattle.std.proofs.Common.{◌≡◌, ℕ, ◌+◌, ◌<◌, ◌∙◌, ◌++◌, Bool, length, get_or, drop, List, [], ◌∷◌, ap, sym, append_assoc}
+use Rattle.std.proofs.lemmas.List.{drop_more}
+use Rattle.hsr_topology.specs.declared.end.End.{End}
+use Rattle.hsr_scenario.specs.declared.steps.Order.{Order}
+use Rattle.hsr_plan_text.specs.Plan.{Stream}
+use Rattle.hsr_plan_text.specs.declared.plan.Moves.{Moves}
+use Rattle.hsr_plan_meaning.specs.Orders.{Told, change, changes, downs, flag, is_down, tell, tell_all}
+use Rattle.hsr_plan_meaning.specs.declared.occasion.Occasion.{Occasion}
+
+pub downs_step : (seen off cut : List Bool) (links : List (List End)) (i : ℕ) (d : List End) → i < length links
+    → seen ++ downs off cut i (drop i links) ≡ (seen ++ is_down off cut i (get_or links i d) ∷ []) ++ downs off cut (i + 1) (drop (i + 1) links)
+downs_step seen off cut links i d h =
+    ap (λ ls. seen ++ downs off cut i ls) (drop_more links i d h)
+    ∙ sym (append_assoc seen (is_down off cut i (get_or links i d) ∷ []) (downs off cut (i + 1) (drop (i + 1) links)))
+
+pub changes_step : (seen : List Order) (after before : List Bool) (i : ℕ) (d : Bool) → i < length before
+    → seen ++ changes after i (drop i before) ≡ (seen ++ change (get_or before i d) (flag after i) i) ++ changes after (i + 1) (drop (i + 1) before)
+changes_step seen after before i d h =
+    ap (λ bs. seen ++ changes after i bs) (drop_more before i d h)
+    ∙ sym (append_assoc seen (change (get_or before i d) (flag after i) i) (changes after (i + 1) (drop (i + 1) before)))
+
+pub tell_step : (moves : Moves) (links : List (List End)) (streams : List Stream) (told : Told) (os : List Occasion) (i : ℕ) (d : Occasion) → i < length os
+    → tell_all moves links streams told (drop i os) ≡ tell_all moves links streams (tell moves links streams (get_or os i d) told) (drop (i + 1) os)
+tell_step moves links streams told os i d h = ap (tell_all moves links streams told) (drop_more os i d h)

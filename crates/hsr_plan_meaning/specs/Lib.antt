@@ -1,0 +1,6 @@
+pub mod Senders
+pub mod Events
+pub mod Moments
+pub mod Occasions
+pub mod Orders
+pub mod Meaning

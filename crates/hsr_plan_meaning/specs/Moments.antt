@@ -1,0 +1,98 @@
+-- When supervision and the frames of streams are sent.
+use Rattle.std.specs.Prelude.{ℕ, zero, suc, ◌+◌, ◌*◌, ◌^◌, min, nat_lt, nat_le, ◌==◌, Bool, true, false, List, [], ◌∷◌, ◌++◌, length, slice_get, Option, Some, None, Result, Ok, Err, unwrap_or, if◌then◌else◌}
+use Rattle.hsr_node.specs.declared.place.Place.{Place}
+use Rattle.hsr_node.specs.declared.place.Place.TheVariants.{Danh, RedBox, QuadBox, Station}
+use Rattle.hsr_plan_text.specs.Fallible.{◌>>=◌, guard}
+use Rattle.hsr_plan_text.specs.Plan.{Outline, Stream, Timing}
+use Rattle.hsr_plan_text.specs.declared.fault.Key.TheVariants as key
+use Rattle.hsr_plan_text.specs.declared.fault.What.{What}
+use Rattle.hsr_plan_text.specs.declared.fault.What.TheVariants.{Refused}
+use Rattle.hsr_plan_text.specs.declared.fault.Refusal.TheVariants.{Endless, TooMany}
+use Rattle.hsr_plan_network.specs.Nodes.{Node}
+use Rattle.hsr_plan_meaning.specs.Senders.{sources, target}
+use Rattle.hsr_plan_meaning.specs.declared.occasion.Happening.TheVariants.{Life, Send}
+use Rattle.hsr_plan_meaning.specs.declared.occasion.Occasion.{Occasion}
+use Rattle.hsr_plan_meaning.specs.declared.occasion.Sender.{Sender}
+use Rattle.hsr_plan_meaning.specs.declared.occasion.Sent.{Sent}
+
+-- ---- supervision
+
+abbrev pub supervises : Place → Bool
+supervises (Danh mac mode) = true
+supervises (RedBox mac mode) = true
+supervises QuadBox = false
+supervises (Station macs) = false
+
+abbrev pub life_of : Place → ℕ → ℕ → List Occasion
+life_of place at k = if supervises place then record { at = at; what = Life k } ∷ [] else []
+
+-- each DANH and each RedBox, of nodes that follow k others
+abbrev pub lives_at : ℕ → ℕ → List Node → List Occasion
+lives_at at k [] = []
+lives_at at k (node ∷ nodes) = life_of node.place at k ++ lives_at at (k + 1) nodes
+
+-- so many rounds at most, from a moment on
+unfoldable pub rounds : ℕ → ℕ → ℕ → ℕ → List Node → List Occasion
+rounds zero at every until nodes = []
+rounds (suc n) at every until nodes = if nat_lt at until then lives_at at 0 nodes ++ rounds n (at + every) every until nodes else []
+
+-- at most 16384 rounds
+abbrev pub lives_until : ℕ → Option ℕ → List Node → Result (List Occasion) What
+lives_until every None nodes = Err (Refused (Endless key.Until))
+lives_until every (Some until) nodes = guard (nat_le until (every * 16384)) (Refused (TooMany key.Life)) >>= λ _. Ok (rounds 16384 0 every until nodes)
+
+abbrev pub lives : Outline → List Node → Result (List Occasion) What
+lives outline nodes = if outline.life == 0 then Ok [] else lives_until outline.life outline.until nodes
+
+-- ---- streams
+
+-- the earlier of two moments
+abbrev pub earlier : Option ℕ → Option ℕ → Option ℕ
+earlier None b = b
+earlier (Some a) None = Some a
+earlier (Some a) (Some b) = Some (min a b)
+
+abbrev pub end_if : Option ℕ → Option ℕ → Result ℕ What
+end_if (Some until) count = Ok until
+end_if None (Some count) = Ok (2 ^ 41)
+end_if None None = Err (Refused (Endless key.Every))
+
+-- where a stream ends: with itself or with the plan; one that has a count needs no end
+abbrev pub end_of : Option ℕ → Timing → Result ℕ What
+end_of until timing = end_if (earlier until timing.until) timing.count
+
+-- how many are sent from a start on at most
+abbrev pub most_sent : Option ℕ → ℕ
+most_sent None = 2 ^ 20 + 1
+most_sent (Some count) = min count (2 ^ 20 + 1)
+
+-- frames of one sender from one start on, so many at most: from the k-th, at a moment, with this gap to the next
+unfoldable pub run : ℕ → ℕ → ℕ → ℕ → Timing → ℕ → Sent → List Occasion
+run zero k at gap timing until sent = []
+run (suc n) k at gap timing until sent = if nat_lt at until
+    then record { at = at; what = Send (record sent { count = k }) } ∷ run n (k + 1) (at + gap) (min (gap * timing.grow) timing.most) timing until sent
+    else []
+
+-- a start ends the one before it
+abbrev pub next_end : Option ℕ → ℕ → ℕ
+next_end None until = until
+next_end (Some start) until = min start until
+
+-- frames of one sender, of starts that follow s others
+abbrev pub runs : ℕ → List ℕ → Timing → ℕ → Sent → List Occasion
+runs s [] timing until sent = []
+runs s (start ∷ more) timing until sent =
+    run (most_sent timing.count) 0 start (min timing.every timing.most) timing (next_end (slice_get timing.starts (s + 1)) until) (record sent { state = s })
+    ++ runs (s + 1) more timing until sent
+
+-- frames of senders that follow j others, of a stream with this number
+abbrev pub sent_by : ℕ → ℕ → List Sender → Timing → ℕ → List ℕ → List Occasion
+sent_by i j [] timing until dst = []
+sent_by i j (s ∷ more) timing until dst =
+    runs 0 timing.starts timing until (record { stream = i; place = j; sender = s; dst = dst; state = 0; count = 0 })
+    ++ sent_by i (j + 1) more timing until dst
+
+-- all frames of a stream
+abbrev pub sends : List Node → Option ℕ → ℕ → Stream → Result (List Occasion) What
+sends nodes until i stream = target nodes stream.framing.target >>= λ dst. sources nodes dst [] stream.from
+    >>= λ senders. end_of until stream.timing >>= λ until. Ok (sent_by i 0 senders stream.timing until dst)

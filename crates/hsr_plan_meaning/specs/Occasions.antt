@@ -1,0 +1,37 @@
+-- All that happens in a plan, moment by moment.
+use Rattle.std.specs.Prelude.{ℕ, ◌+◌, ◌^◌, nat_le, List, [], ◌∷◌, ◌++◌, length, Option, Result, Ok, Err, if◌then◌else◌}
+use Rattle.hsr_plan_text.specs.Fallible.{◌>>=◌, at_spot}
+use Rattle.hsr_plan_text.specs.Plan.{Plan, Stream}
+use Rattle.hsr_plan_text.specs.declared.fault.Key.TheVariants as key
+use Rattle.hsr_plan_text.specs.declared.fault.PlanFault.{PlanFault}
+use Rattle.hsr_plan_text.specs.declared.fault.Refusal.TheVariants.{TooMany}
+use Rattle.hsr_plan_text.specs.declared.fault.Spot.TheVariants as spot
+use Rattle.hsr_plan_text.specs.declared.fault.What.TheVariants.{Refused}
+use Rattle.hsr_plan_text.specs.declared.plan.Event.{Event}
+use Rattle.hsr_plan_network.specs.Nodes.{Node}
+use Rattle.hsr_plan_meaning.specs.Events.{event}
+use Rattle.hsr_plan_meaning.specs.Moments.{lives, sends}
+use Rattle.hsr_plan_meaning.specs.declared.occasion.Occasion.{Occasion}
+use Rattle.hsr_topology.specs.declared.end.End.{End}
+
+-- events that follow others, as they are listed
+abbrev pub events_from : List Node → List (List End) → List Occasion → List Event → Result (List Occasion) PlanFault
+events_from nodes links seen [] = Ok seen
+events_from nodes links seen (e ∷ es) = at_spot (spot.Event (length seen)) (event nodes links e) >>= λ o. events_from nodes links (seen ++ o ∷ []) es
+
+-- the frames of streams that follow i others
+abbrev pub sends_from : List Node → Option ℕ → List Occasion → ℕ → List Stream → Result (List Occasion) PlanFault
+sends_from nodes until seen i [] = Ok seen
+sends_from nodes until seen i (s ∷ ss) = at_spot (spot.Stream i) (sends nodes until i s) >>= λ os. sends_from nodes until (seen ++ os) (i + 1) ss
+
+abbrev pub events_and_lives : Plan → List Node → List (List End) → Result (List Occasion) PlanFault
+events_and_lives plan nodes links =
+    events_from nodes links [] plan.events >>= λ events. at_spot spot.Top (lives plan.outline nodes) >>= λ lives. Ok (events ++ lives)
+
+abbrev pub not_too_many : List Occasion → Result (List Occasion) PlanFault
+not_too_many all = if nat_le (length all) (2 ^ 20) then Ok all else Err (record { spot = spot.Top; what = Refused (TooMany key.Stream) })
+
+-- events, supervision, streams: in this order they come at one moment; at most 2^20 of all
+abbrev pub occasions : Plan → List Node → List (List End) → Result (List Occasion) PlanFault
+occasions plan nodes links =
+    events_and_lives plan nodes links >>= λ first. sends_from nodes plan.outline.until first 0 plan.streams >>= not_too_many

@@ -1,0 +1,171 @@
+//! When the frames of streams are sent.
+ghost use Rattle.std.specs.Prelude.{◌≡◌, ◌++◌, ◌+◌, ◌≤◌, ◌<◌, ◌^◌, min, slice_get, IfOk, OnOk};
+ghost use Rattle.hsr_plan_text.specs.Fallible.{Gives};
+ghost use Rattle.hsr_plan_meaning.specs.Moments.{earlier, end_of, most_sent, next_end, run, runs, sends, sent_by};
+
+use crate::occasion::{Happening, Occasion, Sender, Sent};
+use crate::senders::{sources, target};
+use hsr_frame::{Mac, NoMemory};
+use hsr_plan_network::Node;
+use hsr_plan_text::{Key, Refusal, Stream, Timing, What};
+use std::alloc::Global;
+
+/// The most occasions of a plan.
+const MOST: u64 = 1 << 20;
+
+/// Behind the last moment that a plan may name.
+const BEHIND: u64 = 1 << 41;
+
+/// The earlier of two moments.
+fn earlier(one: Option<u64>, other: Option<u64>) -> Option<u64>
+    ensures { result ≡ earlier one other }
+{
+    match (one, other) {
+        (Some(one), Some(other)) => Some(one.min(other)),
+        (Some(one), None) => Some(one),
+        (None, other) => other,
+    }
+}
+
+/// Where a stream ends.
+fn end_of(until: Option<u64>, timing: &Timing) -> Result<u64, What>
+    ensures { Gives (λ n. n) result (end_of until timing.now) }
+{
+    match (earlier(until, timing.until), timing.count) {
+        (Some(until), _) => Ok(until),
+        (None, Some(_)) => Ok(BEHIND),
+        (None, None) => Err(What::Refused(Refusal::Endless(Key::Every))),
+    }
+}
+
+/// How many frames are sent from a start on at most.
+fn most_sent(count: Option<u64>) -> u64
+    ensures value { result ≡ most_sent count }
+    ensures most { result ≤ 2 ^ 20 + 1 }
+{
+    match count {
+        None => MOST + 1,
+        Some(count) => count.min(MOST + 1),
+    }
+}
+
+/// Puts the frames of one sender from one start on behind other occasions.
+#[tactic(auto, using(crate::proofs::Running::run_step, crate::proofs::Running::run_stop, crate::proofs::Running::run_over))]
+fn add_run(
+    occasions: &mut Vec<Occasion>,
+    most: usize,
+    start: u64,
+    timing: &Timing,
+    until: u64,
+    sent: &Sent,
+) -> Result<(), NoMemory>
+    ensures { OnOk result (occasions.new.items ≡ occasions.old.items ++ run most 0 start (min timing.now.every timing.now.most) timing.now until sent.now) }
+{
+    let mut at = start;
+    let mut gap = timing.every.min(timing.most);
+    for count in 0..most {
+        if at >= until {
+            return Ok(());
+        }
+        let what = Happening::Send(sent.with_count(count));
+        occasions.push(Occasion { at, what })?;
+        at = at.saturating_add(gap);
+        gap = gap.saturating_mul(timing.grow).min(timing.most);
+    }
+    Ok(())
+}
+
+/// Where the frames from the start of that number on end.
+fn next_end(starts: &[u64], next: usize, until: u64) -> u64
+    ensures { result ≡ next_end (slice_get starts.now next) until }
+{
+    match starts.get(next) {
+        Some(start) => (*start).min(until),
+        None => until,
+    }
+}
+
+/// Puts the frames of one sender from the start of that number on behind other occasions.
+fn add_state(
+    occasions: &mut Vec<Occasion>,
+    timing: &Timing,
+    state: usize,
+    start: u64,
+    until: u64,
+    sent: &Sent,
+) -> Result<(), NoMemory>
+    requires { state < 2 ^ 63 }
+    ensures { OnOk result (occasions.new.items ≡ occasions.old.items
+        ++ run (most_sent timing.now.count) 0 start (min timing.now.every timing.now.most) timing.now (next_end (slice_get timing.now.starts (state + 1)) until) (record sent.now { state = state })) }
+{
+    let end = next_end(timing.starts.as_slice(), state + 1, until);
+    let most = most_sent(timing.count) as usize;
+    add_run(occasions, most, start, timing, end, &sent.with_state(state))
+}
+
+/// Puts the frames of one sender behind other occasions.
+#[tactic(auto, using(crate::proofs::Running::runs_step))]
+fn add_runs(
+    occasions: &mut Vec<Occasion>,
+    timing: &Timing,
+    until: u64,
+    sent: &Sent,
+) -> Result<(), NoMemory>
+    ensures { OnOk result (occasions.new.items ≡ occasions.old.items ++ runs 0 timing.now.starts timing.now until sent.now) }
+{
+    for (state, start) in timing.starts.iter().enumerate() {
+        add_state(occasions, timing, state, *start, until, sent)?;
+    }
+    Ok(())
+}
+
+/// The frames of senders, of the stream with this number.
+#[tactic(auto, using(crate::proofs::Running::sent_by_step))]
+fn sent_by(
+    alloc: Global,
+    stream: usize,
+    senders: &[Sender],
+    timing: &Timing,
+    until: u64,
+    dst: Mac,
+) -> Result<Vec<Occasion>, NoMemory>
+    ensures { IfOk result (λ v. v.items ≡ sent_by stream 0 senders.now timing.now until dst) }
+{
+    let mut occasions = Vec::new(alloc);
+    for (place, sender) in senders.iter().enumerate() {
+        let sent = Sent {
+            stream,
+            place,
+            sender: *sender,
+            dst,
+            state: 0,
+            count: 0,
+        };
+        add_runs(&mut occasions, timing, until, &sent)?;
+    }
+    Ok(occasions)
+}
+
+/// All frames of the stream with this number.
+pub(crate) fn sends(
+    alloc: Global,
+    nodes: &[Node],
+    until: Option<u64>,
+    number: usize,
+    stream: &Stream,
+) -> Result<Vec<Occasion>, What>
+    ensures { Gives (λ v. v.items) result (sends nodes.now until number stream.now) }
+{
+    let dst = target(alloc, nodes, &stream.framing.target)?;
+    let senders = sources(alloc, nodes, dst, stream.from.as_slice())?;
+    let until = end_of(until, &stream.timing)?;
+    let occasions = sent_by(
+        alloc,
+        number,
+        senders.as_slice(),
+        &stream.timing,
+        until,
+        dst,
+    )?;
+    Ok(occasions)
+}

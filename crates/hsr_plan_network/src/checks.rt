@@ -1,0 +1,233 @@
+//! What names a plan may not have.
+ghost use Rattle.std.specs.Prelude.{◌≡◌};
+ghost use Rattle.hsr_plan_text.specs.Fallible.{Gives};
+ghost use Rattle.hsr_plan_text.specs.declared.fault.Key.TheVariants as key;
+ghost use Rattle.hsr_plan_text.specs.declared.fault.Refusal.TheVariants as why;
+ghost use Rattle.hsr_plan_network.specs.Checks.{address_passes, each_once, each_passes, in_one, in_two, is_new, is_station, mode_passes, passes, redbox_passes, ring_passes, some_sixteen, unless_held};
+
+use crate::names::{is_in, times_met};
+use hsr_plan_text::{Addressed, Behind, InMode, Key, Network, Refusal, Ring, What, Word};
+use std::alloc::Global;
+
+/// Refuses a name that stands twice, unless it doesn't.
+fn once(alloc: Global, is_once: bool, name: &[u8]) -> Result<(), What>
+    ensures { Gives (λ u. u) result (unless_held is_once (why.NameTwice name.now)) }
+{
+    if is_once {
+        return Ok(());
+    }
+    let name = Word::of(alloc, name)?;
+    Err(What::Refused(Refusal::NameTwice(name)))
+}
+
+/// Refuses a name that nobody has, unless somebody has it.
+fn there(alloc: Global, is_there: bool, name: &[u8]) -> Result<(), What>
+    ensures { Gives (λ u. u) result (unless_held is_there (why.NoSuchName name.now)) }
+{
+    if is_there {
+        return Ok(());
+    }
+    let name = Word::of(alloc, name)?;
+    Err(What::Refused(Refusal::NoSuchName(name)))
+}
+
+/// Refuses names of which one stands again further on.
+#[tactic(auto, using(crate::proofs::Passing::once_step, crate::proofs::Passing::once_fails))]
+fn each_once(alloc: Global, names: &[Word]) -> Result<(), What>
+    ensures { Gives (λ u. u) result (each_once names.now) }
+{
+    for (i, name) in names.iter().enumerate() {
+        once(
+            alloc,
+            !is_in(name.as_bytes(), &names[i + 1..]),
+            name.as_bytes(),
+        )?;
+    }
+    Ok(())
+}
+
+// ---- rings
+
+/// Refuses a name in more than two rings.
+#[tactic(auto, unfolding(crate::specs::Checks::in_two))]
+fn in_two(alloc: Global, rings: &[Ring], name: &Word) -> Result<(), What>
+    ensures { Gives (λ u. u) result (in_two rings.now name.now) }
+{
+    let is_once = times_met(rings, name.as_bytes()) <= 2;
+    once(alloc, is_once, name.as_bytes())
+}
+
+/// Refuses names of which one is in more than two rings.
+#[tactic(auto, using(crate::proofs::Passing::two_step, crate::proofs::Passing::two_fails))]
+fn each_in_two(alloc: Global, rings: &[Ring], names: &[Word]) -> Result<(), What>
+    ensures { Gives (λ u. u) result (each_passes (in_two rings.now) names.now) }
+{
+    for name in names.iter() {
+        match in_two(alloc, rings, name) {
+            Ok(()) => {}
+            Err(what) => return Err(what),
+        }
+    }
+    Ok(())
+}
+
+/// Refuses a ring that has a name twice, or one that is in more than two rings.
+#[tactic(auto, unfolding(crate::specs::Checks::ring_passes))]
+fn check_ring(alloc: Global, rings: &[Ring], ring: &Ring) -> Result<(), What>
+    ensures { Gives (λ u. u) result (ring_passes rings.now ring.now) }
+{
+    each_once(alloc, ring.nodes.as_slice())?;
+    each_in_two(alloc, rings, ring.nodes.as_slice())
+}
+
+/// Refuses rings of which one is refused.
+#[tactic(auto, using(crate::proofs::Passing::rings_step, crate::proofs::Passing::rings_fails))]
+fn check_rings(alloc: Global, rings: &[Ring]) -> Result<(), What>
+    ensures { Gives (λ u. u) result (each_passes (ring_passes rings.now) rings.now) }
+{
+    for ring in rings.iter() {
+        match check_ring(alloc, rings, ring) {
+            Ok(()) => {}
+            Err(what) => return Err(what),
+        }
+    }
+    Ok(())
+}
+
+// ---- RedBoxes, addresses and modes
+
+/// Whether a name is in one ring.
+pub(crate) fn in_one(rings: &[Ring], name: &[u8]) -> bool
+    ensures { result ≡ in_one rings.now name.now }
+{
+    times_met(rings, name) == 1
+}
+
+/// Refuses a name of a ring.
+#[tactic(auto, unfolding(crate::specs::Checks::is_new))]
+fn is_new(alloc: Global, rings: &[Ring], name: &Word) -> Result<(), What>
+    ensures { Gives (λ u. u) result (is_new rings.now name.now) }
+{
+    let is_once = times_met(rings, name.as_bytes()) == 0;
+    once(alloc, is_once, name.as_bytes())
+}
+
+/// Refuses stations of which one has a name of a ring.
+#[tactic(auto, using(crate::proofs::Passing::new_step, crate::proofs::Passing::new_fails))]
+fn each_new(alloc: Global, rings: &[Ring], names: &[Word]) -> Result<(), What>
+    ensures { Gives (λ u. u) result (each_passes (is_new rings.now) names.now) }
+{
+    for name in names.iter() {
+        match is_new(alloc, rings, name) {
+            Ok(()) => {}
+            Err(what) => return Err(what),
+        }
+    }
+    Ok(())
+}
+
+/// Refuses a number of stations behind a RedBox.
+fn some_sixteen(names: &[Word]) -> Result<(), What>
+    ensures { Gives (λ u. u) result (unless_held (some_sixteen names.now) (why.TooMany key.RedBox)) }
+{
+    if !names.is_empty() && names.len() <= 16 {
+        Ok(())
+    } else {
+        Err(What::Refused(Refusal::TooMany(Key::RedBox)))
+    }
+}
+
+/// Refuses a RedBox that isn't in one ring, or hasn't 1 to 16 stations of new names.
+#[tactic(auto, unfolding(crate::specs::Checks::redbox_passes))]
+fn check_redbox(alloc: Global, rings: &[Ring], redbox: &Behind) -> Result<(), What>
+    ensures { Gives (λ u. u) result (redbox_passes rings.now redbox.now) }
+{
+    let name = redbox.redbox.as_bytes();
+    there(alloc, in_one(rings, name), name)?;
+    some_sixteen(redbox.stations.as_slice())?;
+    each_once(alloc, redbox.stations.as_slice())?;
+    each_new(alloc, rings, redbox.stations.as_slice())
+}
+
+/// Refuses RedBoxes of which one is refused.
+#[tactic(auto, using(crate::proofs::Passing::redboxes_step, crate::proofs::Passing::redboxes_fails))]
+fn check_redboxes(alloc: Global, rings: &[Ring], redboxes: &[Behind]) -> Result<(), What>
+    ensures { Gives (λ u. u) result (each_passes (redbox_passes rings.now) redboxes.now) }
+{
+    for redbox in redboxes.iter() {
+        match check_redbox(alloc, rings, redbox) {
+            Ok(()) => {}
+            Err(what) => return Err(what),
+        }
+    }
+    Ok(())
+}
+
+/// Whether a name is a station's.
+fn is_station(redboxes: &[Behind], name: &[u8]) -> bool
+    ensures { result ≡ is_station redboxes.now name.now }
+{
+    redboxes
+        .iter()
+        .any(|redbox| is_in(name, redbox.stations.as_slice()))
+}
+
+/// Refuses an address of what is neither a node in one ring nor a station.
+#[tactic(auto, unfolding(crate::specs::Checks::address_passes))]
+fn check_address(alloc: Global, network: &Network, address: &Addressed) -> Result<(), What>
+    ensures { Gives (λ u. u) result (address_passes network.now address.now) }
+{
+    let name = address.name.as_bytes();
+    let is_there = in_one(network.rings.as_slice(), name)
+        || is_station(network.redboxes.as_slice(), name);
+    there(alloc, is_there, name)
+}
+
+/// Refuses addresses of which one is refused.
+#[tactic(auto, using(crate::proofs::Passing::addresses_step, crate::proofs::Passing::addresses_fails))]
+fn check_addresses(alloc: Global, network: &Network, addresses: &[Addressed]) -> Result<(), What>
+    ensures { Gives (λ u. u) result (each_passes (address_passes network.now) addresses.now) }
+{
+    for address in addresses.iter() {
+        match check_address(alloc, network, address) {
+            Ok(()) => {}
+            Err(what) => return Err(what),
+        }
+    }
+    Ok(())
+}
+
+/// Refuses a mode of what isn't a node in one ring.
+#[tactic(auto, unfolding(crate::specs::Checks::mode_passes))]
+fn check_mode(alloc: Global, rings: &[Ring], mode: &InMode) -> Result<(), What>
+    ensures { Gives (λ u. u) result (mode_passes rings.now mode.now) }
+{
+    let name = mode.name.as_bytes();
+    there(alloc, in_one(rings, name), name)
+}
+
+/// Refuses modes of which one is refused.
+#[tactic(auto, using(crate::proofs::Passing::modes_step, crate::proofs::Passing::modes_fails))]
+fn check_modes(alloc: Global, rings: &[Ring], modes: &[InMode]) -> Result<(), What>
+    ensures { Gives (λ u. u) result (each_passes (mode_passes rings.now) modes.now) }
+{
+    for mode in modes.iter() {
+        match check_mode(alloc, rings, mode) {
+            Ok(()) => {}
+            Err(what) => return Err(what),
+        }
+    }
+    Ok(())
+}
+
+/// Refuses a network of which something is refused: rings, RedBoxes, addresses, then modes.
+#[tactic(auto, unfolding(crate::specs::Checks::passes))]
+pub(crate) fn check(alloc: Global, network: &Network) -> Result<(), What>
+    ensures { Gives (λ u. u) result (passes network.now) }
+{
+    let rings = network.rings.as_slice();
+    check_rings(alloc, rings)?;
+    check_redboxes(alloc, rings, network.redboxes.as_slice())?;
+    check_addresses(alloc, network, network.addresses.as_slice())?;
+    check_modes(alloc, rings, network.modes.as_slice())
+}

@@ -1,0 +1,2 @@
+pub mod Ber
+pub mod Payload

@@ -1,0 +1,79 @@
+//! Values with tags and lengths, and numbers in big endian.
+ghost use Rattle.std.specs.Prelude.{◌≡◌, ◌≤◌, ◌<◌, ◌^◌, ◌++◌, ◌∷◌, [], length, replicate, IfOk, OnOk};
+ghost use Rattle.hsr_plan_payload.specs.Ber.{four, integer, length_octets, pair, tagged};
+
+use hsr_frame::NoMemory;
+use std::alloc::Global;
+
+/// Puts the last two octets of a number behind others.
+pub(crate) fn put_pair(out: &mut Vec<u8>, number: usize) -> Result<(), NoMemory>
+    ensures { OnOk result (out.new.items ≡ out.old.items ++ pair number) }
+{
+    out.push((number / 256 % 256) as u8)?;
+    out.push((number % 256) as u8)?;
+    Ok(())
+}
+
+/// Puts the last four octets of a number behind others.
+pub(crate) fn put_four(out: &mut Vec<u8>, number: usize) -> Result<(), NoMemory>
+    ensures { OnOk result (out.new.items ≡ out.old.items ++ four number) }
+{
+    put_pair(out, number / 65536)?;
+    put_pair(out, number)
+}
+
+/// Puts zeros behind others.
+pub(crate) fn put_zeros(out: &mut Vec<u8>, count: usize) -> Result<(), NoMemory>
+    ensures { OnOk result (out.new.items ≡ out.old.items ++ replicate count 0) }
+{
+    for _done in 0..count {
+        out.push(0)?;
+    }
+    Ok(())
+}
+
+/// Puts the length of a value behind others.
+fn put_length(out: &mut Vec<u8>, count: usize) -> Result<(), NoMemory>
+    ensures { OnOk result (out.new.items ≡ out.old.items ++ length_octets count) }
+{
+    if count < 128 {
+        out.push(count as u8)?;
+    } else if count < 256 {
+        out.push(0x81)?;
+        out.push(count as u8)?;
+    } else {
+        out.push(0x82)?;
+        put_pair(out, count)?;
+    }
+    Ok(())
+}
+
+/// Puts a value with its tag and its length behind others.
+#[tactic(auto, unfolding(crate::specs::Ber::tagged))]
+pub(crate) fn put_tagged(out: &mut Vec<u8>, tag: u8, value: &[u8]) -> Result<(), NoMemory>
+    ensures { OnOk result (out.new.items ≡ out.old.items ++ tagged tag value.now) }
+{
+    out.push(tag)?;
+    put_length(out, value.len())?;
+    out.extend_from_slice(value)?;
+    Ok(())
+}
+
+/// An integer, 0 or more, as the value of a field.
+#[tactic(auto, unfolding(crate::specs::Ber::integer))]
+pub(crate) fn integer(alloc: Global, number: usize) -> Result<Vec<u8>, NoMemory>
+    ensures { IfOk result (λ v. v.items ≡ integer number) }
+{
+    let mut value = Vec::new(alloc);
+    if number < 128 {
+        value.push(number as u8)?;
+    } else if number < 32768 {
+        put_pair(&mut value, number)?;
+    } else if number < 8_388_608 {
+        value.push((number / 65536 % 256) as u8)?;
+        put_pair(&mut value, number)?;
+    } else {
+        put_four(&mut value, number)?;
+    }
+    Ok(value)
+}

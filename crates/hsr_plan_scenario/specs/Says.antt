@@ -1,0 +1,23 @@
+-- What it is for a text to be the scenario that a plan means.
+use Rattle.std.specs.Prelude.{◌≡◌, ℕ, ⊤, List, Result, Ok, Err}
+use Rattle.hsr_scenario.specs.Meaning.{Meant, meaning}
+use Rattle.hsr_plan_text.specs.Plan.{Plan}
+use Rattle.hsr_plan_text.specs.Meaning.{plan_of}
+use Rattle.hsr_plan_text.specs.declared.fault.PlanFault.{PlanFault}
+use Rattle.hsr_plan_meaning.specs.Meaning.{Meaning, Means}
+
+-- the scenario that is meant
+abbrev pub scenario_meant : Meaning → Meant
+scenario_meant m = record { topology = m.topology; capacity = m.capacity; steps = m.orders }
+
+-- a text is read as the scenario of what a plan means
+abbrev pub Says : Plan → List ℕ → Type 0
+Says plan text = (m : Meaning) × Means plan m × (meaning text ≡ Ok (scenario_meant m))
+
+abbrev pub SaysIf : Result Plan PlanFault → List ℕ → Type 0
+SaysIf (Ok plan) text = Says plan text
+SaysIf (Err fault) text = ⊥
+
+-- a text is read as the scenario of what another text means as a plan
+abbrev pub SaysPlan : List ℕ → List ℕ → Type 0
+SaysPlan plan text = SaysIf (plan_of plan) text

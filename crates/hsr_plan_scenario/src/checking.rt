@@ -1,0 +1,89 @@
+//! The text of a plan's scenario, checked against what the plan means.
+ghost use Rattle.std.specs.Prelude.{◌≡◌, IfOk, OnOk, Ok};
+ghost use Rattle.hsr_scenario.specs.Meaning.{meaning};
+ghost use Rattle.hsr_plan_scenario.specs.Says.{Says, SaysPlan, scenario_meant};
+
+use crate::same::is_meant;
+use crate::spelling::spelled;
+use hsr_plan_meaning::{Meaning, meaning_of};
+use hsr_plan_text::{Plan, PlanFault, Spot, What};
+use hsr_scenario::{TEXT_LIMIT, What as ScenarioWhat, read};
+use std::alloc::Global;
+
+/// Why there is no scenario of a plan.
+#[derive(Debug, Drop)]
+pub enum Trouble {
+    /// The text is no plan, or means nothing.
+    Plan(PlanFault),
+    /// The scenario would have so many octets, and 16 MiB is the most.
+    TooLong(usize),
+    /// The scenario's text isn't read as what the plan means.
+    Differs,
+}
+
+/// The trouble where room is refused.
+fn no_memory() -> Trouble {
+    Trouble::Plan(PlanFault {
+        spot: Spot::Top,
+        what: What::NoMemory,
+    })
+}
+
+/// Refuses a text that isn't read as what a plan means.
+fn check(alloc: Global, text: &[u8], meant: &Meaning) -> Result<(), Trouble>
+    ensures { OnOk result (meaning text.now ≡ Ok (scenario_meant meant.now)) }
+{
+    if text.len() > TEXT_LIMIT {
+        return Err(Trouble::TooLong(text.len()));
+    }
+    let Ok(text) = str::from_utf8(text) else {
+        return Err(Trouble::Differs);
+    };
+    match read(alloc, text) {
+        Ok(scenario) => {
+            if is_meant(&scenario, meant) {
+                Ok(())
+            } else {
+                Err(Trouble::Differs)
+            }
+        }
+        Err(fault) => match fault.what {
+            ScenarioWhat::NoMemory => Err(no_memory()),
+            _ => Err(Trouble::Differs),
+        },
+    }
+}
+
+/// The text of what a plan means, checked.
+fn checked(alloc: Global, plan: &Plan, meant: &Meaning) -> Result<Vec<u8>, Trouble>
+    ensures { IfOk result (λ text. meaning text.items ≡ Ok (scenario_meant meant.now)) }
+{
+    let Ok(text) = spelled(alloc, &plan.outline.title, meant) else {
+        return Err(no_memory());
+    };
+    match check(alloc, text.as_slice(), meant) {
+        Ok(()) => Ok(text),
+        Err(trouble) => Err(trouble),
+    }
+}
+
+/// The text of the scenario that a plan means. Before it is answered it is read back and compared with what the plan means: a text
+/// that differs is `Differs`, one of over 16 MiB `TooLong`. All other troubles are those of `meaning_of`.
+pub fn scenario_of_meaning(alloc: Global, plan: &Plan) -> Result<Vec<u8>, Trouble>
+    ensures { IfOk result (λ text. Says plan.now text.items) }
+{
+    match meaning_of(alloc, plan) {
+        Ok(meaning) => checked(alloc, plan, &meaning),
+        Err(fault) => Err(Trouble::Plan(fault)),
+    }
+}
+
+/// The text of the scenario that a text means as a plan.
+pub fn scenario_of_plan(alloc: Global, text: &str) -> Result<Vec<u8>, Trouble>
+    ensures { IfOk result (λ scenario. SaysPlan text.now scenario.items) }
+{
+    match hsr_plan_text::read(alloc, text) {
+        Ok(plan) => scenario_of_meaning(alloc, &plan),
+        Err(fault) => Err(Trouble::Plan(fault)),
+    }
+}

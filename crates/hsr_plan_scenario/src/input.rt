@@ -1,0 +1,55 @@
+//! A text that is read whole, up to a length, with a bound on the number of reads.
+ghost use Rattle.std.specs.Prelude.{IfOk, IfSome};
+ghost use Rattle.hsr_plan_scenario.specs.Input.{IsWhole, ReadsPiece};
+
+use hsr_text::READ_LIMIT;
+use std::alloc::Global;
+use std::io::{ErrorKind, Read};
+
+/// The most octets that are read at once.
+const PIECE_LIMIT: usize = 4096;
+
+/// Why a text isn't read.
+#[derive(Clone, Copy, Debug, PartialEq, Eq)]
+pub(crate) enum InputFault {
+    /// The reader failed, or took too many reads.
+    Read,
+    /// Room was refused.
+    Memory,
+}
+
+/// Reads a piece of a text, puts it behind what was read, and tells whether more may follow.
+fn read_piece<R: Read>(reader: &mut R, text: &mut Vec<u8>) -> Result<bool, InputFault>
+    ensures { IfOk result (λ more. ReadsPiece (R.remaining reader.old) (R.remaining reader.new) text.old.items text.new.items more) }
+{
+    let mut piece = [0u8; PIECE_LIMIT];
+    match reader.read(&mut piece) {
+        Ok(count) => match text.extend_from_slice(&piece[..count]) {
+            Ok(()) => Ok(count > 0),
+            Err(_) => Err(InputFault::Memory),
+        },
+        Err(e) if e.kind() == ErrorKind::Interrupted => Ok(true),
+        Err(_) => Err(InputFault::Read),
+    }
+}
+
+/// Reads a whole text, or of one with more than `most` octets a front that has more. `Read` where the reader fails or takes 2^40
+/// reads, `Memory` where room is refused.
+pub(crate) fn read_text<R: Read>(
+    alloc: Global,
+    reader: &mut R,
+    most: usize,
+) -> Result<Vec<u8>, InputFault>
+    ensures { IfOk result (λ text. IfSome (R.remaining reader.old) (λ all. IsWhole most all text.items)) }
+{
+    let mut text = Vec::new(alloc);
+    let mut reads = READ_LIMIT;
+    while reads > 0 {
+        reads -= 1;
+        let more = read_piece(reader, &mut text)?;
+        if !more || text.len() > most {
+            return Ok(text);
+        }
+    }
+    Err(InputFault::Read)
+}

@@ -1,0 +1,13 @@
+//! The scenario that a plan means, as a text, and the whole way there from the plan's own text.
+//!
+//! Its modules, in the order to read them: `spelling`, `same`, `checking`, `input`, `planning`.
+#![tactic(auto)]
+
+mod checking;
+mod input;
+mod planning;
+mod same;
+mod spelling;
+
+pub use checking::{Trouble, scenario_of_meaning, scenario_of_plan};
+pub use planning::{Ending, plan_run};

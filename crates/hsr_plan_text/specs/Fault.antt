@@ -1,0 +1,35 @@
+-- The words of keys.
+use Rattle.std.specs.Prelude.{ℕ, List, codes}
+use Rattle.hsr_plan_text.specs.declared.fault.Key.{Key}
+use Rattle.hsr_plan_text.specs.declared.fault.Key.TheVariants as key
+
+-- a key as it is written
+abbrev pub key_text : Key → List ℕ
+key_text key.Title = codes "title"
+key_text key.Ring = codes "ring"
+key_text key.Rings = codes "rings"
+key_text key.RedBox = codes "redbox"
+key_text key.Address = codes "address"
+key_text key.Mode = codes "mode"
+key_text key.Capacity = codes "capacity"
+key_text key.Life = codes "life_ms"
+key_text key.Until = codes "until_us"
+key_text key.Moves = codes "moves"
+key_text key.Stream = codes "stream"
+key_text key.Event = codes "event"
+key_text key.From = codes "from"
+key_text key.To = codes "to"
+key_text key.Kind = codes "type"
+key_text key.Size = codes "size"
+key_text key.Vlan = codes "vlan"
+key_text key.Priority = codes "priority"
+key_text key.Start = codes "start_us"
+key_text key.Every = codes "every_us"
+key_text key.Count = codes "count"
+key_text key.Grow = codes "grow"
+key_text key.Most = codes "most_us"
+key_text key.At = codes "at_us"
+key_text key.Cut = codes "cut"
+key_text key.Mend = codes "mend"
+key_text key.Off = codes "off"
+key_text key.On = codes "on"

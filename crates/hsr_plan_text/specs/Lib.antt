@@ -1,0 +1,9 @@
+pub mod Plan
+pub mod Fault
+pub mod Fallible
+pub mod Tables
+pub mod Words
+pub mod Network
+pub mod Streams
+pub mod Events
+pub mod Meaning

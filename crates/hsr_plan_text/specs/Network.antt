@@ -1,0 +1,87 @@
+-- What the keys of a plan say of its nodes.
+use Rattle.std.specs.Prelude.{ℕ, List, [], ◌∷◌, ◌++◌, Option, Some, None, Result, Ok, Err, ok_or, if◌then◌else◌}
+use Rattle.toml.specs.Data.{Data, Members, as_str}
+use Rattle.hsr_frame.specs.Words.{mode_of}
+use Rattle.hsr_plan_text.specs.Fallible.{◌>>=◌, each_item, each_member}
+use Rattle.hsr_plan_text.specs.Plan.{Behind, Network}
+use Rattle.hsr_plan_text.specs.Tables.{items, members, optional, word}
+use Rattle.hsr_plan_text.specs.Words.{mac_of, name_of}
+use Rattle.hsr_plan_text.specs.declared.fault.Key.{Key}
+use Rattle.hsr_plan_text.specs.declared.fault.Key.TheVariants as key
+use Rattle.hsr_plan_text.specs.declared.fault.What.{What}
+use Rattle.hsr_plan_text.specs.declared.fault.What.TheVariants.{BadValue, Missing}
+use Rattle.hsr_plan_text.specs.declared.plan.Addressed.{Addressed}
+use Rattle.hsr_plan_text.specs.declared.plan.InMode.{InMode}
+
+-- ---- names
+
+abbrev pub name : Key → Data → Result (List ℕ) What
+name key d = word name_of key d
+
+abbrev pub names : Key → Data → Result (List (List ℕ)) What
+names key d = items key d >>= each_item (name key) []
+
+-- the name that a text is
+abbrev pub named : Key → List ℕ → Result (List ℕ) What
+named key k = ok_or (name_of k) (BadValue key)
+
+abbrev pub only_name : Key → List ℕ → Result (List (List ℕ)) What
+only_name key s = named key s >>= λ n. Ok (n ∷ [])
+
+abbrev pub one_or_names : Option (List ℕ) → Key → Data → Result (List (List ℕ)) What
+one_or_names None key d = names key d
+one_or_names (Some s) key d = only_name key s
+
+-- one name, or a list of names
+abbrev pub some_names : Key → Data → Result (List (List ℕ)) What
+some_names key d = one_or_names (as_str d) key d
+
+-- ---- rings
+
+abbrev pub only_ring : Key → Data → Result (List (List (List ℕ))) What
+only_ring key d = names key d >>= λ ns. Ok (ns ∷ [])
+
+abbrev pub ring : List ℕ → Data → Result (List (List ℕ)) What
+ring k d = names key.Rings d
+
+abbrev pub rings : Key → Data → Result (List (List (List ℕ))) What
+rings key d = members key d >>= each_member ring []
+
+abbrev pub some_rings : List (List (List ℕ)) → Result (List (List (List ℕ))) What
+some_rings [] = Err (Missing key.Ring)
+some_rings (r ∷ rs) = Ok (r ∷ rs)
+
+-- the one ring, and those of the table `rings`, by its keys
+unfoldable pub rings_in : Members → Result (List (List (List ℕ))) What
+rings_in ms = do
+  one ← optional key.Ring [] only_ring ms
+  more ← optional key.Rings [] rings ms
+  some_rings (one ++ more)
+
+-- ---- what else is said of nodes
+
+abbrev pub redbox : List ℕ → Data → Result Behind What
+redbox k d = named key.RedBox k >>= λ n. names key.RedBox d >>= λ ns. Ok (record { redbox = n; stations = ns })
+
+abbrev pub redboxes : Key → Data → Result (List Behind) What
+redboxes key d = members key d >>= each_member redbox []
+
+abbrev pub address : List ℕ → Data → Result Addressed What
+address k d = named key.Address k >>= λ n. word mac_of key.Address d >>= λ m. Ok (record { name = n; mac = m })
+
+abbrev pub addresses : Key → Data → Result (List Addressed) What
+addresses key d = members key d >>= each_member address []
+
+abbrev pub mode : List ℕ → Data → Result InMode What
+mode k d = named key.Mode k >>= λ n. word mode_of key.Mode d >>= λ m. Ok (record { name = n; mode = m })
+
+abbrev pub modes : Key → Data → Result (List InMode) What
+modes key d = members key d >>= each_member mode []
+
+unfoldable pub network_in : Members → Result Network What
+network_in ms = do
+  rs ← rings_in ms
+  bs ← optional key.RedBox [] redboxes ms
+  macs ← optional key.Address [] addresses ms
+  us ← optional key.Mode [] modes ms
+  Ok (record { rings = rs; redboxes = bs; addresses = macs; modes = us })

@@ -1,0 +1,44 @@
+-- What a plan says.
+use Rattle.std.specs.Prelude.{ℕ, List, Option}
+use Rattle.hsr_plan_text.specs.declared.plan.Addressed.{Addressed}
+use Rattle.hsr_plan_text.specs.declared.plan.Event.{Event}
+use Rattle.hsr_plan_text.specs.declared.plan.Framing.{Framing}
+use Rattle.hsr_plan_text.specs.declared.plan.InMode.{InMode}
+use Rattle.hsr_plan_text.specs.declared.plan.Moves.{Moves}
+
+pub record Behind : Type 0 where
+  pub redbox : List ℕ
+  pub stations : List (List ℕ)
+
+pub record Network : Type 0 where
+  pub rings : List (List (List ℕ))
+  pub redboxes : List Behind
+  pub addresses : List Addressed
+  pub modes : List InMode
+
+-- in microseconds
+pub record Timing : Type 0 where
+  pub starts : List ℕ
+  pub every : ℕ
+  pub grow : ℕ
+  pub most : ℕ
+  pub count : Option ℕ
+  pub until : Option ℕ
+
+pub record Stream : Type 0 where
+  pub from : List (List ℕ)
+  pub framing : Framing
+  pub timing : Timing
+
+pub record Outline : Type 0 where
+  pub title : Option (List ℕ)
+  pub capacity : ℕ
+  pub life : ℕ
+  pub until : Option ℕ
+  pub moves : Moves
+  pub network : Network
+
+pub record Plan : Type 0 where
+  pub outline : Outline
+  pub streams : List Stream
+  pub events : List Event

@@ -1,0 +1,163 @@
+//! Why a text is no plan.
+ghost use Rattle.std.specs.Prelude.{◌≡◌};
+ghost use Rattle.hsr_plan_text.specs.Fault.{key_text};
+ghost use Rattle.hsr_plan_text.specs.declared.fault.What.TheVariants.{NoMemory as NoRoom};
+
+use crate::word::Word;
+use hsr_frame::NoMemory;
+use std::alloc::AllocFailed;
+
+/// A key of a plan's tables.
+#[derive(Clone, Copy, Debug, PartialEq, Eq)]
+pub enum Key {
+    Title,
+    Ring,
+    Rings,
+    /// Written `redbox`.
+    RedBox,
+    Address,
+    Mode,
+    Capacity,
+    /// Written `life_ms`.
+    Life,
+    /// Written `until_us`.
+    Until,
+    Moves,
+    Stream,
+    Event,
+    From,
+    To,
+    /// Written `type`.
+    Kind,
+    Size,
+    Vlan,
+    Priority,
+    /// Written `start_us`.
+    Start,
+    /// Written `every_us`.
+    Every,
+    Count,
+    Grow,
+    /// Written `most_us`.
+    Most,
+    /// Written `at_us`.
+    At,
+    Cut,
+    Mend,
+    Off,
+    On,
+}
+
+impl Key {
+    /// The key as it is written.
+    pub fn text(self) -> &'static str
+        ensures { result.now ≡ key_text self }
+    {
+        match self {
+            Key::Title => "title",
+            Key::Ring => "ring",
+            Key::Rings => "rings",
+            Key::RedBox => "redbox",
+            Key::Address => "address",
+            Key::Mode => "mode",
+            Key::Capacity => "capacity",
+            Key::Life => "life_ms",
+            Key::Until => "until_us",
+            Key::Moves => "moves",
+            Key::Stream => "stream",
+            Key::Event => "event",
+            Key::From => "from",
+            Key::To => "to",
+            Key::Kind => "type",
+            Key::Size => "size",
+            Key::Vlan => "vlan",
+            Key::Priority => "priority",
+            Key::Start => "start_us",
+            Key::Every => "every_us",
+            Key::Count => "count",
+            Key::Grow => "grow",
+            Key::Most => "most_us",
+            Key::At => "at_us",
+            Key::Cut => "cut",
+            Key::Mend => "mend",
+            Key::Off => "off",
+            Key::On => "on",
+        }
+    }
+}
+
+/// Where a fault is.
+#[derive(Clone, Copy, Debug, PartialEq, Eq)]
+pub enum Spot {
+    /// In the plan itself.
+    Top,
+    /// In a stream, counted from 0.
+    Stream(usize),
+    /// In an event, counted from 0.
+    Event(usize),
+}
+
+/// Why what a plan says means nothing.
+#[derive(Debug, Drop)]
+pub enum Refusal {
+    /// A name stands twice where it may stand once, or a node's in more than two rings.
+    NameTwice(Word),
+    /// Nobody has the name, or nobody who can do what is asked of it.
+    NoSuchName(Word),
+    /// Nobody has the address that is the value of a key.
+    Nobody(Key),
+    /// There is no link between the ends that are the value of a key.
+    NoLink(Key),
+    /// A node sends to itself.
+    ToItself(Word),
+    /// Nothing says where it ends.
+    Endless(Key),
+    /// There is more of what a key tells than is allowed.
+    TooMany(Key),
+    /// The nodes and links are no topology.
+    Topology,
+    /// The scenario's text doesn't say what the plan means.
+    Differs,
+}
+
+/// What a fault is. `Unknown` is tried before all keys of its table; at one key the others are tried in this order.
+#[derive(Debug, Drop)]
+pub enum What {
+    /// The text has over 16 MiB, or is no TOML.
+    Text,
+    /// A key that has to be there isn't.
+    Missing(Key),
+    /// This key is there, and the table doesn't have it.
+    Unknown(Word),
+    /// The value of a key has another type.
+    WrongKind(Key),
+    /// The value of a key isn't one of those that it may have.
+    BadValue(Key),
+    /// The document is read, and means nothing.
+    Refused(Refusal),
+    /// A growth was refused.
+    NoMemory,
+}
+
+/// The first fault of a text.
+#[derive(Debug, Drop)]
+pub struct PlanFault {
+    pub spot: Spot,
+    pub what: What,
+}
+
+impl From<NoMemory> for What {
+    ghost from_gives = { λ _ what. what ≡ NoRoom };
+
+    fn from(_refused: NoMemory) -> What {
+        What::NoMemory
+    }
+}
+
+impl<T: Drop> From<AllocFailed<T>> for What {
+    ghost from_gives = { λ _ what. what ≡ NoRoom };
+
+    fn from(_refused: AllocFailed<T>) -> What {
+        What::NoMemory
+    }
+}

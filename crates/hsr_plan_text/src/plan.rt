@@ -1,0 +1,200 @@
+//! What a plan says.
+use crate::word::Word;
+use hsr_frame::{Mac, Mode};
+use std::marker::Model;
+
+/// The nodes of a ring, in their order round it, each by its name.
+#[derive(Debug, Drop)]
+pub struct Ring {
+    pub nodes: Vec<Word>,
+}
+
+impl Model for Ring {
+    ghost use Rattle.std.specs.Prelude.{ℕ, List};
+
+    ghost Value = { List (List ℕ) };
+
+    ghost view = { λ r. r.nodes.items };
+}
+
+/// A RedBox with the stations behind it, by their names.
+#[derive(Debug, Drop)]
+pub struct Behind {
+    pub redbox: Word,
+    pub stations: Vec<Word>,
+}
+
+impl Model for Behind {
+    ghost use Rattle.hsr_plan_text.specs.Plan.{Behind};
+
+    ghost Value = { Behind };
+
+    ghost view = { λ b. record { redbox = b.redbox; stations = b.stations.items } };
+}
+
+/// The address that a node or a station has in place of its default.
+#[derive(Debug, Drop)]
+pub struct Addressed {
+    pub name: Word,
+    pub mac: Mac,
+}
+
+/// The mode that a node has in place of mode H.
+#[derive(Debug, Drop)]
+pub struct InMode {
+    pub name: Word,
+    pub mode: Mode,
+}
+
+/// Which nodes there are: rings, the stations behind RedBoxes, addresses and modes.
+#[derive(Debug, Drop)]
+pub struct Network {
+    pub rings: Vec<Ring>,
+    pub redboxes: Vec<Behind>,
+    pub addresses: Vec<Addressed>,
+    pub modes: Vec<InMode>,
+}
+
+impl Model for Network {
+    ghost use Rattle.hsr_plan_text.specs.Plan.{Network};
+
+    ghost Value = { Network };
+
+    ghost view = { λ n. record { rings = n.rings.items; redboxes = n.redboxes.items; addresses = n.addresses.items; modes = n.modes.items } };
+}
+
+/// How copies move.
+#[derive(Clone, Copy, Debug, PartialEq, Eq)]
+pub enum Moves {
+    /// All are at their end before the next send.
+    EachSendDrains,
+    /// All are at their end before the next moment.
+    EachMomentDrains,
+}
+
+/// Whom a stream is for.
+#[derive(Debug, Drop)]
+pub enum Target {
+    Named(Word),
+    Address(Mac),
+}
+
+/// What a stream's frames have in them.
+#[derive(Clone, Copy, Debug, PartialEq, Eq)]
+pub enum Kind {
+    /// GOOSE (IEC 61850-8-1), with counting stNum and sqNum.
+    Goose,
+    /// Sampled values (IEC 61850-9-2), with counting smpCnt.
+    SampledValues,
+    /// A count and zeros, under this type.
+    Number(u16),
+}
+
+/// What each frame of a stream has alike: its target, its kind, its size in octets of payload, and the control information of
+/// its VLAN tag.
+#[derive(Debug, Drop)]
+pub struct Framing {
+    pub target: Target,
+    pub kind: Kind,
+    pub size: usize,
+    pub tag: Option<u16>,
+}
+
+/// When a stream's frames are sent, in microseconds: from each start on, the first gap, by how much a gap is longer than the
+/// one before, the longest gap, and how many are sent from each start on, or up to when.
+#[derive(Debug, Drop)]
+pub struct Timing {
+    pub starts: Vec<u64>,
+    pub every: u64,
+    pub grow: u64,
+    pub most: u64,
+    pub count: Option<u64>,
+    pub until: Option<u64>,
+}
+
+impl Model for Timing {
+    ghost use Rattle.hsr_plan_text.specs.Plan.{Timing};
+
+    ghost Value = { Timing };
+
+    ghost view = { λ t. record { starts = t.starts.items; every = t.every; grow = t.grow; most = t.most; count = t.count; until = t.until } };
+}
+
+/// Frames that each of some nodes sends again and again.
+#[derive(Debug, Drop)]
+pub struct Stream {
+    pub from: Vec<Word>,
+    pub framing: Framing,
+    pub timing: Timing,
+}
+
+impl Model for Stream {
+    ghost use Rattle.hsr_plan_text.specs.Plan.{Stream};
+
+    ghost Value = { Stream };
+
+    ghost view = { λ s. record { from = s.from.items; framing = s.framing; timing = s.timing } };
+}
+
+/// An end of a link: a node by its name, and the letter of its port where that is said.
+#[derive(Debug, Drop)]
+pub struct LinkEnd {
+    pub name: Word,
+    pub letter: Option<u8>,
+}
+
+/// What happens to a link or a node.
+#[derive(Debug, Drop)]
+pub enum Deed {
+    Cut { first: LinkEnd, second: LinkEnd },
+    Mend { first: LinkEnd, second: LinkEnd },
+    /// All links of the node are cut, and it sends nothing.
+    Off(Word),
+    On(Word),
+}
+
+/// What happens at a moment, in microseconds.
+#[derive(Debug, Drop)]
+pub struct Event {
+    pub at: u64,
+    pub deed: Deed,
+}
+
+/// What a plan says besides its streams and events.
+#[derive(Debug, Drop)]
+pub struct Outline {
+    pub title: Option<String>,
+    /// How many copies wait in each direction of a link.
+    pub capacity: usize,
+    /// The period of supervision in microseconds; 0 for none.
+    pub life: u64,
+    /// Where streams and supervision end, in microseconds.
+    pub until: Option<u64>,
+    pub moves: Moves,
+    pub network: Network,
+}
+
+impl Model for Outline {
+    ghost use Rattle.std.specs.Prelude.{option_map, string_bytes};
+    ghost use Rattle.hsr_plan_text.specs.Plan.{Outline};
+
+    ghost Value = { Outline };
+
+    ghost view = { λ o. record { title = option_map string_bytes o.title; capacity = o.capacity; life = o.life; until = o.until; moves = o.moves; network = o.network } };
+}
+
+/// What a text says as a plan.
+#[derive(Debug, Drop)]
+pub struct Plan {
+    pub outline: Outline,
+    pub streams: Vec<Stream>,
+    pub events: Vec<Event>,
+}
+
+impl Model for Plan {
+    ghost use Rattle.hsr_plan_text.specs.Plan.{Plan};
+
+    ghost Value = { Plan };
+
+    ghost view = { λ p. record { outline = p.outline; streams = p.streams.items; events = p.events.items } };
+}

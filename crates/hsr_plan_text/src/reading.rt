@@ -1,0 +1,285 @@
+//! How a text is read as a plan.
+ghost use Rattle.std.specs.Prelude.{◌≡◌, [], map, Err, None, option_map, string_bytes};
+ghost use Rattle.toml.specs.View.{table_view, view};
+ghost use Rattle.hsr_plan_text.specs.Fallible.{Gives, GivesAt, at_spot, each};
+ghost use Rattle.hsr_plan_text.specs.Tables.{between, optional, perhaps, word};
+ghost use Rattle.hsr_plan_text.specs.Words.{moves_of, title_of};
+ghost use Rattle.hsr_plan_text.specs.Streams.{stream_in};
+ghost use Rattle.hsr_plan_text.specs.Events.{event_in};
+ghost use Rattle.hsr_plan_text.specs.Meaning.{document, events_in, milliseconds, outline, plan_of, streams_in};
+ghost use Rattle.hsr_plan_text.specs.declared.fault.Key.TheVariants as key;
+ghost use Rattle.hsr_plan_text.specs.declared.fault.Spot.TheVariants as spot;
+ghost use Rattle.hsr_plan_text.specs.declared.fault.What.TheVariants.{NoMemory};
+ghost use Rattle.hsr_plan_text.specs.declared.plan.Moves.TheVariants.{EachSendDrains};
+
+use crate::events::event;
+use crate::fault::{Key, PlanFault, Spot, What};
+use crate::network::network;
+use crate::plan::{Event, Moves, Outline, Plan, Stream};
+use crate::streams::{stream, until};
+use crate::table::{between, only, tables_at, text, value};
+use crate::words::{is_title, moves_of};
+use std::alloc::Global;
+use toml::{Table, Value};
+
+/// The most octets of a text: 16 MiB.
+pub const TEXT_LIMIT: usize = 1 << 24;
+
+/// How many copies wait in each direction of a link, where a text doesn't say.
+const CAPACITY: usize = 64;
+
+/// How many copies may wait in each direction of a link.
+const CAPACITY_LIMIT: u64 = 4096;
+
+/// The period of supervision, where a text doesn't say, in microseconds (IEC 62439-3 clause 5.7.3: LifeCheckInterval).
+const LIFE: u64 = 2_000_000;
+
+/// The longest period of supervision, in milliseconds.
+const LIFE_LIMIT: u64 = 1 << 30;
+
+/// A fault with its place.
+fn at_spot<T>(spot: Spot, told: Result<T, What>) -> Result<T, PlanFault>
+    ensures { result ≡ at_spot spot told }
+{
+    match told {
+        Ok(value) => Ok(value),
+        Err(what) => Err(PlanFault { spot, what }),
+    }
+}
+
+/// The fault where room for what a table says is refused.
+fn no_memory_at(spot: Spot) -> PlanFault
+    ensures { result ≡ record { spot = spot; what = NoMemory } }
+{
+    PlanFault {
+        spot,
+        what: What::NoMemory,
+    }
+}
+
+// ---- each table of a list
+
+/// The stream of the table of that number.
+#[tactic(auto, using(crate::proofs::Lists::spotted))]
+fn stream_at(alloc: Global, number: usize, table: &Table) -> Result<Stream, PlanFault>
+    ensures { GivesAt (λ s. s) result (at_spot (spot.Stream number) (stream_in (table_view table.now))) }
+{
+    at_spot(Spot::Stream(number), stream(alloc, table))
+}
+
+/// The streams of tables.
+#[tactic(auto, using(crate::proofs::Lists::streams_step, crate::proofs::Lists::streams_fail))]
+fn streams_of(alloc: Global, tables: &[&Table]) -> Result<Vec<Stream>, PlanFault>
+    ensures { GivesAt (λ v. v.items) result (each spot.Stream stream_in [] (map (λ t. table_view t.now) tables.now)) }
+{
+    let mut streams = Vec::new(alloc);
+    for table in tables.iter() {
+        match stream_at(alloc, streams.len(), table) {
+            Ok(stream) => {
+                let spot = Spot::Stream(streams.len());
+                streams.push(stream).or(Err(no_memory_at(spot)))?;
+            }
+            Err(fault) => return Err(fault),
+        }
+    }
+    Ok(streams)
+}
+
+/// The event of the table of that number.
+#[tactic(auto, using(crate::proofs::Lists::spotted))]
+fn event_at(alloc: Global, number: usize, table: &Table) -> Result<Event, PlanFault>
+    ensures { GivesAt (λ e. e) result (at_spot (spot.Event number) (event_in (table_view table.now))) }
+{
+    at_spot(Spot::Event(number), event(alloc, table))
+}
+
+/// The events of tables.
+#[tactic(auto, using(crate::proofs::Lists::events_step, crate::proofs::Lists::events_fail))]
+fn events_of(alloc: Global, tables: &[&Table]) -> Result<Vec<Event>, PlanFault>
+    ensures { GivesAt (λ v. v.items) result (each spot.Event event_in [] (map (λ t. table_view t.now) tables.now)) }
+{
+    let mut events = Vec::new(alloc);
+    for table in tables.iter() {
+        match event_at(alloc, events.len(), table) {
+            Ok(event) => {
+                let spot = Spot::Event(events.len());
+                events.push(event).or(Err(no_memory_at(spot)))?;
+            }
+            Err(fault) => return Err(fault),
+        }
+    }
+    Ok(events)
+}
+
+// ---- the document's own values
+
+/// The title that a value is.
+fn title_of(alloc: Global, key: Key, value: &Value) -> Result<String, What>
+    ensures { Gives string_bytes result (word title_of key (view value.now)) }
+{
+    let title = text(key, value)?;
+    if !is_title(title.as_bytes()) {
+        return Err(What::BadValue(key));
+    }
+    match String::from_str(alloc, title) {
+        Ok(title) => Ok(title),
+        Err(_) => Err(What::NoMemory),
+    }
+}
+
+/// The title of a document.
+fn title(alloc: Global, table: &Table) -> Result<Option<String>, What>
+    ensures { Gives (option_map string_bytes) result (optional key.Title None (perhaps (word title_of)) (table_view table.now)) }
+{
+    match value(table, Key::Title) {
+        None => Ok(None),
+        Some(value) => {
+            let title = title_of(alloc, Key::Title, value)?;
+            Ok(Some(title))
+        }
+    }
+}
+
+/// The capacity of a document.
+fn capacity(table: &Table) -> Result<usize, What>
+    ensures { Gives (λ n. n) result (optional key.Capacity 64 (between 1 4096) (table_view table.now)) }
+{
+    match value(table, Key::Capacity) {
+        None => Ok(CAPACITY),
+        Some(value) => {
+            let capacity = between(1, CAPACITY_LIMIT, Key::Capacity, value)?;
+            Ok(capacity as usize)
+        }
+    }
+}
+
+/// The period of supervision of a document.
+fn life(table: &Table) -> Result<u64, What>
+    ensures { Gives (λ n. n) result (optional key.Life 2000000 milliseconds (table_view table.now)) }
+{
+    match value(table, Key::Life) {
+        None => Ok(LIFE),
+        Some(value) => {
+            let life = between(0, LIFE_LIMIT, Key::Life, value)?;
+            Ok(life * 1000)
+        }
+    }
+}
+
+/// How copies move, by a document.
+fn moves(table: &Table) -> Result<Moves, What>
+    ensures { Gives (λ m. m) result (optional key.Moves EachSendDrains (word moves_of) (table_view table.now)) }
+{
+    match value(table, Key::Moves) {
+        None => Ok(Moves::EachSendDrains),
+        Some(value) => match moves_of(text(Key::Moves, value)?) {
+            Some(moves) => Ok(moves),
+            None => Err(What::BadValue(Key::Moves)),
+        },
+    }
+}
+
+/// The keys of a document.
+const TOP_KEYS: [Key; 12] = [
+    Key::Title,
+    Key::Ring,
+    Key::Rings,
+    Key::RedBox,
+    Key::Address,
+    Key::Mode,
+    Key::Capacity,
+    Key::Life,
+    Key::Until,
+    Key::Moves,
+    Key::Stream,
+    Key::Event,
+];
+
+/// What a document says besides its streams and events.
+#[tactic(auto, unfolding(crate::specs::Meaning::outline))]
+fn outline(alloc: Global, table: &Table) -> Result<Outline, What>
+    ensures { Gives (λ o. o) result (outline (table_view table.now)) }
+{
+    only(alloc, table, &TOP_KEYS)?;
+    let title = title(alloc, table)?;
+    let capacity = capacity(table)?;
+    let life = life(table)?;
+    let until = until(table)?;
+    let moves = moves(table)?;
+    let network = network(alloc, table)?;
+    Ok(Outline {
+        title,
+        capacity,
+        life,
+        until,
+        moves,
+        network,
+    })
+}
+
+/// The streams of a document.
+#[tactic(auto, using(crate::proofs::Lists::spotted))]
+fn streams_in(alloc: Global, table: &Table) -> Result<Vec<Stream>, PlanFault>
+    ensures { GivesAt (λ v. v.items) result (streams_in (table_view table.now)) }
+{
+    let tables = at_spot(Spot::Top, tables_at(alloc, table, Key::Stream))?;
+    streams_of(alloc, tables.as_slice())
+}
+
+/// The events of a document.
+#[tactic(auto, using(crate::proofs::Lists::spotted))]
+fn events_in(alloc: Global, table: &Table) -> Result<Vec<Event>, PlanFault>
+    ensures { GivesAt (λ v. v.items) result (events_in (table_view table.now)) }
+{
+    let tables = at_spot(Spot::Top, tables_at(alloc, table, Key::Event))?;
+    events_of(alloc, tables.as_slice())
+}
+
+/// What a document says.
+#[tactic(auto, unfolding(crate::specs::Meaning::document), using(crate::proofs::Lists::spotted))]
+fn document(alloc: Global, table: &Table) -> Result<Plan, PlanFault>
+    ensures { GivesAt (λ p. p) result (document (table_view table.now)) }
+{
+    let outline = at_spot(Spot::Top, outline(alloc, table))?;
+    let streams = streams_in(alloc, table)?;
+    let events = events_in(alloc, table)?;
+    Ok(Plan {
+        outline,
+        streams,
+        events,
+    })
+}
+
+/// A fault of the text itself.
+fn text_fault(what: What) -> Result<Plan, PlanFault>
+    ensures { result ≡ at_spot spot.Top (Err what) }
+{
+    Err(PlanFault {
+        spot: Spot::Top,
+        what,
+    })
+}
+
+/// The plan that a text is: a document of TOML, of at most 16 MiB, with the keys `title`, `ring` or `rings` (by their keys),
+/// `redbox`, `address`, `mode`, `capacity` (1 to 4096, 64 where it is missing), `life_ms` (2000), `until_us`, `moves`, and `stream`
+/// and `event`, arrays of tables. A fault is the first in this order: the text itself; a key that the document doesn't have; its own
+/// values; streams, then events, by number. Within a table comes a key that it doesn't have, and then key by key what is missing, of
+/// another type or out of its values. `NoMemory` comes where a growth was refused, in place of any other answer. Whether names are
+/// there, and not twice, isn't asked.
+pub fn read(alloc: Global, text: &str) -> Result<Plan, PlanFault>
+    ensures { GivesAt (λ p. p) result (plan_of text.now) }
+{
+    if text.len() > TEXT_LIMIT {
+        return text_fault(What::Text);
+    }
+    match toml::table_from_str(alloc, text) {
+        Ok(table) => document(alloc, &table),
+        Err(error) => {
+            if error.is_memory() {
+                text_fault(What::NoMemory)
+            } else {
+                text_fault(What::Text)
+            }
+        }
+    }
+}

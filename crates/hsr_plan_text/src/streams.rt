@@ -1,0 +1,290 @@
+//! The streams of a plan.
+ghost use Rattle.std.specs.Prelude.{◌≡◌, ◌≤◌, ◌∷◌, ◌^◌, [], IfOk, IfSome, None, ok_or};
+ghost use Rattle.toml.specs.View.{view, table_view};
+ghost use Rattle.hsr_plan_text.specs.Fallible.{Gives};
+ghost use Rattle.hsr_plan_text.specs.Network.{some_names};
+ghost use Rattle.hsr_plan_text.specs.Streams.{framing_in, kind, moments, numbered, some_moments, stream_in, tag_in, tag_of, timing_in};
+ghost use Rattle.hsr_plan_text.specs.Tables.{between, gap, moment, needed, optional, perhaps, word};
+ghost use Rattle.hsr_plan_text.specs.Words.{target_of};
+ghost use Rattle.hsr_plan_text.specs.declared.fault.Key.TheVariants as key;
+ghost use Rattle.hsr_plan_text.specs.declared.fault.What.TheVariants.{BadValue};
+
+use crate::fault::{Key, What};
+use crate::network::{name_in, some_names};
+use crate::plan::{Framing, Kind, Stream, Target, Timing};
+use crate::table::{between, gap, items, moment, needed, only, text, value};
+use crate::word::Word;
+use crate::words::kind_named;
+use hsr_frame::Mac;
+use std::alloc::Global;
+use toml::{Table, Value};
+
+/// The last moment, and the longest gap, in microseconds.
+const LAST: u64 = 1 << 40;
+
+// ---- what its frames have alike
+
+/// Whom a text names: an address, or else a node or a station.
+fn target_of(alloc: Global, text: &str) -> Result<Target, What>
+    ensures { Gives (λ t. t) result (ok_or (target_of text.now) (BadValue key.To)) }
+{
+    match Mac::from_text(text) {
+        Ok(mac) => Ok(Target::Address(mac)),
+        Err(_) => {
+            let name = name_in(alloc, Key::To, text.as_bytes())?;
+            Ok(Target::Named(name))
+        }
+    }
+}
+
+/// Whom a stream is for.
+fn target(alloc: Global, table: &Table) -> Result<Target, What>
+    ensures { Gives (λ t. t) result (needed key.To (word target_of) (table_view table.now)) }
+{
+    target_of(alloc, text(Key::To, needed(table, Key::To)?)?)
+}
+
+/// The kind of payload of a type that is a number.
+fn numbered(key: Key, number: u16) -> Result<Kind, What>
+    ensures { Gives (λ k. k) result (numbered key number) }
+{
+    if number == 0x892F || number == 0x8100 {
+        return Err(What::BadValue(key));
+    }
+    Ok(Kind::Number(number))
+}
+
+/// The kind of payload that a value tells.
+fn kind_of(key: Key, value: &Value) -> Result<Kind, What>
+    ensures { Gives (λ k. k) result (kind key (view value.now)) }
+{
+    match value.as_str() {
+        Some(word) => match kind_named(word) {
+            Some(kind) => Ok(kind),
+            None => Err(What::BadValue(key)),
+        },
+        None => {
+            let number = between(0, 65535, key, value)?;
+            numbered(key, number as u16)
+        }
+    }
+}
+
+/// The kind of a stream's payload.
+fn kind(table: &Table) -> Result<Kind, What>
+    ensures { Gives (λ k. k) result (needed key.Kind kind (table_view table.now)) }
+{
+    kind_of(Key::Kind, needed(table, Key::Kind)?)
+}
+
+/// How many octets of payload a stream's frames have.
+fn size(table: &Table) -> Result<usize, What>
+    ensures { Gives (λ n. n) result (optional key.Size 46 (between 0 1500) (table_view table.now)) }
+{
+    match value(table, Key::Size) {
+        None => Ok(46),
+        Some(value) => {
+            let size = between(0, 1500, Key::Size, value)?;
+            Ok(size as usize)
+        }
+    }
+}
+
+/// A number that may be left out.
+fn perhaps(table: &Table, key: Key, most: u64) -> Result<Option<u64>, What>
+    ensures value { Gives (λ n. n) result (optional key None (perhaps (between 0 most)) (table_view table.now)) }
+    ensures most { IfOk result (λ n. IfSome n (λ n. n ≤ most)) }
+{
+    match value(table, key) {
+        None => Ok(None),
+        Some(value) => {
+            let number = between(0, most, key, value)?;
+            Ok(Some(number))
+        }
+    }
+}
+
+/// The control information of a VLAN tag.
+fn tag_of(vlan: Option<u64>, priority: Option<u64>) -> Option<u16>
+    requires vlan { IfSome vlan (λ n. n ≤ 4095) }
+    requires priority { IfSome priority (λ n. n ≤ 7) }
+    ensures { result ≡ tag_of vlan priority }
+{
+    match (vlan, priority) {
+        (None, None) => None,
+        (vlan, priority) => {
+            let tag = 8192 * priority.unwrap_or(0) + vlan.unwrap_or(0);
+            Some(tag as u16)
+        }
+    }
+}
+
+/// The VLAN tag of a stream.
+#[tactic(auto, unfolding(crate::specs::Streams::tag_in))]
+fn tag(table: &Table) -> Result<Option<u16>, What>
+    ensures { Gives (λ t. t) result (tag_in (table_view table.now)) }
+{
+    let vlan = perhaps(table, Key::Vlan, 4095)?;
+    let priority = perhaps(table, Key::Priority, 7)?;
+    Ok(tag_of(vlan, priority))
+}
+
+/// What a stream's frames have alike.
+#[tactic(auto, unfolding(crate::specs::Streams::framing_in))]
+fn framing(alloc: Global, table: &Table) -> Result<Framing, What>
+    ensures { Gives (λ f. f) result (framing_in (table_view table.now)) }
+{
+    let target = target(alloc, table)?;
+    let kind = kind(table)?;
+    let size = size(table)?;
+    let tag = tag(table)?;
+    Ok(Framing {
+        target,
+        kind,
+        size,
+        tag,
+    })
+}
+
+// ---- when they are sent
+
+/// The moments of an array.
+#[tactic(auto, using(crate::proofs::Lists::moments_step, crate::proofs::Lists::moments_fail))]
+fn moments(alloc: Global, key: Key, value: &Value) -> Result<Vec<u64>, What>
+    ensures { Gives (λ v. v.items) result (moments key (view value.now)) }
+{
+    let items = items(key, value)?;
+    let mut moments = Vec::new(alloc);
+    for item in items.iter() {
+        match moment(key, item) {
+            Ok(at) => moments.push(at)?,
+            Err(what) => return Err(what),
+        }
+    }
+    Ok(moments)
+}
+
+/// One moment, or those of an array.
+fn some_moments(alloc: Global, key: Key, value: &Value) -> Result<Vec<u64>, What>
+    ensures { Gives (λ v. v.items) result (some_moments key (view value.now)) }
+{
+    match value.as_integer() {
+        Some(_) => {
+            let at = moment(key, value)?;
+            let mut moments = Vec::new(alloc);
+            moments.push(at)?;
+            Ok(moments)
+        }
+        None => moments(alloc, key, value),
+    }
+}
+
+/// The moments from which on a stream sends.
+fn starts(alloc: Global, table: &Table) -> Result<Vec<u64>, What>
+    ensures { Gives (λ v. v.items) result (optional key.Start (0 ∷ []) some_moments (table_view table.now)) }
+{
+    match value(table, Key::Start) {
+        None => {
+            let mut starts = Vec::new(alloc);
+            starts.push(0)?;
+            Ok(starts)
+        }
+        Some(value) => some_moments(alloc, Key::Start, value),
+    }
+}
+
+/// The first gap of a stream.
+fn every(table: &Table) -> Result<u64, What>
+    ensures { Gives (λ n. n) result (needed key.Every gap (table_view table.now)) }
+{
+    gap(Key::Every, needed(table, Key::Every)?)
+}
+
+/// By how much a stream's gaps grow.
+fn grow(table: &Table) -> Result<u64, What>
+    ensures { Gives (λ n. n) result (optional key.Grow 1 (between 1 1000) (table_view table.now)) }
+{
+    match value(table, Key::Grow) {
+        None => Ok(1),
+        Some(value) => between(1, 1000, Key::Grow, value),
+    }
+}
+
+/// The longest gap of a stream.
+fn most(table: &Table) -> Result<u64, What>
+    ensures { Gives (λ n. n) result (optional key.Most (2 ^ 40) gap (table_view table.now)) }
+{
+    match value(table, Key::Most) {
+        None => Ok(LAST),
+        Some(value) => gap(Key::Most, value),
+    }
+}
+
+/// The moment of a key that may be left out.
+pub(crate) fn until(table: &Table) -> Result<Option<u64>, What>
+    ensures { Gives (λ n. n) result (optional key.Until None (perhaps moment) (table_view table.now)) }
+{
+    perhaps(table, Key::Until, LAST)
+}
+
+/// When a stream's frames are sent.
+#[tactic(auto, unfolding(crate::specs::Streams::timing_in))]
+fn timing(alloc: Global, table: &Table) -> Result<Timing, What>
+    ensures { Gives (λ t. t) result (timing_in (table_view table.now)) }
+{
+    let starts = starts(alloc, table)?;
+    let every = every(table)?;
+    let grow = grow(table)?;
+    let most = most(table)?;
+    let count = perhaps(table, Key::Count, LAST)?;
+    let until = until(table)?;
+    Ok(Timing {
+        starts,
+        every,
+        grow,
+        most,
+        count,
+        until,
+    })
+}
+
+// ---- all
+
+/// The keys of a stream.
+const STREAM_KEYS: [Key; 12] = [
+    Key::From,
+    Key::To,
+    Key::Kind,
+    Key::Size,
+    Key::Vlan,
+    Key::Priority,
+    Key::Start,
+    Key::Every,
+    Key::Grow,
+    Key::Most,
+    Key::Count,
+    Key::Until,
+];
+
+/// Who sends a stream.
+fn from(alloc: Global, table: &Table) -> Result<Vec<Word>, What>
+    ensures { Gives (λ v. v.items) result (needed key.From some_names (table_view table.now)) }
+{
+    some_names(alloc, Key::From, needed(table, Key::From)?)
+}
+
+/// The stream of a table.
+#[tactic(auto, unfolding(crate::specs::Streams::stream_in))]
+pub(crate) fn stream(alloc: Global, table: &Table) -> Result<Stream, What>
+    ensures { Gives (λ s. s) result (stream_in (table_view table.now)) }
+{
+    only(alloc, table, &STREAM_KEYS)?;
+    let from = from(alloc, table)?;
+    let framing = framing(alloc, table)?;
+    let timing = timing(alloc, table)?;
+    Ok(Stream {
+        from,
+        framing,
+        timing,
+    })
+}
