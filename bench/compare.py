@@ -256,12 +256,13 @@ def compare_scenario(seed):
     expect(f"seed {seed}", ["run", *table], given, (status, report, fault))
     if fault:
         return fault.rstrip("\n") if "check" in fault else "fault: step .. " + fault.split()[-1]
-    budget = world.report(with_budget=True)
-    expect(f"seed {seed}", ["run", "--budget", *table], given, (status, budget, ""))
+    asked = [part for part in ("deliveries", "needed", "budget") if chance.random() < 0.8]
+    flags, parts = ["--" + part for part in asked], world.report(asked)
+    expect(f"seed {seed}", ["run", *flags, *table], given, (status, parts, ""))
     transcript = world.transcript()
-    expect(f"seed {seed}", ["run", "--transcript", "--budget", *table], given, (status, transcript, ""))
+    expect(f"seed {seed}", ["run", "--transcript", *flags, *table], given, (status, transcript, ""))
     expect(f"seed {seed}", ["audit", *table], transcript, (status, report, ""))
-    expect(f"seed {seed}", ["audit", "--budget", *table], transcript, (status, budget, ""))
+    expect(f"seed {seed}", ["audit", *flags, *table], transcript, (status, parts, ""))
     if world.is_whole():
         expect(f"seed {seed}", ["audit", *table], world.transcript("ms"), (status, report, ""))
     return " ".join(world.verdict().split()[: 1 if status == 0 else 2])

@@ -140,7 +140,9 @@ class Node:
         self.notes = {}  # by way out: (source and number, moment, send), the oldest first
         self.heard = []  # (address, moment) of stations, the latest last
         self.record = []
+        self.frames = {}  # of its own, by place
         self.forgot = self.mistaken = None  # the first place of each
+        self.needed = (0,)  # how many notes, and the first place
 
     def spelled(self):
         said = {"station": [printed(mac) for mac in self.macs], "quadbox": []}
@@ -183,7 +185,7 @@ class Node:
         if len(payload) > 1500:
             raise Refused("too-long")
         self.moment, self.sent = max(self.moment, at), self.sent + 1
-        frame = Frame(dst, own, vlan, kind, payload)
+        frame = self.frames[len(self.record)] = Frame(dst, own, vlan, kind, payload)
         if self.role == "station" or self.role == "redbox" and self.knows(dst, self.moment):
             port = PORTS[self.role][-1]
             return Answer(f"sent - {port}", {port: frame.plain()})
@@ -197,7 +199,8 @@ class Node:
             raise Refused("not-proxied")
         self.moment, life = max(self.moment, at), self.lives % 65536
         self.lives += 1
-        return self.numbered(f"life {{}} {life}", supervision(self.mac, about, life), "AB")
+        frame = self.frames[len(self.record)] = supervision(self.mac, about, life)
+        return self.numbered(f"life {{}} {life}", frame, "AB")
 
     def numbered(self, outcome, frame, ports):
         """A frame of the node's own leaves with the next number, without a look."""
@@ -284,14 +287,28 @@ class Node:
         return Answer(" ".join(words + (["up"] if "up" in passed else []) + ports), copies)
 
     def doubt(self, wish, send):
-        """Notes the first place where something needed is forgotten, and where a number is mistaken."""
+        """Notes the first place where something needed is forgotten, where a number is mistaken, and where most is needed."""
         for out in wish.exits:
-            remembered = self.remembered(out)
+            remembered, back = self.remembered(out), self.notes.get(out, [])[::-1]
+            needed = next((n for n, note in enumerate(back, 1) if note[2] == send), 0)
+            if needed > self.needed[0] and self.moment - back[needed - 1][1] < ENTRY_FORGET:
+                self.needed = (needed, len(self.record))
             was_noted = any(note[2] == send for note in self.notes.get(out, []))
             if self.forgot is None and was_noted and all(note[2] != send for note in remembered):
                 self.forgot = len(self.record)
             if self.mistaken is None and any(note[0] == wish.key and note[2] != send for note in remembered):
                 self.mistaken = len(self.record)
+
+    def is_due(self, frame, sender):
+        """Whether a frame of a node is due here."""
+        if self.number == sender or self.role == "quadbox":
+            return False
+        if is_group(frame.dst):
+            return self.role != "station" or not frame.is_supervision()
+        return frame.dst in [*self.macs, self.mac]
+
+    def ups(self, send):
+        return sum(event.send == send and "up" in outcome.split() for _, _, event, outcome in self.record)
 
     def counters(self):
         dropped = sum(self.causes[cause] for cause in CAUSES[2:])
@@ -491,13 +508,43 @@ class World:
         crowded = [start for start, count in crowds.items() if count > self.capacity]
         return f"budget crowded {min(crowded)}" if crowded else f"budget {max(crowds.values(), default=0)}"
 
-    def report(self, with_budget=False):
+    def needed(self):
+        most = max(node.needed[0] for node in self.nodes) if self.nodes else 0
+        first = next((node for node in self.nodes if node.needed[0] == most), None)
+        return f"needed {most} {first.number} {first.needed[1]}" if most else "needed 0"
+
+    def delivery(self, node, place):
+        """The line of a send, or None where it is complete."""
+        frame, send = node.frames[place], (node.number, place)
+        due = {other.number: other.ups(send) for other in self.nodes if other.is_due(frame, node.number)}
+        ups = {other.number: other.ups(send) for other in self.nodes}
+        missed, twice = [n for n in due if not due[n]], [n for n in due if due[n] > 1]
+        strayed = [n for n in ups if ups[n] and n not in due]
+        if not missed + twice + strayed:
+            return None
+        lost = [f"{number}:{['forth', 'back'][row.dir]}:{row.fate}" for number, link in enumerate(self.links)
+                for row in link.rows if row.send == send and row.fate != "taken"]
+        told = f"send {node.number}:{place} at {node.record[place][1]} to {printed(frame.dst)} due {len(due)}"
+        for name, those in (("missed", missed), ("twice", twice), ("strayed", strayed), ("lost", lost)):
+            told += f" {name} " + (",".join(map(str, those)) or "-")
+        return told
+
+    def deliveries(self):
+        """The lines of who got what."""
+        lines = [self.delivery(node, place) for node in self.nodes for place in sorted(node.frames)]
+        return [line for line in lines if line] + [f"deliveries {len(lines)} complete {lines.count(None)}"]
+
+    def report(self, asked=()):
+        """Its report, with the parts that are asked for: deliveries, needed, budget."""
         lines = [f"bench 1 table {self.capacity} nodes {len(self.nodes)} links {len(self.links)}"]
         lines += [f"node {node.number} {node.role} {node.counters()}" for node in self.nodes]
         for number, link in enumerate(self.links):
             taken = sum(row.fate == "taken" for row in link.rows)
             lines.append(f"link {number} put {len(link.rows)} taken {taken} lost {len(link.rows) - taken}")
-        return text(lines + [self.budget()] * with_budget + [self.verdict()])
+        lines += self.deliveries() if "deliveries" in asked else []
+        lines += [self.needed()] if "needed" in asked else []
+        lines += [self.budget()] if "budget" in asked else []
+        return text([*lines, self.verdict()])
 
     def transcript(self, unit="us"):
         """Its text of version 2, or of version 1, which tells milliseconds."""

@@ -1,15 +1,17 @@
 //! The audit of a finished run.
-ghost use Rattle.std.specs.Prelude.{◌≡◌, length, IfErr, IfOk};
+ghost use Rattle.std.specs.Prelude.{◌≡◌, length, IfErr, IfOk, OnOk};
 ghost use Rattle.hsr_audit.specs.Certificate.{IsCertified, certified};
 ghost use Rattle.hsr_audit.specs.Doubts.{IsFirstFault, IsRefused};
-ghost use Rattle.hsr_closing.specs.Finished.{IsFinished};
 ghost use Rattle.hsr_audit.specs.Round.{IsClear, IsOwnRing};
+ghost use Rattle.hsr_closing.specs.Finished.{IsFinished};
+ghost use Rattle.hsr_deliveries.specs.Delivered.{AreComplete};
 
 use crate::certificate::{Certificate, Certified, list_record};
 use crate::doubt::{AuditFault, Doubt};
 use crate::doubted::record_doubt;
 use crate::round::{addresses, are_different, are_forwarding, is_round, loses_on_one};
 use hsr_closing::Closed;
+use hsr_deliveries::once_is_complete;
 use hsr_frame::{Mac, NoMemory};
 use hsr_law::exactly_once;
 use std::alloc::Global;
@@ -73,10 +75,12 @@ fn list_sends<const C: usize>(
 /// The certificate of a run, or the first doubt.
 fn certify<const C: usize>(alloc: Global, closed: &Closed<C>) -> Result<Certificate, AuditFault>
     ensures certified { IfOk result (λ c. IsCertified closed.now.run c.sends.items) }
+    ensures complete { OnOk result (AreComplete closed.now.run) }
     ensures fault { IfErr result (IsFirstFault closed.now.run) }
 {
     let macs = clear_macs(alloc, closed)?;
     exactly_once();
+    once_is_complete();
     match list_sends(alloc, closed, &macs) {
         Ok(sends) => Ok(Certificate { sends }),
         Err(_) => Err(AuditFault::NoMemory),
@@ -86,9 +90,11 @@ fn certify<const C: usize>(alloc: Global, closed: &Closed<C>) -> Result<Certific
 /// The certificate of a finished run: each of its sends, with the nodes that it is for, each of which took its frame up
 /// just once (IEC 62439-3 clause 5.3). There is one exactly where the nodes and links are a ring of DANHs in modes H and U with
 /// addresses of their own, copies were lost on at most one link, and nothing was forgotten that was needed and nothing
-/// mistaken; else the first doubt is named. `NoMemory` where room is refused.
+/// mistaken; else the first doubt is named. Each send of a certified run is complete, as `deliveries` tells. `NoMemory` where
+/// room is refused.
 pub fn audit<const C: usize>(alloc: Global, closed: &Closed<C>) -> Result<Certificate, AuditFault>
     ensures certified { IfOk result (λ c. IsCertified closed.now.run c.sends.items) }
+    ensures complete { OnOk result (AreComplete closed.now.run) }
     ensures first { IfErr result (IsFirstFault closed.now.run) }
     ensures refused { IfErr result (IsRefused closed.now.run) }
 {

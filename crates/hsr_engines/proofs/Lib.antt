@@ -2,5 +2,4 @@ pub mod Turns
 mod Orders
 mod Said
 mod Telling
-mod Sizes
 mod Runs

@@ -1,5 +1,5 @@
 -- How `run`, `threads` and `audit` end, by what was shown and by what was read.
-use Rattle.std.proofs.Common.{ℕ, ◌≡◌, ◌≢◌, ◌^◌, Bool, List, Option, Some, None, Err, subst, sym, IfSome}
+use Rattle.std.proofs.Common.{ℕ, ◌≡◌, ◌≢◌, ◌^◌, List, Option, Some, None, Err, subst, sym, IfSome}
 use Rattle.std.specs.Io.KnownBytes.{Keeps}
 use Rattle.hsr_closing.specs.Finished.{Finished, IsFinished}
 use Rattle.hsr_transcript.specs.Answers.{Answers, IsTextOf}
@@ -7,17 +7,19 @@ use Rattle.hsr_transcript_text.specs.declared.fault.ReadFault.{ReadFault}
 use Rattle.hsr_transcript_text.specs.declared.fault.ReadFault.TheVariants as read
 use Rattle.hsr_engines.specs.AuditRun.{AuditEnds, IsAudited, IsUnread, transcript_fault}
 use Rattle.hsr_engines.specs.Text.{IsWhole}
-use Rattle.hsr_engines.specs.Shown.{IsDelivered, IsFound, IsReportOf}
+use Rattle.hsr_report.specs.Found.{IsFound, IsReportOf}
+use Rattle.hsr_options.specs.declared.chosen.Asked.{Asked}
+use Rattle.hsr_engines.specs.Shown.{IsDelivered}
 use Rattle.hsr_engines.specs.Ending.{Ends}
 use Rattle.hsr_engines.specs.Reading.{Said, scenario_of}
 use Rattle.hsr_engines.specs.ThreadsRun.{IsRunShown, IsUnrun, ThreadsEnds}
 use Rattle.hsr_engines.specs.ScenarioRun.{IsReported, IsUnreported, ScenarioEnds}
-use Rattle.hsr_engines.specs.declared.chosen.Showing.{Showing}
+use Rattle.hsr_options.specs.declared.chosen.Showing.{Showing}
 use Rattle.hsr_engines.specs.declared.fault.Fault.{Fault}
 use Rattle.hsr_engines.specs.declared.fault.Fault.TheVariants.{Line, Scenario, Step, Fine, Transcript, Check, Read, Write, Memory, Thread, Gate}
 use Rattle.hsr_engines.specs.declared.fault.Status.{Status}
 use Rattle.hsr_engines.specs.declared.fault.Status.TheVariants.{Certified, Fault as Stopped, Doubt}
-use Rattle.hsr_engines.specs.declared.finding.Finding.{Finding}
+use Rattle.hsr_report.specs.declared.finding.Finding.{Finding}
 use Rattle.hsr_engines.proofs.Said.{as_read}
 
 -- what was delivered ends a run of which it is shown
@@ -95,28 +97,28 @@ unrun_told capacity said fault u is = let same : fault ≡ Read = cc in subst (�
 
 -- ---- a transcript
 
-audited_report : (capacity : ℕ) (budget : Bool) (text : List ℕ) (held holds : Option (List ℕ)) (found : Finding) (written : List ℕ) (status : Status) → IsAudited capacity budget text found written
-    → IsDelivered held holds found written status → AuditEnds capacity budget text held holds status
-audited_report capacity budget text held holds found written status r d = told (IsAudited capacity budget text) (IsUnread capacity text) held holds found written status r d
+audited_report : (capacity : ℕ) (asked : Asked) (text : List ℕ) (held holds : Option (List ℕ)) (found : Finding) (written : List ℕ) (status : Status) → IsAudited capacity asked text found written
+    → IsDelivered held holds found written status → AuditEnds capacity asked text held holds status
+audited_report capacity asked text held holds found written status r d = told (IsAudited capacity asked text) (IsUnread capacity text) held holds found written status r d
 
-audited_fault : (capacity : ℕ) (budget : Bool) (text : List ℕ) (held holds : Option (List ℕ)) (fault : Fault) → IsUnread capacity text fault → Keeps held holds
-    → AuditEnds capacity budget text held holds (Stopped fault)
-audited_fault capacity budget text held holds fault u k = stopped (IsAudited capacity budget text) (IsUnread capacity text) held holds fault (λ h. h) u k
+audited_fault : (capacity : ℕ) (asked : Asked) (text : List ℕ) (held holds : Option (List ℕ)) (fault : Fault) → IsUnread capacity text fault → Keeps held holds
+    → AuditEnds capacity asked text held holds (Stopped fault)
+audited_fault capacity asked text held holds fault u k = stopped (IsAudited capacity asked text) (IsUnread capacity text) held holds fault (λ h. h) u k
 
-pub audited_known : (capacity : ℕ) (budget : Bool) (all held holds : Option (List ℕ)) (found : Finding) (written : List ℕ) (status : Status) → IfSome all (λ text. IsAudited capacity budget text found written)
-    → IsDelivered held holds found written status → IfSome all (λ text. AuditEnds capacity budget text held holds status)
-audited_known capacity budget None held holds found written status r d = tt
-audited_known capacity budget (Some text) held holds found written status r d = audited_report capacity budget text held holds found written status r d
+pub audited_known : (capacity : ℕ) (asked : Asked) (all held holds : Option (List ℕ)) (found : Finding) (written : List ℕ) (status : Status) → IfSome all (λ text. IsAudited capacity asked text found written)
+    → IsDelivered held holds found written status → IfSome all (λ text. AuditEnds capacity asked text held holds status)
+audited_known capacity asked None held holds found written status r d = tt
+audited_known capacity asked (Some text) held holds found written status r d = audited_report capacity asked text held holds found written status r d
 
-pub unread_known : (capacity : ℕ) (budget : Bool) (all held holds : Option (List ℕ)) (fault : Fault) → IfSome all (λ text. IsUnread capacity text fault) → Keeps held holds
-    → IfSome all (λ text. AuditEnds capacity budget text held holds (Stopped fault))
-unread_known capacity budget None held holds fault u k = tt
-unread_known capacity budget (Some text) held holds fault u k = audited_fault capacity budget text held holds fault u k
+pub unread_known : (capacity : ℕ) (asked : Asked) (all held holds : Option (List ℕ)) (fault : Fault) → IfSome all (λ text. IsUnread capacity text fault) → Keeps held holds
+    → IfSome all (λ text. AuditEnds capacity asked text held holds (Stopped fault))
+unread_known capacity asked None held holds fault u k = tt
+unread_known capacity asked (Some text) held holds fault u k = audited_fault capacity asked text held holds fault u k
 
-pub audited_run : (capacity : ℕ) (budget : Bool) (all : Option (List ℕ)) (f : Finished) (found : Finding) (written : List ℕ) → IfSome all (λ text. IsTextOf capacity f text) → IsFinished f → IsFound f.run found
-    → IsReportOf budget f.run found written → IfSome all (λ text. IsAudited capacity budget text found written)
-audited_run capacity budget None f found written text holds is_found is_report = tt
-audited_run capacity budget (Some text) f found written is_text holds is_found is_report =
+pub audited_run : (capacity : ℕ) (asked : Asked) (all : Option (List ℕ)) (f : Finished) (found : Finding) (written : List ℕ) → IfSome all (λ text. IsTextOf capacity f text) → IsFinished f → IsFound f.run found
+    → IsReportOf asked f.run found written → IfSome all (λ text. IsAudited capacity asked text found written)
+audited_run capacity asked None f found written text holds is_found is_report = tt
+audited_run capacity asked (Some text) f found written is_text holds is_found is_report =
     record { finished = f; is_text = is_text; holds = holds; is_found = is_found; is_report = is_report }
 
 pub memory_known : (capacity : ℕ) (all : Option (List ℕ)) (fault : Fault) → fault ≡ Memory → IfSome all (λ text. IsUnread capacity text fault)

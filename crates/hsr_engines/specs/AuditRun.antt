@@ -1,5 +1,5 @@
 -- What `audit` tells of a transcript.
-use Rattle.std.specs.Prelude.{ℕ, ◌≡◌, Bool, List, Option, Ok, Err}
+use Rattle.std.specs.Prelude.{ℕ, ◌≡◌, List, Option, Ok, Err}
 use Rattle.hsr_closing.specs.Finished.{Finished, IsFinished}
 use Rattle.hsr_transcript.specs.Answers.{Disagreeing, IsBadAt, IsTextOf}
 use Rattle.hsr_transcript_text.specs.Form.{form_of}
@@ -7,20 +7,21 @@ use Rattle.hsr_transcript_text.specs.Transcript.{Said}
 use Rattle.hsr_transcript_text.specs.declared.fault.ReadFault.{ReadFault}
 use Rattle.hsr_transcript_text.specs.declared.fault.ReadFault.TheVariants as read
 use Rattle.hsr_engines.specs.Ending.{Ends}
-use Rattle.hsr_engines.specs.Shown.{IsFound, IsReportOf}
+use Rattle.hsr_report.specs.Found.{IsFound, IsReportOf}
+use Rattle.hsr_options.specs.declared.chosen.Asked.{Asked}
+use Rattle.hsr_report.specs.declared.finding.Finding.{Finding}
 use Rattle.hsr_engines.specs.declared.fault.Fault.{Fault}
 use Rattle.hsr_engines.specs.declared.fault.Fault.TheVariants.{Transcript, Check, Read, Memory}
 use Rattle.hsr_engines.specs.declared.fault.Status.{Status}
 use Rattle.hsr_engines.specs.declared.fault.TranscriptFault.TheVariants.{Version, Line, End}
-use Rattle.hsr_engines.specs.declared.finding.Finding.{Finding}
 
 -- the text is that of a finished run, of which this was found; and this is its report
-pub record IsAudited (capacity : ℕ) (budget : Bool) (text : List ℕ) (found : Finding) (written : List ℕ) : Type 0 where
+pub record IsAudited (capacity : ℕ) (asked : Asked) (text : List ℕ) (found : Finding) (written : List ℕ) : Type 0 where
   pub finished : Finished
   pub is_text : IsTextOf capacity finished text
   pub holds : IsFinished finished
   pub is_found : IsFound finished.run found
-  pub is_report : IsReportOf budget finished.run found written
+  pub is_report : IsReportOf asked finished.run found written
 
 -- the text is that of no run, for this cause; or reading or memory failed
 abbrev pub IsUnread : ℕ → List ℕ → Fault → Type 0
@@ -43,5 +44,5 @@ transcript_fault read.NoMemory = Memory
 
 -- How `audit` ends, and what it wrote: the report of the run whose text it read; or nothing, since the text is that of no run, or
 -- reading or memory failed. Of a failed write no more is said than that there was a report to write.
-abbrev pub AuditEnds : ℕ → Bool → List ℕ → Option (List ℕ) → Option (List ℕ) → Status → Type 0
-AuditEnds capacity budget text = Ends (IsAudited capacity budget text) (IsUnread capacity text)
+abbrev pub AuditEnds : ℕ → Asked → List ℕ → Option (List ℕ) → Option (List ℕ) → Status → Type 0
+AuditEnds capacity asked text = Ends (IsAudited capacity asked text) (IsUnread capacity text)

@@ -1,12 +1,12 @@
 -- How a run ends of which something is shown, and what it wrote.
 use Rattle.std.specs.Prelude.{ℕ, ◌≡◌, List, Option}
 use Rattle.std.specs.Io.KnownBytes.{Appends, Keeps}
-use Rattle.hsr_engines.specs.Report.{status_of}
+use Rattle.hsr_engines.specs.Shown.{status_of}
 use Rattle.hsr_engines.specs.declared.fault.Fault.{Fault}
 use Rattle.hsr_engines.specs.declared.fault.Fault.TheVariants.{Read, Write}
 use Rattle.hsr_engines.specs.declared.fault.Status.{Status}
 use Rattle.hsr_engines.specs.declared.fault.Status.TheVariants.{Certified, Fault as Stopped, Doubt}
-use Rattle.hsr_engines.specs.declared.finding.Finding.{Finding}
+use Rattle.hsr_report.specs.declared.finding.Finding.{Finding}
 
 -- what was found is told by the status, and what is to be shown of it was written
 abbrev pub IsWritten : (Finding → List ℕ → Type 0) → Option (List ℕ) → Option (List ℕ) → Status → Type 0

@@ -1,6 +1,4 @@
-pub mod Tables
 pub mod Fault
-pub mod Report
 pub mod Output
 pub mod Run
 pub mod Playing

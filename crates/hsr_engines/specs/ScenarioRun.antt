@@ -10,12 +10,13 @@ use Rattle.hsr_scenario.specs.Meaning.{Meant}
 use Rattle.hsr_engines.specs.Ending.{Ends}
 use Rattle.hsr_engines.specs.Playing.{Halts, Plays}
 use Rattle.hsr_engines.specs.Reading.{Said}
-use Rattle.hsr_engines.specs.Shown.{IsFound, IsShown}
-use Rattle.hsr_engines.specs.declared.chosen.Showing.{Showing}
+use Rattle.hsr_report.specs.Found.{IsFound}
+use Rattle.hsr_report.specs.declared.finding.Finding.{Finding}
+use Rattle.hsr_engines.specs.Shown.{IsShown}
+use Rattle.hsr_options.specs.declared.chosen.Showing.{Showing}
 use Rattle.hsr_engines.specs.declared.fault.Fault.{Fault}
 use Rattle.hsr_engines.specs.declared.fault.Fault.TheVariants.{Scenario, Step, Check, Memory}
 use Rattle.hsr_engines.specs.declared.fault.Status.{Status}
-use Rattle.hsr_engines.specs.declared.finding.Finding.{Finding}
 
 -- ---- the scenario, played
 

@@ -16,12 +16,13 @@ use Rattle.hsr_step.specs.declared.step.WorldFault.TheVariants as world
 use Rattle.hsr_engines.specs.Ending.{Ends}
 use Rattle.hsr_engines.specs.Fault.{check_fault, step_fault}
 use Rattle.hsr_engines.specs.Reading.{Said}
-use Rattle.hsr_engines.specs.Shown.{IsFound, IsShown}
-use Rattle.hsr_engines.specs.declared.chosen.Showing.{Showing}
+use Rattle.hsr_report.specs.Found.{IsFound}
+use Rattle.hsr_report.specs.declared.finding.Finding.{Finding}
+use Rattle.hsr_engines.specs.Shown.{IsShown}
+use Rattle.hsr_options.specs.declared.chosen.Showing.{Showing}
 use Rattle.hsr_engines.specs.declared.fault.Fault.{Fault}
 use Rattle.hsr_engines.specs.declared.fault.Fault.TheVariants.{Scenario, Step, Fine, Check, Memory, Thread, Gate}
 use Rattle.hsr_engines.specs.declared.fault.Status.{Status}
-use Rattle.hsr_engines.specs.declared.finding.Finding.{Finding}
 
 -- why there is no run, as a fault of the program
 abbrev pub run_fault : RunFault → Fault

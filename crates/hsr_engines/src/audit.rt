@@ -2,13 +2,13 @@
 ghost use Rattle.std.specs.Prelude.{◌≡◌, ◌≤◌, IfErr, IfOk, IfSome};
 ghost use Rattle.hsr_transcript.specs.Answers.{IsTextOf};
 ghost use Rattle.hsr_engines.specs.AuditRun.{AuditEnds, IsAudited, IsUnread, transcript_fault};
-ghost use Rattle.hsr_engines.specs.Tables.{capacity_of};
+ghost use Rattle.hsr_options.specs.Tables.{capacity_of};
 
-use crate::chosen::Table;
 use crate::fault::{Fault, Status, TranscriptFault};
-use crate::finding::{Finding, found};
-use crate::shown::{deliver, report_of};
+use crate::shown::{deliver, finding_of, report_of};
 use hsr_closing::Closed;
+use hsr_options::{Asked, Table};
+use hsr_report::Finding;
 use hsr_transcript::{ReadFault, read};
 use std::alloc::Global;
 use std::io::{Read, Write};
@@ -44,21 +44,21 @@ fn closed<R: Read, const C: usize>(alloc: Global, reader: &mut R) -> Result<Clos
 fn audited<R: Read, const C: usize>(
     alloc: Global,
     reader: &mut R,
-    budget: bool,
+    asked: Asked,
 ) -> Result<(Finding, Vec<u8>), Fault>
     requires entries { (1 ≤ C) × (C ≤ 65535) }
-    ensures ok { IfOk result (λ r. IfSome (R.remaining reader.old) (λ text. IsAudited C budget text r.0 r.1.items)) }
+    ensures ok { IfOk result (λ r. IfSome (R.remaining reader.old) (λ text. IsAudited C asked text r.0 r.1.items)) }
     ensures err { IfErr result (λ f. IfSome (R.remaining reader.old) (λ text. IsUnread C text f)) }
 {
     let closed = match closed::<R, C>(alloc, reader) {
         Ok(closed) => closed,
         Err(fault) => return Err(fault),
     };
-    let finding = match found(alloc, &closed) {
+    let finding = match finding_of(alloc, &closed) {
         Ok(finding) => finding,
         Err(fault) => return Err(fault),
     };
-    match report_of(alloc, &closed, finding, budget) {
+    match report_of(alloc, &closed, finding, asked) {
         Ok(text) => Ok((finding, text)),
         Err(fault) => Err(fault),
     }
@@ -69,20 +69,20 @@ fn audited_with<R: Read>(
     alloc: Global,
     reader: &mut R,
     table: Table,
-    budget: bool,
+    asked: Asked,
 ) -> Result<(Finding, Vec<u8>), Fault>
-    ensures ok { IfOk result (λ r. IfSome (R.remaining reader.old) (λ text. IsAudited (capacity_of table) budget text r.0 r.1.items)) }
+    ensures ok { IfOk result (λ r. IfSome (R.remaining reader.old) (λ text. IsAudited (capacity_of table) asked text r.0 r.1.items)) }
     ensures err { IfErr result (λ f. IfSome (R.remaining reader.old) (λ text. IsUnread (capacity_of table) text f)) }
 {
     match table {
-        Table::Small => audited::<R, 4>(alloc, reader, budget),
-        Table::Large => audited::<R, 512>(alloc, reader, budget),
+        Table::Small => audited::<R, 4>(alloc, reader, asked),
+        Table::Large => audited::<R, 512>(alloc, reader, asked),
     }
 }
 
 /// Reads a transcript of a run with tables of the chosen size, audits the run, and writes its report: the nodes with their
-/// counters, the links with what became of their copies, and what the audit found, which the status tells too. The report is
-/// formed whole before it is written. `Fault::Transcript` where the text is no run's, and `Fault::Check` where links and
+/// counters, the links with what became of their copies, the parts that are asked for, and what the audit found, which the
+/// status tells too. The report is formed whole before it is written. `Fault::Transcript` where the text is no run's, and `Fault::Check` where links and
 /// records of its run disagree; `Fault::Read` where the reader fails or takes over 2^40 reads, `Fault::Memory` where room is
 /// refused: then nothing is written.
 pub fn audit_run<R: Read, W: Write>(
@@ -90,12 +90,12 @@ pub fn audit_run<R: Read, W: Write>(
     reader: &mut R,
     writer: &mut W,
     table: Table,
-    budget: bool,
+    asked: Asked,
 ) -> Status
     ensures { IfSome (R.remaining reader.old) (λ text.
-        AuditEnds (capacity_of table) budget text (W.contents writer.old) (W.contents writer.new) result) }
+        AuditEnds (capacity_of table) asked text (W.contents writer.old) (W.contents writer.new) result) }
 {
-    match audited_with(alloc, reader, table, budget) {
+    match audited_with(alloc, reader, table, asked) {
         Ok((finding, text)) => deliver(writer, finding, text.as_slice()),
         Err(fault) => Status::Fault(fault),
     }

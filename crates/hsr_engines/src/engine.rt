@@ -3,15 +3,15 @@ ghost use Rattle.std.specs.Prelude.{◌≡◌, ◌≢◌, ◌<◌, ◌≤◌, �
 ghost use Rattle.hsr_text.specs.Lines.{ReadsFront, lines_of};
 ghost use Rattle.hsr_danh.specs.Machine.{new_machine};
 ghost use Rattle.hsr_engines.specs.Output.{Ended, output};
-ghost use Rattle.hsr_engines.specs.Tables.{capacity_of};
+ghost use Rattle.hsr_options.specs.Tables.{capacity_of};
 ghost use Rattle.hsr_engines.specs.Run.{Finished, Ran, Served, Turned};
 ghost use Rattle.hsr_engines.specs.declared.fault.Fault.TheVariants.{Read as ReadFailed};
 
-use crate::chosen::{NodeOptions, Table};
 use crate::fault::{Fault, Status};
 use arrayvec::ArrayVec;
 use hsr_danh::Danh;
 use hsr_node_text::{answer_request, put_counters, read_request};
+use hsr_options::{NodeOptions, Table};
 use hsr_text::{Front, READ_LIMIT, TimeUnit, WordFault, next_line};
 use std::alloc::Global;
 use std::io::{BufRead, BufReader, Read, Write};
@@ -115,10 +115,6 @@ fn finish<W: Write, const C: usize>(
     text.clear();
     put_counters(text, &danh.counters())?;
     match writer.write_all(text.as_slice()) {
-        Ok(()) => {}
-        Err(_) => return Err(Fault::Write),
-    }
-    match writer.flush() {
         Ok(()) => Ok(()),
         Err(_) => Err(Fault::Write),
     }

@@ -3,18 +3,18 @@ ghost use Rattle.std.specs.Prelude.{◌≡◌, ◌≢◌, ◌≤◌, IfErr, IfOk
 ghost use Rattle.hsr_world.specs.Lawful.{IsEnded, finished_of};
 ghost use Rattle.hsr_engines.specs.Reading.{scenario_of};
 ghost use Rattle.hsr_engines.specs.ScenarioRun.{IsPlayed, IsReported, IsUnclosed, IsUnplayed, IsUnreported, ScenarioEnds};
-ghost use Rattle.hsr_engines.specs.Tables.{capacity_of};
+ghost use Rattle.hsr_options.specs.Tables.{capacity_of};
 ghost use Rattle.hsr_engines.specs.declared.fault.Fault.TheVariants.{Read as ReadFailed};
 ghost use Rattle.hsr_engines.specs.declared.fault.Status.TheVariants.{Fault as Stopped};
 
-use crate::chosen::{Showing, Table};
 use crate::fault::{Fault, Status};
-use crate::finding::Finding;
 use crate::playing::play;
 use crate::reading::scenario_of;
 use crate::shown::{deliver, told};
 use crate::text::read_text;
 use hsr_closing::Closed;
+use hsr_options::{Showing, Table};
+use hsr_report::Finding;
 use hsr_ring::World;
 use hsr_scenario::TEXT_LIMIT;
 use std::alloc::Global;

@@ -2,15 +2,14 @@
 ghost use Rattle.std.specs.Prelude.{◌≡◌, IfErr, IfOk, OnOk};
 ghost use Rattle.hsr_transcript_text.specs.Transcript.{run_text};
 ghost use Rattle.hsr_closing.specs.Finished.{IsFinished};
-ghost use Rattle.hsr_engines.specs.Shown.{IsAsked, IsDelivered, IsFound, IsReportOf, IsShown};
+ghost use Rattle.hsr_report.specs.Found.{IsFound, IsReportOf};
+ghost use Rattle.hsr_engines.specs.Shown.{IsDelivered, IsShown, status_of};
 ghost use Rattle.hsr_engines.specs.declared.fault.Fault.TheVariants.{Memory};
 
-use crate::chosen::Showing;
 use crate::fault::{Fault, Status};
-use crate::finding::{Finding, found};
-use crate::report::report;
-use crate::spending::{Spending, spending_of};
 use hsr_closing::Closed;
+use hsr_options::{Asked, Showing};
+use hsr_report::{Finding, found, report};
 use hsr_transcript::write;
 use std::alloc::Global;
 use std::io::Write;
@@ -28,41 +27,40 @@ fn run_text<const C: usize>(alloc: Global, closed: &Closed<C>) -> Result<Vec<u8>
     }
 }
 
-/// What a finished run spent of its tables, where that is asked for.
-fn asked<const C: usize>(
-    alloc: Global,
-    closed: &Closed<C>,
-    budget: bool,
-) -> Result<Option<Spending>, Fault>
-    ensures ok { IfOk result (λ spent. IsAsked budget closed.now.run spent) }
-    ensures err { IfErr result (λ f. f ≡ Memory) }
+/// How a run ends of which this was found.
+fn status_of(finding: Finding) -> Status
+    ensures { result ≡ status_of finding }
 {
-    if !budget {
-        return Ok(None);
-    }
-    match spending_of(alloc, closed) {
-        Ok(spending) => Ok(Some(spending)),
-        Err(fault) => Err(fault),
+    match finding {
+        Finding::Certified(_) => Status::Certified,
+        Finding::Doubt(_) => Status::Doubt,
     }
 }
 
-/// The report of a finished run of which this was found, with the line of its budget where that is asked for.
+/// The report of a finished run of which this was found, with the parts that are asked for.
 pub fn report_of<const C: usize>(
     alloc: Global,
     closed: &Closed<C>,
     finding: Finding,
-    budget: bool,
+    asked: Asked,
 ) -> Result<Vec<u8>, Fault>
-    ensures ok { IfOk result (λ text. IsReportOf budget closed.now.run finding text.items) }
+    ensures ok { IfOk result (λ text. IsReportOf asked closed.now.run finding text.items) }
     ensures finished { OnOk result (IsFinished closed.now) }
     ensures err { IfErr result (λ f. f ≡ Memory) }
 {
-    let spending = match asked(alloc, closed, budget) {
-        Ok(spending) => spending,
-        Err(fault) => return Err(fault),
-    };
-    match report(alloc, closed, finding, spending) {
+    match report(alloc, closed, finding, asked) {
         Ok(text) => Ok(text),
+        Err(_) => Err(Fault::Memory),
+    }
+}
+
+/// What the audit of a finished run finds.
+pub fn finding_of<const C: usize>(alloc: Global, closed: &Closed<C>) -> Result<Finding, Fault>
+    ensures ok { IfOk result (λ finding. IsFound closed.now.run finding) }
+    ensures err { IfErr result (λ f. f ≡ Memory) }
+{
+    match found(alloc, closed) {
+        Ok(finding) => Ok(finding),
         Err(_) => Err(Fault::Memory),
     }
 }
@@ -77,10 +75,9 @@ fn shown<const C: usize>(
     ensures ok { IfOk result (λ text. IsShown showing closed.now finding text.items) }
     ensures err { IfErr result (λ f. f ≡ Memory) }
 {
-    if showing.transcript {
-        run_text(alloc, closed)
-    } else {
-        report_of(alloc, closed, finding, showing.budget)
+    match showing {
+        Showing::Transcript => run_text(alloc, closed),
+        Showing::Report(asked) => report_of(alloc, closed, finding, asked),
     }
 }
 
@@ -94,7 +91,7 @@ pub fn told<const C: usize>(
     ensures text { IfOk result (λ r. IsShown showing closed.now r.0 r.1.items) }
     ensures err { IfErr result (λ f. f ≡ Memory) }
 {
-    let finding = match found(alloc, closed) {
+    let finding = match finding_of(alloc, closed) {
         Ok(finding) => finding,
         Err(fault) => return Err(fault),
     };
@@ -104,12 +101,12 @@ pub fn told<const C: usize>(
     }
 }
 
-/// Writes what is shown of a run, and tells how it ended.
+/// Writes what is shown of a run, and tells how it ended. It doesn't flush.
 pub fn deliver<W: Write>(writer: &mut W, finding: Finding, text: &[u8]) -> Status
     ensures { IsDelivered (W.contents writer.old) (W.contents writer.new) finding text.now result }
 {
-    if writer.write_all(text).is_err() || writer.flush().is_err() {
-        return Status::Fault(Fault::Write);
+    match writer.write_all(text) {
+        Ok(()) => status_of(finding),
+        Err(_) => Status::Fault(Fault::Write),
     }
-    finding.status()
 }

@@ -1,18 +1,18 @@
 //! Scenarios that run in threads, and are shown by transcript or report.
 ghost use Rattle.std.specs.Prelude.{◌≡◌, ◌≢◌, ◌≤◌, IfErr, IfOk, IfSome};
 ghost use Rattle.hsr_engines.specs.Reading.{scenario_of};
-ghost use Rattle.hsr_engines.specs.Tables.{capacity_of};
+ghost use Rattle.hsr_options.specs.Tables.{capacity_of};
 ghost use Rattle.hsr_engines.specs.ThreadsRun.{IsRan, IsRunShown, IsUnrun, ThreadsEnds, run_fault};
 ghost use Rattle.hsr_engines.specs.declared.fault.Fault.TheVariants.{Read as ReadFailed};
 ghost use Rattle.hsr_engines.specs.declared.fault.Status.TheVariants.{Fault as Stopped};
 
-use crate::chosen::{Showing, Table};
 use crate::fault::{Fault, Status};
-use crate::finding::Finding;
 use crate::reading::scenario_of;
 use crate::shown::{deliver, told};
 use crate::text::read_text;
 use hsr_closing::Closed;
+use hsr_options::{Showing, Table};
+use hsr_report::Finding;
 use hsr_runner::{OpenGate, RunFault, run_threads};
 use hsr_scenario::TEXT_LIMIT;
 use hsr_step::DrainFault;

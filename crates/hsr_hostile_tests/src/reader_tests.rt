@@ -1,6 +1,8 @@
 //! Readers that fail at each of their reads, that give one octet a call, and that are interrupted.
 use crate::fixtures::{ANSWER, LINE, RING, Reader, Writer, defaults};
-use hsr_engines::{Fault, Showing, Status, Table, audit_run, node_run, scenario_run, threads_run};
+use hsr_engines::{
+    Asked, Fault, Showing, Status, Table, audit_run, node_run, scenario_run, threads_run,
+};
 use hsr_networks::{RING_REPORT, RING_TRANSCRIPT};
 use std::marker::Sync;
 use std::sync::Wait;
@@ -15,7 +17,7 @@ fn runs(rt: &HostRuntime, reader: &mut Reader) -> bool {
         reader,
         &mut writer,
         Table::Large,
-        Showing::REPORT,
+        Showing::Report(Asked::NOTHING),
     );
     if is_enough {
         status == Status::Certified && writer.is_whole()
@@ -45,7 +47,7 @@ fn runs_in_threads<H: AllocGlobal + Threads + Wait + Sync>(rt: &H, reader: &mut 
         reader,
         &mut writer,
         Table::Large,
-        Showing::REPORT,
+        Showing::Report(Asked::NOTHING),
     );
     if is_enough {
         status == Status::Certified && writer.is_whole()
@@ -69,7 +71,13 @@ fn scenario_read_by_octets_for_threads(rt: HostRuntime) {
 fn audits(rt: &HostRuntime, reader: &mut Reader) -> bool {
     let is_enough = reader.reads_left > RING_TRANSCRIPT.len();
     let mut writer = Writer::new(RING_REPORT);
-    let status = audit_run(rt.alloc(), reader, &mut writer, Table::Large, false);
+    let status = audit_run(
+        rt.alloc(),
+        reader,
+        &mut writer,
+        Table::Large,
+        Asked::NOTHING,
+    );
     if is_enough {
         status == Status::Certified && writer.is_whole()
     } else {

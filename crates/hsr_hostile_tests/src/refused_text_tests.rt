@@ -2,7 +2,9 @@
 //! with room.
 use crate::fixtures::{ANSWER, LINE, RING, Writer, defaults};
 use hsr_closing::Closed;
-use hsr_engines::{Fault, Showing, Status, Table, audit_run, node_run, scenario_run, threads_run};
+use hsr_engines::{
+    Asked, Fault, Showing, Status, Table, audit_run, node_run, scenario_run, threads_run,
+};
 use hsr_networks::{RING_REPORT, RING_TRANSCRIPT};
 use hsr_scenario::{Scenario, ScenarioFault, What};
 use hsr_transcript::{ReadFault, WriteFault, write};
@@ -75,12 +77,12 @@ fn runs(alloc: Global, text: &'static str, showing: Showing) -> bool {
 
 #[test]
 fn scenario_reported(rt: HostRuntime) {
-    assert!(rt; runs(rt.alloc(), RING_REPORT, Showing::REPORT));
+    assert!(rt; runs(rt.alloc(), RING_REPORT, Showing::Report(Asked::NOTHING)));
 }
 
 #[test]
 fn scenario_transcribed(rt: HostRuntime) {
-    assert!(rt; runs(rt.alloc(), RING_TRANSCRIPT, Showing::TRANSCRIPT));
+    assert!(rt; runs(rt.alloc(), RING_TRANSCRIPT, Showing::Transcript));
 }
 
 /// The same of a run in threads, of which one may be refused too. All of them are joined, else it wouldn't end.
@@ -93,7 +95,7 @@ fn runs_in_threads<H: AllocGlobal + Threads + Wait + Sync>(rt: &H) -> bool {
         &mut reader,
         &mut writer,
         Table::Large,
-        Showing::REPORT,
+        Showing::Report(Asked::NOTHING),
     );
     let is_refused = status == Status::Fault(Fault::Memory)
         || status == Status::Fault(Fault::Thread);
@@ -105,7 +107,7 @@ fn runs_in_threads<H: AllocGlobal + Threads + Wait + Sync>(rt: &H) -> bool {
             &mut reader,
             &mut writer,
             Table::Large,
-            Showing::REPORT,
+            Showing::Report(Asked::NOTHING),
         );
     }
     status == Status::Certified && writer.is_whole()
@@ -120,11 +122,23 @@ fn scenario_in_threads(rt: HostRuntime) {
 fn transcript_audited(rt: HostRuntime) {
     let mut writer = Writer::new(RING_REPORT);
     let mut reader = RING_TRANSCRIPT.as_bytes();
-    let mut status = audit_run(rt.alloc(), &mut reader, &mut writer, Table::Large, false);
+    let mut status = audit_run(
+        rt.alloc(),
+        &mut reader,
+        &mut writer,
+        Table::Large,
+        Asked::NOTHING,
+    );
     if status == Status::Fault(Fault::Memory) {
         assert!(rt; writer.lacks(RING_REPORT.len()));
         let mut reader = RING_TRANSCRIPT.as_bytes();
-        status = audit_run(rt.alloc(), &mut reader, &mut writer, Table::Large, false);
+        status = audit_run(
+            rt.alloc(),
+            &mut reader,
+            &mut writer,
+            Table::Large,
+            Asked::NOTHING,
+        );
     }
     assert!(rt; status == Status::Certified && writer.is_whole());
 }

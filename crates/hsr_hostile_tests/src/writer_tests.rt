@@ -1,6 +1,8 @@
-//! Writers that take one octet a call and fail at each of their writes, that take nothing, and whose flush fails.
+//! Writers that take one octet a call and fail at each of their writes, and that take nothing.
 use crate::fixtures::{ANSWER, LINE, RING, Writer, defaults};
-use hsr_engines::{Fault, Showing, Status, Table, audit_run, node_run, scenario_run, threads_run};
+use hsr_engines::{
+    Asked, Fault, Showing, Status, Table, audit_run, node_run, scenario_run, threads_run,
+};
 use hsr_networks::{RING_REPORT, RING_TRANSCRIPT};
 use std::marker::Sync;
 use std::sync::Wait;
@@ -35,7 +37,13 @@ fn written<H: AllocGlobal + Threads + Wait + Sync>(
         Engine::Node => node_run(rt.alloc(), &mut LINE.as_bytes(), writer, &defaults()),
         Engine::Run => {
             let mut text = RING.as_bytes();
-            scenario_run(rt.alloc(), &mut text, writer, Table::Large, Showing::REPORT)
+            scenario_run(
+                rt.alloc(),
+                &mut text,
+                writer,
+                Table::Large,
+                Showing::Report(Asked::NOTHING),
+            )
         }
         Engine::Threads => {
             let mut text = RING.as_bytes();
@@ -45,12 +53,12 @@ fn written<H: AllocGlobal + Threads + Wait + Sync>(
                 &mut text,
                 writer,
                 Table::Large,
-                Showing::REPORT,
+                Showing::Report(Asked::NOTHING),
             )
         }
         Engine::Audit => {
             let mut text = RING_TRANSCRIPT.as_bytes();
-            audit_run(rt.alloc(), &mut text, writer, Table::Large, false)
+            audit_run(rt.alloc(), &mut text, writer, Table::Large, Asked::NOTHING)
         }
     }
 }
@@ -87,15 +95,5 @@ fn nothing_taken(rt: HostRuntime) {
         let status = written(&rt, engine, &mut writer);
         assert!(rt; status == Status::Fault(Fault::Write));
         assert!(rt; writer.lacks(text_of(engine).len()));
-    }
-}
-
-#[test]
-fn flush_that_fails(rt: HostRuntime) {
-    for engine in ENGINES {
-        let mut writer = Writer::new(text_of(engine));
-        writer.flush_fails = true;
-        let status = written(&rt, engine, &mut writer);
-        assert!(rt; status == Status::Fault(Fault::Write) && writer.is_whole());
     }
 }

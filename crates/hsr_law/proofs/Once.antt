@@ -22,7 +22,7 @@ use Rattle.hsr_node.specs.declared.event.Outcome.{Outcome}
 use Rattle.hsr_node.specs.declared.event.Outcome.TheVariants.{Sent, Life, Judged, Aged}
 use Rattle.hsr_node.specs.declared.event.Probe.{Probe}
 use Rattle.hsr_node.specs.declared.place.Place.TheVariants.{Danh}
-use Rattle.hsr_law.specs.Closed.{IsClosed, IsSend}
+use Rattle.hsr_law.specs.Closed.{IsClosed, IsOfSend, IsSend}
 use Rattle.hsr_law.specs.Once.{ExactlyOnce, GoesUp, IsExactlyOnce, delivers, is_addressed}
 use Rattle.hsr_law.specs.Premises.{IsRing, NothingForgotten, NumbersFirst, is_note_of, mac_at}
 use Rattle.hsr_law.specs.Run.{Run, owner_of, past_of, record_of}
@@ -39,7 +39,7 @@ use Rattle.hsr_law.proofs.Views.{Came, knows_at, leaves_wanted}
 use Rattle.hsr_law.proofs.Walk.{delivered, sent}
 
 -- the count over a record is that over its past
-counted : (run : Run) (send : Probe) (k : ℕ) → count_by (delivers send) (past_of run k) ≡ count_by (delivers send) (record_of run k)
+pub counted : (run : Run) (send : Probe) (k : ℕ) → count_by (delivers send) (past_of run k) ≡ count_by (delivers send) (record_of run k)
 counted run send k = sum_by-IsPermutation (λ x. cond (delivers send x) 1 0) (record_of run k) (reverse (record_of run k)) (IsPermutation-reverse (record_of run k))
 
 -- what went up is the plain frame
@@ -50,6 +50,17 @@ frame_up port copy (Life seq life ports) f e left = absurd (false≢true left)
 frame_up port copy Aged f e left = absurd (false≢true left)
 frame_up port copy (Judged true ports seq why) f e left = ap (option_map spelling) e
 frame_up port copy (Judged false ports seq why) f e left = absurd (false≢true left)
+
+-- all that went up is the frame of a send, in any closed run
+pub only_frames : (run : Run) → IsClosed run → (k : ℕ) → k < length run.places → Each (λ x past. GoesUp run x.event x.outcome) (past_of run k)
+only_frames run closed k below =
+    each_so (λ x past. OfArrival (IsOfSend run) x.event) (λ x past. GoesUp run x.event x.outcome) (past_of run k) (λ x past good. goes_up x.event x.outcome good) (each_of_send run closed k below)
+  where
+    goes_up : (event : Event) (outcome : Outcome) → OfArrival (IsOfSend run) event → GoesUp run event outcome
+    goes_up (Send from dst vlan seen payload) outcome good = tt
+    goes_up (Supervise about) outcome good = tt
+    goes_up Age outcome good = tt
+    goes_up (Arrive port copy) outcome good = λ left. record { of_send = good; plain = frame_up port copy outcome good.sending.frame good.frame left }
 
 -- no arrival of a send that isn't wanted up there went up
 none_delivered : (capacity number : ℕ) (mac : List ℕ) (mode : Mode) (send : Probe) (P : Carried → Type 0) (h : List Entry) → Each (Answered capacity (danh number mac mode)) h → Each (λ x past. OfArrival P x.event) h →
@@ -104,17 +115,6 @@ module _ (run : Run) (macs : List (List ℕ)) (closed : IsClosed run) (ring : Is
           let W : Came → Type 0 = λ s. wants (Danh (mac_at macs k) (mode_at run k)) known port s up ≡ false in
           subst W (sym good.0.1) (wants_not_up (mac_at macs k) (mode_at run k) known port good.0.0 (why (untag_of good.0.0) two.0))
 
-  -- all that went up is the frame of a send
-  pub nothing_else : (k : ℕ) → k < length macs → Each (λ x past. GoesUp run x.event x.outcome) (past_of run k)
-  nothing_else k below =
-      each_so (λ x past. OfArrival (IsGood run) x.event) (λ x past. GoesUp run x.event x.outcome) (past_of run k) (λ x past good. goes_up x.event x.outcome good) (each_good k below)
-    where
-      goes_up : (event : Event) (outcome : Outcome) → OfArrival (IsGood run) event → GoesUp run event outcome
-      goes_up (Send from dst vlan kind payload) outcome good = tt
-      goes_up (Supervise about) outcome good = tt
-      goes_up Age outcome good = tt
-      goes_up (Arrive port copy) outcome good = λ left. record { of_send = good.1; plain = frame_up port copy outcome good.1.sending.frame good.1.frame left }
-
 pub exactly_once : ExactlyOnce
 exactly_once run macs closed ring one remembers sure = record {
   once = λ send sending k is below for_it.
@@ -124,5 +124,5 @@ exactly_once run macs closed ring one remembers sure = record {
       omega arith;
   none = λ send sending k is below other.
       sym (counted run send k) ∙ count_zero (delivers send) (past_of run k) (not_for run macs closed ring send sending k is below other);
-  nothing_else = λ k below. nothing_else run macs closed ring k below;
+  nothing_else = λ k below. only_frames run closed k (omega (arith, places run macs closed ring));
 }

@@ -50,7 +50,7 @@ module _ (run : Run) (macs : List (List ℕ)) (closed : IsClosed run) (ring : Is
   pub places : length run.places ≡ length macs
   places = ring.places
 
-  place_is : (k : ℕ) → k < length macs → place_of run k ≡ Danh (mac_at macs k) (mode_at run k)
+  pub place_is : (k : ℕ) → k < length macs → place_of run k ≡ Danh (mac_at macs k) (mode_at run k)
   place_is k below =
       ⊎_elim (λ h. h ∙ ap (λ mode. Danh (mac_at macs k) mode) (sym (ap mode_of h))) (λ u. u ∙ ap (λ mode. Danh (mac_at macs k) mode) (sym (ap mode_of u))) (ring.nodes k below)
 
@@ -68,7 +68,7 @@ module _ (run : Run) (macs : List (List ℕ)) (closed : IsClosed run) (ring : Is
   pub link_below : (k : ℕ) → k < length macs → k < length run.links
   link_below k below = omega (arith, ring.count)
 
-  next_below : (k : ℕ) → (k + 1) % length macs < length macs
+  pub next_below : (k : ℕ) → (k + 1) % length macs < length macs
   next_below k = let two : 2 ≤ length macs = ring.two in let some : 0 < length macs = omega arith in mod-lt (k + 1) some
 
   left_as : (k : ℕ) (r : RingExit) → k < length macs → AllByRecursion (LeavesAs run.capacity k (mac_at macs k) (mode_at run k) (past_of run k) r) (passes (owner_of run k) (exit_port r) (past_of run k))
@@ -102,17 +102,17 @@ module _ (run : Run) (macs : List (List ℕ)) (closed : IsClosed run) (ring : Is
     pub is_from : from_end dir (ends_of run l) ≡ from
     pub is_to : to_end dir (ends_of run l) ≡ to
 
-  abbrev at_b : ℕ → End
+  abbrev pub at_b : ℕ → End
   at_b k = record { node = k; port = 1 }
 
-  abbrev at_a : ℕ → End
+  abbrev pub at_a : ℕ → End
   at_a k = record { node = k; port = 0 }
 
-  way_b : (k : ℕ) → k < length macs → IsWay k (at_b k) (at_a ((k + 1) % length macs))
+  pub way_b : (k : ℕ) → k < length macs → IsWay k (at_b k) (at_a ((k + 1) % length macs))
   way_b k below =
       ⊎_elim (λ way. record { dir = Forth; is_from = way.0; is_to = way.1 }) (λ way. record { dir = Back; is_from = way.1; is_to = way.0 }) (ring.joined k below)
 
-  way_a : (k : ℕ) → k < length macs → IsWay k (at_a ((k + 1) % length macs)) (at_b k)
+  pub way_a : (k : ℕ) → k < length macs → IsWay k (at_a ((k + 1) % length macs)) (at_b k)
   way_a k below =
       ⊎_elim (λ way. record { dir = Back; is_from = way.1; is_to = way.0 }) (λ way. record { dir = Forth; is_from = way.0; is_to = way.1 }) (ring.joined k below)
 

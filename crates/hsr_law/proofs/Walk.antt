@@ -19,11 +19,12 @@ use Rattle.hsr_law.specs.Once.{delivers, is_addressed, is_copy}
 use Rattle.hsr_law.specs.Premises.{IsRing, KnowsOwn, NothingMistaken, OneLossyLink, any_lost, is_note_of, mac_at}
 use Rattle.hsr_law.specs.Run.{Run, owner_of, past_of, rows_of}
 use Rattle.hsr_law.proofs.Around.{around, around_below, around_differ, around_end, around_next, around_start, search_below, steps_to}
-use Rattle.hsr_law.proofs.Arrived.{WouldGo, arrived_noted}
+use Rattle.hsr_law.proofs.Arrived.{Knowing, MayKnow, WouldGo, arrived_noted}
 use Rattle.hsr_law.proofs.Danh.{RingExit, by_a, by_b, danh, egress, exit_port, mode_at}
 use Rattle.hsr_law.proofs.Keys.{tagged_of_send}
 use Rattle.hsr_law.proofs.Lists.{all_weaker}
 use Rattle.hsr_law.proofs.Passed.{SentByBoth, noted_delivered, noted_passed}
+use Rattle.hsr_law.proofs.Records.{Answered, each_so}
 use Rattle.hsr_law.proofs.Ring.{IsGood, forwards, good_at, hop_a, hop_b, legal, link_below, owner_is, places}
 use Rattle.hsr_law.proofs.RingWants.{across, wants_across, wants_up}
 use Rattle.hsr_law.proofs.Same.{same_address}
@@ -58,15 +59,20 @@ module _ (run : Run) (macs : List (List ℕ)) (closed : IsClosed run) (ring : Is
   noted_there sure k r e below wanted came =
       let O : Owner → Type 0 = λ o. Each (λ x past. KnowsOwn run.capacity o past (now (x ∷ past)) x.event) (past_of run k) in
       let in_range : k < length run.places = omega (arith, places run macs closed ring) in
-      arrived_noted run.capacity (danh k (mac_at macs k) (mode_at run k)) e send (exit_port r) (past_of run k) (legal run macs closed ring k below)
+      arrived_noted run.capacity (danh k (mac_at macs k) (mode_at run k)) Any e send (exit_port r) (past_of run k) (legal run macs closed ring k below)
       (subst O (owner_is run macs closed ring k below) (sure k in_range))
-      (all_weaker (IsGood run) (WouldGo (danh k (mac_at macs k) (mode_at run k)) (exit_port r) e send) (arrivals (exit_port r) (past_of run k)) would (good_at run macs closed ring k r below))
+      (each_so (Answered run.capacity (danh k (mac_at macs k) (mode_at run k))) (MayKnow (danh k (mac_at macs k) (mode_at run k)) send Any) (past_of run k) (λ x past ok mine. tt) (legal run macs closed ring k below))
+      (all_weaker (IsGood run) (WouldGo (danh k (mac_at macs k) (mode_at run k)) Any (exit_port r) e send) (arrivals (exit_port r) (past_of run k)) would (good_at run macs closed ring k r below))
       came
     where
-      would : (copy : Carried) → IsGood run copy → WouldGo (danh k (mac_at macs k) (mode_at run k)) (exit_port r) e send copy
+      -- a DANH asks for nothing that is known
+      Any : Knowing
+      Any known = Unit {0}
+
+      would : (copy : Carried) → IsGood run copy → WouldGo (danh k (mac_at macs k) (mode_at run k)) Any (exit_port r) e send copy
       would copy good mine =
           let two = tagged_of_send run send sending copy good.1 mine is good.0.0 good.0.1 in
-          record { tagged = good.0.0; is = good.0.1; wanted = wanted good.0.0 two.0 }
+          record { tagged = good.0.0; is = good.0.1; wanted = λ known any. wanted good.0.0 two.0 known }
 
   -- neither the sender nor the only receiver
   pub record IsBetween (k : ℕ) : Type 0 where
@@ -86,16 +92,16 @@ module _ (run : Run) (macs : List (List ℕ)) (closed : IsClosed run) (ring : Is
 
   -- ---- round the ring from the sender
 
-  abbrev at : ℕ → ℕ
+  abbrev pub at : ℕ → ℕ
   at i = around (length macs) send.node i
 
-  at_below : (i : ℕ) → i < length macs → at i < length macs
+  pub at_below : (i : ℕ) → i < length macs → at i < length macs
   at_below i h = around_below (length macs) send.node i sender_below h
 
-  at_next : (i : ℕ) → i < length macs → (at i + 1) % length macs ≡ at (suc i)
+  pub at_next : (i : ℕ) → i < length macs → (at i + 1) % length macs ≡ at (suc i)
   at_next i h = let e : i + 1 ≡ suc i = omega arith in around_next (length macs) send.node i sender_below h ∙ ap (around (length macs) send.node) e
 
-  abbrev Kept : ℕ → Type 0
+  abbrev pub Kept : ℕ → Type 0
   Kept m = any_lost (rows_of run (at m)) ≡ false
 
   sent_by : (r : RingExit) (k : ℕ) → send.node ≡ k → Passed r k
@@ -113,6 +119,37 @@ module _ (run : Run) (macs : List (List ℕ)) (closed : IsClosed run) (ring : Is
   step_a i h kept some =
       let P : ℕ → Type 0 = λ k. list_any (is_copy send) (passes (owner_of run k) 0 (past_of run k)) ≡ true in
       hop_a run macs closed ring (at i) (at_below i h) kept (is_copy send) (subst P (sym (at_next i h)) some)
+
+  -- each other node than the sender and a single receiver is between
+  pub between_at : (d : ℕ) → d < length macs → is_addressed macs send.node sending.frame (at d) ≡ true → (m : ℕ) → 0 < m → m < length macs → (m ≡ d → ⊥) → IsBetween (at m)
+  between_at d below for_it m some h other =
+      record {
+        not_sender = λ e. apart e;
+        not_source = λ e. apart (ring.differ send.node (at m) sender_below (at_below m h) (sym (sent.source) ∙ e));
+        not_receiver = λ e.
+            let single : is_group sending.frame.dst ≡ false = ap is_group e ∙ ring.single (at m) (at_below m h) in
+            let mine = only (is_group sending.frame.dst) (not (at d == send.node)) (is_same_address (mac_at macs (at d)) sending.frame.dst) single for_it in
+            let same = ring.differ (at d) (at m) (at_below d below) (at_below m h) (same_address (mac_at macs (at d)) sending.frame.dst mine ∙ e) in
+            other (sym (around_differ (length macs) send.node d m sender_below below h same));
+      }
+    where
+      apart : send.node ≡ at m → ⊥
+      apart e =
+          let first : at 0 ≡ at m = around_start (length macs) send.node sender_below ∙ e in
+          let none = around_differ (length macs) send.node 0 m sender_below (omega arith) h first in
+          omega arith
+
+      only : (g a b : Bool) → g ≡ false → (if g then a else b) ≡ true → b ≡ true
+      only true a b e h = absurd (false≢true (sym e))
+      only false a b e h = h
+
+  -- a send isn't for its sender
+  pub not_sender : (k : ℕ) → is_addressed macs send.node sending.frame k ≡ true → k ≡ send.node → ⊥
+  not_sender k h e = by_group (is_group sending.frame.dst) refl h
+    where
+      by_group : (g : Bool) → is_group sending.frame.dst ≡ g → (if g then not (k == send.node) else is_same_address (mac_at macs k) sending.frame.dst) ≡ true → ⊥
+      by_group true group h = false≢true (ap not (sym (eq-eqb k send.node e)) ∙ h)
+      by_group false group h = sent.elsewhere group (sym (same_address (mac_at macs k) sending.frame.dst h) ∙ ap (mac_at macs) e)
 
   module _ (sure : NothingMistaken run) where
     -- along B, i steps
@@ -143,29 +180,6 @@ module _ (run : Run) (macs : List (List ℕ)) (closed : IsClosed run) (ring : Is
         let there = walk_a (length macs - suc i) (suc i) e (λ m h g. kept m (omega arith) g) (λ m h g. between m (omega arith) g) in
         step_a i inside (kept i (omega arith) inside) there
 
-    -- each other node than the sender and a single receiver is between
-    between_at : (d : ℕ) → d < length macs → is_addressed macs send.node sending.frame (at d) ≡ true → (m : ℕ) → 0 < m → m < length macs → (m ≡ d → ⊥) → IsBetween (at m)
-    between_at d below for_it m some h other =
-        record {
-          not_sender = λ e. apart e;
-          not_source = λ e. apart (ring.differ send.node (at m) sender_below (at_below m h) (sym (sent.source) ∙ e));
-          not_receiver = λ e.
-              let single : is_group sending.frame.dst ≡ false = ap is_group e ∙ ring.single (at m) (at_below m h) in
-              let mine = only (is_group sending.frame.dst) (not (at d == send.node)) (is_same_address (mac_at macs (at d)) sending.frame.dst) single for_it in
-              let same = ring.differ (at d) (at m) (at_below d below) (at_below m h) (same_address (mac_at macs (at d)) sending.frame.dst mine ∙ e) in
-              other (sym (around_differ (length macs) send.node d m sender_below below h same));
-        }
-      where
-        apart : send.node ≡ at m → ⊥
-        apart e =
-            let first : at 0 ≡ at m = around_start (length macs) send.node sender_below ∙ e in
-            let none = around_differ (length macs) send.node 0 m sender_below (omega arith) h first in
-            omega arith
-
-        only : (g a b : Bool) → g ≡ false → (if g then a else b) ≡ true → b ≡ true
-        only true a b e h = absurd (false≢true (sym e))
-        only false a b e h = h
-
     -- each other node that the send is for has an arrival of it
     pub one_path_whole : OneLossyLink run → (k : ℕ) → k < length macs → (k ≡ send.node → ⊥) → is_addressed macs send.node sending.frame k ≡ true → Came by_a k ⊎ Came by_b k
     one_path_whole one k below other for_it =
@@ -192,13 +206,6 @@ module _ (run : Run) (macs : List (List ℕ)) (closed : IsClosed run) (ring : Is
         along_b : (d : ℕ) → 0 < d → d < length macs → is_addressed macs send.node sending.frame (at d) ≡ true → ((i : ℕ) → i < d → any_lost (rows_of run (at i)) ≡ false) → Came by_a (at d)
         along_b zero some below for_it kept = absurd (omega arith)
         along_b (suc i) some below for_it kept = came_b i below kept (λ m h g. between_at (suc i) below for_it m h (omega arith) (λ e. omega arith))
-
-    pub not_sender : (k : ℕ) → is_addressed macs send.node sending.frame k ≡ true → k ≡ send.node → ⊥
-    not_sender k h e = by_group (is_group sending.frame.dst) refl h
-      where
-        by_group : (g : Bool) → is_group sending.frame.dst ≡ g → (if g then not (k == send.node) else is_same_address (mac_at macs k) sending.frame.dst) ≡ true → ⊥
-        by_group true group h = false≢true (ap not (sym (eq-eqb k send.node e)) ∙ h)
-        by_group false group h = sent.elsewhere group (sym (same_address (mac_at macs k) sending.frame.dst h) ∙ ap (mac_at macs) e)
 
     -- each node that the send is for has an arrival of it that went up
     pub delivered : OneLossyLink run → (k : ℕ) → k < length macs → is_addressed macs send.node sending.frame k ≡ true → list_any (delivers send) (past_of run k) ≡ true

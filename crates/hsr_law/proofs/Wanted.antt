@@ -202,10 +202,10 @@ other_port n k h = ne_eqb n k (λ e. omega arith)
 pub no_ring_port : (n : ℕ) → 1 < n → ring_port n ≡ None
 no_ring_port n h = past_ports (n == 0) (n == 1) false false _ _ None None (other_port n 0 (omega arith)) (other_port n 1 (omega arith)) refl refl
 
-no_box_port : (n : ℕ) → 2 < n → box_port n ≡ None
+pub no_box_port : (n : ℕ) → 2 < n → box_port n ≡ None
 no_box_port n h = past_ports (n == 0) (n == 1) (n == 2) false _ _ _ None (other_port n 0 (omega arith)) (other_port n 1 (omega arith)) (other_port n 2 (omega arith)) refl
 
-no_quad_port : (n : ℕ) → 3 < n → quad_port n ≡ None
+pub no_quad_port : (n : ℕ) → 3 < n → quad_port n ≡ None
 no_quad_port n h = past_ports (n == 0) (n == 1) (n == 2) (n == 3) _ _ _ _ (other_port n 0 (omega arith)) (other_port n 1 (omega arith)) (other_port n 2 (omega arith)) (other_port n 3 (omega arith))
 
 pub wanted_on_ring : (place : Place) (known : List ℕ → Bool) (port : ℕ) (t : TaggedFields) (e : Egress) → wants place known port (Ok (Tagged t)) e ≡ true → is_on_ring place port ≡ true

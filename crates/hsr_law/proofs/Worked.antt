@@ -11,8 +11,8 @@ use Rattle.hsr_frame.specs.declared.node.Cause.TheVariants.{Passed, Returned}
 use Rattle.hsr_frame.specs.declared.node.Mode.TheVariants.{H, U}
 use Rattle.hsr_tag.specs.Seen.{classified}
 use Rattle.hsr_tag.specs.Tag.{TaggedFields, tag_of, tagged_spelling}
-use Rattle.hsr_tag.specs.declared.seen.Seen.TheVariants.{Tagged}
-use Rattle.hsr_node.specs.Copies.{copy_octets, passed_octets}
+use Rattle.hsr_tag.specs.declared.seen.Seen.TheVariants.{Plain, Tagged}
+use Rattle.hsr_node.specs.Copies.{copy_octets, passed_octets, plain_in}
 use Rattle.hsr_node.specs.Flow.{arrivals}
 use Rattle.hsr_node.specs.Record.{Each, IsLegal, now}
 use Rattle.hsr_node.specs.declared.entry.Entry.{Entry}
@@ -22,13 +22,14 @@ use Rattle.hsr_node.specs.declared.event.Event.TheVariants.{Send, Arrive}
 use Rattle.hsr_node.specs.declared.event.Outcome.{Outcome}
 use Rattle.hsr_node.specs.declared.event.Outcome.TheVariants.{Sent, Judged}
 use Rattle.hsr_node.specs.declared.place.Place.TheVariants.{Danh}
+use Rattle.hsr_node.specs.declared.sending.Sending.{Sending}
 use Rattle.hsr_link.specs.declared.row.Dir.{Dir}
 use Rattle.hsr_link.specs.declared.row.Dir.TheVariants.{Forth, Back}
 use Rattle.hsr_link.specs.declared.row.Fate.TheVariants.{Taken}
 use Rattle.hsr_link.specs.declared.row.Row.{Row}
 use Rattle.hsr_law.specs.Budget.{IsBudgetHeld, IsInTime, is_within, moment_of, sends_of}
 use Rattle.hsr_law.specs.Budget as budget
-use Rattle.hsr_law.specs.Closed.{HasLink, IsClosed, IsOfSend, IsSettled, PutAgrees, TakenAgrees}
+use Rattle.hsr_law.specs.Closed.{HasLink, IsClosed, IsOfSend, IsSend, IsSettled, PutAgrees, TakenAgrees, number_of}
 use Rattle.hsr_law.specs.Once.{IsExactlyOnce}
 use Rattle.hsr_law.specs.Premises.{IsRing, Joins, OneLossyLink, mac_at}
 use Rattle.hsr_law.specs.Run.{Run, ends_of, owner_of, past_of, place_of, rows_of}
@@ -90,16 +91,31 @@ tagged_copy zero h = refl
 tagged_copy (suc zero) h = refl
 tagged_copy (suc (suc path)) h = absurd (omega arith)
 
-of_send : (path : ℕ) → path < 2 → IsOfSend ring2 (copy path)
-of_send path h = record {
-  send = record { node = 0; place = 0 };
-  sending = record { frame = frame; seq = Some 0 };
-  named = refl;
-  is_send = (omega arith, refl);
-  frame = ap Rattle.hsr_node.specs.Copies.plain_in (tagged_copy path h);
-  number = λ t is. let both : Ok (Tagged (tag_of frame path 0)) ≡ Ok (Tagged t) = sym (tagged_copy path h) ∙ is in
-      let same : tag_of frame path 0 ≡ t = cc in ap (λ (t : TaggedFields). Some t.seq) same;
+-- a tagged copy of a send with this number, and a plain one
+pub of_tagged : (run : Run) (send : Probe) (sending : Sending) (path seq : ℕ) (copy : Carried) → copy.probe ≡ Some send → classified copy.octets ≡ Ok (Tagged (tag_of sending.frame path seq)) →
+    IsSend run send sending → number_of run send sending ≡ Some seq → IsOfSend run copy
+of_tagged run send sending path seq copy named tagged is number = record {
+  send = send;
+  sending = sending;
+  named = named;
+  is_send = is;
+  frame = ap plain_in tagged;
+  number = λ t there. let both : Ok (Tagged (tag_of sending.frame path seq)) ≡ Ok (Tagged t) = sym tagged ∙ there in
+      let same : tag_of sending.frame path seq ≡ t = cc in number ∙ ap (λ (t : TaggedFields). Some t.seq) same;
 }
+
+pub of_plain : (run : Run) (send : Probe) (sending : Sending) (copy : Carried) → copy.probe ≡ Some send → classified copy.octets ≡ Ok (Plain sending.frame) → IsSend run send sending → IsOfSend run copy
+of_plain run send sending copy named plain is = record {
+  send = send;
+  sending = sending;
+  named = named;
+  is_send = is;
+  frame = ap plain_in plain;
+  number = λ t there. let both : Ok (Plain sending.frame) ≡ Ok (Tagged t) = sym plain ∙ there in absurd cc;
+}
+
+of_send : (path : ℕ) → path < 2 → IsOfSend ring2 (copy path)
+of_send path h = of_tagged ring2 (record { node = 0; place = 0 }) (record { frame = frame; seq = Some 0 }) path 0 (copy path) refl (tagged_copy path h) (omega arith, refl) refl
 
 settled_rows : AllByRecursion (IsSettled ring2) (row Forth 1 ∷ row Back 0 ∷ [])
 settled_rows =
@@ -124,6 +140,10 @@ taken_at zero Back h = IsPermutation-refl (copy 0 ∷ [])
 taken_at (suc zero) Forth h = IsPermutation-refl (copy 1 ∷ [])
 taken_at (suc zero) Back h = IsPermutation-refl (copy 0 ∷ [])
 taken_at (suc (suc l)) dir h = absurd (omega arith)
+
+pub nothing_else : (p : Bool) (x : Carried) → p ≡ false → cons_option (if p then Some x else None) [] ≡ []
+nothing_else false x e = refl
+nothing_else true x e = absurd (false≢true (sym e))
 
 pub nothing_far : (p q : Bool) (x y : Carried) → p ≡ false → q ≡ false → cons_option (if p then Some x else None) (cons_option (if q then Some y else None) []) ≡ []
 nothing_far false false x y e f = refl
@@ -186,12 +206,21 @@ lossless (suc (suc i)) j g h here there = absurd (omega arith)
 
 -- ---- it is within budget
 
-at_first : (send : Probe) → Some (let first : Probe = record { node = 0; place = 0 } in first) ≡ Some send → (moment_of ring2 send ≤ 0) × (0 < moment_of ring2 send + 400000)
-at_first send e =
-    let first : Probe = record { node = 0; place = 0 } in
+-- the one send, at moment 0, is in time
+pub at_start : (run : Run) (first : Probe) → moment_of run first ≡ 0 → (send : Probe) → Some first ≡ Some send → (moment_of run send ≤ 0) × (0 < moment_of run send + 400000)
+at_start run first moment send e =
     let same : first ≡ send = cc in
-    let moment : moment_of ring2 send ≡ 0 = ap (moment_of ring2) (sym same) in
+    let there : moment_of run send ≡ 0 = ap (moment_of run) (sym same) ∙ moment in
     (omega arith, omega arith)
+
+-- and no crowd
+pub one_within : (start : ℕ) (s : budget.Sent) → count_by (is_within start 800000) (s ∷ []) ≤ 4
+one_within start s =
+    let more = count_more (is_within start 800000) s [] in
+    ⊎_elim (λ t. let one = one_if (is_within start 800000 s) t in omega arith) (λ f. let nothing = zero_if (is_within start 800000 s) f in omega arith) (cases_Bool (is_within start 800000 s))
+
+at_first : (send : Probe) → Some (let first : Probe = record { node = 0; place = 0 } in first) ≡ Some send → (moment_of ring2 send ≤ 0) × (0 < moment_of ring2 send + 400000)
+at_first send e = at_start ring2 (record { node = 0; place = 0 }) refl send e
 
 in_time_at : (k : ℕ) → k < 2 → Each (λ x past. IsInTime ring2 (now (x ∷ past)) x.event) (past_of ring2 k)
 in_time_at zero h = (at_first, (at_first, (tt, tt)))
@@ -199,10 +228,7 @@ in_time_at (suc zero) h = (at_first, (at_first, tt))
 in_time_at (suc (suc k)) h = absurd (omega arith)
 
 not_crowded_at : (start : ℕ) → list_any (λ sent. sent.moment == start) (sends_of ring2) ≡ true → count_by (is_within start 800000) (sends_of ring2) ≤ 4
-not_crowded_at start h =
-    let s : budget.Sent = record { send = record { node = 0; place = 0 }; moment = 0 } in
-    let more = count_more (is_within start 800000) (let s : budget.Sent = record { send = record { node = 0; place = 0 }; moment = 0 } in s) [] in
-    ⊎_elim (λ t. let one = one_if (is_within start 800000 s) t in omega arith) (λ f. let nothing = zero_if (is_within start 800000 s) f in omega arith) (cases_Bool (is_within start 800000 s))
+not_crowded_at start h = one_within start (record { send = record { node = 0; place = 0 }; moment = 0 })
 
 pub within : IsBudgetHeld ring2
 within = record { in_time = in_time_at; not_crowded = not_crowded_at }

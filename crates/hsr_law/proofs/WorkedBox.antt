@@ -1,14 +1,13 @@
 -- A run with a RedBox that is all that the laws ask for: its Station sends to a DANH on the ring, which takes the first of
 -- two copies up.
 use Rattle.std.proofs.Common.{◌≡◌, ◌⊎◌, ℕ, ◌+◌, ◌<◌, ◌≤◌, ◌==◌, Bool, true, false, [], ◌∷◌, if◌then◌else◌, Some, None, Ok, refl, sym, ap, ◌∙◌, arith, inl, inr, zero, suc, ne_eqb, count_by, ⊎_elim}
-use Rattle.std.specs.List.{list_any, AllByRecursion, cons_option}
+use Rattle.std.specs.List.{list_any, AllByRecursion}
 use Rattle.std.proofs.lemmas.List.Sorted.{IsPermutation-refl}
-use Rattle.std.proofs.lemmas.Bool.{cases_Bool, false≢true}
 use Rattle.hsr_frame.specs.Grammar.{Fields, spelling}
 use Rattle.hsr_frame.specs.declared.node.Cause.TheVariants.{Passed, Duplicate}
 use Rattle.hsr_frame.specs.declared.node.Mode.TheVariants.{H}
 use Rattle.hsr_tag.specs.Seen.{classified}
-use Rattle.hsr_tag.specs.Tag.{TaggedFields, tag_of, tagged_spelling}
+use Rattle.hsr_tag.specs.Tag.{tag_of, tagged_spelling}
 use Rattle.hsr_tag.specs.declared.seen.Seen.TheVariants.{Plain, Tagged}
 use Rattle.hsr_node.specs.Copies.{copy_octets, passed_octets}
 use Rattle.hsr_node.specs.Flow.{arrivals}
@@ -24,35 +23,33 @@ use Rattle.hsr_link.specs.declared.row.Dir.TheVariants.{Forth, Back}
 use Rattle.hsr_link.specs.declared.row.Fate.TheVariants.{Taken}
 use Rattle.hsr_link.specs.declared.row.Row.{Row}
 use Rattle.hsr_law.specs.Budget.{IsBudgetHeld, IsInTime, is_within, moment_of, sends_of}
-use Rattle.hsr_law.specs.Budget as budget
 use Rattle.hsr_law.specs.Closed.{HasLink, IsClosed, IsOfSend, IsSend, IsSettled, PutAgrees, TakenAgrees, number_of}
 use Rattle.hsr_law.specs.Premises.{NothingForgotten, NumberedFirst}
 use Rattle.hsr_law.specs.Run.{Run, given, owner_of, past_of, rows_of}
 use Rattle.hsr_topology.specs.declared.end.End.{End}
 use Rattle.hsr_law.proofs.InBudget.{budget_keeps}
-use Rattle.hsr_law.proofs.Lists.{count_more, one_if, zero_if}
-use Rattle.hsr_law.proofs.Worked.{entry, far, mac, nothing_far}
+use Rattle.hsr_law.proofs.Worked.{at_start, entry, far, mac, nothing_else, nothing_far, of_plain, of_tagged, one_within}
 
-abbrev frame : Fields
+abbrev pub frame : Fields
 frame = record { dst = mac 1; src = mac 10; vlan = None; kind = 0x0800; rest = 0xAA ∷ 0xBB ∷ [] }
 
-abbrev first : Probe
+abbrev pub first : Probe
 first = record { node = 2; place = 0 }
 
 -- the copy of a path, and the one that the Station sends
-abbrev copy : ℕ → Carried
+abbrev pub copy : ℕ → Carried
 copy path = record { probe = Some first; octets = tagged_spelling (tag_of frame path 0) }
 
-abbrev plain : Carried
+abbrev pub plain : Carried
 plain = record { probe = Some first; octets = spelling frame }
 
 abbrev row : Dir → Carried → Row
 row dir carried = record { dir = dir; carried = carried; injected = false; fate = Taken }
 
-abbrev end_at : ℕ → ℕ → End
+abbrev pub end_at : ℕ → ℕ → End
 end_at node port = record { node = node; port = port }
 
-abbrev red : Run
+abbrev pub red : Run
 red = record {
   capacity = 4;
   places = Danh (mac 1) H ∷ RedBox (mac 9) H ∷ Station (record { items = mac 10 ∷ [] }) ∷ [];
@@ -72,13 +69,13 @@ legal_at (suc zero) h = (refl, tt)
 legal_at (suc (suc zero)) h = (refl, tt)
 legal_at (suc (suc (suc k))) h = absurd (omega arith)
 
-tagged_copy : (path : ℕ) → path < 2 → classified (copy path).octets ≡ Ok (Tagged (tag_of frame path 0))
+pub tagged_copy : (path : ℕ) → path < 2 → classified (copy path).octets ≡ Ok (Tagged (tag_of frame path 0))
 unfolding classified
 tagged_copy zero h = refl
 tagged_copy (suc zero) h = refl
 tagged_copy (suc (suc path)) h = absurd (omega arith)
 
-plain_copy : classified plain.octets ≡ Ok (Plain frame)
+pub plain_copy : classified plain.octets ≡ Ok (Plain frame)
 unfolding classified
 plain_copy = refl
 
@@ -87,25 +84,10 @@ given_number : given red first ≡ Some 0
 given_number = refl
 
 of_send : (path : ℕ) → path < 2 → IsOfSend red (copy path)
-of_send path h = record {
-  send = first;
-  sending = record { frame = frame; seq = None };
-  named = refl;
-  is_send = (omega arith, refl);
-  frame = ap Rattle.hsr_node.specs.Copies.plain_in (tagged_copy path h);
-  number = λ t is. let both : Ok (Tagged (tag_of frame path 0)) ≡ Ok (Tagged t) = sym (tagged_copy path h) ∙ is in
-      let same : tag_of frame path 0 ≡ t = cc in ap (λ (t : TaggedFields). Some t.seq) same;
-}
+of_send path h = of_tagged red first (record { frame = frame; seq = None }) path 0 (copy path) refl (tagged_copy path h) (omega arith, refl) given_number
 
 plain_of_send : IsOfSend red plain
-plain_of_send = record {
-  send = first;
-  sending = record { frame = frame; seq = None };
-  named = refl;
-  is_send = (omega arith, refl);
-  frame = ap Rattle.hsr_node.specs.Copies.plain_in plain_copy;
-  number = λ t is. let both : Ok (Plain frame) ≡ Ok (Tagged t) = sym plain_copy ∙ is in absurd cc;
-}
+plain_of_send = of_plain red first (record { frame = frame; seq = None }) plain refl plain_copy (omega arith, refl)
 
 settled_at : (l : ℕ) → l < 3 → AllByRecursion (IsSettled red) (rows_of red l)
 settled_at zero h = (record { put = refl; origin = of_send 0 (omega arith); gone = refl }, tt)
@@ -131,10 +113,6 @@ taken_at (suc zero) Back h = IsPermutation-refl []
 taken_at (suc (suc zero)) Forth h = IsPermutation-refl []
 taken_at (suc (suc zero)) Back h = IsPermutation-refl (plain ∷ [])
 taken_at (suc (suc (suc l))) dir h = absurd (omega arith)
-
-nothing_else : (p : Bool) (x : Carried) → p ≡ false → cons_option (if p then Some x else None) [] ≡ []
-nothing_else false x e = refl
-nothing_else true x e = absurd (false≢true (sym e))
 
 linked_at : (k port : ℕ) → k < 3 → HasLink red k port ⊎ (arrivals port (past_of red k) ≡ [])
 linked_at zero zero h = inl (record { link = 1; dir = Forth; below = omega arith; ends = refl })
@@ -174,10 +152,7 @@ numbered_first (suc (suc (suc k))) h = absurd (omega arith)
 -- ---- it is within budget
 
 at_first : (send : Probe) → Some first ≡ Some send → (moment_of red send ≤ 0) × (0 < moment_of red send + 400000)
-at_first send e =
-    let same : first ≡ send = cc in
-    let moment : moment_of red send ≡ 0 = ap (moment_of red) (sym same) in
-    (omega arith, omega arith)
+at_first send e = at_start red first refl send e
 
 in_time_at : (k : ℕ) → k < 3 → Each (λ x past. IsInTime red (now (x ∷ past)) x.event) (past_of red k)
 in_time_at zero h = (at_first, (at_first, tt))
@@ -186,10 +161,7 @@ in_time_at (suc (suc zero)) h = (tt, tt)
 in_time_at (suc (suc (suc k))) h = absurd (omega arith)
 
 not_crowded_at : (start : ℕ) → list_any (λ sent. sent.moment == start) (sends_of red) ≡ true → count_by (is_within start 800000) (sends_of red) ≤ 4
-not_crowded_at start h =
-    let s : budget.Sent = record { send = first; moment = 0 } in
-    let more = count_more (is_within start 800000) (let s : budget.Sent = record { send = first; moment = 0 } in s) [] in
-    ⊎_elim (λ t. let one = one_if (is_within start 800000 s) t in omega arith) (λ f. let nothing = zero_if (is_within start 800000 s) f in omega arith) (cases_Bool (is_within start 800000 s))
+not_crowded_at start h = one_within start (record { send = first; moment = 0 })
 
 pub within : IsBudgetHeld red
 within = record { in_time = in_time_at; not_crowded = not_crowded_at }

@@ -29,8 +29,7 @@ use Rattle.hsr_law.specs.Once.{delivers}
 use Rattle.hsr_law.specs.Premises.{IsRing, OneLossyLink, mac_at}
 use Rattle.hsr_law.specs.Run.{Run, owner_of, past_of, place_of, record_of, rows_of}
 use Rattle.hsr_law.proofs.Worked as two_nodes
-use Rattle.hsr_law.proofs.Worked.{entry, far, join, judged, mac, macs, nothing_far}
-use Rattle.hsr_law.proofs.WorkedRing.{of_numbered}
+use Rattle.hsr_law.proofs.Worked.{entry, far, join, judged, mac, macs, nothing_far, of_tagged}
 
 abbrev frame : Fields
 frame = record { dst = mac 2; src = mac 1; vlan = None; kind = 0x0800; rest = 0xAA ∷ 0xBB ∷ [] }
@@ -76,10 +75,10 @@ tagged (suc (suc n)) path g h = absurd (omega arith)
 tagged n (suc (suc path)) g h = absurd (omega arith)
 
 first_send : (path : ℕ) → path < 2 → IsOfSend lossy (copy 0 path)
-first_send path h = of_numbered lossy (record { node = 0; place = 0 }) frame path 0 (copy 0 path) refl (tagged 0 path (omega arith) h) (omega arith, refl)
+first_send path h = of_tagged lossy (record { node = 0; place = 0 }) (record { frame = frame; seq = Some 0 }) path 0 (copy 0 path) refl (tagged 0 path (omega arith) h) (omega arith, refl) refl
 
 second_send : (path : ℕ) → path < 2 → IsOfSend lossy (copy 1 path)
-second_send path h = of_numbered lossy (record { node = 0; place = 1 }) frame path 1 (copy 1 path) refl (tagged 1 path (omega arith) h) (omega arith, refl)
+second_send path h = of_tagged lossy (record { node = 0; place = 1 }) (record { frame = frame; seq = Some 1 }) path 1 (copy 1 path) refl (tagged 1 path (omega arith) h) (omega arith, refl) refl
 
 settled_at : (l : ℕ) → l < 2 → AllByRecursion (IsSettled lossy) (rows_of lossy l)
 settled_at zero h = (record { put = refl; origin = first_send 1 (omega arith); gone = refl }, (record { put = refl; origin = second_send 1 (omega arith); gone = refl }, tt))

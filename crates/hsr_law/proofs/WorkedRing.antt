@@ -1,25 +1,21 @@
 -- Group round a ring: a ring of three nodes, the second in mode U, of which the first sends to a group. Each of the others
 -- takes the first copy up and passes both on, and both come back. All that the law asks for holds, so each of the others took
 -- the frame up once; and it doesn't if a copy that was taken counts as lost.
-use Rattle.std.proofs.Common.{◌≡◌, if◌then◌else◌, ◌||◌, subst, slice_index_or, ◌⊎◌, ℕ, ◌+◌, ◌%◌, ◌<◌, ◌==◌, true, false, not, List, [], ◌∷◌, length, count_by, Option, Some, None, Ok, IsPermutation, refl, sym, ap, ◌∙◌, arith, inl, inr, zero, suc}
+use Rattle.std.proofs.Common.{◌≡◌, if◌then◌else◌, ◌||◌, subst, slice_index_or, ◌⊎◌, ℕ, ◌+◌, ◌%◌, ◌<◌, ◌==◌, true, false, not, List, [], ◌∷◌, length, count_by, Option, Some, None, IsPermutation, refl, sym, ap, ◌∙◌, arith, inl, inr, zero, suc}
 use Rattle.std.specs.List.{list_any, AllByRecursion}
 use Rattle.std.proofs.lemmas.List.Sorted.{IsPermutation-refl, length_permutation}
 use Rattle.std.proofs.lemmas.Bool.{and_right, false≢true}
 use Rattle.hsr_frame.specs.Address.{is_group}
 use Rattle.hsr_frame.specs.Egress.{Egress, up, a, b, c, d}
-use Rattle.hsr_frame.specs.Grammar.{Fields}
 use Rattle.hsr_frame.specs.declared.node.Cause.TheVariants.{Passed, Returned}
 use Rattle.hsr_frame.specs.declared.node.Mode.TheVariants.{H, U}
 use Rattle.hsr_duptable.specs.Key.{Key, is_same_key}
 use Rattle.hsr_tag.specs.Seen.{classified}
-use Rattle.hsr_tag.specs.Tag.{TaggedFields, tag_of}
-use Rattle.hsr_tag.specs.declared.seen.Seen.TheVariants.{Tagged}
-use Rattle.hsr_node.specs.Copies.{copy_octets, passed_octets, plain_in}
+use Rattle.hsr_node.specs.Copies.{copy_octets, passed_octets}
 use Rattle.hsr_node.specs.Counts.{counters}
 use Rattle.hsr_node.specs.Flow.{arrivals}
 use Rattle.hsr_node.specs.Record.{Each, IsLegal, Noted, Owner, notes, now, remembered}
 use Rattle.hsr_node.specs.declared.entry.Entry.{Entry}
-use Rattle.hsr_node.specs.declared.event.Carried.{Carried}
 use Rattle.hsr_node.specs.declared.event.Event.{Event}
 use Rattle.hsr_node.specs.declared.event.Event.TheVariants.{Send, Supervise, Arrive, Age}
 use Rattle.hsr_node.specs.declared.event.Outcome.TheVariants.{Sent}
@@ -29,13 +25,13 @@ use Rattle.hsr_link.specs.declared.row.Dir.{Dir}
 use Rattle.hsr_link.specs.declared.row.Dir.TheVariants.{Forth, Back}
 use Rattle.hsr_link.specs.declared.row.Fate.TheVariants.{LostDown}
 use Rattle.hsr_link.specs.declared.row.Row.{Row}
-use Rattle.hsr_law.specs.Closed.{HasLink, IsClosed, IsOfSend, IsSend, IsSettled, PutAgrees, TakenAgrees}
+use Rattle.hsr_law.specs.Closed.{HasLink, IsClosed, IsOfSend, IsSettled, PutAgrees, TakenAgrees}
 use Rattle.hsr_law.specs.Once.{IsExactlyOnce, delivers}
 use Rattle.hsr_law.specs.Premises.{IsRing, Joins, KnowsOwn, NothingForgotten, NothingMistaken, OneLossyLink, Remembers, is_mistaken, is_note_of, mac_at}
 use Rattle.hsr_law.specs.Run.{Run, ends_of, owner_of, past_of, place_of, record_of, rows_of}
 use Rattle.hsr_law.proofs.Once.{exactly_once}
 use Rattle.hsr_law.proofs.Records.{each_so}
-use Rattle.hsr_law.proofs.Worked.{copy, entry, far, frame, group, join, judged, mac, nothing_far, row, tagged_copy}
+use Rattle.hsr_law.proofs.Worked.{copy, entry, far, frame, group, join, judged, mac, nothing_far, of_tagged, row, tagged_copy}
 
 -- the run, with these rows
 abbrev run_with : List (List Row) → Run
@@ -68,21 +64,8 @@ legal_at (suc zero) h = (refl, (refl, tt))
 legal_at (suc (suc zero)) h = (refl, (refl, tt))
 legal_at (suc (suc (suc k))) h = absurd (omega arith)
 
--- a tagged copy of a send that got its number there
-pub of_numbered : (run : Run) (send : Probe) (frame : Fields) (path seq : ℕ) (copy : Carried) → copy.probe ≡ Some send →
-    classified copy.octets ≡ Ok (Tagged (tag_of frame path seq)) → IsSend run send (record { frame = frame; seq = Some seq }) → IsOfSend run copy
-of_numbered run send frame path seq copy named tagged is = record {
-  send = send;
-  sending = record { frame = frame; seq = Some seq };
-  named = named;
-  is_send = is;
-  frame = ap plain_in tagged;
-  number = λ t there. let both : Ok (Tagged (tag_of frame path seq)) ≡ Ok (Tagged t) = sym tagged ∙ there in
-      let same : tag_of frame path seq ≡ t = cc in ap (λ (t : TaggedFields). Some t.seq) same;
-}
-
 of_send : (path : ℕ) → path < 2 → IsOfSend ring3 (copy path)
-of_send path h = of_numbered ring3 (record { node = 0; place = 0 }) frame path 0 (copy path) refl (tagged_copy path h) (omega arith, refl)
+of_send path h = of_tagged ring3 (record { node = 0; place = 0 }) (record { frame = frame; seq = Some 0 }) path 0 (copy path) refl (tagged_copy path h) (omega arith, refl) refl
 
 settled_rows : AllByRecursion (IsSettled ring3) both_ways
 settled_rows = (record { put = refl; origin = of_send 1 (omega arith); gone = refl }, (record { put = refl; origin = of_send 0 (omega arith); gone = refl }, tt))

@@ -2,7 +2,7 @@
 use crate::fixtures::{FailingReader, FailingWriter, GROUP_SEND, ONE_NODE, ONE_SEND, RING};
 use crate::scenario_run_tests::run_shown;
 use hsr_closing::Disagree;
-use hsr_engines::{Fault, Showing, Status, Table, TranscriptFault, audit_run};
+use hsr_engines::{Asked, Fault, Showing, Status, Table, TranscriptFault, audit_run};
 use hsr_link::Dir;
 use hsr_networks::{RING_REPORT, RING_TRANSCRIPT};
 use std::alloc::Global;
@@ -12,7 +12,13 @@ use std::test::Fail;
 fn audited(alloc: Global, text: &str) -> (Status, Vec<u8>) {
     let mut reader = text.as_bytes();
     let mut writer = Vec::new(alloc);
-    let status = audit_run(alloc, &mut reader, &mut writer, Table::Large, false);
+    let status = audit_run(
+        alloc,
+        &mut reader,
+        &mut writer,
+        Table::Large,
+        Asked::NOTHING,
+    );
     (status, writer)
 }
 
@@ -31,7 +37,7 @@ fn transcript_of_one_send(rt: HostRuntime) -> Result<(), Fail> {
     let steps = r#"
 {do="send", node="n0", to="02-00-00-00-00-02", type=0x0800, payload="AABB"},
 "#;
-    let (status, text) = run_shown(rt.alloc(), ONE_NODE, steps, Showing::TRANSCRIPT)?;
+    let (status, text) = run_shown(rt.alloc(), ONE_NODE, steps, Showing::Transcript)?;
     assert_eq!(rt; status, Status::Doubt);
     assert!(rt; text.as_slice() == ONE_SEND.as_bytes());
     Ok(())
@@ -50,7 +56,7 @@ doubt not-ring
 
 #[test]
 fn transcript_of_a_group_round_a_ring(rt: HostRuntime) -> Result<(), Fail> {
-    let (status, text) = run_shown(rt.alloc(), RING, GROUP_SEND, Showing::TRANSCRIPT)?;
+    let (status, text) = run_shown(rt.alloc(), RING, GROUP_SEND, Showing::Transcript)?;
     assert_eq!(rt; status, Status::Certified);
     assert!(rt; text.as_slice() == RING_TRANSCRIPT.as_bytes());
     Ok(())
@@ -99,7 +105,13 @@ fn other_table(rt: HostRuntime) -> Result<(), Fail> {
     );
     let mut reader = ONE_SEND.as_bytes();
     let mut writer = Vec::new(rt.alloc());
-    let status = audit_run(rt.alloc(), &mut reader, &mut writer, Table::Small, false);
+    let status = audit_run(
+        rt.alloc(),
+        &mut reader,
+        &mut writer,
+        Table::Small,
+        Asked::NOTHING,
+    );
     assert_eq!(rt; status, Status::Fault(fault));
     Ok(())
 }
@@ -129,7 +141,13 @@ fn transcript_that_cannot_be_read(rt: HostRuntime) {
         reads_left: 40,
     };
     let mut writer = Vec::new(rt.alloc());
-    let status = audit_run(rt.alloc(), &mut reader, &mut writer, Table::Large, false);
+    let status = audit_run(
+        rt.alloc(),
+        &mut reader,
+        &mut writer,
+        Table::Large,
+        Asked::NOTHING,
+    );
     assert_eq!(rt; status, Status::Fault(Fault::Read));
     assert!(rt; writer.is_empty());
 }
@@ -141,7 +159,13 @@ fn audit_that_cannot_be_written(rt: HostRuntime) {
         held: Vec::new(rt.alloc()),
         writes_left: 0,
     };
-    let status = audit_run(rt.alloc(), &mut reader, &mut writer, Table::Large, false);
+    let status = audit_run(
+        rt.alloc(),
+        &mut reader,
+        &mut writer,
+        Table::Large,
+        Asked::NOTHING,
+    );
     assert_eq!(rt; status, Status::Fault(Fault::Write));
     assert!(rt; writer.held.is_empty());
 }

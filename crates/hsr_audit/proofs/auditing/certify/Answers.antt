@@ -13,3 +13,13 @@ returns-in-Ok-clause-certified g c =
     let listed : c.in-Ok.sends.items ≡ certified run macs = search rules in
     let finished = c.clear_macs.ensures.finished in
     certified_is run macs c.in-Ok.sends.items (finished.wired, finished.closed) c.exactly_once.ensures clear listed
+
+pub returns-in-Ok-clause-complete : goal.returns-in-Ok-clause-complete
+returns-in-Ok-clause-complete g c =
+    let run : Run = c.args.closed.now.run in
+    let macs = c.in_ok-macs.macs.items in
+    let clear : IsClear run macs = search rules in
+    let listed : c.in-Ok.sends.items ≡ certified run macs = search rules in
+    let finished = c.clear_macs.ensures.finished in
+    let it = certified_is run macs c.in-Ok.sends.items (finished.wired, finished.closed) c.exactly_once.ensures clear listed in
+    c.once_is_complete.ensures run it.macs finished.closed it.premised.ring it.once

@@ -1,5 +1,5 @@
 use Rattle.std.proofs.Common.{ℕ, ◌^◌, IfSome, List, subst, sym}
-use Rattle.hsr_engines.specs.Tables.{capacity_of}
+use Rattle.hsr_options.specs.Tables.{capacity_of}
 use Rattle.hsr_engines.specs.Text.{IsWhole}
 use Rattle.hsr_engines.proofs.Telling.{told_text}
 use Rattle.hsr_engines.proofs.scenario.scenario_run.Goals as goal

@@ -1,0 +1,56 @@
+-- What the program does, over words, a text that is read, and two writers: standard output and standard error.
+use Rattle.std.specs.Prelude.{ℕ, ◌<◌, ◌≡◌, ◌⊎◌, List, [], ◌++◌, length, codes, Option}
+use Rattle.std.specs.Io.KnownBytes.{Appends, Keeps}
+use Rattle.clap.specs.Words.{Text}
+use Rattle.hsr_engines.specs.Fault.{code_of, fault_line}
+use Rattle.hsr_engines.specs.declared.fault.Fault.TheVariants.{Memory, Write}
+use Rattle.hsr_engines.specs.declared.fault.Status.{Status}
+use Rattle.hsr_engines.specs.declared.fault.Status.TheVariants.{Certified, Fault as Stopped, Doubt}
+use Rattle.hsr_options.specs.declared.chosen.Options.{Options}
+use Rattle.hsr_words.specs.Options.{IsRefused, Says}
+use Rattle.hsr_command.specs.Performing.{Performs}
+
+-- the line of a fault, of no other end
+abbrev pub line_of : Status → List ℕ
+line_of Certified = []
+line_of (Stopped fault) = fault_line fault ++ codes "\n"
+line_of Doubt = []
+
+-- A run ends in a status: standard error has the line of a fault, and the code of the process is that of the status.
+pub record Tells (told tells : Option (List ℕ)) (status : Status) (code : ℕ) : Type 0 where
+  pub is_code : code ≡ code_of status
+  pub line : Appends told tells (line_of status)
+
+-- The text is handled as was chosen. Then what was written leaves, or the writer fails at that, and this is told.
+pub record IsDone (chosen : Options) (text : List ℕ) (held holds : Option (List ℕ)) (status : Status) : Type 0 where
+  pub written : Option (List ℕ)
+  pub ended : Status
+  pub performs : Performs chosen text held written ended
+  pub left : Keeps written holds
+  pub is : (status ≡ ended) ⊎ (status ≡ Stopped Write)
+
+-- the words say what is to be done, and it is done and told
+pub record IsAnswered (words : List Text) (text : List ℕ) (held holds told tells : Option (List ℕ)) (code : ℕ) : Type 0 where
+  pub chosen : Options
+  pub status : Status
+  pub says : Says words chosen
+  pub done : IsDone chosen text held holds status
+  pub ends : Tells told tells status code
+
+-- the words are refused by a text that isn't empty, and nothing is written
+pub record IsTurnedAway (words : List Text) (held holds told tells : Option (List ℕ)) (code : ℕ) : Type 0 where
+  pub why : Text
+  pub refused : IsRefused words why
+  pub some : 0 < length why
+  pub is_code : code ≡ 3
+  pub line : Appends told tells (why ++ codes "\n")
+  pub kept : Keeps held holds
+
+-- there was no memory to read the words
+pub record IsShort (held holds told tells : Option (List ℕ)) (code : ℕ) : Type 0 where
+  pub ends : Tells told tells (Stopped Memory) code
+  pub kept : Keeps held holds
+
+abbrev pub Benches : List Text → List ℕ → Option (List ℕ) → Option (List ℕ) → Option (List ℕ) → Option (List ℕ) → ℕ → Type 0
+Benches words text held holds told tells code =
+    IsAnswered words text held holds told tells code ⊎ (IsTurnedAway words held holds told tells code ⊎ IsShort held holds told tells code)

@@ -1,0 +1,22 @@
+-- What is done of what the words choose.
+use Rattle.std.specs.Prelude.{ℕ, List, Option}
+use Rattle.hsr_text.specs.Lines.{lines_of}
+use Rattle.hsr_danh.specs.Machine.{new_machine}
+use Rattle.hsr_engines.specs.AuditRun.{AuditEnds}
+use Rattle.hsr_engines.specs.Output.{Ended, output}
+use Rattle.hsr_options.specs.Tables.{capacity_of}
+use Rattle.hsr_engines.specs.Reading.{scenario_of}
+use Rattle.hsr_engines.specs.ScenarioRun.{ScenarioEnds}
+use Rattle.hsr_engines.specs.ThreadsRun.{ThreadsEnds}
+use Rattle.hsr_options.specs.declared.chosen.Options.{Options}
+use Rattle.hsr_options.specs.declared.chosen.Options.TheVariants.{Node, Run, Threads, Audit}
+use Rattle.hsr_engines.specs.declared.fault.Status.{Status}
+
+-- the lines of a text are answered, or it is run as a scenario, alone or in threads, or audited as a transcript; each with tables of
+-- the chosen size
+abbrev pub Performs : Options → List ℕ → Option (List ℕ) → Option (List ℕ) → Status → Type 0
+Performs (Node node) text held holds status =
+    Ended held holds (output node.unit (capacity_of node.table) (new_machine node.mac node.mode) 1 (lines_of text)) status
+Performs (Run table showing) text held holds status = ScenarioEnds (capacity_of table) showing (scenario_of text) held holds status
+Performs (Threads table showing) text held holds status = ThreadsEnds (capacity_of table) showing (scenario_of text) held holds status
+Performs (Audit table asked) text held holds status = AuditEnds (capacity_of table) asked text held holds status

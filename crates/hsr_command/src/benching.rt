@@ -1,0 +1,74 @@
+//! The whole program.
+ghost use Rattle.std.specs.Prelude.{◌≡◌, ◌++◌, IfOk, IfSome, OnOk, codes, map, string_bytes};
+ghost use Rattle.std.specs.Io.KnownBytes.{Appends};
+ghost use Rattle.hsr_command.specs.Benching.{Benches, IsDone, Tells};
+
+use crate::performing::perform;
+use hsr_engines::{Fault, Status};
+use hsr_options::Options;
+use hsr_words::{OptionFault, options};
+use std::alloc::Global;
+use std::io::{self, Read, Write};
+use std::marker::Sync;
+use std::sync::Wait;
+use std::thread::Threads;
+
+/// Writes a line.
+fn put_line<E: Write>(errors: &mut E, text: &str) -> io::Result<()>
+    ensures { OnOk result (Appends (E.contents errors.old) (E.contents errors.new) (text.now ++ codes "\n")) }
+{
+    errors.write_all(text.as_bytes())?;
+    errors.write_all(b"\n")
+}
+
+/// Tells how a run ended: a fault's line on standard error, and the status of the process.
+fn tell<E: Write>(errors: &mut E, status: Status) -> io::Result<u8>
+    ensures { IfOk result (λ code. Tells (E.contents errors.old) (E.contents errors.new) status code) }
+{
+    if let Status::Fault(fault) = status {
+        writeln!(errors, "{fault}")?;
+    }
+    Ok(status.code())
+}
+
+/// Does what is chosen, and flushes what was written.
+fn done<H: Threads + Wait + Sync, R: Read, W: Write>(
+    rt: &H,
+    alloc: Global,
+    reader: &mut R,
+    writer: &mut W,
+    chosen: &Options,
+) -> Status
+    ensures { IfSome (R.remaining reader.old) (λ text. IsDone chosen.now text (W.contents writer.old) (W.contents writer.new) result) }
+{
+    let status = perform(rt, alloc, reader, writer, chosen);
+    match writer.flush() {
+        Ok(()) => status,
+        Err(_) => Status::Fault(Fault::Write),
+    }
+}
+
+/// Does what the words after the program's name say, over a text that is read, standard output and standard error, and gives the
+/// status of the process: 0 where all lines were answered or the run is certified; 1 after a fault, whose line is then on standard
+/// error; 2 where the run is doubted; 3 where the words are refused, by a text on standard error. The error of `errors`, where a line
+/// can't be written there.
+pub fn bench<'a, H: Threads + Wait + Sync, R: Read, W: Write, E: Write>(
+    rt: &H,
+    alloc: Global,
+    words: &'a [&'a str],
+    reader: &mut R,
+    writer: &mut W,
+    errors: &mut E,
+) -> io::Result<u8>
+    ensures { IfOk result (λ code. IfSome (R.remaining reader.old) (λ text.
+        Benches (map (λ s. s.now) words.entry.now) text (W.contents writer.old) (W.contents writer.new) (E.contents errors.old) (E.contents errors.new) code)) }
+{
+    match options(alloc, words) {
+        Ok(chosen) => tell(errors, done(rt, alloc, reader, writer, &chosen)),
+        Err(OptionFault::Usage { text }) => {
+            put_line(errors, text.as_str())?;
+            Ok(3)
+        }
+        Err(OptionFault::Memory) => tell(errors, Status::Fault(Fault::Memory)),
+    }
+}

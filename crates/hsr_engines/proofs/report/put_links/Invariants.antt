@@ -1,6 +1,0 @@
-use Rattle.std.proofs.Common.{◌≡◌, ◌++◌, ◌≤◌}
-use Rattle.hsr_engines.specs.Report.{link_lines}
-use Rattle.hsr_engines.proofs.report.put_links.Given as goal
-
-abbrev pub invariant-loop-link : goal.invariant-loop-link
-invariant-loop-link g l = (l.text.items ≡ l.fn.text.items ++ link_lines l.closed.run l.link) × (l.link ≤ l.link-end)

@@ -1,0 +1,103 @@
+//! What a command line chooses.
+ghost use Rattle.hsr_frame.specs.Address.{IsGroup};
+
+use hsr_frame::{Mac, Mode};
+use hsr_text::TimeUnit;
+
+/// How many entries a duplicate table holds: 4 or 512.
+#[derive(Clone, Copy, Debug, PartialEq, Eq)]
+pub enum Table {
+    Small,
+    Large,
+}
+
+impl Table {
+    ghost use Rattle.std.specs.Prelude.{◌≡◌, IfSome, Some};
+    ghost use Rattle.hsr_options.specs.Tables.{table_of, table_word};
+
+    /// Its word, as it is chosen.
+    pub fn word(self) -> &'static str
+        ensures { result.now ≡ table_word self }
+    {
+        match self {
+            Table::Small => "small",
+            Table::Large => "large",
+        }
+    }
+
+    /// The size whose word this is.
+    #[tactic(auto, using(crate::proofs::Sizes::table_again))]
+    pub fn from_word(word: &[u8]) -> Option<Table>
+        ensures value { result ≡ table_of word.now }
+        ensures again { (table : Table) → table_of (table_word table) ≡ Some table }
+        ensures exact { IfSome result (λ table. word.now ≡ table_word table) }
+    {
+        if word == b"small".as_slice() {
+            Some(Table::Small)
+        } else if word == b"large".as_slice() {
+            Some(Table::Large)
+        } else {
+            None
+        }
+    }
+}
+
+/// The parts that a report has before its last line, each where it is asked for, in this order.
+#[derive(Clone, Copy, Debug, PartialEq, Eq)]
+pub struct Asked {
+    /// A line for each send that isn't complete, and how many are.
+    pub deliveries: bool,
+    /// A line of how many entries the duplicate tables needed.
+    pub needed: bool,
+    /// A line of whether duplicate tables of this size hold all that is sent.
+    pub budget: bool,
+}
+
+impl Asked {
+    /// None of them.
+    pub const NOTHING: Asked = Asked {
+        deliveries: false,
+        needed: false,
+        budget: false,
+    };
+
+    /// All of them.
+    pub const ALL: Asked = Asked {
+        deliveries: true,
+        needed: true,
+        budget: true,
+    };
+}
+
+/// What is written of a finished run.
+#[derive(Clone, Copy, Debug, PartialEq, Eq)]
+pub enum Showing {
+    /// Its transcript.
+    Transcript,
+    /// Its report, with the parts that are asked for.
+    Report(Asked),
+}
+
+/// The node that `node` runs. No group has its address.
+#[derive(Clone, Copy, Debug, PartialEq, Eq)]
+pub struct NodeOptions {
+    pub mac: Mac,
+    pub mode: Mode,
+    pub table: Table,
+    /// The unit of the moments in its lines.
+    pub unit: TimeUnit,
+    pub ghost station: { ¬ IsGroup mac },
+}
+
+/// What to do.
+#[derive(Clone, Copy, Debug, PartialEq, Eq)]
+pub enum Options {
+    /// Answer lines as one node.
+    Node(NodeOptions),
+    /// Run a scenario, and write its transcript or its report.
+    Run { table: Table, showing: Showing },
+    /// Run a scenario in threads, and write its transcript or its report.
+    Threads { table: Table, showing: Showing },
+    /// Audit a transcript, and write its report, with the parts that are asked for.
+    Audit { table: Table, asked: Asked },
+}

@@ -1,0 +1,7 @@
+//! What a command line may choose: a command, the size of duplicate tables, and what is written of a run.
+#![tactic(auto)]
+
+mod chosen;
+
+pub use chosen::{Asked, NodeOptions, Options, Showing, Table};
+pub use hsr_text::TimeUnit;

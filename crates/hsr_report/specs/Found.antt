@@ -1,0 +1,74 @@
+-- What is found of a finished run, and what its report tells.
+--     IsFound       what its audit finds
+--     IsSpending    what it spent of its tables
+--     TellsAsked    the parts that are asked for
+--     IsReportOf    its report
+use Rattle.std.specs.Prelude.{ℕ, ◌≡◌, Bool, true, false, List, [], ◌++◌, length}
+use Rattle.hsr_audit.specs.Budgeted.{IsFirstBreach, IsMost}
+use Rattle.hsr_audit.specs.Certificate.{Certified as Entry, IsCertified}
+use Rattle.hsr_audit.specs.Doubts.{IsFirstDoubt}
+use Rattle.hsr_audit.specs.declared.breach.BudgetFault.TheVariants as breach
+use Rattle.hsr_deliveries.specs.Delivered.{deliveries}
+use Rattle.hsr_deliveries.specs.Lines.{delivery_lines}
+use Rattle.hsr_law.specs.Budget.{IsBudgetHeld}
+use Rattle.hsr_law.specs.Run.{Run}
+use Rattle.hsr_needed.specs.Needs.{IsMost as IsMostNeeded}
+use Rattle.hsr_needed.specs.declared.most.Needed.{Needed}
+use Rattle.hsr_options.specs.declared.chosen.Asked.{Asked}
+use Rattle.hsr_report.specs.Report.{needed_line, report, spending_line}
+use Rattle.hsr_report.specs.declared.finding.Finding.{Finding}
+use Rattle.hsr_report.specs.declared.finding.Finding.TheVariants as finding
+use Rattle.hsr_report.specs.declared.spending.Spending.{Spending}
+use Rattle.hsr_report.specs.declared.spending.Spending.TheVariants.{Within, Late, Crowded}
+
+-- the audit of a run found this: a certificate for so many sends, or its first doubt
+abbrev pub IsFound : Run → Finding → Type 0
+IsFound run (finding.Certified sends) = (listed : List Entry) × IsCertified run listed × (sends ≡ length listed)
+IsFound run (finding.Doubt doubt) = IsFirstDoubt run doubt
+
+-- a run is within budget, with so many sends at most in a window, or this breaks it first
+abbrev pub IsSpending : Run → Spending → Type 0
+IsSpending run (Within most) = IsBudgetHeld run × IsMost run most
+IsSpending run (Late k place) = IsFirstBreach run (breach.Late k place)
+IsSpending run (Crowded moment) = IsFirstBreach run (breach.Crowded moment)
+
+-- ---- the parts that are asked for
+
+-- who got each send
+abbrev pub TellsDeliveries : Run → List ℕ → Type 0
+TellsDeliveries run text = text ≡ delivery_lines (deliveries run)
+
+-- how many entries were needed, and where first
+pub record TellsNeeded (run : Run) (text : List ℕ) : Type 0 where
+  pub needed : Needed
+  pub most : IsMostNeeded run needed
+  pub line : text ≡ needed_line needed
+
+-- what was spent of the tables
+pub record TellsBudget (run : Run) (text : List ℕ) : Type 0 where
+  pub spent : Spending
+  pub is_spent : IsSpending run spent
+  pub line : text ≡ spending_line spent
+
+-- a part of a report tells this, where it is asked for; else there is none
+abbrev pub IsPart : Bool → (List ℕ → Type 0) → List ℕ → Type 0
+IsPart false Tells text = text ≡ []
+IsPart true Tells text = Tells text
+
+-- the parts that are asked for, one behind the other
+pub record TellsAsked (asked : Asked) (run : Run) (text : List ℕ) : Type 0 where
+  pub deliveries : List ℕ
+  pub needed : List ℕ
+  pub budget : List ℕ
+  pub of_deliveries : IsPart asked.deliveries (TellsDeliveries run) deliveries
+  pub of_needed : IsPart asked.needed (TellsNeeded run) needed
+  pub of_budget : IsPart asked.budget (TellsBudget run) budget
+  pub all : text ≡ deliveries ++ needed ++ budget
+
+-- ---- the report
+
+-- of a run of which this was found, with the parts that are asked for
+pub record IsReportOf (asked : Asked) (run : Run) (found : Finding) (text : List ℕ) : Type 0 where
+  pub parts : List ℕ
+  pub are_parts : TellsAsked asked run parts
+  pub is_report : text ≡ report run found parts

@@ -1,0 +1,87 @@
+-- The lines of a report: one for the bench, one for each node and each link, those that are asked for, and what the audit found.
+use Rattle.std.specs.Prelude.{ℕ, zero, suc, Bool, List, [], ◌++◌, length, count_by, codes, Option, Some, None}
+use Rattle.std.specs.Fmt.{decimal}
+use Rattle.hsr_node.specs.Counts.{counters}
+use Rattle.hsr_node.specs.Words.{role_in, role_word}
+use Rattle.hsr_link.specs.Rows.{is_lost, is_taken}
+use Rattle.hsr_link.specs.declared.row.Row.{Row}
+use Rattle.hsr_law.specs.Run.{Run, past_of, place_of, rows_of}
+use Rattle.hsr_audit.specs.declared.doubt.Doubt.{Doubt}
+use Rattle.hsr_audit.specs.declared.doubt.Doubt.TheVariants.{NotRing, Mode, SameAddress, TwoLinks, Forgot, Mistaken}
+use Rattle.hsr_needed.specs.declared.most.Needed.{Needed}
+use Rattle.hsr_node_text.specs.Reply.{counter_line}
+use Rattle.hsr_report.specs.declared.finding.Finding.{Finding}
+use Rattle.hsr_report.specs.declared.finding.Finding.TheVariants as finding
+use Rattle.hsr_report.specs.declared.spending.Spending.{Spending}
+use Rattle.hsr_report.specs.declared.spending.Spending.TheVariants.{Within, Late, Crowded}
+
+-- a node: its number, its role, and how often each thing happened there
+unfoldable pub node_line : Run → ℕ → List ℕ
+node_line run k = codes "node " ++ decimal k ++ codes " " ++ role_word (role_in (place_of run k)) ++ codes " " ++ counter_line (counters (place_of run k) (past_of run k))
+
+abbrev pub is_row_taken : Row → Bool
+is_row_taken row = is_taken row.fate
+
+abbrev pub is_row_lost : Row → Bool
+is_row_lost row = is_lost row.fate
+
+-- a link: its number, and how many copies were put on it, taken and lost
+unfoldable pub link_line : ℕ → List Row → List ℕ
+link_line l rows =
+    codes "link " ++ decimal l ++ codes " put " ++ decimal (length rows) ++ codes " taken " ++ decimal (count_by is_row_taken rows)
+    ++ codes " lost " ++ decimal (count_by is_row_lost rows) ++ codes "\n"
+
+-- the lines of the first nodes and links
+abbrev pub node_lines : Run → ℕ → List ℕ
+node_lines run zero = []
+node_lines run (suc n) = node_lines run n ++ node_line run n
+
+abbrev pub link_lines : Run → ℕ → List ℕ
+link_lines run zero = []
+link_lines run (suc n) = link_lines run n ++ link_line n (rows_of run n)
+
+unfoldable pub head_line : Run → List ℕ
+head_line run =
+    codes "bench 1 table " ++ decimal run.capacity ++ codes " nodes " ++ decimal (length run.places)
+    ++ codes " links " ++ decimal (length run.links) ++ codes "\n"
+
+-- ---- what was found
+
+abbrev pub doubt_text : Doubt → List ℕ
+doubt_text NotRing = codes "not-ring"
+doubt_text Mode = codes "mode"
+doubt_text SameAddress = codes "same-address"
+doubt_text TwoLinks = codes "two-links"
+doubt_text (Forgot k place) = codes "forgot " ++ decimal k ++ codes " " ++ decimal place
+doubt_text (Mistaken k place) = codes "mistaken " ++ decimal k ++ codes " " ++ decimal place
+
+abbrev pub finding_line : Finding → List ℕ
+finding_line (finding.Certified sends) = codes "certified " ++ decimal sends ++ codes "\n"
+finding_line (finding.Doubt doubt) = codes "doubt " ++ doubt_text doubt ++ codes "\n"
+
+-- ---- needed entries
+
+-- the node and place where so many were needed first
+abbrev pub met_text : Option (ℕ × ℕ) → List ℕ
+met_text None = []
+met_text (Some at) = codes " " ++ decimal at.0 ++ codes " " ++ decimal at.1
+
+abbrev pub needed_line : Needed → List ℕ
+needed_line needed = codes "needed " ++ decimal needed.entries ++ met_text needed.at ++ codes "\n"
+
+-- ---- the budget
+
+abbrev pub spending_text : Spending → List ℕ
+spending_text (Within most) = decimal most
+spending_text (Late k place) = codes "late " ++ decimal k ++ codes " " ++ decimal place
+spending_text (Crowded moment) = codes "crowded " ++ decimal moment
+
+abbrev pub spending_line : Spending → List ℕ
+spending_line spent = codes "budget " ++ spending_text spent ++ codes "\n"
+
+-- ---- the report
+
+-- with these parts before its last line
+unfoldable pub report : Run → Finding → List ℕ → List ℕ
+report run found parts =
+    head_line run ++ node_lines run (length run.places) ++ link_lines run (length run.links) ++ parts ++ finding_line found

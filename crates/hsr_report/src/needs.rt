@@ -1,0 +1,29 @@
+//! How many entries a run needed, in the words of a report.
+ghost use Rattle.std.specs.Prelude.{◌≡◌, ◌++◌, OnOk};
+ghost use Rattle.hsr_report.specs.Report.{met_text, needed_line};
+
+use hsr_audit::Needed;
+use hsr_node_text::put_count;
+use std::alloc::AllocError;
+
+/// Puts where so many entries were needed first, if any were.
+fn put_met(text: &mut Vec<u8>, at: Option<(usize, usize)>) -> Result<(), AllocError>
+    ensures { OnOk result (text.new.items ≡ text.old.items ++ met_text at) }
+{
+    match at {
+        None => Ok(()),
+        Some((node, place)) => {
+            put_count(text, b" ", node as u64)?;
+            put_count(text, b" ", place as u64)
+        }
+    }
+}
+
+/// Puts the line of how many entries were needed.
+pub fn put_needed(text: &mut Vec<u8>, needed: Needed) -> Result<(), AllocError>
+    ensures { OnOk result (text.new.items ≡ text.old.items ++ needed_line needed) }
+{
+    put_count(text, b"needed ", needed.entries as u64)?;
+    put_met(text, needed.at)?;
+    text.extend_from_slice(b"\n")
+}

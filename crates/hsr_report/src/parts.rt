@@ -1,0 +1,100 @@
+//! The parts of a report that are asked for.
+ghost use Rattle.std.specs.Prelude.{IfOk};
+ghost use Rattle.hsr_report.specs.Found.{IsPart, TellsAsked, TellsBudget, TellsDeliveries, TellsNeeded};
+
+use crate::needs::put_needed;
+use crate::spending::{put_spending, spending_of};
+use hsr_audit::{deliveries, needed, put_deliveries};
+use hsr_closing::Closed;
+use hsr_frame::NoMemory;
+use hsr_options::Asked;
+use std::alloc::Global;
+
+/// The lines of deliveries.
+fn deliveries_text<const C: usize>(alloc: Global, closed: &Closed<C>) -> Result<Vec<u8>, NoMemory>
+    ensures { IfOk result (λ text. TellsDeliveries closed.now.run text.items) }
+{
+    let deliveries = deliveries(alloc, closed)?;
+    let mut text = Vec::new(alloc);
+    put_deliveries(alloc, &mut text, &deliveries)?;
+    Ok(text)
+}
+
+/// The line of how many entries were needed.
+fn needed_text<const C: usize>(alloc: Global, closed: &Closed<C>) -> Result<Vec<u8>, NoMemory>
+    ensures { IfOk result (λ text. TellsNeeded closed.now.run text.items) }
+{
+    let needed = needed(alloc, closed)?;
+    let mut text = Vec::new(alloc);
+    put_needed(&mut text, needed)?;
+    Ok(text)
+}
+
+/// The line of the budget.
+fn budget_text<const C: usize>(alloc: Global, closed: &Closed<C>) -> Result<Vec<u8>, NoMemory>
+    ensures { IfOk result (λ text. TellsBudget closed.now.run text.items) }
+{
+    let spending = spending_of(alloc, closed)?;
+    let mut text = Vec::new(alloc);
+    put_spending(&mut text, spending)?;
+    Ok(text)
+}
+
+/// The lines of deliveries, where they are asked for.
+fn deliveries_part<const C: usize>(
+    alloc: Global,
+    closed: &Closed<C>,
+    is_asked: bool,
+) -> Result<Vec<u8>, NoMemory>
+    ensures { IfOk result (λ text. IsPart is_asked (TellsDeliveries closed.now.run) text.items) }
+{
+    if is_asked {
+        deliveries_text(alloc, closed)
+    } else {
+        Ok(Vec::new(alloc))
+    }
+}
+
+/// The line of how many entries were needed, where it is asked for.
+fn needed_part<const C: usize>(
+    alloc: Global,
+    closed: &Closed<C>,
+    is_asked: bool,
+) -> Result<Vec<u8>, NoMemory>
+    ensures { IfOk result (λ text. IsPart is_asked (TellsNeeded closed.now.run) text.items) }
+{
+    if is_asked {
+        needed_text(alloc, closed)
+    } else {
+        Ok(Vec::new(alloc))
+    }
+}
+
+/// The line of the budget, where it is asked for.
+fn budget_part<const C: usize>(
+    alloc: Global,
+    closed: &Closed<C>,
+    is_asked: bool,
+) -> Result<Vec<u8>, NoMemory>
+    ensures { IfOk result (λ text. IsPart is_asked (TellsBudget closed.now.run) text.items) }
+{
+    if is_asked {
+        budget_text(alloc, closed)
+    } else {
+        Ok(Vec::new(alloc))
+    }
+}
+
+/// The parts that are asked for, one behind the other.
+pub fn parts<const C: usize>(
+    alloc: Global,
+    closed: &Closed<C>,
+    asked: Asked,
+) -> Result<Vec<u8>, NoMemory>
+    ensures { IfOk result (λ text. TellsAsked asked closed.now.run text.items) }
+{
+    let mut text = deliveries_part(alloc, closed, asked.deliveries)?;
+    text.extend_from_slice(needed_part(alloc, closed, asked.needed)?.as_slice())?;
+    text.extend_from_slice(budget_part(alloc, closed, asked.budget)?.as_slice())?;
+    Ok(text)
+}

@@ -1,0 +1,136 @@
+//! The report of a finished run.
+ghost use Rattle.std.specs.Prelude.{◌≡◌, ◌<◌, ◌++◌, count_by, length, IfOk, OnOk};
+ghost use Rattle.hsr_closing.specs.Finished.{IsFinished};
+ghost use Rattle.hsr_law.specs.Run.{place_of};
+ghost use Rattle.hsr_report.specs.Found.{IsReportOf};
+ghost use Rattle.hsr_report.specs.Report.{head_line, is_row_lost, is_row_taken, link_line, link_lines, node_line, node_lines, report};
+
+use crate::finding::{Finding, put_finding};
+use crate::parts::parts;
+use hsr_closing::Closed;
+use hsr_frame::NoMemory;
+use hsr_link::{Fate, Row};
+use hsr_node::Place;
+use hsr_node_text::{put_count, put_counters};
+use hsr_options::Asked;
+use std::alloc::{AllocError, Global};
+
+fn is_taken(row: &Row) -> bool
+    ensures { result ≡ is_row_taken row.now }
+{
+    matches!(row.fate, Fate::Taken)
+}
+
+/// How many rows of a link are of taken copies.
+fn taken_of(rows: &[Row]) -> usize
+    ensures { result ≡ count_by is_row_taken rows.now }
+{
+    rows.iter().filter(|row| is_taken(row)).count()
+}
+
+/// How many rows of a link are of lost copies.
+fn lost_of(rows: &[Row]) -> usize
+    ensures { result ≡ count_by is_row_lost rows.now }
+{
+    rows.iter().filter(|row| row.fate.is_lost()).count()
+}
+
+/// Puts the line of a link.
+#[tactic(auto, unfolding(crate::specs::Report::link_line))]
+fn put_link(text: &mut Vec<u8>, link: usize, rows: &[Row]) -> Result<(), AllocError>
+    ensures { OnOk result (text.new.items ≡ text.old.items ++ link_line link rows.now) }
+{
+    put_count(text, b"link ", link as u64)?;
+    put_count(text, b" put ", rows.len() as u64)?;
+    put_count(text, b" taken ", taken_of(rows) as u64)?;
+    put_count(text, b" lost ", lost_of(rows) as u64)?;
+    text.extend_from_slice(b"\n")
+}
+
+/// Puts the line of a node.
+#[tactic(auto, unfolding(crate::specs::Report::node_line))]
+fn put_node<const C: usize>(
+    text: &mut Vec<u8>,
+    closed: &Closed<C>,
+    node: usize,
+    place: &Place,
+) -> Result<(), AllocError>
+    requires below { node < length closed.now.run.places }
+    requires place { place.now ≡ place_of closed.now.run node }
+    ensures { OnOk result (text.new.items ≡ text.old.items ++ node_line closed.now.run node) }
+{
+    put_count(text, b"node ", node as u64)?;
+    text.extend_from_slice(b" ")?;
+    text.extend_from_slice(place.role().word().as_bytes())?;
+    text.extend_from_slice(b" ")?;
+    put_counters(text, &closed.counters(node))
+}
+
+/// Puts the line of the bench.
+#[tactic(auto, unfolding(crate::specs::Report::head_line))]
+fn put_head<const C: usize>(text: &mut Vec<u8>, closed: &Closed<C>) -> Result<(), AllocError>
+    ensures line { OnOk result (text.new.items ≡ text.old.items ++ head_line closed.now.run) }
+    ensures finished { IsFinished closed.now }
+{
+    let topology = closed.topology();
+    put_count(text, b"bench 1 table ", C as u64)?;
+    put_count(text, b" nodes ", topology.places().len() as u64)?;
+    put_count(text, b" links ", topology.links().len() as u64)?;
+    text.extend_from_slice(b"\n")
+}
+
+/// Puts the line of each node.
+fn put_nodes<const C: usize>(text: &mut Vec<u8>, closed: &Closed<C>) -> Result<(), AllocError>
+    ensures { OnOk result (text.new.items ≡ text.old.items ++ node_lines closed.now.run (length closed.now.run.places)) }
+{
+    for (node, place) in closed.topology().places().iter().enumerate() {
+        put_node(text, closed, node, place)?;
+    }
+    Ok(())
+}
+
+/// Puts the line of each link.
+fn put_links<const C: usize>(text: &mut Vec<u8>, closed: &Closed<C>) -> Result<(), AllocError>
+    ensures { OnOk result (text.new.items ≡ text.old.items ++ link_lines closed.now.run (length closed.now.run.links)) }
+{
+    for link in 0..closed.topology().links().len() {
+        put_link(text, link, closed.rows(link))?;
+    }
+    Ok(())
+}
+
+/// Forms the report of a finished run of which this was found, with these parts before its last line.
+#[tactic(auto, unfolding(crate::specs::Report::report))]
+fn report_with<const C: usize>(
+    alloc: Global,
+    closed: &Closed<C>,
+    finding: Finding,
+    parts: &[u8],
+) -> Result<Vec<u8>, AllocError>
+    ensures text { IfOk result (λ text. text.items ≡ report closed.now.run finding parts.now) }
+    ensures finished { IsFinished closed.now }
+{
+    let mut text = Vec::new(alloc);
+    put_head(&mut text, closed)?;
+    put_nodes(&mut text, closed)?;
+    put_links(&mut text, closed)?;
+    text.extend_from_slice(parts)?;
+    put_finding(&mut text, finding)?;
+    Ok(text)
+}
+
+/// The report of a finished run of which this was found: a line for the bench, for each node and for each link, the parts that
+/// are asked for, and what was found. `NoMemory` where room is refused.
+pub fn report<const C: usize>(
+    alloc: Global,
+    closed: &Closed<C>,
+    finding: Finding,
+    asked: Asked,
+) -> Result<Vec<u8>, NoMemory>
+    ensures text { IfOk result (λ text. IsReportOf asked closed.now.run finding text.items) }
+    ensures finished { OnOk result (IsFinished closed.now) }
+{
+    let parts = parts(alloc, closed, asked)?;
+    let text = report_with(alloc, closed, finding, parts.as_slice())?;
+    Ok(text)
+}

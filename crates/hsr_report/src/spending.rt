@@ -1,0 +1,48 @@
+//! What a run spent of its tables, in the words of a report.
+ghost use Rattle.std.specs.Prelude.{◌≡◌, ◌++◌, IfOk, OnOk};
+ghost use Rattle.hsr_report.specs.Found.{IsSpending};
+ghost use Rattle.hsr_report.specs.Report.{spending_line};
+
+use hsr_audit::{BudgetFault, budget};
+use hsr_closing::Closed;
+use hsr_frame::NoMemory;
+use hsr_node_text::put_count;
+use std::alloc::{AllocError, Global};
+
+/// What a run spent of its tables.
+#[derive(Clone, Copy, Debug, PartialEq, Eq)]
+pub enum Spending {
+    /// It is within budget, with so many sends at most in 800 milliseconds.
+    Within(usize),
+    /// This arrival came too late.
+    Late { node: usize, place: usize },
+    /// From this moment on, in microseconds, there were more sends than a table has entries.
+    Crowded { moment: u64 },
+}
+
+/// What a run spent of its tables. `NoMemory` where room is refused.
+pub fn spending_of<const C: usize>(alloc: Global, closed: &Closed<C>) -> Result<Spending, NoMemory>
+    ensures { IfOk result (λ s. IsSpending closed.now.run s) }
+{
+    match budget(alloc, closed) {
+        Ok(budget) => Ok(Spending::Within(budget.most)),
+        Err(BudgetFault::Late { node, place }) => Ok(Spending::Late { node, place }),
+        Err(BudgetFault::Crowded { moment }) => Ok(Spending::Crowded { moment }),
+        Err(BudgetFault::NoMemory) => Err(NoMemory),
+    }
+}
+
+/// Puts the line of the budget.
+pub fn put_spending(text: &mut Vec<u8>, spending: Spending) -> Result<(), AllocError>
+    ensures { OnOk result (text.new.items ≡ text.old.items ++ spending_line spending) }
+{
+    match spending {
+        Spending::Within(most) => put_count(text, b"budget ", most as u64)?,
+        Spending::Late { node, place } => {
+            put_count(text, b"budget late ", node as u64)?;
+            put_count(text, b" ", place as u64)?;
+        }
+        Spending::Crowded { moment } => put_count(text, b"budget crowded ", moment)?,
+    }
+    text.extend_from_slice(b"\n")
+}
