@@ -256,16 +256,21 @@ def compare_scenario(seed):
     expect(f"seed {seed}", ["run", *table], given, (status, report, fault))
     if fault:
         return fault.rstrip("\n") if "check" in fault else "fault: step .. " + fault.split()[-1]
-    asked = [part for part in ("deliveries", "needed", "budget") if chance.random() < 0.8]
+    asked = [part for part in ("deliveries", "needed", "budget", "network") if chance.random() < 0.8]
     flags, parts = ["--" + part for part in asked], world.report(asked)
-    expect(f"seed {seed}", ["run", *flags, *table], given, (status, parts, ""))
+    ends = 0 if parts.splitlines()[-1].startswith("certified") else 2
+    if ends == 0 and "network" in asked and world.deliveries()[:-1]:
+        print(f"seed {seed}: certified, and not all sends are complete\n{given}")
+        raise Differs
+    expect(f"seed {seed}", ["run", *flags, *table], given, (ends, parts, ""))
     transcript = world.transcript()
-    expect(f"seed {seed}", ["run", "--transcript", *flags, *table], given, (status, transcript, ""))
+    expect(f"seed {seed}", ["run", "--transcript", *flags, *table], given, (ends, transcript, ""))
     expect(f"seed {seed}", ["audit", *table], transcript, (status, report, ""))
-    expect(f"seed {seed}", ["audit", *flags, *table], transcript, (status, parts, ""))
+    expect(f"seed {seed}", ["audit", *flags, *table], transcript, (ends, parts, ""))
     if world.is_whole():
         expect(f"seed {seed}", ["audit", *table], world.transcript("ms"), (status, report, ""))
-    return " ".join(world.verdict().split()[: 1 if status == 0 else 2])
+    verdict = world.network_verdict() if "network" in asked else world.verdict()
+    return ("network " if "network" in asked else "") + " ".join(verdict.split()[: 1 if ends == 0 else 2])
 
 
 def compare_node(seed):

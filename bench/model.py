@@ -141,7 +141,7 @@ class Node:
         self.heard = []  # (address, moment) of stations, the latest last
         self.record = []
         self.frames = {}  # of its own, by place
-        self.forgot = self.mistaken = None  # the first place of each
+        self.forgot = self.mistaken = self.late = None  # the first place of each
         self.needed = (0,)  # how many notes, and the first place
 
     def spelled(self):
@@ -266,6 +266,8 @@ class Node:
         wish = self.wish(port, frame)
         if wish.key:
             self.doubt(wish, send)
+        if wish.is_numbered and self.late is None and any(note[2] == send for notes in self.notes.values() for note in notes):
+            self.late = len(self.record)
         seq = self.take_number() if wish.is_numbered else None
         passed = [out for out in wish.exits if all(note[0] != wish.key for note in self.remembered(out))] if wish.key else wish.exits
         if wish.key or wish.is_numbered:
@@ -305,7 +307,24 @@ class Node:
             return False
         if is_group(frame.dst):
             return self.role != "station" or not frame.is_supervision()
-        return frame.dst in [*self.macs, self.mac]
+        return self.has(frame.dst)
+
+    def has(self, mac):
+        return mac in [*self.macs, self.mac]
+
+    def is_edge(self, port):
+        return port in "IP"
+
+    def passes_on(self, frame, sender, port):
+        """Whether what comes to a port goes on to others."""
+        if self.role in ("quadbox", "station"):
+            return self.role == "quadbox"
+        is_kept = self.has(frame.dst) and (self.mode != "U" or port == "I")
+        return self.number != sender and not is_kept
+
+    def lets_out(self, frame, port):
+        """Whether it leaves by a port where no station is known."""
+        return port != "I" or is_group(frame.dst) and not frame.is_supervision()
 
     def ups(self, send):
         return sum(event.send == send and "up" in outcome.split() for _, _, event, outcome in self.record)
@@ -491,6 +510,57 @@ class World:
                     return f"doubt {what} {node.number} {getattr(node, what)}"
         return f"certified {sum(node.sent + node.lives for node in self.nodes)}"
 
+    # -- the audit of networks
+
+    def sends(self):
+        return ((node, place) for node in self.nodes for place in sorted(node.frames))
+
+    def is_promised(self, node, frame):
+        if is_group(frame.dst):
+            return node.role != "station" or not frame.is_supervision()
+        return not any(frame.dst in other.macs for other in self.nodes)
+
+    def reached(self, node, place):
+        """The nodes to which some way lost no copy of a send."""
+        frame, send = node.frames[place], (node.number, place)
+        ways = [(*link.ends[:: 1 - 2 * dir], not any(row.dir == dir and row.send == send and row.fate != "taken" for row in link.rows))
+                for link in self.links for dir in (0, 1)]
+        ways = [(start, stop) for start, stop, is_whole in ways if is_whole and self.nodes[start[0]].lets_out(frame, start[1])]
+        came = {stop for start, stop in ways if start[0] == node.number}
+        todo = list(came)
+        while todo:
+            number, port = todo.pop()
+            if not self.nodes[number].passes_on(frame, node.number, port):
+                continue
+            for start, stop in ways:
+                if start[0] == number and start[1] != port and stop[0] != node.number and stop not in came:
+                    came.add(stop)
+                    todo.append(stop)
+        return {number for number, _ in came}
+
+    def network_verdict(self):
+        if any(node.mac and node.mode == "N" for node in self.nodes):
+            return "doubt mode"
+        owned = [set(node.macs) | {node.mac} - {None} for node in self.nodes]
+        if sum(map(len, owned)) > len(set().union(*owned)):
+            return "doubt same-address"
+        for number, link in enumerate(self.links):
+            if len({self.nodes[end[0]].is_edge(end[1]) for end in link.ends}) > 1:
+                return f"doubt side {number}"
+        for what, told in (("forgot", "forgot"), ("mistaken", "mistaken"), ("late", "numbered-late")):
+            for node in self.nodes:
+                if getattr(node, what) is not None:
+                    return f"doubt {told} {node.number} {getattr(node, what)}"
+        for node, place in self.sends():
+            if not self.is_promised(node, node.frames[place]):
+                return f"doubt uncovered {node.number} {place}"
+        for node, place in self.sends():
+            reached = self.reached(node, place)
+            for other in self.nodes:
+                if other.is_due(node.frames[place], node.number) and other.number not in reached:
+                    return f"doubt cut-off {node.number} {place} {other.number}"
+        return f"certified {len(list(self.sends()))}"
+
     def budget(self):
         """The line of the budget, by its definition: each arrival, and each window that begins with a send."""
         moments = [list(accumulate((at for _, at, _, _ in node.record), max)) for node in self.nodes]
@@ -535,7 +605,7 @@ class World:
         return [line for line in lines if line] + [f"deliveries {len(lines)} complete {lines.count(None)}"]
 
     def report(self, asked=()):
-        """Its report, with the parts that are asked for: deliveries, needed, budget."""
+        """Its report, with the parts that are asked for: deliveries, needed, budget; by the audit of networks where that is."""
         lines = [f"bench 1 table {self.capacity} nodes {len(self.nodes)} links {len(self.links)}"]
         lines += [f"node {node.number} {node.role} {node.counters()}" for node in self.nodes]
         for number, link in enumerate(self.links):
@@ -544,7 +614,7 @@ class World:
         lines += self.deliveries() if "deliveries" in asked else []
         lines += [self.needed()] if "needed" in asked else []
         lines += [self.budget()] if "budget" in asked else []
-        return text([*lines, self.verdict()])
+        return text([*lines, self.network_verdict() if "network" in asked else self.verdict()])
 
     def transcript(self, unit="us"):
         """Its text of version 2, or of version 1, which tells milliseconds."""

@@ -1,5 +1,5 @@
 -- What the program does, over words, a text that is read, and two writers: standard output and standard error.
-use Rattle.std.specs.Prelude.{ℕ, ◌<◌, ◌≡◌, ◌⊎◌, List, [], ◌++◌, length, codes, Option}
+use Rattle.std.specs.Prelude.{ℕ, ◌<◌, ◌≡◌, ◌⊎◌, List, [], ◌++◌, length, codes, string_bytes, Option, Result, Ok, Err}
 use Rattle.std.specs.Io.KnownBytes.{Appends, Keeps}
 use Rattle.clap.specs.Words.{Text}
 use Rattle.hsr_engines.specs.Fault.{code_of, fault_line}
@@ -8,6 +8,8 @@ use Rattle.hsr_engines.specs.declared.fault.Status.{Status}
 use Rattle.hsr_engines.specs.declared.fault.Status.TheVariants.{Certified, Fault as Stopped, Doubt}
 use Rattle.hsr_options.specs.declared.chosen.Options.{Options}
 use Rattle.hsr_words.specs.Options.{IsRefused, Says}
+use Rattle.hsr_words.specs.declared.fault.OptionFault.{OptionFault}
+use Rattle.hsr_words.specs.declared.fault.OptionFault.TheVariants.{Usage, Memory as NoRoom}
 use Rattle.hsr_command.specs.Performing.{Performs}
 
 -- the line of a fault, of no other end
@@ -29,6 +31,18 @@ pub record IsDone (chosen : Options) (text : List ℕ) (held holds : Option (Lis
   pub left : Keeps written holds
   pub is : (status ≡ ended) ⊎ (status ≡ Stopped Write)
 
+-- there was no memory to read the words
+pub record IsShort (held holds told tells : Option (List ℕ)) (code : ℕ) : Type 0 where
+  pub ends : Tells told tells (Stopped Memory) code
+  pub kept : Keeps held holds
+
+-- What the words choose is done and told; or the text by which they are refused is, and nothing is written; or there was no memory
+-- to read them.
+abbrev pub Answers : Result Options OptionFault → List ℕ → Option (List ℕ) → Option (List ℕ) → Option (List ℕ) → Option (List ℕ) → ℕ → Type 0
+Answers (Ok chosen) text held holds told tells code = (status : Status) × IsDone chosen text held holds status × Tells told tells status code
+Answers (Err (Usage why)) text held holds told tells code = (code ≡ 3) × Appends told tells (string_bytes why ++ codes "\n") × Keeps held holds
+Answers (Err NoRoom) text held holds told tells code = IsShort held holds told tells code
+
 -- the words say what is to be done, and it is done and told
 pub record IsAnswered (words : List Text) (text : List ℕ) (held holds told tells : Option (List ℕ)) (code : ℕ) : Type 0 where
   pub chosen : Options
@@ -44,11 +58,6 @@ pub record IsTurnedAway (words : List Text) (held holds told tells : Option (Lis
   pub some : 0 < length why
   pub is_code : code ≡ 3
   pub line : Appends told tells (why ++ codes "\n")
-  pub kept : Keeps held holds
-
--- there was no memory to read the words
-pub record IsShort (held holds told tells : Option (List ℕ)) (code : ℕ) : Type 0 where
-  pub ends : Tells told tells (Stopped Memory) code
   pub kept : Keeps held holds
 
 abbrev pub Benches : List Text → List ℕ → Option (List ℕ) → Option (List ℕ) → Option (List ℕ) → Option (List ℕ) → ℕ → Type 0

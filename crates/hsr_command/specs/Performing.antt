@@ -19,4 +19,4 @@ Performs (Node node) text held holds status =
     Ended held holds (output node.unit (capacity_of node.table) (new_machine node.mac node.mode) 1 (lines_of text)) status
 Performs (Run table showing) text held holds status = ScenarioEnds (capacity_of table) showing (scenario_of text) held holds status
 Performs (Threads table showing) text held holds status = ThreadsEnds (capacity_of table) showing (scenario_of text) held holds status
-Performs (Audit table asked) text held holds status = AuditEnds (capacity_of table) asked text held holds status
+Performs (Audit table scope asked) text held holds status = AuditEnds (capacity_of table) scope asked text held holds status

@@ -1,7 +1,7 @@
 //! The whole program.
 ghost use Rattle.std.specs.Prelude.{◌≡◌, ◌++◌, IfOk, IfSome, OnOk, codes, map, string_bytes};
 ghost use Rattle.std.specs.Io.KnownBytes.{Appends};
-ghost use Rattle.hsr_command.specs.Benching.{Benches, IsDone, Tells};
+ghost use Rattle.hsr_command.specs.Benching.{Answers, Benches, IsDone, Tells};
 
 use crate::performing::perform;
 use hsr_engines::{Fault, Status};
@@ -48,6 +48,28 @@ fn done<H: Threads + Wait + Sync, R: Read, W: Write>(
     }
 }
 
+/// Does what was chosen, or tells why nothing was.
+fn answer<H: Threads + Wait + Sync, R: Read, W: Write, E: Write>(
+    rt: &H,
+    alloc: Global,
+    chosen: &Result<Options, OptionFault>,
+    reader: &mut R,
+    writer: &mut W,
+    errors: &mut E,
+) -> io::Result<u8>
+    ensures { IfOk result (λ code. IfSome (R.remaining reader.old) (λ text.
+        Answers chosen.now text (W.contents writer.old) (W.contents writer.new) (E.contents errors.old) (E.contents errors.new) code)) }
+{
+    match chosen {
+        Ok(chosen) => tell(errors, done(rt, alloc, reader, writer, chosen)),
+        Err(OptionFault::Usage { text }) => {
+            put_line(errors, text.as_str())?;
+            Ok(3)
+        }
+        Err(OptionFault::Memory) => tell(errors, Status::Fault(Fault::Memory)),
+    }
+}
+
 /// Does what the words after the program's name say, over a text that is read, standard output and standard error, and gives the
 /// status of the process: 0 where all lines were answered or the run is certified; 1 after a fault, whose line is then on standard
 /// error; 2 where the run is doubted; 3 where the words are refused, by a text on standard error. The error of `errors`, where a line
@@ -63,12 +85,6 @@ pub fn bench<'a, H: Threads + Wait + Sync, R: Read, W: Write, E: Write>(
     ensures { IfOk result (λ code. IfSome (R.remaining reader.old) (λ text.
         Benches (map (λ s. s.now) words.entry.now) text (W.contents writer.old) (W.contents writer.new) (E.contents errors.old) (E.contents errors.new) code)) }
 {
-    match options(alloc, words) {
-        Ok(chosen) => tell(errors, done(rt, alloc, reader, writer, &chosen)),
-        Err(OptionFault::Usage { text }) => {
-            put_line(errors, text.as_str())?;
-            Ok(3)
-        }
-        Err(OptionFault::Memory) => tell(errors, Status::Fault(Fault::Memory)),
-    }
+    let chosen = options(alloc, words);
+    answer(rt, alloc, &chosen, reader, writer, errors)
 }

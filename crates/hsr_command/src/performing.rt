@@ -28,6 +28,10 @@ pub fn perform<H: Threads + Wait + Sync, R: Read, W: Write>(
         Options::Threads { table, showing } => {
             threads_run(rt, alloc, reader, writer, *table, *showing)
         }
-        Options::Audit { table, asked } => audit_run(alloc, reader, writer, *table, *asked),
+        Options::Audit {
+            table,
+            scope,
+            asked,
+        } => audit_run(alloc, reader, writer, *table, *scope, *asked),
     }
 }

@@ -1,4 +1,5 @@
--- In a ring that delivered each frame exactly once each send is complete.
+-- Where each send came once to each node that it is due at, and to no other, each send is complete; so in a ring that delivered
+-- each frame exactly once.
 use Rattle.std.proofs.Common.{◌≡◌, ℕ, zero, suc, ◌+◌, ◌<◌, ◌==◌, ◌&&◌, nat_lt, not, Bool, true, false, if◌then◌else◌, List, [], ◌∷◌, ◌++◌, length, Option, Some, None, refl, sym, ap, ◌∙◌, arith, eq-eqb, eqb-true, ne_eqb}
 use Rattle.std.specs.Prelude.{option_map}
 use Rattle.std.specs.List.{AllByRecursion, cons_option}
@@ -20,7 +21,7 @@ use Rattle.hsr_law.proofs.Danh.{mode_at}
 use Rattle.hsr_law.proofs.Ring.{owner_is}
 use Rattle.hsr_law.proofs.Same.{same_address}
 use Rattle.hsr_law.proofs.Walk.{sent}
-use Rattle.hsr_deliveries.specs.Delivered.{IsComplete, OnceIsComplete, deliveries_below, deliveries_in, delivery_by, delivery_of, is_due, is_for, is_missed, is_strayed, is_twice, nodes_below, times}
+use Rattle.hsr_deliveries.specs.Delivered.{AreComplete, IsComplete, OnceIsComplete, deliveries_below, deliveries_in, delivery_by, delivery_of, is_due, is_for, is_missed, is_strayed, is_twice, nodes_below, times}
 use Rattle.hsr_deliveries.specs.Counted.{if_one}
 use Rattle.hsr_deliveries.proofs.Gathering.{nodes_more}
 
@@ -55,70 +56,43 @@ send_latest place x past = ap (λ t. if t then sent_by place x.event x.outcome e
 
 -- ---- a send
 
-module _ (run : Run) (macs : List (List ℕ)) (closed : IsClosed run) (ring : IsRing run macs) (once : IsExactlyOnce run macs) where
+-- each send came once to each node that it is due at, and to no other
+pub record IsAsDue (run : Run) : Type 0 where
+  pub once : (send : Probe) (sending : Sending) (k : ℕ) → IsSend run send sending → k < length run.places → is_due run send.node sending.frame.dst sending.frame.kind k ≡ true → times run send k ≡ 1
+  pub none : (send : Probe) (sending : Sending) (k : ℕ) → IsSend run send sending → k < length run.places → is_due run send.node sending.frame.dst sending.frame.kind k ≡ false → times run send k ≡ 0
+
+module _ (run : Run) (as_due : IsAsDue run) where
   module _ (send : Probe) (sending : Sending) (is : IsSend run send sending) where
     abbrev due : ℕ → Bool
     due k = is_due run send.node sending.frame.dst sending.frame.kind k
 
-    place_is : (k : ℕ) → k < length macs → place_of run k ≡ Danh (mac_at macs k) (mode_at run k)
-    place_is k below = ap (λ (o : Owner). o.place) (owner_is run macs closed ring k below)
-
-    -- a ring's node is due what it is addressed
-    due_is : (k : ℕ) → k < length macs → due k ≡ is_addressed macs send.node sending.frame k
-    due_is k below = ap (λ p. not (k == send.node) && is_for p sending.frame.dst sending.frame.kind) (place_is k below) ∙ by_group (is_group sending.frame.dst) refl
-      where
-        mine : (t : Bool) → (k == send.node) ≡ t → (s : Bool) → is_same_address (mac_at macs k) sending.frame.dst ≡ s → is_group sending.frame.dst ≡ false → (not t && s) ≡ s
-        mine false other s so single = refl
-        mine true same false so single = refl
-        mine true same true so single =
-            absurd ((sent run macs closed ring send sending is).elsewhere single
-            (sym (same_address (mac_at macs k) sending.frame.dst so) ∙ ap (mac_at macs) (eqb-true k send.node same)))
-
-        all : (t : Bool) → (t && true) ≡ t
-        all true = refl
-        all false = refl
-
-        by_group : (g : Bool) → is_group sending.frame.dst ≡ g →
-            (not (k == send.node) && (if g then true else is_same_address (mac_at macs k) sending.frame.dst))
-            ≡ (if g then not (k == send.node) else is_same_address (mac_at macs k) sending.frame.dst)
-        by_group true group = all (not (k == send.node))
-        by_group false single = mine (k == send.node) refl (is_same_address (mac_at macs k) sending.frame.dst) refl single
-
-    once_at : (k : ℕ) → k < length macs → due k ≡ true → times run send k ≡ 1
-    once_at k below for_it = once.once send sending k is below (sym (due_is k below) ∙ for_it)
-
-    none_at : (k : ℕ) → k < length macs → due k ≡ false → times run send k ≡ 0
-    none_at k below other = once.none send sending k is below (sym (due_is k below) ∙ other)
-
-    none_missed : (k : ℕ) → k < length macs → is_missed run send sending.frame.dst sending.frame.kind k ≡ false
+    none_missed : (k : ℕ) → k < length run.places → is_missed run send sending.frame.dst sending.frame.kind k ≡ false
     none_missed k below = by_due (due k) refl
       where
         by_due : (b : Bool) → due k ≡ b → (b && times run send k == 0) ≡ false
-        by_due true for_it = ap (λ n. n == 0) (once_at k below for_it)
+        by_due true for_it = ap (λ n. n == 0) (as_due.once send sending k is below for_it)
         by_due false other = refl
 
-    none_twice : (k : ℕ) → k < length macs → is_twice run send sending.frame.dst sending.frame.kind k ≡ false
+    none_twice : (k : ℕ) → k < length run.places → is_twice run send sending.frame.dst sending.frame.kind k ≡ false
     none_twice k below = by_due (due k) refl
       where
         by_due : (b : Bool) → due k ≡ b → (b && nat_lt 1 (times run send k)) ≡ false
-        by_due true for_it = ap (λ n. nat_lt 1 n) (once_at k below for_it)
+        by_due true for_it = ap (λ n. nat_lt 1 n) (as_due.once send sending k is below for_it)
         by_due false other = refl
 
-    none_strayed : (k : ℕ) → k < length macs → is_strayed run send sending.frame.dst sending.frame.kind k ≡ false
+    none_strayed : (k : ℕ) → k < length run.places → is_strayed run send sending.frame.dst sending.frame.kind k ≡ false
     none_strayed k below = by_due (due k) refl
       where
         by_due : (b : Bool) → due k ≡ b → (not b && nat_lt 0 (times run send k)) ≡ false
         by_due true for_it = refl
-        by_due false other = ap (λ n. nat_lt 0 n) (none_at k below other)
+        by_due false other = ap (λ n. nat_lt 0 n) (as_due.none send sending k is below other)
 
     is_whole : (at : ℕ) → IsComplete (delivery_of run send at sending)
-    is_whole at =
-        let many = ring.places in
-        record {
-          missed = no_nodes (is_missed run send sending.frame.dst sending.frame.kind) (length run.places) (λ k below. none_missed k (omega (arith, below, many)));
-          twice = no_nodes (is_twice run send sending.frame.dst sending.frame.kind) (length run.places) (λ k below. none_twice k (omega (arith, below, many)));
-          strayed = no_nodes (is_strayed run send sending.frame.dst sending.frame.kind) (length run.places) (λ k below. none_strayed k (omega (arith, below, many)));
-        }
+    is_whole at = record {
+      missed = no_nodes (is_missed run send sending.frame.dst sending.frame.kind) (length run.places) none_missed;
+      twice = no_nodes (is_twice run send sending.frame.dst sending.frame.kind) (length run.places) none_twice;
+      strayed = no_nodes (is_strayed run send sending.frame.dst sending.frame.kind) (length run.places) none_strayed;
+    }
 
   -- ---- all sends
 
@@ -144,5 +118,44 @@ module _ (run : Run) (macs : List (List ℕ)) (closed : IsClosed run) (ring : Is
       (below k (omega (arith, in_range)))
       (in_record k (past_of run k) (λ n s is. (omega (arith, in_range), is)))
 
+pub all_complete : (run : Run) → IsAsDue run → AreComplete run
+all_complete run as_due = below run as_due (length run.places) (omega arith)
+
+-- ---- a ring
+
+module _ (run : Run) (macs : List (List ℕ)) (closed : IsClosed run) (ring : IsRing run macs) (once : IsExactlyOnce run macs) where
+  module _ (send : Probe) (sending : Sending) (is : IsSend run send sending) where
+    place_is : (k : ℕ) → k < length macs → place_of run k ≡ Danh (mac_at macs k) (mode_at run k)
+    place_is k below = ap (λ (o : Owner). o.place) (owner_is run macs closed ring k below)
+
+    -- a ring's node is due what it is addressed
+    due_is : (k : ℕ) → k < length macs → is_due run send.node sending.frame.dst sending.frame.kind k ≡ is_addressed macs send.node sending.frame k
+    due_is k below = ap (λ p. not (k == send.node) && is_for p sending.frame.dst sending.frame.kind) (place_is k below) ∙ by_group (is_group sending.frame.dst) refl
+      where
+        mine : (t : Bool) → (k == send.node) ≡ t → (s : Bool) → is_same_address (mac_at macs k) sending.frame.dst ≡ s → is_group sending.frame.dst ≡ false → (not t && s) ≡ s
+        mine false other s so single = refl
+        mine true same false so single = refl
+        mine true same true so single =
+            absurd ((sent run macs closed ring send sending is).elsewhere single
+            (sym (same_address (mac_at macs k) sending.frame.dst so) ∙ ap (mac_at macs) (eqb-true k send.node same)))
+
+        all : (t : Bool) → (t && true) ≡ t
+        all true = refl
+        all false = refl
+
+        by_group : (g : Bool) → is_group sending.frame.dst ≡ g →
+            (not (k == send.node) && (if g then true else is_same_address (mac_at macs k) sending.frame.dst))
+            ≡ (if g then not (k == send.node) else is_same_address (mac_at macs k) sending.frame.dst)
+        by_group true group = all (not (k == send.node))
+        by_group false single = mine (k == send.node) refl (is_same_address (mac_at macs k) sending.frame.dst) refl single
+
+  round_as_due : IsAsDue run
+  round_as_due =
+      let many = ring.places in
+      record {
+        once = λ send sending k is below for_it. let there : k < length macs = omega (arith, below, many) in once.once send sending k is there (sym (due_is send sending is k there) ∙ for_it);
+        none = λ send sending k is below other. let there : k < length macs = omega (arith, below, many) in once.none send sending k is there (sym (due_is send sending is k there) ∙ other);
+      }
+
 pub once_is_complete : OnceIsComplete
-once_is_complete run macs closed ring once = below run macs closed ring once (length run.places) (omega arith)
+once_is_complete run macs closed ring once = all_complete run (round_as_due run macs closed ring once)

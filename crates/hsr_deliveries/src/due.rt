@@ -47,7 +47,7 @@ fn is_for(place: &Place, dst: Mac, kind: u16) -> bool
 }
 
 /// Whether a send of this destination and type is due at a node: at each but the sender that it is for.
-pub(crate) fn is_due(place: &Place, sender: usize, node: usize, dst: Mac, kind: u16) -> bool
+pub fn is_due(place: &Place, sender: usize, node: usize, dst: Mac, kind: u16) -> bool
     ensures { result ≡ (not (node == sender) && is_for place.now dst kind) }
 {
     node != sender && is_for(place, dst, kind)

@@ -15,7 +15,7 @@ use indexmap::IndexMap;
 use std::alloc::Global;
 
 /// The losses of each send that lost copies, by its node and place.
-pub(crate) type ByProbe = IndexMap<(usize, usize), Vec<Loss>>;
+pub type ByProbe = IndexMap<(usize, usize), Vec<Loss>>;
 
 /// Keeps one more loss of a send.
 fn keep(alloc: Global, kept: &mut ByProbe, send: Probe, loss: Loss) -> Result<(), NoMemory>
@@ -54,8 +54,8 @@ fn keep_rows(alloc: Global, kept: &mut ByProbe, link: usize, rows: &[Row]) -> Re
     Ok(())
 }
 
-/// The losses of a run.
-pub(crate) fn losses_by_send<const C: usize>(
+/// The losses of a run, by their sends. `NoMemory` where room is refused.
+pub fn losses_by_send<const C: usize>(
     alloc: Global,
     closed: &Closed<C>,
 ) -> Result<ByProbe, NoMemory>
@@ -68,8 +68,8 @@ pub(crate) fn losses_by_send<const C: usize>(
     Ok(kept)
 }
 
-/// Those of a send, by link and place on the link.
-pub(crate) fn losses_of(alloc: Global, kept: &ByProbe, send: Probe) -> Result<Vec<Loss>, NoMemory>
+/// Those of a send, by link and place on the link. `NoMemory` where room is refused.
+pub fn losses_of(alloc: Global, kept: &ByProbe, send: Probe) -> Result<Vec<Loss>, NoMemory>
     ensures { IfOk result (λ losses. losses.items ≡ losses_in kept.now send) }
 {
     let mut losses = Vec::new(alloc);

@@ -9,6 +9,7 @@ use Rattle.hsr_engines.specs.AuditRun.{AuditEnds, IsAudited, IsUnread, transcrip
 use Rattle.hsr_engines.specs.Text.{IsWhole}
 use Rattle.hsr_report.specs.Found.{IsFound, IsReportOf}
 use Rattle.hsr_options.specs.declared.chosen.Asked.{Asked}
+use Rattle.hsr_options.specs.declared.chosen.Scope.{Scope}
 use Rattle.hsr_engines.specs.Shown.{IsDelivered}
 use Rattle.hsr_engines.specs.Ending.{Ends}
 use Rattle.hsr_engines.specs.Reading.{Said, scenario_of}
@@ -97,28 +98,28 @@ unrun_told capacity said fault u is = let same : fault ≡ Read = cc in subst (�
 
 -- ---- a transcript
 
-audited_report : (capacity : ℕ) (asked : Asked) (text : List ℕ) (held holds : Option (List ℕ)) (found : Finding) (written : List ℕ) (status : Status) → IsAudited capacity asked text found written
-    → IsDelivered held holds found written status → AuditEnds capacity asked text held holds status
-audited_report capacity asked text held holds found written status r d = told (IsAudited capacity asked text) (IsUnread capacity text) held holds found written status r d
+audited_report : (capacity : ℕ) (scope : Scope) (asked : Asked) (text : List ℕ) (held holds : Option (List ℕ)) (found : Finding) (written : List ℕ) (status : Status) → IsAudited capacity scope asked text found written
+    → IsDelivered held holds found written status → AuditEnds capacity scope asked text held holds status
+audited_report capacity scope asked text held holds found written status r d = told (IsAudited capacity scope asked text) (IsUnread capacity text) held holds found written status r d
 
-audited_fault : (capacity : ℕ) (asked : Asked) (text : List ℕ) (held holds : Option (List ℕ)) (fault : Fault) → IsUnread capacity text fault → Keeps held holds
-    → AuditEnds capacity asked text held holds (Stopped fault)
-audited_fault capacity asked text held holds fault u k = stopped (IsAudited capacity asked text) (IsUnread capacity text) held holds fault (λ h. h) u k
+audited_fault : (capacity : ℕ) (scope : Scope) (asked : Asked) (text : List ℕ) (held holds : Option (List ℕ)) (fault : Fault) → IsUnread capacity text fault → Keeps held holds
+    → AuditEnds capacity scope asked text held holds (Stopped fault)
+audited_fault capacity scope asked text held holds fault u k = stopped (IsAudited capacity scope asked text) (IsUnread capacity text) held holds fault (λ h. h) u k
 
-pub audited_known : (capacity : ℕ) (asked : Asked) (all held holds : Option (List ℕ)) (found : Finding) (written : List ℕ) (status : Status) → IfSome all (λ text. IsAudited capacity asked text found written)
-    → IsDelivered held holds found written status → IfSome all (λ text. AuditEnds capacity asked text held holds status)
-audited_known capacity asked None held holds found written status r d = tt
-audited_known capacity asked (Some text) held holds found written status r d = audited_report capacity asked text held holds found written status r d
+pub audited_known : (capacity : ℕ) (scope : Scope) (asked : Asked) (all held holds : Option (List ℕ)) (found : Finding) (written : List ℕ) (status : Status) → IfSome all (λ text. IsAudited capacity scope asked text found written)
+    → IsDelivered held holds found written status → IfSome all (λ text. AuditEnds capacity scope asked text held holds status)
+audited_known capacity scope asked None held holds found written status r d = tt
+audited_known capacity scope asked (Some text) held holds found written status r d = audited_report capacity scope asked text held holds found written status r d
 
-pub unread_known : (capacity : ℕ) (asked : Asked) (all held holds : Option (List ℕ)) (fault : Fault) → IfSome all (λ text. IsUnread capacity text fault) → Keeps held holds
-    → IfSome all (λ text. AuditEnds capacity asked text held holds (Stopped fault))
-unread_known capacity asked None held holds fault u k = tt
-unread_known capacity asked (Some text) held holds fault u k = audited_fault capacity asked text held holds fault u k
+pub unread_known : (capacity : ℕ) (scope : Scope) (asked : Asked) (all held holds : Option (List ℕ)) (fault : Fault) → IfSome all (λ text. IsUnread capacity text fault) → Keeps held holds
+    → IfSome all (λ text. AuditEnds capacity scope asked text held holds (Stopped fault))
+unread_known capacity scope asked None held holds fault u k = tt
+unread_known capacity scope asked (Some text) held holds fault u k = audited_fault capacity scope asked text held holds fault u k
 
-pub audited_run : (capacity : ℕ) (asked : Asked) (all : Option (List ℕ)) (f : Finished) (found : Finding) (written : List ℕ) → IfSome all (λ text. IsTextOf capacity f text) → IsFinished f → IsFound f.run found
-    → IsReportOf asked f.run found written → IfSome all (λ text. IsAudited capacity asked text found written)
-audited_run capacity asked None f found written text holds is_found is_report = tt
-audited_run capacity asked (Some text) f found written is_text holds is_found is_report =
+pub audited_run : (capacity : ℕ) (scope : Scope) (asked : Asked) (all : Option (List ℕ)) (f : Finished) (found : Finding) (written : List ℕ) → IfSome all (λ text. IsTextOf capacity f text) → IsFinished f → IsFound scope f.run found
+    → IsReportOf asked f.run found written → IfSome all (λ text. IsAudited capacity scope asked text found written)
+audited_run capacity scope asked None f found written text holds is_found is_report = tt
+audited_run capacity scope asked (Some text) f found written is_text holds is_found is_report =
     record { finished = f; is_text = is_text; holds = holds; is_found = is_found; is_report = is_report }
 
 pub memory_known : (capacity : ℕ) (all : Option (List ℕ)) (fault : Fault) → fault ≡ Memory → IfSome all (λ text. IsUnread capacity text fault)

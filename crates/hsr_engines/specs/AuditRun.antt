@@ -9,6 +9,7 @@ use Rattle.hsr_transcript_text.specs.declared.fault.ReadFault.TheVariants as rea
 use Rattle.hsr_engines.specs.Ending.{Ends}
 use Rattle.hsr_report.specs.Found.{IsFound, IsReportOf}
 use Rattle.hsr_options.specs.declared.chosen.Asked.{Asked}
+use Rattle.hsr_options.specs.declared.chosen.Scope.{Scope}
 use Rattle.hsr_report.specs.declared.finding.Finding.{Finding}
 use Rattle.hsr_engines.specs.declared.fault.Fault.{Fault}
 use Rattle.hsr_engines.specs.declared.fault.Fault.TheVariants.{Transcript, Check, Read, Memory}
@@ -16,11 +17,11 @@ use Rattle.hsr_engines.specs.declared.fault.Status.{Status}
 use Rattle.hsr_engines.specs.declared.fault.TranscriptFault.TheVariants.{Version, Line, End}
 
 -- the text is that of a finished run, of which this was found; and this is its report
-pub record IsAudited (capacity : ℕ) (asked : Asked) (text : List ℕ) (found : Finding) (written : List ℕ) : Type 0 where
+pub record IsAudited (capacity : ℕ) (scope : Scope) (asked : Asked) (text : List ℕ) (found : Finding) (written : List ℕ) : Type 0 where
   pub finished : Finished
   pub is_text : IsTextOf capacity finished text
   pub holds : IsFinished finished
-  pub is_found : IsFound finished.run found
+  pub is_found : IsFound scope finished.run found
   pub is_report : IsReportOf asked finished.run found written
 
 -- the text is that of no run, for this cause; or reading or memory failed
@@ -44,5 +45,5 @@ transcript_fault read.NoMemory = Memory
 
 -- How `audit` ends, and what it wrote: the report of the run whose text it read; or nothing, since the text is that of no run, or
 -- reading or memory failed. Of a failed write no more is said than that there was a report to write.
-abbrev pub AuditEnds : ℕ → Asked → List ℕ → Option (List ℕ) → Option (List ℕ) → Status → Type 0
-AuditEnds capacity asked text = Ends (IsAudited capacity asked text) (IsUnread capacity text)
+abbrev pub AuditEnds : ℕ → Scope → Asked → List ℕ → Option (List ℕ) → Option (List ℕ) → Status → Type 0
+AuditEnds capacity scope asked text = Ends (IsAudited capacity scope asked text) (IsUnread capacity text)

@@ -9,20 +9,21 @@ use Rattle.hsr_report.specs.Found.{IsReportOf}
 use Rattle.hsr_report.specs.declared.finding.Finding.{Finding}
 use Rattle.hsr_report.specs.declared.finding.Finding.TheVariants as finding
 use Rattle.hsr_transcript_text.specs.Transcript.{run_text}
-use Rattle.hsr_options.specs.declared.chosen.Showing.{Showing}
-use Rattle.hsr_options.specs.declared.chosen.Showing.TheVariants.{Transcript, Report}
+use Rattle.hsr_options.specs.declared.chosen.Form.{Form}
+use Rattle.hsr_options.specs.declared.chosen.Form.TheVariants.{Transcript, Report}
 use Rattle.hsr_engines.specs.declared.fault.Fault.TheVariants.{Write}
 use Rattle.hsr_engines.specs.declared.fault.Status.{Status}
 use Rattle.hsr_engines.specs.declared.fault.Status.TheVariants.{Certified, Fault as Stopped, Doubt}
 
 -- the transcript, or the report with the parts that are asked for
-abbrev pub IsShown : Showing → Finished → Finding → List ℕ → Type 0
+abbrev pub IsShown : Form → Finished → Finding → List ℕ → Type 0
 IsShown Transcript f found text = text ≡ run_text f
 IsShown (Report asked) f found text = IsReportOf asked f.run found text
 
 abbrev pub status_of : Finding → Status
 status_of (finding.Certified sends) = Certified
 status_of (finding.Doubt doubt) = Doubt
+status_of (finding.NetworkDoubt doubt) = Doubt
 
 -- a text was written, and the status tells what was found; or the writer failed
 abbrev pub IsDelivered : Option (List ℕ) → Option (List ℕ) → Finding → List ℕ → Status → Type 0

@@ -7,7 +7,7 @@ ghost use Rattle.hsr_options.specs.Tables.{capacity_of};
 use crate::fault::{Fault, Status, TranscriptFault};
 use crate::shown::{deliver, finding_of, report_of};
 use hsr_closing::Closed;
-use hsr_options::{Asked, Table};
+use hsr_options::{Asked, Scope, Table};
 use hsr_report::Finding;
 use hsr_transcript::{ReadFault, read};
 use std::alloc::Global;
@@ -44,17 +44,18 @@ fn closed<R: Read, const C: usize>(alloc: Global, reader: &mut R) -> Result<Clos
 fn audited<R: Read, const C: usize>(
     alloc: Global,
     reader: &mut R,
+    scope: Scope,
     asked: Asked,
 ) -> Result<(Finding, Vec<u8>), Fault>
     requires entries { (1 ≤ C) × (C ≤ 65535) }
-    ensures ok { IfOk result (λ r. IfSome (R.remaining reader.old) (λ text. IsAudited C asked text r.0 r.1.items)) }
+    ensures ok { IfOk result (λ r. IfSome (R.remaining reader.old) (λ text. IsAudited C scope asked text r.0 r.1.items)) }
     ensures err { IfErr result (λ f. IfSome (R.remaining reader.old) (λ text. IsUnread C text f)) }
 {
     let closed = match closed::<R, C>(alloc, reader) {
         Ok(closed) => closed,
         Err(fault) => return Err(fault),
     };
-    let finding = match finding_of(alloc, &closed) {
+    let finding = match finding_of(alloc, &closed, scope) {
         Ok(finding) => finding,
         Err(fault) => return Err(fault),
     };
@@ -69,19 +70,20 @@ fn audited_with<R: Read>(
     alloc: Global,
     reader: &mut R,
     table: Table,
+    scope: Scope,
     asked: Asked,
 ) -> Result<(Finding, Vec<u8>), Fault>
-    ensures ok { IfOk result (λ r. IfSome (R.remaining reader.old) (λ text. IsAudited (capacity_of table) asked text r.0 r.1.items)) }
+    ensures ok { IfOk result (λ r. IfSome (R.remaining reader.old) (λ text. IsAudited (capacity_of table) scope asked text r.0 r.1.items)) }
     ensures err { IfErr result (λ f. IfSome (R.remaining reader.old) (λ text. IsUnread (capacity_of table) text f)) }
 {
     match table {
-        Table::Small => audited::<R, 4>(alloc, reader, asked),
-        Table::Large => audited::<R, 512>(alloc, reader, asked),
+        Table::Small => audited::<R, 4>(alloc, reader, scope, asked),
+        Table::Large => audited::<R, 512>(alloc, reader, scope, asked),
     }
 }
 
 /// Reads a transcript of a run with tables of the chosen size, audits the run, and writes its report: the nodes with their
-/// counters, the links with what became of their copies, the parts that are asked for, and what the audit found, which the
+/// counters, the links with what became of their copies, the parts that are asked for, and what the chosen audit found, which the
 /// status tells too. The report is formed whole before it is written. `Fault::Transcript` where the text is no run's, and `Fault::Check` where links and
 /// records of its run disagree; `Fault::Read` where the reader fails or takes over 2^40 reads, `Fault::Memory` where room is
 /// refused: then nothing is written.
@@ -90,12 +92,13 @@ pub fn audit_run<R: Read, W: Write>(
     reader: &mut R,
     writer: &mut W,
     table: Table,
+    scope: Scope,
     asked: Asked,
 ) -> Status
     ensures { IfSome (R.remaining reader.old) (λ text.
-        AuditEnds (capacity_of table) asked text (W.contents writer.old) (W.contents writer.new) result) }
+        AuditEnds (capacity_of table) scope asked text (W.contents writer.old) (W.contents writer.new) result) }
 {
-    match audited_with(alloc, reader, table, asked) {
+    match audited_with(alloc, reader, table, scope, asked) {
         Ok((finding, text)) => deliver(writer, finding, text.as_slice()),
         Err(fault) => Status::Fault(fault),
     }

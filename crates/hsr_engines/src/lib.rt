@@ -17,6 +17,6 @@ mod threads;
 pub use audit::audit_run;
 pub use engine::node_run;
 pub use fault::{Fault, Status, TranscriptFault};
-pub use hsr_options::{Asked, NodeOptions, Showing, Table, TimeUnit};
+pub use hsr_options::{Asked, Form, NodeOptions, Scope, Showing, Table, TimeUnit};
 pub use scenario::scenario_run;
 pub use threads::threads_run;

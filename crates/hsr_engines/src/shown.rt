@@ -8,7 +8,7 @@ ghost use Rattle.hsr_engines.specs.declared.fault.Fault.TheVariants.{Memory};
 
 use crate::fault::{Fault, Status};
 use hsr_closing::Closed;
-use hsr_options::{Asked, Showing};
+use hsr_options::{Asked, Form, Scope, Showing};
 use hsr_report::{Finding, found, report};
 use hsr_transcript::write;
 use std::alloc::Global;
@@ -33,7 +33,7 @@ fn status_of(finding: Finding) -> Status
 {
     match finding {
         Finding::Certified(_) => Status::Certified,
-        Finding::Doubt(_) => Status::Doubt,
+        Finding::Doubt(_) | Finding::NetworkDoubt(_) => Status::Doubt,
     }
 }
 
@@ -54,12 +54,16 @@ pub fn report_of<const C: usize>(
     }
 }
 
-/// What the audit of a finished run finds.
-pub fn finding_of<const C: usize>(alloc: Global, closed: &Closed<C>) -> Result<Finding, Fault>
-    ensures ok { IfOk result (λ finding. IsFound closed.now.run finding) }
+/// What the chosen audit of a finished run finds.
+pub fn finding_of<const C: usize>(
+    alloc: Global,
+    closed: &Closed<C>,
+    scope: Scope,
+) -> Result<Finding, Fault>
+    ensures ok { IfOk result (λ finding. IsFound scope closed.now.run finding) }
     ensures err { IfErr result (λ f. f ≡ Memory) }
 {
-    match found(alloc, closed) {
+    match found(alloc, closed, scope) {
         Ok(finding) => Ok(finding),
         Err(_) => Err(Fault::Memory),
     }
@@ -70,14 +74,14 @@ fn shown<const C: usize>(
     alloc: Global,
     closed: &Closed<C>,
     finding: Finding,
-    showing: Showing,
+    form: Form,
 ) -> Result<Vec<u8>, Fault>
-    ensures ok { IfOk result (λ text. IsShown showing closed.now finding text.items) }
+    ensures ok { IfOk result (λ text. IsShown form closed.now finding text.items) }
     ensures err { IfErr result (λ f. f ≡ Memory) }
 {
-    match showing {
-        Showing::Transcript => run_text(alloc, closed),
-        Showing::Report(asked) => report_of(alloc, closed, finding, asked),
+    match form {
+        Form::Transcript => run_text(alloc, closed),
+        Form::Report(asked) => report_of(alloc, closed, finding, asked),
     }
 }
 
@@ -87,15 +91,15 @@ pub fn told<const C: usize>(
     closed: &Closed<C>,
     showing: Showing,
 ) -> Result<(Finding, Vec<u8>), Fault>
-    ensures found { IfOk result (λ r. IsFound closed.now.run r.0) }
-    ensures text { IfOk result (λ r. IsShown showing closed.now r.0 r.1.items) }
+    ensures found { IfOk result (λ r. IsFound showing.scope closed.now.run r.0) }
+    ensures text { IfOk result (λ r. IsShown showing.form closed.now r.0 r.1.items) }
     ensures err { IfErr result (λ f. f ≡ Memory) }
 {
-    let finding = match finding_of(alloc, closed) {
+    let finding = match finding_of(alloc, closed, showing.scope) {
         Ok(finding) => finding,
         Err(fault) => return Err(fault),
     };
-    match shown(alloc, closed, finding, showing) {
+    match shown(alloc, closed, finding, showing.form) {
         Ok(text) => Ok((finding, text)),
         Err(fault) => Err(fault),
     }

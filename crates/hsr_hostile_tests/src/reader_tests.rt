@@ -1,7 +1,7 @@
 //! Readers that fail at each of their reads, that give one octet a call, and that are interrupted.
 use crate::fixtures::{ANSWER, LINE, RING, Reader, Writer, defaults};
 use hsr_engines::{
-    Asked, Fault, Showing, Status, Table, audit_run, node_run, scenario_run, threads_run,
+    Asked, Fault, Scope, Showing, Status, Table, audit_run, node_run, scenario_run, threads_run,
 };
 use hsr_networks::{RING_REPORT, RING_TRANSCRIPT};
 use std::marker::Sync;
@@ -17,7 +17,7 @@ fn runs(rt: &HostRuntime, reader: &mut Reader) -> bool {
         reader,
         &mut writer,
         Table::Large,
-        Showing::Report(Asked::NOTHING),
+        Showing::REPORT,
     );
     if is_enough {
         status == Status::Certified && writer.is_whole()
@@ -47,7 +47,7 @@ fn runs_in_threads<H: AllocGlobal + Threads + Wait + Sync>(rt: &H, reader: &mut 
         reader,
         &mut writer,
         Table::Large,
-        Showing::Report(Asked::NOTHING),
+        Showing::REPORT,
     );
     if is_enough {
         status == Status::Certified && writer.is_whole()
@@ -76,6 +76,7 @@ fn audits(rt: &HostRuntime, reader: &mut Reader) -> bool {
         reader,
         &mut writer,
         Table::Large,
+        Scope::Ring,
         Asked::NOTHING,
     );
     if is_enough {

@@ -3,7 +3,7 @@
 use crate::fixtures::{ANSWER, LINE, RING, Writer, defaults};
 use hsr_closing::Closed;
 use hsr_engines::{
-    Asked, Fault, Showing, Status, Table, audit_run, node_run, scenario_run, threads_run,
+    Asked, Fault, Scope, Showing, Status, Table, audit_run, node_run, scenario_run, threads_run,
 };
 use hsr_networks::{RING_REPORT, RING_TRANSCRIPT};
 use hsr_scenario::{Scenario, ScenarioFault, What};
@@ -77,12 +77,12 @@ fn runs(alloc: Global, text: &'static str, showing: Showing) -> bool {
 
 #[test]
 fn scenario_reported(rt: HostRuntime) {
-    assert!(rt; runs(rt.alloc(), RING_REPORT, Showing::Report(Asked::NOTHING)));
+    assert!(rt; runs(rt.alloc(), RING_REPORT, Showing::REPORT));
 }
 
 #[test]
 fn scenario_transcribed(rt: HostRuntime) {
-    assert!(rt; runs(rt.alloc(), RING_TRANSCRIPT, Showing::Transcript));
+    assert!(rt; runs(rt.alloc(), RING_TRANSCRIPT, Showing::TRANSCRIPT));
 }
 
 /// The same of a run in threads, of which one may be refused too. All of them are joined, else it wouldn't end.
@@ -95,7 +95,7 @@ fn runs_in_threads<H: AllocGlobal + Threads + Wait + Sync>(rt: &H) -> bool {
         &mut reader,
         &mut writer,
         Table::Large,
-        Showing::Report(Asked::NOTHING),
+        Showing::REPORT,
     );
     let is_refused = status == Status::Fault(Fault::Memory)
         || status == Status::Fault(Fault::Thread);
@@ -107,7 +107,7 @@ fn runs_in_threads<H: AllocGlobal + Threads + Wait + Sync>(rt: &H) -> bool {
             &mut reader,
             &mut writer,
             Table::Large,
-            Showing::Report(Asked::NOTHING),
+            Showing::REPORT,
         );
     }
     status == Status::Certified && writer.is_whole()
@@ -127,6 +127,7 @@ fn transcript_audited(rt: HostRuntime) {
         &mut reader,
         &mut writer,
         Table::Large,
+        Scope::Ring,
         Asked::NOTHING,
     );
     if status == Status::Fault(Fault::Memory) {
@@ -137,6 +138,7 @@ fn transcript_audited(rt: HostRuntime) {
             &mut reader,
             &mut writer,
             Table::Large,
+            Scope::Ring,
             Asked::NOTHING,
         );
     }

@@ -1,7 +1,7 @@
 //! Octets that no node sent, steps that are too long, and a row whose fate is told wrongly.
 use crate::fixtures::{RING, Writer, octets, ring};
 use hsr_closing::{CheckFault, Disagree};
-use hsr_engines::{Asked, Fault, Showing, Status, Table, audit_run, scenario_run};
+use hsr_engines::{Asked, Fault, Scope, Showing, Status, Table, audit_run, scenario_run};
 use hsr_link::Dir;
 use hsr_networks::RING_TRANSCRIPT;
 use hsr_ring::Step;
@@ -43,7 +43,7 @@ fn injected(rt: &HostRuntime, count: usize) -> Result<Status, Fail> {
         &mut reader,
         &mut writer,
         Table::Large,
-        Showing::Report(Asked::NOTHING),
+        Showing::REPORT,
     ))
 }
 
@@ -73,6 +73,7 @@ fn cut_in_place_of_taken(rt: HostRuntime) -> Result<(), Fail> {
         &mut reader,
         &mut writer,
         Table::Large,
+        Scope::Ring,
         Asked::NOTHING,
     );
     let fault = Fault::Check(Disagree::LinkTaken {

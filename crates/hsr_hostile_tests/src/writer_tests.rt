@@ -1,7 +1,7 @@
 //! Writers that take one octet a call and fail at each of their writes, and that take nothing.
 use crate::fixtures::{ANSWER, LINE, RING, Writer, defaults};
 use hsr_engines::{
-    Asked, Fault, Showing, Status, Table, audit_run, node_run, scenario_run, threads_run,
+    Asked, Fault, Scope, Showing, Status, Table, audit_run, node_run, scenario_run, threads_run,
 };
 use hsr_networks::{RING_REPORT, RING_TRANSCRIPT};
 use std::marker::Sync;
@@ -37,13 +37,7 @@ fn written<H: AllocGlobal + Threads + Wait + Sync>(
         Engine::Node => node_run(rt.alloc(), &mut LINE.as_bytes(), writer, &defaults()),
         Engine::Run => {
             let mut text = RING.as_bytes();
-            scenario_run(
-                rt.alloc(),
-                &mut text,
-                writer,
-                Table::Large,
-                Showing::Report(Asked::NOTHING),
-            )
+            scenario_run(rt.alloc(), &mut text, writer, Table::Large, Showing::REPORT)
         }
         Engine::Threads => {
             let mut text = RING.as_bytes();
@@ -53,12 +47,19 @@ fn written<H: AllocGlobal + Threads + Wait + Sync>(
                 &mut text,
                 writer,
                 Table::Large,
-                Showing::Report(Asked::NOTHING),
+                Showing::REPORT,
             )
         }
         Engine::Audit => {
             let mut text = RING_TRANSCRIPT.as_bytes();
-            audit_run(rt.alloc(), &mut text, writer, Table::Large, Asked::NOTHING)
+            audit_run(
+                rt.alloc(),
+                &mut text,
+                writer,
+                Table::Large,
+                Scope::Ring,
+                Asked::NOTHING,
+            )
         }
     }
 }

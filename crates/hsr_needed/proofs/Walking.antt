@@ -95,13 +95,13 @@ module _ (owner : Owner) (past : List Entry) (at : ℕ) (here : Probe) where
   abbrev needs_on : Event → ℕ
   needs_on event = widest (wanted_in owner.place (knows owner.place past at event) event) (λ e. reach_in at (probe_handled here event) (notes owner e past))
 
-  wanted_is : (port : ℕ) (copy : Carried) (e : Egress) → IsWanted owner past at port copy e → has_exit (wanted_in owner.place (knows owner.place past at (Arrive port copy)) (Arrive port copy)) e ≡ true
+  pub wanted_is : (port : ℕ) (copy : Carried) (e : Egress) → IsWanted owner past at port copy e → has_exit (wanted_in owner.place (knows owner.place past at (Arrive port copy)) (Arrive port copy)) e ≡ true
   wanted_is port copy e w =
       let known = knows owner.place past at (Arrive port copy) in
       let o = handling owner.place known port (classified copy.octets) in
       ap (λ t. has_exit (cond t (exits_of o) no_exits) e) w.ring ∙ (exit_same o e ∙ w.wanted)
 
-  is_wanted : (port : ℕ) (copy : Carried) (e : Egress) → has_exit (wanted_in owner.place (knows owner.place past at (Arrive port copy)) (Arrive port copy)) e ≡ true → IsWanted owner past at port copy e
+  pub is_wanted : (port : ℕ) (copy : Carried) (e : Egress) → has_exit (wanted_in owner.place (knows owner.place past at (Arrive port copy)) (Arrive port copy)) e ≡ true → IsWanted owner past at port copy e
   is_wanted port copy e h = by_ring (is_on_ring owner.place port) refl h
     where
       o : Option Handling

@@ -1,4 +1,5 @@
-//! How many entries the duplicate tables of a finished run needed.
+//! How many entries the duplicate tables of a finished run needed; and what an entry asks of the notes of its node, for the crates
+//! above.
 //!
 //! Its modules, in the order in which to read them:
 //! - `tally`: how many notes an egress made, and the latest of each send
@@ -21,3 +22,4 @@ mod wanted;
 pub use law::legal_with_needed;
 pub use most::Needed;
 pub use needing::needed;
+pub use reading::{Reading, hear, read};

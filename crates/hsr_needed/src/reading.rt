@@ -16,10 +16,10 @@ use std::marker::Model;
 
 /// Where what came is wanted, the send that an entry's frame is of, and where it was noted.
 #[derive(Clone, Copy)]
-pub(crate) struct Reading {
-    pub(crate) wanted: Exits,
-    pub(crate) send: Option<Probe>,
-    pub(crate) noted: Exits,
+pub struct Reading {
+    pub wanted: Exits,
+    pub send: Option<Probe>,
+    pub noted: Exits,
 }
 
 impl Model for Reading {
@@ -52,7 +52,7 @@ fn hear_source(
 }
 
 /// Hears what came to the interlink of a RedBox, at an effective moment in microseconds.
-pub(crate) fn hear(stations: &mut ProxyTable, place: &Place, at: u64, event: &Event)
+pub fn hear(stations: &mut ProxyTable, place: &Place, at: u64, event: &Event)
     requires { stations.old.last ≤ at }
     ensures { stations.new ≡ heard_in place.now at event.now stations.old }
 {
@@ -129,7 +129,7 @@ fn noted_if(is_numbered: bool, outcome: &Outcome) -> Exits
 }
 
 /// Reads an entry that stands here, by the stations that are known at its effective moment in microseconds.
-pub(crate) fn read(place: &Place, stations: &ProxyTable, at: u64, here: Probe, x: &Entry) -> Reading
+pub fn read(place: &Place, stations: &ProxyTable, at: u64, here: Probe, x: &Entry) -> Reading
     requires { stations.now.last ≤ at }
     ensures { result ≡ reading place.now stations.now at here x.now }
 {

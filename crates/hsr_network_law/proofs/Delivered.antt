@@ -238,7 +238,7 @@ module _ (run : Run) (closed : IsClosed run) (net : IsNetwork run) (send : Probe
   not_sender k h own = false≢true (sym (not-true (k == send.node) h) ∙ eq-eqb k send.node own)
 
   -- a single frame isn't to its own sender, if that is a DANH
-  not_to_itself : (mac : List ℕ) (mode : Mode) → place_of run send.node ≡ Danh mac mode → is_group sending.frame.dst ≡ false → sending.frame.dst ≡ mac → ⊥
+  pub not_to_itself : (mac : List ℕ) (mode : Mode) → place_of run send.node ≡ Danh mac mode → is_group sending.frame.dst ≡ false → sending.frame.dst ≡ mac → ⊥
   not_to_itself mac mode place single same =
       let P : Place → Type 0 = λ p. send_at p send.place (past_of run send.node) ≡ Some sending in
       let O : Place → Type 0 = λ p. Each (Answered run.capacity (record { number = send.node; place = p })) (past_of run send.node) in

@@ -81,7 +81,7 @@ module _ (run : Run) (closed : IsClosed run) (net : IsNetwork run) where
   abbrev pub IsFrom : ℕ → Carried → Type 0
   IsFrom j copy = (p : Probe) × (copy.probe ≡ Some p) × (p.node ≡ j)
 
-  station_own : (k n : ℕ) → is_station (place_of run k) ≡ true → n < 4 → (h : List Entry) → Each (Answered run.capacity (owner_of run k)) h → AllByRecursion (IsFrom k) (passes (owner_of run k) n h)
+  pub station_own : (k n : ℕ) → is_station (place_of run k) ≡ true → n < 4 → (h : List Entry) → Each (Answered run.capacity (owner_of run k)) h → AllByRecursion (IsFrom k) (passes (owner_of run k) n h)
   station_own k n station few [] legal = tt
   station_own k n station few (x ∷ past) legal = by_event x.event refl (station_own k n station few past legal.1)
     where

@@ -12,6 +12,7 @@ pub mod Late
 pub mod Covered
 pub mod Counts
 pub mod AtMost
+pub mod Lives
 pub mod Delivered
 pub mod Stations
 pub mod Search

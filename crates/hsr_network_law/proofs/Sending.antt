@@ -85,7 +85,7 @@ life_octets place about seq life (suc (suc n)) f is h = absurd (omega arith)
 
 -- ---- by kind
 
-abbrev send_by : Bool → Bool → Bool → List ℕ → Handling
+abbrev pub send_by : Bool → Bool → Bool → List ℕ → Handling
 send_by near life group own =
     first_of ((near, unnumbered (to (of_redbox.interlink ∷ []))) ∷ (life, numbered own (to (out.a ∷ out.b ∷ []))) ∷ (group, numbered own (to (out.a ∷ out.b ∷ of_redbox.interlink ∷ []))) ∷ []) (numbered own (to (out.a ∷ out.b ∷ [])))
 
@@ -148,7 +148,7 @@ module _ (capacity number : ℕ) where
         probe = ap (probe_handled (record { node = number; place = length past })) e;
       }
 
-  asked_is : (address : Option (List ℕ)) (dst : List ℕ) (vlan : Option ℕ) (kind : ℕ) (data' : List ℕ) (f : Fields) → asked_frame address dst vlan kind data' ≡ Some f → (f.dst ≡ dst) × (f.kind ≡ kind)
+  pub asked_is : (address : Option (List ℕ)) (dst : List ℕ) (vlan : Option ℕ) (kind : ℕ) (data' : List ℕ) (f : Fields) → asked_frame address dst vlan kind data' ≡ Some f → (f.dst ≡ dst) × (f.kind ≡ kind)
   asked_is None dst vlan kind data' f h = absurd cc
   asked_is (Some src) dst vlan kind data' f h =
       let same = same_frame (record { dst = dst; src = src; vlan = vlan; kind = kind; rest = data' }) f h in

@@ -1,6 +1,7 @@
 //! What holds of each closed run of a network, whatever the nodes, threads and copies did in between.
 ghost use Rattle.hsr_network_law.specs.Delivered.{OnceInNetwork};
 ghost use Rattle.hsr_network_law.specs.Late.{LateDecides};
+ghost use Rattle.hsr_network_law.specs.Lives.{LivesStay};
 ghost use Rattle.hsr_network_law.specs.Rings.{RingIsCrossed};
 ghost use Rattle.hsr_network_law.specs.Search.{SearchDecides};
 ghost use Rattle.hsr_network_law.specs.Stations.{OnceToStation};
@@ -32,6 +33,11 @@ pub fn search_decides()
 /// frame gets its number after its send was noted there.
 pub fn late_decides()
     ensures { LateDecides }
+{}
+
+/// In a closed run of a network no Station takes up a supervision frame that no Station sent (IEC 62439-3 clause 5.7).
+pub fn lives_stay()
+    ensures { LivesStay }
 {}
 
 /// A closed run of a ring of DANHs in modes H and U, with losses on at most one link, is one of a network in which each send

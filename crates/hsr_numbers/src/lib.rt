@@ -1,4 +1,5 @@
-//! Sets of numbers below 512, as bits: a number is put or dropped, and the lowest is found, by a look at eight words at most.
+//! Sets of numbers below 512, as bits: a number is put, dropped or looked up, and the lowest is found, by a look at eight words
+//! at most.
 #![tactic(auto)]
 
 mod numbers;

@@ -26,6 +26,14 @@ fn with_bit(word: u64, bit: usize, is_in: bool) -> u64
     }
 }
 
+/// Whether a bit is set.
+fn has_bit(word: u64, bit: usize) -> bool
+    requires { bit < 64 }
+    ensures { result ≡ has_bit word bit }
+{
+    word >> bit & 1 == 1
+}
+
 /// The lowest number of these words, if there is one.
 fn lowest_of(words: &[u64]) -> Option<usize>
     requires { length words.now ≤ 8 }
@@ -64,6 +72,14 @@ impl Numbers {
     {
         let index = number / 64;
         self.words[index] = with_bit(self.words[index], number % 64, is_in);
+    }
+
+    /// Whether a number is in the set.
+    pub fn has(&self, number: usize) -> bool
+        requires { number < 512 }
+        ensures { result ≡ has self.now number }
+    {
+        has_bit(self.words[number / 64], number % 64)
     }
 
     /// The lowest number, if there is one.

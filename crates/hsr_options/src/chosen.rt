@@ -69,13 +69,43 @@ impl Asked {
     };
 }
 
+/// Which runs an audit may certify.
+#[derive(Clone, Copy, Debug, PartialEq, Eq)]
+pub enum Scope {
+    /// Those of one ring of DANHs.
+    Ring,
+    /// Those of any network.
+    Network,
+}
+
 /// What is written of a finished run.
 #[derive(Clone, Copy, Debug, PartialEq, Eq)]
-pub enum Showing {
+pub enum Form {
     /// Its transcript.
     Transcript,
     /// Its report, with the parts that are asked for.
     Report(Asked),
+}
+
+/// What is shown of a finished run: which audit its last line and the status are of, and what is written.
+#[derive(Clone, Copy, Debug, PartialEq, Eq)]
+pub struct Showing {
+    pub scope: Scope,
+    pub form: Form,
+}
+
+impl Showing {
+    /// The transcript; the status is of a ring's audit.
+    pub const TRANSCRIPT: Showing = Showing {
+        scope: Scope::Ring,
+        form: Form::Transcript,
+    };
+
+    /// The report of a ring's audit with no parts asked for.
+    pub const REPORT: Showing = Showing {
+        scope: Scope::Ring,
+        form: Form::Report(Asked::NOTHING),
+    };
 }
 
 /// The node that `node` runs. No group has its address.
@@ -95,9 +125,19 @@ pub enum Options {
     /// Answer lines as one node.
     Node(NodeOptions),
     /// Run a scenario, and write its transcript or its report.
-    Run { table: Table, showing: Showing },
+    Run {
+        table: Table,
+        showing: Showing,
+    },
     /// Run a scenario in threads, and write its transcript or its report.
-    Threads { table: Table, showing: Showing },
+    Threads {
+        table: Table,
+        showing: Showing,
+    },
     /// Audit a transcript, and write its report, with the parts that are asked for.
-    Audit { table: Table, asked: Asked },
+    Audit {
+        table: Table,
+        scope: Scope,
+        asked: Asked,
+    },
 }

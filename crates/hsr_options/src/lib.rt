@@ -3,5 +3,5 @@
 
 mod chosen;
 
-pub use chosen::{Asked, NodeOptions, Options, Showing, Table};
+pub use chosen::{Asked, Form, NodeOptions, Options, Scope, Showing, Table};
 pub use hsr_text::TimeUnit;

@@ -2,7 +2,7 @@
 use crate::fixtures::{FailingReader, FailingWriter, GROUP_SEND, ONE_NODE, ONE_SEND, RING};
 use crate::scenario_run_tests::run_shown;
 use hsr_closing::Disagree;
-use hsr_engines::{Asked, Fault, Showing, Status, Table, TranscriptFault, audit_run};
+use hsr_engines::{Asked, Fault, Scope, Showing, Status, Table, TranscriptFault, audit_run};
 use hsr_link::Dir;
 use hsr_networks::{RING_REPORT, RING_TRANSCRIPT};
 use std::alloc::Global;
@@ -17,6 +17,7 @@ fn audited(alloc: Global, text: &str) -> (Status, Vec<u8>) {
         &mut reader,
         &mut writer,
         Table::Large,
+        Scope::Ring,
         Asked::NOTHING,
     );
     (status, writer)
@@ -37,7 +38,7 @@ fn transcript_of_one_send(rt: HostRuntime) -> Result<(), Fail> {
     let steps = r#"
 {do="send", node="n0", to="02-00-00-00-00-02", type=0x0800, payload="AABB"},
 "#;
-    let (status, text) = run_shown(rt.alloc(), ONE_NODE, steps, Showing::Transcript)?;
+    let (status, text) = run_shown(rt.alloc(), ONE_NODE, steps, Showing::TRANSCRIPT)?;
     assert_eq!(rt; status, Status::Doubt);
     assert!(rt; text.as_slice() == ONE_SEND.as_bytes());
     Ok(())
@@ -56,7 +57,7 @@ doubt not-ring
 
 #[test]
 fn transcript_of_a_group_round_a_ring(rt: HostRuntime) -> Result<(), Fail> {
-    let (status, text) = run_shown(rt.alloc(), RING, GROUP_SEND, Showing::Transcript)?;
+    let (status, text) = run_shown(rt.alloc(), RING, GROUP_SEND, Showing::TRANSCRIPT)?;
     assert_eq!(rt; status, Status::Certified);
     assert!(rt; text.as_slice() == RING_TRANSCRIPT.as_bytes());
     Ok(())
@@ -110,6 +111,7 @@ fn other_table(rt: HostRuntime) -> Result<(), Fail> {
         &mut reader,
         &mut writer,
         Table::Small,
+        Scope::Ring,
         Asked::NOTHING,
     );
     assert_eq!(rt; status, Status::Fault(fault));
@@ -146,6 +148,7 @@ fn transcript_that_cannot_be_read(rt: HostRuntime) {
         &mut reader,
         &mut writer,
         Table::Large,
+        Scope::Ring,
         Asked::NOTHING,
     );
     assert_eq!(rt; status, Status::Fault(Fault::Read));
@@ -164,6 +167,7 @@ fn audit_that_cannot_be_written(rt: HostRuntime) {
         &mut reader,
         &mut writer,
         Table::Large,
+        Scope::Ring,
         Asked::NOTHING,
     );
     assert_eq!(rt; status, Status::Fault(Fault::Write));

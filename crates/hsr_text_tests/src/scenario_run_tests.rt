@@ -4,7 +4,7 @@ use crate::fixtures::{
     RING, TWO_CUTS, joined,
 };
 use hsr_closing::Disagree;
-use hsr_engines::{Asked, Fault, Showing, Status, Table, scenario_run};
+use hsr_engines::{Fault, Showing, Status, Table, scenario_run};
 use hsr_networks::RING_REPORT;
 use hsr_scenario::{ScenarioFault, Spot, What};
 use hsr_step::{DrainFault, WorldFault};
@@ -27,7 +27,7 @@ pub fn run_shown(
 
 /// What a run of nodes and links with these steps reports, and how it ends.
 fn run(alloc: Global, nodes: &str, steps: &str) -> Result<(Status, Vec<u8>), AllocError> {
-    run_shown(alloc, nodes, steps, Showing::Report(Asked::NOTHING))
+    run_shown(alloc, nodes, steps, Showing::REPORT)
 }
 
 #[test]
@@ -95,7 +95,7 @@ fn scenario_that_cannot_be_read(rt: HostRuntime) -> Result<(), Fail> {
         &mut reader,
         &mut writer,
         Table::Large,
-        Showing::Report(Asked::NOTHING),
+        Showing::REPORT,
     );
     assert_eq!(rt; status, Status::Fault(Fault::Read));
     assert!(rt; writer.is_empty());
@@ -104,7 +104,7 @@ fn scenario_that_cannot_be_read(rt: HostRuntime) -> Result<(), Fail> {
 
 #[test]
 fn text_that_cannot_be_written(rt: HostRuntime) -> Result<(), Fail> {
-    for showing in [Showing::Report(Asked::NOTHING), Showing::Transcript] {
+    for showing in [Showing::REPORT, Showing::TRANSCRIPT] {
         let mut reader = RING.as_bytes();
         let mut writer = FailingWriter {
             held: Vec::new(rt.alloc()),

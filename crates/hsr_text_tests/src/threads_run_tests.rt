@@ -5,7 +5,7 @@ use crate::fixtures::{
 };
 use crate::scenario_run_tests::run_shown;
 use hsr_closing::Disagree;
-use hsr_engines::{Asked, Fault, Showing, Status, Table, audit_run, threads_run};
+use hsr_engines::{Asked, Fault, Scope, Showing, Status, Table, audit_run, threads_run};
 use hsr_networks::RING_REPORT;
 use hsr_scenario::{ScenarioFault, Spot, What};
 use std::alloc::AllocError;
@@ -37,7 +37,7 @@ fn threads_shown<H: AllocGlobal + Threads + Wait + Sync>(
 
 #[test]
 fn group_round_a_ring_in_threads(rt: HostRuntime) -> Result<(), Fail> {
-    let (status, text) = threads_shown(&rt, RING, GROUP_SEND, Showing::Report(Asked::NOTHING))?;
+    let (status, text) = threads_shown(&rt, RING, GROUP_SEND, Showing::REPORT)?;
     assert_eq!(rt; status, Status::Certified);
     assert!(rt; text.as_slice() == RING_REPORT.as_bytes());
     Ok(())
@@ -45,7 +45,7 @@ fn group_round_a_ring_in_threads(rt: HostRuntime) -> Result<(), Fail> {
 
 #[test]
 fn sender_cut_off_in_threads(rt: HostRuntime) -> Result<(), Fail> {
-    let (status, text) = threads_shown(&rt, RING, SENDER_CUT_OFF, Showing::Report(Asked::NOTHING))?;
+    let (status, text) = threads_shown(&rt, RING, SENDER_CUT_OFF, Showing::REPORT)?;
     assert_eq!(rt; status, Status::Doubt);
     assert!(rt; text.as_slice() == CUT_OFF_REPORT.as_bytes());
     Ok(())
@@ -60,8 +60,8 @@ fn reports_as_without_threads(rt: HostRuntime) -> Result<(), Fail> {
         (RING, ""),
     ];
     for (nodes, steps) in rows {
-        let (status, text) = threads_shown(&rt, nodes, steps, Showing::Report(Asked::NOTHING))?;
-        let (same, report) = run_shown(rt.alloc(), nodes, steps, Showing::Report(Asked::NOTHING))?;
+        let (status, text) = threads_shown(&rt, nodes, steps, Showing::REPORT)?;
+        let (same, report) = run_shown(rt.alloc(), nodes, steps, Showing::REPORT)?;
         assert_eq!(rt; status, same);
         assert!(rt; text.as_slice() == report.as_slice());
     }
@@ -70,7 +70,7 @@ fn reports_as_without_threads(rt: HostRuntime) -> Result<(), Fail> {
 
 #[test]
 fn transcript_of_threads_is_audited(rt: HostRuntime) -> Result<(), Fail> {
-    let (status, text) = threads_shown(&rt, RING, GROUP_SEND, Showing::Transcript)?;
+    let (status, text) = threads_shown(&rt, RING, GROUP_SEND, Showing::TRANSCRIPT)?;
     let mut reader = text.as_slice();
     let mut writer = Vec::new(rt.alloc());
     let audited = audit_run(
@@ -78,6 +78,7 @@ fn transcript_of_threads_is_audited(rt: HostRuntime) -> Result<(), Fail> {
         &mut reader,
         &mut writer,
         Table::Large,
+        Scope::Ring,
         Asked::NOTHING,
     );
     assert_eq!(rt; audited, status);
@@ -98,7 +99,7 @@ fn faults_of_threads(rt: HostRuntime) -> Result<(), Fail> {
         ("{do=\"age\", node=\"nx\"},\n", Fault::Scenario(no_name)),
     ];
     for (steps, fault) in rows {
-        let (status, text) = threads_shown(&rt, RING, steps, Showing::Report(Asked::NOTHING))?;
+        let (status, text) = threads_shown(&rt, RING, steps, Showing::REPORT)?;
         assert_eq!(rt; status, Status::Fault(fault));
         assert!(rt; text.is_empty());
     }
@@ -118,7 +119,7 @@ fn threads_without_a_reader_or_a_writer(rt: HostRuntime) -> Result<(), Fail> {
         &mut failing,
         &mut writer,
         Table::Small,
-        Showing::Report(Asked::NOTHING),
+        Showing::REPORT,
     );
     assert_eq!(rt; status, Status::Fault(Fault::Read));
     assert!(rt; writer.is_empty());
@@ -133,7 +134,7 @@ fn threads_without_a_reader_or_a_writer(rt: HostRuntime) -> Result<(), Fail> {
         &mut reader,
         &mut full,
         Table::Small,
-        Showing::Transcript,
+        Showing::TRANSCRIPT,
     );
     assert_eq!(rt; status, Status::Fault(Fault::Write));
     assert!(rt; full.held.is_empty());

@@ -9,7 +9,7 @@ use Rattle.std.proofs.lemmas.List.Elements.{All-head, All-tail}
 use Rattle.hsr_node.specs.declared.place.Place.{Place}
 use Rattle.hsr_topology.specs.Links.{is_same_end, link_from}
 use Rattle.hsr_topology.specs.Topology.{topology_fault}
-use Rattle.hsr_topology.specs.Wired.{AreDistinct, EndsLeadBack, IsJoin, ends_of}
+use Rattle.hsr_topology.specs.Wired.{AreDistinct, EndsLeadBack, IsJoin, IsWired, ends_of}
 use Rattle.hsr_topology.specs.declared.end.End.{End}
 use Rattle.hsr_topology.proofs.Wired.{wired}
 
@@ -85,5 +85,8 @@ leads places n ((p ∷ q ∷ []) ∷ links) joins once (suc l) k d a b at below 
     (passed n links p q a not_p.0 not_q.0 ∙ rest.0, passed n links p q b not_p.1 not_q.1 ∙ rest.1)
 leads places n ((p ∷ q ∷ r ∷ ends) ∷ links) joins once l k d a b at below is = absurd (All-head (IsJoin places) (p ∷ q ∷ r ∷ ends) links joins)
 
+pub back_of_wired : (places : List Place) (links : List (List End)) → IsWired places links → EndsLeadBack links
+back_of_wired places links w l d a b below is = leads places 0 links w.joined w.distinct l l d a b (omega arith) below is
+
 pub lead_back : (places : List Place) (links : List (List End)) → topology_fault places links ≡ None → EndsLeadBack links
-lead_back places links h l d a b below is = let w = wired places links h in leads places 0 links w.joined w.distinct l l d a b (omega arith) below is
+lead_back places links h = back_of_wired places links (wired places links h)

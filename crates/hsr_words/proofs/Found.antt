@@ -4,7 +4,7 @@ use Rattle.clap.specs.Kinds.{HasKind, IsAmong, Kinds}
 use Rattle.clap.specs.Words.{App, Row, Text, fault_of, first_of, is_simple, is_simple_and_free, kind_of, subcommand_of}
 use Rattle.clap.specs.declared.error.Error.{Error}
 use Rattle.clap.specs.declared.error.kind.ErrorKind.TheVariants.{OutOfMemory}
-use Rattle.hsr_words.specs.Options.{Chosen, ChosenIn, IfUsage, IsAsked, IsBench, IsRefused, IsShowing, IsTaken, ListsModes, ListsTables, ListsUnits, Says, SaysNothing, Listed, bench_app, flag_text}
+use Rattle.hsr_words.specs.Options.{Chosen, ChosenIn, IfUsage, IsAsked, IsBench, IsForm, IsRefused, IsShowing, IsTaken, ListsModes, ListsTables, ListsUnits, Says, SaysNothing, Listed, bench_app, flag_text}
 use Rattle.hsr_frame.specs.Words.{mode_of, mode_word}
 use Rattle.hsr_frame.specs.declared.node.Mode.{Mode}
 use Rattle.hsr_frame.specs.declared.node.Mode.TheVariants.{H, N, U}
@@ -13,7 +13,8 @@ use Rattle.hsr_text.specs.declared.time_unit.TimeUnit.{TimeUnit}
 use Rattle.hsr_text.specs.declared.time_unit.TimeUnit.TheVariants.{Milliseconds, Microseconds}
 use Rattle.hsr_options.specs.Tables.{table_of, table_word}
 use Rattle.hsr_options.specs.declared.chosen.Showing.{Showing}
-use Rattle.hsr_options.specs.declared.chosen.Showing.TheVariants.{Transcript, Report}
+use Rattle.hsr_options.specs.declared.chosen.Form.{Form}
+use Rattle.hsr_options.specs.declared.chosen.Form.TheVariants.{Transcript, Report}
 use Rattle.hsr_options.specs.declared.chosen.Table.{Table}
 use Rattle.hsr_options.specs.declared.chosen.Table.TheVariants.{Small, Large}
 use Rattle.hsr_options.specs.declared.chosen.Asked.{Asked}
@@ -27,21 +28,24 @@ asked_same : (f g : Text → Option Text) (asked : Asked) → ((id : Text) → f
 asked_same f g asked e h =
     (sym (e (codes "deliveries")) ∙ h.0, sym (e (codes "needed")) ∙ h.1, sym (e (codes "budget")) ∙ h.2)
 
+form_same : (f g : Text → Option Text) (form : Form) → ((id : Text) → f id ≡ g id) → IsForm f form → IsForm g form
+form_same f g Transcript e h = sym (e (codes "transcript")) ∙ h
+form_same f g (Report asked) e h = (sym (e (codes "transcript")) ∙ h.0, asked_same f g asked e h.1)
+
 showing_same : (f g : Text → Option Text) (showing : Showing) → ((id : Text) → f id ≡ g id) → IsShowing f showing → IsShowing g showing
-showing_same f g Transcript e h = sym (e (codes "transcript")) ∙ h
-showing_same f g (Report asked) e h = (sym (e (codes "transcript")) ∙ h.0, asked_same f g asked e h.1)
+showing_same f g showing e h = (sym (e (codes "network")) ∙ h.0, form_same f g showing.form e h.1)
 
 pub chosen_same : (name : Text) (f g : Text → Option Text) (o : Options) → ((id : Text) → f id ≡ g id) → Chosen name f o → Chosen name g o
 chosen_same name f g (Node node) e h =
     (h.0, ((h.1.0.0, sym (e (codes "mac")) ∙ h.1.0.1, h.1.0.2), sym (e (codes "mode")) ∙ h.1.1, sym (e (codes "table")) ∙ h.1.2, sym (e (codes "unit")) ∙ h.1.3))
 chosen_same name f g (Run table showing) e h = (h.0, sym (e (codes "table")) ∙ h.1, showing_same f g showing e h.2)
 chosen_same name f g (Threads table showing) e h = (h.0, sym (e (codes "table")) ∙ h.1, showing_same f g showing e h.2)
-chosen_same name f g (Audit table asked) e h = (h.0, sym (e (codes "table")) ∙ h.1, asked_same f g asked e h.2)
+chosen_same name f g (Audit table scope asked) e h = (h.0, sym (e (codes "table")) ∙ h.1, sym (e (codes "network")) ∙ h.2, asked_same f g asked e h.3)
 
--- without a flag for the transcript nothing is to be shown
-pub no_showing : (found : Text → Option Text) → ((b : Bool) → found (codes "transcript") ≢ Some (flag_text b)) → (showing : Showing) → ¬ IsShowing found showing
-no_showing found none Transcript h = none true h
-no_showing found none (Report asked) h = none false h.0
+-- without a flag for the transcript nothing is to be written
+pub no_form : (found : Text → Option Text) → ((b : Bool) → found (codes "transcript") ≢ Some (flag_text b)) → (form : Form) → ¬ IsForm found form
+no_form found none Transcript h = none true h
+no_form found none (Report asked) h = none false h.0
 
 -- a name and rows that a subcommand has
 pub joined : (found : Option (Text × List Row)) (name : Text) (rows : List Row) → Some name ≡ option_map (λ p. p.0) found → Some rows ≡ option_map (λ p. p.1) found

@@ -13,7 +13,10 @@ use Rattle.hsr_options.specs.Tables.{table_word}
 use Rattle.hsr_options.specs.declared.chosen.Table.TheVariants.{Small, Large}
 use Rattle.hsr_options.specs.declared.chosen.NodeOptions.{NodeOptions}
 use Rattle.hsr_options.specs.declared.chosen.Showing.{Showing}
-use Rattle.hsr_options.specs.declared.chosen.Showing.TheVariants.{Transcript, Report}
+use Rattle.hsr_options.specs.declared.chosen.Form.{Form}
+use Rattle.hsr_options.specs.declared.chosen.Form.TheVariants.{Transcript, Report}
+use Rattle.hsr_options.specs.declared.chosen.Scope.{Scope}
+use Rattle.hsr_options.specs.declared.chosen.Scope.TheVariants.{Ring, Network}
 use Rattle.hsr_options.specs.declared.chosen.Asked.{Asked}
 use Rattle.hsr_words.specs.declared.fault.OptionFault.{OptionFault}
 use Rattle.hsr_words.specs.declared.fault.OptionFault.TheVariants.{Usage, Memory}
@@ -56,9 +59,11 @@ unit_rule units = record (new_rule (codes "unit")) { long = Some (codes "unit");
 abbrev pub flag_rule : Text → Rule
 flag_rule name = record (new_rule name) { long = Some name; action = Some SetTrue }
 
--- with the flags for the parts of a report
+-- with the flags for the parts of a report, and for the audit of its last line
 abbrev pub with_asked : App → App
-with_asked app = with_rule (with_rule (with_rule app (flag_rule (codes "deliveries"))) (flag_rule (codes "needed"))) (flag_rule (codes "budget"))
+with_asked app =
+    with_rule (with_rule (with_rule (with_rule app (flag_rule (codes "deliveries"))) (flag_rule (codes "needed"))) (flag_rule (codes "budget")))
+    (flag_rule (codes "network"))
 
 abbrev pub node_app : Listed → Listed → Listed → App
 node_app modes tables units =
@@ -97,17 +102,28 @@ abbrev pub IsAsked : (Text → Option Text) → Asked → Type 0
 IsAsked found asked = (found (codes "deliveries") ≡ Some (flag_text asked.deliveries)) × (found (codes "needed") ≡ Some (flag_text asked.needed))
     × (found (codes "budget") ≡ Some (flag_text asked.budget))
 
--- what is to be shown, too; for a transcript the parts don't matter
+-- and which audit the last line is of
+abbrev pub is_network : Scope → Bool
+is_network Ring = false
+is_network Network = true
+
+abbrev pub IsScope : (Text → Option Text) → Scope → Type 0
+IsScope found scope = found (codes "network") ≡ Some (flag_text (is_network scope))
+
+-- what is to be written, too; for a transcript the parts don't matter
+abbrev pub IsForm : (Text → Option Text) → Form → Type 0
+IsForm found Transcript = found (codes "transcript") ≡ Some (flag_text true)
+IsForm found (Report asked) = (found (codes "transcript") ≡ Some (flag_text false)) × IsAsked found asked
+
 abbrev pub IsShowing : (Text → Option Text) → Showing → Type 0
-IsShowing found Transcript = found (codes "transcript") ≡ Some (flag_text true)
-IsShowing found (Report asked) = (found (codes "transcript") ≡ Some (flag_text false)) × IsAsked found asked
+IsShowing found showing = IsScope found showing.scope × IsForm found showing.form
 
 -- the options are the values of a subcommand, by its name and what it found
 abbrev pub Chosen : Text → (Text → Option Text) → Options → Type 0
 Chosen name found (Node node) = (name ≡ codes "node") × IsNode found node
 Chosen name found (Run table showing) = (name ≡ codes "run") × (found (codes "table") ≡ Some (table_word table)) × IsShowing found showing
 Chosen name found (Threads table showing) = (name ≡ codes "threads") × (found (codes "table") ≡ Some (table_word table)) × IsShowing found showing
-Chosen name found (Audit table asked) = (name ≡ codes "audit") × (found (codes "table") ≡ Some (table_word table)) × IsAsked found asked
+Chosen name found (Audit table scope asked) = (name ≡ codes "audit") × (found (codes "table") ≡ Some (table_word table)) × IsScope found scope × IsAsked found asked
 
 abbrev pub ChosenIn : Option (Text × List Row) → Options → Type 0
 ChosenIn None o = ⊥

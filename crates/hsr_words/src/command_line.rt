@@ -8,13 +8,13 @@ ghost use Rattle.clap.specs.Words.{Text, app_of, first_value, found_of, kind_of,
 ghost use Rattle.clap.specs.declared.builder.Command.TheViews.{out-Command as fields_of};
 ghost use Rattle.clap.specs.declared.error.kind.ErrorKind.TheVariants.{OutOfMemory};
 ghost use Rattle.hsr_words.specs.declared.fault.OptionFault.TheVariants.{Memory};
-ghost use Rattle.hsr_words.specs.Options.{Chosen, ChosenIn, IfUsage, IsAsked, IsNode, IsRefused, IsShowing, IsTaken, Says, SaysNothing, audit_app, bench_app, flag_rule, flag_text, mac_rule, mode_rule, node_app, run_app, table_rule, top_app, unit_rule, with_asked};
+ghost use Rattle.hsr_words.specs.Options.{Chosen, ChosenIn, IfUsage, IsAsked, IsForm, IsNode, IsRefused, IsScope, IsShowing, IsTaken, Says, SaysNothing, audit_app, bench_app, flag_rule, flag_text, mac_rule, mode_rule, node_app, run_app, table_rule, top_app, unit_rule, with_asked};
 
 use crate::fault::OptionFault;
 use clap::error::ErrorKind;
 use clap::{Arg, ArgAction, ArgMatches, Command, Error};
 use hsr_frame::{Mac, Mode};
-use hsr_options::{Asked, NodeOptions, Options, Showing, Table};
+use hsr_options::{Asked, Form, NodeOptions, Options, Scope, Showing, Table};
 use hsr_text::TimeUnit;
 use std::alloc::{AllocError, Global};
 
@@ -76,6 +76,12 @@ frames are sent in any 800 ms), `budget late <node> <place>` (this entry of a no
 later), `budget crowded <moment>` (in the 800 ms from this moment on, in microseconds, more frames are sent
 than a table has entries). None of the three changes a status.
 
+With --network the last line and the status are of the audit of networks, whatever rings, RedBoxes, QuadBoxes and
+stations there are: `certified <n>` where each frame came exactly once to each node that it was for, else its first
+doubt: `mode`, `same-address`, `side <link>`, `forgot`, `mistaken` or `numbered-late` with a node and the place in its
+record, `uncovered` with the node and place of a frame of which nothing is certified yet (a single frame to a station),
+or `cut-off <node> <place> <receiver>` (no way to this receiver lost no copy of that frame).
+
 Examples: hsr_bench run < plan.toml
           hsr_bench run --table small --deliveries --needed --budget < plan.toml
           hsr_bench run --transcript < plan.toml | hsr_bench audit";
@@ -97,7 +103,7 @@ Examples: hsr_bench threads < plan.toml
 const AUDIT_ENDS: &str = "\
 The transcript is one that `run --transcript` wrote with a table of the same size; it may be of version 1,
 which tells moments in milliseconds. Each entry is done anew and compared, links and records are checked
-against each other, and the report is that of `run`, with --deliveries, --needed and --budget too.
+against each other, and the report is that of `run`, with --deliveries, --needed, --budget and --network too.
 
 Status 0: every frame came exactly once to each node that it was for. Status 2: the run gives reason to
 doubt that, named in the last line. Status 1: there is no report, and one line on standard error says
@@ -179,7 +185,7 @@ fn with_flag<'a>(
     command.arg(flag_arg(alloc, name, help))
 }
 
-/// A command, with the flags for the parts of a report.
+/// A command, with the flags for the parts of a report, and for the audit of its last line.
 fn asking<'a>(alloc: Global, command: Command<'a>) -> Result<Command<'a>, AllocError>
     requires own { (fields_of command).has_globals ≡ false }
     ensures app { IfOk result (λ c. app_of c ≡ with_asked (app_of command.entry)) }
@@ -190,7 +196,9 @@ fn asking<'a>(alloc: Global, command: Command<'a>) -> Result<Command<'a>, AllocE
     let budget = "Says in a line of the report whether the tables hold all that is sent";
     let one = with_flag(alloc, command, "deliveries", deliveries)?;
     let two = with_flag(alloc, one, "needed", needed)?;
-    with_flag(alloc, two, "budget", budget)
+    let three = with_flag(alloc, two, "budget", budget)?;
+    let network = "Certifies any network, not just one ring of DANHs";
+    with_flag(alloc, three, "network", network)
 }
 
 /// The command `node` with the options for the node's address and mode.
@@ -352,17 +360,39 @@ fn asked_of(matches: &ArgMatches<'_>) -> Option<Asked>
     })
 }
 
+/// Which audit the last line is of.
+fn scope_of(matches: &ArgMatches<'_>) -> Option<Scope>
+    ensures found { IfSome result (IsScope (first_value (found_of matches.now))) }
+    ensures none { IfNone result ((scope : Scope) → ¬ IsScope (first_value (found_of matches.now)) scope) }
+{
+    if flag_of(matches, "network")? {
+        Some(Scope::Network)
+    } else {
+        Some(Scope::Ring)
+    }
+}
+
 /// What is to be written of a run.
-#[tactic(auto, using(crate::proofs::Found::no_showing))]
+#[tactic(auto, using(crate::proofs::Found::no_form))]
+fn form_of(matches: &ArgMatches<'_>) -> Option<Form>
+    ensures found { IfSome result (IsForm (first_value (found_of matches.now))) }
+    ensures none { IfNone result ((form : Form) → ¬ IsForm (first_value (found_of matches.now)) form) }
+{
+    if flag_of(matches, "transcript")? {
+        Some(Form::Transcript)
+    } else {
+        Some(Form::Report(asked_of(matches)?))
+    }
+}
+
+/// What is to be shown of a run.
 fn showing_of(matches: &ArgMatches<'_>) -> Option<Showing>
     ensures found { IfSome result (IsShowing (first_value (found_of matches.now))) }
     ensures none { IfNone result ((showing : Showing) → ¬ IsShowing (first_value (found_of matches.now)) showing) }
 {
-    if flag_of(matches, "transcript")? {
-        Some(Showing::Transcript)
-    } else {
-        Some(Showing::Report(asked_of(matches)?))
-    }
+    let scope = scope_of(matches)?;
+    let form = form_of(matches)?;
+    Some(Showing { scope, form })
 }
 
 /// The address of `--mac`, if it is one and no group's.
@@ -413,8 +443,13 @@ fn options_of(name: &str, matches: &ArgMatches<'_>) -> Option<Options>
         }
         "audit" => {
             let table = table_of(matches)?;
+            let scope = scope_of(matches)?;
             let asked = asked_of(matches)?;
-            Some(Options::Audit { table, asked })
+            Some(Options::Audit {
+                table,
+                scope,
+                asked,
+            })
         }
         _ => None,
     }

@@ -1,0 +1,256 @@
+-- The first doubt, and the certificate.
+use Rattle.std.proofs.Common.{◌≡◌, ℕ, ◌<◌, ◌==◌, ◌&&◌, ◌||◌, not, Bool, true, false, if◌then◌else◌, List, [], ◌∷◌, length, slice_index_or, Option, Some, None, refl, sym, ap, ◌∙◌, subst, arith, zero, suc, ◌⊎◌, inl, inr, ⊎_elim, eqb-true}
+use Rattle.std.specs.List.{AllByRecursion, list_any}
+use Rattle.std.proofs.lemmas.Bool.{and_parts, false≢true, or_cases, or_left, or_right}
+use Rattle.hsr_frame.specs.Address.{is_group, is_same_address}
+use Rattle.hsr_frame.specs.declared.node.Mode as modes
+use Rattle.hsr_node.specs.Station.{is_among}
+use Rattle.hsr_frame.specs.Grammar.{Fields}
+use Rattle.hsr_node.specs.declared.event.Probe.{Probe}
+use Rattle.hsr_node.specs.declared.place.Place.{Place}
+use Rattle.hsr_node.specs.declared.place.Place.TheVariants.{Danh, RedBox, QuadBox, Station}
+use Rattle.hsr_node.specs.declared.sending.Sending.{Sending}
+use Rattle.hsr_node.specs.Flow.{send_at}
+use Rattle.hsr_frame.specs.Egress.{is_supervision}
+use Rattle.hsr_law.specs.Premises.{IsRing, NothingForgotten, NothingMistaken, OneLossyLink}
+use Rattle.hsr_deliveries.specs.Delivered.{Delivery, IsComplete, deliveries, is_due, is_for, times}
+use Rattle.hsr_deliveries.proofs.Completing.{IsAsDue, all_complete}
+use Rattle.hsr_law.specs.Closed.{IsClosed, IsSend}
+use Rattle.hsr_law.specs.Run.{Run, past_of, place_of, record_of}
+use Rattle.hsr_law.proofs.Same.{same_address}
+use Rattle.hsr_network_law.proofs.Delivered.{not_to_itself}
+use Rattle.hsr_network_law.specs.Delivered.{AllCovered, AllReached, IsOnceInNetwork, OnceInNetwork, is_covered, is_meant}
+use Rattle.hsr_network_law.specs.Late.{LateDecides}
+use Rattle.hsr_network_law.specs.Lives.{LivesStay}
+use Rattle.hsr_network_law.specs.Rings.{IsCrossed, RingIsCrossed}
+use Rattle.hsr_network_law.specs.Network.{IsNetwork, is_station, is_station_with}
+use Rattle.hsr_premises.specs.Flaws.{IsFirstNot, KnowsOwnAt, RemembersAt}
+use Rattle.hsr_premises.specs.declared.flaw.Flaw.{Flaw}
+use Rattle.hsr_premises.specs.declared.flaw.Flaw.TheVariants.{Forgot, Late, Mistaken}
+use Rattle.hsr_ways.specs.Networks.{IsFirstReason}
+use Rattle.hsr_ways.specs.declared.no_network.NoNetwork.{NoNetwork}
+use Rattle.hsr_ways.specs.declared.no_network.NoNetwork.TheVariants.{Mode, SameAddress, Side}
+use Rattle.hsr_network_audit.specs.Certificate.{IsCertified, TakenUpOnce}
+use Rattle.hsr_network_audit.specs.Doubts.{ArePromised, AreServed, IsCoveredAt, IsCutDoubt, IsFirstDoubt, IsFirstFault, IsNoRing, IsPremised, IsRefused, IsServedAt, IsSound, doubt_at, doubt_of, is_promised, probe_at}
+use Rattle.hsr_network_audit.specs.Placed.{HoldsIn}
+use Rattle.hsr_network_audit.specs.declared.doubt.NetworkFault.{NetworkFault}
+use Rattle.hsr_network_audit.specs.declared.doubt.NetworkFault.TheVariants.{Doubt, NoMemory}
+use Rattle.hsr_network_audit.specs.declared.doubt.Doubt as doubts
+use Rattle.hsr_network_audit.specs.declared.doubt.Doubt.TheVariants as doubt
+
+-- ---- all sends
+
+-- a send stands at a place of its node's record
+within : (place : Place) (n : ℕ) (s : Sending) (h : List Rattle.hsr_node.specs.declared.entry.Entry.Entry) → send_at place n h ≡ Some s → n < length h
+within place n s [] e = absurd cc
+within place n s (x ∷ past) e = by_test (n == length past) refl e (within place n s past)
+  where
+    by_test : (b : Bool) → (n == length past) ≡ b → (if b then Rattle.hsr_node.specs.Flow.sent_by place x.event x.outcome else send_at place n past) ≡ Some s → (send_at place n past ≡ Some s → n < length past) → n < length (x ∷ past)
+    by_test true same h rest = let at = Rattle.std.proofs.Common.eqb-true n (length past) same in omega (arith, at)
+    by_test false same h rest = let low = rest h in omega (arith, low)
+
+in_record : (run : Run) (send : Probe) (sending : Sending) → IsSend run send sending → send.place < length (record_of run send.node)
+in_record run send sending is =
+    let low = within (place_of run send.node) send.place sending (past_of run send.node) is.1 in
+    let same = Rattle.std.proofs.lemmas.List.length-reverse (record_of run send.node) in
+    omega (arith, low, same)
+
+pub all_covered : (run : Run) → HoldsIn run (IsCoveredAt run) (length run.places) → ArePromised run
+all_covered run all send sending is = all send.node is.0 send.place (in_record run send sending is) sending is
+
+pub all_served : (run : Run) → HoldsIn run (IsServedAt run) (length run.places) → AreServed run
+all_served run all send sending is = all send.node is.0 send.place (in_record run send sending is) sending is
+
+-- ---- doubts
+
+pub reason_is : (run : Run) (none : NoNetwork) → IsFirstReason run none → IsFirstDoubt run (doubt_of none)
+reason_is run Mode first = first
+reason_is run SameAddress first = first
+reason_is run (Side l) first = first
+
+pub flaw_is : (run : Run) (flaw : Flaw) → IsNetwork run → Rattle.hsr_premises.specs.Flaws.IsFirstFlaw run (Some flaw) → IsFirstDoubt run (doubt_at flaw)
+flaw_is run (Forgot k i) network first = (network, first)
+flaw_is run (Mistaken k i) network first = (network, first.0, first.1)
+flaw_is run (Late k i) network first = (network, first.0, first.1, first.2)
+
+pub cut_is : (run : Run) (d : doubts.Doubt) → IsSound run → ArePromised run → IsCutDoubt run (Some d) → IsFirstDoubt run d
+cut_is run doubt.Mode sound covered is = absurd is
+cut_is run doubt.SameAddress sound covered is = absurd is
+cut_is run (doubt.Side l) sound covered is = absurd is
+cut_is run (doubt.Forgot k i) sound covered is = absurd is
+cut_is run (doubt.Mistaken k i) sound covered is = absurd is
+cut_is run (doubt.NumberedLate k i) sound covered is = absurd is
+cut_is run (doubt.Uncovered k i) sound covered is = absurd is
+cut_is run (doubt.CutOff k i n) sound covered is = (sound, covered, is.0, is.1)
+
+refuses : (run : Run) (d : doubts.Doubt) → IsFirstDoubt run d → IsPremised run → ⊥
+refuses run doubt.Mode first all = first all.sound.network.modes
+refuses run doubt.SameAddress first all = first.1 all.sound.network.differ
+refuses run (doubt.Side l) first all =
+    first.2.unlike (all.sound.network.sides (record { link = l; dir = Rattle.hsr_link.specs.declared.row.Dir.TheVariants.Forth }) first.2.below)
+refuses run (doubt.Forgot k i) first all = first.1.fails (λ d. Rattle.hsr_needed.proofs.Places.from_each (λ x past. Rattle.hsr_law.specs.Premises.Remembers run.capacity (Rattle.hsr_law.specs.Run.owner_of run k) past (Rattle.hsr_node.specs.Record.now (x ∷ past)) x.event) (record_of run k) (all.sound.forgotten k first.1.node) i first.1.place d)
+refuses run (doubt.Mistaken k i) first all = first.2.fails (λ d. Rattle.hsr_needed.proofs.Places.from_each (λ x past. Rattle.hsr_law.specs.Premises.KnowsOwn run.capacity (Rattle.hsr_law.specs.Run.owner_of run k) past (Rattle.hsr_node.specs.Record.now (x ∷ past)) x.event) (record_of run k) (all.sound.mistaken k first.2.node) i first.2.place d)
+refuses run (doubt.NumberedLate k i) first all = first.3.fails (λ d. Rattle.hsr_needed.proofs.Places.from_each (λ x past. Rattle.hsr_network_law.specs.Late.is_numbered_late (Rattle.hsr_law.specs.Run.owner_of run k) past x.event x.outcome ≡ false) (record_of run k) (all.sound.in_time k first.3.node) i first.3.place d)
+refuses run (doubt.Uncovered k i) first all = first.1.fails (λ sending is. all.covered (probe_at k i) sending is)
+refuses run (doubt.CutOff k i n) first all = first.2.fails (λ sending is. all.served (probe_at k i) sending is)
+
+pub fault_refuses : (run : Run) (fault : NetworkFault) → IsFirstFault run fault → IsRefused run fault
+fault_refuses run (Doubt d) first = refuses run d first
+fault_refuses run NoMemory first = tt
+
+-- ---- whom a covered send is due at
+
+any_here : (p : Place → Bool) (places : List Place) (k : ℕ) → k < length places → p (slice_index_or places k QuadBox) ≡ true → list_any p places ≡ true
+any_here p [] k low is = absurd (omega (arith, low))
+any_here p (x ∷ xs) zero low is = or_left (p x) (list_any p xs) is
+any_here p (x ∷ xs) (suc k) low is = or_right (p x) (list_any p xs) (any_here p xs k (omega (arith, low)) is)
+
+-- a single frame that is covered is to no Station
+not_station : (run : Run) (frame : Fields) (k : ℕ) → is_covered run.places frame ≡ true → is_group frame.dst ≡ false → k < length run.places → is_station_with frame.dst (place_of run k) ≡ true → ⊥
+not_station run frame k covered single below own =
+    ⊎_elim (λ group. false≢true (sym single ∙ group))
+    (λ none. clash (list_any (is_station_with frame.dst) run.places) (any_here (is_station_with frame.dst) run.places k below own) none)
+    (or_cases (is_group frame.dst) (not (list_any (is_station_with frame.dst) run.places)) covered)
+  where
+    clash : (b : Bool) → b ≡ true → not b ≡ true → ⊥
+    clash true on h = false≢true h
+    clash false on h = false≢true on
+
+both : (a b : Bool) → a ≡ true → b ≡ true → (a && b) ≡ true
+both a b x y = ap (λ z. z && b) x ∙ y
+
+due_at : (place : Place) (sender : ℕ) (frame : Fields) (k : ℕ) (group : Bool) → is_group frame.dst ≡ group → (group ≡ false → is_station_with frame.dst place ≡ true → ⊥) → not (k == sender) ≡ true →
+    is_for place frame.dst frame.kind ≡ true → is_meant sender frame k place ≡ true
+due_at (Danh mac mode) sender frame k true is beyond other due = ap (λ b. if b then not (k == sender) else is_same_address mac frame.dst) is ∙ other
+due_at (Danh mac mode) sender frame k false is beyond other due =
+    ap (λ b. if b then not (k == sender) else is_same_address mac frame.dst) is
+    ∙ (sym (ap (λ b. if b then true else is_same_address mac frame.dst) is) ∙ due)
+due_at (RedBox mac mode) sender frame k true is own other due =
+    both (not (k == sender)) (is_group frame.dst || is_same_address mac frame.dst) other (or_left (is_group frame.dst) (is_same_address mac frame.dst) is)
+due_at (RedBox mac mode) sender frame k false is own other due =
+    both (not (k == sender)) (is_group frame.dst || is_same_address mac frame.dst) other
+    (or_right (is_group frame.dst) (is_same_address mac frame.dst) (sym (ap (λ b. if b then true else is_same_address mac frame.dst) is) ∙ due))
+due_at QuadBox sender frame k true is beyond other due = absurd (false≢true (sym (ap (λ b. if b then false else false) is) ∙ due))
+due_at QuadBox sender frame k false is beyond other due = absurd (false≢true (sym (ap (λ b. if b then false else false) is) ∙ due))
+due_at (Station macs) sender frame k true is own other due =
+    both (not (k == sender)) (is_group frame.dst || is_among macs.items frame.dst) other (or_left (is_group frame.dst) (is_among macs.items frame.dst) is)
+due_at (Station macs) sender frame k false is beyond other due =
+    absurd (beyond refl (sym (ap (λ b. if b then not (is_supervision frame.dst frame.kind) else is_among macs.items frame.dst) is) ∙ due))
+
+due_is_meant : (run : Run) (send : Probe) (frame : Fields) (k : ℕ) → is_covered run.places frame ≡ true → k < length run.places → is_due run send.node frame.dst frame.kind k ≡ true →
+    is_meant send.node frame k (place_of run k) ≡ true
+due_is_meant run send frame k covered below due =
+    let parts = and_parts (not (k == send.node)) (is_for (place_of run k) frame.dst frame.kind) due in
+    due_at (place_of run k) send.node frame k (is_group frame.dst) refl (λ single own. not_station run frame k covered single below own) parts.0 parts.1
+
+-- ---- whom it isn't due at
+
+-- a frame isn't for a node, or is a supervision frame and the node a Station
+abbrev IsUndue : ℕ → Fields → ℕ → Place → Type 0
+IsUndue sender frame k place = (is_meant sender frame k place ≡ false) ⊎ ((is_station place ≡ true) × (is_supervision frame.dst frame.kind ≡ true))
+
+-- by whether it is its sender, and whether the frame is to a group
+undue_danh : (own group same : Bool) → (own ≡ true → group ≡ false → same ≡ true → ⊥) → (not own && (if group then true else same)) ≡ false → (if group then not own else same) ≡ false
+undue_danh true true same never none = refl
+undue_danh true false true never none = absurd (never refl refl refl)
+undue_danh true false false never none = refl
+undue_danh false true same never none = absurd (false≢true (sym none))
+undue_danh false false same never none = none
+
+undue_box : (own group same : Bool) → (not own && (if group then true else same)) ≡ false → (not own && (group || same)) ≡ false
+undue_box true group same none = refl
+undue_box false true same none = none
+undue_box false false same none = none
+
+undue_station : (own group life among : Bool) → (not own && (if group then not life else among)) ≡ false → ((not own && (group || among)) ≡ false) ⊎ (life ≡ true)
+undue_station true group life among none = inl refl
+undue_station false true true among none = inr refl
+undue_station false true false among none = absurd (false≢true (sym none))
+undue_station false false life among none = inl none
+
+undue_at : (place : Place) (sender : ℕ) (frame : Fields) (k : ℕ) → ((mac : List ℕ) (mode : modes.Mode) → place ≡ Danh mac mode → (k == sender) ≡ true → is_group frame.dst ≡ false → is_same_address mac frame.dst ≡ true → ⊥) →
+    (not (k == sender) && is_for place frame.dst frame.kind) ≡ false → IsUndue sender frame k place
+undue_at (Danh mac mode) sender frame k never none = inl (undue_danh (k == sender) (is_group frame.dst) (is_same_address mac frame.dst) (never mac mode refl) none)
+undue_at (RedBox mac mode) sender frame k never none = inl (undue_box (k == sender) (is_group frame.dst) (is_same_address mac frame.dst) none)
+undue_at QuadBox sender frame k never none = inl refl
+undue_at (Station macs) sender frame k never none =
+    ⊎_elim (λ other. inl other) (λ life. inr (refl, life))
+    (undue_station (k == sender) (is_group frame.dst) (is_supervision frame.dst frame.kind) (is_among macs.items frame.dst) none)
+
+-- ---- the certificate
+
+covered_part : (run : Run) (send : Probe) (sending : Sending) → IsPremised run → IsSend run send sending → is_covered run.places sending.frame ≡ true
+covered_part run send sending all is =
+    (and_parts (is_covered run.places sending.frame) (not (is_station (place_of run send.node) && is_supervision sending.frame.dst sending.frame.kind)) (all.covered send sending is)).0
+
+-- no supervision frame is a Station's
+no_station_sends : (run : Run) (send : Probe) (sending : Sending) → IsPremised run → IsSend run send sending → is_supervision sending.frame.dst sending.frame.kind ≡ true → is_station (place_of run send.node) ≡ false
+no_station_sends run send sending all is life =
+    by_test (is_station (place_of run send.node)) (is_supervision sending.frame.dst sending.frame.kind) life
+    (and_parts (is_covered run.places sending.frame) (not (is_station (place_of run send.node) && is_supervision sending.frame.dst sending.frame.kind)) (all.covered send sending is)).1
+  where
+    by_test : (station life : Bool) → life ≡ true → not (station && life) ≡ true → station ≡ false
+    by_test true true l h = absurd (false≢true h)
+    by_test true false l h = absurd (false≢true l)
+    by_test false life l h = refl
+
+module _ (run : Run) (closed : IsClosed run) (once : IsOnceInNetwork run) (stay : LivesStay) (all : IsPremised run) where
+  taken_up : TakenUpOnce run
+  taken_up send sending k is below due =
+      once.once send sending k is (covered_part run send sending all is) below
+      (due_is_meant run send sending.frame k (covered_part run send sending all is) below due) (all.served send sending is k below due)
+
+  none_else : (send : Probe) (sending : Sending) (k : ℕ) → IsSend run send sending → k < length run.places → is_due run send.node sending.frame.dst sending.frame.kind k ≡ false → times run send k ≡ 0
+  none_else send sending k is below other =
+      ⊎_elim
+      (λ undue. once.none send sending k is below undue)
+      (λ life. stay run closed all.sound.network send sending k is life.1 (no_station_sends run send sending all is life.1) below life.0)
+      (undue_at (place_of run k) send.node sending.frame k own other)
+    where
+      own : (mac : List ℕ) (mode : modes.Mode) → place_of run k ≡ Danh mac mode → (k == send.node) ≡ true → is_group sending.frame.dst ≡ false → is_same_address mac sending.frame.dst ≡ true → ⊥
+      own mac mode place here single same =
+          let P : ℕ → Type 0 = λ j. place_of run j ≡ Danh mac mode in
+          not_to_itself run closed all.sound.network send sending is mac mode (subst P (eqb-true k send.node here) place) single (sym (same_address mac sending.frame.dst same))
+
+  all_as_due : IsAsDue run
+  all_as_due = record { once = taken_up; none = none_else }
+
+  pub certified_is : (sends : List Delivery) → sends ≡ deliveries run → IsCertified run sends
+  certified_is sends listed = record {
+    premised = all;
+    listed = listed;
+    due = taken_up;
+    once = once;
+    complete = subst (AllByRecursion IsComplete) (sym listed) (all_complete run all_as_due);
+  }
+
+pub once_of : (run : Run) → IsClosed run → OnceInNetwork → LateDecides → IsPremised run → IsOnceInNetwork run
+once_of run closed law decides all = law run closed all.sound.network ((decides run closed all.sound.network).first all.sound.in_time) all.sound.forgotten all.sound.mistaken
+
+-- ---- a ring
+
+-- a ring's run that audit certifies is certified here
+ring_premised : (run : Run) (macs : List (List ℕ)) → IsClosed run → RingIsCrossed → IsRing run macs → OneLossyLink run → NothingForgotten run → NothingMistaken run → IsPremised run
+ring_premised run macs closed crosses ring losses remembers own = record {
+  sound = record { network = crossed.network; forgotten = remembers; mistaken = own; in_time = crossed.in_time };
+  covered = promised;
+  served = λ send sending is k below due. crossed.reached send sending k is below (due_is_meant run send sending.frame k (crossed.covered send sending is) below due);
+}
+  where
+    crossed : IsCrossed run
+    crossed = crosses run macs closed ring losses
+
+    no_station : (k : ℕ) → k < length macs → is_station (place_of run k) ≡ false
+    no_station k low = ⊎_elim (λ h. ap is_station h) (λ u. ap is_station u) (ring.nodes k low)
+
+    promised : ArePromised run
+    promised send sending is =
+        let many = ring.places in
+        let low = is.0 in
+        let none = no_station send.node (omega (arith, low, many)) in
+        both (is_covered run.places sending.frame) (not (is_station (place_of run send.node) && is_supervision sending.frame.dst sending.frame.kind)) (crossed.covered send sending is)
+        (ap (λ b. not (b && is_supervision sending.frame.dst sending.frame.kind)) none)
+
+pub no_ring : (run : Run) (fault : NetworkFault) → IsClosed run → RingIsCrossed → IsFirstFault run fault → IsNoRing run fault
+no_ring run (Doubt d) closed crosses first = λ macs ring losses remembers own. refuses run d first (ring_premised run macs closed crosses ring losses remembers own)
+no_ring run NoMemory closed crosses first = tt

@@ -1,0 +1,5 @@
+pub mod Losing
+pub mod Sending
+pub mod Placing
+pub mod Reached
+pub mod Certifying

@@ -1,0 +1,47 @@
+-- The entry at a place of a record, and the send that it is.
+use Rattle.std.proofs.Common.{◌≡◌, ℕ, ◌<◌, List, length, reverse, take, slice_index_or, Option, Some, None, sym, ap, ◌∙◌, subst, arith, true}
+use Rattle.std.specs.Prelude.{◌↔◌}
+use Rattle.std.proofs.lemmas.Option.{none-some}
+use Rattle.hsr_node.specs.Flow.{send_at, sent_by}
+use Rattle.hsr_node.specs.declared.entry.Entry.{Entry}
+use Rattle.hsr_node.specs.declared.place.Place.{Place}
+use Rattle.hsr_node.specs.declared.sending.Sending.{Sending}
+use Rattle.hsr_law.specs.Closed.{IsSend}
+use Rattle.hsr_law.specs.Run.{Run, past_of, place_of, record_of}
+use Rattle.hsr_law.proofs.Records.{IsAtPlace, all_at_place}
+use Rattle.hsr_needed.proofs.Places.{from_each, past_length}
+use Rattle.hsr_needed.proofs.Walking.{place_at}
+use Rattle.hsr_network_audit.specs.Doubts.{IsCoveredAt, is_promised, probe_at}
+
+pub send_here : (run : Run) (k i : ℕ) (d : Entry) → i < length (record_of run k) →
+    send_at (place_of run k) i (past_of run k) ≡ sent_by (place_of run k) (slice_index_or (record_of run k) i d).event (slice_index_or (record_of run k) i d).outcome
+send_here run k i d below =
+    let xs = record_of run k in
+    let each = from_each (IsAtPlace (place_of run k) (reverse xs)) xs (all_at_place (place_of run k) (reverse xs)) i below d in
+    let P : ℕ → Type 0 = λ n. send_at (place_of run k) n (reverse xs) ≡ sent_by (place_of run k) (slice_index_or xs i d).event (slice_index_or xs i d).outcome in
+    subst P (past_length xs i (omega (arith, below))) each
+
+pub sent_is : (run : Run) (k i : ℕ) (p : Place) (x : Entry) → k < length run.places → i < length (record_of run k) → p ≡ slice_index_or run.places k p → x ≡ slice_index_or (record_of run k) i x →
+    send_at (place_of run k) i (past_of run k) ≡ sent_by p x.event x.outcome
+sent_is run k i p x node below p_is x_is =
+    send_here run k i x below
+    ∙ (ap (λ (y : Entry). sent_by (place_of run k) y.event y.outcome) (sym x_is) ∙ ap (λ (q : Place). sent_by q x.event x.outcome) (sym (place_at run.places k p node p_is)))
+
+same_sending : (s t : Sending) → Some s ≡ Some t → s ≡ t
+same_sending s t e = cc
+
+pub no_send : (run : Run) (k i : ℕ) (sending : Sending) → send_at (place_of run k) i (past_of run k) ≡ None → IsSend run (probe_at k i) sending → ⊥
+no_send run k i sending none is = none-some sending (sym none ∙ is.1)
+
+pub the_send : (run : Run) (k i : ℕ) (s sending : Sending) → send_at (place_of run k) i (past_of run k) ≡ Some s → IsSend run (probe_at k i) sending → s ≡ sending
+the_send run k i s sending some is = same_sending s sending (sym some ∙ is.1)
+
+pub covered_none : (run : Run) (k i : ℕ) → send_at (place_of run k) i (past_of run k) ≡ None → IsCoveredAt run k i
+covered_none run k i none sending is = absurd (no_send run k i sending none is)
+
+pub covered_so : (run : Run) (k i : ℕ) (s : Sending) → send_at (place_of run k) i (past_of run k) ≡ Some s → is_promised run k s.frame ≡ true → IsCoveredAt run k i
+covered_so run k i s some is sending send =
+    subst (λ (t : Sending). is_promised run k t.frame ≡ true) (the_send run k i s sending some send) is
+
+pub so_covered : (run : Run) (k i : ℕ) (s : Sending) → k < length run.places → send_at (place_of run k) i (past_of run k) ≡ Some s → IsCoveredAt run k i → is_promised run k s.frame ≡ true
+so_covered run k i s node some all = all s (node, some)

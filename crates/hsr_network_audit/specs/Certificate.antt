@@ -1,0 +1,25 @@
+-- What a certificate says of a run of a network.
+use Rattle.std.specs.Prelude.{ℕ, ◌<◌, ◌≡◌, true, List, length}
+use Rattle.std.specs.List.{AllByRecursion}
+use Rattle.hsr_node.specs.declared.event.Probe.{Probe}
+use Rattle.hsr_node.specs.declared.sending.Sending.{Sending}
+use Rattle.hsr_deliveries.specs.Delivered.{Delivery, IsComplete, deliveries, is_due, times}
+use Rattle.hsr_law.specs.Closed.{IsSend}
+use Rattle.hsr_law.specs.Run.{Run}
+use Rattle.hsr_network_law.specs.Delivered.{IsOnceInNetwork}
+use Rattle.hsr_network_audit.specs.Doubts.{IsPremised}
+
+-- each node that a send is due at took it up just once
+abbrev pub TakenUpOnce : Run → Type 0
+TakenUpOnce run = (send : Probe) (sending : Sending) (k : ℕ) → IsSend run send sending → k < length run.places →
+    is_due run send.node sending.frame.dst sending.frame.kind k ≡ true → times run send k ≡ 1
+
+-- The run is that of a network, with nothing forgotten, nothing mistaken and nothing numbered late, and each of its sends is
+-- covered and reaches each node that it is due at. So each of these took it up just once, nothing else went up anywhere, and each
+-- send, all of which are listed, is complete.
+pub record IsCertified (run : Run) (sends : List Delivery) : Type 0 where
+  pub premised : IsPremised run
+  pub listed : sends ≡ deliveries run
+  pub due : TakenUpOnce run
+  pub once : IsOnceInNetwork run
+  pub complete : AllByRecursion IsComplete sends

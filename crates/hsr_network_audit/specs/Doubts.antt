@@ -1,0 +1,127 @@
+-- Why a network can't be certified: the doubts in their order, and which is the first.
+--     is_promised     the law of networks promises of a send whom it comes to
+--     IsCoveredAt     so it does of the send at a place of a record
+--     IsServedAt      it reaches each node that it is due at
+--     IsPremised      a network, and all that is certified of it rests on
+--     IsFirstDoubt    the doubt holds, and none before it
+use Rattle.std.specs.Prelude.{ℕ, ◌<◌, ◌≡◌, ◌&&◌, not, Bool, true, List, length, Option, Some, None}
+use Rattle.hsr_frame.specs.Egress.{is_supervision}
+use Rattle.hsr_frame.specs.Grammar.{Fields}
+use Rattle.hsr_node.specs.declared.event.Probe.{Probe}
+use Rattle.hsr_node.specs.declared.sending.Sending.{Sending}
+use Rattle.hsr_deliveries.specs.Delivered.{is_due}
+use Rattle.hsr_law.specs.Closed.{IsSend}
+use Rattle.hsr_law.specs.Premises.{IsRing, NothingForgotten, NothingMistaken, OneLossyLink}
+use Rattle.hsr_law.specs.Run.{Run, place_of}
+use Rattle.hsr_network_law.specs.Late.{NothingLate}
+use Rattle.hsr_network_law.specs.Network.{IsNetwork, is_station}
+use Rattle.hsr_network_law.specs.Ways.{IsReached}
+use Rattle.hsr_premises.specs.Flaws.{IsFirstNot, IsInTimeAt, KnowsOwnAt, RemembersAt}
+use Rattle.hsr_ways.specs.Networks.{AreGoingRound, HaveOwnAddresses, IsFirstUnlike}
+use Rattle.hsr_premises.specs.declared.flaw.Flaw.{Flaw}
+use Rattle.hsr_premises.specs.declared.flaw.Flaw.TheVariants.{Forgot, Late, Mistaken}
+use Rattle.hsr_ways.specs.declared.no_network.NoNetwork.{NoNetwork}
+use Rattle.hsr_ways.specs.declared.no_network.NoNetwork.TheVariants.{Mode, SameAddress, Side}
+use Rattle.hsr_network_law.specs.Delivered.{is_covered}
+use Rattle.hsr_network_audit.specs.declared.doubt.NetworkFault.{NetworkFault}
+use Rattle.hsr_network_audit.specs.declared.doubt.NetworkFault.TheVariants.{Doubt, NoMemory}
+use Rattle.hsr_network_audit.specs.declared.doubt.Doubt as doubts
+use Rattle.hsr_network_audit.specs.declared.doubt.Doubt.TheVariants as doubt
+
+-- ---- sends
+
+abbrev pub probe_at : ℕ → ℕ → Probe
+probe_at k i = record { node = k; place = i }
+
+-- a send is covered, and no Station sent it for supervision
+abbrev pub is_promised : Run → ℕ → Fields → Bool
+is_promised run sender frame = is_covered run.places frame && not (is_station (place_of run sender) && is_supervision frame.dst frame.kind)
+
+-- the entry at a place of a node's record is no send, or one of which this is promised
+abbrev pub IsCoveredAt : Run → ℕ → ℕ → Type 0
+IsCoveredAt run k i = (sending : Sending) → IsSend run (probe_at k i) sending → is_promised run k sending.frame ≡ true
+
+-- a send is due at a node, and reaches it
+abbrev pub ReachesDue : Run → Probe → Sending → ℕ → Type 0
+ReachesDue run send sending n = is_due run send.node sending.frame.dst sending.frame.kind n ≡ true → IsReached run send sending.frame n
+
+-- it is no send, or one that reaches each node that it is due at
+abbrev pub IsServedAt : Run → ℕ → ℕ → Type 0
+IsServedAt run k i = (sending : Sending) → IsSend run (probe_at k i) sending → (n : ℕ) → n < length run.places → ReachesDue run (probe_at k i) sending n
+
+-- of the nodes that a send is due at the lowest that it doesn't reach
+pub record IsCutOff (run : Run) (k i n : ℕ) : Type 0 where
+  pub sending : Sending
+  pub is_send : IsSend run (probe_at k i) sending
+  pub node : n < length run.places
+  pub due : is_due run k sending.frame.dst sending.frame.kind n ≡ true
+  pub unreached : ¬ IsReached run (probe_at k i) sending.frame n
+  pub before : (m : ℕ) → m < n → ReachesDue run (probe_at k i) sending m
+
+-- ---- doubts
+
+-- a network, where nothing was forgotten that was needed, nothing mistaken, and nothing numbered late
+pub record IsSound (run : Run) : Type 0 where
+  pub network : IsNetwork run
+  pub forgotten : NothingForgotten run
+  pub mistaken : NothingMistaken run
+  pub in_time : NothingLate run
+
+abbrev pub ArePromised : Run → Type 0
+ArePromised run = (send : Probe) (sending : Sending) → IsSend run send sending → is_promised run send.node sending.frame ≡ true
+
+abbrev pub AreServed : Run → Type 0
+AreServed run = (send : Probe) (sending : Sending) → IsSend run send sending → (n : ℕ) → n < length run.places → ReachesDue run send sending n
+
+-- so it is, and each send is covered, and reaches each node that it is due at
+pub record IsPremised (run : Run) : Type 0 where
+  pub sound : IsSound run
+  pub covered : ArePromised run
+  pub served : AreServed run
+
+-- the doubt holds, and none of those before it
+abbrev pub IsFirstDoubt : Run → doubts.Doubt → Type 0
+IsFirstDoubt run doubt.Mode = ¬ AreGoingRound run
+IsFirstDoubt run doubt.SameAddress = AreGoingRound run × ¬ HaveOwnAddresses run
+IsFirstDoubt run (doubt.Side l) = AreGoingRound run × HaveOwnAddresses run × IsFirstUnlike run l
+IsFirstDoubt run (doubt.Forgot k i) = IsNetwork run × IsFirstNot run (RemembersAt run) k i
+IsFirstDoubt run (doubt.Mistaken k i) = IsNetwork run × NothingForgotten run × IsFirstNot run (KnowsOwnAt run) k i
+IsFirstDoubt run (doubt.NumberedLate k i) = IsNetwork run × NothingForgotten run × NothingMistaken run × IsFirstNot run (IsInTimeAt run) k i
+IsFirstDoubt run (doubt.Uncovered k i) = IsSound run × IsFirstNot run (IsCoveredAt run) k i
+IsFirstDoubt run (doubt.CutOff k i n) = IsSound run × ArePromised run × IsFirstNot run (IsServedAt run) k i × IsCutOff run k i n
+
+-- ---- answers
+
+-- a doubt is the first one; no memory says nothing of the run
+abbrev pub IsFirstFault : Run → NetworkFault → Type 0
+IsFirstFault run (Doubt d) = IsFirstDoubt run d
+IsFirstFault run NoMemory = Unit {0}
+
+-- where there is a doubt, not all holds that a certificate rests on
+abbrev pub IsRefused : Run → NetworkFault → Type 0
+IsRefused run (Doubt d) = ¬ IsPremised run
+IsRefused run NoMemory = Unit {0}
+
+-- and it isn't the run of a ring of DANHs in modes H and U with losses on at most one link, where nothing was forgotten and
+-- nothing mistaken
+abbrev pub IsNoRing : Run → NetworkFault → Type 0
+IsNoRing run (Doubt d) = (macs : List (List ℕ)) → IsRing run macs → OneLossyLink run → NothingForgotten run → NothingMistaken run → ⊥
+IsNoRing run NoMemory = Unit {0}
+
+-- ---- as the crates below say it
+
+abbrev pub doubt_of : NoNetwork → doubts.Doubt
+doubt_of Mode = doubt.Mode
+doubt_of SameAddress = doubt.SameAddress
+doubt_of (Side l) = doubt.Side l
+
+abbrev pub doubt_at : Flaw → doubts.Doubt
+doubt_at (Forgot k i) = doubt.Forgot k i
+doubt_at (Mistaken k i) = doubt.Mistaken k i
+doubt_at (Late k i) = doubt.NumberedLate k i
+
+-- each send reaches each node that it is due at, or this is the first doubt of that kind
+abbrev pub IsCutDoubt : Run → Option doubts.Doubt → Type 0
+IsCutDoubt run None = AreServed run
+IsCutDoubt run (Some (doubt.CutOff k i n)) = IsFirstNot run (IsServedAt run) k i × IsCutOff run k i n
+IsCutDoubt run (Some _) = ⊥

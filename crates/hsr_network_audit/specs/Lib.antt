@@ -1,0 +1,5 @@
+pub mod Lossy
+pub mod Placed
+pub mod Doubts
+pub mod Reaching
+pub mod Certificate

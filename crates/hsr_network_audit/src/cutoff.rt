@@ -1,0 +1,135 @@
+//! The first send that doesn't reach a node that it is due at.
+ghost use Rattle.std.specs.Prelude.{◌≡◌, ◌<◌, length, IfOk};
+ghost use Rattle.hsr_law.specs.Run.{record_of};
+ghost use Rattle.hsr_network_audit.specs.Reaching.{AreReached, IsCutAt, IsCutIn, IsFirstCut, IsFirstUnreached};
+
+use crate::lossy::ways_of;
+use hsr_closing::Closed;
+use hsr_deliveries::{ByProbe, is_due, losses_by_send, losses_of};
+use hsr_frame::NoMemory;
+use hsr_node::{Probe, sent_view};
+use hsr_numbers::Numbers;
+use hsr_tag::FrameView;
+use hsr_ways::Ways;
+use std::alloc::Global;
+use std::marker::Model;
+
+/// A send, by its node and place, and the lowest node that it is due at and doesn't reach.
+#[derive(Clone, Copy)]
+pub(crate) struct Cut {
+    pub(crate) node: usize,
+    pub(crate) place: usize,
+    pub(crate) receiver: usize,
+}
+
+/// A finished run, the ways that start at each of its nodes, and the losses of each of its sends.
+#[derive(Drop)]
+pub(crate) struct Reach<'a, const C: usize> {
+    closed: &'a Closed<C>,
+    ways: Ways<'a, C>,
+    losses: ByProbe,
+}
+
+impl<'a, const C: usize> Model for Reach<'a, C> {
+    ghost use Rattle.std.specs.Prelude.{◌≡◌};
+    ghost use Rattle.hsr_law.specs.Run.{Run};
+    ghost use Rattle.hsr_node.specs.declared.event.Probe as spec;
+    ghost use Rattle.hsr_deliveries.specs.Counted.{losses_in};
+    ghost use Rattle.hsr_deliveries.specs.Delivered.{lost};
+
+    ghost Value = { Run };
+
+    ghost view = { λ r. r.closed.now.run };
+
+    ghost invariant = { λ r. (r.ways ≡ r.closed.now.run) × ((send : spec.Probe) → losses_in r.losses send ≡ lost r.closed.now.run send) };
+}
+
+impl<'a, const C: usize> Reach<'a, C> {
+    /// What a finished run tells of ways and losses.
+    pub(crate) fn new(alloc: Global, closed: &'a Closed<C>) -> Result<Reach<'a, C>, NoMemory>
+        ensures { IfOk result (λ reach. reach ≡ closed.now.run) }
+    {
+        Ok(Reach {
+            closed,
+            ways: Ways::new(alloc, closed)?,
+            losses: losses_by_send(alloc, closed)?,
+        })
+    }
+
+    /// The nodes that a send reaches.
+    fn reached(
+        &self,
+        alloc: Global,
+        send: Probe,
+        frame: &FrameView<'_>,
+    ) -> Result<Numbers, NoMemory>
+        requires { send.node < length self.now.places }
+        ensures { IfOk result (λ nodes. AreReached self.now send frame.now nodes) }
+    {
+        let _ = self.closed.topology();
+        let losses = losses_of(alloc, &self.losses, send)?;
+        Ok(self.ways.reached(send, frame, &ways_of(losses.as_slice())))
+    }
+
+    /// The lowest node that a send to this destination, of this type, is due at and that isn't among those reached.
+    fn first_unreached(
+        &self,
+        sender: usize,
+        frame: &FrameView<'_>,
+        reached: &Numbers,
+    ) -> Option<usize>
+        ensures { IsFirstUnreached self.now sender frame.now reached.now result }
+    {
+        for (node, place) in self.closed.topology().places().iter().enumerate() {
+            if is_due(place, sender, node, frame.dst, frame.kind) && !reached.has(node) {
+                return Some(node);
+            }
+        }
+        None
+    }
+
+    /// The lowest node that the entry at a place of a node's record, if it is a send, is due at and doesn't reach.
+    fn cut_at(&self, alloc: Global, node: usize, place: usize) -> Result<Option<usize>, NoMemory>
+        requires node { node < length self.now.places }
+        requires place { place < length (record_of self.now node) }
+        ensures { IfOk result (IsCutAt self.now node place) }
+    {
+        let x = &self.closed.entries(node)[place];
+        let Some(sending) = sent_view(&self.closed.topology().places()[node], &x.event, &x.outcome)
+        else {
+            return Ok(None);
+        };
+        let reached = self.reached(alloc, Probe { node, place }, &sending.frame)?;
+        Ok(self.first_unreached(node, &sending.frame, &reached))
+    }
+
+    /// The first send of a node that doesn't reach a node that it is due at, by its place, and that node.
+    #[tactic(auto, using(crate::proofs::Reached::cut_fails))]
+    fn cut_in(&self, alloc: Global, node: usize) -> Result<Option<(usize, usize)>, NoMemory>
+        requires { node < length self.now.places }
+        ensures { IfOk result (IsCutIn self.now node (length (record_of self.now node))) }
+    {
+        for place in 0..self.closed.entries(node).len() {
+            if let Some(receiver) = self.cut_at(alloc, node, place)? {
+                return Ok(Some((place, receiver)));
+            }
+        }
+        Ok(None)
+    }
+
+    /// The first send that doesn't reach a node that it is due at.
+    pub(crate) fn first_cut(&self, alloc: Global) -> Result<Option<Cut>, NoMemory>
+        ensures { IfOk result (IsFirstCut self.now) }
+    {
+        for node in 0..self.closed.topology().places().len() {
+            if let Some((place, receiver)) = self.cut_in(alloc, node)? {
+                return Ok(Some(Cut {
+                    node,
+                    place,
+                    receiver,
+                }));
+            }
+        }
+        Ok(None)
+    }
+}

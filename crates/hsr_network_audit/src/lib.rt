@@ -1,0 +1,21 @@
+//! The audit of a finished run of any network: a certificate that each frame was taken up just once by each node that it was
+//! for, or the first reason for doubt.
+//!
+//! Its modules, in the order in which to read them:
+//! - `doubt`: why a run isn't certified
+//! - `covered`: which sends the law of networks covers, and so a certificate
+//! - `lossy`: the ways on which a send lost copies
+//! - `sends`: the first send that isn't covered
+//! - `cutoff`: the first send that doesn't reach a node
+//! - `auditing`: the audit, its call
+#![tactic(auto)]
+
+mod auditing;
+mod covered;
+mod cutoff;
+mod doubt;
+mod lossy;
+mod sends;
+
+pub use auditing::{NetworkCertificate, audit_network};
+pub use doubt::{Doubt, NetworkFault};

@@ -1,0 +1,49 @@
+//! The first send that isn't covered.
+ghost use Rattle.std.specs.Prelude.{◌↔◌, ◌<◌, length, IsTrue};
+ghost use Rattle.hsr_closing.specs.Finished.{IsFinished};
+ghost use Rattle.hsr_law.specs.Run.{record_of};
+ghost use Rattle.hsr_network_audit.specs.Doubts.{IsCoveredAt};
+ghost use Rattle.hsr_network_audit.specs.Placed.{IsFirstIn, IsFirstPair};
+
+use crate::covered::is_promised;
+use hsr_closing::Closed;
+use hsr_node::sent_view;
+
+/// Whether an entry of a node is no send, or one that is covered.
+fn is_covered_at<const C: usize>(closed: &Closed<C>, node: usize, place: usize) -> bool
+    requires node { node < length closed.now.run.places }
+    requires place { place < length (record_of closed.now.run node) }
+    ensures { IsTrue result ↔ IsCoveredAt closed.now.run node place }
+{
+    let places = closed.topology().places();
+    let x = &closed.entries(node)[place];
+    match sent_view(&places[node], &x.event, &x.outcome) {
+        Some(sending) => is_promised(places, &places[node], &sending.frame),
+        None => true,
+    }
+}
+
+/// The first send of a node that isn't covered, by its place.
+fn uncovered_in<const C: usize>(closed: &Closed<C>, node: usize) -> Option<usize>
+    requires { node < length closed.now.run.places }
+    ensures { IsFirstIn (IsCoveredAt closed.now.run) node (length (record_of closed.now.run node)) result }
+{
+    for place in 0..closed.entries(node).len() {
+        if !is_covered_at(closed, node, place) {
+            return Some(place);
+        }
+    }
+    None
+}
+
+/// The first send that isn't covered, by its node and place.
+pub(crate) fn first_uncovered<const C: usize>(closed: &Closed<C>) -> Option<(usize, usize)>
+    ensures { IsFirstPair closed.now.run (IsCoveredAt closed.now.run) result }
+{
+    for node in 0..closed.topology().places().len() {
+        if let Some(place) = uncovered_in(closed, node) {
+            return Some((node, place));
+        }
+    }
+    None
+}

@@ -1,0 +1,4 @@
+pub mod Placing
+pub mod Logging
+pub mod Judging
+pub mod Firsts

@@ -1,0 +1,20 @@
+//! Whether the nodes of a finished run forgot what they needed, mistook a number, or gave one late, whatever its network.
+//!
+//! Its modules, in the order in which to read them:
+//! - `flaw`: where something was forgotten, mistaken or numbered late
+//! - `keys`: the sources and numbers of an entry
+//! - `marks`: what an egress noted
+//! - `log`: what a node noted and heard
+//! - `looking`: the first places of a record
+//! - `flaws`: the first of all records, its call
+#![tactic(auto)]
+
+mod flaw;
+mod flaws;
+mod keys;
+mod log;
+mod looking;
+mod marks;
+
+pub use flaw::Flaw;
+pub use flaws::first_flaw;

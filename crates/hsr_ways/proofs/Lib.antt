@@ -1,0 +1,5 @@
+pub mod Owned
+pub mod Networked
+pub mod Started
+pub mod Spreading
+pub mod Ending

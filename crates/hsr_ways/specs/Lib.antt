@@ -1,0 +1,5 @@
+pub mod Networks
+pub mod Addressed
+pub mod Numbered
+pub mod Started
+pub mod Spread
