@@ -243,34 +243,52 @@ def expect(what, words, given, expected):
     raise Differs
 
 
+def compare_made(name, made, capacity, asked):
+    """Compares all that the program says of a scenario, and tells how it ended."""
+    table = ["--table", "small" if capacity == 4 else "large"]
+    status, report, fault, world = model.run(made, capacity, DRAIN_LIMIT)
+    given = document(made)
+    expect(name, ["run", *table], given, (status, report, fault))
+    if fault:
+        return fault.rstrip("\n") if "check" in fault else "fault: step .. " + fault.split()[-1]
+    flags, parts = ["--" + part for part in asked], world.report(asked)
+    ends = 0 if parts.splitlines()[-1].startswith("certified") else 2
+    if ends == 0 and "network" in asked and world.deliveries()[:-1]:
+        print(f"{name}: certified, and not all sends are complete\n{given}")
+        raise Differs
+    expect(name, ["run", *flags, *table], given, (ends, parts, ""))
+    transcript = world.transcript()
+    expect(name, ["run", "--transcript", *flags, *table], given, (ends, transcript, ""))
+    expect(name, ["audit", *table], transcript, (status, report, ""))
+    expect(name, ["audit", *flags, *table], transcript, (ends, parts, ""))
+    if world.is_whole():
+        expect(name, ["audit", *table], world.transcript("ms"), (status, report, ""))
+    verdict = world.network_verdict() if "network" in asked else world.verdict()
+    return ("network " if "network" in asked else "") + " ".join(verdict.split()[: 1 if ends == 0 else 2])
+
+
 def compare_scenario(seed):
     chance = random.Random(seed)
     capacity = chance.choice([4, 512])
-    table = ["--table", "small" if capacity == 4 else "large"]
     try:
         made = scenario(chance, capacity)
     except model.Unsettled:
         return "left out"
-    status, report, fault, world = model.run(made, capacity, DRAIN_LIMIT)
-    given = document(made)
-    expect(f"seed {seed}", ["run", *table], given, (status, report, fault))
-    if fault:
-        return fault.rstrip("\n") if "check" in fault else "fault: step .. " + fault.split()[-1]
     asked = [part for part in ("deliveries", "needed", "budget", "network") if chance.random() < 0.8]
-    flags, parts = ["--" + part for part in asked], world.report(asked)
-    ends = 0 if parts.splitlines()[-1].startswith("certified") else 2
-    if ends == 0 and "network" in asked and world.deliveries()[:-1]:
-        print(f"seed {seed}: certified, and not all sends are complete\n{given}")
-        raise Differs
-    expect(f"seed {seed}", ["run", *flags, *table], given, (ends, parts, ""))
-    transcript = world.transcript()
-    expect(f"seed {seed}", ["run", "--transcript", *flags, *table], given, (ends, transcript, ""))
-    expect(f"seed {seed}", ["audit", *table], transcript, (status, report, ""))
-    expect(f"seed {seed}", ["audit", *flags, *table], transcript, (ends, parts, ""))
-    if world.is_whole():
-        expect(f"seed {seed}", ["audit", *table], world.transcript("ms"), (status, report, ""))
-    verdict = world.network_verdict() if "network" in asked else world.verdict()
-    return ("network " if "network" in asked else "") + " ".join(verdict.split()[: 1 if ends == 0 else 2])
+    return compare_made(f"seed {seed}", made, capacity, asked)
+
+
+def far_edges():
+    """Scenarios for what chance doesn't find: a number that comes again, and the moment from which on a station isn't known."""
+    alone = {"node": [danh(random.Random(1), "n0", 1)], "link": []}
+    send = {"do": "send", "node": "n0", "to": GROUP, "type": 0x88B5}
+    yield "a number comes again", {**alone, "step": [send] * 65538}, []
+    nodes = [{"name": "n0", "role": "danh", "mac": mac(1)}, {"name": "r0", "role": "redbox", "mac": mac(2)}, {"name": "s0", "role": "station", "macs": [mac(16)]}]
+    links = [{"ends": ends} for ends in (["n0.B", "r0.A"], ["r0.B", "n0.A"], ["r0.I", "s0.P"])]
+    for later in (59999999, 60000000):
+        steps = [{"do": "send", "node": "s0", "to": GROUP, "type": 0x88B5}, {"do": "drain"}, {"do": "clock", "at": later}]
+        steps += [{"do": "send", "node": "n0", "to": mac(16), "type": 0x88B5}, {"do": "drain"}]
+        yield f"a station heard {later} us ago", {"unit": "us", "node": nodes, "link": links, "step": steps}, ["deliveries", "needed", "network"]
 
 
 def compare_node(seed):
@@ -288,6 +306,8 @@ def main():
     count, first = (int(word) for word in words + ["500", "1"][len(words) :])
     seen, failed = Counter(), 0
     try:
+        for name, made, asked in far_edges():
+            seen[compare_made(name, made, 512, asked)] += 1
         for seed in range(first, first + count):
             seen[compare_scenario(seed)] += 1
             seen[compare_node(seed)] += 1
