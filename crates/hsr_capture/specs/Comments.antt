@@ -19,25 +19,8 @@ use Rattle.hsr_link.specs.declared.row.Fate.TheVariants.{LostDown, LostCut, Lost
 use Rattle.hsr_link.specs.declared.row.Row.{Row}
 use Rattle.hsr_law.specs.Run.{Run, ends_of, from_end, record_of, to_end}
 use Rattle.hsr_topology.specs.declared.end.End.{End}
+use Rattle.hsr_names.specs.Names.{name_of, port_text}
 use Rattle.hsr_story.specs.declared.shown.Shown.{Shown}
-
--- ---- names
-
--- the name of a node; n and its number, where it has none
-abbrev pub name_or : ℕ → Option (List ℕ) → List ℕ
-name_or k None = codes "n" ++ decimal k
-name_or k (Some name) = name
-
-unfoldable pub name_of : List (List ℕ) → ℕ → List ℕ
-name_of names k = name_or k (slice_get names k)
-
--- a port of a node: its name and its letter
-abbrev pub letter_if : Option Place → ℕ → List ℕ
-letter_if None port = []
-letter_if (Some place) port = letter place port ∷ []
-
-unfoldable pub port_text : List ℕ → List (List ℕ) → List Place → End → List ℕ
-port_text parted names places end = name_of names end.node ++ parted ++ letter_if (slice_get places end.node) end.port
 
 -- ---- interfaces
 

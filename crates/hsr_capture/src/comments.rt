@@ -5,11 +5,12 @@ ghost use Rattle.hsr_frame.specs.declared.node.Cause.TheVariants.{Passed};
 ghost use Rattle.hsr_node.specs.Words.{letter};
 ghost use Rattle.hsr_law.specs.Run.{ends_of, record_of, to_end};
 ghost use Rattle.hsr_order.specs.Fronts.{lists_of};
-ghost use Rattle.hsr_capture.specs.Comments.{comment, interface_description, judged_if, judged_text, judgement, letter_if, letters_from, loss_reason, loss_text, name_from, name_of, number_text, outcome_text, port_text, send_if, send_text, send_words};
+ghost use Rattle.hsr_capture.specs.Comments.{comment, interface_description, judged_if, judged_text, judgement, letters_from, loss_reason, loss_text, name_from, number_text, outcome_text, send_if, send_text, send_words};
 
 use hsr_closing::Closed;
 use hsr_frame::{Cause, NoMemory};
 use hsr_link::{Dir, Fate, Row};
+use hsr_names::{put_name, put_port};
 use hsr_node::{Entry, Outcome, Place, Probe};
 use hsr_story::Shown;
 use hsr_text::put_decimal;
@@ -29,49 +30,6 @@ fn put_number(text: &mut Vec<u8>, n: u64) -> Result<(), NoMemory>
 {
     put_decimal(text, n)?;
     Ok(())
-}
-
-/// Puts the name of a node last; n and its number, where it has none.
-#[tactic(auto, unfolding(crate::specs::Comments::name_of))]
-fn put_name(text: &mut Vec<u8>, names: &[Vec<u8>], node: usize) -> Result<(), NoMemory>
-    ensures { OnOk result (text.new.items ≡ text.old.items ++ name_of (lists_of names.now) node) }
-{
-    match names.get(node) {
-        Some(name) => put(text, name.as_slice()),
-        None => {
-            put(text, b"n")?;
-            put_number(text, node as u64)
-        }
-    }
-}
-
-/// Puts the letter of a port last, if there is such a node.
-fn put_letter(text: &mut Vec<u8>, places: &[Place], end: End) -> Result<(), NoMemory>
-    ensures { OnOk result (text.new.items ≡ text.old.items ++ letter_if (slice_get places.now end.node) end.port) }
-{
-    match places.get(end.node) {
-        Some(place) => {
-            text.push(place.letter(end.port))?;
-            Ok(())
-        }
-        None => Ok(()),
-    }
-}
-
-/// Puts a port of a node last: its name and its letter.
-#[tactic(auto, unfolding(crate::specs::Comments::port_text))]
-fn put_port(
-    text: &mut Vec<u8>,
-    parted: &[u8],
-    names: &[Vec<u8>],
-    places: &[Place],
-    end: End,
-) -> Result<(), NoMemory>
-    ensures { OnOk result (text.new.items ≡ text.old.items ++ port_text parted.now (lists_of names.now) places.now end) }
-{
-    put_name(text, names, end.node)?;
-    put(text, parted)?;
-    put_letter(text, places, end)
 }
 
 /// Puts the name of an interface last: the port from which its copies come, and the one to which they go.

@@ -6,3 +6,4 @@ pub mod Nodes
 pub mod Links
 pub mod Steps
 pub mod Meaning
+pub mod Names

@@ -1,5 +1,5 @@
 -- What the table of a link says.
-use Rattle.std.specs.Prelude.{ℕ, List, [], ◌∷◌, Option, Some, None, option_map, Result, ok_or, if◌then◌else◌, position, slice_get}
+use Rattle.std.specs.Prelude.{ℕ, List, [], ◌∷◌, Option, Some, None, option_map, Result, ok_or, position, slice_get}
 use Rattle.std.specs.Str.{bytes_eq}
 use Rattle.toml.specs.Data.{Data, Members}
 use Rattle.hsr_topology.specs.declared.end.End.{End}

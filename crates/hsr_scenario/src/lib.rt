@@ -1,11 +1,13 @@
 //! Scenarios: the nodes and links of a bench and the steps that it takes, written in TOML.
 //!
-//! Its modules, in the order to read them: `fault`, `table`, `words`, `name`, `nodes`, `links`, `steps`, `scenario`, `reading`.
+//! Its modules, in the order to read them: `fault`, `table`, `words`, `name`, `nodes`, `links`, `steps`, `scenario`, `reading`,
+//! `naming`.
 #![tactic(auto)]
 
 mod fault;
 mod links;
 mod name;
+mod naming;
 mod nodes;
 mod reading;
 mod scenario;
@@ -14,6 +16,7 @@ mod table;
 mod words;
 
 pub use fault::{Key, ScenarioFault, Spot, What};
+pub use naming::{Names, read_names};
 pub use reading::{TEXT_LIMIT, read};
 pub use scenario::Scenario;
 pub use steps::Order;

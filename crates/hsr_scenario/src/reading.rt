@@ -35,7 +35,7 @@ const CAPACITY: usize = 64;
 const CAPACITY_LIMIT: u64 = 4096;
 
 /// A fault with its place.
-fn at_spot<T>(spot: Spot, told: Result<T, What>) -> Result<T, ScenarioFault>
+pub(crate) fn at_spot<T>(spot: Spot, told: Result<T, What>) -> Result<T, ScenarioFault>
     ensures { result ≡ at_spot spot told }
 {
     match told {
@@ -66,7 +66,7 @@ fn node_at(alloc: Global, nodes: &[Named], table: &Table) -> Result<Named, Scena
 
 /// The nodes of tables.
 #[tactic(auto, using(crate::proofs::Lists::nodes_step, crate::proofs::Lists::nodes_fail))]
-fn nodes_of(alloc: Global, tables: &[&Table]) -> Result<Vec<Named>, ScenarioFault>
+pub(crate) fn nodes_of(alloc: Global, tables: &[&Table]) -> Result<Vec<Named>, ScenarioFault>
     ensures { GivesAt (λ v. v.items) result (each spot.Node node_in [] (map (λ t. table_view t.now) tables.now)) }
 {
     let mut nodes = Vec::new(alloc);
@@ -97,7 +97,7 @@ fn link_at(
 
 /// The links of tables.
 #[tactic(auto, using(crate::proofs::Lists::links_step, crate::proofs::Lists::links_fail))]
-fn links_of(
+pub(crate) fn links_of(
     alloc: Global,
     nodes: &[Named],
     tables: &[&Table],
@@ -174,7 +174,11 @@ fn places_of(alloc: Global, nodes: &[Named]) -> Result<Vec<Place>, What>
 }
 
 /// The topology of nodes and links.
-fn topology_of(alloc: Global, nodes: &[Named], links: Vec<[End; 2]>) -> Result<Topology, What>
+pub(crate) fn topology_of(
+    alloc: Global,
+    nodes: &[Named],
+    links: Vec<[End; 2]>,
+) -> Result<Topology, What>
     ensures { Gives (λ t. t) result (topology_of nodes.now links.items) }
 {
     let places = places_of(alloc, nodes)?;
@@ -281,7 +285,11 @@ fn unit(table: &Table) -> Result<TimeUnit, What>
 }
 
 /// The tables of an array that may be missing.
-fn tables_at<'a>(alloc: Global, table: &'a Table, key: Key) -> Result<Vec<&'a Table>, What>
+pub(crate) fn tables_at<'a>(
+    alloc: Global,
+    table: &'a Table,
+    key: Key,
+) -> Result<Vec<&'a Table>, What>
     ensures { Gives (λ v. map (λ t. table_view t.now) v.items) result (optional key [] tables (table_view table.now)) }
 {
     match value(table, key) {

@@ -1,3 +1,4 @@
 pub mod Causes
 pub mod Story
+pub mod Choice
 pub mod Indexed

@@ -1,6 +1,7 @@
 //! Why nothing is shown.
 use hsr_capture::BlockFault;
-use hsr_story::StoryFault;
+use hsr_frame::NoMemory;
+use hsr_story::{ChoiceFault, StoryFault};
 use hsr_transcript::ReadFault;
 use std::fmt;
 
@@ -9,6 +10,12 @@ use std::fmt;
 pub enum Fault {
     /// The text is no transcript of a finished run.
     Transcript(ReadFault),
+    /// The names are of no scenario, or of one with other nodes or links.
+    Names,
+    /// There is no such link.
+    Link,
+    /// There is no such send.
+    Send,
     /// Entries of the run follow one another in a circle.
     Circle,
     /// A name or a frame is too long for a capture.
@@ -21,9 +28,39 @@ pub enum Fault {
     Memory,
 }
 
+impl From<NoMemory> for Fault {
+    ghost use Rattle.std.specs.Prelude.{◌≡◌};
+    ghost use Rattle.hsr_view.specs.declared.fault.Fault.TheVariants.{Memory as NoRoom};
+
+    ghost from_gives = { λ _ fault. fault ≡ NoRoom };
+
+    fn from(_refused: NoMemory) -> Fault {
+        Fault::Memory
+    }
+}
+
+impl From<ChoiceFault> for Fault {
+    ghost use Rattle.std.specs.Prelude.{◌≡◌};
+    ghost use Rattle.hsr_view.specs.Viewing.{choice_fault};
+
+    ghost from_gives = { λ refused fault. fault ≡ choice_fault refused };
+
+    fn from(refused: ChoiceFault) -> Fault {
+        match refused {
+            ChoiceFault::NoLink => Fault::Link,
+            ChoiceFault::NoSend => Fault::Send,
+        }
+    }
+}
+
 impl From<StoryFault> for Fault {
-    fn from(fault: StoryFault) -> Fault {
-        match fault {
+    ghost use Rattle.std.specs.Prelude.{◌≡◌};
+    ghost use Rattle.hsr_view.specs.Viewing.{story_fault};
+
+    ghost from_gives = { λ refused fault. fault ≡ story_fault refused };
+
+    fn from(refused: StoryFault) -> Fault {
+        match refused {
             StoryFault::Circle => Fault::Circle,
             StoryFault::NoMemory => Fault::Memory,
         }
@@ -31,8 +68,13 @@ impl From<StoryFault> for Fault {
 }
 
 impl From<BlockFault> for Fault {
-    fn from(fault: BlockFault) -> Fault {
-        match fault {
+    ghost use Rattle.std.specs.Prelude.{◌≡◌};
+    ghost use Rattle.hsr_view.specs.Viewing.{block_fault};
+
+    ghost from_gives = { λ refused fault. fault ≡ block_fault refused };
+
+    fn from(refused: BlockFault) -> Fault {
+        match refused {
             BlockFault::TooLong => Fault::TooLong,
             BlockFault::NoMemory => Fault::Memory,
         }
@@ -54,6 +96,9 @@ impl fmt::Display for Fault {
             }
             Fault::Transcript(ReadFault::Read) | Fault::Read => write!(f, "fault: read"),
             Fault::Transcript(ReadFault::NoMemory) | Fault::Memory => write!(f, "fault: memory"),
+            Fault::Names => write!(f, "fault: names"),
+            Fault::Link => write!(f, "fault: link"),
+            Fault::Send => write!(f, "fault: send"),
             Fault::Circle => write!(f, "fault: order"),
             Fault::TooLong => write!(f, "fault: length"),
             Fault::Write => write!(f, "fault: write"),

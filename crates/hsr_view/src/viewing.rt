@@ -1,15 +1,85 @@
-//! The capture of a transcript.
-ghost use Rattle.std.specs.Prelude.{◌≤◌};
+//! What is shown of a transcript.
+ghost use Rattle.std.specs.Prelude.{◌≤◌, IfErr, IfOk};
+ghost use Rattle.hsr_order.specs.Fronts.{lists_of};
+ghost use Rattle.hsr_view.specs.Viewing.{IsCaptureOf, IsMissing};
 
+use crate::asked::What;
 use crate::fault::Fault;
+use crate::same::is_same_topology;
 use hsr_capture::capture;
 use hsr_closing::Closed;
-use hsr_story::story;
+use hsr_names::node_called;
+use hsr_node::Probe;
+use hsr_scenario::{What as Refused, read_names};
+use hsr_story::{Choice, check_choice, chosen, story};
+use hsr_topology::Topology;
 use hsr_transcript::read;
 use std::alloc::Global;
 
-/// The capture of the text of a run with tables of so many entries.
-fn capture_with<const C: usize>(alloc: Global, text: &[u8]) -> Result<Vec<u8>, Fault>
+/// The names of the nodes of a run, by the scenario from which it came; none without it. `Names` where that is no scenario, or has
+/// other nodes or links.
+fn names_of(
+    alloc: Global,
+    topology: &Topology,
+    scenario: Option<&str>,
+) -> Result<Vec<Vec<u8>>, Fault> {
+    let Some(text) = scenario else {
+        return Ok(Vec::new(alloc));
+    };
+    match read_names(alloc, text) {
+        Ok(named) => {
+            if is_same_topology(&named.topology, topology) {
+                Ok(named.names)
+            } else {
+                Err(Fault::Names)
+            }
+        }
+        Err(fault) => {
+            if matches!(fault.what, Refused::NoMemory) {
+                Err(Fault::Memory)
+            } else {
+                Err(Fault::Names)
+            }
+        }
+    }
+}
+
+/// The capture of those rows of a run that are wanted, in the order of time: `Link` or `Send` where the run hasn't what is wanted,
+/// `Circle` where its rows have no order of time.
+fn capture_of<const C: usize>(
+    alloc: Global,
+    closed: &Closed<C>,
+    names: &[Vec<u8>],
+    wanted: Choice,
+) -> Result<Vec<u8>, Fault>
+    ensures capture { IfOk result (λ octets. IsCaptureOf (lists_of names.now) closed.now wanted octets.items) }
+    ensures missing { IfErr result (IsMissing closed.now wanted) }
+{
+    check_choice(closed, wanted)?;
+    let rows = story(alloc, closed)?;
+    let rows = chosen(alloc, closed, wanted, rows.as_slice())?;
+    let octets = capture(alloc, closed, names, rows.as_slice())?;
+    Ok(octets)
+}
+
+/// The send that a node's name and a place mean; `Send` where no node has the name.
+fn send_of(names: &[Vec<u8>], send: Option<(&str, usize)>) -> Result<Option<Probe>, Fault> {
+    match send {
+        Some((name, place)) => match node_called(names, name.as_bytes()) {
+            Some(node) => Ok(Some(Probe { node, place })),
+            None => Err(Fault::Send),
+        },
+        None => Ok(None),
+    }
+}
+
+/// What is asked for of the text of a run with tables of so many entries.
+fn shown_with<const C: usize>(
+    alloc: Global,
+    text: &[u8],
+    what: What<'_>,
+    scenario: Option<&str>,
+) -> Result<Vec<u8>, Fault>
     requires entries { (1 ≤ C) × (C ≤ 65535) }
 {
     let mut reader = text;
@@ -17,10 +87,13 @@ fn capture_with<const C: usize>(alloc: Global, text: &[u8]) -> Result<Vec<u8>, F
         Ok(closed) => closed,
         Err(fault) => return Err(Fault::Transcript(fault)),
     };
-    let rows = story(alloc, &closed)?;
-    let names: Vec<Vec<u8>> = Vec::new(alloc);
-    let octets = capture(alloc, &closed, names.as_slice(), rows.as_slice())?;
-    Ok(octets)
+    let names = names_of(alloc, closed.topology(), scenario)?;
+    match what {
+        What::Capture { link, send } => {
+            let send = send_of(names.as_slice(), send)?;
+            capture_of(alloc, &closed, names.as_slice(), Choice { link, send })
+        }
+    }
 }
 
 /// Whether the second line of a text says that tables have 4 entries.
@@ -31,11 +104,16 @@ fn has_small_tables(text: &[u8]) -> bool {
     }
 }
 
-/// The capture of a transcript, with tables as its second line says: of 4 entries, or of 512.
-pub(crate) fn capture_of(alloc: Global, text: &[u8]) -> Result<Vec<u8>, Fault> {
+/// What is asked for of a transcript, with tables as its second line says: of 4 entries, or of 512.
+pub(crate) fn shown(
+    alloc: Global,
+    text: &[u8],
+    what: What<'_>,
+    scenario: Option<&str>,
+) -> Result<Vec<u8>, Fault> {
     if has_small_tables(text) {
-        capture_with::<4>(alloc, text)
+        shown_with::<4>(alloc, text, what, scenario)
     } else {
-        capture_with::<512>(alloc, text)
+        shown_with::<512>(alloc, text, what, scenario)
     }
 }

@@ -1,0 +1,50 @@
+-- The names of a scenario's nodes, with its topology.
+use Rattle.std.specs.Prelude.{ℕ, ◌^◌, nat_le, List, [], length, map, Option, Some, None, Result, Ok, Err, if◌then◌else◌}
+use Rattle.toml.specs.Data.{Members}
+use Rattle.toml.specs.Parse.{parse_document}
+use Rattle.hsr_topology.specs.Topology.{Topology}
+use Rattle.hsr_scenario.specs.Fallible.{◌>>=◌, at_spot, each}
+use Rattle.hsr_scenario.specs.Tables.{optional, tables}
+use Rattle.hsr_scenario.specs.Nodes.{node_in}
+use Rattle.hsr_scenario.specs.Links.{link_in}
+use Rattle.hsr_scenario.specs.Meaning.{topology_of}
+use Rattle.hsr_scenario.specs.declared.fault.Key.TheVariants as key
+use Rattle.hsr_scenario.specs.declared.fault.Spot.TheVariants as spot
+use Rattle.hsr_scenario.specs.declared.fault.What.TheVariants.{Text}
+use Rattle.hsr_scenario.specs.declared.fault.ScenarioFault.{ScenarioFault}
+use Rattle.hsr_scenario.specs.declared.naming.Names.{Names}
+use Rattle.hsr_scenario.specs.declared.nodes.Named.{Named}
+
+pub record NamesMeant : Type 0 where
+  pub topology : Topology
+  -- by the numbers of nodes
+  pub names : List (List ℕ)
+
+abbrev pub names_view : Names → NamesMeant
+names_view n = record { topology = n.topology; names = map (λ name. name.items) n.names.items }
+
+abbrev pub names_of : List Named → List (List ℕ)
+names_of nodes = map (λ node. node.name) nodes
+
+-- where there are these nodes: links, then the topology
+unfoldable pub named_by : List Named → List Members → Result NamesMeant ScenarioFault
+named_by nodes link_tables = do
+  links ← each spot.Link (λ _. link_in nodes) [] link_tables
+  topology ← at_spot spot.Top (topology_of nodes links)
+  Ok (record { topology = topology; names = names_of nodes })
+
+-- what the nodes and links of a document say
+unfoldable pub named_in : Members → Result NamesMeant ScenarioFault
+named_in ms = do
+  node_tables ← at_spot spot.Top (optional key.Node [] tables ms)
+  link_tables ← at_spot spot.Top (optional key.Link [] tables ms)
+  nodes ← each spot.Node node_in [] node_tables
+  named_by nodes link_tables
+
+abbrev pub named_if : Option Members → Result NamesMeant ScenarioFault
+named_if None = Err (record { spot = spot.Top; what = Text })
+named_if (Some ms) = named_in ms
+
+-- a text of at most 16 MiB that is a document of TOML
+abbrev pub names_meant : List ℕ → Result NamesMeant ScenarioFault
+names_meant text = named_if (if nat_le (length text) (2 ^ 24) then parse_document text else None)

@@ -1,0 +1,95 @@
+//! The names of a scenario's nodes.
+ghost use Rattle.std.specs.Prelude.{◌≡◌, map, Ok, Err};
+ghost use Rattle.toml.specs.View.{table_view};
+ghost use Rattle.hsr_scenario.specs.Fallible.{Gives, GivesAt, at_spot};
+ghost use Rattle.hsr_scenario.specs.Names.{named_by, named_in, names_meant, names_of, names_view};
+ghost use Rattle.hsr_scenario.specs.declared.fault.Spot.TheVariants as spot;
+
+use crate::fault::{Key, ScenarioFault, Spot, What};
+use crate::nodes::Named;
+use crate::reading::{TEXT_LIMIT, at_spot, links_of, nodes_of, tables_at, topology_of};
+use hsr_topology::Topology;
+use std::alloc::Global;
+use toml::Table;
+
+/// The topology of a scenario, and the name of each node in the topology's order: 1 to 32 small letters, digits and hyphens, no two
+/// alike.
+#[derive(Debug, Drop)]
+pub struct Names {
+    pub topology: Topology,
+    pub names: Vec<Vec<u8>>,
+}
+
+/// The name of a node, as octets that are owned.
+fn name_of(alloc: Global, node: &Named) -> Result<Vec<u8>, What>
+    ensures { Gives (λ v. v.items) result (Ok node.now.name) }
+{
+    let mut name = Vec::new(alloc);
+    name.extend_from_slice(node.name.as_bytes())
+        .or(Err(What::NoMemory))?;
+    Ok(name)
+}
+
+/// The names of nodes.
+fn names_of(alloc: Global, nodes: &[Named]) -> Result<Vec<Vec<u8>>, What>
+    ensures { Gives (λ v. map (λ name. name.items) v.items) result (Ok (names_of nodes.now)) }
+{
+    let mut names = Vec::new(alloc);
+    for node in nodes.iter() {
+        names.push(name_of(alloc, node)?)?;
+    }
+    Ok(names)
+}
+
+/// The topology and the names, where there are these nodes.
+#[tactic(auto, unfolding(crate::specs::Names::named_by), using(crate::proofs::Lists::spotted))]
+fn named_by(alloc: Global, nodes: &[Named], links: &[&Table]) -> Result<Names, ScenarioFault>
+    ensures { GivesAt names_view result (named_by nodes.now (map (λ t. table_view t.now) links.now)) }
+{
+    let links = links_of(alloc, nodes, links)?;
+    let topology = at_spot(Spot::Top, topology_of(alloc, nodes, links))?;
+    let names = at_spot(Spot::Top, names_of(alloc, nodes))?;
+    Ok(Names { topology, names })
+}
+
+/// The topology and the names of a document.
+#[tactic(auto, unfolding(crate::specs::Names::named_in), using(crate::proofs::Lists::spotted))]
+fn named_in(alloc: Global, table: &Table) -> Result<Names, ScenarioFault>
+    ensures { GivesAt names_view result (named_in (table_view table.now)) }
+{
+    let nodes = at_spot(Spot::Top, tables_at(alloc, table, Key::Node))?;
+    let links = at_spot(Spot::Top, tables_at(alloc, table, Key::Link))?;
+    let nodes = nodes_of(alloc, nodes.as_slice())?;
+    named_by(alloc, nodes.as_slice(), links.as_slice())
+}
+
+/// A fault of the text itself.
+fn text_fault(what: What) -> Result<Names, ScenarioFault>
+    ensures { result ≡ at_spot spot.Top (Err what) }
+{
+    Err(ScenarioFault {
+        spot: Spot::Top,
+        what,
+    })
+}
+
+/// The topology and the names of the nodes of a scenario, as `read` reads its nodes and links; what it says beside them isn't looked
+/// at. A fault is the first in this order: the text itself, nodes, links, the topology. `NoMemory` comes where a growth was
+/// refused, in place of any other answer.
+pub fn read_names(alloc: Global, text: &str) -> Result<Names, ScenarioFault>
+    ensures { GivesAt names_view result (names_meant text.now) }
+{
+    if text.len() > TEXT_LIMIT {
+        return text_fault(What::Text);
+    }
+    match toml::table_from_str(alloc, text) {
+        Ok(table) => named_in(alloc, &table),
+        Err(error) => {
+            if error.is_memory() {
+                text_fault(What::NoMemory)
+            } else {
+                text_fault(What::Text)
+            }
+        }
+    }
+}

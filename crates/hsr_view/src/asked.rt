@@ -1,0 +1,19 @@
+//! What the words of a command line ask for.
+
+/// What is to be shown of a run.
+#[derive(Clone, Copy, Debug, PartialEq, Eq)]
+pub enum What<'a> {
+    /// A capture: of one link, counted from 0, or of all; of the copies of one send, by the name of its node and its place in that
+    /// node's record, or of all.
+    Capture {
+        link: Option<usize>,
+        send: Option<(&'a str, usize)>,
+    },
+}
+
+/// What is asked for, and the path of the scenario whose names stand in place of numbers.
+#[derive(Clone, Copy, Debug, PartialEq, Eq)]
+pub struct Asked<'a> {
+    pub what: What<'a>,
+    pub names: Option<&'a str>,
+}
