@@ -58,7 +58,7 @@ turned at xs one =
     let P : List (List ℕ × ℕ) → Type 0 = λ ys. reverse ys ≡ ys in
     ⊎_elim (λ none. subst P (sym none) refl) (λ some. subst P (sym some.1) refl) one
 
-folded : (place : Place) (past : List Entry) → stations_of place past ≡ fold learned no_proxies (reverse (heard place past))
+pub folded : (place : Place) (past : List Entry) → stations_of place past ≡ fold learned no_proxies (reverse (heard place past))
 folded place [] = refl
 folded place (x ∷ past) =
     let at = now (x ∷ past) in

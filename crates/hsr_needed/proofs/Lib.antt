@@ -3,5 +3,6 @@ pub mod Hearing
 pub mod Logging
 pub mod Places
 pub mod Walking
+pub mod OneNode
 pub mod Sufficing
 pub mod Larger

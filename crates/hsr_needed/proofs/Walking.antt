@@ -1,5 +1,5 @@
 -- The most that was needed, from entry to entry and from node to node.
-use Rattle.std.proofs.Common.{◌≡◌, ◌⊎◌, inl, inr, ⊎_elim, ℕ, ◌+◌, ◌<◌, ◌≤◌, ◌^◌, Bool, true, false, cond, nat_lt, max, if◌then◌else◌, List, [], ◌∷◌, length, take, reverse, slice_index_or, Option, Some, None, refl, sym, ap, ◌∙◌, subst, arith}
+use Rattle.std.proofs.Common.{◌≡◌, ◌⊎◌, inl, inr, ⊎_elim, ℕ, zero, suc, ◌+◌, ◌<◌, ◌≤◌, ◌^◌, Bool, true, false, cond, nat_lt, max, if◌then◌else◌, List, [], ◌∷◌, length, take, reverse, slice_index_or, Option, Some, None, refl, sym, ap, ◌∙◌, subst, arith}
 use Rattle.std.proofs.lemmas.Bool.{cases_lt, false≢true, ltb-false}
 use Rattle.std.proofs.lemmas.List.{get_or_default}
 use borrow.Author.Tests.{ltb-true}
@@ -22,7 +22,7 @@ use Rattle.hsr_needed.specs.Logged.{HasRoom, IsLogOf, IsLoggedAfter, moment_of, 
 use Rattle.hsr_needed.specs.Needs.{IsFirst, IsMet, IsMost, IsWanted, Needs, NeedsThere}
 use Rattle.hsr_needed.specs.Read.{exits_of, wanted_in}
 use Rattle.hsr_needed.specs.Tallied.{reach_in}
-use Rattle.hsr_needed.specs.Walked.{IsBefore, IsFoundBefore, IsMetBefore, IsMostBefore, needs_at, nothing_needed, or_more}
+use Rattle.hsr_needed.specs.Walked.{IsBefore, IsFoundBefore, IsMetBefore, IsMostBefore, needs_at, nothing_needed, or_more, walked}
 use Rattle.hsr_needed.specs.declared.log.Log.{Log}
 use Rattle.hsr_needed.specs.declared.most.Needed.{Needed}
 use Rattle.hsr_needed.proofs.Latest.{reach_latest, reached}
@@ -260,6 +260,14 @@ most_next run k n m all so_far = record {
         let here : at.0 < k + 1 = ⊎_elim (λ low. omega (arith, low)) (λ same. let e = same.0 in omega (arith, e)) h.here in
         record { some = h.some; place = h.place; here = inl here; needs = h.needs; first = h.first }
 
+-- all entries of a node
+pub most_walked : (run : Run) (k : ℕ) (m : Needed) → IsMostBefore run k 0 m → (i : ℕ) → i ≤ length (record_of run k) → IsMostBefore run k i (walked run k m i)
+most_walked run k m before zero low = before
+most_walked run k m before (suc i) low =
+    let P : ℕ → Type 0 = λ j. IsMostBefore run k j (walked run k m (suc i)) in
+    let e : i + 1 ≡ suc i = omega arith in
+    subst P e (most_more run k i (needs_at run k i) (walked run k m i) refl (omega (arith, low)) (most_walked run k m before i (omega (arith, low))))
+
 pub most_start : (run : Run) → IsMostBefore run 0 0 nothing_needed
 most_start run = record { most = λ k i inside before. absurd (⊎_elim (λ low. omega (arith, low)) (λ same. let low = same.1 in omega (arith, low)) before); met = refl }
 
@@ -267,7 +275,7 @@ most_start run = record { most = λ k i inside before. absurd (⊎_elim (λ low.
 
 module _ (run : Run) where
   -- a place needs what its entry needs
-  there_most : (k i n : ℕ) → i < length (record_of run k) → NeedsThere run k i n → n ≤ needs_at run k i
+  pub there_most : (k i n : ℕ) → i < length (record_of run k) → NeedsThere run k i n → n ≤ needs_at run k i
   there_most k i n below needs =
       let past = reverse (take i (record_of run k)) in
       let x = slice_index_or (record_of run k) i no_entry in
@@ -276,7 +284,7 @@ module _ (run : Run) where
       let same = needs_there run k i no_entry below in
       omega (arith, most, same)
 
-  there_met : (k i n : ℕ) → i < length (record_of run k) → 0 < n → needs_at run k i ≡ n → NeedsThere run k i n
+  pub there_met : (k i n : ℕ) → i < length (record_of run k) → 0 < n → needs_at run k i ≡ n → NeedsThere run k i n
   there_met k i n below some is other =
       let past = reverse (take i (record_of run k)) in
       let x = slice_index_or (record_of run k) i other in

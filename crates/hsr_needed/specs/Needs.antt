@@ -1,6 +1,7 @@
 -- How many entries the duplicate tables of a run needed.
 --     Needs             an arrival needs so many of the youngest notes of an egress
 --     IsMost            the greatest number that an arrival needs, and where first
+--     IsMostAt          that of one node
 --     NothingExpired    nothing was forgotten by age
 --     LegalWithNeeded   the same records are legal with all tables that are as large
 --     IsJustEnough      nothing that was needed was forgotten where tables have so many entries
@@ -78,6 +79,23 @@ pub record IsMost (run : Run) (needed : Needed) : Type 0 where
   pub most : (k : ℕ) → k < length run.places →
       Each (λ x past. (n : ℕ) → Needs (owner_of run k) past (now (x ∷ past)) x.event n → n ≤ needed.entries) (past_of run k)
   pub met : IsMet run needed.entries needed.at
+
+-- ---- the arrivals of one node
+
+-- so many notes are needed at this place of a node's record, and at none before it
+pub record IsFirstAt (run : Run) (k n i : ℕ) : Type 0 where
+  pub place : i < length (record_of run k)
+  pub needs : NeedsThere run k i n
+  pub before : (j : ℕ) → j < i → ¬ NeedsThere run k j n
+
+abbrev pub IsMetAt : Run → ℕ → ℕ → Option (ℕ × ℕ) → Type 0
+IsMetAt run k n None = n ≡ 0
+IsMetAt run k n (Some at) = (at.0 ≡ k) × IsFirstAt run k n at.1
+
+-- no arrival of a node needs more, and where so many are needed first
+pub record IsMostAt (run : Run) (k : ℕ) (needed : Needed) : Type 0 where
+  pub most : Each (λ x past. (n : ℕ) → Needs (owner_of run k) past (now (x ∷ past)) x.event n → n ≤ needed.entries) (past_of run k)
+  pub met : IsMetAt run k needed.entries needed.at
 
 -- ---- what is needed and what is forgotten
 

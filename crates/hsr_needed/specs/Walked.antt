@@ -1,8 +1,9 @@
 -- The most that was needed so far, by node and then place.
 --     IsBefore       a place comes before another
 --     needs_at       how many notes the entry at a place needs
+--     walked         what was needed before, after the first entries of a node too
 --     IsMostBefore   the most that the entries before a place need, and where first
-use Rattle.std.specs.Prelude.{ℕ, ◌+◌, ◌<◌, ◌≤◌, ◌≡◌, ◌⊎◌, nat_lt, if◌then◌else◌, length, reverse, take, Option, Some, None}
+use Rattle.std.specs.Prelude.{ℕ, zero, suc, ◌+◌, ◌<◌, ◌≤◌, ◌≡◌, ◌⊎◌, nat_lt, if◌then◌else◌, length, reverse, take, Option, Some, None}
 use Rattle.hsr_law.specs.Run.{Run, owner_of, record_of}
 use Rattle.hsr_needed.specs.Logged.{needs_of}
 use Rattle.hsr_needed.specs.declared.most.Needed.{Needed}
@@ -20,6 +21,11 @@ IsBefore k i l j = (k < l) ⊎ ((k ≡ l) × (i < j))
 
 abbrev pub needs_at : Run → ℕ → ℕ → ℕ
 needs_at run k i = needs_of (owner_of run k) (reverse (take (i + 1) (record_of run k)))
+
+-- what was needed before, after the first entries of a node too
+abbrev pub walked : Run → ℕ → Needed → ℕ → Needed
+walked run k before zero = before
+walked run k before (suc i) = or_more (walked run k before i) (needs_at run k i) k i
 
 -- at this place, before another, so many are needed, and before it fewer
 pub record IsFoundBefore (run : Run) (l j n k i : ℕ) : Type 0 where

@@ -7,7 +7,7 @@
 //! - `reading`: what an entry asks of the notes, and what it adds to them
 //! - `log`: what a node noted and heard
 //! - `most`: the greatest number that was needed
-//! - `needing`: how many entries a run needed, its call
+//! - `needing`: how many entries a run needed, and a node of it, its calls
 //! - `law`: with which tables the records of a run are legal
 #![tactic(auto)]
 
@@ -21,5 +21,5 @@ mod wanted;
 
 pub use law::legal_with_needed;
 pub use most::Needed;
-pub use needing::needed;
+pub use needing::{needed, needed_at};
 pub use reading::{Reading, hear, read};

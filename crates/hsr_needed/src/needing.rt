@@ -1,7 +1,8 @@
 //! How many entries a finished run needed.
-ghost use Rattle.std.specs.Prelude.{◌+◌, ◌<◌, length, IfOk};
-ghost use Rattle.hsr_needed.specs.Needs.{IsJustEnough, IsMost};
-ghost use Rattle.hsr_needed.specs.Walked.{IsMostBefore};
+ghost use Rattle.std.specs.Prelude.{◌≡◌, ◌<◌, length, IfOk};
+ghost use Rattle.hsr_law.specs.Run.{record_of};
+ghost use Rattle.hsr_needed.specs.Needs.{IsJustEnough, IsMost, IsMostAt};
+ghost use Rattle.hsr_needed.specs.Walked.{walked};
 
 use crate::log::Log;
 use crate::most::Needed;
@@ -10,7 +11,7 @@ use hsr_frame::NoMemory;
 use hsr_node::Probe;
 use std::alloc::Global;
 
-/// What was needed by the entries of a node too, where this was needed by those of the nodes before it.
+/// What was needed by the entries of a node too, where this was needed before.
 fn needed_with<const C: usize>(
     alloc: Global,
     closed: &Closed<C>,
@@ -18,8 +19,7 @@ fn needed_with<const C: usize>(
     before: Needed,
 ) -> Result<Needed, NoMemory>
     requires node { node < length closed.now.run.places }
-    requires before { IsMostBefore closed.now.run node 0 before }
-    ensures { IfOk result (λ needed. IsMostBefore closed.now.run (node + 1) 0 needed) }
+    ensures { IfOk result (λ needed. needed ≡ walked closed.now.run node before (length (record_of closed.now.run node))) }
 {
     let place = &closed.topology().places()[node];
     let mut log = Log::new(alloc);
@@ -29,6 +29,19 @@ fn needed_with<const C: usize>(
         needed = needed.or_more(needs, node, i);
     }
     Ok(needed)
+}
+
+/// How many entries the duplicate tables of one node needed, as `needed` counts them, and the first arrival there that needed as
+/// many. `NoMemory` where room is refused.
+pub fn needed_at<const C: usize>(
+    alloc: Global,
+    closed: &Closed<C>,
+    node: usize,
+) -> Result<Needed, NoMemory>
+    requires { node < length closed.now.run.places }
+    ensures { IfOk result (λ needed. IsMostAt closed.now.run node needed) }
+{
+    needed_with(alloc, closed, node, Needed::nothing())
 }
 
 /// How many entries the duplicate tables of a finished run needed, of the notes that it left (IEC 62439-3 clause 5). An arrival

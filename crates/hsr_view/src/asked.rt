@@ -9,6 +9,8 @@ pub enum What<'a> {
         link: Option<usize>,
         send: Option<(&'a str, usize)>,
     },
+    /// The devices.
+    Devices,
 }
 
 /// What is asked for, and the path of the scenario whose names stand in place of numbers.

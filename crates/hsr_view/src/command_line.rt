@@ -24,6 +24,17 @@ circle).
 Examples: hsr_bench run --transcript < plan.toml | hsr_view capture --names plan.toml > run.pcapng
           hsr_view capture --link 2 --send n0:3 < run.transcript > run.pcapng";
 
+const DEVICES_ENDS: &str = "\
+Of each node: what it is; where each port leads; how many copies came in there and what became of them, how many
+went out, and how many were lost on their way, with the node's own counters in the last column; how many entries of
+its duplicate tables it needed, of how many it had; and the nodes and stations that it knew at its last entry, with
+the moments when it heard them last, in microseconds.
+
+Status 1: nothing is written, and one line on standard error says why: as with `hsr_bench audit`, or `fault: names`
+(the scenario can't be read, or has other nodes or links than the run).
+
+Example: hsr_bench run --transcript < plan.toml | hsr_view devices --names plan.toml";
+
 /// Why words say nothing.
 #[derive(Drop)]
 pub enum WordFault {
@@ -77,12 +88,20 @@ fn capture_command<'a>(alloc: Global) -> Result<Command<'a>, AllocError> {
         .arg(value_arg(alloc, "send", "NODE:PLACE", "Only the copies of this send"))
 }
 
+fn devices_command<'a>(alloc: Global) -> Result<Command<'a>, AllocError> {
+    Command::new(alloc, "devices")
+        .about("Lists the devices of the transcript on standard input, with their counters")
+        .after_help(DEVICES_ENDS)
+        .arg(names_arg(alloc))
+}
+
 fn view_command<'a>(alloc: Global) -> Result<Command<'a>, AllocError> {
     Command::new(alloc, "hsr_view")
         .about("Shows finished runs of hsr_bench")
         .no_binary_name(true)
         .subcommand_required(true)
-        .subcommand(capture_command(alloc)?)
+        .subcommand(capture_command(alloc)?)?
+        .subcommand(devices_command(alloc)?)
 }
 
 /// The link of `--link`, if it is there.
@@ -118,11 +137,20 @@ fn send_of<'a>(
 }
 
 /// What the words of a subcommand ask for.
-fn asked_in<'a>(alloc: Global, matches: &ArgMatches<'a>) -> Result<Asked<'a>, WordFault> {
-    let link = link_of(alloc, matches)?;
-    let send = send_of(alloc, matches)?;
+fn asked_in<'a>(
+    alloc: Global,
+    name: &str,
+    matches: &ArgMatches<'a>,
+) -> Result<Asked<'a>, WordFault> {
+    let what = if name == "devices" {
+        What::Devices
+    } else {
+        let link = link_of(alloc, matches)?;
+        let send = send_of(alloc, matches)?;
+        What::Capture { link, send }
+    };
     Ok(Asked {
-        what: What::Capture { link, send },
+        what,
         names: matches.get_str("names"),
     })
 }
@@ -132,7 +160,7 @@ pub(crate) fn asked<'a>(alloc: Global, words: &'a [&'a str]) -> Result<Asked<'a>
     let command = view_command(alloc)?;
     match command.try_get_matches_from(words) {
         Ok(matches) => match matches.subcommand() {
-            Some((_, inner)) => asked_in(alloc, inner),
+            Some((name, inner)) => asked_in(alloc, name, inner),
             None => Err(usage(alloc, "usage: --help")),
         },
         Err(error) => Err(refused(alloc, &error)),

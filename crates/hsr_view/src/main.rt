@@ -1,4 +1,4 @@
-//! The second program: a finished run as a capture.
+//! The second program: a finished run as a capture, or as devices.
 //!
 //! Its modules, in the order in which to read them: `asked`, `fault`, `same`, `viewing`,
 //! `command_line`.

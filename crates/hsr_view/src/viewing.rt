@@ -8,6 +8,7 @@ use crate::fault::Fault;
 use crate::same::is_same_topology;
 use hsr_capture::capture;
 use hsr_closing::Closed;
+use hsr_devices::devices;
 use hsr_names::node_called;
 use hsr_node::Probe;
 use hsr_scenario::{What as Refused, read_names};
@@ -89,6 +90,7 @@ fn shown_with<const C: usize>(
     };
     let names = names_of(alloc, closed.topology(), scenario)?;
     match what {
+        What::Devices => Ok(devices(alloc, &closed, names.as_slice())?),
         What::Capture { link, send } => {
             let send = send_of(names.as_slice(), send)?;
             capture_of(alloc, &closed, names.as_slice(), Choice { link, send })

@@ -1,12 +1,12 @@
-use Rattle.std.proofs.Common.{rules, ◌≡◌, ◌+◌, ◌<◌, ◌≤◌, ◌^◌, ℕ, length, slice_index_or, refl, sym, ap, ◌∙◌, subst}
+use Rattle.std.proofs.Common.{rules, suc, arith, ◌≡◌, ◌+◌, ◌<◌, ◌^◌, ℕ, length, slice_index_or, refl, ap, ◌∙◌, subst}
 use Rattle.hsr_node.specs.declared.entry.Entry.{Entry}
 use Rattle.hsr_node.specs.declared.event.Probe.{Probe}
 use Rattle.hsr_node.specs.declared.place.Place.{Place}
 use Rattle.hsr_law.specs.Run.{Run, place_of, record_of}
 use Rattle.hsr_needed.specs.Logged.{IsLoggedAfter, moment_of, needs_by, read_by}
-use Rattle.hsr_needed.specs.Walked.{IsMostBefore, needs_at}
+use Rattle.hsr_needed.specs.Walked.{needs_at, or_more, walked}
 use Rattle.hsr_needed.specs.declared.most.Needed.{Needed}
-use Rattle.hsr_needed.proofs.Walking.{most_more, most_next, place_at, walk_aged, walk_more, walk_needs, walk_room}
+use Rattle.hsr_needed.proofs.Walking.{place_at, walk_aged, walk_more, walk_needs, walk_room}
 use Rattle.hsr_needed.proofs.needing.needed_with.Goals as goal
 
 pub step-requires-clause-aged : goal.step-requires-clause-aged
@@ -36,14 +36,10 @@ loop-i-preserved g c =
     let needs : c.in_ok-needs.needs ≡ needs_at run k i =
     c.in_ok-needs.ensures.needs ∙ (ap (λ (q : Place). needs_by c.loop-i.log (read_by c.loop-i.log q here x) (moment_of c.loop-i.log x)) at ∙ walk_needs run k i x below x_is c.loop-i.log here refl c.loop-i.invariant.log) in
     let L : Place → Type 0 = λ q. IsLoggedAfter c.loop-i.log q here x c.step.new.self in
-    let M : Needed → Type 0 = λ m. IsMostBefore run k (i + 1) m in
+    let more : or_more c.loop-i.needed c.in_ok-needs.needs k i ≡ or_more (walked run k c.args.before i) (needs_at run k i) k i =
+    ap (λ (m : Needed). or_more m c.in_ok-needs.needs k i) c.loop-i.invariant.most ∙ ap (λ (n : ℕ). or_more (walked run k c.args.before i) n k i) needs in
+    let next : suc i ≡ i + 1 = omega arith in
     record {
       log = walk_more run k i x below x_is c.loop-i.log c.step.new.self here refl c.loop-i.invariant.log (subst L at c.in_ok-needs.ensures.logged);
-      most = subst M (sym c.or_more-needed.ensures) (most_more run k i c.in_ok-needs.needs c.loop-i.needed needs below c.loop-i.invariant.most);
+      most = c.or_more-needed.ensures ∙ (more ∙ ap (walked run k c.args.before) next);
     }
-
-pub returns : goal.returns
-returns g c =
-    let run : Run = c.args.closed.now.run in
-    let all : length (record_of run c.args.node) ≤ c.loop-i.i = search rules in
-    most_next run c.args.node c.loop-i.i c.loop-i.needed all c.loop-i.invariant.most

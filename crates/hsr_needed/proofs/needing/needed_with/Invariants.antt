@@ -1,11 +1,11 @@
-use Rattle.std.proofs.Common.{reverse, take}
+use Rattle.std.proofs.Common.{◌≡◌, reverse, take}
 use Rattle.hsr_law.specs.Run.{owner_of, record_of}
 use Rattle.hsr_needed.specs.Logged.{IsLogOf}
-use Rattle.hsr_needed.specs.Walked.{IsMostBefore}
+use Rattle.hsr_needed.specs.Walked.{walked}
 use Rattle.hsr_needed.proofs.needing.needed_with.Given as goal
 
 abbrev pub invariant-loop-i : goal.invariant-loop-i
 invariant-loop-i g l = record {
   log : IsLogOf (owner_of l.closed.run l.fn.node) (reverse (take l.i (record_of l.closed.run l.fn.node))) l.log;
-  most : IsMostBefore l.closed.run l.fn.node l.i l.needed;
+  most : l.needed ≡ walked l.closed.run l.fn.node l.fn.before l.i;
 }

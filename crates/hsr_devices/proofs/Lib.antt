@@ -1,0 +1,4 @@
+mod Growing
+mod Summing
+mod Hearing
+mod Needing

@@ -1,0 +1,52 @@
+//! Columns of a table.
+ghost use Rattle.std.specs.Prelude.{◌≡◌, ◌-◌, ◌++◌, OnOk, length, replicate};
+ghost use Rattle.std.specs.Fmt.{decimal};
+ghost use Rattle.hsr_devices.specs.Cells.{left, right};
+
+use hsr_frame::NoMemory;
+use hsr_text::put_decimal;
+use std::alloc::Global;
+
+/// Puts so many spaces last.
+fn put_spaces(text: &mut Vec<u8>, count: usize) -> Result<(), NoMemory>
+    ensures { OnOk result (text.new.items ≡ text.old.items ++ replicate count 32) }
+{
+    let Some(length) = text.len().checked_add(count) else {
+        return Err(NoMemory);
+    };
+    text.resize(length, b' ')?;
+    Ok(())
+}
+
+/// Puts a cell last, with spaces behind it up to a width.
+#[tactic(auto, unfolding(crate::specs::Cells::left))]
+pub(crate) fn put_left(text: &mut Vec<u8>, width: usize, cell: &[u8]) -> Result<(), NoMemory>
+    ensures { OnOk result (text.new.items ≡ text.old.items ++ left width cell.now) }
+{
+    text.extend_from_slice(cell)?;
+    put_spaces(text, width.saturating_sub(cell.len()))
+}
+
+/// Puts a cell last, with spaces before it up to a width.
+#[tactic(auto, unfolding(crate::specs::Cells::right))]
+pub(crate) fn put_right(text: &mut Vec<u8>, width: usize, cell: &[u8]) -> Result<(), NoMemory>
+    ensures { OnOk result (text.new.items ≡ text.old.items ++ right width cell.now) }
+{
+    put_spaces(text, width.saturating_sub(cell.len()))?;
+    text.extend_from_slice(cell)?;
+    Ok(())
+}
+
+/// Puts a number last, with spaces before it up to a width.
+pub(crate) fn put_count(
+    alloc: Global,
+    text: &mut Vec<u8>,
+    width: usize,
+    n: u64,
+) -> Result<(), NoMemory>
+    ensures { OnOk result (text.new.items ≡ text.old.items ++ right width (decimal n)) }
+{
+    let mut cell = Vec::new(alloc);
+    put_decimal(&mut cell, n)?;
+    put_right(text, width, cell.as_slice())
+}

@@ -1,0 +1,266 @@
+//! What a node is, and what it knows, in words.
+ghost use Rattle.std.specs.Prelude.{◌≡◌, ◌++◌, OnOk, codes};
+ghost use Rattle.std.specs.Fmt.{decimal};
+ghost use Rattle.std.specs.List.{flat_map};
+ghost use Rattle.hsr_order.specs.Fronts.{lists_of};
+ghost use Rattle.hsr_node.specs.Station.{is_among};
+ghost use Rattle.hsr_devices.specs.Describing.{addresses_text, has_mac, heard_if, kind_text, known_text, mac_text, macs_text, node_row_text, owner_if, owner_in, redbox_if, station_text, who_text};
+
+use crate::known::Known;
+use hsr_frame::{Mac, NoMemory};
+use hsr_names::put_name;
+use hsr_node::Place;
+use hsr_supervision::SupKind;
+use hsr_tables::NodeRow;
+use hsr_text::put_decimal;
+use std::alloc::Global;
+
+/// Puts words last.
+pub(crate) fn put(text: &mut Vec<u8>, words: &[u8]) -> Result<(), NoMemory>
+    ensures { OnOk result (text.new.items ≡ text.old.items ++ words.now) }
+{
+    text.extend_from_slice(words)?;
+    Ok(())
+}
+
+/// Puts a number last.
+pub(crate) fn put_number(text: &mut Vec<u8>, n: u64) -> Result<(), NoMemory>
+    ensures { OnOk result (text.new.items ≡ text.old.items ++ decimal n) }
+{
+    put_decimal(text, n)?;
+    Ok(())
+}
+
+/// Puts an address last.
+#[tactic(auto, unfolding(crate::specs::Describing::mac_text))]
+fn put_mac(alloc: Global, text: &mut Vec<u8>, mac: Mac) -> Result<(), NoMemory>
+    ensures { OnOk result (text.new.items ≡ text.old.items ++ mac_text mac) }
+{
+    let address = format!(in alloc; "{mac}")?;
+    text.extend_from_slice(address.as_bytes())?;
+    Ok(())
+}
+
+/// Puts an address behind two spaces last.
+fn put_next_mac(alloc: Global, text: &mut Vec<u8>, mac: Mac) -> Result<(), NoMemory>
+    ensures { OnOk result (text.new.items ≡ text.old.items ++ (codes "  " ++ mac_text mac)) }
+{
+    put(text, b"  ")?;
+    put_mac(alloc, text, mac)
+}
+
+/// Puts addresses last, each behind two spaces.
+#[tactic(auto, using(crate::proofs::Growing::grown))]
+fn put_macs(alloc: Global, text: &mut Vec<u8>, macs: &[Mac]) -> Result<(), NoMemory>
+    ensures { OnOk result (text.new.items ≡ text.old.items ++ macs_text macs.now) }
+{
+    for mac in macs {
+        put_next_mac(alloc, text, *mac)?;
+    }
+    Ok(())
+}
+
+/// Puts the addresses of a node last, and its mode.
+pub(crate) fn put_addresses(
+    alloc: Global,
+    text: &mut Vec<u8>,
+    place: &Place,
+) -> Result<(), NoMemory>
+    ensures { OnOk result (text.new.items ≡ text.old.items ++ addresses_text place.now) }
+{
+    match place {
+        Place::Danh { mac, mode } | Place::RedBox { mac, mode } => {
+            put_next_mac(alloc, text, *mac)?;
+            put(text, b"  mode ")?;
+            put(text, mode.word().as_bytes())
+        }
+        Place::QuadBox => Ok(()),
+        Place::Station { macs } => put_macs(alloc, text, macs.as_slice()),
+    }
+}
+
+/// Whether an address is among others.
+fn is_among(macs: &[Mac], mac: Mac) -> bool
+    ensures { result ≡ is_among macs.now mac }
+{
+    macs.iter().any(|own| *own == mac)
+}
+
+/// Whether a node has an address.
+fn has_mac(place: &Place, mac: Mac) -> bool
+    ensures { result ≡ has_mac mac place.now }
+{
+    match place {
+        Place::Danh { mac: own, .. } | Place::RedBox { mac: own, .. } => *own == mac,
+        Place::QuadBox => false,
+        Place::Station { macs } => is_among(macs.as_slice(), mac),
+    }
+}
+
+/// The first node that has an address.
+fn owner_in(places: &[Place], mac: Mac) -> Option<usize>
+    ensures { result ≡ owner_in places.now mac }
+{
+    places.iter().position(|place| has_mac(place, mac))
+}
+
+/// Puts the name of the node that has an address last, if one has.
+fn put_owner(text: &mut Vec<u8>, names: &[Vec<u8>], owner: Option<usize>) -> Result<(), NoMemory>
+    ensures { OnOk result (text.new.items ≡ text.old.items ++ owner_if (lists_of names.now) owner) }
+{
+    match owner {
+        Some(node) => {
+            put(text, b" (")?;
+            put_name(text, names, node)?;
+            put(text, b")")
+        }
+        None => Ok(()),
+    }
+}
+
+/// Puts an address last, and the name of the node that has it.
+#[tactic(auto, unfolding(crate::specs::Describing::who_text))]
+fn put_who(
+    alloc: Global,
+    text: &mut Vec<u8>,
+    names: &[Vec<u8>],
+    places: &[Place],
+    mac: Mac,
+) -> Result<(), NoMemory>
+    ensures { OnOk result (text.new.items ≡ text.old.items ++ who_text (lists_of names.now) places.now mac) }
+{
+    put_mac(alloc, text, mac)?;
+    put_owner(text, names, owner_in(places, mac))
+}
+
+/// What kind of node a supervision frame tells of.
+fn kind_text(kind: SupKind) -> &'static [u8]
+    ensures { result.now ≡ kind_text kind }
+{
+    match kind {
+        SupKind::PrpDiscard => b"  PRP, discards",
+        SupKind::PrpAccept => b"  PRP, accepts",
+        SupKind::Hsr => b"  HSR",
+    }
+}
+
+/// Puts the RedBox that speaks for a node last, if one does.
+fn put_redbox(
+    alloc: Global,
+    text: &mut Vec<u8>,
+    names: &[Vec<u8>],
+    places: &[Place],
+    redbox: Option<Mac>,
+) -> Result<(), NoMemory>
+    ensures { OnOk result (text.new.items ≡ text.old.items ++ redbox_if (lists_of names.now) places.now redbox) }
+{
+    match redbox {
+        Some(mac) => {
+            put(text, b", behind ")?;
+            put_who(alloc, text, names, places, mac)
+        }
+        None => Ok(()),
+    }
+}
+
+/// Puts the moment last at which a node was heard on a port, if it was.
+fn put_heard(text: &mut Vec<u8>, port: &[u8], heard: Option<u64>) -> Result<(), NoMemory>
+    ensures { OnOk result (text.new.items ≡ text.old.items ++ heard_if port.now heard) }
+{
+    match heard {
+        Some(moment) => {
+            put(text, b", on ")?;
+            put(text, port)?;
+            put(text, b" at ")?;
+            put_number(text, moment)
+        }
+        None => Ok(()),
+    }
+}
+
+/// Puts the line of a node that is known last.
+#[tactic(auto, unfolding(crate::specs::Describing::node_row_text))]
+fn put_node_row(
+    alloc: Global,
+    text: &mut Vec<u8>,
+    names: &[Vec<u8>],
+    places: &[Place],
+    row: NodeRow,
+) -> Result<(), NoMemory>
+    ensures { OnOk result (text.new.items ≡ text.old.items ++ node_row_text (lists_of names.now) places.now row) }
+{
+    put(text, b"  knows ")?;
+    put_who(alloc, text, names, places, row.mac)?;
+    put(text, kind_text(row.kind))?;
+    put_redbox(alloc, text, names, places, row.redbox)?;
+    put_heard(text, b"A", row.heard_a)?;
+    put_heard(text, b"B", row.heard_b)?;
+    put(text, b"\n")
+}
+
+/// Puts the line of a station that is known last.
+#[tactic(auto, unfolding(crate::specs::Describing::station_text))]
+fn put_station(
+    alloc: Global,
+    text: &mut Vec<u8>,
+    names: &[Vec<u8>],
+    places: &[Place],
+    mac: Mac,
+    moment: u64,
+) -> Result<(), NoMemory>
+    ensures { OnOk result (text.new.items ≡ text.old.items ++ station_text (lists_of names.now) places.now (mac, moment)) }
+{
+    put(text, b"  knows ")?;
+    put_who(alloc, text, names, places, mac)?;
+    put(text, b"  station, at ")?;
+    put_number(text, moment)?;
+    put(text, b"\n")
+}
+
+/// Puts the lines of the nodes that are known last.
+#[tactic(auto, using(crate::proofs::Growing::grown))]
+fn put_nodes(
+    alloc: Global,
+    text: &mut Vec<u8>,
+    names: &[Vec<u8>],
+    places: &[Place],
+    rows: &[NodeRow],
+) -> Result<(), NoMemory>
+    ensures { OnOk result (text.new.items ≡ text.old.items ++ flat_map (node_row_text (lists_of names.now) places.now) rows.now) }
+{
+    for row in rows {
+        put_node_row(alloc, text, names, places, *row)?;
+    }
+    Ok(())
+}
+
+/// Puts the lines of the stations that are known last.
+#[tactic(auto, using(crate::proofs::Growing::grown))]
+fn put_stations(
+    alloc: Global,
+    text: &mut Vec<u8>,
+    names: &[Vec<u8>],
+    places: &[Place],
+    stations: &[(Mac, u64)],
+) -> Result<(), NoMemory>
+    ensures { OnOk result (text.new.items ≡ text.old.items ++ flat_map (station_text (lists_of names.now) places.now) stations.now) }
+{
+    for station in stations {
+        put_station(alloc, text, names, places, station.0, station.1)?;
+    }
+    Ok(())
+}
+
+/// Puts the lines of the nodes and stations that a node knows last.
+pub(crate) fn put_known(
+    alloc: Global,
+    text: &mut Vec<u8>,
+    names: &[Vec<u8>],
+    places: &[Place],
+    known: &Known,
+) -> Result<(), NoMemory>
+    ensures { OnOk result (text.new.items ≡ text.old.items ++ known_text (lists_of names.now) places.now known.now.nodes.items known.now.stations.items) }
+{
+    put_nodes(alloc, text, names, places, known.nodes.as_slice())?;
+    put_stations(alloc, text, names, places, known.stations.as_slice())
+}

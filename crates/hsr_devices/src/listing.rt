@@ -1,0 +1,414 @@
+//! The list of all devices.
+ghost use Rattle.std.specs.Prelude.{◌≡◌, ◌<◌, ◌++◌, ◌∷◌, [], IfOk, OnOk, fold, length, map};
+ghost use Rattle.std.specs.List.{flat_map};
+ghost use Rattle.hsr_law.specs.Run.{place_of};
+ghost use Rattle.hsr_order.specs.Fronts.{lists_of};
+ghost use Rattle.hsr_devices.specs.Listing.{AreMost, AreSums, IsListing, columns_text, device_text, devices_below, head_text, known_at, letter_cell, links_at, lost_in_of, lost_out_of, needed_if, needed_text, peer_text, peers_row, ports_row, sent_text, table_text, traffic_text, wider};
+ghost use Rattle.hsr_devices.specs.Cells.{right};
+
+use crate::cells::{put_left, put_right};
+use crate::describing::{put, put_addresses, put_known, put_number};
+use crate::known::known_by;
+use crate::lines::{Columns, put_arrivals, put_departures};
+use crate::port::{PortLink, port_link};
+use hsr_closing::Closed;
+use hsr_frame::{Counters, NoMemory};
+use hsr_names::{put_name, put_port};
+use hsr_needed::{Needed, needed_at};
+use hsr_node::Place;
+use hsr_topology::End;
+use std::alloc::Global;
+
+/// How wide the first column of a table is.
+const LABEL: usize = 20;
+
+/// The least width of the other columns.
+const WIDTH: usize = 10;
+
+/// The links of a node's ports.
+#[tactic(auto, unfolding(crate::specs::Listing::links_at))]
+fn links_at<const C: usize>(
+    alloc: Global,
+    closed: &Closed<C>,
+    node: usize,
+    ports: u8,
+) -> Result<Vec<Option<PortLink>>, NoMemory>
+    ensures { IfOk result (λ links. links.items ≡ links_at closed.now.run node ports) }
+{
+    let mut links = Vec::new(alloc);
+    for port in 0..ports {
+        links.push(port_link(closed, End { node, port }))?;
+    }
+    Ok(links)
+}
+
+/// How many copies were lost on their way in at a port.
+fn lost_in_of(link: &Option<PortLink>) -> u64
+    ensures { result ≡ lost_in_of link.now }
+{
+    match link {
+        Some(link) => link.lost_in as u64,
+        None => 0,
+    }
+}
+
+/// How many copies were lost on their way out of a port.
+fn lost_out_of(link: &Option<PortLink>) -> u64
+    ensures { result ≡ lost_out_of link.now }
+{
+    match link {
+        Some(link) => link.lost_out as u64,
+        None => 0,
+    }
+}
+
+/// How many copies were lost on their way in, at each port.
+fn lost_in(alloc: Global, links: &[Option<PortLink>]) -> Result<Vec<u64>, NoMemory>
+    ensures { IfOk result (λ lost. lost.items ≡ map lost_in_of links.now) }
+{
+    let mut lost = Vec::new(alloc);
+    for link in links {
+        lost.push(lost_in_of(link))?;
+    }
+    Ok(lost)
+}
+
+/// How many copies were lost on their way out, at each port.
+fn lost_out(alloc: Global, links: &[Option<PortLink>]) -> Result<Vec<u64>, NoMemory>
+    ensures { IfOk result (λ lost. lost.items ≡ map lost_out_of links.now) }
+{
+    let mut lost = Vec::new(alloc);
+    for link in links {
+        lost.push(lost_out_of(link))?;
+    }
+    Ok(lost)
+}
+
+/// The port to which a port leads, in words.
+fn peer(
+    alloc: Global,
+    names: &[Vec<u8>],
+    places: &[Place],
+    link: &Option<PortLink>,
+) -> Result<Vec<u8>, NoMemory>
+    ensures { IfOk result (λ text. text.items ≡ peer_text (lists_of names.now) places.now link.now) }
+{
+    let mut text = Vec::new(alloc);
+    match link {
+        Some(link) => put_port(&mut text, b".", names, places, link.peer)?,
+        None => put(&mut text, b"-")?,
+    }
+    Ok(text)
+}
+
+/// Puts one more text last.
+fn add(texts: &mut Vec<Vec<u8>>, text: Vec<u8>) -> Result<(), NoMemory>
+    ensures { OnOk result (texts.new.items ≡ texts.old.items ++ text ∷ []) }
+{
+    texts.push(text)?;
+    Ok(())
+}
+
+/// The ports to which a node's ports lead, in words.
+fn peers(
+    alloc: Global,
+    names: &[Vec<u8>],
+    places: &[Place],
+    links: &[Option<PortLink>],
+) -> Result<Vec<Vec<u8>>, NoMemory>
+    ensures { IfOk result (λ texts. lists_of texts.items ≡ map (peer_text (lists_of names.now) places.now) links.now) }
+{
+    let mut texts = Vec::new(alloc);
+    for link in links {
+        add(&mut texts, peer(alloc, names, places, link)?)?;
+    }
+    Ok(texts)
+}
+
+/// How wide a column is that has room for all of these, and two spaces.
+fn width_of(texts: &[Vec<u8>]) -> usize
+    ensures { result ≡ fold wider 10 (lists_of texts.now) }
+{
+    let mut width = WIDTH;
+    for text in texts {
+        width = width.max(text.len() + 2);
+    }
+    width
+}
+
+/// Puts the row of ports last.
+#[tactic(auto, unfolding(crate::specs::Listing::ports_row))]
+fn put_ports(text: &mut Vec<u8>, width: usize, place: &Place) -> Result<(), NoMemory>
+    ensures { OnOk result (text.new.items ≡ text.old.items ++ ports_row width place.now) }
+{
+    put_left(text, LABEL, b"  port")?;
+    put_letters(text, width, place.letters())?;
+    put_right(text, width, b"node")?;
+    put(text, b"\n")
+}
+
+/// Puts letters last, each in a column.
+#[tactic(auto, using(crate::proofs::Growing::grown))]
+fn put_letters(text: &mut Vec<u8>, width: usize, letters: &[u8]) -> Result<(), NoMemory>
+    ensures { OnOk result (text.new.items ≡ text.old.items ++ flat_map (letter_cell width) letters.now) }
+{
+    for letter in letters {
+        put_right(text, width, [*letter].as_slice())?;
+    }
+    Ok(())
+}
+
+/// Puts texts last, each in a column.
+#[tactic(auto, using(crate::proofs::Growing::grown))]
+fn put_each(text: &mut Vec<u8>, width: usize, texts: &[Vec<u8>]) -> Result<(), NoMemory>
+    ensures { OnOk result (text.new.items ≡ text.old.items ++ flat_map (λ cell. right width cell.items) texts.now) }
+{
+    for cell in texts {
+        put_right(text, width, cell.as_slice())?;
+    }
+    Ok(())
+}
+
+/// The same, by what the texts are.
+fn put_texts(text: &mut Vec<u8>, width: usize, texts: &[Vec<u8>]) -> Result<(), NoMemory>
+    ensures { OnOk result (text.new.items ≡ text.old.items ++ flat_map (right width) (lists_of texts.now)) }
+{
+    put_each(text, width, texts)
+}
+
+/// Puts the row of the ports to which a node's ports lead last.
+#[tactic(auto, unfolding(crate::specs::Listing::peers_row))]
+fn put_peers(text: &mut Vec<u8>, width: usize, peers: &[Vec<u8>]) -> Result<(), NoMemory>
+    ensures { OnOk result (text.new.items ≡ text.old.items ++ peers_row width (lists_of peers.now)) }
+{
+    put_left(text, LABEL, b"  leads to")?;
+    put_texts(text, width, peers)?;
+    put(text, b"\n")
+}
+
+/// Puts the line of what a node is last.
+#[tactic(auto, unfolding(crate::specs::Listing::head_text))]
+fn put_head(
+    alloc: Global,
+    text: &mut Vec<u8>,
+    names: &[Vec<u8>],
+    node: usize,
+    place: &Place,
+) -> Result<(), NoMemory>
+    ensures { OnOk result (text.new.items ≡ text.old.items ++ head_text (lists_of names.now) node place.now) }
+{
+    put_name(text, names, node)?;
+    put(text, b"  ")?;
+    put(text, place.role().word().as_bytes())?;
+    put_addresses(alloc, text, place)?;
+    put(text, b"\n")
+}
+
+/// Puts the line of what a node sent last.
+#[tactic(auto, unfolding(crate::specs::Listing::sent_text))]
+fn put_sent(text: &mut Vec<u8>, node: Counters) -> Result<(), NoMemory>
+    ensures { OnOk result (text.new.items ≡ text.old.items ++ sent_text node) }
+{
+    put(text, b"  sent ")?;
+    put_number(text, node.sent)?;
+    put(text, b", supervision ")?;
+    put_number(text, node.life)?;
+    put(text, b"\n")
+}
+
+/// Puts how many entries of a table were needed last, and where first.
+fn put_entries(text: &mut Vec<u8>, needed: Needed) -> Result<(), NoMemory>
+    ensures { OnOk result (text.new.items ≡ text.old.items ++ needed_if needed.entries needed.at) }
+{
+    match needed.at {
+        Some((_, place)) => {
+            put(text, b" needed ")?;
+            put_number(text, needed.entries as u64)?;
+            put(text, b" at ")?;
+            put_number(text, place as u64)
+        }
+        None => put(text, b" needed 0"),
+    }
+}
+
+/// Puts the line of a node's duplicate tables last.
+#[tactic(auto, unfolding(crate::specs::Listing::table_text))]
+fn put_table(text: &mut Vec<u8>, entries: usize, needed: Needed) -> Result<(), NoMemory>
+    ensures { OnOk result (text.new.items ≡ text.old.items ++ table_text entries needed) }
+{
+    put(text, b"  table ")?;
+    put_number(text, entries as u64)?;
+    put_entries(text, needed)?;
+    put(text, b"\n")
+}
+
+/// How many entries a duplicate table has.
+fn capacity<const C: usize>(closed: &Closed<C>) -> usize
+    ensures { result ≡ closed.now.run.capacity }
+{
+    let _topology = closed.topology();
+    C
+}
+
+/// Puts that line last, if the node has duplicate tables.
+#[tactic(auto, unfolding(crate::specs::Listing::needed_text))]
+fn put_needed(
+    text: &mut Vec<u8>,
+    place: &Place,
+    entries: usize,
+    needed: Needed,
+) -> Result<(), NoMemory>
+    ensures { OnOk result (text.new.items ≡ text.old.items ++ needed_text place.now entries needed) }
+{
+    match place {
+        Place::Station { .. } => Ok(()),
+        _ => put_table(text, entries, needed),
+    }
+}
+
+/// Puts the rows of what came to a node's ports and of what left by them last.
+#[tactic(auto, unfolding(crate::specs::Listing::traffic_text))]
+fn put_traffic<const C: usize>(
+    alloc: Global,
+    text: &mut Vec<u8>,
+    width: usize,
+    closed: &Closed<C>,
+    node: usize,
+    place: &Place,
+    links: &[Option<PortLink>],
+) -> Result<(), NoMemory>
+    requires below { node < length closed.now.run.places }
+    requires place { place.now ≡ place_of closed.now.run node }
+    ensures { OnOk result (text.new.items ≡ text.old.items ++ traffic_text width closed.now.run node place.now links.now) }
+{
+    let counters = closed.counters(node);
+    let columns = Columns {
+        entries: closed.entries(node),
+        ports: place.ports(),
+        width,
+    };
+    let came = lost_in(alloc, links)?;
+    put_arrivals(alloc, text, &columns, counters, came.as_slice())?;
+    let left = lost_out(alloc, links)?;
+    put_departures(alloc, text, &columns, counters, left.as_slice())
+}
+
+/// Puts the table of a node last: its ports, where they lead, and what came and left there.
+#[tactic(auto, unfolding(crate::specs::Listing::columns_text))]
+fn put_columns<const C: usize>(
+    alloc: Global,
+    text: &mut Vec<u8>,
+    names: &[Vec<u8>],
+    closed: &Closed<C>,
+    node: usize,
+    place: &Place,
+) -> Result<(), NoMemory>
+    requires below { node < length closed.now.run.places }
+    requires place { place.now ≡ place_of closed.now.run node }
+    ensures { OnOk result (text.new.items ≡ text.old.items ++ columns_text (lists_of names.now) closed.now.run node place.now) }
+{
+    let links = links_at(alloc, closed, node, place.ports())?;
+    let peers = peers(alloc, names, closed.topology().places(), links.as_slice())?;
+    let width = width_of(peers.as_slice());
+    put_ports(text, width, place)?;
+    put_peers(text, width, peers.as_slice())?;
+    put_traffic(alloc, text, width, closed, node, place, links.as_slice())
+}
+
+/// Puts the lines of what a node knows at its last entry last.
+#[tactic(auto, unfolding(crate::specs::Listing::known_at))]
+fn put_knowledge<const C: usize>(
+    alloc: Global,
+    text: &mut Vec<u8>,
+    names: &[Vec<u8>],
+    closed: &Closed<C>,
+    node: usize,
+    place: &Place,
+) -> Result<(), NoMemory>
+    requires below { node < length closed.now.run.places }
+    ensures { OnOk result (text.new.items ≡ text.old.items ++ known_at (lists_of names.now) closed.now.run node place.now) }
+{
+    let known = known_by(place, closed.entries(node));
+    put_known(alloc, text, names, closed.topology().places(), &known)
+}
+
+/// Puts the lines of a device last.
+#[tactic(auto, unfolding(crate::specs::Listing::device_text))]
+fn put_device<const C: usize>(
+    alloc: Global,
+    text: &mut Vec<u8>,
+    names: &[Vec<u8>],
+    closed: &Closed<C>,
+    node: usize,
+    place: &Place,
+    needed: Needed,
+) -> Result<(), NoMemory>
+    requires below { node < length closed.now.run.places }
+    requires place { place.now ≡ place_of closed.now.run node }
+    ensures { OnOk result (text.new.items ≡ text.old.items ++ device_text (lists_of names.now) closed.now.run node place.now needed) }
+{
+    put_head(alloc, text, names, node, place)?;
+    put_sent(text, closed.counters(node))?;
+    put_columns(alloc, text, names, closed, node, place)?;
+    put_needed(text, place, capacity(closed), needed)?;
+    put_knowledge(alloc, text, names, closed, node, place)?;
+    put(text, b"\n")
+}
+
+/// How many entries the tables of each node needed.
+fn all_needed<const C: usize>(alloc: Global, closed: &Closed<C>) -> Result<Vec<Needed>, NoMemory>
+    ensures many { IfOk result (λ needed. length needed.items ≡ length closed.now.run.places) }
+    ensures each { IfOk result (λ needed. AreMost closed.now.run 0 needed.items) }
+{
+    let mut needed = Vec::new(alloc);
+    for node in 0..closed.topology().places().len() {
+        needed.push(needed_at(alloc, closed, node)?)?;
+    }
+    Ok(needed)
+}
+
+/// Puts the lines of all devices last, where their tables needed so much.
+fn put_devices<const C: usize>(
+    alloc: Global,
+    text: &mut Vec<u8>,
+    names: &[Vec<u8>],
+    closed: &Closed<C>,
+    needed: &[Needed],
+) -> Result<(), NoMemory>
+    requires { length needed.now ≡ length closed.now.run.places }
+    ensures { OnOk result (text.new.items ≡ text.old.items ++ devices_below (lists_of names.now) closed.now.run needed.now (length closed.now.run.places)) }
+{
+    let places = closed.topology().places();
+    for node in 0..places.len() {
+        put_device(
+            alloc,
+            text,
+            names,
+            closed,
+            node,
+            &places[node],
+            needed[node],
+        )?;
+    }
+    Ok(())
+}
+
+/// The devices of a finished run, node by node: what each is; where its ports lead, what came and left there with the node's own
+/// counters beside it, and what was lost on the way; how many entries its duplicate tables have, how many were needed, and by which
+/// entry of its record first; and the nodes and stations that it knows at the moment of its last entry, as its own tables have them.
+/// A node without a name is `n` and its number. `NoMemory` where room is refused. What is counted at the ports of a node sums up to
+/// its counters.
+pub fn devices<const C: usize>(
+    alloc: Global,
+    closed: &Closed<C>,
+    names: &[Vec<u8>],
+) -> Result<Vec<u8>, NoMemory>
+    ensures listing { IfOk result (λ text. IsListing (lists_of names.now) closed.now.run text.items) }
+    ensures sums { AreSums closed.now.run }
+{
+    let _topology = closed.topology();
+    let needed = all_needed(alloc, closed)?;
+    let mut text = Vec::new(alloc);
+    put_devices(alloc, &mut text, names, closed, needed.as_slice())?;
+    Ok(text)
+}
