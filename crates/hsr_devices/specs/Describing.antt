@@ -61,7 +61,7 @@ redbox_if names places (Some mac) = codes ", behind " ++ who_text names places m
 -- the moment at which a node was heard on a port
 abbrev pub heard_if : List ℕ → Option ℕ → List ℕ
 heard_if port None = []
-heard_if port (Some moment) = codes ", on " ++ port ++ codes " at " ++ decimal moment
+heard_if port (Some moment) = codes ", on " ++ port ++ codes " at " ++ decimal moment ++ codes " us"
 
 -- a node that is known, by its supervision frames
 unfoldable pub node_row_text : List (List ℕ) → List Place → NodeRow → List ℕ
@@ -71,7 +71,7 @@ node_row_text names places row =
 
 -- a station that is known on the interlink, with its latest moment
 unfoldable pub station_text : List (List ℕ) → List Place → List ℕ × ℕ → List ℕ
-station_text names places station = codes "  knows " ++ who_text names places station.0 ++ codes "  station, at " ++ decimal station.1 ++ codes "\n"
+station_text names places station = codes "  knows " ++ who_text names places station.0 ++ codes "  station, at " ++ decimal station.1 ++ codes " us\n"
 
 abbrev pub known_text : List (List ℕ) → List Place → List NodeRow → List (List ℕ × ℕ) → List ℕ
 known_text names places nodes stations = flat_map (node_row_text names places) nodes ++ flat_map (station_text names places) stations

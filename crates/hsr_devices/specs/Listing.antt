@@ -64,12 +64,12 @@ unfoldable pub sent_text : Counters → List ℕ
 sent_text node = codes "  sent " ++ decimal node.sent ++ codes ", supervision " ++ decimal node.life ++ codes "\n"
 
 abbrev pub needed_if : ℕ → Option (ℕ × ℕ) → List ℕ
-needed_if n None = codes " needed 0"
-needed_if n (Some at) = codes " needed " ++ decimal n ++ codes " at " ++ decimal at.1
+needed_if n None = codes ", needed 0"
+needed_if n (Some at) = codes ", needed " ++ decimal n ++ codes ", at entry " ++ decimal at.1
 
 -- how many entries a duplicate table has, how many were needed, and the first entry of the record that needed as many
 unfoldable pub table_text : ℕ → Needed → List ℕ
-table_text entries needed = codes "  table " ++ decimal entries ++ needed_if needed.entries needed.at ++ codes "\n"
+table_text entries needed = codes "  table of " ++ decimal entries ++ needed_if needed.entries needed.at ++ codes "\n"
 
 unfoldable pub needed_text : Place → ℕ → Needed → List ℕ
 needed_text (Danh mac mode) entries needed = table_text entries needed

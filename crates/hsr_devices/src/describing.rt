@@ -172,7 +172,8 @@ fn put_heard(text: &mut Vec<u8>, port: &[u8], heard: Option<u64>) -> Result<(), 
             put(text, b", on ")?;
             put(text, port)?;
             put(text, b" at ")?;
-            put_number(text, moment)
+            put_number(text, moment)?;
+            put(text, b" us")
         }
         None => Ok(()),
     }
@@ -214,7 +215,7 @@ fn put_station(
     put_who(alloc, text, names, places, mac)?;
     put(text, b"  station, at ")?;
     put_number(text, moment)?;
-    put(text, b"\n")
+    put(text, b" us\n")
 }
 
 /// Puts the lines of the nodes that are known last.

@@ -222,12 +222,12 @@ fn put_entries(text: &mut Vec<u8>, needed: Needed) -> Result<(), NoMemory>
 {
     match needed.at {
         Some((_, place)) => {
-            put(text, b" needed ")?;
+            put(text, b", needed ")?;
             put_number(text, needed.entries as u64)?;
-            put(text, b" at ")?;
+            put(text, b", at entry ")?;
             put_number(text, place as u64)
         }
-        None => put(text, b" needed 0"),
+        None => put(text, b", needed 0"),
     }
 }
 
@@ -236,7 +236,7 @@ fn put_entries(text: &mut Vec<u8>, needed: Needed) -> Result<(), NoMemory>
 fn put_table(text: &mut Vec<u8>, entries: usize, needed: Needed) -> Result<(), NoMemory>
     ensures { OnOk result (text.new.items ≡ text.old.items ++ table_text entries needed) }
 {
-    put(text, b"  table ")?;
+    put(text, b"  table of ")?;
     put_number(text, entries as u64)?;
     put_entries(text, needed)?;
     put(text, b"\n")
