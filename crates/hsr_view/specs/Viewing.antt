@@ -1,8 +1,14 @@
 -- What is shown of a finished run.
 --     IsCaptureOf   the capture of the rows that are wanted
 --     IsMissing     why a choice is refused
-use Rattle.std.specs.Prelude.{ℕ, ◌≡◌, List, filter, Ok, Err}
+--     AreNames      the names of a scenario with this topology
+--     IsSend        the send that words mean
+use Rattle.std.specs.Prelude.{ℕ, ◌≡◌, List, filter, Ok, Err, [], Option, Some, None}
+use Rattle.hsr_node.specs.declared.event.Probe.{Probe}
+use Rattle.hsr_topology.specs.Topology.{Topology}
 use Rattle.hsr_closing.specs.Finished.{Finished}
+use Rattle.hsr_scenario.specs.Names.{NamesMeant, names_meant}
+use Rattle.hsr_names.specs.Names.{node_called}
 use Rattle.hsr_pcapng.specs.declared.fault.BlockFault.{BlockFault}
 use Rattle.hsr_pcapng.specs.declared.fault.BlockFault.TheVariants as block
 use Rattle.hsr_story.specs.Choice.{checked, is_wanted}
@@ -37,6 +43,25 @@ IsMissing f wanted Link = checked f.run wanted ≡ Err choice.NoLink
 IsMissing f wanted Send = checked f.run wanted ≡ Err choice.NoSend
 IsMissing f wanted Circle = HasNoStory f.run f.plan
 IsMissing f wanted fault = Unit {0}
+
+-- ---- names
+
+-- a scenario that is this topology, with the names of its nodes
+pub record IsNamed (topology : Topology) (text : List ℕ) (names : List (List ℕ)) : Type 0 where
+  pub meant : NamesMeant
+  pub read : names_meant text ≡ Ok meant
+  pub same : meant.topology ≡ topology
+  pub names_are : names ≡ meant.names
+
+-- without a scenario there are no names
+abbrev pub AreNames : Topology → Option (List ℕ) → List (List ℕ) → Type 0
+AreNames topology None names = names ≡ []
+AreNames topology (Some text) names = IsNamed topology text names
+
+-- the send that the name of a node and a place mean
+abbrev pub IsSend : List (List ℕ) → Option (List ℕ × ℕ) → Option Probe → Type 0
+IsSend names None send = send ≡ None
+IsSend names (Some asked) send = (node : ℕ) × (node_called names asked.0 ≡ Some node) × (send ≡ Some (record { node = node; place = asked.1 }))
 
 -- ---- captures
 

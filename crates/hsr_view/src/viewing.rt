@@ -1,7 +1,7 @@
 //! What is shown of a transcript.
-ghost use Rattle.std.specs.Prelude.{◌≤◌, IfErr, IfOk};
+ghost use Rattle.std.specs.Prelude.{◌≤◌, IfErr, IfOk, option_map};
 ghost use Rattle.hsr_order.specs.Fronts.{lists_of};
-ghost use Rattle.hsr_view.specs.Viewing.{IsCaptureOf, IsMissing};
+ghost use Rattle.hsr_view.specs.Viewing.{AreNames, IsCaptureOf, IsMissing, IsSend};
 
 use crate::asked::What;
 use crate::fault::Fault;
@@ -23,7 +23,9 @@ fn names_of(
     alloc: Global,
     topology: &Topology,
     scenario: Option<&str>,
-) -> Result<Vec<Vec<u8>>, Fault> {
+) -> Result<Vec<Vec<u8>>, Fault>
+    ensures { IfOk result (λ names. AreNames topology.now (option_map (λ s. s.now) scenario.entry) (lists_of names.items)) }
+{
     let Some(text) = scenario else {
         return Ok(Vec::new(alloc));
     };
@@ -64,7 +66,9 @@ fn capture_of<const C: usize>(
 }
 
 /// The send that a node's name and a place mean; `Send` where no node has the name.
-fn send_of(names: &[Vec<u8>], send: Option<(&str, usize)>) -> Result<Option<Probe>, Fault> {
+fn send_of(names: &[Vec<u8>], send: Option<(&str, usize)>) -> Result<Option<Probe>, Fault>
+    ensures { IfOk result (IsSend (lists_of names.now) (option_map (λ s. (s.0.now, s.1)) send.entry)) }
+{
     match send {
         Some((name, place)) => match node_called(names, name.as_bytes()) {
             Some(node) => Ok(Some(Probe { node, place })),
