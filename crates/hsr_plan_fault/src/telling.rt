@@ -70,7 +70,7 @@ fn refused_word(refusal: &Refusal) -> &[u8] {
         | Refusal::NoLink(key)
         | Refusal::Endless(key)
         | Refusal::TooMany(key) => key.text().as_bytes(),
-        Refusal::Topology | Refusal::Differs => b"",
+        Refusal::Topology => b"",
     }
 }
 
@@ -217,7 +217,6 @@ fn put_refusal(line: &mut Vec<u8>, refusal: &Refusal) -> Result<(), NoMemory> {
             line,
             "no network: at most 64 nodes and 128 links, two nodes in a ring at least, each station another address, no address a group's",
         ),
-        Refusal::Differs => put(line, "the scenario's text doesn't say what the plan means"),
     }
 }
 

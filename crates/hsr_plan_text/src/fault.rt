@@ -116,8 +116,6 @@ pub enum Refusal {
     TooMany(Key),
     /// The nodes and links are no topology.
     Topology,
-    /// The scenario's text doesn't say what the plan means.
-    Differs,
 }
 
 /// What a fault is. `Unknown` is tried before all keys of its table; at one key the others are tried in this order.
