@@ -1,5 +1,5 @@
 -- What a plan means.
-use Rattle.std.specs.Prelude.{◌≡◌, ℕ, List, length, Result, Ok, Err}
+use Rattle.std.specs.Prelude.{◌≡◌, ℕ, List, Result, Ok, Err}
 use Rattle.std.specs.Ordering.{nat_cmp}
 use Rattle.std.specs.List.Sorted.{IsPermutation, IsSortedByKey, IsStableByKey}
 use Rattle.hsr_topology.specs.Topology.{Topology}
@@ -12,6 +12,7 @@ use Rattle.hsr_plan_network.specs.Nodes.{Node}
 use Rattle.hsr_plan_network.specs.Wiring.{Wired, wired}
 use Rattle.hsr_plan_meaning.specs.Occasions.{occasions}
 use Rattle.hsr_plan_meaning.specs.Orders.{orders_of}
+use Rattle.hsr_plan_meaning.specs.Setting.{Setting}
 use Rattle.hsr_plan_meaning.specs.declared.occasion.Occasion.{Occasion}
 
 -- the same occasions by their moments; those of one moment stay in their order
@@ -35,10 +36,19 @@ abbrev pub listed : Plan → Result Listed PlanFault
 listed plan = at_spot spot.Top (wired plan.outline.network)
     >>= λ w. occasions plan w.nodes w.topology.links >>= λ os. Ok (record { wired = w; occasions = os })
 
+-- where a plan's occasions take place, among its nodes and links
+abbrev pub setting : Plan → Wired → Setting
+setting plan wired = record {
+  moves = plan.outline.moves;
+  capacity = plan.outline.capacity;
+  nodes = wired.nodes;
+  links = wired.topology.links;
+  streams = plan.streams;
+}
+
 -- the orders that tell what is listed, in order
 abbrev pub Orders : Plan → Listed → List Order → Type 0
-Orders plan all orders = (os : List Occasion) × AreInOrder all.occasions os
-    × (orders ≡ orders_of plan.outline.moves all.wired.topology.links plan.streams (length all.wired.nodes) os)
+Orders plan all orders = (os : List Occasion) × AreInOrder all.occasions os × (orders ≡ orders_of (setting plan all.wired) os)
 
 -- the nodes, the topology and the capacity of a plan, and the orders that tell what is listed, in order
 pub record Tells (plan : Plan) (all : Listed) (m : Meaning) : Type 0 where

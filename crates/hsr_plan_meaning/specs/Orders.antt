@@ -1,6 +1,6 @@
 -- The orders of a scenario that tell what happens in a plan.
-use Rattle.std.specs.Prelude.{ℕ, ◌+◌, ◌==◌, ◌&&◌, ◌||◌, Bool, true, false, List, [], ◌∷◌, ◌++◌, length, replicate, slice_get, slice_set, Option, Some, None, unwrap_or, if◌then◌else◌}
-use Rattle.hsr_frame.specs.declared.node.About.TheVariants.{Own}
+use Rattle.std.specs.Prelude.{ℕ, ◌+◌, ◌==◌, ◌&&◌, ◌||◌, not, Bool, true, false, List, [], ◌∷◌, ◌++◌, length, replicate, slice_get, slice_set, Option, Some, None, unwrap_or, if◌then◌else◌}
+use Rattle.hsr_frame.specs.declared.node.About.TheVariants.{Own, Proxied}
 use Rattle.hsr_step.specs.declared.step.Step.TheVariants.{Clock, Supervise}
 use Rattle.hsr_step.specs.declared.step.Step.TheVariants as step
 use Rattle.hsr_scenario.specs.declared.steps.Order.{Order}
@@ -12,18 +12,22 @@ use Rattle.hsr_plan_text.specs.declared.plan.Kind.TheVariants.{Goose, SampledVal
 use Rattle.hsr_plan_text.specs.declared.plan.Moves.{Moves}
 use Rattle.hsr_plan_text.specs.declared.plan.Moves.TheVariants.{EachSendDrains, EachMomentDrains}
 use Rattle.hsr_plan_payload.specs.Payload.{payload}
+use Rattle.hsr_plan_meaning.specs.Hearing.{Heard, has_room, heard_on, interlink_to, knows, macs_behind, nothing_heard, settled}
+use Rattle.hsr_plan_meaning.specs.Setting.{Setting}
 use Rattle.hsr_plan_meaning.specs.declared.occasion.Happening.{Happening}
 use Rattle.hsr_plan_meaning.specs.declared.occasion.Happening.TheVariants as happening
 use Rattle.hsr_plan_meaning.specs.declared.occasion.Occasion.{Occasion}
+use Rattle.hsr_plan_meaning.specs.declared.occasion.Sender.{Sender}
 use Rattle.hsr_plan_meaning.specs.declared.occasion.Sent.{Sent}
 
--- what was told so far: the moment, which nodes are off, which links are cut by an event, and whether something was sent since the
--- last drain
+-- what was told so far: the moment, which nodes are off, which links are cut by an event, whether something was sent since the
+-- last drain, and what was heard of stations
 pub record Told : Type 0 where
   pub now : ℕ
   pub off : List Bool
   pub cut : List Bool
   pub sent : Bool
+  pub heard : Heard
   pub orders : List Order
 
 abbrev pub flag : List Bool → ℕ → Bool
@@ -63,9 +67,13 @@ changed links off cut told = record told {
 
 -- ---- drains and moments
 
+-- all copies are brought to their ends
+abbrev pub drain : Told → Told
+drain told = record told { sent = false; heard = settled told.heard; orders = told.orders ++ Drain ∷ [] }
+
 -- what was sent is brought to its end
 abbrev pub drained : Told → Told
-drained told = if told.sent then record told { sent = false; orders = told.orders ++ Drain ∷ [] } else told
+drained told = if told.sent then drain told else told
 
 abbrev pub set : ℕ → Told → Told
 set at told = record told { now = at; orders = told.orders ++ Step (Clock at) ∷ [] }
@@ -76,8 +84,39 @@ clocked at told = if told.now == at then told else set at (drained told)
 
 -- something is sent, and drained where each send drains
 abbrev pub sending : Moves → Order → Told → Told
-sending EachSendDrains order told = record told { orders = told.orders ++ (order ∷ Drain ∷ []) }
+sending EachSendDrains order told = drain (record told { orders = told.orders ++ order ∷ [] })
 sending EachMomentDrains order told = record told { sent = true; orders = told.orders ++ order ∷ [] }
+
+-- ---- stations
+
+-- a frame of a station comes to its RedBox if their interlink is up, and another copy can wait there
+abbrev pub comes : Setting → ℕ → Sender → List End → Told → Bool
+comes g l sender ends told = not (is_down told.off told.cut l ends) && has_room g.capacity sender.node told.heard
+
+abbrev pub hear_on : Setting → ℕ → Sender → Option (List End) → Told → Told
+hear_on g l sender None told = told
+hear_on g l sender (Some ends) told =
+    if comes g l sender ends told then record told { heard = heard_on g.nodes told.now ends sender.mac told.heard } else told
+
+abbrev pub hear_by : Setting → Option ℕ → Sender → Told → Told
+hear_by g None sender told = told
+hear_by g (Some l) sender told = hear_on g l sender (slice_get g.links l) told
+
+-- what the frame of a sender tells a RedBox, if the sender is a station
+abbrev pub hear : Setting → Sender → Told → Told
+hear g sender told = hear_by g (interlink_to g.links sender.node) sender told
+
+-- a RedBox sends supervision about an address, if it knows it then
+abbrev pub speak : Setting → ℕ → List ℕ → Told → Told
+speak g k mac told = if knows told.now k mac told.heard then sending g.moves (Step (Supervise k (Proxied mac))) told else told
+
+abbrev pub speak_of : Setting → ℕ → List (List ℕ) → Told → Told
+speak_of g k [] told = told
+speak_of g k (mac ∷ macs) told = speak_of g k macs (speak g k mac told)
+
+-- supervision of a node, and of the stations behind it that it knows
+abbrev pub live : Setting → ℕ → Told → Told
+live g k told = speak_of g k (macs_behind g.nodes g.links k) (sending g.moves (Step (Supervise k Own)) told)
 
 -- ---- frames of streams
 
@@ -94,32 +133,38 @@ abbrev pub name_if : Option (List ℕ) → List ℕ
 name_if None = []
 name_if (Some name) = name
 
-abbrev pub send_if : Moves → Option Stream → Sent → Told → Told
-send_if moves None sent told = told
-send_if moves (Some stream) sent told = sending moves (named_send stream sent (name_if (slice_get stream.from sent.place))) told
+abbrev pub send_if : Setting → Option Stream → Sent → Told → Told
+send_if g None sent told = told
+send_if g (Some stream) sent told = sending g.moves (named_send stream sent (name_if (slice_get stream.from sent.place))) (hear g sent.sender told)
 
 -- ---- all
 
 -- what is off sends nothing
-abbrev pub happens : Moves → List (List End) → List Stream → Happening → Told → Told
-happens moves links streams (happening.Cut l) told = changed links told.off (slice_set told.cut l true) told
-happens moves links streams (happening.Mend l) told = changed links told.off (slice_set told.cut l false) told
-happens moves links streams (happening.Off k) told = changed links (slice_set told.off k true) told.cut told
-happens moves links streams (happening.On k) told = changed links (slice_set told.off k false) told.cut told
-happens moves links streams (happening.Life k) told = if flag told.off k then told else sending moves (Step (Supervise k Own)) told
-happens moves links streams (happening.Send sent) told =
-    if flag told.off sent.sender.node then told else send_if moves (slice_get streams sent.stream) sent told
+abbrev pub happens : Setting → Happening → Told → Told
+happens g (happening.Cut l) told = changed g.links told.off (slice_set told.cut l true) told
+happens g (happening.Mend l) told = changed g.links told.off (slice_set told.cut l false) told
+happens g (happening.Off k) told = changed g.links (slice_set told.off k true) told.cut told
+happens g (happening.On k) told = changed g.links (slice_set told.off k false) told.cut told
+happens g (happening.Life k) told = if flag told.off k then told else live g k told
+happens g (happening.Send sent) told = if flag told.off sent.sender.node then told else send_if g (slice_get g.streams sent.stream) sent told
 
-abbrev pub tell : Moves → List (List End) → List Stream → Occasion → Told → Told
-tell moves links streams o told = happens moves links streams o.what (clocked o.at told)
+abbrev pub tell : Setting → Occasion → Told → Told
+tell g o told = happens g o.what (clocked o.at told)
 
-abbrev pub tell_all : Moves → List (List End) → List Stream → Told → List Occasion → Told
-tell_all moves links streams told [] = told
-tell_all moves links streams told (o ∷ os) = tell_all moves links streams (tell moves links streams o told) os
+abbrev pub tell_all : Setting → Told → List Occasion → Told
+tell_all g told [] = told
+tell_all g told (o ∷ os) = tell_all g (tell g o told) os
 
 -- nothing told, at the moment 0
-abbrev pub start : ℕ → ℕ → Told
-start nodes links = record { now = 0; off = replicate nodes false; cut = replicate links false; sent = false; orders = [] }
+abbrev pub start : Setting → Told
+start g = record {
+  now = 0;
+  off = replicate (length g.nodes) false;
+  cut = replicate (length g.links) false;
+  sent = false;
+  heard = nothing_heard g.nodes;
+  orders = [];
+}
 
-abbrev pub orders_of : Moves → List (List End) → List Stream → ℕ → List Occasion → List Order
-orders_of moves links streams nodes os = (drained (tell_all moves links streams (start nodes (length links)) os)).orders
+abbrev pub orders_of : Setting → List Occasion → List Order
+orders_of g os = (drained (tell_all g (start g) os)).orders

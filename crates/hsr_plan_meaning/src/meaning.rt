@@ -1,15 +1,16 @@
 //! What a plan means.
-ghost use Rattle.std.specs.Prelude.{◌≡◌, length, IfOk, IfErr, OnOk};
+ghost use Rattle.std.specs.Prelude.{◌≡◌, IfOk, IfErr, OnOk};
 ghost use Rattle.hsr_plan_text.specs.Fallible.{FailsAt, GivesAt, at_spot};
 ghost use Rattle.hsr_plan_text.specs.declared.fault.Spot.TheVariants as spot;
 ghost use Rattle.hsr_plan_network.specs.Wiring.{wired};
-ghost use Rattle.hsr_plan_meaning.specs.Meaning.{AreInOrder, Means, Tells, listed};
+ghost use Rattle.hsr_plan_meaning.specs.Meaning.{AreInOrder, Means, Tells, listed, setting};
 ghost use Rattle.hsr_plan_meaning.specs.Orders.{orders_of};
 ghost use Rattle.hsr_plan_text.specs.declared.fault.What.TheVariants.{NoMemory as NoRoom};
 
 use crate::occasion::Occasion;
 use crate::occasions::{at_spot, occasions};
 use crate::orders::orders_of;
+use crate::setting::Setting;
 use hsr_frame::NoMemory;
 use hsr_plan_network::{Node, Wired, wire};
 use hsr_plan_text::{Plan, PlanFault, Spot, What};
@@ -82,12 +83,16 @@ fn told(
     wired: &Wired,
     occasions: &[Occasion],
 ) -> Result<Vec<Order>, NoMemory>
-    ensures { IfOk result (λ v. v.items ≡ orders_of plan.now.outline.moves wired.now.topology.links plan.now.streams (length wired.now.nodes) occasions.now) }
+    ensures { IfOk result (λ v. v.items ≡ orders_of (setting plan.now wired.now) occasions.now) }
 {
-    let moves = plan.outline.moves;
-    let links = wired.topology.links();
-    let streams = plan.streams.as_slice();
-    orders_of(alloc, moves, links, streams, wired.nodes.len(), occasions)
+    let setting = Setting {
+        moves: plan.outline.moves,
+        capacity: plan.outline.capacity,
+        nodes: wired.nodes.as_slice(),
+        links: wired.topology.links(),
+        streams: plan.streams.as_slice(),
+    };
+    orders_of(alloc, &setting, occasions)
 }
 
 /// The orders that tell what is listed in a plan, in order.
@@ -116,8 +121,9 @@ fn no_memory() -> PlanFault
     }
 }
 
-/// What a plan means. At one moment come events as they are listed, then the supervision of all DANHs and RedBoxes in their order, then
-/// the frames of streams as they are listed. What is off sends nothing, and its links are down. A fault is the first in this order: the
+/// What a plan means. At one moment come events as they are listed, then the supervision of all DANHs and RedBoxes in their order, each
+/// RedBox also about the stations behind it that it knows then, then the frames of streams as they are listed. What is off sends
+/// nothing, and its links are down. A fault is the first in this order: the
 /// nodes and links, the events, the supervision, the streams, and over 2^20 occasions. `NoMemory` comes where a growth was refused, in
 /// place of any other answer.
 pub fn meaning_of(alloc: Global, plan: &Plan) -> Result<Meaning, PlanFault>

@@ -1,9 +1,11 @@
 //! The orders of a scenario that tell what happens in a plan.
 ghost use Rattle.std.specs.Prelude.{◌≡◌, ◌++◌, slice_get, slice_set, IfOk, OnOk};
-ghost use Rattle.hsr_plan_meaning.specs.Orders.{change, changed, changes, clocked, downs, drained, ends_off, flag, happens, is_down, name_if, named_send, orders_of, send_if, sending, start, tell, tell_all, type_of};
+ghost use Rattle.hsr_plan_meaning.specs.Orders.{change, changed, changes, clocked, comes, downs, drain, drained, ends_off, flag, happens, hear, hear_on, is_down, live, name_if, named_send, orders_of, send_if, sending, speak, speak_of, start, tell, tell_all, type_of};
 
-use crate::occasion::{Happening, Occasion, Sent};
-use hsr_frame::{About, NoMemory};
+use crate::hearing::{Heard, interlink_to, macs_behind};
+use crate::occasion::{Happening, Occasion, Sender, Sent};
+use crate::setting::Setting;
+use hsr_frame::{About, Mac, NoMemory};
 use hsr_node::Octets;
 use hsr_plan_payload::payload;
 use hsr_plan_text::{Kind, Moves, Stream};
@@ -20,13 +22,14 @@ const SIZE_LIMIT: usize = 65536;
 const STATE_LIMIT: usize = 1 << 32;
 
 /// What was told so far: the moment, which nodes are off, which links are cut by an event, whether something was sent since the last
-/// drain, and the orders.
+/// drain, what was heard of stations, and the orders.
 #[derive(Drop)]
 pub(crate) struct Told {
     now: u64,
     off: Vec<bool>,
     cut: Vec<bool>,
     sent: bool,
+    heard: Heard,
     orders: Vec<Order>,
 }
 
@@ -35,7 +38,7 @@ impl Model for Told {
 
     ghost Value = { Told };
 
-    ghost view = { λ t. record { now = t.now; off = t.off.items; cut = t.cut.items; sent = t.sent; orders = t.orders.items } };
+    ghost view = { λ t. record { now = t.now; off = t.off.items; cut = t.cut.items; sent = t.sent; heard = t.heard; orders = t.orders.items } };
 }
 
 /// The flag of that number; `false` where there is none.
@@ -171,19 +174,21 @@ fn named_send(alloc: Global, stream: &Stream, sent: Sent) -> Result<Order, NoMem
 }
 
 impl Told {
-    /// Nothing told: the moment 0, and of so many nodes and links all are on and none cut.
-    fn start(alloc: Global, nodes: usize, links: usize) -> Result<Told, NoMemory>
-        ensures { IfOk result (λ t. t ≡ start nodes links) }
+    /// Nothing told: the moment 0, and all nodes are on and no link is cut.
+    fn start(alloc: Global, setting: &Setting<'_>) -> Result<Told, NoMemory>
+        ensures { IfOk result (λ t. t ≡ start setting.now) }
     {
         let mut off = Vec::new(alloc);
-        off.resize(nodes, false)?;
+        off.resize(setting.nodes.len(), false)?;
         let mut cut = Vec::new(alloc);
-        cut.resize(links, false)?;
+        cut.resize(setting.links.len(), false)?;
+        let heard = Heard::nothing(alloc, setting.nodes)?;
         Ok(Told {
             now: 0,
             off,
             cut,
             sent: false,
+            heard,
             orders: Vec::new(alloc),
         })
     }
@@ -220,15 +225,21 @@ impl Told {
         add_changes(&mut self.orders, before.as_slice(), after.as_slice())
     }
 
-    /// Brings what was sent to its end.
+    /// Brings all copies to their ends.
     fn drain(&mut self) -> Result<(), NoMemory>
+        ensures { OnOk result (self.new ≡ drain self.old) }
+    {
+        self.orders.push(Order::Drain)?;
+        self.heard.settle();
+        self.sent = false;
+        Ok(())
+    }
+
+    /// Brings what was sent to its end.
+    fn drain_sent(&mut self) -> Result<(), NoMemory>
         ensures { OnOk result (self.new ≡ drained self.old) }
     {
-        if self.sent {
-            self.orders.push(Order::Drain)?;
-            self.sent = false;
-        }
-        Ok(())
+        if self.sent { self.drain() } else { Ok(()) }
     }
 
     /// Sets the moment, if it is another.
@@ -236,7 +247,7 @@ impl Told {
         ensures { OnOk result (self.new ≡ clocked at self.old) }
     {
         if self.now != at {
-            self.drain()?;
+            self.drain_sent()?;
             self.orders.push(Order::Step(Step::Clock { at }))?;
             self.now = at;
         }
@@ -249,24 +260,100 @@ impl Told {
     {
         self.orders.push(order)?;
         match moves {
-            Moves::EachSendDrains => self.orders.push(Order::Drain)?,
+            Moves::EachSendDrains => self.drain()?,
             Moves::EachMomentDrains => self.sent = true,
         }
         Ok(())
     }
 
+    // ---- stations
+
+    /// Whether a frame of a station comes to its RedBox.
+    fn comes(&self, setting: &Setting<'_>, number: usize, sender: Sender, link: &[End; 2]) -> bool
+        ensures { result ≡ comes setting.now number sender link.now self.entry.now }
+    {
+        !is_down(self.off.as_slice(), self.cut.as_slice(), number, link)
+            && self.heard.has_room(setting.capacity, sender.node)
+    }
+
+    /// Hears a station by the interlink of that number.
+    fn hear_on(
+        &mut self,
+        setting: &Setting<'_>,
+        number: usize,
+        sender: Sender,
+    ) -> Result<(), NoMemory>
+        ensures { OnOk result (self.new ≡ hear_on setting.now number sender (slice_get setting.now.links number) self.old) }
+    {
+        let mac = sender.mac;
+        match setting.links.get(number) {
+            Some(link) if self.comes(setting, number, sender, link) => {
+                self.heard.hear(setting.nodes, self.now, link, mac)
+            }
+            _ => Ok(()),
+        }
+    }
+
+    /// Hears a sender, if it is a station.
+    fn hear(&mut self, setting: &Setting<'_>, sender: Sender) -> Result<(), NoMemory>
+        ensures { OnOk result (self.new ≡ hear setting.now sender self.old) }
+    {
+        match interlink_to(setting.links, sender.node) {
+            Some(link) => self.hear_on(setting, link, sender),
+            None => Ok(()),
+        }
+    }
+
+    /// Tells the supervision of a RedBox about an address, if it knows that.
+    fn speak(&mut self, setting: &Setting<'_>, node: usize, mac: Mac) -> Result<(), NoMemory>
+        ensures { OnOk result (self.new ≡ speak setting.now node mac self.old) }
+    {
+        if self.heard.knows(self.now, node, mac) {
+            let about = About::Proxied(mac);
+            self.send(setting.moves, Order::Step(Step::Supervise { node, about }))?;
+        }
+        Ok(())
+    }
+
+    /// Tells the supervision of a RedBox about those of these addresses that it knows.
+    #[tactic(auto, using(crate::proofs::Telling::speak_step))]
+    fn speak_of(&mut self, setting: &Setting<'_>, node: usize, macs: &[Mac]) -> Result<(), NoMemory>
+        ensures { OnOk result (self.new ≡ speak_of setting.now node macs.now self.old) }
+    {
+        for mac in macs.iter() {
+            self.speak(setting, node, *mac)?;
+        }
+        Ok(())
+    }
+
+    /// Tells the supervision of a node, and of the stations behind it that it knows.
+    fn live(&mut self, setting: &Setting<'_>, node: usize) -> Result<(), NoMemory>
+        ensures { OnOk result (self.new ≡ live setting.now node self.old) }
+    {
+        let about = About::Own;
+        self.send(setting.moves, Order::Step(Step::Supervise { node, about }))?;
+        let macs = macs_behind(setting.nodes, setting.links, node);
+        self.speak_of(setting, node, macs)
+    }
+
+    // ---- all
+
     /// Tells a frame of a stream.
     fn send_stream(
         &mut self,
         alloc: Global,
-        moves: Moves,
-        streams: &[Stream],
+        setting: &Setting<'_>,
         sent: Sent,
     ) -> Result<(), NoMemory>
-        ensures { OnOk result (self.new ≡ send_if moves (slice_get streams.now sent.stream) sent self.old) }
+        ensures { OnOk result (self.new ≡ send_if setting.now (slice_get setting.now.streams sent.stream) sent self.old) }
     {
-        match streams.get(sent.stream) {
-            Some(stream) => self.send(moves, named_send(alloc, stream, sent)?),
+        let sender = sent.sender;
+        match setting.streams.get(sent.stream) {
+            Some(stream) => {
+                let order = named_send(alloc, stream, sent)?;
+                self.hear(setting, sender)?;
+                self.send(setting.moves, order)
+            }
             None => Ok(()),
         }
     }
@@ -275,30 +362,27 @@ impl Told {
     fn happen(
         &mut self,
         alloc: Global,
-        moves: Moves,
-        links: &[[End; 2]],
-        streams: &[Stream],
+        setting: &Setting<'_>,
         what: Happening,
     ) -> Result<(), NoMemory>
-        ensures { OnOk result (self.new ≡ happens moves links.now streams.now what self.old) }
+        ensures { OnOk result (self.new ≡ happens setting.now what self.old) }
     {
         match what {
-            Happening::Cut { link } => self.join(alloc, links, link, true),
-            Happening::Mend { link } => self.join(alloc, links, link, false),
-            Happening::Off { node } => self.turn(alloc, links, node, true),
-            Happening::On { node } => self.turn(alloc, links, node, false),
+            Happening::Cut { link } => self.join(alloc, setting.links, link, true),
+            Happening::Mend { link } => self.join(alloc, setting.links, link, false),
+            Happening::Off { node } => self.turn(alloc, setting.links, node, true),
+            Happening::On { node } => self.turn(alloc, setting.links, node, false),
             Happening::Life { node } => {
                 if flag(self.off.as_slice(), node) {
                     return Ok(());
                 }
-                let about = About::Own;
-                self.send(moves, Order::Step(Step::Supervise { node, about }))
+                self.live(setting, node)
             }
             Happening::Send(sent) => {
                 if flag(self.off.as_slice(), sent.sender.node) {
                     return Ok(());
                 }
-                self.send_stream(alloc, moves, streams, sent)
+                self.send_stream(alloc, setting, sent)
             }
         }
     }
@@ -307,15 +391,13 @@ impl Told {
     fn tell(
         &mut self,
         alloc: Global,
-        moves: Moves,
-        links: &[[End; 2]],
-        streams: &[Stream],
+        setting: &Setting<'_>,
         occasion: Occasion,
     ) -> Result<(), NoMemory>
-        ensures { OnOk result (self.new ≡ tell moves links.now streams.now occasion self.old) }
+        ensures { OnOk result (self.new ≡ tell setting.now occasion self.old) }
     {
         self.clock(occasion.at)?;
-        self.happen(alloc, moves, links, streams, occasion.what)
+        self.happen(alloc, setting, occasion.what)
     }
 }
 
@@ -324,32 +406,27 @@ impl Told {
 fn tell_all(
     alloc: Global,
     told: &mut Told,
-    moves: Moves,
-    links: &[[End; 2]],
-    streams: &[Stream],
+    setting: &Setting<'_>,
     occasions: &[Occasion],
 ) -> Result<(), NoMemory>
-    ensures { OnOk result (told.new ≡ tell_all moves links.now streams.now told.old occasions.now) }
+    ensures { OnOk result (told.new ≡ tell_all setting.now told.old occasions.now) }
 {
     for occasion in occasions.iter() {
-        told.tell(alloc, moves, links, streams, *occasion)?;
+        told.tell(alloc, setting, *occasion)?;
     }
     Ok(())
 }
 
-/// The orders that tell occasions, among so many nodes.
+/// The orders that tell occasions.
 pub(crate) fn orders_of(
     alloc: Global,
-    moves: Moves,
-    links: &[[End; 2]],
-    streams: &[Stream],
-    nodes: usize,
+    setting: &Setting<'_>,
     occasions: &[Occasion],
 ) -> Result<Vec<Order>, NoMemory>
-    ensures { IfOk result (λ v. v.items ≡ orders_of moves links.now streams.now nodes occasions.now) }
+    ensures { IfOk result (λ v. v.items ≡ orders_of setting.now occasions.now) }
 {
-    let mut told = Told::start(alloc, nodes, links.len())?;
-    tell_all(alloc, &mut told, moves, links, streams, occasions)?;
-    told.drain()?;
+    let mut told = Told::start(alloc, setting)?;
+    tell_all(alloc, &mut told, setting, occasions)?;
+    told.drain_sent()?;
     Ok(told.orders)
 }

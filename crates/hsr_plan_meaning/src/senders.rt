@@ -187,7 +187,7 @@ pub(crate) fn target(alloc: Global, nodes: &[Node], whom: &Target) -> Result<Mac
 }
 
 /// Whether the node of that number has an address.
-fn is_own(nodes: &[Node], number: usize, mac: Mac) -> bool
+pub(crate) fn is_own(nodes: &[Node], number: usize, mac: Mac) -> bool
     ensures { result ≡ is_own (slice_get nodes.now number) mac }
 {
     match nodes.get(number) {
