@@ -1,0 +1,276 @@
+"""Random plans, by the planner's program: what each scenario says against what docs/USING.md says that the plan means, in another language.
+
+    python3 bench/random_plans.py PLANNER [COUNT [SEED [BENCH]]]
+
+COUNT (1000) plans from SEED (1) on. Of each that is no fault: the steps are those that the plan means, in order; model.py refuses none of
+them; and a RedBox sends supervision about a station just where the model's RedBox knows it then. With BENCH the program plays the scenario
+too, and refuses no step. The first difference is shown, with its plan, and ends it. The last line says how many plans were told, and how
+many were faults, each by the words behind its place.
+"""
+import random
+import subprocess
+import sys
+import tomllib
+from collections import Counter
+
+import model
+
+PLANNER = sys.argv[1]
+COUNT = int(sys.argv[2]) if len(sys.argv) > 2 else 1000
+SEED = int(sys.argv[3]) if len(sys.argv) > 3 else 1
+BENCH = sys.argv[4] if len(sys.argv) > 4 else None
+GROUP = "01-0C-CD-01-00-01"
+TYPES = {"goose": 0x88B8, "sv": 0x88BA}
+ENDLESS = 1 << 41
+
+
+# ---- a random plan
+
+
+def names_of(chance):
+    """Rings of names; some names are in two rings."""
+    rings = [[f"r{ring}-{place}" for place in range(chance.randint(2, 4))] for ring in range(chance.choice([1, 1, 1, 2, 2, 3]))]
+    for ring in range(1, len(rings)):
+        shared = chance.sample(rings[ring - 1], min(len(rings[ring - 1]), chance.choice([1, 1, 2])))
+        rings[ring] += [name for name in shared if sum(name in other for other in rings) < 2]
+        chance.shuffle(rings[ring])
+    return rings
+
+
+def stream_of(chance, senders, targets):
+    said = {"from": chance.choice([chance.choice(senders), chance.sample(senders, chance.randint(1, min(3, len(senders))))])}
+    said["to"] = chance.choice([GROUP, GROUP, chance.choice(targets)])
+    said["type"] = chance.choice(["goose", "sv", 0x88B5, 0x0800])
+    said["every_us"] = chance.choice([100, 250, 1000, 3000])
+    for key, values in (("size", [0, 4, 46, 120]), ("vlan", [0, 10, 4095]), ("priority", [0, 4, 7]), ("grow", [1, 2, 3]), ("most_us", [50, 1000, 4000])):
+        if chance.random() < 0.3:
+            said[key] = chance.choice(values)
+    if chance.random() < 0.5:
+        said["start_us"] = chance.choice([chance.randint(0, 5000), sorted(chance.randint(0, 9000) for _ in range(chance.randint(1, 3)))])
+    if chance.random() < 0.5:
+        said["count"] = chance.randint(0, 6)
+    return said
+
+
+def event_of(chance, rings, redboxes):
+    ring = chance.choice(rings)
+    place = chance.randrange(len(ring))
+    ends = [ring[place], ring[(place + 1) % len(ring)]]
+    if redboxes and chance.random() < 0.3:
+        box = chance.choice(list(redboxes))
+        ends = [box, f"{box}-sans"]
+    key = chance.choice(["cut", "mend", "off", "on"])
+    return {"at_us": chance.choice([0, 1000, chance.randint(0, 9000)]), key: ends if key in ("cut", "mend") else chance.choice(ends)}
+
+
+def random_plan(chance):
+    rings = names_of(chance)
+    alone = [name for ring in rings for name in ring if sum(name in other for other in rings) == 1]
+    boxes = chance.sample(alone, min(len(alone), chance.choice([0, 1, 1, 2])))
+    redboxes = {box: [f"s-{box}-{k}" for k in range(chance.choice([1, 2, 3, 16]))] for box in boxes}
+    senders = [*alone, *(name for names in redboxes.values() for name in names)]
+    said = {"title": "random", "until_us": chance.randint(1, 10000), "moves": chance.choice(["each send drains", "each moment drains"])}
+    said |= {"ring": rings[0]} if len(rings) == 1 else {}
+    said["life_ms"] = chance.choice([0, 1, 1, 2, 5])
+    if chance.random() < 0.3:
+        said["capacity"] = chance.choice([1, 2, 5])
+    said["streams"] = [stream_of(chance, senders, senders) for _ in range(chance.randint(0, 3))] if senders else []
+    said["events"] = [event_of(chance, rings, redboxes) for _ in range(chance.choice([0, 0, 1, 3]))]
+    said["tables"] = {"redbox": redboxes} if redboxes else {}
+    if len(rings) > 1:
+        said["tables"]["rings"] = {f"k{ring}": names for ring, names in enumerate(rings)}
+    if senders and chance.random() < 0.2:
+        said["tables"]["address"] = {name: f"02-00-00-00-01-{chance.randint(1, 4):02X}" for name in chance.sample(senders, min(2, len(senders)))}
+    if chance.random() < 0.2:
+        said["tables"]["mode"] = {name: chance.choice("HNU") for name in chance.sample(alone, min(1, len(alone)))}
+    if chance.random() < 0.1:  # a name that isn't there, or one that can't do this
+        said["streams"].append({"from": chance.choice(["nobody", rings[0][0]]), "to": chance.choice(["nobody", GROUP]), "type": 1, "every_us": 900})
+    return said
+
+
+def value(said):
+    if isinstance(said, list):
+        return "[" + ", ".join(value(item) for item in said) + "]"
+    return f'"{said}"' if isinstance(said, str) else str(said)
+
+
+def text(said):
+    parts = {key: said[key] for key in said if key not in ("streams", "events", "tables")}
+    lines = [f"{key} = {value(item)}" for key, item in parts.items()]
+    for name, table in said["tables"].items():
+        lines += [f"[{name}]"] + [f"{key} = {value(item)}" for key, item in table.items()]
+    for name in ("stream", "event"):
+        for table in said[name + "s"]:
+            lines += [f"[[{name}]]"] + [f"{key} = {value(item)}" for key, item in table.items()]
+    return "\n".join(lines) + "\n"
+
+
+# ---- what a plan means
+
+
+class Meaning:
+    def __init__(self, plan):
+        self.plan = plan
+        self.rings = [plan["ring"]] if "ring" in plan else []
+        self.rings += [plan["rings"][key] for key in sorted(plan.get("rings", {}))]
+        self.names = list(dict.fromkeys(name for ring in self.rings for name in ring))
+        self.redboxes = plan.get("redbox", {})
+        self.boxes = [name for name in self.names if name in self.redboxes]
+        self.first = {name: next(k for k, ring in enumerate(self.rings) if name in ring) for name in self.names}
+        self.couplers = {name for name in self.names if sum(name in ring for ring in self.rings) == 2}
+        self.until = plan.get("until_us")
+
+    def mac(self, name):
+        if name in self.names:
+            ring = self.first[name]
+            usual = f"02-00-00-00-{ring + 1:02X}-{self.rings[ring].index(name) + 1:02X}"
+        else:
+            usual = next(f"02-00-00-01-{k + 1:02X}-{self.redboxes[box].index(name) + 1:02X}" for k, box in enumerate(self.boxes) if name in self.redboxes[box])
+        return self.plan.get("address", {}).get(name, usual)
+
+    def ends(self):
+        """The links, each by its two ends."""
+        for number, ring in enumerate(self.rings):
+            for name, after in zip(ring, ring[1:] + ring[:1]):
+                yield f"{name}.{'BD'[self.first[name] != number]}", f"{after}.{'AC'[self.first[after] != number]}"
+        yield from ((f"{box}.I", f"{box}-sans.P") for box in self.boxes)
+
+    def moments(self, stream):
+        """Each frame's moment, the number of its start, and its number since."""
+        starts = stream.get("start_us", 0)
+        starts = starts if isinstance(starts, list) else [starts]
+        ends = [end for end in (self.until, stream.get("until_us")) if end is not None]
+        for state, start in enumerate(starts):
+            until = min(ends + starts[state + 1 : state + 2] or [ENDLESS])
+            most = stream.get("most_us", 1 << 40)
+            at, gap, count = start, min(stream["every_us"], most), 0
+            while at < until and count < stream.get("count", ENDLESS):
+                yield at, state, count
+                at, gap, count = at + gap, min(gap * stream.get("grow", 1), most), count + 1
+
+    def send(self, stream, name, count):
+        behind = next((box for box in self.boxes if name in self.redboxes[box]), None)
+        kind = TYPES.get(stream["type"], stream["type"])
+        said = {"do": "send", "node": f"{behind}-sans" if behind else name, "to": stream["to"], "type": kind}
+        if behind and self.redboxes[behind].index(name):
+            said["from"] = self.redboxes[behind].index(name)
+        if "vlan" in stream or "priority" in stream:
+            said["vlan"] = stream.get("priority", 0) * 8192 + stream.get("vlan", 0)
+        said["to"] = stream["to"] if "-" in stream["to"] and len(stream["to"]) == 17 and stream["to"][2] == "-" else self.mac(stream["to"])
+        if isinstance(stream["type"], int):
+            said["payload"] = (count.to_bytes(4, "big") + bytes(1500))[: stream.get("size", 46)]
+        return said
+
+    def occasions(self):
+        """What is to happen: a moment and what; those of one moment in their order."""
+        listed = [(event["at_us"], event) for event in self.plan.get("event", [])]
+        life = self.plan.get("life_ms", 2000) * 1000
+        lives = [name for name in self.names if name not in self.couplers]
+        listed += [(at, {"do": "life", "node": name}) for at in (range(0, self.until, life) if life else ()) for name in lives]
+        for stream in self.plan.get("stream", []):
+            senders = stream["from"] if isinstance(stream["from"], list) else [stream["from"]]
+            listed += [(at, self.send(stream, name, count)) for name in senders for at, _, count in self.moments(stream)]
+        return sorted(listed, key=lambda occasion: occasion[0])
+
+    def steps(self):
+        """The steps that tell it: supervision about stations, and drains, are not among them."""
+        links, now = list(self.ends()), 0
+        off, cut = set(), set()
+        for at, what in self.occasions():
+            if at != now:
+                now = at
+                yield {"do": "clock", "at": at}
+            if what.get("do") in ("life", "send"):
+                if what["node"] not in off:
+                    yield what
+                continue
+            before = [self.is_down(ends, off, cut) for ends in links]
+            self.change(what, links, off, cut)
+            for number, ends in enumerate(links):
+                if self.is_down(ends, off, cut) != before[number]:
+                    yield {"do": "mend" if before[number] else "cut", "link": number}
+
+    def is_down(self, ends, off, cut):
+        return ends in cut or any(end.split(".")[0] in off for end in ends)
+
+    def change(self, what, links, off, cut):
+        for key, one in (("off", off.add), ("on", off.discard)):
+            if key in what:
+                one(what[key])
+        for key, one in (("cut", cut.add), ("mend", cut.discard)):
+            if key in what:
+                pair = set(what[key])
+                one(next(ends for ends in links if {end.split(".")[0] for end in ends} == pair or set(ends) == pair))
+
+
+# ---- the comparison
+
+
+def is_told(said, step):
+    """Whether a step of a scenario is what is meant."""
+    want = {key: item for key, item in said.items() if key != "payload"}
+    got = {key: item for key, item in step.items() if key not in ("payload", "port")}
+    return want == got and ("payload" not in said or bytes.fromhex(step["payload"]) == said["payload"])
+
+
+def check(plan, scenario):
+    """What is wrong with a scenario, or None."""
+    meaning = Meaning(plan)
+    if [tuple(link["ends"]) for link in scenario["link"]] != list(meaning.ends()):
+        return "links"
+    world, wanted = model.World(scenario, 1 << 20), meaning.steps()
+    abouts, last, each_send = [], None, plan.get("moves", "each send drains") == "each send drains"
+    for place, step in enumerate(scenario["step"]):
+        if step["do"] == "drain":
+            if last is None or last not in ("send", "life") or (not each_send and place + 1 < len(scenario["step"]) and scenario["step"][place + 1]["do"] != "clock"):
+                return f"drain at {place}"
+        elif each_send and last in ("send", "life"):
+            return f"no drain before {place}"
+        elif step["do"] == "clock" and last in ("send", "life"):
+            return f"no drain before {place}"
+        elif "about" in step:
+            if not abouts or abouts.pop(0) != (step["node"], step["about"]):
+                return f"about at {place}"
+        else:
+            if abouts:
+                return f"nothing about {abouts[0]} before {place}"
+            if not is_told(next(wanted, {}), step):
+                return f"step {place}: {step}"
+        try:
+            world.step(step, 1 << 30)
+        except model.Refused as refused:
+            return f"step {place} is refused: {refused}"
+        if step["do"] == "life" and "about" not in step and step["node"] in meaning.redboxes:
+            box, macs = world.nodes[world.numbers[step["node"]]], map(meaning.mac, meaning.redboxes[step["node"]])
+            abouts = [(step["node"], mac) for mac in macs if model.address(mac) != box.mac and box.knows(model.address(mac), box.moment)]
+        last = step["do"]
+    if abouts or last in ("send", "life") or (more := next(wanted, None)):
+        return f"the end: {abouts} {last} {more if not abouts and last not in ('send', 'life') else ''}"
+    return None
+
+
+def played(scenario):
+    """What the bench says of a refused step, or None."""
+    ended = subprocess.run([BENCH, "run"], input=scenario, capture_output=True, text=True, timeout=120)
+    return ended.stderr if ended.returncode not in (0, 2) else None
+
+
+def main():
+    told, faults = 0, Counter()
+    for seed in range(SEED, SEED + COUNT):
+        said = text(random_plan(random.Random(seed)))
+        ended = subprocess.run([PLANNER], input=said, capture_output=True, text=True, timeout=60)
+        if ended.returncode:
+            if ended.returncode != 1 or ended.stdout or not ended.stderr.startswith("fault: plan "):
+                sys.exit(f"{said}\nseed {seed}: status {ended.returncode}, {ended.stderr}")
+            faults["to itself" if "sends to itself" in ended.stderr else " ".join(ended.stderr.split()[3:5])] += 1
+            continue
+        wrong = check(tomllib.loads(said), tomllib.loads(ended.stdout)) or (BENCH and played(ended.stdout))
+        if wrong:
+            sys.exit(f"{said}\nseed {seed}: {wrong}")
+        told += 1
+    print(f"{told} told, {sum(faults.values())} faults: {dict(faults)}")
+
+
+if __name__ == "__main__":
+    main()
