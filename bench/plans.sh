@@ -38,5 +38,19 @@ for plan in "$top"/plans/faults/*.toml; do
   cmp -s "$work/err" "${plan%.toml}.err" || why="$why error"
   count "$plan" "$why"
 done
+for scenario in "$top"/plans/checks/*.scenario; do
+  why=
+  timeout 60 "$planner" --check < "$scenario" > "$work/out" 2> "$work/err"
+  [ $? = 1 ] || why=" status"
+  [ -s "$work/out" ] && why="$why output"
+  cmp -s "$work/err" "${scenario%.scenario}.err" || why="$why error"
+  count "$scenario" "$why"
+done
+for scenario in "$top"/plans/*.scenario "$top"/examples/*.toml; do
+  why=
+  timeout 60 "$planner" --check < "$scenario" > "$work/out" 2>&1 || why=" status"
+  [ -s "$work/out" ] && why="$why output"
+  count "$scenario" "$why"
+done
 echo "$passed passed, $failed failed"
 [ "$failed" = 0 ]

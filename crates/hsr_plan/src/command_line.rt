@@ -2,7 +2,7 @@
 ghost use Rattle.std.specs.Prelude.{◌≡◌};
 
 use clap::error::ErrorKind;
-use clap::{Arg, Command, Error};
+use clap::{Arg, ArgAction, ArgMatches, Command, Error};
 use std::alloc::{AllocError, Global};
 
 const ENDS: &str = "\
@@ -15,12 +15,24 @@ A plan is TOML, read from standard input:
   [[event]]   at_us, and one of cut = [two ends], mend = [two ends], off = name, on = name
 The scenario is written on standard output.
 
+With --check standard input is a scenario, and nothing is written if it is right; else one line on standard error
+says in which line and column which word is wrong, and what is allowed there.
+
 docs/USING.md says what to look up where.
 
-Status 0: the scenario was written. Status 1: there is none, and one line on standard error says why, with line
-and column of the word. Status 3: the words of the command line are refused.
+Status 0: the scenario was written, or is right. Status 1: there is none, or it isn't, and one line on standard
+error says why, with line and column of the word. Status 3: the words of the command line are refused.
 
 Example: hsr_plan < plan.toml > plan.scenario && hsr_bench run --budget < plan.scenario";
+
+/// What words choose.
+#[derive(Clone, Copy, Debug, PartialEq, Eq)]
+pub enum Task {
+    /// A plan is written as a scenario.
+    Plan,
+    /// A scenario is checked.
+    Check,
+}
 
 /// Why words are refused.
 #[derive(Drop)]
@@ -50,12 +62,22 @@ fn table_arg<'a>(alloc: Global, tables: &'a [&'a str]) -> Arg<'a> {
         .default_value(size_word(true))
 }
 
+fn check_arg<'a>(alloc: Global) -> Arg<'a> {
+    Arg::new(alloc, "check")
+        .long("check")
+        .help(
+            "Says of a scenario in which line and column which word is wrong, and what is allowed there",
+        )
+        .action(ArgAction::SetTrue)
+}
+
 fn plan_command<'a>(alloc: Global, tables: &'a [&'a str]) -> Result<Command<'a>, AllocError> {
     Command::new(alloc, "hsr_plan")
         .about("Writes the scenario that a plan of a network means, for hsr_bench")
         .no_binary_name(true)
         .after_help(ENDS)
-        .arg(table_arg(alloc, tables))
+        .arg(table_arg(alloc, tables))?
+        .arg(check_arg(alloc))
 }
 
 /// The text of a refusal.
@@ -74,12 +96,20 @@ fn size_word(is_large: bool) -> &'static str {
     if is_large { "large" } else { "small" }
 }
 
-/// Refuses words that the program doesn't take. What is taken is `--table`, with `small` or `large`.
-pub fn check_words<'a>(alloc: Global, words: &'a [&'a str]) -> Result<(), WordsFault> {
+/// What parsed words choose.
+fn task_of(matches: &ArgMatches<'_>) -> Task {
+    match matches.get_str("check") {
+        Some("true") => Task::Check,
+        _ => Task::Plan,
+    }
+}
+
+/// What words choose: `--check` a scenario to check, else a plan; and `--table`, with `small` or `large`. Other words are refused.
+pub fn task_by<'a>(alloc: Global, words: &'a [&'a str]) -> Result<Task, WordsFault> {
     let tables = [size_word(false), size_word(true)];
     let command = plan_command(alloc, tables.as_slice())?;
     match command.try_get_matches_from(words) {
-        Ok(_) => Ok(()),
+        Ok(matches) => Ok(task_of(&matches)),
         Err(error) => Err(refused(alloc, &error)),
     }
 }

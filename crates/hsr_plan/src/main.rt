@@ -1,4 +1,4 @@
-//! The planner's program: a plan on standard input, and the scenario that it means on standard output.
+//! The planner's program: a plan on standard input, and the scenario that it means on standard output; or a scenario to be checked.
 //!
 //! Its modules, in the order to read them: `command_line`.
 #![tactic(auto)]
@@ -9,8 +9,8 @@ ghost use Rattle.hsr_plan_scenario.specs.Ends.{code_of};
 
 mod command_line;
 
-use crate::command_line::{WordsFault, check_words};
-pub use hsr_plan_scenario::{Ending, plan_run};
+use crate::command_line::{Task, WordsFault, task_by};
+pub use hsr_plan_scenario::{Ending, check_run, plan_run};
 use std::alloc::{AllocError, Global};
 use std::io::{BufWriter, ErrorKind, Write};
 use std::process::ExitCode;
@@ -49,6 +49,24 @@ fn planned<H: AllocGlobal + Input + Print>(rt: &H, errors: &mut Vec<u8>) -> Endi
     written(&mut writer, ending)
 }
 
+/// Reads a scenario from standard input; the line of a fault is gathered. A right one ends as a plan whose scenario was written.
+fn checked<H: AllocGlobal + Input>(rt: &H, errors: &mut Vec<u8>) -> Ending {
+    let mut reader = rt.reader();
+    if check_run(rt.alloc(), &mut reader, errors) {
+        Ending::Planned
+    } else {
+        Ending::Refused
+    }
+}
+
+/// Does what was chosen.
+fn done<H: AllocGlobal + Input + Print>(rt: &H, task: Task, errors: &mut Vec<u8>) -> Ending {
+    match task {
+        Task::Plan => planned(rt, errors),
+        Task::Check => checked(rt, errors),
+    }
+}
+
 /// Writes what was gathered on standard error, and gives the status of the process.
 fn finish<H: Eprint>(rt: &H, errors: &[u8], ending: Ending) -> io::Result<ExitCode>
     ensures { IfOk result (λ code. exit_status code ≡ code_of ending) }
@@ -66,10 +84,10 @@ fn finish<H: Eprint>(rt: &H, errors: &[u8], ending: Ending) -> io::Result<ExitCo
 fn run<H: AllocGlobal + Env + Eprint + Input + Print>(rt: &H) -> io::Result<ExitCode> {
     let args: Vec<String> = env::args(rt)?.collect(rt.alloc())?;
     let words = words_of(rt.alloc(), &args)?;
-    match check_words(rt.alloc(), words.as_slice()) {
-        Ok(()) => {
+    match task_by(rt.alloc(), words.as_slice()) {
+        Ok(task) => {
             let mut errors = Vec::new(rt.alloc());
-            let ending = planned(rt, &mut errors);
+            let ending = done(rt, task, &mut errors);
             finish(rt, errors.as_slice(), ending)
         }
         Err(WordsFault::Usage { text }) => {

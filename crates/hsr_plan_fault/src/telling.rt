@@ -1,4 +1,5 @@
 //! The line of a fault.
+use crate::header::table_header;
 use crate::position::{Position, position_of, whole_word};
 use hsr_frame::NoMemory;
 use hsr_plan_text::{Key, PlanFault, Refusal, Spot, What, Word};
@@ -11,43 +12,12 @@ fn put(line: &mut Vec<u8>, words: &str) -> Result<(), NoMemory> {
     Ok(())
 }
 
-/// Where the table of that number under this header begins; 0 where the text has no such header.
-fn header(text: &[u8], name: &str, number: usize) -> usize {
-    let mut from = 0;
-    let mut seen: usize = 0;
-    for _turn in 0..text.len() {
-        let Some(at) = whole_word(text, name.as_bytes(), from) else {
-            return 0;
-        };
-        if is_header(text, at, name.len()) {
-            if seen == number {
-                return at;
-            }
-            seen = seen.saturating_add(1);
-        }
-        from = at + 1;
-    }
-    0
-}
-
-/// Whether two brackets stand before and behind a word.
-fn is_header(text: &[u8], at: usize, length: usize) -> bool {
-    let Some(end) = at.checked_add(length) else {
-        return false;
-    };
-    at >= 2
-        && end < text.len()
-        && text.get(at - 1) == Some(&b'[')
-        && text.get(at - 2) == Some(&b'[')
-        && text.get(end) == Some(&b']')
-}
-
 /// Where the table of a fault begins.
 fn start_of(text: &[u8], spot: Spot) -> usize {
     match spot {
         Spot::Top => 0,
-        Spot::Stream(number) => header(text, "stream", number),
-        Spot::Event(number) => header(text, "event", number),
+        Spot::Stream(number) => table_header(text, "stream", number).unwrap_or(0),
+        Spot::Event(number) => table_header(text, "event", number).unwrap_or(0),
     }
 }
 

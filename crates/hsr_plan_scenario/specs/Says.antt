@@ -21,3 +21,7 @@ SaysIf (Err fault) text = ⊥
 -- a text is read as the scenario of what another text means as a plan
 abbrev pub SaysPlan : List ℕ → List ℕ → Type 0
 SaysPlan plan text = SaysIf (plan_of plan) text
+
+-- a text is a scenario
+abbrev pub IsScenario : List ℕ → Type 0
+IsScenario text = (m : Meant) × (meaning text ≡ Ok m)

@@ -1,13 +1,15 @@
-//! The scenario that a plan means, as a text, and the whole way there from the plan's own text.
+//! The scenario that a plan means, as a text, and the whole way there from the plan's own text; and whether a text is a scenario.
 //!
-//! Its modules, in the order to read them: `spelling`, `same`, `checking`, `input`, `planning`.
+//! Its modules, in the order to read them: `spelling`, `same`, `checking`, `input`, `planning`, `judging`.
 #![tactic(auto)]
 
 mod checking;
 mod input;
+mod judging;
 mod planning;
 mod same;
 mod spelling;
 
 pub use checking::{Trouble, scenario_of_meaning, scenario_of_plan};
+pub use judging::check_run;
 pub use planning::{Ending, plan_run};

@@ -37,10 +37,10 @@ impl Ending {
 }
 
 /// Why there is nothing to write: a line that says it, or no room for that line.
-type Line = Result<Vec<u8>, NoMemory>;
+pub(crate) type Line = Result<Vec<u8>, NoMemory>;
 
 /// The line of words alone.
-fn words(alloc: Global, words: &str) -> Line {
+pub(crate) fn words(alloc: Global, words: &str) -> Line {
     let mut line = Vec::new(alloc);
     line.extend_from_slice(words.as_bytes())?;
     Ok(line)
@@ -88,7 +88,7 @@ fn scenario_of(alloc: Global, octets: &[u8]) -> Result<Vec<u8>, Line>
 }
 
 /// Writes the line of what is wrong. Whether that is written is not told: there is nothing to be done where it isn't.
-fn complain<E: Write>(errors: &mut E, line: Line) -> Ending
+pub(crate) fn complain<E: Write>(errors: &mut E, line: Line) -> Ending
     ensures { result ≡ Refused }
 {
     let _written = match line {

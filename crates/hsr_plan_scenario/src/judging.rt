@@ -1,0 +1,59 @@
+//! Whether a text is a scenario, over a reader and a writer.
+ghost use Rattle.std.specs.Prelude.{◌≡◌, IfSome, IsTrue, OnOk};
+ghost use Rattle.hsr_plan_scenario.specs.Says.{IsScenario};
+
+use crate::input::{InputFault, read_text};
+use crate::planning::{Line, complain, words};
+use hsr_frame::NoMemory;
+use hsr_scenario::{TEXT_LIMIT, What, read};
+use hsr_scenario_fault::told;
+use std::alloc::Global;
+use std::io::{Read, Write};
+
+/// Judges octets: nothing where they are a scenario, or the line of what is wrong.
+fn judged(alloc: Global, octets: &[u8]) -> Result<(), Line>
+    ensures { OnOk result (IsScenario octets.now) }
+{
+    let Ok(text) = str::from_utf8(octets) else {
+        return Err(words(alloc, "fault: scenario 1:1 no UTF-8"));
+    };
+    match read(alloc, text) {
+        Ok(_scenario) => Ok(()),
+        Err(fault) => match fault.what {
+            What::NoMemory => Err(Err(NoMemory)),
+            _ => Err(told(alloc, text, &fault)),
+        },
+    }
+}
+
+/// Whether octets are a scenario; where they aren't, the line of what is wrong is written.
+fn is_right<E: Write>(alloc: Global, octets: &[u8], errors: &mut E) -> bool
+    ensures { IsTrue result → IsScenario octets.now }
+{
+    match judged(alloc, octets) {
+        Ok(()) => true,
+        Err(line) => {
+            let _ending = complain(errors, line);
+            false
+        }
+    }
+}
+
+/// Reads a scenario, and tells whether it is one: a text that `hsr_scenario::read` reads. Where it isn't, one line on `errors` says why:
+/// `fault: scenario <line>:<column>` and what would be right, `fault: read`, or `fault: memory`. A scenario has at most 16 MiB.
+#[tactic(auto, using(crate::proofs::Whole::scenario_whole))]
+pub fn check_run<R: Read, E: Write>(alloc: Global, reader: &mut R, errors: &mut E) -> bool
+    ensures { IfSome (R.remaining reader.old) (λ octets. IsTrue result → IsScenario octets) }
+{
+    match read_text(alloc, reader, TEXT_LIMIT) {
+        Ok(octets) => is_right(alloc, octets.as_slice(), errors),
+        Err(InputFault::Read) => {
+            let _ending = complain(errors, words(alloc, "fault: read"));
+            false
+        }
+        Err(InputFault::Memory) => {
+            let _ending = complain(errors, Err(NoMemory));
+            false
+        }
+    }
+}

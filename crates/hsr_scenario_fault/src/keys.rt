@@ -1,0 +1,131 @@
+//! Which keys the tables of a scenario have.
+use hsr_scenario::Spot;
+use toml::Table;
+
+/// What a table may have: its keys, and the words that say it.
+#[derive(Clone, Copy)]
+pub(crate) struct Keys {
+    pub keys: &'static [&'static str],
+    pub words: &'static str,
+}
+
+/// What a node of this role may have.
+fn of_node(role: &str) -> Keys {
+    match role {
+        "quadbox" => Keys {
+            keys: &["name", "role"],
+            words: "a QuadBox has name and role",
+        },
+        "station" => Keys {
+            keys: &["name", "role", "macs"],
+            words: "a Station has name, role and macs",
+        },
+        _ => Keys {
+            keys: &["name", "role", "mac", "mode"],
+            words: "a DANH or RedBox has name, role, mac and mode",
+        },
+    }
+}
+
+/// What a step of a node's own may have.
+fn of_own_step(word: &str) -> Keys {
+    match word {
+        "send" => Keys {
+            keys: &["do", "node", "to", "type", "payload", "vlan", "from"],
+            words: "a send has do, node, to, type, payload, vlan and from",
+        },
+        "life" => Keys {
+            keys: &["do", "node", "about"],
+            words: "a life has do, node and about",
+        },
+        "age" => Keys {
+            keys: &["do", "node"],
+            words: "an age has do and node",
+        },
+        "clock" => Keys {
+            keys: &["do", "at"],
+            words: "a clock has do and at",
+        },
+        _ => Keys {
+            keys: &["do"],
+            words: "a drain has do alone",
+        },
+    }
+}
+
+/// What a step of this word may have.
+fn of_step(word: &str) -> Keys {
+    match word {
+        "put" | "judge" => Keys {
+            keys: &["do", "port"],
+            words: "a put or judge has do and port",
+        },
+        "take" => Keys {
+            keys: &["do", "link", "dir"],
+            words: "a take has do, link and dir",
+        },
+        "cut" | "mend" => Keys {
+            keys: &["do", "link"],
+            words: "a cut or mend has do and link",
+        },
+        "inject" => Keys {
+            keys: &["do", "link", "dir", "octets"],
+            words: "an inject has do, link, dir and octets",
+        },
+        _ => of_own_step(word),
+    }
+}
+
+/// The text at a key of a table; none where it isn't there.
+pub(crate) fn text_at<'a>(table: &'a Table, key: &str) -> &'a str {
+    match table.get(key) {
+        Some(value) => value.as_str().unwrap_or(""),
+        None => "",
+    }
+}
+
+/// What the table at a place may have.
+pub(crate) fn keys_at(spot: Spot, table: &Table) -> Keys {
+    match spot {
+        Spot::Top => Keys {
+            keys: &["capacity", "unit", "node", "link", "step"],
+            words: "a scenario has capacity, unit, node, link and step",
+        },
+        Spot::Node(_) => of_node(text_at(table, "role")),
+        Spot::Link(_) => Keys {
+            keys: &["ends"],
+            words: "a link has ends",
+        },
+        Spot::Step(_) => of_step(text_at(table, "do")),
+    }
+}
+
+/// Whether a word is one of these.
+fn is_one_of(word: &str, keys: &[&str]) -> bool {
+    keys.iter().any(|key| word == *key)
+}
+
+/// The first key of a table that isn't one of these, in the order of their octets.
+pub(crate) fn other_key<'a>(table: &'a Table, keys: &[&str]) -> Option<&'a str> {
+    for (word, _value) in table.iter() {
+        if !is_one_of(word.as_str(), keys) {
+            return Some(word.as_str());
+        }
+    }
+    None
+}
+
+/// The tables under a name, of which the one of that number.
+pub(crate) fn table_in<'a>(document: &'a Table, name: &str, number: usize) -> Option<&'a Table> {
+    document.get(name)?.as_array()?.get(number)?.as_table()
+}
+
+/// The table at a place.
+pub(crate) fn table_of(document: &Table, spot: Spot) -> Option<&Table> {
+    match spot {
+        Spot::Top => Some(document),
+        Spot::Node(number) => table_in(document, "node", number),
+        Spot::Link(number) => table_in(document, "link", number),
+        Spot::Step(number) => table_in(document, "step", number),
+    }
+}
