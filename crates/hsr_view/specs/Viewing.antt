@@ -3,7 +3,8 @@
 --     IsMissing     why a choice is refused
 --     AreNames      the names of a scenario with this topology
 --     IsSend        the send that words mean
-use Rattle.std.specs.Prelude.{ℕ, ◌≡◌, List, filter, Ok, Err, [], Option, Some, None}
+--     IsShownOf     what is shown of the text of a run
+use Rattle.std.specs.Prelude.{ℕ, ◌≡◌, List, filter, Ok, Err, [], Option, Some, None, option_map}
 use Rattle.hsr_node.specs.declared.event.Probe.{Probe}
 use Rattle.hsr_topology.specs.Topology.{Topology}
 use Rattle.hsr_closing.specs.Finished.{Finished}
@@ -20,6 +21,12 @@ use Rattle.hsr_story.specs.declared.shown.Shown.{Shown}
 use Rattle.hsr_story.specs.declared.telling.StoryFault.{StoryFault}
 use Rattle.hsr_story.specs.declared.telling.StoryFault.TheVariants as story
 use Rattle.hsr_capture.specs.Capture.{capture}
+use Rattle.hsr_devices.specs.Listing.{IsListing}
+use Rattle.hsr_law.specs.Run.{Run}
+use Rattle.hsr_transcript.specs.Answers.{IsTextOf}
+use Rattle.std.specs.Borrow.{Bor}
+use Rattle.hsr_view.specs.declared.asked.What.{What}
+use Rattle.hsr_view.specs.declared.asked.What.TheVariants.{Capture, Devices}
 use Rattle.hsr_view.specs.declared.fault.Fault.{Fault}
 use Rattle.hsr_view.specs.declared.fault.Fault.TheVariants.{Link, Send, Circle, TooLong, Memory}
 
@@ -71,3 +78,27 @@ pub record IsCaptureOf (names : List (List ℕ)) (f : Finished) (wanted : Choice
   pub rows : List Shown
   pub story : IsStory f.run f.plan rows
   pub octets_are : octets ≡ capture names f.run (filter (is_wanted f.run wanted) rows)
+
+-- ---- all that can be asked for
+
+abbrev pub topology_of : Run → Topology
+topology_of run = record { places = run.places; links = run.links }
+
+abbrev pub send_words : Option (Bor (List ℕ) × ℕ) → Option (List ℕ × ℕ)
+send_words send = option_map (λ s. (s.0.now, s.1)) send
+
+-- with these names this is the capture that is wanted, or the list of devices
+abbrev pub Shows : List (List ℕ) → Finished → What → List ℕ → Type 0
+Shows names f (Capture link send) octets = (probe : Option Probe) × IsSend names (send_words send) probe × IsCaptureOf names f (record { link = link; send = probe }) octets
+Shows names f Devices octets = IsListing names f.run octets
+
+pub record IsShown (f : Finished) (what : What) (scenario : Option (List ℕ)) (octets : List ℕ) : Type 0 where
+  pub names : List (List ℕ)
+  pub named : AreNames (topology_of f.run) scenario names
+  pub shows : Shows names f what octets
+
+-- a text of a finished run, and what is shown of it
+pub record IsShownOf (capacity : ℕ) (text : List ℕ) (what : What) (scenario : Option (List ℕ)) (octets : List ℕ) : Type 0 where
+  pub finished : Finished
+  pub is_text : IsTextOf capacity finished text
+  pub shown : IsShown finished what scenario octets

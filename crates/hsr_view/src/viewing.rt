@@ -1,7 +1,8 @@
 //! What is shown of a transcript.
-ghost use Rattle.std.specs.Prelude.{◌≤◌, IfErr, IfOk, option_map};
+ghost use Rattle.std.specs.Prelude.{◌≤◌, ◌⊎◌, IfErr, IfOk, option_map};
 ghost use Rattle.hsr_order.specs.Fronts.{lists_of};
-ghost use Rattle.hsr_view.specs.Viewing.{AreNames, IsCaptureOf, IsMissing, IsSend};
+ghost use Rattle.hsr_transcript.specs.Answers.{IsTextOf};
+ghost use Rattle.hsr_view.specs.Viewing.{AreNames, IsCaptureOf, IsMissing, IsSend, IsShown, IsShownOf};
 
 use crate::asked::What;
 use crate::fault::Fault;
@@ -78,6 +79,37 @@ fn send_of(names: &[Vec<u8>], send: Option<(&str, usize)>) -> Result<Option<Prob
     }
 }
 
+/// The finished run that a text is of.
+fn read_run<const C: usize>(alloc: Global, text: &[u8]) -> Result<Closed<C>, Fault>
+    requires entries { (1 ≤ C) × (C ≤ 65535) }
+    ensures { IfOk result (λ closed. IsTextOf C closed text.now) }
+{
+    let mut reader = text;
+    match read(alloc, &mut reader) {
+        Ok(closed) => Ok(closed),
+        Err(fault) => Err(Fault::Transcript(fault)),
+    }
+}
+
+/// What is asked for of a run.
+fn shown_of<const C: usize>(
+    alloc: Global,
+    closed: &Closed<C>,
+    what: What<'_>,
+    scenario: Option<&str>,
+) -> Result<Vec<u8>, Fault>
+    ensures { IfOk result (λ octets. IsShown closed.now what.entry (option_map (λ s. s.now) scenario.entry) octets.items) }
+{
+    let names = names_of(alloc, closed.topology(), scenario)?;
+    match what {
+        What::Devices => Ok(devices(alloc, closed, names.as_slice())?),
+        What::Capture { link, send } => {
+            let send = send_of(names.as_slice(), send)?;
+            capture_of(alloc, closed, names.as_slice(), Choice { link, send })
+        }
+    }
+}
+
 /// What is asked for of the text of a run with tables of so many entries.
 fn shown_with<const C: usize>(
     alloc: Global,
@@ -86,19 +118,11 @@ fn shown_with<const C: usize>(
     scenario: Option<&str>,
 ) -> Result<Vec<u8>, Fault>
     requires entries { (1 ≤ C) × (C ≤ 65535) }
+    ensures { IfOk result (λ octets. IsShownOf C text.now what.entry (option_map (λ s. s.now) scenario.entry) octets.items) }
 {
-    let mut reader = text;
-    let closed: Closed<C> = match read(alloc, &mut reader) {
-        Ok(closed) => closed,
-        Err(fault) => return Err(Fault::Transcript(fault)),
-    };
-    let names = names_of(alloc, closed.topology(), scenario)?;
-    match what {
-        What::Devices => Ok(devices(alloc, &closed, names.as_slice())?),
-        What::Capture { link, send } => {
-            let send = send_of(names.as_slice(), send)?;
-            capture_of(alloc, &closed, names.as_slice(), Choice { link, send })
-        }
+    match read_run::<C>(alloc, text) {
+        Ok(closed) => shown_of(alloc, &closed, what, scenario),
+        Err(fault) => Err(fault),
     }
 }
 
@@ -116,7 +140,9 @@ pub(crate) fn shown(
     text: &[u8],
     what: What<'_>,
     scenario: Option<&str>,
-) -> Result<Vec<u8>, Fault> {
+) -> Result<Vec<u8>, Fault>
+    ensures { IfOk result (λ octets. IsShownOf 4 text.now what.entry (option_map (λ s. s.now) scenario.entry) octets.items ⊎ IsShownOf 512 text.now what.entry (option_map (λ s. s.now) scenario.entry) octets.items) }
+{
     if has_small_tables(text) {
         shown_with::<4>(alloc, text, what, scenario)
     } else {

@@ -1,0 +1,40 @@
+-- What is shown of a run, by the parts of which it is made.
+use Rattle.std.proofs.Common.{◌≡◌, ℕ, List, Option, Result, Ok, Err, sym, subst}
+use Rattle.std.specs.Borrow.{Bor}
+use Rattle.std.specs.Global.{Global}
+use Rattle.std.specs.Prelude.{IfOk, Vec}
+use Rattle.hsr_node.specs.declared.event.Probe.{Probe}
+use Rattle.hsr_topology.specs.Topology.{Topology}
+use Rattle.hsr_closing.specs.Finished.{Finished}
+use Rattle.hsr_order.specs.Fronts.{lists_of}
+use Rattle.hsr_devices.specs.Listing.{IsListing}
+use Rattle.hsr_view.specs.Viewing.{AreNames, IsCaptureOf, IsSend, IsShown, Shows, send_words, topology_of}
+use Rattle.hsr_view.specs.declared.asked.What.{What}
+use Rattle.hsr_view.specs.declared.asked.What.TheVariants.{Capture, Devices}
+use Rattle.hsr_view.specs.declared.fault.Fault.{Fault}
+
+abbrev Names : Type 0
+Names = List (Vec ℕ Global)
+
+named_there : (f : Finished) (t : Topology) (scenario : Option (List ℕ)) (names : Names) → t.places ≡ f.run.places → t.links ≡ f.run.links → AreNames t scenario (lists_of names) → AreNames (topology_of f.run) scenario (lists_of names)
+named_there f t scenario names places links named =
+    let same : t ≡ topology_of f.run = λ i. record { places = places i; links = links i } in
+    let P : Topology → Type 0 = λ u. AreNames u scenario (lists_of names) in
+    subst P same named
+
+module _ (f : Finished) (t : Topology) (scenario : Option (List ℕ)) (names : Names) (places : t.places ≡ f.run.places) (links : t.links ≡ f.run.links) (named : AreNames t scenario (lists_of names)) where
+  pub shown_devices : (what : What) (one : Names) (text : List ℕ) → what ≡ Devices → one ≡ names → IsListing (lists_of one) f.run text → IsShown f what scenario text
+  shown_devices what one text is same listing =
+      let P : Names → Type 0 = λ ns. IsListing (lists_of ns) f.run text in
+      let S : What → Type 0 = λ w. Shows (lists_of names) f w text in
+      record { names = lists_of names; named = named_there f t scenario names places links named; shows = subst S (sym is) (subst P same listing) }
+
+  pub shown_capture : (what : What) (one two : Names) (link : Option ℕ) (send : Option (Bor (List ℕ) × ℕ)) (probe : Option Probe) (r : Result (Vec ℕ Global) Fault) →
+      what ≡ Capture link send → one ≡ names → IsSend (lists_of one) (send_words send) probe → two ≡ names →
+      IfOk r (λ octets. IsCaptureOf (lists_of two) f (record { link = link; send = probe }) octets.items) → IfOk r (λ octets. IsShown f what scenario octets.items)
+  shown_capture what one two link send probe (Err fault) is first sends second capture = tt
+  shown_capture what one two link send probe (Ok octets) is first sends second capture =
+      let P : Names → Type 0 = λ ns. IsSend (lists_of ns) (send_words send) probe in
+      let Q : Names → Type 0 = λ ns. IsCaptureOf (lists_of ns) f (record { link = link; send = probe }) octets.items in
+      let S : What → Type 0 = λ w. Shows (lists_of names) f w octets.items in
+      record { names = lists_of names; named = named_there f t scenario names places links named; shows = subst S (sym is) (probe, subst P first sends, subst Q second capture) }
