@@ -1,25 +1,44 @@
 //! Where the tables of a text begin.
+ghost use Rattle.std.specs.Prelude.{◌≡◌, ◌≤◌, ◌<◌, length, IfSome};
+ghost use Rattle.hsr_plan_fault.specs.Position.{IsHeader, is_bracketed, is_octet};
+
 use crate::position::whole_word;
 
-/// Whether two brackets stand before and behind a word.
-fn is_header(text: &[u8], at: usize, length: usize) -> bool {
-    let Some(end) = at.checked_add(length) else {
-        return false;
-    };
+/// Whether an octet is there and is this one.
+fn is_octet(there: Option<u8>, b: u8) -> bool
+    ensures { result ≡ is_octet there b }
+{
+    match there {
+        Some(octet) => octet == b,
+        None => false,
+    }
+}
+
+/// Whether two brackets open before a place, and one closes so much behind it.
+fn is_bracketed(text: &[u8], at: usize, long: usize) -> bool
+    requires place { at < length text.now }
+    requires long { long ≤ length text.now }
+    ensures { result ≡ is_bracketed text.now at long }
+{
     at >= 2
-        && end < text.len()
-        && text.get(at - 1) == Some(&b'[')
-        && text.get(at - 2) == Some(&b'[')
-        && text.get(end) == Some(&b']')
+        && is_octet(text.get(at - 1).copied(), b'[')
+        && is_octet(text.get(at - 2).copied(), b'[')
+        && is_octet(text.get(at + long).copied(), b']')
 }
 
 /// Where the word of the header `[[name]]` of that number stands, counted from 0, if there are so many.
-pub fn table_header(text: &[u8], name: &str, number: usize) -> Option<usize> {
+pub fn table_header(text: &[u8], name: &[u8], number: usize) -> Option<usize>
+    ensures header { IfSome result (λ at. IsHeader text.now name.now at) }
+    ensures within { IfSome result (λ at. at < length text.now) }
+{
+    if name.len() > text.len() {
+        return None;
+    }
     let mut from = 0;
     let mut seen: usize = 0;
     for _turn in 0..text.len() {
-        let at = whole_word(text, name.as_bytes(), from)?;
-        if is_header(text, at, name.len()) {
+        let at = whole_word(text, name, from)?;
+        if is_bracketed(text, at, name.len()) {
             if seen == number {
                 return Some(at);
             }

@@ -16,8 +16,8 @@ fn put(line: &mut Vec<u8>, words: &str) -> Result<(), NoMemory> {
 fn start_of(text: &[u8], spot: Spot) -> usize {
     match spot {
         Spot::Top => 0,
-        Spot::Stream(number) => table_header(text, "stream", number).unwrap_or(0),
-        Spot::Event(number) => table_header(text, "event", number).unwrap_or(0),
+        Spot::Stream(number) => table_header(text, b"stream", number).unwrap_or(0),
+        Spot::Event(number) => table_header(text, b"event", number).unwrap_or(0),
     }
 }
 

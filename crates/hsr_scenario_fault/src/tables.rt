@@ -131,7 +131,7 @@ fn inline_table(text: &[u8], name: &str, number: usize) -> Option<usize> {
 
 /// Where the table of that number under a name begins, counted from 0: as `[[name]]`, or in an array; 0 where the text has no such.
 pub(crate) fn table_at(text: &[u8], name: &str, number: usize) -> usize {
-    match table_header(text, name, number) {
+    match table_header(text, name.as_bytes(), number) {
         Some(at) => at,
         None => inline_table(text, name, number).unwrap_or(0),
     }
