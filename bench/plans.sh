@@ -52,5 +52,26 @@ for scenario in "$top"/plans/*.scenario "$top"/examples/*.toml; do
   [ -s "$work/out" ] && why="$why output"
   count "$scenario" "$why"
 done
+# words STATUS WORD..: counts a run with these words.
+words() {
+  local want=$1 why= got; shift
+  timeout 60 "$planner" "$@" < "$top/plans/two_rings.toml" > "$work/out" 2> "$work/err"; got=$?
+  [ "$got" = "$want" ] || why=" status $got"
+  [ "$got" = 3 ] && { [ -s "$work/out" ] || [ ! -s "$work/err" ]; } && why="$why output"
+  count "hsr_plan $*" "$why"
+}
+words 0 --table small
+words 0 --table=large
+words 0 sweep
+words 0 sweep --at-us 1099511627776
+words 1 --check
+words 3 --table medium
+words 3 --table
+words 3 --checked
+words 3 plan.toml
+words 3 sweep --at-us 1099511627777
+words 3 sweep --at-us -1
+words 3 sweep --at-us
+words 3 --help
 echo "$passed passed, $failed failed"
 [ "$failed" = 0 ]

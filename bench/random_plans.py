@@ -4,7 +4,7 @@
 
 COUNT (1000) plans from SEED (1) on. Of each that is no fault: the steps are those that the plan means, in order; model.py refuses none of
 them; and a RedBox sends supervision about a station just where the model's RedBox knows it then. With BENCH the program plays the scenario
-too, and refuses no step. The first difference is shown, with its plan, and ends it. The last line says how many plans were told, and how
+too, and refuses no step. Each 20th plan is swept, and the lines compared with what model.py counts. The first difference is shown, with its plan, and ends it. The last line says how many plans were told, and how
 many were faults, each by the words behind its place.
 """
 import random
@@ -18,6 +18,7 @@ import model
 PLANNER = sys.argv[1]
 COUNT = int(sys.argv[2]) if len(sys.argv) > 2 else 1000
 SEED = int(sys.argv[3]) if len(sys.argv) > 3 else 1
+EACH = 20  # of so many plans one is swept
 BENCH = sys.argv[4] if len(sys.argv) > 4 else None
 GROUP = "01-0C-CD-01-00-01"
 TYPES = {"goose": 0x88B8, "sv": 0x88BA}
@@ -249,6 +250,29 @@ def check(plan, scenario):
     return None
 
 
+def counted(said):
+    """What a line of a sweep says of a plan's run, by model.py."""
+    ended = subprocess.run([PLANNER], input=said, capture_output=True, text=True, timeout=60)
+    _, _, fault, world = model.run(tomllib.loads(ended.stdout), 512, 1 << 30)
+    *lines, last = world.deliveries()
+    sends, complete = last.split()[1::2]
+    missed, twice = (sum(f" {word} -" not in line for line in lines) for word in ("missed", "twice"))
+    return f"sends {sends} complete {complete} missed {missed} twice {twice} needed {world.needed().split()[1]}{fault}"
+
+
+def swept(said, at):
+    """What is wrong with the lines of a sweep, or None."""
+    ended = subprocess.run([PLANNER, "sweep", "--at-us", str(at)], input=said, capture_output=True, text=True, timeout=60)
+    meaning = Meaning(tomllib.loads(said))
+    links, nodes = list(meaning.ends()), meaning.names + [f"{box}-sans" for box in meaning.boxes]
+    event = f"{said}[[event]]\nat_us = {at}\n"
+    wanted = [f"link {k} {a} {b} " + counted(f'{event}cut = ["{a}", "{b}"]\n') for k, (a, b) in enumerate(links)]
+    wanted += [f"node {k} {name} " + counted(f'{event}off = "{name}"\n') for k, name in enumerate(nodes)]
+    wanted += ["undisturbed " + counted(said)]
+    wanted += [f"needed {max(int(line.split()[-1]) for line in wanted)}"]
+    return next((f"{got} and not {want}" for got, want in zip(ended.stdout.splitlines() + [""], wanted + [""]) if got != want), ended.stderr or None)
+
+
 def played(scenario):
     """What the bench says of a refused step, or None."""
     ended = subprocess.run([BENCH, "run"], input=scenario, capture_output=True, text=True, timeout=120)
@@ -266,6 +290,7 @@ def main():
             faults["to itself" if "sends to itself" in ended.stderr else " ".join(ended.stderr.split()[3:5])] += 1
             continue
         wrong = check(tomllib.loads(said), tomllib.loads(ended.stdout)) or (BENCH and played(ended.stdout))
+        wrong = wrong or (swept(said, seed % 3 * 2000) if seed % EACH == 0 else None)
         if wrong:
             sys.exit(f"{said}\nseed {seed}: {wrong}")
         told += 1

@@ -3,7 +3,11 @@ ghost use Rattle.std.specs.Prelude.{◌≡◌};
 
 use clap::error::ErrorKind;
 use clap::{Arg, ArgAction, ArgMatches, Command, Error};
+use hsr_text::decimal;
 use std::alloc::{AllocError, Global};
+
+/// The last moment that a plan may name, in microseconds.
+const LAST: u64 = 1 << 40;
 
 const ENDS: &str = "\
 A plan is TOML, read from standard input:
@@ -18,12 +22,17 @@ The scenario is written on standard output.
 With --check standard input is a scenario, and nothing is written if it is right; else one line on standard error
 says in which line and column which word is wrong, and what is allowed there.
 
+With sweep each link and each node is off from a moment on, one by one, and a line says of each run how many sends it
+had, how many of these are complete, missed and taken up twice, and how many table entries it needed; then come the
+undisturbed run, and how many entries are enough for all.
+
 docs/USING.md says what to look up where.
 
 Status 0: the scenario was written, or is right. Status 1: there is none, or it isn't, and one line on standard
 error says why, with line and column of the word. Status 3: the words of the command line are refused.
 
-Example: hsr_plan < plan.toml > plan.scenario && hsr_bench run --budget < plan.scenario";
+Example: hsr_plan < plan.toml > plan.scenario && hsr_bench run --budget < plan.scenario
+         hsr_plan sweep --at-us 5000 < plan.toml";
 
 /// What words choose.
 #[derive(Clone, Copy, Debug, PartialEq, Eq)]
@@ -32,6 +41,8 @@ pub enum Task {
     Plan,
     /// A scenario is checked.
     Check,
+    /// Each link and each node of a plan is off from a moment on, in microseconds, one by one.
+    Sweep { at: u64 },
 }
 
 /// Why words are refused.
@@ -71,13 +82,24 @@ fn check_arg<'a>(alloc: Global) -> Arg<'a> {
         .action(ArgAction::SetTrue)
 }
 
+fn sweep_command<'a>(alloc: Global) -> Result<Command<'a>, AllocError> {
+    let at = Arg::new(alloc, "at-us")
+        .long("at-us")
+        .help("From which moment on links and nodes are off, in microseconds")
+        .default_value("0");
+    Command::new(alloc, "sweep")
+        .about("Runs a plan with each link and each node off, one by one")
+        .arg(at)
+}
+
 fn plan_command<'a>(alloc: Global, tables: &'a [&'a str]) -> Result<Command<'a>, AllocError> {
     Command::new(alloc, "hsr_plan")
         .about("Writes the scenario that a plan of a network means, for hsr_bench")
         .no_binary_name(true)
         .after_help(ENDS)
         .arg(table_arg(alloc, tables))?
-        .arg(check_arg(alloc))
+        .arg(check_arg(alloc))?
+        .subcommand(sweep_command(alloc)?)
 }
 
 /// The text of a refusal.
@@ -96,20 +118,36 @@ fn size_word(is_large: bool) -> &'static str {
     if is_large { "large" } else { "small" }
 }
 
-/// What parsed words choose.
-fn task_of(matches: &ArgMatches<'_>) -> Task {
-    match matches.get_str("check") {
-        Some("true") => Task::Check,
-        _ => Task::Plan,
+/// The sweep that parsed words choose.
+fn sweep_by(alloc: Global, matches: &ArgMatches<'_>) -> Result<Task, WordsFault> {
+    let word = matches.get_str("at-us").unwrap_or("0");
+    match decimal(word.as_bytes()) {
+        Some(at) if at <= LAST => Ok(Task::Sweep { at }),
+        _ => match String::from_str(alloc, "usage: --at-us: 0 to 1099511627776 microseconds") {
+            Ok(text) => Err(WordsFault::Usage { text }),
+            Err(_) => Err(WordsFault::Memory),
+        },
     }
 }
 
-/// What words choose: `--check` a scenario to check, else a plan; and `--table`, with `small` or `large`. Other words are refused.
+/// What parsed words choose.
+fn chosen_by(alloc: Global, matches: &ArgMatches<'_>) -> Result<Task, WordsFault> {
+    if let Some((_name, inner)) = matches.subcommand() {
+        return sweep_by(alloc, inner);
+    }
+    match matches.get_str("check") {
+        Some("true") => Ok(Task::Check),
+        _ => Ok(Task::Plan),
+    }
+}
+
+/// What words choose: `--check` a scenario to check, `sweep` with `--at-us` a sweep, else a plan; and `--table`, with `small` or `large`.
+/// Other words are refused.
 pub fn task_by<'a>(alloc: Global, words: &'a [&'a str]) -> Result<Task, WordsFault> {
     let tables = [size_word(false), size_word(true)];
     let command = plan_command(alloc, tables.as_slice())?;
     match command.try_get_matches_from(words) {
-        Ok(matches) => Ok(task_of(&matches)),
+        Ok(matches) => chosen_by(alloc, &matches),
         Err(error) => Err(refused(alloc, &error)),
     }
 }

@@ -1,4 +1,5 @@
-//! The planner's program: a plan on standard input, and the scenario that it means on standard output; or a scenario to be checked.
+//! The planner's program: a plan on standard input, and the scenario that it means on standard output; or a scenario to be
+//! checked, or the lines of a sweep.
 //!
 //! Its modules, in the order to read them: `command_line`.
 #![tactic(auto)]
@@ -11,6 +12,7 @@ mod command_line;
 
 use crate::command_line::{Task, WordsFault, task_by};
 pub use hsr_plan_scenario::{Ending, check_run, plan_run};
+pub use hsr_plan_sweep::sweep_run;
 use std::alloc::{AllocError, Global};
 use std::io::{BufWriter, ErrorKind, Write};
 use std::process::ExitCode;
@@ -59,11 +61,22 @@ fn checked<H: AllocGlobal + Input>(rt: &H, errors: &mut Vec<u8>) -> Ending {
     }
 }
 
+/// Reads a plan and writes the lines of its sweep, over the standard streams; the line of a fault is gathered.
+fn swept<H: AllocGlobal + Input + Print>(rt: &H, at: u64, errors: &mut Vec<u8>) -> Ending {
+    let mut reader = rt.reader();
+    let Ok(mut writer) = BufWriter::new(rt.alloc(), io::writer(rt)) else {
+        return Ending::Unwritten;
+    };
+    let ending = sweep_run(rt.alloc(), &mut reader, &mut writer, errors, at);
+    written(&mut writer, ending)
+}
+
 /// Does what was chosen.
 fn done<H: AllocGlobal + Input + Print>(rt: &H, task: Task, errors: &mut Vec<u8>) -> Ending {
     match task {
         Task::Plan => planned(rt, errors),
         Task::Check => checked(rt, errors),
+        Task::Sweep { at } => swept(rt, at, errors),
     }
 }
 

@@ -11,7 +11,7 @@ const PIECE_LIMIT: usize = 4096;
 
 /// Why a text isn't read.
 #[derive(Clone, Copy, Debug, PartialEq, Eq)]
-pub(crate) enum InputFault {
+pub enum InputFault {
     /// The reader failed, or took too many reads.
     Read,
     /// Room was refused.
@@ -35,11 +35,7 @@ fn read_piece<R: Read>(reader: &mut R, text: &mut Vec<u8>) -> Result<bool, Input
 
 /// Reads a whole text, or of one with more than `most` octets a front that has more. `Read` where the reader fails or takes 2^40
 /// reads, `Memory` where room is refused.
-pub(crate) fn read_text<R: Read>(
-    alloc: Global,
-    reader: &mut R,
-    most: usize,
-) -> Result<Vec<u8>, InputFault>
+pub fn read_text<R: Read>(alloc: Global, reader: &mut R, most: usize) -> Result<Vec<u8>, InputFault>
     ensures { IfOk result (λ text. IfSome (R.remaining reader.old) (λ all. IsWhole most all text.items)) }
 {
     let mut text = Vec::new(alloc);

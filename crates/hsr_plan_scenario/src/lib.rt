@@ -11,5 +11,6 @@ mod same;
 mod spelling;
 
 pub use checking::{Trouble, scenario_of_meaning, scenario_of_plan};
+pub use input::{InputFault, read_text};
 pub use judging::check_run;
-pub use planning::{Ending, plan_run};
+pub use planning::{Ending, Line, complain, deliver, line_of, plan_run, words};

@@ -37,10 +37,10 @@ impl Ending {
 }
 
 /// Why there is nothing to write: a line that says it, or no room for that line.
-pub(crate) type Line = Result<Vec<u8>, NoMemory>;
+pub type Line = Result<Vec<u8>, NoMemory>;
 
 /// The line of words alone.
-pub(crate) fn words(alloc: Global, words: &str) -> Line {
+pub fn words(alloc: Global, words: &str) -> Line {
     let mut line = Vec::new(alloc);
     line.extend_from_slice(words.as_bytes())?;
     Ok(line)
@@ -57,7 +57,7 @@ fn too_long(alloc: Global, octets: usize) -> Line {
 }
 
 /// The line of a trouble.
-fn line_of(alloc: Global, text: &str, trouble: &Trouble) -> Line {
+pub fn line_of(alloc: Global, text: &str, trouble: &Trouble) -> Line {
     match trouble {
         Trouble::Plan(
             PlanFault {
@@ -88,7 +88,7 @@ fn scenario_of(alloc: Global, octets: &[u8]) -> Result<Vec<u8>, Line>
 }
 
 /// Writes the line of what is wrong. Whether that is written is not told: there is nothing to be done where it isn't.
-pub(crate) fn complain<E: Write>(errors: &mut E, line: Line) -> Ending
+pub fn complain<E: Write>(errors: &mut E, line: Line) -> Ending
     ensures { result ≡ Refused }
 {
     let _written = match line {
@@ -100,7 +100,7 @@ pub(crate) fn complain<E: Write>(errors: &mut E, line: Line) -> Ending
 }
 
 /// Writes a scenario.
-fn deliver<W: Write>(writer: &mut W, text: &[u8]) -> Ending
+pub fn deliver<W: Write>(writer: &mut W, text: &[u8]) -> Ending
     ensures { IsDelivered (W.contents writer.old) (W.contents writer.new) text.now result }
 {
     if writer.write_all(text).is_err() || writer.flush().is_err() {

@@ -1,0 +1,21 @@
+-- What is counted of a finished run.
+use Rattle.std.specs.Prelude.{◌≡◌, not, Bool, length, count_by}
+use Rattle.hsr_deliveries.specs.Delivered.{Delivery, deliveries, is_complete, is_none}
+use Rattle.hsr_law.specs.Run.{Run}
+use Rattle.hsr_needed.specs.Needs.{IsJustEnough}
+use Rattle.hsr_plan_sweep.specs.declared.counting.Count.{Count}
+
+-- a node that a send was due at didn't take it up
+abbrev pub is_missed : Delivery → Bool
+is_missed d = not (is_none d.missed)
+
+-- a node took a send up more than once
+abbrev pub is_twice : Delivery → Bool
+is_twice d = not (is_none d.twice)
+
+pub record IsCounted (run : Run) (count : Count) : Type 0 where
+  pub sends : count.sends ≡ length (deliveries run)
+  pub complete : count.complete ≡ count_by is_complete (deliveries run)
+  pub missed : count.missed ≡ count_by is_missed (deliveries run)
+  pub twice : count.twice ≡ count_by is_twice (deliveries run)
+  pub needed : IsJustEnough run count.needed

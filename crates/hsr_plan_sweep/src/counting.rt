@@ -1,0 +1,50 @@
+//! What is counted of a finished run.
+ghost use Rattle.std.specs.Prelude.{◌≡◌, count_by, not, IfOk};
+ghost use Rattle.hsr_deliveries.specs.Delivered.{is_none};
+ghost use Rattle.hsr_plan_sweep.specs.Counting.{IsCounted, is_missed, is_twice};
+
+use hsr_closing::Closed;
+use hsr_deliveries::{Delivery, deliveries};
+use hsr_frame::NoMemory;
+use hsr_needed::needed;
+use std::alloc::Global;
+
+/// How many sends a run had; how many of these are complete, were missed by a node that they were due at, and were taken up twice;
+/// and how many entries the duplicate tables needed.
+#[derive(Clone, Copy, Debug, PartialEq, Eq)]
+pub struct Count {
+    pub sends: usize,
+    pub complete: usize,
+    pub missed: usize,
+    pub twice: usize,
+    pub needed: usize,
+}
+
+/// How many sends were missed.
+fn missed(sends: &[Delivery]) -> usize
+    ensures { result ≡ count_by is_missed sends.now }
+{
+    sends.iter().filter(|send| !send.missed.is_empty()).count()
+}
+
+/// How many sends were taken up twice.
+fn twice(sends: &[Delivery]) -> usize
+    ensures { result ≡ count_by is_twice sends.now }
+{
+    sends.iter().filter(|send| !send.twice.is_empty()).count()
+}
+
+/// What is counted of a run.
+pub(crate) fn counted<const C: usize>(alloc: Global, closed: &Closed<C>) -> Result<Count, NoMemory>
+    ensures { IfOk result (λ count. IsCounted closed.now.run count) }
+{
+    let deliveries = deliveries(alloc, closed)?;
+    let needed = needed(alloc, closed)?;
+    Ok(Count {
+        sends: deliveries.sends.len(),
+        complete: deliveries.complete(),
+        missed: missed(deliveries.sends.as_slice()),
+        twice: twice(deliveries.sends.as_slice()),
+        needed: needed.entries,
+    })
+}

@@ -1,0 +1,16 @@
+//! What becomes of a plan where each link and each node, one by one, is off from a moment on.
+//!
+//! Its modules, in the order to read them: `counting`, `running`, `variants`, `sweep`, `lines`, `sweeping`.
+#![tactic(auto)]
+
+mod counting;
+mod lines;
+mod running;
+mod sweep;
+mod sweeping;
+mod variants;
+
+pub use counting::Count;
+pub use running::Trouble;
+pub use sweep::{Sweep, sweep_plan};
+pub use sweeping::sweep_run;

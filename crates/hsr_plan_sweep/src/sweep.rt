@@ -1,0 +1,123 @@
+//! The sweep of a plan.
+ghost use Rattle.std.specs.Prelude.{◌≡◌, length, IfOk, OnOk};
+ghost use Rattle.hsr_plan_sweep.specs.Sweep.{AreCountsOf, IsCountOf, IsSweep, cut_of, off_of, with_deed, without_link, without_node};
+
+use crate::counting::Count;
+use crate::running::{Trouble, count_of, count_with, no_memory};
+use crate::variants::{cut_of, off_of};
+use hsr_plan_network::{Node, Wired, wire};
+use hsr_plan_text::Plan;
+use hsr_topology::End;
+use std::alloc::Global;
+use std::marker::Model;
+
+/// The nodes and the topology of a plan, and what is counted of it: where each link is off, where each node is off, by their numbers,
+/// and undisturbed.
+#[derive(Debug, Drop)]
+pub struct Sweep {
+    pub wired: Wired,
+    pub links: Vec<Count>,
+    pub nodes: Vec<Count>,
+    pub undisturbed: Count,
+}
+
+impl Model for Sweep {
+    ghost use Rattle.hsr_plan_sweep.specs.Sweep.{Sweep};
+
+    ghost Value = { Sweep };
+
+    ghost view = { λ s. record { wired = s.wired; links = s.links.items; nodes = s.nodes.items; undisturbed = s.undisturbed } };
+}
+
+/// The count where one link is off.
+fn without_link(
+    alloc: Global,
+    plan: &mut Plan,
+    at: u64,
+    nodes: &[Node],
+    link: &[End; 2],
+) -> Result<Count, Trouble>
+    ensures count { IfOk result (λ count. IsCountOf (with_deed plan.old at (cut_of nodes.now link.now)) count) }
+    ensures same { OnOk result (plan.new ≡ plan.old) }
+{
+    match cut_of(alloc, nodes, link) {
+        Ok(deed) => count_with(alloc, plan, at, deed),
+        Err(_) => Err(no_memory()),
+    }
+}
+
+/// The counts where each link is off.
+#[tactic(auto, using(crate::proofs::Counts::link_step))]
+fn without_links(
+    alloc: Global,
+    plan: &mut Plan,
+    at: u64,
+    nodes: &[Node],
+    links: &[[End; 2]],
+) -> Result<Vec<Count>, Trouble>
+    ensures each { IfOk result (λ v. AreCountsOf (without_link plan.old at nodes.now links.now) v.items) }
+    ensures all { IfOk result (λ v. length v.items ≡ length links.now) }
+    ensures same { OnOk result (plan.new ≡ plan.old) }
+{
+    let mut counts = Vec::new(alloc);
+    for link in links.iter() {
+        let count = without_link(alloc, plan, at, nodes, link)?;
+        if counts.push(count).is_err() {
+            return Err(no_memory());
+        }
+    }
+    Ok(counts)
+}
+
+/// The count where one node is off.
+fn without_node(alloc: Global, plan: &mut Plan, at: u64, node: &Node) -> Result<Count, Trouble>
+    ensures count { IfOk result (λ count. IsCountOf (with_deed plan.old at (off_of node.now)) count) }
+    ensures same { OnOk result (plan.new ≡ plan.old) }
+{
+    match off_of(alloc, node) {
+        Ok(deed) => count_with(alloc, plan, at, deed),
+        Err(_) => Err(no_memory()),
+    }
+}
+
+/// The counts where each node is off.
+#[tactic(auto, using(crate::proofs::Counts::node_step))]
+fn without_nodes(
+    alloc: Global,
+    plan: &mut Plan,
+    at: u64,
+    nodes: &[Node],
+) -> Result<Vec<Count>, Trouble>
+    ensures each { IfOk result (λ v. (d : _) → AreCountsOf (without_node plan.old at nodes.now d) v.items) }
+    ensures all { IfOk result (λ v. length v.items ≡ length nodes.now) }
+    ensures same { OnOk result (plan.new ≡ plan.old) }
+{
+    let mut counts = Vec::new(alloc);
+    for node in nodes.iter() {
+        let count = without_node(alloc, plan, at, node)?;
+        if counts.push(count).is_err() {
+            return Err(no_memory());
+        }
+    }
+    Ok(counts)
+}
+
+/// What is counted of a plan, where each link of its topology is cut, and each of its nodes goes off, one by one, by one more event at
+/// the end of its own. The plan's own events may still mend such a link, or set such a node on again. The plan stays as it is.
+pub fn sweep_plan(alloc: Global, plan: &mut Plan, at: u64) -> Result<Sweep, Trouble>
+    ensures { IfOk result (λ s. IsSweep plan.old at s) }
+{
+    let undisturbed = count_of(alloc, plan)?;
+    let Ok(wired) = wire(alloc, &plan.outline.network) else {
+        return Err(no_memory());
+    };
+    let nodes = wired.nodes.as_slice();
+    let links = without_links(alloc, plan, at, nodes, wired.topology.links())?;
+    let nodes = without_nodes(alloc, plan, at, nodes)?;
+    Ok(Sweep {
+        wired,
+        links,
+        nodes,
+        undisturbed,
+    })
+}

@@ -1,0 +1,63 @@
+//! The finished run that orders lead to.
+ghost use Rattle.std.specs.Prelude.{◌≡◌, ◌≤◌, IfOk};
+ghost use Rattle.hsr_playing.specs.Finishing.{IsFinishedBy};
+ghost use Rattle.hsr_playing.specs.Playing.{Plays};
+ghost use Rattle.hsr_world.specs.World.{new_world};
+
+use crate::playing::play;
+use hsr_closing::{CheckFault, Closed};
+use hsr_ring::World;
+use hsr_scenario::Order;
+use hsr_step::DrainFault;
+use hsr_topology::Topology;
+use std::alloc::Global;
+
+/// Why orders lead to no finished run.
+#[derive(Clone, Copy, Debug, PartialEq, Eq)]
+pub enum Unfinished {
+    /// The order at this place is refused.
+    Step(usize, DrainFault),
+    /// The world can't be closed.
+    Check(CheckFault),
+    /// Room was refused.
+    Memory,
+}
+
+/// The world that orders lead to.
+fn played<const C: usize>(
+    alloc: Global,
+    topology: Topology,
+    capacity: usize,
+    orders: &[Order],
+) -> Result<World<C>, Unfinished>
+    requires entries { (1 ≤ C) × (C ≤ 65535) }
+    requires room { (1 ≤ capacity) × (capacity ≤ 4096) }
+    ensures { IfOk result (λ w. Plays C orders.now (new_world capacity topology.places topology.links) w) }
+{
+    let Ok(mut world) = World::<C>::new(alloc, topology, capacity) else {
+        return Err(Unfinished::Memory);
+    };
+    match play(&mut world, orders) {
+        Ok(()) => Ok(world),
+        Err((place, fault)) => Err(Unfinished::Step(place, fault)),
+    }
+}
+
+/// The finished run that orders lead to, in a new world of the topology, where so many copies wait in each direction of a link, with
+/// tables of `C` entries.
+pub fn finished<const C: usize>(
+    alloc: Global,
+    topology: Topology,
+    capacity: usize,
+    orders: &[Order],
+) -> Result<Closed<C>, Unfinished>
+    requires entries { (1 ≤ C) × (C ≤ 65535) }
+    requires room { (1 ≤ capacity) × (capacity ≤ 4096) }
+    ensures { IfOk result (λ c. IsFinishedBy C topology capacity orders.now c) }
+{
+    let world = played::<C>(alloc, topology, capacity, orders)?;
+    match world.close() {
+        Ok(closed) => Ok(closed),
+        Err((_world, fault)) => Err(Unfinished::Check(fault)),
+    }
+}
