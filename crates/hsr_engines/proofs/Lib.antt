@@ -1,5 +1,4 @@
 pub mod Turns
-mod Orders
 mod Said
 mod Telling
 mod Runs

@@ -17,7 +17,7 @@ use Rattle.hsr_world.specs.World.{World}
 use Rattle.hsr_step.specs.declared.step.DrainFault.{DrainFault}
 use Rattle.hsr_step.specs.declared.step.DrainFault.TheVariants as drain
 use Rattle.hsr_step.specs.declared.step.WorldFault.TheVariants as world
-use Rattle.hsr_engines.specs.Playing.{Halts}
+use Rattle.hsr_playing.specs.Playing.{Halts}
 use Rattle.hsr_engines.specs.Fault.{step_fault}
 use Rattle.hsr_engines.specs.Reading.{IsNoScenario, Said, scenario_of, text_fault}
 use Rattle.hsr_engines.specs.ScenarioRun.{IsUnplayed, first_of}

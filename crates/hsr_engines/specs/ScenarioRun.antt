@@ -8,7 +8,7 @@ use Rattle.hsr_step.specs.declared.step.DrainFault.TheVariants as drain
 use Rattle.hsr_step.specs.declared.step.WorldFault.TheVariants as world
 use Rattle.hsr_scenario.specs.Meaning.{Meant}
 use Rattle.hsr_engines.specs.Ending.{Ends}
-use Rattle.hsr_engines.specs.Playing.{Halts, Plays}
+use Rattle.hsr_playing.specs.Playing.{Halts, Plays}
 use Rattle.hsr_engines.specs.Reading.{Said}
 use Rattle.hsr_report.specs.Found.{IsFound}
 use Rattle.hsr_report.specs.declared.finding.Finding.{Finding}

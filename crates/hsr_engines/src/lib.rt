@@ -1,13 +1,12 @@
 //! What the program does: `node`, `run`, `threads` and `audit`, each over a reader and a writer.
 //!
-//! Its modules, in the order to read them: `fault`, `engine`, `text`, `reading`, `playing`, `shown`, `scenario`, `threads`,
+//! Its modules, in the order to read them: `fault`, `engine`, `text`, `reading`, `shown`, `scenario`, `threads`,
 //! `audit`.
 #![tactic(auto)]
 
 mod audit;
 mod engine;
 mod fault;
-mod playing;
 mod reading;
 mod scenario;
 mod shown;

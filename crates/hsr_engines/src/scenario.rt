@@ -8,12 +8,12 @@ ghost use Rattle.hsr_engines.specs.declared.fault.Fault.TheVariants.{Read as Rea
 ghost use Rattle.hsr_engines.specs.declared.fault.Status.TheVariants.{Fault as Stopped};
 
 use crate::fault::{Fault, Status};
-use crate::playing::play;
 use crate::reading::scenario_of;
 use crate::shown::{deliver, told};
 use crate::text::read_text;
 use hsr_closing::Closed;
 use hsr_options::{Showing, Table};
+use hsr_playing::play;
 use hsr_report::Finding;
 use hsr_ring::World;
 use hsr_scenario::TEXT_LIMIT;

@@ -2,7 +2,7 @@ use Rattle.std.proofs.Common.{List, subst, sym}
 use Rattle.hsr_world.specs.World.{World}
 use Rattle.hsr_scenario.specs.Meaning.{scenario_view}
 use Rattle.hsr_scenario.specs.declared.steps.Order.{Order}
-use Rattle.hsr_engines.specs.Playing.{Halts}
+use Rattle.hsr_playing.specs.Playing.{Halts}
 use Rattle.hsr_engines.specs.Reading.{scenario_of}
 use Rattle.hsr_engines.specs.ScenarioRun.{IsUnplayed}
 use Rattle.hsr_engines.proofs.Said.{unplayed}
