@@ -1,5 +1,5 @@
 -- Rounds of supervision.
-use Rattle.std.proofs.Common.{◌≡◌, ℕ, zero, suc, ◌+◌, ◌-◌, ◌<◌, ◌≤◌, ◌∙◌, ◌++◌, false, true, min, nat_lt, length, get_or, drop, List, [], ◌∷◌, refl, ap, sym, arith, append_assoc, append-nil}
+use Rattle.std.proofs.Common.{◌≡◌, ℕ, zero, suc, ◌+◌, ◌-◌, ◌<◌, ◌≤◌, ◌∙◌, ◌++◌, false, true, min, nat_lt, length, get_or, drop, List, [], refl, ap, sym, arith, append_assoc, append-nil}
 use Rattle.std.proofs.lemmas.List.{drop_more}
 use Rattle.std.proofs.lemmas.Bool.Decides.{nat_tests}
 use Rattle.hsr_plan_network.specs.Nodes.{Node}

@@ -1,5 +1,5 @@
 -- The events of a plan as occasions.
-use Rattle.std.specs.Prelude.{ℕ, ◌==◌, ◌&&◌, ◌||◌, Bool, true, false, List, [], ◌∷◌, ◌++◌, slice_get, position, Option, Some, None, option_map, Result, Ok, Err, ok_or}
+use Rattle.std.specs.Prelude.{ℕ, ◌==◌, ◌&&◌, ◌||◌, Bool, true, false, List, [], ◌∷◌, slice_get, position, Option, Some, None, option_map, Result, Ok, ok_or}
 use Rattle.hsr_node.specs.Words.{port_of}
 use Rattle.hsr_topology.specs.declared.end.End.{End}
 use Rattle.hsr_plan_text.specs.Fallible.{◌>>=◌}

@@ -1,5 +1,5 @@
 -- What RedBoxes hear of the stations behind them.
-use Rattle.std.specs.Prelude.{ℕ, ◌==◌, ◌&&◌, max, nat_lt, Bool, true, false, List, [], ◌∷◌, ◌++◌, map, count_by, position, slice_get, slice_set, Option, Some, None, unwrap_or, if◌then◌else◌}
+use Rattle.std.specs.Prelude.{ℕ, ◌==◌, ◌&&◌, max, nat_lt, Bool, false, List, [], ◌∷◌, ◌++◌, map, count_by, position, slice_get, slice_set, Option, Some, None, unwrap_or, if◌then◌else◌}
 use Rattle.hsr_node.specs.declared.place.Place.{Place}
 use Rattle.hsr_node.specs.declared.place.Place.TheVariants.{Danh, RedBox, QuadBox, Station}
 use Rattle.hsr_tables.specs.Proxies.{Proxies, is_known, learned, no_proxies}

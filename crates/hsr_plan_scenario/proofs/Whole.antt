@@ -1,5 +1,5 @@
 -- A plan or a scenario that is read whole, or up to a front that is too long.
-use Rattle.std.proofs.Common.{◌≡◌, ℕ, Bool, ◌^◌, ◌<◌, ◌++◌, true, false, nat_le, length, List, Option, inl, inr, sym, subst, arith}
+use Rattle.std.proofs.Common.{◌≡◌, ℕ, Bool, ◌^◌, ◌<◌, true, false, nat_le, length, List, Option, inl, inr, sym, subst, arith}
 use Rattle.std.proofs.lemmas.Bool.Decides.{nat_tests}
 use Rattle.hsr_plan_scenario.specs.Ends.{Ends}
 use Rattle.hsr_plan_scenario.specs.Input.{IsWhole}

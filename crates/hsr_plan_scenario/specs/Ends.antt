@@ -1,5 +1,5 @@
 -- How a plan's run ends, and what it wrote.
-use Rattle.std.specs.Prelude.{ℕ, ◌≡◌, List, Option}
+use Rattle.std.specs.Prelude.{ℕ, List, Option}
 use Rattle.std.specs.Io.KnownBytes.{Appends, Keeps}
 use Rattle.hsr_plan_scenario.specs.Says.{SaysPlan}
 use Rattle.hsr_plan_scenario.specs.declared.planning.Ending.{Ending}

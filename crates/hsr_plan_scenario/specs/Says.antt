@@ -1,5 +1,5 @@
 -- What it is for a text to be the scenario that a plan means.
-use Rattle.std.specs.Prelude.{◌≡◌, ℕ, ⊤, List, Result, Ok, Err}
+use Rattle.std.specs.Prelude.{◌≡◌, ℕ, List, Result, Ok, Err}
 use Rattle.hsr_scenario.specs.Meaning.{Meant, meaning}
 use Rattle.hsr_plan_text.specs.Plan.{Plan}
 use Rattle.hsr_plan_text.specs.Meaning.{plan_of}

@@ -9,7 +9,6 @@ use Rattle.hsr_plan_text.specs.Meaning.{plan_of}
 use Rattle.hsr_plan_text.specs.Plan.{Plan}
 use Rattle.hsr_plan_text.specs.declared.plan.Deed.{Deed}
 use Rattle.hsr_plan_text.specs.declared.plan.Deed.TheVariants.{Cut, Off}
-use Rattle.hsr_plan_text.specs.declared.plan.Event.{Event}
 use Rattle.hsr_plan_text.specs.declared.plan.LinkEnd.{LinkEnd}
 use Rattle.hsr_plan_network.specs.Nodes.{Node}
 use Rattle.hsr_plan_network.specs.Wiring.{Wired, wired}
