@@ -13,7 +13,7 @@ use Rattle.hsr_audit.specs.Listed.{certified_to, dst_of, frame_to, is_for, liste
 use Rattle.hsr_law.specs.Once.{is_addressed}
 use Rattle.hsr_law.specs.Run.{Run, owner_of, past_of}
 use Rattle.hsr_law.specs.Premises.{mac_at}
-use Rattle.hsr_audit.proofs.Logging.{past_length, past_more}
+use Rattle.hsr_needed.proofs.Places.{past_length, past_more}
 
 -- ---- receivers
 

@@ -1,10 +1,7 @@
-pub mod Logging
-pub mod Doubting
+pub mod Lists
 pub mod Certifying
-pub mod Judging
 pub mod Premised
 pub mod Clearing
-pub mod Placing
 pub mod Losses
 pub mod Crowding
 pub mod Timing

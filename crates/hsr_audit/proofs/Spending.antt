@@ -16,12 +16,12 @@ use Rattle.hsr_law.specs.Once.{HasNodes, IsCalm, NoStorm}
 use Rattle.hsr_law.specs.Premises.{BoxlessNumbersFirst, NothingForgotten}
 use Rattle.hsr_law.specs.Run.{Run, record_of}
 use Rattle.hsr_audit.specs.Budgeted.{AreInTime, IsEnough, IsFirstBreach, IsFirstCrowded, IsInTimeAt, IsMost, IsOverspent, IsSendMoment, crowd}
-use Rattle.hsr_audit.specs.Doubts.{IsFirstNot}
+use Rattle.hsr_premises.specs.Flaws.{IsFirstNot}
 use Rattle.hsr_audit.specs.Timed.{AllInTimeBelow, AreSendMoments, IsFirstLate, moment_sent}
 use Rattle.hsr_audit.specs.Windows.{IsFirstOver, IsMostBelow, crowd_in, lies_in}
 use Rattle.hsr_audit.specs.declared.breach.BudgetFault.{BudgetFault}
 use Rattle.hsr_audit.specs.declared.breach.BudgetFault.TheVariants.{Late, Crowded, NoMemory}
-use Rattle.hsr_audit.proofs.Clearing.{each_from, from_each}
+use Rattle.hsr_needed.proofs.Places.{each_from, from_each}
 
 -- ---- the moments of sends, and the sends
 

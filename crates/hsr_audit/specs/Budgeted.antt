@@ -13,7 +13,7 @@ use Rattle.hsr_law.specs.Budget.{IsBudgetHeld, IsInTime, is_within, sends_of}
 use Rattle.hsr_law.specs.Once.{IsExactlyOnce, is_copy}
 use Rattle.hsr_law.specs.Premises.{HasNoRedBox, IsRing, NothingForgotten, NothingMistaken, NumberedFirst, OneLossyLink}
 use Rattle.hsr_law.specs.Run.{Run, past_of, record_of, rows_of}
-use Rattle.hsr_audit.specs.Doubts.{HoldsAt, IsFirstNot}
+use Rattle.hsr_premises.specs.Flaws.{HoldsAt, IsFirstNot}
 use Rattle.hsr_audit.specs.declared.breach.BudgetFault.{BudgetFault}
 use Rattle.hsr_audit.specs.declared.breach.BudgetFault.TheVariants.{Late, Crowded, NoMemory}
 

@@ -1,15 +1,14 @@
 -- Why a run can't be certified: the doubts in their order, and which is the first.
 --     IsPremised      a ring, and all that exactly once rests on
 --     IsFirstDoubt    the doubt holds, and none before it
-use Rattle.std.specs.Prelude.{ℕ, ◌+◌, ◌%◌, ◌<◌, ◌≤◌, ◌≡◌, Bool, true, false, List, [], ◌∷◌, length, map, reverse, take, slice_index_or}
+use Rattle.std.specs.Prelude.{ℕ, ◌+◌, ◌%◌, ◌<◌, ◌≤◌, ◌≡◌, Bool, true, false, List, [], length, map, Option, Some, None}
 use Rattle.hsr_frame.specs.declared.node.Mode.{Mode}
 use Rattle.hsr_frame.specs.declared.node.Mode.TheVariants.{H, N, U}
-use Rattle.hsr_node.specs.Record.{now}
-use Rattle.hsr_node.specs.declared.entry.Entry.{Entry}
 use Rattle.hsr_node.specs.declared.place.Place.{Place}
 use Rattle.hsr_node.specs.declared.place.Place.TheVariants.{Danh, RedBox, QuadBox, Station}
-use Rattle.hsr_law.specs.Premises.{IsRing, Joins, KnowsOwn, NothingForgotten, NothingMistaken, OneLossyLink, Remembers}
-use Rattle.hsr_law.specs.Run.{Run, ends_of, owner_of, place_of, record_of}
+use Rattle.hsr_law.specs.Premises.{IsRing, Joins, NothingForgotten, NothingMistaken, OneLossyLink}
+use Rattle.hsr_law.specs.Run.{Run, ends_of, place_of}
+use Rattle.hsr_premises.specs.Flaws.{IsFirstNot, KnowsOwnAt, RemembersAt}
 use Rattle.hsr_audit.specs.declared.doubt.AuditFault.{AuditFault}
 use Rattle.hsr_audit.specs.declared.doubt.AuditFault.TheVariants.{Doubt, NoMemory}
 use Rattle.hsr_audit.specs.declared.doubt.Doubt as doubts
@@ -68,28 +67,6 @@ AreForwarding run = (k : ℕ) → k < length run.places → is_forwarding (place
 abbrev pub HaveOwnAddresses : Run → Type 0
 HaveOwnAddresses run = (i j : ℕ) → i < length run.places → j < length run.places → mac_of (place_of run i) ≡ mac_of (place_of run j) → i ≡ j
 
--- ---- entries
-
--- P of the entry at a place of a record, and of its past
-abbrev pub HoldsAt : (Entry → List Entry → Type 0) → List Entry → ℕ → Type 0
-HoldsAt P xs i = (d : Entry) → P (slice_index_or xs i d) (reverse (take i xs))
-
--- nothing that the arrival at a place of a node's record needs is forgotten
-abbrev pub RemembersAt : Run → ℕ → ℕ → Type 0
-RemembersAt run k = HoldsAt (λ x past. Remembers run.capacity (owner_of run k) past (now (x ∷ past)) x.event) (record_of run k)
-
--- nothing that the arrival at a place of a node's record finds is mistaken
-abbrev pub KnowsOwnAt : Run → ℕ → ℕ → Type 0
-KnowsOwnAt run k = HoldsAt (λ x past. KnowsOwn run.capacity (owner_of run k) past (now (x ∷ past)) x.event) (record_of run k)
-
--- of all places of all records the first where P fails: the lowest node, and its lowest place
-pub record IsFirstNot (run : Run) (P : ℕ → ℕ → Type 0) (k i : ℕ) : Type 0 where
-  pub node : k < length run.places
-  pub place : i < length (record_of run k)
-  pub fails : ¬ P k i
-  pub before : (j : ℕ) → j < i → P k j
-  pub nodes : (l j : ℕ) → l < k → j < length (record_of run l) → P l j
-
 -- ---- doubts
 
 -- the doubt holds, and none of those before it
@@ -121,3 +98,12 @@ IsFirstFault run NoMemory = Unit {0}
 abbrev pub IsRefused : Run → AuditFault → Type 0
 IsRefused run (Doubt d) = ¬ ((macs : List (List ℕ)) × IsPremised run macs)
 IsRefused run NoMemory = Unit {0}
+
+-- ---- what the records of a ring tell
+
+-- nothing is forgotten and nothing mistaken, or this is the first doubt of that kind
+abbrev pub IsRecordDoubt : Run → Option doubts.Doubt → Type 0
+IsRecordDoubt run None = NothingForgotten run × NothingMistaken run
+IsRecordDoubt run (Some (doubt.Forgot k i)) = IsFirstNot run (RemembersAt run) k i
+IsRecordDoubt run (Some (doubt.Mistaken k i)) = NothingForgotten run × IsFirstNot run (KnowsOwnAt run) k i
+IsRecordDoubt run (Some _) = ⊥

@@ -1,24 +1,25 @@
 //! The audit of a finished run.
 ghost use Rattle.std.specs.Prelude.{◌≡◌, length, IfErr, IfOk, OnOk};
 ghost use Rattle.hsr_audit.specs.Certificate.{IsCertified, certified};
-ghost use Rattle.hsr_audit.specs.Doubts.{IsFirstFault, IsRefused};
+ghost use Rattle.hsr_audit.specs.Doubts.{IsFirstFault, IsRecordDoubt, IsRefused};
 ghost use Rattle.hsr_audit.specs.Round.{IsClear, IsOwnRing};
 ghost use Rattle.hsr_closing.specs.Finished.{IsFinished};
 ghost use Rattle.hsr_deliveries.specs.Delivered.{AreComplete};
+ghost use Rattle.hsr_network_law.specs.Late.{NothingLate};
 
 use crate::certificate::{Certificate, Certified, list_record};
 use crate::doubt::{AuditFault, Doubt};
-use crate::doubted::record_doubt;
 use crate::round::{addresses, are_different, are_forwarding, is_round, loses_on_one};
 use hsr_closing::Closed;
 use hsr_deliveries::once_is_complete;
 use hsr_frame::{Mac, NoMemory};
 use hsr_law::exactly_once;
+use hsr_network_law::ring_is_crossed;
+use hsr_premises::{Flaw, first_flaw};
 use std::alloc::Global;
 
 /// The addresses round the ring, or the first doubt that the nodes and links give.
 fn ring_macs<const C: usize>(alloc: Global, closed: &Closed<C>) -> Result<Vec<Mac>, AuditFault>
-    ensures capacity { closed.now.run.capacity ≡ C }
     ensures finished { IsFinished closed.now }
     ensures ring { IfOk result (λ macs. IsOwnRing closed.now.run macs.items) }
     ensures fault { IfErr result (IsFirstFault closed.now.run) }
@@ -39,6 +40,22 @@ fn ring_macs<const C: usize>(alloc: Global, closed: &Closed<C>) -> Result<Vec<Ma
     Ok(macs)
 }
 
+/// The first doubt that the records of a ring give.
+fn record_doubt<const C: usize>(
+    alloc: Global,
+    closed: &Closed<C>,
+) -> Result<Option<Doubt>, NoMemory>
+    requires { NothingLate closed.now.run }
+    ensures { IfOk result (IsRecordDoubt closed.now.run) }
+{
+    match first_flaw(alloc, closed)? {
+        None => Ok(None),
+        Some(Flaw::Forgot { node, place }) => Ok(Some(Doubt::Forgot { node, place })),
+        Some(Flaw::Mistaken { node, place }) => Ok(Some(Doubt::Mistaken { node, place })),
+        Some(Flaw::Late { .. }) => unreachable!(),
+    }
+}
+
 /// The addresses round the ring of a run without a doubt, or the first doubt.
 fn clear_macs<const C: usize>(alloc: Global, closed: &Closed<C>) -> Result<Vec<Mac>, AuditFault>
     ensures finished { IsFinished closed.now }
@@ -49,7 +66,9 @@ fn clear_macs<const C: usize>(alloc: Global, closed: &Closed<C>) -> Result<Vec<M
     if !loses_on_one(closed) {
         return Err(AuditFault::Doubt(Doubt::TwoLinks));
     }
-    match record_doubt(alloc, closed, &macs) {
+    // no RedBox, so nothing is numbered late
+    ring_is_crossed();
+    match record_doubt(alloc, closed) {
         Ok(None) => Ok(macs),
         Ok(Some(doubt)) => Err(AuditFault::Doubt(doubt)),
         Err(_) => Err(AuditFault::NoMemory),

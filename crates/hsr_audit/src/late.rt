@@ -1,9 +1,9 @@
 //! The first arrival that comes late.
 ghost use Rattle.std.specs.Prelude.{◌≡◌, ◌<◌, length, MatchOption};
 ghost use Rattle.hsr_audit.specs.Budgeted.{AreInTime, IsInTimeAt};
-ghost use Rattle.hsr_audit.specs.Doubts.{IsFirstNot};
 ghost use Rattle.hsr_audit.specs.Timed.{InTimeBelow, IsFirstLate, is_in_time, is_timely, lists_of, moments_of};
 ghost use Rattle.hsr_law.specs.Run.{record_of};
+ghost use Rattle.hsr_premises.specs.Flaws.{IsFirstNot};
 
 use crate::moments::moment_in;
 use hsr_closing::Closed;

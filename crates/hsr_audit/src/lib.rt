@@ -4,11 +4,6 @@
 //!
 //! Its modules, in the order in which to read them:
 //! - `round`: whether nodes and links are a ring, and whether it lost copies on one link at most
-//! - `reading`: what the audit asks of an entry
-//! - `marks`: what an egress noted
-//! - `log`: what a node noted
-//! - `found`: the first place of a record that gives reason for doubt
-//! - `doubted`: the first such place of all records
 //! - `doubt`: why a run isn't certified
 //! - `certificate`: what a certificate lists
 //! - `auditing`: the audit, its call
@@ -24,13 +19,8 @@ mod breach;
 mod budgeting;
 mod certificate;
 mod doubt;
-mod doubted;
-mod found;
 mod late;
-mod log;
-mod marks;
 mod moments;
-mod reading;
 mod round;
 mod windows;
 

@@ -93,7 +93,7 @@ fn push_address(macs: &mut Vec<Mac>, place: &Place) -> Result<(), NoMemory>
 }
 
 /// The addresses of DANHs.
-#[tactic(auto, using(crate::proofs::Logging::append_option))]
+#[tactic(auto, using(crate::proofs::Lists::append_option))]
 pub(crate) fn addresses(alloc: Global, places: &[Place]) -> Result<Vec<Mac>, NoMemory>
     ensures { IfOk result (λ macs. macs.items ≡ filter_map address_of places.now) }
 {
