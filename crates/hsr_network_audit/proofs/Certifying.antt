@@ -19,7 +19,7 @@ use Rattle.hsr_law.specs.Closed.{IsClosed, IsSend}
 use Rattle.hsr_law.specs.Run.{Run, past_of, place_of, record_of}
 use Rattle.hsr_law.proofs.Same.{same_address}
 use Rattle.hsr_network_law.proofs.Delivered.{not_to_itself}
-use Rattle.hsr_network_law.specs.Delivered.{AllCovered, AllReached, IsOnceInNetwork, OnceInNetwork, is_covered, is_meant}
+use Rattle.hsr_network_law.specs.Delivered.{IsOnceInNetwork, OnceInNetwork, is_covered, is_meant}
 use Rattle.hsr_network_law.specs.Late.{LateDecides}
 use Rattle.hsr_network_law.specs.Lives.{LivesStay}
 use Rattle.hsr_network_law.specs.Rings.{IsCrossed, RingIsCrossed}
@@ -31,7 +31,7 @@ use Rattle.hsr_ways.specs.Networks.{IsFirstReason}
 use Rattle.hsr_ways.specs.declared.no_network.NoNetwork.{NoNetwork}
 use Rattle.hsr_ways.specs.declared.no_network.NoNetwork.TheVariants.{Mode, SameAddress, Side}
 use Rattle.hsr_network_audit.specs.Certificate.{IsCertified, TakenUpOnce}
-use Rattle.hsr_network_audit.specs.Doubts.{ArePromised, AreServed, IsCoveredAt, IsCutDoubt, IsFirstDoubt, IsFirstFault, IsNoRing, IsPremised, IsRefused, IsServedAt, IsSound, doubt_at, doubt_of, is_promised, probe_at}
+use Rattle.hsr_network_audit.specs.Doubts.{ArePromised, AreServed, IsCoveredAt, IsCutDoubt, IsFirstDoubt, IsFirstFault, IsNoRing, IsPremised, IsRefused, IsServedAt, IsSound, doubt_at, doubt_of, probe_at}
 use Rattle.hsr_network_audit.specs.Placed.{HoldsIn}
 use Rattle.hsr_network_audit.specs.declared.doubt.NetworkFault.{NetworkFault}
 use Rattle.hsr_network_audit.specs.declared.doubt.NetworkFault.TheVariants.{Doubt, NoMemory}

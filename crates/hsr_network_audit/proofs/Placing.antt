@@ -1,5 +1,5 @@
 -- Where a fact of the places of records fails first.
-use Rattle.std.proofs.Common.{◌≡◌, ℕ, ◌+◌, ◌<◌, ◌≤◌, length, subst, sym, arith, ⊎_elim}
+use Rattle.std.proofs.Common.{◌≡◌, ℕ, ◌+◌, ◌<◌, length, subst, arith, ⊎_elim}
 use Rattle.std.proofs.lemmas.Bool.{cases_lt}
 use Rattle.hsr_law.specs.Run.{Run, record_of}
 use Rattle.hsr_premises.specs.Flaws.{IsFirstNot}

@@ -1,11 +1,11 @@
 -- From a set of nodes that are reached to sends that reach all that they are due at.
-use Rattle.std.proofs.Common.{◌≡◌, ℕ, ◌+◌, ◌<◌, Bool, true, false, List, length, Option, Some, None, refl, sym, ap, ◌∙◌, subst, arith, ⊎_elim}
+use Rattle.std.proofs.Common.{◌≡◌, ℕ, ◌+◌, ◌<◌, true, List, length, Option, Some, None, sym, ◌∙◌, subst, arith, ⊎_elim}
 use Rattle.std.proofs.lemmas.Bool.{cases_lt, false≢true}
 use Rattle.hsr_node.specs.Flow.{send_at}
 use Rattle.hsr_node.specs.declared.sending.Sending.{Sending}
 use Rattle.hsr_deliveries.specs.Delivered.{is_due}
 use Rattle.hsr_frame.specs.Grammar.{Fields}
-use Rattle.hsr_law.specs.Run.{Run, past_of, place_of, record_of}
+use Rattle.hsr_law.specs.Run.{Run, past_of, place_of}
 use Rattle.hsr_numbers.specs.Numbers.{has}
 use Rattle.hsr_network_audit.specs.Doubts.{IsCutOff, IsServedAt, probe_at}
 use Rattle.hsr_network_audit.specs.Reaching.{AreReached, DueBelow, IsCutAt, IsFirstUnreached, IsUnreached}

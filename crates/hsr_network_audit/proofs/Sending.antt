@@ -1,6 +1,5 @@
 -- The entry at a place of a record, and the send that it is.
-use Rattle.std.proofs.Common.{◌≡◌, ℕ, ◌<◌, List, length, reverse, take, slice_index_or, Option, Some, None, sym, ap, ◌∙◌, subst, arith, true}
-use Rattle.std.specs.Prelude.{◌↔◌}
+use Rattle.std.proofs.Common.{◌≡◌, ℕ, ◌<◌, length, reverse, slice_index_or, Some, None, sym, ap, ◌∙◌, subst, arith, true}
 use Rattle.std.proofs.lemmas.Option.{none-some}
 use Rattle.hsr_node.specs.Flow.{send_at, sent_by}
 use Rattle.hsr_node.specs.declared.entry.Entry.{Entry}

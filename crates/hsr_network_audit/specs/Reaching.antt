@@ -3,7 +3,7 @@ use Rattle.std.specs.Prelude.{ℕ, ◌<◌, ◌≡◌, ◌↔◌, true, false, L
 use Rattle.hsr_frame.specs.Grammar.{Fields}
 use Rattle.hsr_node.specs.declared.event.Probe.{Probe}
 use Rattle.hsr_deliveries.specs.Delivered.{is_due}
-use Rattle.hsr_law.specs.Run.{Run, record_of}
+use Rattle.hsr_law.specs.Run.{Run}
 use Rattle.hsr_network_law.specs.Ways.{IsReached}
 use Rattle.hsr_numbers.specs.Numbers.{has}
 use Rattle.hsr_premises.specs.Flaws.{IsFirstNot}

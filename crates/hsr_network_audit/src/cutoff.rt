@@ -1,16 +1,20 @@
 //! The first send that doesn't reach a node that it is due at.
-ghost use Rattle.std.specs.Prelude.{◌≡◌, ◌<◌, length, IfOk};
+ghost use Rattle.std.specs.Prelude.{◌≡◌, ◌<◌, [], length, IfOk, OnOk};
+ghost use Rattle.hsr_deliveries.specs.Delivered.{lost};
 ghost use Rattle.hsr_law.specs.Run.{record_of};
 ghost use Rattle.hsr_network_audit.specs.Reaching.{AreReached, IsCutAt, IsCutIn, IsFirstCut, IsFirstUnreached};
+ghost use Rattle.hsr_network_audit.specs.Shared.{AreFound};
 
 use crate::lossy::ways_of;
+use crate::shared::{Found, found_of, keep};
 use hsr_closing::Closed;
-use hsr_deliveries::{ByProbe, is_due, losses_by_send, losses_of};
+use hsr_deliveries::{ByProbe, Loss, is_due, losses_by_send, losses_of};
 use hsr_frame::NoMemory;
 use hsr_node::{Probe, sent_view};
 use hsr_numbers::Numbers;
 use hsr_tag::FrameView;
 use hsr_ways::Ways;
+use indexmap::IndexMap;
 use std::alloc::Global;
 use std::marker::Model;
 
@@ -56,19 +60,56 @@ impl<'a, const C: usize> Reach<'a, C> {
         })
     }
 
-    /// The nodes that a send reaches.
-    fn reached(
+    /// The nodes that a send reaches where these are all its losses.
+    fn search(&self, send: Probe, frame: &FrameView<'_>, losses: &[Loss]) -> Numbers
+        requires node { send.node < length self.now.places }
+        requires losses { losses.now ≡ lost self.now send }
+        ensures { AreReached self.now send frame.now result }
+    {
+        let _ = self.closed.topology();
+        self.ways.reached(send, frame, &ways_of(losses))
+    }
+
+    /// The nodes that a send reaches that lost nothing: those of an earlier one to its destination, of its type, if there was one.
+    fn shared(
         &self,
-        alloc: Global,
+        found: &mut Found,
         send: Probe,
         frame: &FrameView<'_>,
     ) -> Result<Numbers, NoMemory>
-        requires { send.node < length self.now.places }
-        ensures { IfOk result (λ nodes. AreReached self.now send frame.now nodes) }
+        requires node { send.node < length self.now.places }
+        requires whole { lost self.now send ≡ [] }
+        requires found { AreFound self.now send.node found.old }
+        ensures reached { IfOk result (λ nodes. AreReached self.now send frame.now nodes) }
+        ensures found { OnOk result (AreFound self.now send.node found.new) }
     {
-        let _ = self.closed.topology();
+        if let Some(nodes) = found_of(found, frame) {
+            return Ok(nodes);
+        }
+        let nodes = self.search(send, frame, &[]);
+        keep(found, frame, nodes)?;
+        Ok(nodes)
+    }
+
+    /// The nodes that a send reaches, where these were found of earlier sends of its node.
+    fn reached(
+        &self,
+        alloc: Global,
+        found: &mut Found,
+        send: Probe,
+        frame: &FrameView<'_>,
+    ) -> Result<Numbers, NoMemory>
+        requires node { send.node < length self.now.places }
+        requires found { AreFound self.now send.node found.old }
+        ensures reached { IfOk result (λ nodes. AreReached self.now send frame.now nodes) }
+        ensures found { OnOk result (AreFound self.now send.node found.new) }
+    {
         let losses = losses_of(alloc, &self.losses, send)?;
-        Ok(self.ways.reached(send, frame, &ways_of(losses.as_slice())))
+        if losses.is_empty() {
+            self.shared(found, send, frame)
+        } else {
+            Ok(self.search(send, frame, losses.as_slice()))
+        }
     }
 
     /// The lowest node that a send to this destination, of this type, is due at and that isn't among those reached.
@@ -89,17 +130,25 @@ impl<'a, const C: usize> Reach<'a, C> {
     }
 
     /// The lowest node that the entry at a place of a node's record, if it is a send, is due at and doesn't reach.
-    fn cut_at(&self, alloc: Global, node: usize, place: usize) -> Result<Option<usize>, NoMemory>
+    fn cut_at(
+        &self,
+        alloc: Global,
+        found: &mut Found,
+        node: usize,
+        place: usize,
+    ) -> Result<Option<usize>, NoMemory>
         requires node { node < length self.now.places }
         requires place { place < length (record_of self.now node) }
-        ensures { IfOk result (IsCutAt self.now node place) }
+        requires found { AreFound self.now node found.old }
+        ensures cut { IfOk result (IsCutAt self.now node place) }
+        ensures found { OnOk result (AreFound self.now node found.new) }
     {
         let x = &self.closed.entries(node)[place];
         let Some(sending) = sent_view(&self.closed.topology().places()[node], &x.event, &x.outcome)
         else {
             return Ok(None);
         };
-        let reached = self.reached(alloc, Probe { node, place }, &sending.frame)?;
+        let reached = self.reached(alloc, found, Probe { node, place }, &sending.frame)?;
         Ok(self.first_unreached(node, &sending.frame, &reached))
     }
 
@@ -109,8 +158,9 @@ impl<'a, const C: usize> Reach<'a, C> {
         requires { node < length self.now.places }
         ensures { IfOk result (IsCutIn self.now node (length (record_of self.now node))) }
     {
+        let mut found = IndexMap::new(alloc);
         for place in 0..self.closed.entries(node).len() {
-            if let Some(receiver) = self.cut_at(alloc, node, place)? {
+            if let Some(receiver) = self.cut_at(alloc, &mut found, node, place)? {
                 return Ok(Some((place, receiver)));
             }
         }

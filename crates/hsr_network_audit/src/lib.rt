@@ -6,6 +6,7 @@
 //! - `covered`: which sends the law of networks covers, and so a certificate
 //! - `lossy`: the ways on which a send lost copies
 //! - `sends`: the first send that isn't covered
+//! - `shared`: what was found of sends that lost nothing, for those that are like them
 //! - `cutoff`: the first send that doesn't reach a node
 //! - `auditing`: the audit, its call
 #![tactic(auto)]
@@ -16,6 +17,7 @@ mod cutoff;
 mod doubt;
 mod lossy;
 mod sends;
+mod shared;
 
 pub use auditing::{NetworkCertificate, audit_network};
 pub use doubt::{Doubt, NetworkFault};

@@ -1,4 +1,4 @@
-use Rattle.std.proofs.Common.{rules, ◌≡◌, Some, None, length, subst}
+use Rattle.std.proofs.Common.{rules, Some, length}
 use Rattle.hsr_law.specs.Run.{Run}
 use Rattle.hsr_network_audit.specs.Doubts.{AreServed, IsCoveredAt, IsCutDoubt, IsSound}
 use Rattle.hsr_network_audit.specs.Placed.{HoldsIn}

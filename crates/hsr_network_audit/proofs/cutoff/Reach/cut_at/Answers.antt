@@ -1,4 +1,4 @@
-use Rattle.std.proofs.Common.{rules, ◌≡◌, ◌<◌, ◌∙◌, ℕ, Some, None, length, slice_index_or, sym, ap}
+use Rattle.std.proofs.Common.{rules, ◌≡◌, ◌∙◌, ℕ, Some, slice_index_or, sym, ap}
 use Rattle.hsr_node.specs.Flow.{send_at}
 use Rattle.hsr_node.specs.declared.entry.Entry.{Entry}
 use Rattle.hsr_node.specs.declared.place.Place.{Place}
@@ -8,8 +8,8 @@ use Rattle.hsr_network_audit.proofs.Reached.{cut_at, served_none}
 use Rattle.hsr_network_audit.proofs.Sending.{sent_is}
 use Rattle.hsr_network_audit.proofs.cutoff.Reach.cut_at.Goals as goal
 
-pub returns-in_default : goal.returns-in_default
-returns-in_default g c =
+pub returns-in_default-clause-cut : goal.returns-in_default-clause-cut
+returns-in_default-clause-cut g c =
     let run : Run = c.args.self.now in
     let k : ℕ = c.args.node in
     let i : ℕ = c.args.place in
@@ -19,8 +19,8 @@ returns-in_default g c =
     let p_is : p ≡ slice_index_or run.places k p = search rules in
     served_none run k i (sent_is run k i p x c.requires.node c.requires.place p_is x_is ∙ (sym c.sent_view.ensures ∙ c.in_default.is))
 
-pub returns : goal.returns
-returns g c =
+pub returns-clause-cut : goal.returns-clause-cut
+returns-clause-cut g c =
     let run : Run = c.args.self.now in
     let k : ℕ = c.args.node in
     let i : ℕ = c.args.place in
@@ -31,4 +31,4 @@ returns g c =
     let p_is : p ≡ slice_index_or run.places k p = search rules in
     let some : send_at (place_of run k) i (past_of run k) ≡ Some s =
     sent_is run k i p x c.requires.node c.requires.place p_is x_is ∙ (sym c.in-Some.ensures ∙ ap (λ (t : Sending). Some t) (sym c.sending.view_is)) in
-    cut_at run k i s c.requires.node some c.in_ok-reached.reached c.in_ok-reached.ensures c.first_unreached.result c.first_unreached.ensures
+    cut_at run k i s c.requires.node some c.in_ok-reached.reached c.in_ok-reached.ensures.reached c.first_unreached.result c.first_unreached.ensures
