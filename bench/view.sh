@@ -1,9 +1,10 @@
 #!/bin/sh
 # Shows the run of each example by hsr_view, and tells what other tools make of it: tshark (Debian's package tshark: apt-get install
-# tshark) of its captures, and the bench's own report of its devices.
+# tshark) of its captures, librsvg (package librsvg2-bin) of its pictures, and the bench's own report of its devices. Runs rows_view.
 # Usage: bench/view.sh HSR_BENCH HSR_VIEW, both built. Status 1 where a capture doesn't open, has a malformed field or a warning,
-# hasn't as many packets as the run has rows, of the whole, of each link and of each send; where names aren't the scenario's; or where
-# devices don't sum up to the report.
+# hasn't as many packets as the run has rows, of the whole, of each link and of each send; where names aren't the scenario's; where a
+# picture doesn't render, or hasn't as many arrows as rows are wanted; where over 400 aren't refused; or where devices don't sum up to
+# the report.
 set -u
 bench=$1 view=$2
 here=$(cd "$(dirname "$0")/.." && pwd)
@@ -19,6 +20,20 @@ packets() {
 # the rows of a transcript, each with its link and its send
 rows() {
     awk '/^carried /{link = count++} /^(forth|back) /{print link, $2}' "$1"
+}
+
+# drawn WANTED WORDS..: whether a picture has so many arrows, and renders; over 400 it has to be refused
+drawn() {
+    wanted=$1
+    shift
+    if "$view" picture "$@" <"$run" >"$work/run.svg" 2>"$work/fault"; then
+        told "arrows of $*" "$(grep -c '<line class="arrow"' "$work/run.svg")" "$wanted"
+        rsvg-convert -o "$work/run.png" "$work/run.svg" 2>>"$work/said" || told "picture of $*" 'not rendered' rendered
+    else
+        told "fault of $*" "$(cat "$work/fault"; wc -c <"$work/run.svg")" "fault: copies $wanted, and a picture shows 400: choose by --send, --from or --until
+0"
+        told "refused at $wanted" "$((wanted > 400))" 1
+    fi
 }
 
 # told WHAT FOUND WANTED: counts a difference
@@ -67,6 +82,16 @@ for plan in "$here"/examples/*.toml; do
         told 'a link that is not there' shown refused
     fi
 
+    # pictures: the whole, each send alone, and the two halves of time
+    drawn "$rows" --names "$plan"
+    for send in $(cut -d' ' -f2 "$work/rows" | sort -u | head -5); do
+        drawn "$(awk -v send="$send" '$2 == send' "$work/rows" | wc -l)" --send "n$send"
+    done
+    tshark -n -r "$work/run.pcapng" -t u -T fields -e frame.time_epoch 2>>"$work/said" | tr -d . | sed 's/000$//; s/^0*//; s/^$/0/' >"$work/moments"
+    middle=$(sort -n "$work/moments" | awk '{m[NR] = $1} END {print m[int((NR + 1) / 2)] + 0}')
+    drawn "$(awk -v middle="$middle" '$1 <= middle' "$work/moments" | wc -l)" --until "$middle"
+    drawn "$(awk -v middle="$middle" '$1 >= middle' "$work/moments" | wc -l)" --from "$middle"
+
     # devices: the node column and the sum over ports are the report's counters; the losses are those of the links, each told twice
     "$view" devices <"$run" >"$work/devices"
     "$bench" run <"$plan" >"$work/report"
@@ -81,4 +106,17 @@ for plan in "$here"/examples/*.toml; do
     told 'words of tshark' "$(grep -vc 'Running as user' "$work/said")" 0
     echo "$name: rows $rows"
 done
+# over 400 copies: seventy sends to a group round a ring of three, of six copies each
+name='seventy sends'
+{
+    sed '/^step/,$d' "$here/examples/ring3.toml"
+    echo 'step = ['
+    for _ in $(seq 70); do echo '{do="send", node="n0", to="01-00-5E-00-00-01", type=0x88B5}, {do="drain"},'; done
+    echo ']'
+} | "$bench" run --transcript >"$run"
+drawn 420
+drawn 6 --send n0:0
+drawn 12 --send n0:0 --send n0:3
+
+(cd "$here" && bench/rows.sh "$view" rows_view/words rows_view/faults) || bad=1
 exit $bad

@@ -17,7 +17,7 @@ use Rattle.hsr_link.specs.declared.row.Dir.{Dir}
 use Rattle.hsr_link.specs.declared.row.Fate.{Fate}
 use Rattle.hsr_link.specs.declared.row.Fate.TheVariants.{LostDown, LostCut, LostOverrun}
 use Rattle.hsr_link.specs.declared.row.Row.{Row}
-use Rattle.hsr_law.specs.Run.{Run, ends_of, from_end, record_of, to_end}
+use Rattle.hsr_law.specs.Run.{Run, ends_of, from_end, record_of, rows_of, to_end}
 use Rattle.hsr_topology.specs.declared.end.End.{End}
 use Rattle.hsr_names.specs.Names.{name_of, port_text}
 use Rattle.hsr_story.specs.declared.shown.Shown.{Shown}
@@ -89,3 +89,11 @@ became names run shown row =
 
 abbrev pub comment : List (List ℕ) → Run → Shown → Row → List ℕ
 comment names run shown row = became names run shown row ++ send_if names row.carried.probe
+
+-- that of the row that stands somewhere, if there is one
+abbrev pub comment_if : List (List ℕ) → Run → Shown → Option Row → List ℕ
+comment_if names run shown None = []
+comment_if names run shown (Some row) = comment names run shown row
+
+abbrev pub comment_of : List (List ℕ) → Run → Shown → List ℕ
+comment_of names run shown = comment_if names run shown (slice_get (rows_of run shown.link) shown.number)

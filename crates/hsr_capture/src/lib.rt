@@ -12,3 +12,4 @@ mod packets;
 
 pub use capturing::capture;
 pub use hsr_pcapng::BlockFault;
+pub use packets::put_shown_comment;

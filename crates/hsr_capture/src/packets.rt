@@ -3,9 +3,11 @@ ghost use Rattle.std.specs.Prelude.{◌≡◌, ◌<◌, ◌≤◌, ◌++◌, len
 ghost use Rattle.hsr_law.specs.Run.{ends_of, from_end, rows_of, to_end};
 ghost use Rattle.hsr_order.specs.Fronts.{lists_of};
 ghost use Rattle.hsr_capture.specs.Capture.{interface_number, interface_of, packet_if, packet_of};
+ghost use Rattle.hsr_capture.specs.Comments.{comment_of};
 
 use crate::comments::{put_comment, put_interface_description, put_interface_name};
 use hsr_closing::Closed;
+use hsr_frame::NoMemory;
 use hsr_link::{Dir, Row};
 use hsr_pcapng::{BlockFault, put_interface, put_packet};
 use hsr_story::Shown;
@@ -123,6 +125,27 @@ pub(crate) fn put_shown<const C: usize>(
     }
     match rows_at(closed, shown.link).get(shown.number) {
         Some(row) => put_row(alloc, text, names, closed, shown, row),
+        None => Ok(()),
+    }
+}
+
+/// Puts the comment of a row of a run last, if there is such a row: what became of its copy, and of which send it is.
+pub fn put_shown_comment<const C: usize>(
+    text: &mut Vec<u8>,
+    names: &[Vec<u8>],
+    closed: &Closed<C>,
+    shown: &Shown,
+) -> Result<(), NoMemory>
+    ensures { OnOk result (text.new.items ≡ text.old.items ++ comment_of (lists_of names.now) closed.now.run shown.now) }
+{
+    if shown.link >= closed.topology().links().len() {
+        return Ok(());
+    }
+    match rows_at(closed, shown.link).get(shown.number) {
+        Some(row) => {
+            let to = to_end(closed, shown.link, row.dir);
+            put_comment(text, names, closed, shown, row, to)
+        }
         None => Ok(()),
     }
 }

@@ -142,6 +142,20 @@ fn list_link<const C: usize>(
     Ok(())
 }
 
+/// The hops of the rows of one link, in their order. `NoMemory` where room is refused.
+pub fn link_hops<const C: usize>(
+    alloc: Global,
+    closed: &Closed<C>,
+    link: usize,
+) -> Result<Vec<Hop>, NoMemory>
+    requires { link < length closed.now.run.links }
+    ensures { IfOk result (λ list. list.items ≡ hops_from closed.now.run link 0 (rows_of closed.now.run link)) }
+{
+    let mut list = Vec::new(alloc);
+    list_link(alloc, &mut list, closed, link)?;
+    Ok(list)
+}
+
 /// The hops of a finished run, by link, then by place on the link: for each copy that was put on a link, the entry that passed it, and
 /// the entry that judged it. Copies that are equal in send and octets are told apart by their order: the k-th that was put is the
 /// k-th that was passed, and the k-th that was taken is the k-th that came. `NoMemory` where room is refused.

@@ -4,7 +4,7 @@
 //! - `hop`: a hop
 //! - `partners`: which of some copies is which of others, by an index
 //! - `copies`: what the entries of a record passed, and what they let in
-//! - `hopping`: the hops of a run, its call
+//! - `hopping`: the hops of a run, its calls
 #![tactic(auto)]
 
 mod copies;
@@ -13,4 +13,4 @@ mod hopping;
 mod partners;
 
 pub use hop::Hop;
-pub use hopping::hops;
+pub use hopping::{hops, link_hops};

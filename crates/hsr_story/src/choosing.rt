@@ -68,7 +68,7 @@ fn rows_at<const C: usize>(closed: &Closed<C>, link: usize) -> &[Row]
 }
 
 /// Whether a row is wanted.
-fn is_wanted<const C: usize>(closed: &Closed<C>, choice: Choice, shown: &Shown) -> bool
+pub fn is_wanted<const C: usize>(closed: &Closed<C>, choice: Choice, shown: &Shown) -> bool
     ensures { result ≡ is_wanted closed.now.run choice shown.now }
 {
     let is_on = match choice.link {

@@ -19,6 +19,6 @@ mod shown;
 mod telling;
 
 pub use choice::{Choice, ChoiceFault};
-pub use choosing::{check_choice, chosen};
+pub use choosing::{check_choice, chosen, is_wanted};
 pub use shown::Shown;
-pub use telling::{StoryFault, story};
+pub use telling::{StoryFault, entry_times, story};

@@ -132,6 +132,20 @@ fn ordered(alloc: Global, origins: &[Vec<Origin>], list: &[Hop]) -> Result<Vec<S
     }
 }
 
+/// The time of each entry of a finished run, by node and place: the latest of its own moment and of one step after each entry that it
+/// follows. `Circle` exactly where there are no such times. `NoMemory` where room is refused.
+pub fn entry_times<const C: usize>(
+    alloc: Global,
+    closed: &Closed<C>,
+) -> Result<Vec<Vec<Time>>, StoryFault>
+    ensures times { IfOk result (λ times. AreTimes (origins closed.now.run closed.now.plan) (at_spot (lists_of times.items))) }
+    ensures circle { IfErr result (IfCircle (HasNoTimes (origins closed.now.run closed.now.plan))) }
+{
+    let hops = hops(alloc, closed)?;
+    let origins = origins(alloc, closed, hops.as_slice())?;
+    times_of(alloc, origins.as_slice())
+}
+
 /// The rows of a finished run in the order of time, each once. A row stands at the entry that judged its copy, or where the copy was
 /// lost at the one that passed it. An entry comes after the one before it in its record, after the main worker's entry before it if
 /// it is the main worker's, and after the one that passed the copy with which it came. `Circle` exactly where there is no such

@@ -8,9 +8,10 @@ use Rattle.hsr_topology.specs.Topology.{Topology}
 use Rattle.hsr_closing.specs.Finished.{Finished}
 use Rattle.hsr_order.specs.Fronts.{lists_of}
 use Rattle.hsr_devices.specs.Listing.{IsListing}
-use Rattle.hsr_view.specs.Viewing.{AreNames, IsCaptureOf, IsSend, IsShown, Shows, send_words, topology_of}
+use Rattle.hsr_view.specs.Viewing.{AreNames, IsCaptureOf, IsPictured, IsSend, IsShown, Shows, send_words, topology_of}
 use Rattle.hsr_view.specs.declared.asked.What.{What}
-use Rattle.hsr_view.specs.declared.asked.What.TheVariants.{Capture, Devices}
+use Rattle.hsr_view.specs.declared.asked.What.TheVariants.{Capture, Devices, Picture}
+use Rattle.hsr_picture.specs.declared.span.Span.{Span}
 use Rattle.hsr_view.specs.declared.fault.Fault.{Fault}
 
 abbrev Names : Type 0
@@ -28,6 +29,15 @@ module _ (f : Finished) (t : Topology) (scenario : Option (List ℕ)) (names : N
       let P : Names → Type 0 = λ ns. IsListing (lists_of ns) f.run text in
       let S : What → Type 0 = λ w. Shows (lists_of names) f w text in
       record { names = lists_of names; named = named_there f t scenario names places links named; shows = subst S (sym is) (subst P same listing) }
+
+  pub shown_picture : (what : What) (one : Names) (sends : Vec (Bor (List ℕ) × ℕ) Global) (list : List (Bor (List ℕ) × ℕ)) (span : Span) (r : Result (Vec ℕ Global) Fault) →
+      what ≡ Picture sends span → one ≡ names → list ≡ sends.items → IfOk r (λ _. IsPictured (lists_of one) f list span) → IfOk r (λ octets. IsShown f what scenario octets.items)
+  shown_picture what one sends list span (Err fault) is first second picture = tt
+  shown_picture what one sends list span (Ok octets) is first second picture =
+      let P : Names → Type 0 = λ ns. IsPictured (lists_of ns) f list span in
+      let Q : List (Bor (List ℕ) × ℕ) → Type 0 = λ xs. IsPictured (lists_of names) f xs span in
+      let S : What → Type 0 = λ w. Shows (lists_of names) f w octets.items in
+      record { names = lists_of names; named = named_there f t scenario names places links named; shows = subst S (sym is) (subst Q second (subst P first picture)) }
 
   pub shown_capture : (what : What) (one two : Names) (link : Option ℕ) (send : Option (Bor (List ℕ) × ℕ)) (probe : Option Probe) (r : Result (Vec ℕ Global) Fault) →
       what ≡ Capture link send → one ≡ names → IsSend (lists_of one) (send_words send) probe → two ≡ names →

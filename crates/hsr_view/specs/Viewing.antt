@@ -3,8 +3,10 @@
 --     IsMissing     why a choice is refused
 --     AreNames      the names of a scenario with this topology
 --     IsSend        the send that words mean
+--     AreSends      the sends that words mean
+--     IsPictured    there is a picture of what is wanted
 --     IsShownOf     what is shown of the text of a run
-use Rattle.std.specs.Prelude.{ℕ, ◌≡◌, List, filter, Ok, Err, [], Option, Some, None, option_map}
+use Rattle.std.specs.Prelude.{ℕ, ◌≡◌, List, map, filter, Ok, Err, [], Option, Some, None, option_map}
 use Rattle.hsr_node.specs.declared.event.Probe.{Probe}
 use Rattle.hsr_topology.specs.Topology.{Topology}
 use Rattle.hsr_closing.specs.Finished.{Finished}
@@ -26,9 +28,13 @@ use Rattle.hsr_law.specs.Run.{Run}
 use Rattle.hsr_transcript.specs.Answers.{IsTextOf}
 use Rattle.std.specs.Borrow.{Bor}
 use Rattle.hsr_view.specs.declared.asked.What.{What}
-use Rattle.hsr_view.specs.declared.asked.What.TheVariants.{Capture, Devices}
+use Rattle.hsr_view.specs.declared.asked.What.TheVariants as asked
 use Rattle.hsr_view.specs.declared.fault.Fault.{Fault}
-use Rattle.hsr_view.specs.declared.fault.Fault.TheVariants.{Link, Send, Circle, TooLong, Memory}
+use Rattle.hsr_view.specs.declared.fault.Fault.TheVariants.{Link, Send, Moments, Copies, Circle, TooLong, Memory}
+use Rattle.hsr_picture.specs.Pictures.{IsPicture, Picture}
+use Rattle.hsr_picture.specs.declared.picturing.PictureFault.{PictureFault}
+use Rattle.hsr_picture.specs.declared.picturing.PictureFault.TheVariants as refused
+use Rattle.hsr_picture.specs.declared.span.Span.{Span}
 
 -- ---- faults
 
@@ -43,6 +49,13 @@ story_fault story.NoMemory = Memory
 abbrev pub block_fault : BlockFault → Fault
 block_fault block.TooLong = TooLong
 block_fault block.NoMemory = Memory
+
+abbrev pub picture_fault : PictureFault → Fault
+picture_fault refused.NoSend = Send
+picture_fault refused.Reversed = Moments
+picture_fault refused.Circle = Circle
+picture_fault (refused.TooMany copies) = Copies copies
+picture_fault refused.NoMemory = Memory
 
 -- the run hasn't the link, or the send, that is wanted; or its rows have no order of time
 abbrev pub IsMissing : Finished → Choice → Fault → Type 0
@@ -70,6 +83,12 @@ abbrev pub IsSend : List (List ℕ) → Option (List ℕ × ℕ) → Option Prob
 IsSend names None send = send ≡ None
 IsSend names (Some asked) send = (node : ℕ) × (node_called names asked.0 ≡ Some node) × (send ≡ Some (record { node = node; place = asked.1 }))
 
+abbrev pub probe_of : List (List ℕ) → Bor (List ℕ) × ℕ → Option Probe
+probe_of names asked = option_map (λ node. record { node = node; place = asked.1 }) (node_called names asked.0.now)
+
+abbrev pub AreSends : List (List ℕ) → List (Bor (List ℕ) × ℕ) → List Probe → Type 0
+AreSends names asked sends = map (probe_of names) asked ≡ map (λ send. Some send) sends
+
 -- ---- captures
 
 -- the run has what is wanted, and this is the capture of those of its rows that are wanted, in the order of time
@@ -78,6 +97,15 @@ pub record IsCaptureOf (names : List (List ℕ)) (f : Finished) (wanted : Choice
   pub rows : List Shown
   pub story : IsStory f.run f.plan rows
   pub octets_are : octets ≡ capture names f.run (filter (is_wanted f.run wanted) rows)
+
+-- ---- pictures
+
+-- what is asked for is there, and a picture shows it; no clause says how it is drawn
+pub record IsPictured (names : List (List ℕ)) (f : Finished) (asked : List (Bor (List ℕ) × ℕ)) (span : Span) : Type 0 where
+  pub sends : List Probe
+  pub meant : AreSends names asked sends
+  pub picture : Picture
+  pub shows : IsPicture f.run f.plan sends span picture
 
 -- ---- all that can be asked for
 
@@ -89,8 +117,9 @@ send_words send = option_map (λ s. (s.0.now, s.1)) send
 
 -- with these names this is the capture that is wanted, or the list of devices
 abbrev pub Shows : List (List ℕ) → Finished → What → List ℕ → Type 0
-Shows names f (Capture link send) octets = (probe : Option Probe) × IsSend names (send_words send) probe × IsCaptureOf names f (record { link = link; send = probe }) octets
-Shows names f Devices octets = IsListing names f.run octets
+Shows names f (asked.Capture link send) octets = (probe : Option Probe) × IsSend names (send_words send) probe × IsCaptureOf names f (record { link = link; send = probe }) octets
+Shows names f (asked.Picture sends span) octets = IsPictured names f sends.items span
+Shows names f asked.Devices octets = IsListing names f.run octets
 
 pub record IsShown (f : Finished) (what : What) (scenario : Option (List ℕ)) (octets : List ℕ) : Type 0 where
   pub names : List (List ℕ)

@@ -1,7 +1,8 @@
 //! What the words of a command line ask for.
+use hsr_picture::Span;
 
 /// What is to be shown of a run.
-#[derive(Clone, Copy, Debug, PartialEq, Eq)]
+#[derive(Debug, Drop)]
 pub enum What<'a> {
     /// A capture: of one link, counted from 0, or of all; of the copies of one send, by the name of its node and its place in that
     /// node's record, or of all.
@@ -9,12 +10,18 @@ pub enum What<'a> {
         link: Option<usize>,
         send: Option<(&'a str, usize)>,
     },
+    /// A picture: of the copies of some sends, each by the name of its node and its place in that node's record, or of all; of those
+    /// that are of a span.
+    Picture {
+        sends: Vec<(&'a str, usize)>,
+        span: Span,
+    },
     /// The devices.
     Devices,
 }
 
 /// What is asked for, and the path of the scenario whose names stand in place of numbers.
-#[derive(Clone, Copy, Debug, PartialEq, Eq)]
+#[derive(Debug, Drop)]
 pub struct Asked<'a> {
     pub what: What<'a>,
     pub names: Option<&'a str>,

@@ -1,7 +1,8 @@
 //! Reads the words of a command line, by clap.
 use crate::asked::{Asked, What};
 use clap::error::ErrorKind;
-use clap::{Arg, ArgMatches, Command, Error};
+use clap::{Arg, ArgAction, ArgMatches, Command, Error};
+use hsr_picture::Span;
 use hsr_text::decimal;
 use std::alloc::{AllocError, Global};
 
@@ -23,6 +24,24 @@ circle).
 
 Examples: hsr_bench run --transcript < plan.toml | hsr_view capture --names plan.toml > run.pcapng
           hsr_view capture --link 2 --send n0:3 < run.transcript > run.pcapng";
+
+const PICTURE_ENDS: &str = "\
+The picture is SVG. Each ring, each row of nodes and each interlink is a panel of node lines; a ring ends with its
+first node again, and a QuadBox stands in the panels of both its rings. Downwards go the moments, and within one the
+steps that must follow each other. An arrow is a copy, from the entry that passed it to the entry that judged it: its
+dashes and its colour say what became of it. A dot at its point: it was taken up. A cross: it was lost on its way.
+The text of each arrow shows where a pointer rests on it. Beside stand the sends, below those that aren't complete.
+
+With --send only the copies of that send are there; it may be given several times. With --from and --until only those
+of some moments, in microseconds, both included. A picture shows 400 copies at most.
+
+Status 1: nothing is written, and one line on standard error says why: as with `hsr_bench audit`; `fault: names` (the
+scenario can't be read, or has other nodes or links than the run), `fault: send` (there is no such send),
+`fault: moments` (--until is before --from), `fault: copies N, ..` (there are over 400), or `fault: order` (the text is
+of no run that can have taken place: its entries follow one another in a circle).
+
+Examples: hsr_bench run --transcript < plan.toml | hsr_view picture --names plan.toml > run.svg
+          hsr_view picture --send n0:3 --send n1:0 --from 5000 --until 9000 < run.transcript > run.svg";
 
 const DEVICES_ENDS: &str = "\
 Of each node: what it is; where each port leads; how many copies came in there and what became of them, how many
@@ -88,6 +107,32 @@ fn capture_command<'a>(alloc: Global) -> Result<Command<'a>, AllocError> {
         .arg(value_arg(alloc, "send", "NODE:PLACE", "Only the copies of this send"))
 }
 
+fn picture_command<'a>(alloc: Global) -> Result<Command<'a>, AllocError> {
+    let send = value_arg(
+        alloc,
+        "send",
+        "NODE:PLACE",
+        "Only the copies of this send, or of these",
+    );
+    Command::new(alloc, "picture")
+        .about("Draws the transcript on standard input as SVG")
+        .after_help(PICTURE_ENDS)
+        .arg(names_arg(alloc))?
+        .arg(send.action(ArgAction::Append))?
+        .arg(value_arg(
+            alloc,
+            "from",
+            "MOMENT",
+            "Only the copies from this moment on",
+        ))?
+        .arg(value_arg(
+            alloc,
+            "until",
+            "MOMENT",
+            "Only the copies until this moment",
+        ))
+}
+
 fn devices_command<'a>(alloc: Global) -> Result<Command<'a>, AllocError> {
     Command::new(alloc, "devices")
         .about("Lists the devices of the transcript on standard input, with their counters")
@@ -101,6 +146,7 @@ fn view_command<'a>(alloc: Global) -> Result<Command<'a>, AllocError> {
         .no_binary_name(true)
         .subcommand_required(true)
         .subcommand(capture_command(alloc)?)?
+        .subcommand(picture_command(alloc)?)?
         .subcommand(devices_command(alloc)?)
 }
 
@@ -136,6 +182,55 @@ fn send_of<'a>(
     }
 }
 
+/// The sends of all `--send`, in their order.
+fn sends_of<'a>(
+    alloc: Global,
+    matches: &ArgMatches<'a>,
+) -> Result<Vec<(&'a str, usize)>, WordFault> {
+    let mut sends = Vec::new(alloc);
+    let Some(words) = matches.get_strs("send") else {
+        return Ok(sends);
+    };
+    for word in words {
+        match send_in(word) {
+            Some(send) => {
+                if sends.push(send).is_err() {
+                    return Err(WordFault::Memory);
+                }
+            }
+            None => return Err(usage(alloc, "usage: --send NODE:PLACE")),
+        }
+    }
+    Ok(sends)
+}
+
+/// The moment of an argument, if it is there.
+fn moment_of(
+    alloc: Global,
+    matches: &ArgMatches<'_>,
+    name: &str,
+    text: &str,
+) -> Result<Option<u64>, WordFault> {
+    match matches.get_str(name) {
+        Some(word) => match decimal(word.as_bytes()) {
+            Some(moment) => Ok(Some(moment)),
+            None => Err(usage(alloc, text)),
+        },
+        None => Ok(None),
+    }
+}
+
+/// The picture that words ask for.
+fn picture_in<'a>(alloc: Global, matches: &ArgMatches<'a>) -> Result<What<'a>, WordFault> {
+    let sends = sends_of(alloc, matches)?;
+    let from = moment_of(alloc, matches, "from", "usage: --from MOMENT")?;
+    let until = moment_of(alloc, matches, "until", "usage: --until MOMENT")?;
+    Ok(What::Picture {
+        sends,
+        span: Span { from, until },
+    })
+}
+
 /// What the words of a subcommand ask for.
 fn asked_in<'a>(
     alloc: Global,
@@ -144,6 +239,8 @@ fn asked_in<'a>(
 ) -> Result<Asked<'a>, WordFault> {
     let what = if name == "devices" {
         What::Devices
+    } else if name == "picture" {
+        picture_in(alloc, matches)?
     } else {
         let link = link_of(alloc, matches)?;
         let send = send_of(alloc, matches)?;

@@ -1,6 +1,7 @@
 //! Why nothing is shown.
 use hsr_capture::BlockFault;
 use hsr_frame::NoMemory;
+use hsr_picture::PictureFault;
 use hsr_story::{ChoiceFault, StoryFault};
 use hsr_transcript::ReadFault;
 use std::fmt;
@@ -16,6 +17,10 @@ pub enum Fault {
     Link,
     /// There is no such send.
     Send,
+    /// The moments until which a picture goes are before those from which it does.
+    Moments,
+    /// A picture of so many copies is asked for, and they are too many.
+    Copies { copies: usize },
     /// Entries of the run follow one another in a circle.
     Circle,
     /// A name or a frame is too long for a capture.
@@ -81,6 +86,23 @@ impl From<BlockFault> for Fault {
     }
 }
 
+impl From<PictureFault> for Fault {
+    ghost use Rattle.std.specs.Prelude.{◌≡◌};
+    ghost use Rattle.hsr_view.specs.Viewing.{picture_fault};
+
+    ghost from_gives = { λ refused fault. fault ≡ picture_fault refused };
+
+    fn from(refused: PictureFault) -> Fault {
+        match refused {
+            PictureFault::NoSend => Fault::Send,
+            PictureFault::Reversed => Fault::Moments,
+            PictureFault::Circle => Fault::Circle,
+            PictureFault::TooMany { copies } => Fault::Copies { copies },
+            PictureFault::NoMemory => Fault::Memory,
+        }
+    }
+}
+
 /// The line on standard error, without its line feed; that of a transcript is the one that `hsr_bench audit` has.
 impl fmt::Display for Fault {
     fn fmt<W: fmt::Write>(&self, f: &mut fmt::Formatter<W>) -> fmt::Result {
@@ -99,6 +121,11 @@ impl fmt::Display for Fault {
             Fault::Names => write!(f, "fault: names"),
             Fault::Link => write!(f, "fault: link"),
             Fault::Send => write!(f, "fault: send"),
+            Fault::Moments => write!(f, "fault: moments"),
+            Fault::Copies { copies } => write!(
+                f,
+                "fault: copies {copies}, and a picture shows 400: choose by --send, --from or --until"
+            ),
             Fault::Circle => write!(f, "fault: order"),
             Fault::TooLong => write!(f, "fault: length"),
             Fault::Write => write!(f, "fault: write"),

@@ -1,4 +1,4 @@
-//! The second program: a finished run as a capture, or as devices.
+//! The second program: a finished run as a capture, as a picture, or as devices.
 //!
 //! Its modules, in the order in which to read them: `asked`, `fault`, `same`, `viewing`,
 //! `command_line`.
@@ -48,7 +48,7 @@ fn scenario_at<H: AllocGlobal + Files>(
 /// Reads a transcript, and writes what is asked for of it: all of it, or nothing.
 fn view<R: Read, W: Write>(
     alloc: Global,
-    what: What<'_>,
+    what: &What<'_>,
     scenario: Option<&str>,
     reader: &mut R,
     writer: &mut W,
@@ -76,7 +76,7 @@ fn view_input<H: AllocGlobal + Files + Input + Print>(
     };
     let mut reader = rt.reader();
     let mut writer = io::writer(rt);
-    view(rt.alloc(), asked.what, scenario, &mut reader, &mut writer)
+    view(rt.alloc(), &asked.what, scenario, &mut reader, &mut writer)
 }
 
 /// Writes a fault's line on standard error, and gives the status of the process.

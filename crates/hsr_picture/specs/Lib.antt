@@ -1,0 +1,4 @@
+pub mod Wanted
+pub mod Arrows
+pub mod Sends
+pub mod Pictures
