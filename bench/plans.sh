@@ -4,8 +4,8 @@
 #     bench/plans.sh PLANNER BENCH
 #
 # Of each plans/NAME.toml the scenario that the planner writes has, played by the bench, the report of plans/NAME.scenario, which
-# another program wrote. Of each plans/faults/NAME.toml the planner writes nothing, with status 1, and on standard error what
-# stands in NAME.err.
+# another program wrote; and a sweep says of the undisturbed run what the bench's audit of networks says. Of each
+# plans/faults/NAME.toml the planner writes nothing, with status 1, and on standard error what stands in NAME.err.
 set -u
 planner=$(realpath "${1:?bench/plans.sh PLANNER BENCH}") bench=$(realpath "${2:?bench/plans.sh PLANNER BENCH}")
 top=$(cd "$(dirname "${BASH_SOURCE[0]}")/.." && pwd)
@@ -28,6 +28,8 @@ for plan in "$top"/plans/*.toml; do
   report "$work/scenario" > "$work/ours"
   report "${plan%.toml}.scenario" > "$work/theirs"
   cmp -s "$work/ours" "$work/theirs" || why="$why report"
+  doubt=$("$bench" run --network < "$work/scenario" | tail -n 1)
+  timeout 60 "$planner" sweep < "$plan" | grep -q "^undisturbed .* needed [0-9]* $doubt\$" || why="$why sweep"
   count "$plan" "$why"
 done
 for plan in "$top"/plans/faults/*.toml; do

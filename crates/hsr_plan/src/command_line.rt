@@ -3,6 +3,7 @@ ghost use Rattle.std.specs.Prelude.{◌≡◌};
 
 use clap::error::ErrorKind;
 use clap::{Arg, ArgAction, ArgMatches, Command, Error};
+use hsr_options::Table;
 use hsr_text::decimal;
 use std::alloc::{AllocError, Global};
 
@@ -13,7 +14,8 @@ const ENDS: &str = "\
 A plan is TOML, read from standard input:
   title, ring = [names] or a table [rings] with a list of names for each (a name in two rings is a QuadBox),
   redbox = {name = [stations]}, address = {name = \"02-..\"}, mode = {name = \"N\"}, capacity, life_ms (2000, 0 for
-  none), until_us, and moves: \"each send drains\" (where it isn't there) or \"each moment drains\"
+  none), until_us, and moves: \"each send drains\" (where it isn't there), \"each moment drains\", or \"hop_us = 10\":
+  each copy is put at once, and taken and judged so many microseconds later, in a run with the tables of --table
   [[stream]]  from (a name or a list), to (a name or an address), type (\"goose\", \"sv\" or a number), size, vlan,
               priority, start_us (one or a list), every_us, grow, most_us, count, until_us
   [[event]]   at_us, and one of cut = [two ends], mend = [two ends], off = name, on = name
@@ -23,8 +25,9 @@ With --check standard input is a scenario, and nothing is written if it is right
 says in which line and column which word is wrong, and what is allowed there.
 
 With sweep each link and each node is off from a moment on, one by one, and a line says of each run how many sends it
-had, how many of these are complete, missed and taken up twice, and how many table entries it needed; then come the
-undisturbed run, and how many entries are enough for all.
+had, how many of these are complete, missed and taken up twice, how many table entries it needed, and what the audit
+of networks found, as in a report of hsr_bench run --network; then come the undisturbed run, and how many entries are
+enough for all. A terminal is told how far it is.
 
 docs/USING.md says what to look up where.
 
@@ -37,8 +40,8 @@ Example: hsr_plan < plan.toml > plan.scenario && hsr_bench run --budget < plan.s
 /// What words choose.
 #[derive(Clone, Copy, Debug, PartialEq, Eq)]
 pub enum Task {
-    /// A plan is written as a scenario.
-    Plan,
+    /// A plan is written as a scenario, for a run with such tables.
+    Plan { table: Table },
     /// A scenario is checked.
     Check,
     /// Each link and each node of a plan is off from a moment on, in microseconds, one by one.
@@ -67,10 +70,10 @@ fn table_arg<'a>(alloc: Global, tables: &'a [&'a str]) -> Arg<'a> {
     Arg::new(alloc, "table")
         .long("table")
         .help(
-            "The tables of the run that will follow: small or large; these plans don't depend on it",
+            "The tables of the run that will follow: small or large; the moves of hop_us depend on them",
         )
         .value_parser(tables)
-        .default_value(size_word(true))
+        .default_value(Table::Large.word())
 }
 
 fn check_arg<'a>(alloc: Global) -> Arg<'a> {
@@ -113,9 +116,12 @@ fn refused(alloc: Global, error: &Error) -> WordsFault {
     }
 }
 
-/// The word of a size of tables.
-fn size_word(is_large: bool) -> &'static str {
-    if is_large { "large" } else { "small" }
+/// The tables that parsed words choose: large, where they don't say.
+fn table_by(matches: &ArgMatches<'_>) -> Table {
+    match matches.get_str("table") {
+        Some(word) => Table::from_word(word.as_bytes()).unwrap_or(Table::Large),
+        None => Table::Large,
+    }
 }
 
 /// The sweep that parsed words choose.
@@ -137,14 +143,16 @@ fn chosen_by(alloc: Global, matches: &ArgMatches<'_>) -> Result<Task, WordsFault
     }
     match matches.get_str("check") {
         Some("true") => Ok(Task::Check),
-        _ => Ok(Task::Plan),
+        _ => Ok(Task::Plan {
+            table: table_by(matches),
+        }),
     }
 }
 
 /// What words choose: `--check` a scenario to check, `sweep` with `--at-us` a sweep, else a plan; and `--table`, with `small` or `large`.
 /// Other words are refused.
 pub fn task_by<'a>(alloc: Global, words: &'a [&'a str]) -> Result<Task, WordsFault> {
-    let tables = [size_word(false), size_word(true)];
+    let tables = [Table::Small.word(), Table::Large.word()];
     let command = plan_command(alloc, tables.as_slice())?;
     match command.try_get_matches_from(words) {
         Ok(matches) => chosen_by(alloc, &matches),

@@ -11,10 +11,11 @@ ghost use Rattle.hsr_plan_scenario.specs.Ends.{code_of};
 mod command_line;
 
 use crate::command_line::{Task, WordsFault, task_by};
+use hsr_options::Table;
 pub use hsr_plan_scenario::{Ending, check_run, plan_run};
 pub use hsr_plan_sweep::sweep_run;
 use std::alloc::{AllocError, Global};
-use std::io::{BufWriter, ErrorKind, Write};
+use std::io::{BufWriter, ErrorKind, IsTerminal, Write};
 use std::process::ExitCode;
 use std::rt::Env;
 use std::{env, io};
@@ -41,18 +42,26 @@ fn written<W: Write>(writer: &mut W, ending: Ending) -> Ending {
     }
 }
 
-/// Reads a plan and writes its scenario, over the standard streams; the line of a fault is gathered.
-fn planned<H: AllocGlobal + Input + Print>(rt: &H, errors: &mut Vec<u8>) -> Ending {
+/// Reads a plan and writes its scenario for a run with such tables, over the standard streams.
+fn planned<H: AllocGlobal + Input + Print, E: Write>(
+    rt: &H,
+    table: Table,
+    errors: &mut E,
+) -> Ending {
+    let alloc = rt.alloc();
     let mut reader = rt.reader();
     let Ok(mut writer) = BufWriter::new(rt.alloc(), io::writer(rt)) else {
         return Ending::Unwritten;
     };
-    let ending = plan_run(rt.alloc(), &mut reader, &mut writer, errors);
+    let ending = match table {
+        Table::Small => plan_run::<_, _, _, 4>(alloc, &mut reader, &mut writer, errors),
+        Table::Large => plan_run::<_, _, _, 512>(alloc, &mut reader, &mut writer, errors),
+    };
     written(&mut writer, ending)
 }
 
-/// Reads a scenario from standard input; the line of a fault is gathered. A right one ends as a plan whose scenario was written.
-fn checked<H: AllocGlobal + Input>(rt: &H, errors: &mut Vec<u8>) -> Ending {
+/// Reads a scenario from standard input. A right one ends as a plan whose scenario was written.
+fn checked<H: AllocGlobal + Input, E: Write>(rt: &H, errors: &mut E) -> Ending {
     let mut reader = rt.reader();
     if check_run(rt.alloc(), &mut reader, errors) {
         Ending::Planned
@@ -61,61 +70,75 @@ fn checked<H: AllocGlobal + Input>(rt: &H, errors: &mut Vec<u8>) -> Ending {
     }
 }
 
-/// Reads a plan and writes the lines of its sweep, over the standard streams; the line of a fault is gathered.
-fn swept<H: AllocGlobal + Input + Print>(rt: &H, at: u64, errors: &mut Vec<u8>) -> Ending {
+/// Reads a plan and writes the lines of its sweep, over the standard streams; how far it is goes to a terminal alone.
+fn swept<H: AllocGlobal + Input + Print, E: Write>(
+    rt: &H,
+    at: u64,
+    is_terminal: bool,
+    errors: &mut E,
+) -> Ending {
     let mut reader = rt.reader();
     let Ok(mut writer) = BufWriter::new(rt.alloc(), io::writer(rt)) else {
         return Ending::Unwritten;
     };
-    let ending = sweep_run(rt.alloc(), &mut reader, &mut writer, errors, at);
+    let alloc = rt.alloc();
+    let ending = sweep_run(alloc, &mut reader, &mut writer, errors, at, is_terminal);
     written(&mut writer, ending)
 }
 
 /// Does what was chosen.
-fn done<H: AllocGlobal + Input + Print>(rt: &H, task: Task, errors: &mut Vec<u8>) -> Ending {
+fn done<H: AllocGlobal + Input + Print, E: Write>(
+    rt: &H,
+    task: Task,
+    is_terminal: bool,
+    errors: &mut E,
+) -> Ending {
     match task {
-        Task::Plan => planned(rt, errors),
+        Task::Plan { table } => planned(rt, table, errors),
         Task::Check => checked(rt, errors),
-        Task::Sweep { at } => swept(rt, at, errors),
+        Task::Sweep { at } => swept(rt, at, is_terminal, errors),
     }
 }
 
-/// Writes what was gathered on standard error, and gives the status of the process.
-fn finish<H: Eprint>(rt: &H, errors: &[u8], ending: Ending) -> io::Result<ExitCode>
+/// Tells of a failed write, and gives the status of the process.
+fn finish<E: Write>(errors: &mut E, ending: Ending) -> io::Result<ExitCode>
     ensures { IfOk result (λ code. exit_status code ≡ code_of ending) }
 {
     if ending == Ending::Unwritten {
-        eprintln!(rt; "fault: write")?;
-    }
-    if let Ok(line) = str::from_utf8(errors) {
-        eprint!(rt; "{line}")?;
+        errors.write_all(b"fault: write\n")?;
     }
     Ok(ExitCode::from(ending.code()))
 }
 
-/// Does what the words ask for.
-fn run<H: AllocGlobal + Env + Eprint + Input + Print>(rt: &H) -> io::Result<ExitCode> {
+/// Does what the words ask for, where standard error is a terminal or not.
+fn run<H: AllocGlobal + Env + Input + Print, E: Write>(
+    rt: &H,
+    is_terminal: bool,
+    errors: &mut E,
+) -> io::Result<ExitCode> {
     let args: Vec<String> = env::args(rt)?.collect(rt.alloc())?;
     let words = words_of(rt.alloc(), &args)?;
     match task_by(rt.alloc(), words.as_slice()) {
         Ok(task) => {
-            let mut errors = Vec::new(rt.alloc());
-            let ending = done(rt, task, &mut errors);
-            finish(rt, errors.as_slice(), ending)
-        }
+            let ending = done(rt, task, is_terminal, errors);
+            finish(errors, ending)
+        },
         Err(WordsFault::Usage { text }) => {
-            eprintln!(rt; "{text}")?;
+            errors.write_all(text.as_bytes())?;
+            errors.write_all(b"\n")?;
             Ok(ExitCode::from(USAGE))
         }
         Err(WordsFault::Memory) => {
-            eprintln!(rt; "fault: memory")?;
+            errors.write_all(b"fault: memory\n")?;
             Ok(ExitCode::from(1))
         }
     }
 }
 
 fn main(rt: HostRuntime) -> io::Result<ExitCode> {
-    match run(&rt) {
+    let mut errors = rt.stderr();
+    let is_terminal = errors.is_terminal();
+    match run(&rt, is_terminal, &mut errors) {
         // the words themselves take memory
         Err(error) if error.kind() == ErrorKind::OutOfMemory => {
             eprintln!(rt; "fault: memory")?;

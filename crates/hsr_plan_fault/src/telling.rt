@@ -106,7 +106,9 @@ fn values_of(key: Key) -> &'static str {
         Key::Capacity => "1 to 4096",
         Key::Life => "0 to 1073741824 milliseconds",
         Key::Until | Key::At => "0 to 1099511627776 microseconds",
-        Key::Moves => "\"each send drains\" or \"each moment drains\"",
+        Key::Moves => {
+            "\"each send drains\", \"each moment drains\", or \"hop_us = 10\" with 1 to 1000000 microseconds"
+        }
         Key::Stream | Key::Event => "tables, each under its own header",
         Key::From => "a name or a list of names",
         Key::To => "a name, or an address as 01-0C-CD-01-00-01",

@@ -10,7 +10,7 @@ use Rattle.hsr_plan_text.specs.Plan.{Stream}
 use Rattle.hsr_plan_text.specs.declared.plan.Kind.{Kind}
 use Rattle.hsr_plan_text.specs.declared.plan.Kind.TheVariants.{Goose, SampledValues, Number}
 use Rattle.hsr_plan_text.specs.declared.plan.Moves.{Moves}
-use Rattle.hsr_plan_text.specs.declared.plan.Moves.TheVariants.{EachSendDrains, EachMomentDrains}
+use Rattle.hsr_plan_text.specs.declared.plan.Moves.TheVariants.{EachSendDrains, EachMomentDrains, Hop}
 use Rattle.hsr_plan_payload.specs.Payload.{payload}
 use Rattle.hsr_plan_meaning.specs.Hearing.{Heard, has_room, heard_on, interlink_to, knows, macs_behind, nothing_heard, settled}
 use Rattle.hsr_plan_meaning.specs.Setting.{Setting}
@@ -82,10 +82,11 @@ set at told = record told { now = at; orders = told.orders ++ Step (Clock at) �
 abbrev pub clocked : ℕ → Told → Told
 clocked at told = if told.now == at then told else set at (drained told)
 
--- something is sent, and drained where each send drains
+-- something is sent, and drained where each send drains; how copies move by hops isn't told here
 abbrev pub sending : Moves → Order → Told → Told
 sending EachSendDrains order told = drain (record told { orders = told.orders ++ order ∷ [] })
 sending EachMomentDrains order told = record told { sent = true; orders = told.orders ++ order ∷ [] }
+sending (Hop us) order told = record told { orders = told.orders ++ order ∷ [] }
 
 -- ---- stations
 
@@ -106,9 +107,15 @@ hear_by g (Some l) sender told = hear_on g l sender (slice_get g.links l) told
 abbrev pub hear : Setting → Sender → Told → Told
 hear g sender told = hear_by g (interlink_to g.links sender.node) sender told
 
--- a RedBox sends supervision about an address, if it knows it then
+-- a RedBox is told to speak for an address that it knows then; by hops for each, since what it knows is known when that is played
+abbrev pub is_to_speak : Moves → Bool → Bool
+is_to_speak EachSendDrains known = known
+is_to_speak EachMomentDrains known = known
+is_to_speak (Hop us) known = true
+
+-- a RedBox sends supervision about an address
 abbrev pub speak : Setting → ℕ → List ℕ → Told → Told
-speak g k mac told = if knows told.now k mac told.heard then sending g.moves (Step (Supervise k (Proxied mac))) told else told
+speak g k mac told = if is_to_speak g.moves (knows told.now k mac told.heard) then sending g.moves (Step (Supervise k (Proxied mac))) told else told
 
 abbrev pub speak_of : Setting → ℕ → List (List ℕ) → Told → Told
 speak_of g k [] told = told

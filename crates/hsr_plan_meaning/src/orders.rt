@@ -1,6 +1,6 @@
 //! The orders of a scenario that tell what happens in a plan.
 ghost use Rattle.std.specs.Prelude.{◌≡◌, ◌++◌, slice_get, slice_set, IfOk, OnOk};
-ghost use Rattle.hsr_plan_meaning.specs.Orders.{change, changed, changes, clocked, comes, downs, drain, drained, ends_off, flag, happens, hear, hear_on, is_down, live, name_if, named_send, orders_of, send_if, sending, speak, speak_of, start, tell, tell_all, type_of};
+ghost use Rattle.hsr_plan_meaning.specs.Orders.{change, changed, changes, clocked, comes, downs, drain, drained, ends_off, flag, happens, hear, hear_on, is_down, is_to_speak, live, name_if, named_send, orders_of, send_if, sending, speak, speak_of, start, tell, tell_all, type_of};
 
 use crate::hearing::{Heard, interlink_to, macs_behind};
 use crate::occasion::{Happening, Occasion, Sender, Sent};
@@ -135,6 +135,16 @@ fn type_of(kind: Kind) -> u16
     }
 }
 
+/// Whether a RedBox is told to speak for an address that it knows then, or not.
+fn is_to_speak(moves: Moves, is_known: bool) -> bool
+    ensures { result ≡ is_to_speak moves is_known }
+{
+    match moves {
+        Moves::EachSendDrains | Moves::EachMomentDrains => is_known,
+        Moves::Hop(_) => true,
+    }
+}
+
 /// The name of a stream's sender.
 fn name_of(stream: &Stream, place: usize) -> &[u8]
     ensures { result.now ≡ name_if (slice_get stream.now.from place) }
@@ -262,6 +272,7 @@ impl Told {
         match moves {
             Moves::EachSendDrains => self.drain()?,
             Moves::EachMomentDrains => self.sent = true,
+            Moves::Hop(_) => {}
         }
         Ok(())
     }
@@ -308,7 +319,8 @@ impl Told {
     fn speak(&mut self, setting: &Setting<'_>, node: usize, mac: Mac) -> Result<(), NoMemory>
         ensures { OnOk result (self.new ≡ speak setting.now node mac self.old) }
     {
-        if self.heard.knows(self.now, node, mac) {
+        let is_known = self.heard.knows(self.now, node, mac);
+        if is_to_speak(setting.moves, is_known) {
             let about = About::Proxied(mac);
             self.send(setting.moves, Order::Step(Step::Supervise { node, about }))?;
         }

@@ -8,15 +8,16 @@ use Rattle.hsr_plan_scenario.specs.declared.planning.Ending.{Ending}
 use Rattle.hsr_plan_scenario.specs.declared.planning.Ending.TheVariants.{Planned, Refused, Unwritten}
 
 -- a text over 16 MiB is no plan
-too_long : (front text : List ℕ) → 2 ^ 24 < length front → SaysPlan front text → ⊥
-too_long front text h says = let e : nat_le (length front) (2 ^ 24) ≡ false = grind (arith, nat_tests) in rw e at says
+too_long : (capacity : ℕ) (front text : List ℕ) → 2 ^ 24 < length front → SaysPlan capacity front text → ⊥
+too_long capacity front text h says = let e : nat_le (length front) (2 ^ 24) ≡ false = grind (arith, nat_tests) in rw e at says
 
 -- what is told of what was read is told of all
-pub ends_whole : (all front : List ℕ) (held holds : Option (List ℕ)) (ending : Ending) → IsWhole (2 ^ 24) all front → Ends front held holds ending → Ends all held holds ending
-ends_whole all front held holds Planned (inl same) (text, says, appends) = (text, subst (λ t. SaysPlan t text) (sym same) says, appends)
-ends_whole all front held holds Planned (inr long) (text, says, appends) = absurd (too_long front text long.0 says)
-ends_whole all front held holds Refused whole ends = ends
-ends_whole all front held holds Unwritten whole ends = tt
+pub ends_whole : (capacity : ℕ) (all front : List ℕ) (held holds : Option (List ℕ)) (ending : Ending) → IsWhole (2 ^ 24) all front
+    → Ends capacity front held holds ending → Ends capacity all held holds ending
+ends_whole capacity all front held holds Planned (inl same) (text, says, appends) = (text, subst (λ t. SaysPlan capacity t text) (sym same) says, appends)
+ends_whole capacity all front held holds Planned (inr long) (text, says, appends) = absurd (too_long capacity front text long.0 says)
+ends_whole capacity all front held holds Refused whole ends = ends
+ends_whole capacity all front held holds Unwritten whole ends = tt
 
 -- a text over 16 MiB is no scenario
 no_scenario : (front : List ℕ) → 2 ^ 24 < length front → IsScenario front → ⊥

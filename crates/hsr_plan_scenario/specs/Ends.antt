@@ -17,7 +17,7 @@ IsDelivered held holds text Refused = ⊥
 IsDelivered held holds text Unwritten = Unit {0}
 
 -- the scenario that a plan means was written, or nothing; of a failed write no more is said
-abbrev pub Ends : List ℕ → Option (List ℕ) → Option (List ℕ) → Ending → Type 0
-Ends octets held holds Planned = (text : List ℕ) × SaysPlan octets text × Appends held holds text
-Ends octets held holds Refused = Keeps held holds
-Ends octets held holds Unwritten = Unit {0}
+abbrev pub Ends : ℕ → List ℕ → Option (List ℕ) → Option (List ℕ) → Ending → Type 0
+Ends capacity octets held holds Planned = (text : List ℕ) × SaysPlan capacity octets text × Appends held holds text
+Ends capacity octets held holds Refused = Keeps held holds
+Ends capacity octets held holds Unwritten = Unit {0}

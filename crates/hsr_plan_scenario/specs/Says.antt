@@ -4,23 +4,24 @@ use Rattle.hsr_scenario.specs.Meaning.{Meant, meaning}
 use Rattle.hsr_plan_text.specs.Plan.{Plan}
 use Rattle.hsr_plan_text.specs.Meaning.{plan_of}
 use Rattle.hsr_plan_text.specs.declared.fault.PlanFault.{PlanFault}
-use Rattle.hsr_plan_meaning.specs.Meaning.{Meaning, Means}
+use Rattle.hsr_plan_meaning.specs.Meaning.{Meaning}
+use Rattle.hsr_plan_hops.specs.Moving.{MeansMoved}
 
 -- the scenario that is meant
 abbrev pub scenario_meant : Meaning → Meant
 scenario_meant m = record { topology = m.topology; capacity = m.capacity; steps = m.orders }
 
--- a text is read as the scenario of what a plan means
-abbrev pub Says : Plan → List ℕ → Type 0
-Says plan text = (m : Meaning) × Means plan m × (meaning text ≡ Ok (scenario_meant m))
+-- a text is read as the scenario of what a plan means in a world with tables of so many entries
+abbrev pub Says : ℕ → Plan → List ℕ → Type 0
+Says capacity plan text = (m : Meaning) × MeansMoved capacity plan m × (meaning text ≡ Ok (scenario_meant m))
 
-abbrev pub SaysIf : Result Plan PlanFault → List ℕ → Type 0
-SaysIf (Ok plan) text = Says plan text
-SaysIf (Err fault) text = ⊥
+abbrev pub SaysIf : ℕ → Result Plan PlanFault → List ℕ → Type 0
+SaysIf capacity (Ok plan) text = Says capacity plan text
+SaysIf capacity (Err fault) text = ⊥
 
 -- a text is read as the scenario of what another text means as a plan
-abbrev pub SaysPlan : List ℕ → List ℕ → Type 0
-SaysPlan plan text = SaysIf (plan_of plan) text
+abbrev pub SaysPlan : ℕ → List ℕ → List ℕ → Type 0
+SaysPlan capacity plan text = SaysIf capacity (plan_of plan) text
 
 -- a text is a scenario
 abbrev pub IsScenario : List ℕ → Type 0

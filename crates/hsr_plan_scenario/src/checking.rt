@@ -1,11 +1,12 @@
 //! The text of a plan's scenario, checked against what the plan means.
-ghost use Rattle.std.specs.Prelude.{◌≡◌, IfOk, OnOk, Ok};
+ghost use Rattle.std.specs.Prelude.{◌≡◌, ◌≤◌, IfOk, OnOk, Ok};
 ghost use Rattle.hsr_scenario.specs.Meaning.{meaning};
 ghost use Rattle.hsr_plan_scenario.specs.Says.{Says, SaysPlan, scenario_meant};
 
 use crate::same::is_meant;
 use crate::spelling::spelled;
-use hsr_plan_meaning::{Meaning, meaning_of};
+use hsr_plan_hops::{Unmoved, moved_meaning_of};
+use hsr_plan_meaning::Meaning;
 use hsr_plan_text::{Plan, PlanFault, Spot, What};
 use hsr_scenario::{TEXT_LIMIT, What as ScenarioWhat, read};
 use std::alloc::Global;
@@ -17,7 +18,9 @@ pub enum Trouble {
     Plan(PlanFault),
     /// The scenario would have so many octets, and 16 MiB is the most.
     TooLong(usize),
-    /// The scenario's text isn't read as what the plan means.
+    /// Copies are still on their way after so many steps.
+    Endless(usize),
+    /// The steps, or the scenario's text, don't say what the plan means.
     Differs,
 }
 
@@ -27,6 +30,16 @@ fn no_memory() -> Trouble {
         spot: Spot::Top,
         what: What::NoMemory,
     })
+}
+
+/// The trouble where copies don't move as the plan says.
+pub fn trouble_of(unmoved: Unmoved) -> Trouble {
+    match unmoved {
+        Unmoved::Plan(fault) => Trouble::Plan(fault),
+        Unmoved::Endless(steps) => Trouble::Endless(steps),
+        Unmoved::Differs => Trouble::Differs,
+        Unmoved::Memory => no_memory(),
+    }
 }
 
 /// Refuses a text that isn't read as what a plan means.
@@ -67,23 +80,26 @@ fn checked(alloc: Global, plan: &Plan, meant: &Meaning) -> Result<Vec<u8>, Troub
     }
 }
 
-/// The text of the scenario that a plan means. Before it is answered it is read back and compared with what the plan means: a text
-/// that differs is `Differs`, one of over 16 MiB `TooLong`. All other troubles are those of `meaning_of`.
-pub fn scenario_of_meaning(alloc: Global, plan: &Plan) -> Result<Vec<u8>, Trouble>
-    ensures { IfOk result (λ text. Says plan.now text.items) }
+/// The text of the scenario that a plan means in a world with tables of `C` entries. Before it is answered it is read back and
+/// compared with what the plan means: a text that differs is `Differs`, one of over 16 MiB `TooLong`. All other troubles are those of
+/// `moved_meaning_of`.
+pub fn scenario_of_meaning<const C: usize>(alloc: Global, plan: &Plan) -> Result<Vec<u8>, Trouble>
+    requires { (1 ≤ C) × (C ≤ 65535) }
+    ensures { IfOk result (λ text. Says C plan.now text.items) }
 {
-    match meaning_of(alloc, plan) {
+    match moved_meaning_of::<C>(alloc, plan) {
         Ok(meaning) => checked(alloc, plan, &meaning),
-        Err(fault) => Err(Trouble::Plan(fault)),
+        Err(unmoved) => Err(trouble_of(unmoved)),
     }
 }
 
-/// The text of the scenario that a text means as a plan.
-pub fn scenario_of_plan(alloc: Global, text: &str) -> Result<Vec<u8>, Trouble>
-    ensures { IfOk result (λ scenario. SaysPlan text.now scenario.items) }
+/// The text of the scenario that a text means as a plan, in a world with tables of `C` entries.
+pub fn scenario_of_plan<const C: usize>(alloc: Global, text: &str) -> Result<Vec<u8>, Trouble>
+    requires { (1 ≤ C) × (C ≤ 65535) }
+    ensures { IfOk result (λ scenario. SaysPlan C text.now scenario.items) }
 {
     match hsr_plan_text::read(alloc, text) {
-        Ok(plan) => scenario_of_meaning(alloc, &plan),
+        Ok(plan) => scenario_of_meaning::<C>(alloc, &plan),
         Err(fault) => Err(Trouble::Plan(fault)),
     }
 }

@@ -1,5 +1,5 @@
 //! The whole way from a plan's text to its scenario's, over a reader and two writers.
-ghost use Rattle.std.specs.Prelude.{◌≡◌, IfOk, IfSome};
+ghost use Rattle.std.specs.Prelude.{◌≡◌, ◌≤◌, IfOk, IfSome};
 ghost use Rattle.hsr_plan_scenario.specs.Ends.{Ends, IsDelivered, code_of};
 ghost use Rattle.hsr_plan_scenario.specs.Says.{SaysPlan};
 ghost use Rattle.hsr_plan_scenario.specs.declared.planning.Ending.TheVariants.{Refused};
@@ -56,6 +56,17 @@ fn too_long(alloc: Global, octets: usize) -> Line {
     Ok(line)
 }
 
+/// The line of copies that are still on their way after so many steps.
+fn endless(alloc: Global, steps: usize) -> Line {
+    let mut line = words(
+        alloc,
+        "fault: plan 1:1 copies are still on their way after ",
+    )?;
+    put_decimal(&mut line, steps as u64)?;
+    line.extend_from_slice(b" steps: an earlier until_us, fewer streams, or larger tables")?;
+    Ok(line)
+}
+
 /// The line of a trouble.
 pub fn line_of(alloc: Global, text: &str, trouble: &Trouble) -> Line {
     match trouble {
@@ -67,6 +78,7 @@ pub fn line_of(alloc: Global, text: &str, trouble: &Trouble) -> Line {
         ) => Err(NoMemory),
         Trouble::Plan(fault) => told(alloc, text, fault),
         Trouble::TooLong(octets) => too_long(alloc, *octets),
+        Trouble::Endless(steps) => endless(alloc, *steps),
         Trouble::Differs => words(
             alloc,
             "fault: plan 1:1 the scenario's text doesn't say what the plan means",
@@ -75,13 +87,14 @@ pub fn line_of(alloc: Global, text: &str, trouble: &Trouble) -> Line {
 }
 
 /// The scenario that octets mean as a plan, or the line of what is wrong.
-fn scenario_of(alloc: Global, octets: &[u8]) -> Result<Vec<u8>, Line>
-    ensures { IfOk result (λ text. SaysPlan octets.now text.items) }
+fn scenario_of<const C: usize>(alloc: Global, octets: &[u8]) -> Result<Vec<u8>, Line>
+    requires { (1 ≤ C) × (C ≤ 65535) }
+    ensures { IfOk result (λ text. SaysPlan C octets.now text.items) }
 {
     let Ok(text) = str::from_utf8(octets) else {
         return Err(words(alloc, "fault: plan 1:1 no UTF-8"));
     };
-    match scenario_of_plan(alloc, text) {
+    match scenario_of_plan::<C>(alloc, text) {
         Ok(scenario) => Ok(scenario),
         Err(trouble) => Err(line_of(alloc, text, &trouble)),
     }
@@ -110,34 +123,36 @@ pub fn deliver<W: Write>(writer: &mut W, text: &[u8]) -> Ending
 }
 
 /// Writes the scenario that octets mean as a plan, or the line of what is wrong.
-fn answer<W: Write, E: Write>(
+fn answer<W: Write, E: Write, const C: usize>(
     alloc: Global,
     octets: &[u8],
     writer: &mut W,
     errors: &mut E,
 ) -> Ending
-    ensures { Ends octets.now (W.contents writer.old) (W.contents writer.new) result }
+    requires { (1 ≤ C) × (C ≤ 65535) }
+    ensures { Ends C octets.now (W.contents writer.old) (W.contents writer.new) result }
 {
-    match scenario_of(alloc, octets) {
+    match scenario_of::<C>(alloc, octets) {
         Ok(text) => deliver(writer, text.as_slice()),
         Err(line) => complain(errors, line),
     }
 }
 
 /// Reads a plan, and writes the scenario that it means: a text that `hsr_scenario::read` reads as the topology, the capacity and the
-/// orders that the definition of the plan's meaning lists. Where there is none, nothing is written but one line on `errors`:
+/// orders that the definition of the plan's meaning lists, for a run with tables of `C` entries. Where there is none, nothing is written but one line on `errors`:
 /// `fault: plan <line>:<column>` and what is wrong, `fault: read`, or `fault: memory`. The plan and the scenario have at most 16 MiB.
 #[tactic(auto, using(crate::proofs::Whole::ends_whole))]
-pub fn plan_run<R: Read, W: Write, E: Write>(
+pub fn plan_run<R: Read, W: Write, E: Write, const C: usize>(
     alloc: Global,
     reader: &mut R,
     writer: &mut W,
     errors: &mut E,
 ) -> Ending
-    ensures { IfSome (R.remaining reader.old) (λ octets. Ends octets (W.contents writer.old) (W.contents writer.new) result) }
+    requires { (1 ≤ C) × (C ≤ 65535) }
+    ensures { IfSome (R.remaining reader.old) (λ octets. Ends C octets (W.contents writer.old) (W.contents writer.new) result) }
 {
     match read_text(alloc, reader, TEXT_LIMIT) {
-        Ok(octets) => answer(alloc, octets.as_slice(), writer, errors),
+        Ok(octets) => answer::<W, E, C>(alloc, octets.as_slice(), writer, errors),
         Err(InputFault::Read) => complain(errors, words(alloc, "fault: read")),
         Err(InputFault::Memory) => complain(errors, Err(NoMemory)),
     }

@@ -3,6 +3,8 @@ use Rattle.std.specs.Prelude.{◌≡◌, not, Bool, length, count_by}
 use Rattle.hsr_deliveries.specs.Delivered.{Delivery, deliveries, is_complete, is_none}
 use Rattle.hsr_law.specs.Run.{Run}
 use Rattle.hsr_needed.specs.Needs.{IsJustEnough}
+use Rattle.hsr_options.specs.declared.chosen.Scope.TheVariants.{Network}
+use Rattle.hsr_report.specs.Found.{IsFound}
 use Rattle.hsr_plan_sweep.specs.declared.counting.Count.{Count}
 
 -- a node that a send was due at didn't take it up
@@ -19,3 +21,4 @@ pub record IsCounted (run : Run) (count : Count) : Type 0 where
   pub missed : count.missed ≡ count_by is_missed (deliveries run)
   pub twice : count.twice ≡ count_by is_twice (deliveries run)
   pub needed : IsJustEnough run count.needed
+  pub found : IsFound Network run count.finding

@@ -1,2 +1,4 @@
 pub mod Counting
 pub mod Sweep
+pub mod Lines
+pub mod Swept

@@ -1,20 +1,17 @@
 -- A plan in which a link or a node is off from a moment on.
 use Rattle.std.specs.Prelude.{◌≡◌, ℕ, ◌<◌, List, [], ◌∷◌, ◌++◌, length, slice_get, slice_index_or, Option, Some, None, Ok}
-use Rattle.std.specs.Io.KnownBytes.{Appends, Keeps}
 use Rattle.hsr_node.specs.Words.{letter}
 use Rattle.hsr_closing.specs.Finished.{Finished}
 use Rattle.hsr_topology.specs.declared.end.End.{End}
 use Rattle.hsr_playing.specs.Finishing.{IsFinishedBy}
-use Rattle.hsr_plan_text.specs.Meaning.{plan_of}
 use Rattle.hsr_plan_text.specs.Plan.{Plan}
 use Rattle.hsr_plan_text.specs.declared.plan.Deed.{Deed}
 use Rattle.hsr_plan_text.specs.declared.plan.Deed.TheVariants.{Cut, Off}
 use Rattle.hsr_plan_text.specs.declared.plan.LinkEnd.{LinkEnd}
 use Rattle.hsr_plan_network.specs.Nodes.{Node}
 use Rattle.hsr_plan_network.specs.Wiring.{Wired, wired}
-use Rattle.hsr_plan_meaning.specs.Meaning.{Meaning, Means}
-use Rattle.hsr_plan_scenario.specs.declared.planning.Ending.{Ending}
-use Rattle.hsr_plan_scenario.specs.declared.planning.Ending.TheVariants.{Planned, Refused, Unwritten}
+use Rattle.hsr_plan_meaning.specs.Meaning.{Meaning}
+use Rattle.hsr_plan_hops.specs.Moving.{MeansMoved}
 use Rattle.hsr_plan_sweep.specs.Counting.{IsCounted}
 use Rattle.hsr_plan_sweep.specs.declared.counting.Count.{Count}
 
@@ -49,7 +46,7 @@ pub record IsCountOfMeaning (meaning : Meaning) (count : Count) : Type 0 where
 
 pub record IsCountOf (plan : Plan) (count : Count) : Type 0 where
   pub meaning : Meaning
-  pub means : Means plan meaning
+  pub means : MeansMoved 512 plan meaning
   pub counted : IsCountOfMeaning meaning count
 
 -- each is the count of one of these plans, by number
@@ -76,13 +73,3 @@ pub record IsSweep (plan : Plan) (at : ℕ) (sweep : Sweep) : Type 0 where
   pub nodes : (d : Node) → AreCountsOf (without_node plan at sweep.wired.nodes d) sweep.nodes
   pub each_node : length sweep.nodes ≡ length sweep.wired.nodes
   pub undisturbed : IsCountOf plan sweep.undisturbed
-
--- what octets say as a plan is swept
-abbrev pub IsSwept : List ℕ → ℕ → Type 0
-IsSwept octets at = (plan : Plan) × (plan_of octets ≡ Ok plan) × (sweep : Sweep) × IsSweep plan at sweep
-
--- lines were written of a plan that is swept, or nothing; of a failed write no more is said
-abbrev pub SweepEnds : List ℕ → ℕ → Option (List ℕ) → Option (List ℕ) → Ending → Type 0
-SweepEnds octets at held holds Planned = (text : List ℕ) × IsSwept octets at × Appends held holds text
-SweepEnds octets at held holds Refused = Keeps held holds
-SweepEnds octets at held holds Unwritten = Unit {0}

@@ -7,10 +7,12 @@ use hsr_closing::Closed;
 use hsr_deliveries::{Delivery, deliveries};
 use hsr_frame::NoMemory;
 use hsr_needed::needed;
+use hsr_options::Scope;
+use hsr_report::{Finding, found};
 use std::alloc::Global;
 
 /// How many sends a run had; how many of these are complete, were missed by a node that they were due at, and were taken up twice;
-/// and how many entries the duplicate tables needed.
+/// how many entries the duplicate tables needed; and what the audit of networks found.
 #[derive(Clone, Copy, Debug, PartialEq, Eq)]
 pub struct Count {
     pub sends: usize,
@@ -18,6 +20,7 @@ pub struct Count {
     pub missed: usize,
     pub twice: usize,
     pub needed: usize,
+    pub finding: Finding,
 }
 
 /// How many sends were missed.
@@ -40,11 +43,13 @@ pub(crate) fn counted<const C: usize>(alloc: Global, closed: &Closed<C>) -> Resu
 {
     let deliveries = deliveries(alloc, closed)?;
     let needed = needed(alloc, closed)?;
+    let finding = found(alloc, closed, Scope::Network)?;
     Ok(Count {
         sends: deliveries.sends.len(),
         complete: deliveries.complete(),
         missed: missed(deliveries.sends.as_slice()),
         twice: twice(deliveries.sends.as_slice()),
         needed: needed.entries,
+        finding,
     })
 }

@@ -3,8 +3,9 @@ ghost use Rattle.std.specs.Prelude.{◌≡◌, IfOk, OnOk};
 ghost use Rattle.hsr_plan_sweep.specs.Sweep.{IsCountOf, IsCountOfMeaning, with_deed};
 
 use crate::counting::{Count, counted};
-use hsr_plan_meaning::{Meaning, meaning_of};
-use hsr_plan_text::{Deed, Event, Plan, PlanFault};
+use hsr_plan_hops::{Unmoved, moved_meaning_of};
+use hsr_plan_meaning::Meaning;
+use hsr_plan_text::{Deed, Event, Plan};
 use hsr_playing::{Unfinished, finished};
 use std::alloc::Global;
 
@@ -18,7 +19,7 @@ const CAPACITY_LIMIT: usize = 4096;
 #[derive(Debug, Drop)]
 pub enum Trouble {
     /// The plan means nothing.
-    Plan(PlanFault),
+    Plan(Unmoved),
     /// What it means leads to no finished run.
     Run(Unfinished),
 }
@@ -53,7 +54,7 @@ fn count_of_meaning(alloc: Global, meaning: &Meaning) -> Result<Count, Trouble>
 pub(crate) fn count_of(alloc: Global, plan: &Plan) -> Result<Count, Trouble>
     ensures { IfOk result (λ count. IsCountOf plan.now count) }
 {
-    match meaning_of(alloc, plan) {
+    match moved_meaning_of::<TABLE>(alloc, plan) {
         Ok(meaning) => count_of_meaning(alloc, &meaning),
         Err(fault) => Err(Trouble::Plan(fault)),
     }

@@ -3,12 +3,14 @@ ghost use Rattle.std.specs.Prelude.{◌≡◌, length, IfOk, OnOk};
 ghost use Rattle.hsr_plan_sweep.specs.Sweep.{AreCountsOf, IsCountOf, IsSweep, cut_of, off_of, with_deed, without_link, without_node};
 
 use crate::counting::Count;
+use crate::progress::Progress;
 use crate::running::{Trouble, count_of, count_with, no_memory};
 use crate::variants::{cut_of, off_of};
 use hsr_plan_network::{Node, Wired, wire};
 use hsr_plan_text::Plan;
 use hsr_topology::End;
 use std::alloc::Global;
+use std::io::Write;
 use std::marker::Model;
 
 /// The nodes and the topology of a plan, and what is counted of it: where each link is off, where each node is off, by their numbers,
@@ -48,12 +50,14 @@ fn without_link(
 
 /// The counts where each link is off.
 #[tactic(auto, using(crate::proofs::Counts::link_step))]
-fn without_links(
+fn without_links<E: Write>(
     alloc: Global,
     plan: &mut Plan,
     at: u64,
     nodes: &[Node],
     links: &[[End; 2]],
+    progress: Progress,
+    errors: &mut E,
 ) -> Result<Vec<Count>, Trouble>
     ensures each { IfOk result (λ v. AreCountsOf (without_link plan.old at nodes.now links.now) v.items) }
     ensures all { IfOk result (λ v. length v.items ≡ length links.now) }
@@ -61,6 +65,7 @@ fn without_links(
 {
     let mut counts = Vec::new(alloc);
     for link in links.iter() {
+        progress.show(alloc, errors, counts.len());
         let count = without_link(alloc, plan, at, nodes, link)?;
         if counts.push(count).is_err() {
             return Err(no_memory());
@@ -82,11 +87,13 @@ fn without_node(alloc: Global, plan: &mut Plan, at: u64, node: &Node) -> Result<
 
 /// The counts where each node is off.
 #[tactic(auto, using(crate::proofs::Counts::node_step))]
-fn without_nodes(
+fn without_nodes<E: Write>(
     alloc: Global,
     plan: &mut Plan,
     at: u64,
     nodes: &[Node],
+    progress: Progress,
+    errors: &mut E,
 ) -> Result<Vec<Count>, Trouble>
     ensures each { IfOk result (λ v. (d : _) → AreCountsOf (without_node plan.old at nodes.now d) v.items) }
     ensures all { IfOk result (λ v. length v.items ≡ length nodes.now) }
@@ -94,6 +101,8 @@ fn without_nodes(
 {
     let mut counts = Vec::new(alloc);
     for node in nodes.iter() {
+        let left = nodes.len().saturating_sub(counts.len());
+        progress.show(alloc, errors, progress.runs.saturating_sub(left));
         let count = without_node(alloc, plan, at, node)?;
         if counts.push(count).is_err() {
             return Err(no_memory());
@@ -103,8 +112,15 @@ fn without_nodes(
 }
 
 /// What is counted of a plan, where each link of its topology is cut, and each of its nodes goes off, one by one, by one more event at
-/// the end of its own. The plan's own events may still mend such a link, or set such a node on again. The plan stays as it is.
-pub fn sweep_plan(alloc: Global, plan: &mut Plan, at: u64) -> Result<Sweep, Trouble>
+/// the end of its own. The plan's own events may still mend such a link, or set such a node on again. The plan stays as it is. Where
+/// that is asked for, `errors` is told how far it is, in one line that is written again and again.
+pub fn sweep_plan<E: Write>(
+    alloc: Global,
+    plan: &mut Plan,
+    at: u64,
+    is_shown: bool,
+    errors: &mut E,
+) -> Result<Sweep, Trouble>
     ensures { IfOk result (λ s. IsSweep plan.old at s) }
 {
     let undisturbed = count_of(alloc, plan)?;
@@ -112,8 +128,13 @@ pub fn sweep_plan(alloc: Global, plan: &mut Plan, at: u64) -> Result<Sweep, Trou
         return Err(no_memory());
     };
     let nodes = wired.nodes.as_slice();
-    let links = without_links(alloc, plan, at, nodes, wired.topology.links())?;
-    let nodes = without_nodes(alloc, plan, at, nodes)?;
+    let links = wired.topology.links();
+    let progress = Progress {
+        is_shown,
+        runs: links.len().saturating_add(nodes.len()),
+    };
+    let links = without_links(alloc, plan, at, nodes, links, progress, errors)?;
+    let nodes = without_nodes(alloc, plan, at, nodes, progress, errors)?;
     Ok(Sweep {
         wired,
         links,

@@ -5,10 +5,11 @@ use Rattle.std.specs.Result.{result_ok}
 use Rattle.std.specs.Str.{bytes_eq}
 use Rattle.hsr_frame.specs.Address.{address_of}
 use Rattle.hsr_frame.specs.Cases.{first_of}
+use Rattle.hsr_text.specs.Words.{◌>>=◌, decimal_of, word_at}
 use Rattle.hsr_plan_text.specs.declared.plan.Kind.{Kind}
 use Rattle.hsr_plan_text.specs.declared.plan.Kind.TheVariants.{Goose, SampledValues}
 use Rattle.hsr_plan_text.specs.declared.plan.Moves.{Moves}
-use Rattle.hsr_plan_text.specs.declared.plan.Moves.TheVariants.{EachSendDrains, EachMomentDrains}
+use Rattle.hsr_plan_text.specs.declared.plan.Moves.TheVariants.{EachSendDrains, EachMomentDrains, Hop}
 use Rattle.hsr_plan_text.specs.declared.plan.Target.{Target}
 use Rattle.hsr_plan_text.specs.declared.plan.Target.TheVariants.{Named, Address}
 
@@ -36,8 +37,26 @@ letter_of _ = None
 
 -- ---- words of a list
 
+-- the number that is the last word
+abbrev pub last_number : Option (List ℕ) → Option ℕ
+last_number words = do
+  word ← word_at words
+  elim word.1 [ None ↦ decimal_of word.0 | Some _ ↦ None ]
+
+abbrev pub is_hop : List ℕ → List ℕ → ℕ → Bool
+is_hop key sign hop = bytes_eq key (codes "hop_us") && (bytes_eq sign (codes "=") && (nat_le 1 hop && nat_le hop 1000000))
+
+-- `hop_us = N`, where N is from 1 to 10^6
+unfoldable pub hop_of : List ℕ → Option ℕ
+hop_of s = do
+  key ← word_at (Some s)
+  sign ← word_at key.1
+  hop ← last_number sign.1
+  if is_hop key.0 sign.0 hop then Some hop else None
+
 abbrev pub moves_of : List ℕ → Option Moves
-moves_of s = first_of ((bytes_eq s (codes "each send drains"), Some EachSendDrains) ∷ (bytes_eq s (codes "each moment drains"), Some EachMomentDrains) ∷ []) None
+moves_of s = first_of ((bytes_eq s (codes "each send drains"), Some EachSendDrains) ∷ (bytes_eq s (codes "each moment drains"), Some EachMomentDrains) ∷ [])
+    (option_map (λ hop. Hop hop) (hop_of s))
 
 abbrev pub kind_named : List ℕ → Option Kind
 kind_named s = first_of ((bytes_eq s (codes "goose"), Some Goose) ∷ (bytes_eq s (codes "sv"), Some SampledValues) ∷ []) None

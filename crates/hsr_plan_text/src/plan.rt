@@ -70,6 +70,8 @@ pub enum Moves {
     EachSendDrains,
     /// All are at their end before the next moment.
     EachMomentDrains,
+    /// Each is put on its link at once, and taken and judged so many microseconds later.
+    Hop(u64),
 }
 
 /// Whom a stream is for.

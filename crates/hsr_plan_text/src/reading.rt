@@ -19,6 +19,7 @@ use crate::plan::{Event, Moves, Outline, Plan, Stream};
 use crate::streams::{stream, until};
 use crate::table::{between, only, tables_at, text, value};
 use crate::words::{is_title, moves_of};
+use hsr_tables::LIFE_CHECK;
 use std::alloc::Global;
 use toml::{Table, Value};
 
@@ -30,9 +31,6 @@ const CAPACITY: usize = 64;
 
 /// How many copies may wait in each direction of a link.
 const CAPACITY_LIMIT: u64 = 4096;
-
-/// The period of supervision, where a text doesn't say, in microseconds (IEC 62439-3 clause 5.7.3: LifeCheckInterval).
-const LIFE: u64 = 2_000_000;
 
 /// The longest period of supervision, in milliseconds.
 const LIFE_LIMIT: u64 = 1 << 30;
@@ -153,12 +151,12 @@ fn capacity(table: &Table) -> Result<usize, What>
     }
 }
 
-/// The period of supervision of a document.
+/// The period of supervision of a document, in microseconds: that of the standard, where it doesn't say.
 fn life(table: &Table) -> Result<u64, What>
     ensures { Gives (λ n. n) result (optional key.Life 2000000 milliseconds (table_view table.now)) }
 {
     match value(table, Key::Life) {
-        None => Ok(LIFE),
+        None => Ok(LIFE_CHECK),
         Some(value) => {
             let life = between(0, LIFE_LIMIT, Key::Life, value)?;
             Ok(life * 1000)

@@ -2,18 +2,23 @@
 ghost use Rattle.std.specs.Prelude.{◌≡◌, option_map};
 ghost use Rattle.std.specs.List.{list_all};
 ghost use Rattle.hsr_plan_text.specs.Fallible.{Gives};
-ghost use Rattle.hsr_plan_text.specs.Words.{is_name, is_name_octet, is_port_letter, is_title, kind_named, mac_of, moves_of};
+ghost use Rattle.hsr_plan_text.specs.Words.{hop_of, is_name, is_name_octet, is_port_letter, is_title, kind_named, last_number, mac_of, moves_of};
 ghost use Rattle.hsr_plan_text.specs.Tables.{word};
+ghost use Rattle.hsr_plan_text.specs.declared.plan.Moves.TheVariants.{Hop};
 ghost use Rattle.toml.specs.View.{view};
 
 use crate::fault::{Key, What};
 use crate::plan::{Kind, Moves};
 use crate::table::text;
 use hsr_frame::Mac;
+use hsr_text::{decimal, word};
 use toml::Value;
 
 /// The most octets of a name.
 const NAME_LIMIT: usize = 32;
+
+/// The most microseconds from a copy's put to its judgement.
+const HOP_LIMIT: u64 = 1_000_000;
 
 /// Whether a name may have that octet.
 fn is_name_octet(b: u8) -> bool
@@ -50,6 +55,41 @@ pub(crate) fn is_title(text: &[u8]) -> bool
     text.iter().all(|b| *b >= 32 && *b != 127)
 }
 
+/// The number that is the last word.
+fn last_number(rest: Option<&[u8]>) -> Option<u64>
+    ensures { result ≡ last_number (option_map (λ s. s.now) rest.entry) }
+{
+    match word(rest) {
+        Some((digits, None)) => decimal(digits),
+        _ => None,
+    }
+}
+
+/// The microseconds of the words `hop_us = N`.
+#[tactic(auto, unfolding(crate::specs::Words::hop_of))]
+fn hop_of(text: &[u8]) -> Option<u64>
+    ensures { result ≡ hop_of text.now }
+{
+    let (key, rest) = word(Some(text))?;
+    let (sign, rest) = word(rest)?;
+    let hop = last_number(rest)?;
+    if key == b"hop_us".as_slice() && sign == b"=".as_slice() && hop >= 1 && hop <= HOP_LIMIT {
+        Some(hop)
+    } else {
+        None
+    }
+}
+
+/// That copies move by hops, by its words.
+fn moves_by_hops(text: &[u8]) -> Option<Moves>
+    ensures { result ≡ option_map (λ hop. Hop hop) (hop_of text.now) }
+{
+    match hop_of(text) {
+        Some(hop) => Some(Moves::Hop(hop)),
+        None => None,
+    }
+}
+
 /// How copies move, by its words.
 pub(crate) fn moves_of(word: &str) -> Option<Moves>
     ensures { result ≡ moves_of word.now }
@@ -57,7 +97,7 @@ pub(crate) fn moves_of(word: &str) -> Option<Moves>
     match word {
         "each send drains" => Some(Moves::EachSendDrains),
         "each moment drains" => Some(Moves::EachMomentDrains),
-        _ => None,
+        _ => moves_by_hops(word.as_bytes()),
     }
 }
 

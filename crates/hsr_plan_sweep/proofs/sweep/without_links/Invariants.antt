@@ -3,4 +3,4 @@ use Rattle.hsr_plan_sweep.specs.Sweep.{AreCountsOf, without_link}
 use Rattle.hsr_plan_sweep.proofs.sweep.without_links.Given as goal
 
 abbrev pub invariant-loop-link : goal.invariant-loop-link
-invariant-loop-link l = AreCountsOf (without_link l.initial.plan l.at l.nodes l.links) l.counts.items × (length l.counts.items ≡ l.link-index) × (l.plan ≡ l.initial.plan)
+invariant-loop-link g l = AreCountsOf (without_link l.initial.plan l.at l.nodes l.links) l.counts.items × (length l.counts.items ≡ l.link-index) × (l.plan ≡ l.initial.plan)

@@ -1,0 +1,4 @@
+pub mod Deeds
+pub mod Moves
+pub mod Hops
+pub mod Moving

@@ -1,0 +1,144 @@
+//! What a plan means once its copies move.
+ghost use Rattle.std.specs.Prelude.{◌≡◌, ◌≤◌, IfOk, OnOk};
+ghost use Rattle.hsr_plan_hops.specs.Deeds.{deeds};
+ghost use Rattle.hsr_plan_text.specs.declared.plan.Moves.TheVariants.{Hop};
+ghost use Rattle.hsr_plan_hops.specs.Moving.{IsRunByHops, MeansMoved, Moved, MovesByHops};
+
+use crate::deeds::{are_same_deeds, deeds};
+use crate::moves::are_at_once;
+use crate::timing::are_in_time;
+use crate::weaving::woven;
+use hsr_frame::NoMemory;
+use hsr_plan_meaning::{Meaning, meaning_of};
+use hsr_plan_text::{Moves, Plan, PlanFault};
+use hsr_playing::{Unfinished, finished};
+use hsr_scenario::Order;
+use std::alloc::Global;
+
+/// How many copies may wait in each direction of a link.
+const CAPACITY_LIMIT: usize = 4096;
+
+/// Why a plan means nothing.
+#[derive(Debug, Drop)]
+pub enum Unmoved {
+    /// The plan itself means nothing.
+    Plan(PlanFault),
+    /// Copies are still on their way after so many orders.
+    Endless(usize),
+    /// The orders don't move copies by hops.
+    Differs,
+    /// Room was refused.
+    Memory,
+}
+
+impl From<NoMemory> for Unmoved {
+    ghost use Rattle.hsr_plan_hops.specs.declared.moving.Unmoved.TheVariants.{Memory};
+
+    ghost from_gives = { λ _ f. f ≡ Memory };
+
+    fn from(_refused: NoMemory) -> Unmoved {
+        Unmoved::Memory
+    }
+}
+
+/// Refuses orders that don't ask for what is told.
+fn check_deeds(alloc: Global, told: &[Order], orders: &[Order]) -> Result<(), Unmoved>
+    ensures { OnOk result (deeds 0 orders.now ≡ deeds 0 told.now) }
+{
+    let asked = deeds(alloc, told)?;
+    let done = deeds(alloc, orders)?;
+    if are_same_deeds(done.as_slice(), asked.as_slice()) {
+        Ok(())
+    } else {
+        Err(Unmoved::Differs)
+    }
+}
+
+/// Plays orders, and refuses those that don't move copies by hops.
+fn check_run<const C: usize>(
+    alloc: Global,
+    told: &Meaning,
+    us: u64,
+    orders: &[Order],
+) -> Result<(), Unmoved>
+    requires { (1 ≤ C) × (C ≤ 65535) }
+    ensures { OnOk result (IsRunByHops C us told.now orders.now) }
+{
+    // no plan that is read has another capacity
+    if told.capacity < 1 || told.capacity > CAPACITY_LIMIT {
+        return Err(Unmoved::Differs);
+    }
+    let topology = told.topology.copy()?;
+    match finished::<C>(alloc, topology, told.capacity, orders) {
+        Ok(closed) => {
+            if are_in_time(alloc, &closed, us)? {
+                Ok(())
+            } else {
+                Err(Unmoved::Differs)
+            }
+        }
+        Err(Unfinished::Memory) => Err(Unmoved::Memory),
+        Err(_) => Err(Unmoved::Differs),
+    }
+}
+
+/// Refuses orders that don't move the copies of what is told by hops.
+fn check<const C: usize>(
+    alloc: Global,
+    told: &Meaning,
+    us: u64,
+    orders: &[Order],
+) -> Result<(), Unmoved>
+    requires { (1 ≤ C) × (C ≤ 65535) }
+    ensures { OnOk result (MovesByHops C us told.now orders.now) }
+{
+    check_deeds(alloc, told.orders.as_slice(), orders)?;
+    if !are_at_once(orders) {
+        return Err(Unmoved::Differs);
+    }
+    check_run::<C>(alloc, told, us, orders)
+}
+
+/// What is told, with orders that move copies by hops.
+fn moved_by_hops<const C: usize>(alloc: Global, told: Meaning, us: u64) -> Result<Meaning, Unmoved>
+    requires { (1 ≤ C) × (C ≤ 65535) }
+    ensures { IfOk result (λ m. Moved C (Hop us) told m) }
+{
+    let orders = woven::<C>(alloc, &told, us)?;
+    check::<C>(alloc, &told, us, orders.as_slice())?;
+    Ok(Meaning {
+        nodes: told.nodes,
+        topology: told.topology,
+        capacity: told.capacity,
+        orders,
+    })
+}
+
+/// What is told, once copies move.
+fn with_moves<const C: usize>(
+    alloc: Global,
+    moves: Moves,
+    told: Meaning,
+) -> Result<Meaning, Unmoved>
+    requires { (1 ≤ C) × (C ≤ 65535) }
+    ensures { IfOk result (λ m. Moved C moves told m) }
+{
+    match moves {
+        Moves::EachSendDrains | Moves::EachMomentDrains => Ok(told),
+        Moves::Hop(us) => moved_by_hops::<C>(alloc, told, us),
+    }
+}
+
+/// What a plan means, as `meaning_of` says. Where its copies move by hops, its orders also put each copy at once, and take and judge
+/// it so much later, and a RedBox sends supervision about the stations that it knows then: the run is played while its orders are
+/// written, with tables of `C` entries, and once more when they are. `Endless` comes where that takes over 2^20 orders, `Differs` where
+/// the orders don't do this, or one of them is refused.
+pub fn moved_meaning_of<const C: usize>(alloc: Global, plan: &Plan) -> Result<Meaning, Unmoved>
+    requires { (1 ≤ C) × (C ≤ 65535) }
+    ensures { IfOk result (λ m. MeansMoved C plan.now m) }
+{
+    match meaning_of(alloc, plan) {
+        Ok(told) => with_moves::<C>(alloc, plan.outline.moves, told),
+        Err(fault) => Err(Unmoved::Plan(fault)),
+    }
+}

@@ -1,0 +1,83 @@
+//! How long the copies of a finished run were on their way.
+ghost use Rattle.std.specs.Prelude.{◌≡◌, slice_get, IfOk};
+ghost use Rattle.std.specs.List.{list_all};
+ghost use Rattle.hsr_law.specs.Run.{record_of};
+ghost use Rattle.hsr_plan_hops.specs.Hops.{are_in_time, is_in_time, is_later_by, moment_at, moment_if};
+
+use hsr_closing::Closed;
+use hsr_frame::NoMemory;
+use hsr_hops::{Hop, hops};
+use hsr_order::Spot;
+use std::alloc::Global;
+
+/// The moment of an entry, if it is there.
+fn moment_of<const C: usize>(closed: &Closed<C>, spot: Spot) -> Option<u64>
+    ensures { result ≡ moment_if (slice_get (record_of closed.now.run spot.node) spot.place) }
+{
+    match closed.topology().places().get(spot.node) {
+        Some(_) => match closed.entries(spot.node).get(spot.place) {
+            Some(entry) => Some(entry.at),
+            None => None,
+        },
+        None => None,
+    }
+}
+
+/// The moment of an entry, if it is told.
+fn moment_at<const C: usize>(closed: &Closed<C>, spot: Option<Spot>) -> Option<u64>
+    ensures { result ≡ moment_at closed.now.run spot }
+{
+    match spot {
+        Some(spot) => moment_of(closed, spot),
+        None => None,
+    }
+}
+
+/// Whether one moment is so many microseconds later than another.
+fn is_later_by(us: u64, from: Option<u64>, to: Option<u64>) -> bool
+    ensures { result ≡ is_later_by us from to }
+{
+    match (from, to) {
+        (Some(from), Some(to)) => from.checked_add(us) == Some(to),
+        _ => false,
+    }
+}
+
+/// Whether a copy was lost, or judged so many microseconds after it was passed.
+fn is_in_time<const C: usize>(closed: &Closed<C>, us: u64, hop: &Hop) -> bool
+    ensures { result ≡ is_in_time us closed.now.run hop.now }
+{
+    match hop.judged {
+        None => true,
+        Some(_) => {
+            let passed = moment_at(closed, hop.passed);
+            let judged = moment_at(closed, hop.judged);
+            is_later_by(us, passed, judged)
+        }
+    }
+}
+
+/// Whether these copies were.
+#[tactic(auto, using(crate::proofs::Listing::hops_step))]
+fn are_all_in_time<const C: usize>(closed: &Closed<C>, us: u64, hops: &[Hop]) -> bool
+    ensures { result ≡ list_all (is_in_time us closed.now.run) hops.now }
+{
+    for hop in hops.iter() {
+        if !is_in_time(closed, us, hop) {
+            return false;
+        }
+    }
+    true
+}
+
+/// Whether each copy that wasn't lost was judged so many microseconds after it was passed.
+pub(crate) fn are_in_time<const C: usize>(
+    alloc: Global,
+    closed: &Closed<C>,
+    us: u64,
+) -> Result<bool, NoMemory>
+    ensures { IfOk result (λ b. b ≡ are_in_time us closed.now.run) }
+{
+    let hops = hops(alloc, closed)?;
+    Ok(are_all_in_time(closed, us, hops.as_slice()))
+}

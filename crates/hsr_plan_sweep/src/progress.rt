@@ -1,0 +1,40 @@
+//! How far a sweep is, as a terminal shows it.
+use hsr_text::put_decimal;
+use std::alloc::{AllocError, Global};
+use std::io::Write;
+
+/// How many runs there are, and whether that is shown.
+#[derive(Clone, Copy, Debug, PartialEq, Eq)]
+pub(crate) struct Progress {
+    pub(crate) is_shown: bool,
+    pub(crate) runs: usize,
+}
+
+/// A line that replaces the one before, with how many runs are done.
+fn line(alloc: Global, done: usize, runs: usize) -> Result<Vec<u8>, AllocError> {
+    let mut line = Vec::new(alloc);
+    line.extend_from_slice(b"\rsweep: run ")?;
+    put_decimal(&mut line, done as u64)?;
+    line.extend_from_slice(b" of ")?;
+    put_decimal(&mut line, runs as u64)?;
+    Ok(line)
+}
+
+impl Progress {
+    /// Shows how many runs are done. Whether that is written is not told: the sweep goes on without it.
+    pub(crate) fn show<E: Write>(self, alloc: Global, errors: &mut E, done: usize) {
+        if !self.is_shown {
+            return;
+        }
+        if let Ok(line) = line(alloc, done, self.runs) {
+            let _written = errors.write_all(line.as_slice()).is_ok() && errors.flush().is_ok();
+        }
+    }
+}
+
+/// Leaves an empty line behind, where a line was shown.
+pub(crate) fn clear<E: Write>(is_shown: bool, errors: &mut E) {
+    if is_shown {
+        let _written = errors.write_all(b"\r\x1b[K").is_ok() && errors.flush().is_ok();
+    }
+}
