@@ -1,3 +1,5 @@
 pub mod Tables
 pub mod Macs
 pub mod Lists
+mod Each
+mod Documents

@@ -6,4 +6,5 @@ pub mod Nodes
 pub mod Links
 pub mod Steps
 pub mod Meaning
+pub mod Listed
 pub mod Names
