@@ -15,5 +15,5 @@ mod parts;
 mod reporting;
 mod spending;
 
-pub use finding::{Finding, found};
+pub use finding::{Finding, found, put_finding};
 pub use reporting::report;

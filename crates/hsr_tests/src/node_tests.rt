@@ -3,17 +3,11 @@ ghost use Rattle.hsr_node.specs.Place.{HasOwnAddress};
 
 use hsr_frame::{About, Cause, Mac, NoMemory, SendFault};
 use hsr_networks::{
-    PAYLOAD, Tag, arrival, danh, group, mac, octets, plain, redbox, send_event, station, tagged,
+    PAYLOAD, Tag, answer, arrival, danh, first_receipt, goes_up, group, kept, leaves_by, left_by,
+    mac, octets, plain, receipt_of, redbox, send_event, station, step, tagged,
 };
-use hsr_node::{Event, Kept, Node, Octets, Outcome, Pass, Place, StepFault, copy_out, up_out};
+use hsr_node::{Event, Kept, Octets, Outcome, Pass, Place, Receipt, StepFault};
 use std::test::Fail;
-
-/// A node with large tables.
-fn node(rt: &HostRuntime, place: &Place) -> Result<Node<512>, Fail>
-    requires { HasOwnAddress place.now }
-{
-    Ok(Node::new(rt.alloc(), place)?)
-}
 
 /// A send of the usual payload from the address at a place.
 fn send(rt: &HostRuntime, from: u8, dst: Mac) -> Result<Event, Fail> {
@@ -30,22 +24,17 @@ fn leaves(
 ) -> Result<bool, Fail>
     requires { HasOwnAddress place.now }
 {
-    let mut node = node(rt, place)?;
-    let Ok(outcome) = node.apply(0, event) else {
+    let Ok(outcome) = answer(rt, place, event)? else {
         return Ok(false);
     };
-    Ok(match copy_out(place, event, &outcome, port) {
-        Some(left) => left.as_slice() == told.as_slice(),
-        None => false,
-    })
+    Ok(leaves_by(place, event, &outcome, port, told))
 }
 
 /// Whether a new node refuses an event as one that doesn't fit it.
 fn is_wrong(rt: &HostRuntime, place: &Place, event: &Event) -> Result<bool, Fail>
     requires { HasOwnAddress place.now }
 {
-    let mut node = node(rt, place)?;
-    Ok(node.apply(0, event) == Err(StepFault::WrongEvent))
+    Ok(answer(rt, place, event)? == Err(StepFault::WrongEvent))
 }
 
 /// The copy that a node which ends in 01 puts on a path of its first send, to the other node.
@@ -87,14 +76,10 @@ fn delivers(rt: &HostRuntime, place: &Place, octets: Octets, told: &Octets) -> R
     requires { HasOwnAddress place.now }
 {
     let event = arrival(0, octets);
-    let mut node = node(rt, place)?;
-    let Ok(outcome) = node.apply(0, &event) else {
+    let Ok(outcome) = answer(rt, place, &event)? else {
         return Ok(false);
     };
-    Ok(match up_out(&event, &outcome) {
-        Some(up) => up.as_slice() == told.as_slice(),
-        None => false,
-    })
+    Ok(goes_up(&event, &outcome, told))
 }
 
 #[test]
@@ -129,20 +114,9 @@ fn forwarded_as_it_came(rt: HostRuntime) -> Result<(), Fail> {
     Ok(())
 }
 
-/// A node of number 0 that keeps its record.
-fn kept(rt: &HostRuntime, place: Place) -> Result<Kept<512>, Fail>
-    requires { HasOwnAddress place }
-{
-    Ok(Kept::new(rt.alloc(), 0, place)?)
-}
-
 #[test]
 fn kept_send(rt: HostRuntime) -> Result<(), Fail> {
-    let mut kept = kept(&rt, danh(1))?;
-    let event = send(&rt, 0, mac(2))?;
-    let Ok(receipt) = kept.step(0, 0, event) else {
-        return Err("refused".into());
-    };
+    let receipt = first_receipt(&rt, danh(1), send(&rt, 0, mac(2))?)?;
     assert!(rt; receipt.place == 0);
     let ports = [true, true, false, false];
     assert!(rt;
@@ -156,33 +130,33 @@ fn kept_send(rt: HostRuntime) -> Result<(), Fail> {
 }
 
 /// Whether a node refuses an event as one that doesn't fit it, hands it back, and keeps one entry as before.
-fn hands_back(rt: &HostRuntime, kept: &mut Kept<512>, event: Event) -> Result<bool, Fail> {
+fn hands_back(kept: &mut Kept<512>, event: Event) -> Result<bool, Fail> {
     let copy = event.copy()?;
-    let Err((back, fault)) = kept.step(0, 0, event) else {
+    let Err((back, fault)) = step(kept, 0, 0, event) else {
         return Ok(false);
     };
     Ok(fault == StepFault::WrongEvent && back == copy && kept.entries().len() == 1)
 }
 
+/// Whether a node that sent a frame hands back a send from an address that it hasn't, and an arrival at a port that it hasn't.
+fn hands_both_back(rt: &HostRuntime, kept: &mut Kept<512>) -> Result<bool, Fail> {
+    let _sent = receipt_of(kept, 0, send(rt, 0, mac(2))?)?;
+    let sent_by_nobody = send(rt, 1, mac(2))?;
+    let come_to_no_port = arrival(2, octets(rt, "00")?);
+    Ok(hands_back(kept, sent_by_nobody)? && hands_back(kept, come_to_no_port)?)
+}
+
 #[test]
 fn refused_event_comes_back(rt: HostRuntime) -> Result<(), Fail> {
-    let mut kept = kept(&rt, danh(1))?;
-    let sent = kept.step(0, 0, send(&rt, 0, mac(2))?);
-    assert!(rt; sent.is_ok());
-    let event = send(&rt, 1, mac(2))?;
-    assert!(rt; hands_back(&rt, &mut kept, event)?);
-    let event = arrival(2, octets(&rt, "00")?);
-    assert!(rt; hands_back(&rt, &mut kept, event)?);
+    let mut kept = kept(&rt, 0, danh(1))?;
+    let both = hands_both_back(&rt, &mut kept);
+    assert!(rt; both?);
     Ok(())
 }
 
 #[test]
 fn receipts_of_a_worker(rt: HostRuntime) -> Result<(), Fail> {
-    let mut kept = kept(&rt, danh(1))?;
-    let event = send(&rt, 0, mac(2))?;
-    let Ok(receipt) = kept.step(0, 0, event) else {
-        return Err("refused".into());
-    };
+    let receipt = first_receipt(&rt, danh(1), send(&rt, 0, mac(2))?)?;
     let mut pass = Pass::new(rt.alloc(), 3);
     assert!(rt; pass.keep(receipt).is_ok());
     assert!(rt; pass.worker() == 3);
@@ -195,9 +169,7 @@ fn receipts_of_a_worker(rt: HostRuntime) -> Result<(), Fail> {
 
 /// What a new station answers to a send.
 fn station_sends(rt: &HostRuntime, dst: Mac) -> Result<Result<Outcome, StepFault>, Fail> {
-    let event = send(rt, 0, dst)?;
-    let mut node = node(rt, &station())?;
-    Ok(node.apply(0, &event))
+    answer(rt, &station(), &send(rt, 0, dst)?)
 }
 
 #[test]
@@ -218,7 +190,6 @@ fn station_judges(
     cause: Cause,
 ) -> Result<bool, Fail> {
     let event = arrival(0, plain(rt, dst, src, &[])?);
-    let mut node = node(rt, &station())?;
     let ports = [false, false, false, false];
     let judged = Outcome::Judged {
         up,
@@ -226,7 +197,7 @@ fn station_judges(
         seq: None,
         cause,
     };
-    Ok(node.apply(0, &event) == Ok(judged))
+    Ok(answer(rt, &station(), &event)? == Ok(judged))
 }
 
 #[test]
@@ -237,15 +208,24 @@ fn arrivals_at_a_station(rt: HostRuntime) -> Result<(), Fail> {
     Ok(())
 }
 
-/// A RedBox whose interlink heard the first station.
-fn redbox_that_heard(rt: &HostRuntime) -> Result<Kept<512>, Fail> {
-    let mut kept = kept(rt, redbox())?;
+/// What a RedBox answers that is to tell of a station, once its interlink heard the first station.
+fn tells_of(
+    rt: &HostRuntime,
+    kept: &mut Kept<512>,
+    station: Mac,
+) -> Result<Result<Receipt, (Event, StepFault)>, Fail> {
     let frame = plain(rt, mac(9), mac(10), &[])?;
-    let heard = kept.step(1, 0, arrival(2, frame));
-    if heard.is_err() {
-        return Err("not heard".into());
-    }
-    Ok(kept)
+    let _heard = receipt_of(kept, 1, arrival(2, frame))?;
+    Ok(step(kept, 0, 0, Event::Supervise(About::Proxied(station))))
+}
+
+/// The same of a new RedBox.
+fn redbox_tells_of(
+    rt: &HostRuntime,
+    station: Mac,
+) -> Result<Result<Receipt, (Event, StepFault)>, Fail> {
+    let mut kept = kept(rt, 0, redbox())?;
+    tells_of(rt, &mut kept, station)
 }
 
 /// The supervision frame of a RedBox that ends in 09 about a station that ends in 0A, up to its padding.
@@ -262,13 +242,10 @@ const PROXIED: &str = concat!(
 
 #[test]
 fn proxied_supervision(rt: HostRuntime) -> Result<(), Fail> {
-    let mut kept = redbox_that_heard(&rt)?;
-    let event = Event::Supervise(About::Proxied(mac(10)));
-    let Ok(receipt) = kept.step(0, 0, event) else {
+    let Ok(Receipt { entry, .. }) = redbox_tells_of(&rt, mac(10))? else {
         return Err("refused".into());
     };
-    let entry = receipt.entry;
-    let Some(left) = copy_out(kept.place(), &entry.event, &entry.outcome, 0) else {
+    let Some(left) = left_by(&redbox(), &entry.event, &entry.outcome, 0) else {
         return Err("nothing left".into());
     };
     let head = octets(&rt, PROXIED)?;
@@ -279,63 +256,66 @@ fn proxied_supervision(rt: HostRuntime) -> Result<(), Fail> {
 
 #[test]
 fn supervision_for_a_stranger(rt: HostRuntime) -> Result<(), Fail> {
-    let mut kept = redbox_that_heard(&rt)?;
-    let event = Event::Supervise(About::Proxied(mac(11)));
-    let refused = kept.step(0, 0, event);
+    let refused = redbox_tells_of(&rt, mac(11))?;
     assert!(rt; refused.is_err_and(|e| e.1 == StepFault::NotProxied));
     Ok(())
 }
 
-/// A send, and a node to send it; where room is refused, it is asked for again.
-fn asked_again(rt: &HostRuntime) -> Result<(Event, Kept<512>), Fail> {
+/// A send; where room is refused, it is asked for again.
+fn send_again(rt: &HostRuntime) -> Result<Event, Fail> {
     let payload = match Octets::from_slice(rt.alloc(), &PAYLOAD) {
         Ok(payload) => payload,
         Err(_refused) => Octets::from_slice(rt.alloc(), &PAYLOAD)?,
     };
-    let node = match Kept::new(rt.alloc(), 0, danh(1)) {
-        Ok(node) => node,
-        Err(_refused) => Kept::new(rt.alloc(), 0, danh(1))?,
-    };
-    let event = Event::Send {
+    Ok(Event::Send {
         from: 0,
         dst: mac(2),
         vlan: None,
         kind: 0x0800,
         payload,
+    })
+}
+
+/// A node to send it; where room is refused, it is asked for again.
+fn kept_again(rt: &HostRuntime) -> Result<Kept<512>, Fail> {
+    Ok(match Kept::new(rt.alloc(), 0, danh(1)) {
+        Ok(kept) => kept,
+        Err(_refused) => Kept::new(rt.alloc(), 0, danh(1))?,
+    })
+}
+
+/// The receipt of an event; where room is refused, nothing was added, and the event is brought again.
+fn receipt_again(kept: &mut Kept<512>, event: Event) -> Result<Receipt, Fail> {
+    let event = match step(kept, 0, 0, event) {
+        Ok(receipt) => return Ok(receipt),
+        Err((event, StepFault::NoMemory)) => event,
+        Err(_refused) => return Err("refused".into()),
     };
-    Ok((event, node))
+    if !kept.entries().is_empty() {
+        return Err("added".into());
+    }
+    receipt_of(kept, 0, event)
+}
+
+/// The receipt of a new node's first send.
+fn first_receipt_again(rt: &HostRuntime) -> Result<Receipt, Fail> {
+    let event = send_again(rt)?;
+    let mut kept = kept_again(rt)?;
+    receipt_again(&mut kept, event)
 }
 
 /// With room refused at any growth of a step (`rt try --test --fail-alloc`): the event comes back, nothing is added, and
 /// the same step again gives what it gives with room.
 #[test]
 fn step_refused_for_memory(rt: HostRuntime) -> Result<(), Fail> {
-    let (event, mut kept) = asked_again(&rt)?;
-    let answer = match kept.step(0, 0, event) {
-        Ok(receipt) => Ok(receipt),
-        Err((event, StepFault::NoMemory)) => {
-            assert!(rt; kept.entries().is_empty());
-            kept.step(0, 0, event)
-        }
-        Err(refused) => Err(refused),
-    };
-    assert!(rt; answer.is_ok_and(|receipt| receipt.place == 0));
+    assert!(rt; first_receipt_again(&rt)?.place == 0);
     Ok(())
 }
 
 /// The same of a pass.
 #[test]
 fn receipt_refused_for_memory(rt: HostRuntime) -> Result<(), Fail> {
-    let (event, mut kept) = asked_again(&rt)?;
-    let receipt = match kept.step(0, 0, event) {
-        Ok(receipt) => receipt,
-        Err((event, _refused)) => {
-            let Ok(receipt) = kept.step(0, 0, event) else {
-                return Err("refused".into());
-            };
-            receipt
-        }
-    };
+    let receipt = first_receipt_again(&rt)?;
     let mut pass = Pass::new(rt.alloc(), 0);
     let answer = match pass.keep(receipt) {
         Ok(()) => Ok(()),
