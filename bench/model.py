@@ -141,12 +141,15 @@ class Node:
         self.heard = []  # (address, moment) of stations, the latest last
         self.record = []
         self.frames = {}  # of its own, by place
-        self.forgot = self.mistaken = self.late = None  # the first place of each
-        self.needed = (0,)  # how many notes, and the first place
+        self.forgot = self.mistaken = self.numbered_late = None  # the first place of each
+        self.needed = (0, None)  # the greatest count of notes that an arrival needed, and its first place
 
     def spelled(self):
         said = {"station": [printed(mac) for mac in self.macs], "quadbox": []}
         return " ".join([self.role] + said.get(self.role, [printed(self.mac or b""), self.mode]))
+
+    def addresses(self):
+        return self.macs if self.role == "station" else [self.mac] if self.mac else []
 
     # -- what is remembered and known
 
@@ -171,7 +174,7 @@ class Node:
     # -- events of its own
 
     def source(self, place):
-        macs = self.macs if self.role == "station" else [self.mac] if self.mac else []
+        macs = self.addresses()
         if place >= len(macs):
             raise Refused("wrong-event")
         return macs[place]
@@ -266,8 +269,9 @@ class Node:
         wish = self.wish(port, frame)
         if wish.key:
             self.doubt(wish, send)
-        if wish.is_numbered and self.late is None and any(note[2] == send for notes in self.notes.values() for note in notes):
-            self.late = len(self.record)
+            self.measure(wish, send)
+        if wish.is_numbered:
+            self.doubt_number(send)
         seq = self.take_number() if wish.is_numbered else None
         passed = [out for out in wish.exits if all(note[0] != wish.key for note in self.remembered(out))] if wish.key else wish.exits
         if wish.key or wish.is_numbered:
@@ -289,45 +293,40 @@ class Node:
         return Answer(" ".join(words + (["up"] if "up" in passed else []) + ports), copies)
 
     def doubt(self, wish, send):
-        """Notes the first place where something needed is forgotten, where a number is mistaken, and where most is needed."""
+        """Notes the first place where something needed is forgotten, and where a number is mistaken."""
         for out in wish.exits:
-            remembered, back = self.remembered(out), self.notes.get(out, [])[::-1]
-            needed = next((n for n, note in enumerate(back, 1) if note[2] == send), 0)
-            if needed > self.needed[0] and self.moment - back[needed - 1][1] < ENTRY_FORGET:
-                self.needed = (needed, len(self.record))
+            remembered = self.remembered(out)
             was_noted = any(note[2] == send for note in self.notes.get(out, []))
             if self.forgot is None and was_noted and all(note[2] != send for note in remembered):
                 self.forgot = len(self.record)
             if self.mistaken is None and any(note[0] == wish.key and note[2] != send for note in remembered):
                 self.mistaken = len(self.record)
 
-    def is_due(self, frame, sender):
-        """Whether a frame of a node is due here."""
-        if self.number == sender or self.role == "quadbox":
-            return False
-        if is_group(frame.dst):
-            return self.role != "station" or not frame.is_supervision()
-        return self.has(frame.dst)
+    def measure(self, wish, send):
+        """Notes the greatest count of notes that a table must hold to know an arrival's send again, and the first place of it."""
+        for out in wish.exits:
+            counts = [count for count, note in enumerate(reversed(self.notes.get(out, [])), 1) if note[2] == send]
+            if counts and self.moment - self.notes[out][-counts[0]][1] < ENTRY_FORGET and counts[0] > self.needed[0]:
+                self.needed = (counts[0], len(self.record))
 
-    def has(self, mac):
-        return mac in [*self.macs, self.mac]
+    def doubt_number(self, send):
+        """Notes the first place where a frame gets a number though its send was noted before, so that its copies don't match."""
+        if self.numbered_late is None and any(note[2] == send for notes in self.notes.values() for note in notes):
+            self.numbered_late = len(self.record)
 
-    def is_edge(self, port):
-        return port in "IP"
+    # -- what the audit of networks supposes of a node
 
-    def passes_on(self, frame, sender, port):
-        """Whether what comes to a port goes on to others."""
+    def passes_on(self, port, frame):
+        """Whether a frame of another node, that came by a port, goes on to the other ports."""
         if self.role in ("quadbox", "station"):
             return self.role == "quadbox"
-        is_kept = self.has(frame.dst) and (self.mode != "U" or port == "I")
-        return self.number != sender and not is_kept
+        return frame.dst != self.mac or self.mode != "H" and port != "I"
 
-    def lets_out(self, frame, port):
-        """Whether it leaves by a port where no station is known."""
+    def lets_out(self, port, frame):
+        """Whether a frame that goes on leaves by a port."""
         return port != "I" or is_group(frame.dst) and not frame.is_supervision()
 
-    def ups(self, send):
-        return sum(event.send == send and "up" in outcome.split() for _, _, event, outcome in self.record)
+    # -- what a report says
 
     def counters(self):
         dropped = sum(self.causes[cause] for cause in CAUSES[2:])
@@ -504,62 +503,132 @@ class World:
             return "doubt same-address"
         if sum(any(row.fate != "taken" for row in link.rows) for link in self.links) > 1:
             return "doubt two-links"
-        for what in ("forgot", "mistaken"):
-            for node in self.nodes:
-                if getattr(node, what) is not None:
-                    return f"doubt {what} {node.number} {getattr(node, what)}"
-        return f"certified {sum(node.sent + node.lives for node in self.nodes)}"
+        return self.doubt_of_nodes(["forgot", "mistaken"]) or f"certified {len(self.sends())}"
 
-    # -- the audit of networks
+    def doubt_of_nodes(self, whats):
+        """The first doubt that a node noted: by the order of `whats`, then by node. None where there is none."""
+        for what in whats:
+            for node in self.nodes:
+                place = getattr(node, what.replace("-", "_"))
+                if place is not None:
+                    return f"doubt {what} {node.number} {place}"
+        return None
+
+    # -- who got what
 
     def sends(self):
-        return ((node, place) for node in self.nodes for place in sorted(node.frames))
+        """All sends, supervisions too, by node and place, with their frames."""
+        return [((node.number, place), frame) for node in self.nodes for place, frame in sorted(node.frames.items())]
 
-    def is_promised(self, node, frame):
+    def due(self, send, frame):
+        """The nodes that a send is for. Its addresses and type say it alone, whatever became of it."""
+        others = [node for node in self.nodes if node.number != send[0] and node.role != "quadbox"]
         if is_group(frame.dst):
-            return node.role != "station" or not frame.is_supervision()
-        return not any(frame.dst in other.macs for other in self.nodes)
+            return [node.number for node in others if node.role != "station" or not frame.is_supervision()]
+        return [node.number for node in others if frame.dst in node.addresses()]
 
-    def reached(self, node, place):
-        """The nodes to which some way lost no copy of a send."""
-        frame, send = node.frames[place], (node.number, place)
-        ways = [(*link.ends[:: 1 - 2 * dir], not any(row.dir == dir and row.send == send and row.fate != "taken" for row in link.rows))
-                for link in self.links for dir in (0, 1)]
-        ways = [(start, stop) for start, stop, is_whole in ways if is_whole and self.nodes[start[0]].lets_out(frame, start[1])]
-        came = {stop for start, stop in ways if start[0] == node.number}
-        todo = list(came)
-        while todo:
-            number, port = todo.pop()
-            if not self.nodes[number].passes_on(frame, node.number, port):
-                continue
-            for start, stop in ways:
-                if start[0] == number and start[1] != port and stop[0] != node.number and stop not in came:
-                    came.add(stop)
-                    todo.append(stop)
-        return {number for number, _ in came}
+    def ups(self):
+        """By send: the nodes at which an arrival of it went up, each as often as that happened."""
+        ups = {}
+        for node in self.nodes:
+            for _, _, event, outcome in node.record:
+                if event.send and "up" in outcome.split(" "):
+                    ups.setdefault(event.send, []).append(node.number)
+        return ups
+
+    def losses(self):
+        """By send: its lost copies, by link and place on the link, each with its link's number and its row."""
+        losses = {}
+        for number, link in enumerate(self.links):
+            for row in link.rows:
+                if row.fate != "taken":
+                    losses.setdefault(row.send, []).append((number, row))
+        return losses
+
+    def delivery(self, send, frame, ups, losses):
+        """The line of a send, or None where it is complete."""
+        due = self.due(send, frame)
+        missed = [number for number in due if ups.count(number) == 0]
+        twice = [number for number in due if ups.count(number) > 1]
+        strayed = sorted(set(ups) - set(due))
+        if not missed and not twice and not strayed:
+            return None
+        number, place = send
+        at = self.nodes[number].record[place][1]
+        lost = [f"{link}:{['forth', 'back'][row.dir]}:{row.fate}" for link, row in losses]
+        got = f"missed {listed(missed)} twice {listed(twice)} strayed {listed(strayed)} lost {listed(lost)}"
+        return f"send {named(send)} at {at} to {printed(frame.dst)} due {len(due)} {got}"
+
+    def deliveries(self):
+        """The lines of sends: one for each that isn't complete, and the counts."""
+        ups, losses = self.ups(), self.losses()
+        lines = [self.delivery(send, frame, ups.get(send, []), losses.get(send, [])) for send, frame in self.sends()]
+        told = [line for line in lines if line]
+        return [*told, f"deliveries {len(lines)} complete {len(lines) - len(told)}"]
+
+    def needed(self):
+        """The line of what the run needed: the greatest count of all nodes, at the lowest that has it."""
+        most = max((node.needed[0] for node in self.nodes), default=0)
+        met = [node for node in self.nodes if node.needed[0] == most]
+        return f"needed {most} {met[0].number} {met[0].needed[1]}" if most else "needed 0"
+
+    # -- networks
 
     def network_verdict(self):
-        if any(node.mac and node.mode == "N" for node in self.nodes):
+        """The first doubt of the audit of networks, else its certificate."""
+        if any(node.mode == "N" for node in self.nodes):
             return "doubt mode"
-        owned = [set(node.macs) | {node.mac} - {None} for node in self.nodes]
-        if sum(map(len, owned)) > len(set().union(*owned)):
+        macs = [mac for node in self.nodes for mac in node.addresses()]
+        if len(set(macs)) < len(macs):
             return "doubt same-address"
         for number, link in enumerate(self.links):
-            if len({self.nodes[end[0]].is_edge(end[1]) for end in link.ends}) > 1:
+            if len({port in "IP" for _, port in link.ends}) == 2:
                 return f"doubt side {number}"
-        for what, told in (("forgot", "forgot"), ("mistaken", "mistaken"), ("late", "numbered-late")):
-            for node in self.nodes:
-                if getattr(node, what) is not None:
-                    return f"doubt {told} {node.number} {getattr(node, what)}"
-        for node, place in self.sends():
-            if not self.is_promised(node, node.frames[place]):
-                return f"doubt uncovered {node.number} {place}"
-        for node, place in self.sends():
-            reached = self.reached(node, place)
-            for other in self.nodes:
-                if other.is_due(node.frames[place], node.number) and other.number not in reached:
-                    return f"doubt cut-off {node.number} {place} {other.number}"
-        return f"certified {len(list(self.sends()))}"
+        return self.doubt_of_nodes(["forgot", "mistaken", "numbered-late"]) or self.doubt_of_sends() or f"certified {len(self.sends())}"
+
+    def doubt_of_sends(self):
+        """The first send that isn't covered, else the first that doesn't reach a node that it is for. None where there is none."""
+        for send, frame in self.sends():
+            if not self.is_covered(send, frame):
+                return "doubt uncovered {} {}".format(*send)
+        losses = self.losses()
+        for send, frame in self.sends():
+            reached = self.reached(send, frame, [self.links[number].ends[row.dir] for number, row in losses.get(send, [])])
+            for number in self.due(send, frame):
+                if number not in reached:
+                    return "doubt cut-off {} {} {}".format(*send, number)
+        return None
+
+    def is_covered(self, send, frame):
+        """Whether ways alone say where a send goes. To a Station it goes by what RedBoxes heard, so that isn't covered."""
+        if frame.is_supervision() and self.nodes[send[0]].role == "station":
+            return False
+        return is_group(frame.dst) or not any(frame.dst in node.macs for node in self.nodes)
+
+    def goal(self, start):
+        """The end of a way. A way is named by the port at which it starts, as each port has one link."""
+        link, dir = self.lanes[start]
+        return link.ends[1 - dir]
+
+    def onward(self, start, send, frame):
+        """The ways that a send takes from the end of a way, lost or not."""
+        number, port = self.goal(start)
+        node, others = self.nodes[number], [way for way in self.ends if way[0] == number and way[1] != port]
+        if not node.passes_on(port, frame):
+            return []
+        return [way for way in others if node.lets_out(way[1], frame) and self.goal(way)[0] != send[0]]
+
+    def reached(self, send, frame, lost):
+        """The nodes that a send reaches: the ends of the ways that it takes, from its sender on, but for those where it was lost."""
+        todo, taken = [way for way in self.ends if way[0] == send[0]], []
+        while todo:
+            way = todo.pop()
+            if way not in taken and way not in lost:
+                taken.append(way)
+                todo += self.onward(way, send, frame)
+        return {self.goal(way)[0] for way in taken}
+
+    # -- what is written
 
     def budget(self):
         """The line of the budget, by its definition: each arrival, and each window that begins with a send."""
@@ -577,32 +646,6 @@ class World:
         crowds = {start: sum(start <= moment < start + 2 * ENTRY_FORGET for moment in sends) for start in sends}
         crowded = [start for start, count in crowds.items() if count > self.capacity]
         return f"budget crowded {min(crowded)}" if crowded else f"budget {max(crowds.values(), default=0)}"
-
-    def needed(self):
-        most = max(node.needed[0] for node in self.nodes) if self.nodes else 0
-        first = next((node for node in self.nodes if node.needed[0] == most), None)
-        return f"needed {most} {first.number} {first.needed[1]}" if most else "needed 0"
-
-    def delivery(self, node, place):
-        """The line of a send, or None where it is complete."""
-        frame, send = node.frames[place], (node.number, place)
-        due = {other.number: other.ups(send) for other in self.nodes if other.is_due(frame, node.number)}
-        ups = {other.number: other.ups(send) for other in self.nodes}
-        missed, twice = [n for n in due if not due[n]], [n for n in due if due[n] > 1]
-        strayed = [n for n in ups if ups[n] and n not in due]
-        if not missed + twice + strayed:
-            return None
-        lost = [f"{number}:{['forth', 'back'][row.dir]}:{row.fate}" for number, link in enumerate(self.links)
-                for row in link.rows if row.send == send and row.fate != "taken"]
-        told = f"send {node.number}:{place} at {node.record[place][1]} to {printed(frame.dst)} due {len(due)}"
-        for name, those in (("missed", missed), ("twice", twice), ("strayed", strayed), ("lost", lost)):
-            told += f" {name} " + (",".join(map(str, those)) or "-")
-        return told
-
-    def deliveries(self):
-        """The lines of who got what."""
-        lines = [self.delivery(node, place) for node in self.nodes for place in sorted(node.frames)]
-        return [line for line in lines if line] + [f"deliveries {len(lines)} complete {lines.count(None)}"]
 
     def report(self, asked=()):
         """Its report, with the parts that are asked for: deliveries, needed, budget; by the audit of networks where that is."""
@@ -645,6 +688,10 @@ class Event:
 
 def named(send):
     return "{}:{}".format(*send) if send else "-"
+
+
+def listed(words):
+    return ",".join(map(str, words)) or "-"
 
 
 def text(lines):
