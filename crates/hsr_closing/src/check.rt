@@ -1,8 +1,10 @@
 //! Whether the parts of a run agree.
-ghost use Rattle.std.specs.Prelude.{◌≡◌, map, IfNone, IfOk, IfSome, MatchOption};
+ghost use Rattle.std.specs.Prelude.{◌≡◌, length, map, IfNone, IfOk, IfSome, MatchOption};
 ghost use Rattle.hsr_node.specs.Kept.{Record};
-ghost use Rattle.hsr_closing.specs.Checked.{Agrees, HasNoStorm, IfDisagree, IsFirst, IsFirstOfAll, IsSettledRun};
+ghost use Rattle.hsr_closing.specs.Checked.{Agrees, HasNoStorm, HasNoStranger, IfDisagree, IsFirst, IsFirstOfAll, IsFirstStranger, IsSettledRun};
 ghost use Rattle.hsr_closing.specs.Finished.{IsFinished, run_of};
+ghost use Rattle.hsr_closing.specs.Shape.{IsShaped};
+ghost use Rattle.hsr_topology.specs.Wired.{IsWired};
 ghost use Rattle.hsr_closing.specs.OfRecords.{AllAgreeOf, IsClosedOf, IsFirstOf, IsOpenOf};
 
 use crate::disagree::{CheckFault, Disagree};
@@ -20,8 +22,54 @@ use hsr_node::{Kept, Pass};
 use hsr_topology::Topology;
 use std::alloc::Global;
 
-/// The first thing that keeps records and rows from being a closed run of the topology, whatever the receipts are.
+/// The first row that no node put, or whose copy is of no send, by the numbers that the nodes gave.
+fn first_unknown<const C: usize>(
+    alloc: Global,
+    topology: &Topology,
+    ends: &Ends<'_>,
+    kept: &[Kept<C>],
+    rows: &[Vec<Row>],
+) -> Result<Option<(usize, usize)>, NoMemory>
+    requires links { ends.now ≡ topology.now.links }
+    requires shaped { IsShaped topology.now kept.now rows.now }
+    ensures { IfOk result (λ r. MatchOption r (HasNoStranger (run_of C topology.now kept.now rows.now) (length topology.now.links)) (λ f. IsFirstStranger (run_of C topology.now kept.now rows.now) f.0 f.1)) }
+{
+    let numbers = Numbers::new(alloc, kept)?;
+    Ok(first_stranger(topology, ends, &numbers, rows))
+}
+
+/// The same of records and rows that are the topology's, by the ends of its links.
 #[tactic(auto, using(crate::proofs::Agreed::settled), unfolding(crate::specs::Checked::IsFirstOfAll))]
+fn unsettled_in<const C: usize>(
+    alloc: Global,
+    topology: &Topology,
+    ends: &Ends<'_>,
+    kept: &[Kept<C>],
+    rows: &[Vec<Row>],
+) -> Result<Option<Disagree>, NoMemory>
+    requires links { ends.now ≡ topology.now.links }
+    requires wired { IsWired topology.now.places topology.now.links }
+    requires shaped { IsShaped topology.now kept.now rows.now }
+    ensures { IfOk result (λ r. MatchOption r (IsSettledRun C topology.now kept.now rows.now) (λ d. IsFirstOfAll C topology.now kept.now rows.now d)) }
+{
+    are_legal(kept);
+    if let Some((link, dir)) = first_other(alloc, Passage::Put, topology, kept, rows)? {
+        return Ok(Some(Disagree::LinkPut { link, dir }));
+    }
+    if let Some((link, dir)) = first_other(alloc, Passage::Taken, topology, kept, rows)? {
+        return Ok(Some(Disagree::LinkTaken { link, dir }));
+    }
+    if let Some((link, row)) = first_unknown(alloc, topology, ends, kept, rows)? {
+        return Ok(Some(Disagree::Stranger { link, row }));
+    }
+    match first_noisy(topology, kept, rows) {
+        Some(link) => Ok(Some(Disagree::NotQuiet { link })),
+        None => Ok(None),
+    }
+}
+
+/// The first thing that keeps records and rows from being a closed run of the topology, whatever the receipts are.
+#[tactic(auto, unfolding(crate::specs::Checked::IsFirstOfAll))]
 fn unsettled<const C: usize>(
     alloc: Global,
     topology: &Topology,
@@ -31,27 +79,10 @@ fn unsettled<const C: usize>(
     ensures { IfOk result (λ r. MatchOption r (IsSettledRun C topology.now kept.now rows.now) (λ d. IsFirstOfAll C topology.now kept.now rows.now d)) }
 {
     let ends = Ends::new(alloc, topology.links())?;
-    if !is_shaped(topology, &ends, kept, rows) {
-        return Ok(Some(Disagree::Shape));
-    }
-    are_legal(kept);
-    match first_other(alloc, Passage::Put, topology, kept, rows) {
-        Err(fault) => return Err(fault),
-        Ok(Some((link, dir))) => return Ok(Some(Disagree::LinkPut { link, dir })),
-        Ok(None) => {}
-    }
-    match first_other(alloc, Passage::Taken, topology, kept, rows) {
-        Err(fault) => return Err(fault),
-        Ok(Some((link, dir))) => return Ok(Some(Disagree::LinkTaken { link, dir })),
-        Ok(None) => {}
-    }
-    let numbers = Numbers::new(alloc, kept)?;
-    if let Some((link, row)) = first_stranger(topology, &ends, &numbers, rows) {
-        return Ok(Some(Disagree::Stranger { link, row }));
-    }
-    match first_noisy(topology, kept, rows) {
-        Some(link) => Ok(Some(Disagree::NotQuiet { link })),
-        None => Ok(None),
+    if is_shaped(topology, &ends, kept, rows) {
+        unsettled_in(alloc, topology, &ends, kept, rows)
+    } else {
+        Ok(Some(Disagree::Shape))
     }
 }
 
