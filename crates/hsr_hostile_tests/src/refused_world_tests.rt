@@ -2,11 +2,11 @@
 //! the same call again answers as one with room.
 use crate::fixtures::{octets, ring, send, size};
 use hsr_audit::{AuditFault, Budget, BudgetFault, Certificate, audit, budget};
-use hsr_closing::{CheckFault, Closed, Planned, passes_of};
+use hsr_closing::{CheckFault, Closed, Parts, Planned, passes_of};
 use hsr_frame::{About, Mac};
 use hsr_link::{Dir, Fate};
 use hsr_networks::danh;
-use hsr_node::{Event, Kept, Pass};
+use hsr_node::{Event, Kept, Octets, Pass};
 use hsr_ring::{DrainFault, Step, World, WorldFault};
 use std::alloc::Global;
 use std::test::Fail;
@@ -26,13 +26,11 @@ fn step(world: &mut World<4>, step: &Step) -> Result<(), Fail> {
     }
 }
 
-#[test]
-fn each_step(rt: HostRuntime) -> Result<(), Fail> {
-    let mut world = ring(rt.alloc()).ok_or("ring")?;
-    let injected = octets(rt.alloc(), &[1, 2]).ok_or("octets")?;
-    let steps = [
+/// A step of each kind but a judging that nobody waits for.
+fn each_kind(send: Step, injected: Octets) -> [Step; 10] {
+    [
         Step::Clock { at: 5 },
-        send(rt.alloc()).ok_or("send")?,
+        send,
         Step::Supervise {
             node: 0,
             about: About::Own,
@@ -51,11 +49,24 @@ fn each_step(rt: HostRuntime) -> Result<(), Fail> {
             dir: Dir::Back,
             octets: injected,
         },
-    ];
-    for one in &steps {
+    ]
+}
+
+/// How many entries and rows a ring has after these steps.
+fn size_after(alloc: Global, steps: &[Step]) -> Result<(usize, usize), Fail> {
+    let mut world = ring(alloc).ok_or("ring")?;
+    for one in steps {
         step(&mut world, one)?;
     }
-    assert!(rt; size(&world) == (4, 2));
+    Ok(size(&world))
+}
+
+#[test]
+fn each_step(rt: HostRuntime) -> Result<(), Fail> {
+    let send = send(rt.alloc()).ok_or("send")?;
+    let injected = octets(rt.alloc(), &[1, 2]).ok_or("octets")?;
+    let steps = each_kind(send, injected);
+    assert!(rt; size_after(rt.alloc(), &steps)? == (4, 2));
     Ok(())
 }
 
@@ -68,23 +79,31 @@ fn entries_of(world: &World<4>, node: usize) -> usize {
     }
 }
 
+/// Four sends, and what doesn't need memory for octets after the first.
+fn four_sends(alloc: Global) -> Option<[Step; 5]> {
+    let (first, second) = (send(alloc)?, send(alloc)?);
+    let (third, fourth) = (send(alloc)?, send(alloc)?);
+    Some([first, Step::Age { node: 0 }, second, third, fourth])
+}
+
+/// Runs steps, and the rest of them where room was refused: the steps before the refusal stand.
+fn run_on(world: &mut World<4>, steps: &[Step]) -> Result<(), Fail> {
+    let Err((done, fault)) = world.run(steps) else {
+        return Ok(());
+    };
+    if fault != WorldFault::NoMemory || entries_of(world, 0) != done {
+        return Err("other than refused".into());
+    }
+    let rest = steps.get(done..).ok_or("rest")?;
+    Ok(world.run(rest).ok().ok_or("refused twice")?)
+}
+
 /// Of a run that stops the steps before the refusal stand, and the rest can be run.
 #[test]
 fn run_of_steps(rt: HostRuntime) -> Result<(), Fail> {
+    let steps = four_sends(rt.alloc()).ok_or("sends")?;
     let mut world = ring(rt.alloc()).ok_or("ring")?;
-    let steps = [
-        send(rt.alloc()).ok_or("send")?,
-        Step::Age { node: 0 },
-        send(rt.alloc()).ok_or("send")?,
-        send(rt.alloc()).ok_or("send")?,
-        send(rt.alloc()).ok_or("send")?,
-    ];
-    if let Err((done, fault)) = world.run(&steps) {
-        assert!(rt; fault == WorldFault::NoMemory);
-        assert!(rt; entries_of(&world, 0) == done);
-        let rest = steps.get(done..).ok_or("rest")?;
-        assert!(rt; world.run(rest) == Ok(()));
-    }
+    run_on(&mut world, &steps)?;
     assert!(rt; entries_of(&world, 0) == 5);
     Ok(())
 }
@@ -103,17 +122,44 @@ fn drained(world: &World<4>) -> usize {
         .saturating_sub(1)
 }
 
+/// Lets a node send to a group.
+fn send_in(world: &mut World<4>, alloc: Global) -> Result<(), Fail> {
+    let send = send(alloc).ok_or("send")?;
+    step(world, &send)
+}
+
+/// Lets a frame go round, and on where room was refused.
+fn go_round(world: &mut World<4>) -> Result<(), Fail> {
+    match world.drain(18) {
+        Ok(_steps) => Ok(()),
+        Err(DrainFault::World(WorldFault::NoMemory)) => {
+            let _steps = world.drain(18).ok().ok_or("refused twice")?;
+            Ok(())
+        }
+        Err(_other) => Err("drain".into()),
+    }
+}
+
 /// A ring in which a frame went round.
 fn settled(alloc: Global) -> Result<World<4>, Fail> {
     let mut world = ring(alloc).ok_or("ring")?;
-    step(&mut world, &send(alloc).ok_or("send")?)?;
-    match world.drain(18) {
-        Ok(_steps) => Ok(world),
-        Err(DrainFault::World(WorldFault::NoMemory)) => {
-            let _steps = world.drain(18).ok().ok_or("refused twice")?;
-            Ok(world)
-        }
-        Err(_other) => Err("drain".into()),
+    send_in(&mut world, alloc)?;
+    go_round(&mut world)?;
+    Ok(world)
+}
+
+/// Drains a world, and on where room was refused: the steps before the refusal stand.
+fn drain_on(world: &mut World<4>) -> Result<(), Fail> {
+    let Err(fault) = world.drain(18) else {
+        return Ok(());
+    };
+    let done = drained(world) as u64;
+    let rest = world.drain(18).ok().ok_or("refused twice")?;
+    let is_refused = fault == DrainFault::World(WorldFault::NoMemory);
+    if is_refused && rest.checked_add(done) == Some(18) {
+        Ok(())
+    } else {
+        Err("other than refused".into())
     }
 }
 
@@ -121,13 +167,8 @@ fn settled(alloc: Global) -> Result<World<4>, Fail> {
 #[test]
 fn drain(rt: HostRuntime) -> Result<(), Fail> {
     let mut world = ring(rt.alloc()).ok_or("ring")?;
-    step(&mut world, &send(rt.alloc()).ok_or("send")?)?;
-    if let Err(fault) = world.drain(18) {
-        assert!(rt; fault == DrainFault::World(WorldFault::NoMemory));
-        let done = drained(&world);
-        let rest = world.drain(18).ok().ok_or("refused twice")?;
-        assert!(rt; rest.checked_add(done as u64) == Some(18));
-    }
+    send_in(&mut world, rt.alloc())?;
+    drain_on(&mut world)?;
     assert!(rt; drained(&world) == 18);
     Ok(())
 }
@@ -156,14 +197,19 @@ fn certificate(alloc: Global, closed: &Closed<4>) -> Result<Certificate, Fail> {
     }
 }
 
+/// Whether a finished run is certified to have one send, with these receivers.
+fn has_one_send(alloc: Global, closed: &Closed<4>, receivers: &[usize]) -> Result<bool, Fail> {
+    let Certificate { sends } = certificate(alloc, closed)?;
+    Ok(match sends.as_slice() {
+        [only] => only.receivers.as_slice() == receivers,
+        _ => false,
+    })
+}
+
 #[test]
 fn close_and_audit(rt: HostRuntime) -> Result<(), Fail> {
     let closed = closed(settled(rt.alloc())?)?;
-    let Certificate { sends } = certificate(rt.alloc(), &closed)?;
-    let [only] = sends.as_slice() else {
-        return Err("sends".into());
-    };
-    assert!(rt; only.receivers.as_slice() == [1, 2].as_slice());
+    assert!(rt; has_one_send(rt.alloc(), &closed, &[1, 2])?);
     Ok(())
 }
 
@@ -190,10 +236,22 @@ fn sending(alloc: Global) -> Option<Event> {
     })
 }
 
-fn sender_once(alloc: Global) -> Option<Vec<Kept<4>>> {
-    let mut kept = Kept::new(alloc, 0, danh(1)).ok()?;
-    let _receipt = kept.step(0, 0, sending(alloc)?).ok()?;
+/// One node without a link.
+fn silent(alloc: Global) -> Option<Vec<Kept<4>>> {
+    let kept = Kept::new(alloc, 0, danh(1)).ok()?;
     vec![in alloc; kept].ok()
+}
+
+/// Lets a node send that frame.
+fn send_by(kept: &mut Kept<4>, alloc: Global) -> Option<()> {
+    let event = sending(alloc)?;
+    kept.step(0, 0, event).ok().map(|_receipt| ())
+}
+
+fn sender_once(alloc: Global) -> Option<Vec<Kept<4>>> {
+    let mut kept = silent(alloc)?;
+    send_by(kept.as_mut_slice().first_mut()?, alloc)?;
+    Some(kept)
 }
 
 /// One node without a link, which sent a frame.
@@ -238,29 +296,51 @@ fn alone(alloc: Global) -> Option<hsr_topology::Topology> {
     hsr_topology::Topology::new(places, Vec::new(alloc)).ok()
 }
 
+/// Whether these are the passes of one worker, who was answered once.
+fn are_one_answer(passes: &[Pass]) -> bool {
+    passes.iter().map(|pass| pass.receipts().len()).eq([1])
+}
+
+/// Whether parts that came back are those that were handed in.
+fn are_as_before(parts: &Parts<4>) -> bool {
+    parts.plan.len() == 1 && parts.kept.len() == 1 && are_one_answer(parts.passes.as_slice())
+}
+
+/// How many planned entries the finished run has of which these are the parts, if it is one. They come back where room is
+/// refused.
+fn planned_of(alloc: Global, parts: Parts<4>) -> Option<usize> {
+    let (topology, plan, kept) = (parts.topology, parts.plan, parts.kept);
+    match Closed::check(alloc, topology, plan, kept, parts.rows, parts.passes) {
+        Ok(closed) => Some(closed.plan().len()),
+        Err((parts, CheckFault::NoMemory)) if are_as_before(&parts) => planned_again(alloc, parts),
+        Err(_other) => None,
+    }
+}
+
+fn planned_again(alloc: Global, parts: Parts<4>) -> Option<usize> {
+    let (topology, plan, kept) = (parts.topology, parts.plan, parts.kept);
+    let checked = Closed::check(alloc, topology, plan, kept, parts.rows, parts.passes);
+    checked.ok().map(|closed| closed.plan().len())
+}
+
+/// The parts of a run in which one node sent a frame.
+fn parts(alloc: Global) -> Option<Parts<4>> {
+    let kept = sender(alloc)?;
+    let plan = plan(alloc)?;
+    let passes = passes(alloc, kept.as_slice(), plan.as_slice())?;
+    Some(Parts {
+        topology: alone(alloc)?,
+        plan,
+        kept,
+        rows: Vec::new(alloc),
+        passes,
+    })
+}
+
 #[test]
 fn passes_and_check(rt: HostRuntime) -> Result<(), Fail> {
-    let alloc = rt.alloc();
-    let kept = sender(alloc).ok_or("sender")?;
-    let plan = plan(alloc).ok_or("plan")?;
-    let passes = passes(alloc, kept.as_slice(), plan.as_slice()).ok_or("passes")?;
-    assert!(rt; passes.iter().map(|pass| pass.receipts().len()).eq([1]));
-    let topology = alone(alloc).ok_or("topology")?;
-    let checked = match Closed::check(alloc, topology, plan, kept, Vec::new(alloc), passes) {
-        Err((parts, CheckFault::NoMemory)) => {
-            assert!(rt; parts.plan.len() == 1 && parts.kept.len() == 1);
-            assert!(rt;
-                parts
-                    .passes
-                    .iter()
-                    .map(|pass| pass.receipts().len())
-                    .eq([1])
-            );
-            let (topology, plan, kept) = (parts.topology, parts.plan, parts.kept);
-            Closed::check(alloc, topology, plan, kept, parts.rows, parts.passes)
-        }
-        answer => answer,
-    };
-    assert!(rt; checked.is_ok_and(|closed| closed.plan().len() == 1));
+    let parts = parts(rt.alloc()).ok_or("parts")?;
+    assert!(rt; are_one_answer(parts.passes.as_slice()));
+    assert!(rt; planned_of(rt.alloc(), parts) == Some(1));
     Ok(())
 }

@@ -32,6 +32,37 @@ pub(crate) struct Cells<const C: usize> {
     pub(crate) flight: Flight,
 }
 
+/// A new node under its lock.
+fn cell_of<const C: usize>(
+    alloc: Global,
+    node: usize,
+    place: &Place,
+) -> Result<NodeCell<C>, NoMemory>
+    requires entries { (1 ≤ C) × (C ≤ 65535) }
+    requires own { HasOwnAddress place.now }
+{
+    Ok(NodeCell::new(Kept::new(alloc, node, place.copy()?)?))
+}
+
+/// The seat of a node.
+fn seat_of<const C: usize>(
+    alloc: Global,
+    topology: &Topology,
+    node: usize,
+    place: &Place,
+) -> Result<Seat<C>, NoMemory>
+    requires entries { (1 ≤ C) × (C ≤ 65535) }
+    requires own { HasOwnAddress place.now }
+{
+    let cell = cell_of(alloc, node, place)?;
+    Ok(Seat {
+        place: place.copy()?,
+        cell,
+        wires: wires_of(topology, node),
+        ager: Parker::new(),
+    })
+}
+
 /// A seat for each node of a topology.
 fn seats_of<const C: usize>(alloc: Global, topology: &Topology) -> Result<Vec<Seat<C>>, NoMemory>
     requires entries { (1 ≤ C) × (C ≤ 65535) }
@@ -39,14 +70,7 @@ fn seats_of<const C: usize>(alloc: Global, topology: &Topology) -> Result<Vec<Se
 {
     let mut seats = Vec::new(alloc);
     for (node, place) in topology.places().iter().enumerate() {
-        let kept = Kept::new(alloc, node, place.copy()?)?;
-        let place = place.copy()?;
-        seats.push(Seat {
-            place,
-            cell: NodeCell::new(kept),
-            wires: wires_of(topology, node),
-            ager: Parker::new(),
-        })?;
+        seats.push(seat_of(alloc, topology, node, place)?)?;
     }
     Ok(seats)
 }

@@ -6,7 +6,6 @@ mod audit_run_tests;
 #[cfg(test)]
 mod fixtures;
 #[cfg(test)]
-mod node_rows_tests;
 #[cfg(test)]
 mod node_run_tests;
 #[cfg(test)]

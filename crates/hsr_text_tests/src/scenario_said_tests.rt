@@ -18,56 +18,48 @@ fn words_of(alloc: Global, text: &str) -> Result<String, Fail> {
     }
 }
 
+/// Whether the first fault of a document of these parts has these words.
+fn is_refused_with(alloc: Global, parts: &[&str], words: &str) -> Result<bool, Fail> {
+    let text = joined(alloc, parts)?;
+    Ok(words_of(alloc, text.as_str())?.as_str() == words)
+}
+
+/// Whether a scenario has the usual capacity and nothing else.
+fn is_empty(scenario: &Scenario) -> bool {
+    let topology = &scenario.topology;
+    let has_nothing = topology.places().is_empty() && topology.links().is_empty();
+    scenario.capacity == 64 && has_nothing && scenario.steps.is_empty()
+}
+
 #[test]
 fn scenario_faults(rt: HostRuntime) -> Result<(), Fail> {
-    let Ok(empty) = read(rt.alloc(), "") else {
-        return Err(Fail::from("refused"));
-    };
-    assert_eq!(rt; empty.capacity, 64);
-    assert!(rt; empty.topology.places().is_empty() && empty.topology.links().is_empty());
-    assert!(rt; empty.steps.is_empty());
+    assert!(rt; read(rt.alloc(), "").is_ok_and(|scenario| is_empty(&scenario)));
     let step = r#"
 [[step]]
 do = "age"
 node = "nx"
 "#;
-    let unnamed = joined(rt.alloc(), &[NODES, step])?;
-    assert_eq!(rt;
-        words_of(rt.alloc(), unnamed.as_str())?.as_str(),
-        "step 0 no-such-name"
-    );
+    assert!(rt; is_refused_with(rt.alloc(), &[NODES, step], "step 0 no-such-name")?);
     let links = r#"
 [[link]]
 ends = ["n0.B", "n1.A"]
 [[link]]
 ends = ["n0.B", "n2.A"]
 "#;
-    let forked = joined(rt.alloc(), &[NODES, links])?;
-    assert_eq!(rt;
-        words_of(rt.alloc(), forked.as_str())?.as_str(),
-        "top topology-4"
-    );
+    assert!(rt; is_refused_with(rt.alloc(), &[NODES, links], "top topology-4")?);
     Ok(())
 }
 
 #[test]
 fn words_of_faults(rt: HostRuntime) -> Result<(), Fail> {
-    assert_eq!(rt; words_of(rt.alloc(), "x")?.as_str(), "top text");
-    assert_eq!(rt; words_of(rt.alloc(), "x = 1")?.as_str(), "top unknown");
-    assert_eq!(rt;
-        words_of(rt.alloc(), "node = [{}]")?.as_str(),
-        "node 0 missing role"
-    );
-    assert_eq!(rt;
-        words_of(rt.alloc(), "link = [{ends=1}]")?.as_str(),
-        "link 0 wrong-kind ends"
-    );
-    assert_eq!(rt;
-        words_of(rt.alloc(), "step = [{do=\"\"}]")?.as_str(),
-        "step 0 bad-value do"
-    );
+    let alloc = rt.alloc();
     let twice = r#"node = [{role="quadbox", name="q"}, {role="quadbox", name="q"}]"#;
-    assert_eq!(rt; words_of(rt.alloc(), twice)?.as_str(), "node 1 name-twice");
+    assert!(rt; is_refused_with(alloc, &["x"], "top text")?);
+    assert!(rt; is_refused_with(alloc, &["x = 1"], "top unknown")?);
+    assert!(rt; is_refused_with(alloc, &["node = [{}]"], "node 0 missing role")?);
+    assert!(rt; is_refused_with(alloc, &["link = [{ends=1}]"], "link 0 wrong-kind ends")?);
+    assert!(rt; is_refused_with(alloc, &["step = [{do=\"\"}]"], "step 0 bad-value do")?);
+    assert!(rt; is_refused_with(alloc, &[twice], "node 1 name-twice")?);
     Ok(())
 }
 
@@ -90,6 +82,11 @@ fn red_with(alloc: Global, steps: &str) -> Result<Scenario, Fail> {
         Ok(scenario) => Ok(scenario),
         Err(_) => Err(Fail::from("refused")),
     }
+}
+
+/// Whether a document of these nodes and links has just these orders.
+fn has_orders(alloc: Global, steps: &str, told: &[Order]) -> Result<bool, Fail> {
+    Ok(red_with(alloc, steps)?.steps.as_slice() == told)
 }
 
 fn mac(last: u8) -> Mac {
@@ -132,32 +129,30 @@ fn steps_of_nodes(rt: HostRuntime) -> Result<(), Fail> {
   {do="life", node="r", about="02-00-00-00-00-0A"},
   {do="age", node="q"},
 ]"#;
-    let scenario = red_with(rt.alloc(), text)?;
     let payload = Octets::from_slice(rt.alloc(), &[0xAA, 0xBB])
         .ok()
         .ok_or("room")?;
-    let send = Deed::Send {
-        node: 2,
-        from: 1,
-        dst: mac(1),
-        vlan: Some(5),
-        kind: 0x0800,
-        payload,
-    };
-    let told = vec![in rt.alloc();
+    let told = [
         Order::Step(Deed::Clock { at: 10_000 }),
-        Order::Step(send),
-        Order::Step(Deed::Supervise {
-            node: 1,
-            about: About::Own
+        Order::Step(Deed::Send {
+            node: 2,
+            from: 1,
+            dst: mac(1),
+            vlan: Some(5),
+            kind: 0x0800,
+            payload,
         }),
         Order::Step(Deed::Supervise {
             node: 1,
-            about: About::Proxied(mac(10))
+            about: About::Own,
+        }),
+        Order::Step(Deed::Supervise {
+            node: 1,
+            about: About::Proxied(mac(10)),
         }),
         Order::Step(Deed::Age { node: 3 }),
-    ]?;
-    assert!(rt; scenario.steps.as_slice() == told.as_slice());
+    ];
+    assert!(rt; has_orders(rt.alloc(), text, &told)?);
     Ok(())
 }
 
@@ -172,25 +167,24 @@ fn steps_of_links(rt: HostRuntime) -> Result<(), Fail> {
   {do="inject", link=0, dir="forth", octets="0102"},
   {do="drain"},
 ]"#;
-    let scenario = red_with(rt.alloc(), text)?;
     let octets = Octets::from_slice(rt.alloc(), &[1, 2]).ok().ok_or("room")?;
-    let told = vec![in rt.alloc();
+    let told = [
         Order::Step(Deed::Put { node: 1, port: 2 }),
         Order::Step(Deed::Judge { node: 3, port: 3 }),
         Order::Step(Deed::Take {
             link: 2,
-            dir: Dir::Back
+            dir: Dir::Back,
         }),
         Order::Step(Deed::Cut { link: 1 }),
         Order::Step(Deed::Mend { link: 1 }),
         Order::Step(Deed::Inject {
             link: 0,
             dir: Dir::Forth,
-            octets
+            octets,
         }),
         Order::Drain,
-    ]?;
-    assert!(rt; scenario.steps.as_slice() == told.as_slice());
+    ];
+    assert!(rt; has_orders(rt.alloc(), text, &told)?);
     Ok(())
 }
 
