@@ -2,7 +2,7 @@
 use hsr_frame::{Mac, RingPort};
 use hsr_supervision::{SupKind, Supervision};
 use hsr_tables::{NodeRow, NodeTable, ProxyTable};
-use std::test::Fail;
+use std::process::Abort;
 
 /// An address that ends in this octet.
 fn station(last: u8) -> Mac {
@@ -21,12 +21,21 @@ fn alone(about: Mac) -> Supervision {
     }
 }
 
-#[test]
-fn tables_by_age(rt: HostRuntime) -> Result<(), Fail> {
-    let mut nodes = NodeTable::new();
+/// Hears what is said at a moment that isn't before the last.
+fn hear(rt: &impl Abort, nodes: &mut NodeTable, said: &Supervision, port: RingPort, at: u64) {
+    assert!(rt; nodes.last() <= at);
+    nodes.hear(said, port, at);
+}
+
+/// Whether a table knows this node alone, until it forgets it a minute after it was heard last.
+fn knows_for_a_minute(rt: &impl Abort, nodes: &NodeTable, row: NodeRow) -> bool {
+    assert!(rt; nodes.last() <= 60_004_999);
+    nodes.rows(60_004_999).as_slice() == [row].as_slice() && nodes.rows(60_005_000).is_empty()
+}
+
+/// Whether a node that was heard on both ports is known with both moments.
+fn nodes_by_age(rt: &impl Abort) -> bool {
     let said = alone(station(2));
-    nodes.hear(&said, RingPort::A, 0);
-    nodes.hear(&said, RingPort::B, 5_000);
     let row = NodeRow {
         mac: station(2),
         kind: SupKind::Hsr,
@@ -34,33 +43,66 @@ fn tables_by_age(rt: HostRuntime) -> Result<(), Fail> {
         heard_a: Some(0),
         heard_b: Some(5_000),
     };
-    assert_eq!(rt; nodes.rows(60_004_999).as_slice(), [row].as_slice());
-    assert!(rt; nodes.rows(60_005_000).is_empty());
+    let mut nodes = NodeTable::new();
+    hear(rt, &mut nodes, &said, RingPort::A, 0);
+    hear(rt, &mut nodes, &said, RingPort::B, 5_000);
+    knows_for_a_minute(rt, &nodes, row)
+}
 
+/// Learns of the station that ends in this octet at the moment of the same number.
+fn learn(rt: &impl Abort, proxies: &mut ProxyTable, last: u8) {
+    let at = u64::from(last);
+    assert!(rt; proxies.last() <= at);
+    proxies.learn(station(last), at);
+}
+
+/// Whether a table that learned of 65 stations knows all but the first, the latest of them first.
+fn knows_latest(rt: &impl Abort, proxies: &ProxyTable) -> bool {
+    assert!(rt; proxies.last() <= 64);
+    let list = proxies.list(64);
+    !proxies.knows(station(0), 64)
+        && proxies.knows(station(1), 64)
+        && list.len() == 64
+        && list.first() == Some(&(station(64), 64))
+}
+
+/// Whether the station that was heard longest ago is given up where there is no room.
+fn stations_by_age(rt: &impl Abort) -> bool {
     let mut proxies = ProxyTable::new();
-    for i in 0..65u8 {
-        proxies.learn(station(i), u64::from(i));
+    for i in 0..65 {
+        learn(rt, &mut proxies, i);
     }
-    assert!(rt; !proxies.knows(station(0), 64));
-    assert!(rt; proxies.knows(station(1), 64));
-    assert_eq!(rt; proxies.list(64).len(), 64);
-    assert_eq!(rt; proxies.list(64).first(), Some(&(station(64), 64)));
-    Ok(())
+    knows_latest(rt, &proxies)
 }
 
 #[test]
-fn pushed_out_begins_anew(rt: HostRuntime) -> Result<(), Fail> {
-    let mut nodes = NodeTable::new();
-    nodes.hear(&alone(station(2)), RingPort::A, 0);
-    for i in 10..74u8 {
-        nodes.hear(&alone(station(i)), RingPort::A, 1);
+fn tables_by_age(rt: HostRuntime) {
+    assert!(rt; nodes_by_age(&rt));
+    assert!(rt; stations_by_age(&rt));
+}
+
+/// Whether this is the node that a table heard last.
+fn is_first(rt: &impl Abort, nodes: &NodeTable, row: &NodeRow) -> bool {
+    assert!(rt; nodes.last() <= 2);
+    nodes.rows(2).first() == Some(row)
+}
+
+/// Hears station 2 on port A, and then so many others that it is given up.
+fn push_out(rt: &impl Abort, nodes: &mut NodeTable) {
+    hear(rt, nodes, &alone(station(2)), RingPort::A, 0);
+    for i in 10..74 {
+        hear(rt, nodes, &alone(station(i)), RingPort::A, 1);
     }
+}
+
+/// Whether a table that gave up a node knows nothing but what it hears of it later.
+fn begins_anew(rt: &impl Abort, nodes: &mut NodeTable) -> bool {
+    push_out(rt, nodes);
     let said = Supervision {
         kind: SupKind::PrpAccept,
         redbox: Some(station(9)),
         ..alone(station(2))
     };
-    nodes.hear(&said, RingPort::B, 2);
     let row = NodeRow {
         mac: station(2),
         kind: SupKind::PrpAccept,
@@ -68,6 +110,12 @@ fn pushed_out_begins_anew(rt: HostRuntime) -> Result<(), Fail> {
         heard_a: None,
         heard_b: Some(2),
     };
-    assert_eq!(rt; nodes.rows(2).first(), Some(&row));
-    Ok(())
+    hear(rt, nodes, &said, RingPort::B, 2);
+    is_first(rt, nodes, &row)
+}
+
+#[test]
+fn pushed_out_begins_anew(rt: HostRuntime) {
+    let mut nodes = NodeTable::new();
+    assert!(rt; begins_anew(&rt, &mut nodes));
 }

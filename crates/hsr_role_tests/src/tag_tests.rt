@@ -1,42 +1,40 @@
 //! What octets are.
-ghost use Rattle.std.specs.Prelude.{◌≤◌};
+ghost use Rattle.std.specs.Prelude.{◌<◌, ◌≤◌};
 
 use arrayvec::ArrayVec;
-use hsr_frame::{FrameFault, Mac, copied};
-use hsr_tag::{EitherView, Frame, Payload, Seen, Spelled, Tagged, classify, look_at};
-use std::test::Fail;
+use hsr_frame::{FrameFault, MAX_FRAME, Mac, copied};
+use hsr_tag::{
+    EitherView, Frame, FrameView, Payload, Seen, Spelled, TaggedView, classify, look_at,
+};
 
-fn frame(vlan: Option<u16>, payload: &[u8; 1500], size: usize) -> Frame
+/// The octets of a frame's copy on path 1 with the largest number, of a payload of this size.
+fn copy(vlan: Option<u16>, size: usize) -> ArrayVec<u8, MAX_FRAME>
     requires { size ≤ 1500 }
 {
-    Frame {
+    let payload = [7u8; 1500];
+    let frame = Frame {
         dst: Mac::new([2, 0, 0, 0, 0, 1]),
         src: Mac::new([2, 0, 0, 0, 0, 2]),
         vlan,
         kind: 0x0800,
         payload: copied(&payload[..size]),
-    }
+    };
+    frame.tag(1, 65535).write()
+}
+
+/// Whether the copy without a VLAN tag has so many octets, and this tag behind two addresses.
+fn has_tag(size: usize, len: usize, tag: [u8; 6]) -> bool
+    requires { size ≤ 1500 }
+{
+    let octets = copy(None, size);
+    octets.len() == len && octets.as_slice().get(12..18) == Some(tag.as_slice())
 }
 
 #[test]
 fn largest_and_smallest_tags(rt: HostRuntime) {
-    let payload = [7u8; 1500];
-    let none = frame(None, &payload, 0).tag(1, 65535).write();
-    assert_eq!(rt; none.len(), 20);
-    assert_eq!(rt;
-        &none.as_slice()[12..18],
-        [0x89, 0x2F, 0x10, 0x06, 0xFF, 0xFF].as_slice()
-    );
-    let most = frame(None, &payload, 1500).tag(1, 65535).write();
-    assert_eq!(rt; most.len(), 1520);
-    assert_eq!(rt;
-        &most.as_slice()[12..18],
-        [0x89, 0x2F, 0x15, 0xE2, 0xFF, 0xFF].as_slice()
-    );
-    assert_eq!(rt;
-        frame(Some(5), &payload, 1500).tag(1, 65535).write().len(),
-        1524
-    );
+    assert!(rt; has_tag(0, 20, [0x89, 0x2F, 0x10, 0x06, 0xFF, 0xFF]));
+    assert!(rt; has_tag(1500, 1520, [0x89, 0x2F, 0x15, 0xE2, 0xFF, 0xFF]));
+    assert_eq!(rt; copy(Some(5), 1500).len(), 1524);
 }
 
 /// The first copy of a send of AABB from 02-00-00-00-00-01 to 02-00-00-00-00-02, number 0.
@@ -108,40 +106,75 @@ fn every_change_of_one_octet(rt: HostRuntime) {
 /// The frame of the copy, before it is tagged.
 const PLAIN: [u8; 16] = [2, 0, 0, 0, 0, 2, 2, 0, 0, 0, 0, 1, 0x08, 0x00, 0xAA, 0xBB];
 
+/// Whether the copy of a frame for this path is spelled as these octets.
+fn is_tagged_to(frame: &FrameView<'_>, path: u8, octets: &[u8]) -> bool
+    requires { path < 16 }
+{
+    frame.tag(path, 0).spell().is_same(octets)
+}
+
+/// Whether a frame is the one of the copy.
+fn is_plain(frame: &FrameView<'_>) -> bool {
+    frame.spell().is_same(&PLAIN)
+        && is_tagged_to(frame, 0, &COPY)
+        && !is_tagged_to(frame, 1, &COPY)
+        && frame.to_frame().write().as_slice() == PLAIN.as_slice()
+}
+
+fn finds_plain() -> bool {
+    let Ok(seen) = look_at(&PLAIN) else {
+        return false;
+    };
+    match &seen.frame {
+        EitherView::Plain(frame) => is_plain(frame),
+        EitherView::Tagged(_) => false,
+    }
+}
+
+/// Whether the copy is spelled as a head and its payload.
+fn is_copy(spelled: &Spelled<'_>) -> bool {
+    let (head, rest) = spelled.pieces();
+    head.len() == 20
+        && rest == [0xAA, 0xBB].as_slice()
+        && spelled.len() == 22
+        && !spelled.is_same(&COPY[..21])
+}
+
+/// Whether a tagged frame is the copy.
+fn is_tagged(frame: &TaggedView<'_>) -> bool {
+    is_copy(&frame.spell())
+        && frame.untag().spell().is_same(&PLAIN)
+        && frame.payload.as_slice() == [0xAA, 0xBB].as_slice()
+        && frame.to_tagged().write().as_slice() == COPY.as_slice()
+}
+
+fn finds_tagged() -> bool {
+    let Ok(seen) = look_at(&COPY) else {
+        return false;
+    };
+    match &seen.frame {
+        EitherView::Tagged(frame) => is_tagged(frame),
+        EitherView::Plain(_) => false,
+    }
+}
+
+/// Whether octets spell the copy, in one piece and in two.
+fn is_spelled() -> bool {
+    Spelled::whole(&COPY).is_same(&COPY)
+        && Spelled::joined(copied(&COPY[..20]), &COPY[20..]).is_same(&COPY)
+}
+
+/// Whether a head and a payload that is kept with it spell the copy.
+fn is_joined() -> bool {
+    let short = Payload::here(copied(&COPY[20..])).behind(copied(&COPY[..20]));
+    short.is_same(&COPY)
+        && short.pieces().0.len() == 22
+        && short.to_array().as_slice() == COPY.as_slice()
+}
+
 #[test]
 fn tagged_and_untagged_where_they_stand(rt: HostRuntime) {
-    if let Ok(seen) = look_at(&PLAIN) {
-        match &seen.frame {
-            EitherView::Plain(frame) => {
-                assert!(rt; frame.spell().is_same(&PLAIN));
-                assert!(rt; frame.tag(0, 0).spell().is_same(&COPY));
-                assert!(rt; !frame.tag(1, 0).spell().is_same(&COPY));
-                assert!(rt; frame.to_frame().write().as_slice() == PLAIN.as_slice());
-            }
-            EitherView::Tagged(_) => assert!(rt; false),
-        }
-    }
-    if let Ok(seen) = look_at(&COPY) {
-        match &seen.frame {
-            EitherView::Tagged(frame) => {
-                assert!(rt; frame.untag().spell().is_same(&PLAIN));
-                let spelled = frame.spell();
-                let (head, rest) = spelled.pieces();
-                assert_eq!(rt; head.len(), 20);
-                assert_eq!(rt; rest, [0xAA, 0xBB].as_slice());
-                assert_eq!(rt; spelled.len(), 22);
-                assert_eq!(rt; frame.payload.as_slice(), [0xAA, 0xBB].as_slice());
-                assert!(rt; !spelled.is_same(&COPY[..21]));
-                assert!(rt; frame.to_tagged().write().as_slice() == COPY.as_slice());
-            }
-            EitherView::Plain(_) => assert!(rt; false),
-        }
-    }
-    assert!(rt; look_at(&COPY).is_ok() && look_at(&PLAIN).is_ok());
-    assert!(rt; Spelled::whole(&COPY).is_same(&COPY));
-    assert!(rt; Spelled::joined(copied(&COPY[..20]), &COPY[20..]).is_same(&COPY));
-    let short = Payload::here(copied(&COPY[20..])).behind(copied(&COPY[..20]));
-    assert!(rt; short.is_same(&COPY));
-    assert_eq!(rt; short.pieces().0.len(), 22);
-    assert!(rt; short.to_array().as_slice() == COPY.as_slice());
+    assert!(rt; finds_plain());
+    assert!(rt; finds_tagged());
+    assert!(rt; is_spelled() && is_joined());
 }
