@@ -6,3 +6,4 @@ pub mod Losses
 pub mod Crowding
 pub mod Timing
 pub mod Spending
+mod WorkedCut
