@@ -3,8 +3,9 @@
 #
 #     bench/rows.sh PROGRAM [FOLDER..]     the folders of rows/, or these
 #
-# Each row NAME has NAME.words (the words after the program's name), NAME.in, NAME.out, NAME.err and NAME.status. Standard error is
-# compared where the status is 1 or an address is refused. What else is said of refused words is free, but something is said.
+# Each row NAME has NAME.words (the words after the program's name), NAME.in, NAME.out, NAME.err and NAME.status. Standard output,
+# standard error and the status are compared. Where words are refused and it isn't their address, the text on standard error is free,
+# but it says more than a line of a fault.
 set -u
 program=$(realpath "${1:?bench/rows.sh PROGRAM [FOLDER..]}"); shift
 top=$(cd "$(dirname "${BASH_SOURCE[0]}")/.." && pwd)
@@ -14,8 +15,8 @@ passed=0 failed=0
 
 # Whether standard error says what it has to.
 is_told() {
-  if [ "$wanted" = 1 ] || grep -qx 'usage: --mac' "$1.err"; then cmp -s "$work/err" "$1.err"
-  else [ "$wanted" != 3 ] || [ "$(stat -c %s "$work/err")" -gt 20 ]; fi
+  if [ "$wanted" != 3 ] || grep -qx 'usage: --mac' "$1.err"; then cmp -s "$work/err" "$1.err"
+  else [ "$(stat -c %s "$work/err")" -gt 20 ] && ! grep -q '^fault: \|^usage: --mac$' "$work/err"; fi
 }
 
 # try ROW: runs one row, and says in which ways it differs.
@@ -34,5 +35,6 @@ try() {
 for folder in "$@"; do
   for words in "${folder%/}"/*.words; do try "${words%.words}"; done
 done
+[ $((passed + failed)) -gt 0 ] || { echo 'no row was run'; failed=1; }
 echo "$passed passed, $failed failed"
 [ "$failed" = 0 ]
