@@ -1,5 +1,6 @@
-"""Compares the program with model.py, a second implementation: random scenarios by `run` and `audit`, with and without `--budget`, and by
-`run --transcript`, and random lines by `node`; every octet of what is printed, and the status.
+"""Compares the program with model.py, a second implementation: random scenarios on networks of all kinds by `run` and `audit`, with and
+without each of `--deliveries`, `--needed`, `--budget` and `--network`, and by `run --transcript`, and random lines by `node`; every octet of
+what is printed, and the status.
 
     python3 bench/compare.py [COUNT [SEED [PROGRAM]]]
 
@@ -16,7 +17,7 @@ import model
 
 PROGRAM = sys.argv[3] if len(sys.argv) > 3 else Path(__file__).resolve().parent.parent / "hsr_bench"
 GROUP = "01-00-5E-00-00-01"
-DRAIN_LIMIT = 20000  # above that the model is too slow, and the scenario is left out
+DRAIN_LIMIT = 10000  # above that the model is too slow, and the scenario is left out
 
 
 def mac(number):
@@ -34,34 +35,82 @@ def danh(chance, name, number):
     return {"name": name, "role": "danh", "mac": mac(number), "mode": chance.choices("HUN", (64, 30, 6))[0]}
 
 
-def ring_of(names, of_quadbox="BA"):
-    """The ends of a ring's links: from B to the next one's A, and of a QuadBox by its two ports in this ring."""
-    ports = {name: of_quadbox if name[0] == "q" else "BA" for name in names}
+def station(name, number, count):
+    return {"name": name, "role": "station", "macs": [mac(number + place) for place in range(count)]}
+
+
+def ring_of(names, turned=()):
+    """The ends of a ring's links: from B to the next one's A, and of the QuadBoxes that are turned from D to C."""
+    ports = {name: "DC" if name in turned else "BA" for name in names}
     return [[f"{name}.{ports[name][0]}", f"{after}.{ports[after][1]}"] for name, after in zip(names, names[1:] + names[:1])]
 
 
+def ring_or_line(chance, is_line):
+    names = [f"n{i}" for i in range(chance.randint(2, 5))]
+    nodes = [danh(chance, name, i + 1 if chance.random() < 0.97 else 1) for i, name in enumerate(names)]
+    return nodes, ring_of(names)[: len(names) - is_line]
+
+
+def chain(chance, count):
+    """So many rings, each coupled with the next one by one or two QuadBoxes."""
+    rings, nodes, links = [[f"{ring}{i}" for i in range(chance.randint(1, 2))] for ring in "abc"[:count]], [], []
+    before = []
+    for place, names in enumerate(rings):
+        after = [f"q{place}{i}" for i in range(chance.randint(1, 2))] if place + 1 < count else []
+        nodes += [danh(chance, name, 1 + len(nodes) + i) for i, name in enumerate(names)]
+        nodes += [{"name": name, "role": "quadbox"} for name in after]
+        links += ring_of(before + names + after, before)
+        before = after
+    return nodes, links
+
+
+def redboxes(chance, count, is_coupled=False):
+    """A ring with so many RedBoxes, each with a Station; it may be coupled with a ring of one DANH."""
+    names = [f"n{i}" for i in range(chance.randint(1, 3))]
+    nodes = [danh(chance, name, i + 1) for i, name in enumerate(names)]
+    boxes, quads = [f"r{i}" for i in range(count)], ["q0"] * is_coupled
+    links = ring_of(boxes[:1] + names + boxes[1:] + quads)
+    for i, box in enumerate(boxes):
+        nodes.append({"name": box, "role": "redbox", "mac": mac(9 + i), "mode": chance.choice("HHUUN")})
+        nodes.append(station(f"s{i}", 16 + 16 * i, chance.randint(1, 3)))
+        links.append([f"{box}.I", f"s{i}.P"])
+    if is_coupled:
+        nodes += [danh(chance, "c0", 8), {"name": "q0", "role": "quadbox"}]
+        links += ring_of(["c0", "q0"], ["q0"])
+    return nodes, links
+
+
+def stations(chance):
+    """Stations, joined two by two, and a RedBox with one at times."""
+    nodes, links = redboxes(chance, 1) if chance.random() < 0.4 else ([], [])
+    for i in range(1, chance.randint(2, 3)):
+        nodes += [station(f"t{i}", 32 + 32 * i, chance.randint(1, 2)), station(f"u{i}", 48 + 32 * i, 1)]
+        links.append([f"t{i}.P", f"u{i}.P"])
+    return nodes, links
+
+
+def on_a_ring(chance):
+    """A line of DANHs with a Station at its end, which isn't a network."""
+    nodes, links = ring_or_line(chance, True)
+    return nodes + [station("s0", 16, 1)], links + [[nodes[-1]["name"] + ".B", "s0.P"]]
+
+
+NETWORKS = {  # how often each kind is taken, and what makes it
+    "ring": (6, lambda chance: ring_or_line(chance, False)),
+    "line": (2, lambda chance: ring_or_line(chance, True)),
+    "redbox": (3, lambda chance: redboxes(chance, 1)),
+    "two redboxes": (2, lambda chance: redboxes(chance, 2)),
+    "redbox and quadbox": (1, lambda chance: redboxes(chance, 1, True)),
+    "coupled rings": (3, lambda chance: chain(chance, 2)),
+    "three rings": (2, lambda chance: chain(chance, 3)),
+    "stations": (2, stations),
+    "station on a ring": (1, on_a_ring),
+}
+
+
 def topology(chance):
-    kind = chance.choice(["ring", "ring", "ring", "line", "redbox", "segments", "quadboxes"])
-    if kind in ("ring", "line"):
-        names = [f"n{i}" for i in range(chance.randint(2, 5))]
-        nodes = [danh(chance, name, i + 1 if chance.random() < 0.97 else 1) for i, name in enumerate(names)]
-        links = ring_of(names)[: len(names) - (kind == "line")]
-    elif kind == "quadboxes":
-        boxes = [f"q{i}" for i in range(chance.randint(1, 2))]
-        first, second = ["a0", "a1"], ["c0", "c1"]
-        nodes = [danh(chance, name, i + 1) for i, name in enumerate(first + second)]
-        nodes += [{"name": name, "role": "quadbox"} for name in boxes]
-        links = ring_of(first + boxes) + ring_of(second + boxes, "DC")
-    else:
-        names = [f"n{i}" for i in range(chance.randint(1, 3))]
-        nodes = [danh(chance, name, i + 1) for i, name in enumerate(names)]
-        boxes = ["r0"] if kind == "redbox" else ["r0", "r1"]
-        links = ring_of(boxes[:1] + names + boxes[1:])
-        for i, box in enumerate(boxes):
-            nodes.append({"name": box, "role": "redbox", "mac": mac(9 + i), "mode": chance.choice("HHUUN")})
-            macs = [mac(16 + 16 * i + j) for j in range(chance.randint(1, 3))]
-            nodes.append({"name": f"s{i}", "role": "station", "macs": macs})
-            links.append([f"{box}.I", f"s{i}.P"])
+    made_by = chance.choices([made_by for _, made_by in NETWORKS.values()], [often for often, _ in NETWORKS.values()])[0]
+    nodes, links = made_by(chance)
     if chance.random() < 0.1:
         chance.shuffle(links)
     return nodes, [{"ends": ends if chance.random() < 0.7 else ends[::-1]} for ends in links]
@@ -91,7 +140,8 @@ class Steps:
         to = [one for one in self.macs if self.is_odd or one != macs[place]]
         kinds = [0x0800, 0x0800, 0x88BA, 0x88FB] + ([0x892F, 0x8100] if self.is_odd else [])
         length = self.chance.choice([0, 1, 2, 3, 46] + ([1500, 1501] if self.is_odd else []))
-        step = {"do": "send", "node": node["name"], "to": self.chance.choice(to), "type": self.chance.choice(kinds)}
+        step = {"do": "send", "node": node["name"], "to": self.chance.choice(to)}
+        step["type"] = self.chance.choice(kinds + [0x88FB] * 4 * (step["to"] == model.printed(model.SUPERVISION)))
         step["payload"] = digits(self.chance, length)
         if self.chance.random() < 0.2:
             step["vlan"] = self.chance.choice([0, 5, 0x6005, 65535])
