@@ -5,7 +5,9 @@
 #
 # Of each plans/NAME.toml the scenario that the planner writes has, played by the bench, the report of plans/NAME.scenario, which
 # another program wrote; and a sweep says of the undisturbed run what the bench's audit of networks says. Of each
-# plans/faults/NAME.toml the planner writes nothing, with status 1, and on standard error what stands in NAME.err.
+# plans/faults/NAME.toml the planner writes nothing, with status 1, and on standard error what stands in NAME.err; and with --check of
+# each plans/checks/NAME.scenario. In plans/rows stand a plan with each word and its faults: a row tells which lines are replaced by
+# which text, and where what is wrong then.
 set -u
 planner=$(realpath "${1:?bench/plans.sh PLANNER BENCH}") bench=$(realpath "${2:?bench/plans.sh PLANNER BENCH}")
 top=$(cd "$(dirname "${BASH_SOURCE[0]}")/.." && pwd)
@@ -32,22 +34,31 @@ for plan in "$top"/plans/*.toml; do
   timeout 60 "$planner" sweep < "$plan" | grep -q "^undisturbed .* needed [0-9]* $doubt\$" || why="$why sweep"
   count "$plan" "$why"
 done
-for plan in "$top"/plans/faults/*.toml; do
-  why=
-  timeout 60 "$planner" < "$plan" > "$work/out" 2> "$work/err"
+# refused NAME TEXT ERR FLAG..: counts a text of which nothing is written but that line, with status 1.
+refused() {
+  local name=$1 text=$2 err=$3 why=; shift 3
+  timeout 60 "$planner" "$@" < "$text" > "$work/out" 2> "$work/err"
   [ $? = 1 ] || why=" status"
   [ -s "$work/out" ] && why="$why output"
-  cmp -s "$work/err" "${plan%.toml}.err" || why="$why error"
-  count "$plan" "$why"
+  cmp -s "$work/err" "$err" || why="$why error"
+  count "$name" "$why"
+}
+# rows TEXT WORD FLAG..: counts each row LINES|NEW|FAULT of a text: with these lines replaced it has that fault.
+rows() {
+  local text=$1 word=$2 lines new fault; shift 2
+  while IFS='|' read -r lines new fault; do
+    awk -v from="${lines%-*}" -v to="${lines#*-}" -v new="$new" 'NR == from { print new } NR < from || NR > to' "$text" > "$work/text"
+    echo "fault: $word $fault" > "$work/want"
+    refused "$text with $lines $new" "$work/text" "$work/want" "$@"
+  done < "${text%.*}.rows"
+}
+for plan in "$top"/plans/faults/*.toml; do
+  refused "$plan" "$plan" "${plan%.toml}.err"
 done
 for scenario in "$top"/plans/checks/*.scenario; do
-  why=
-  timeout 60 "$planner" --check < "$scenario" > "$work/out" 2> "$work/err"
-  [ $? = 1 ] || why=" status"
-  [ -s "$work/out" ] && why="$why output"
-  cmp -s "$work/err" "${scenario%.scenario}.err" || why="$why error"
-  count "$scenario" "$why"
+  refused "$scenario" "$scenario" "${scenario%.scenario}.err" --check
 done
+rows "$top/plans/rows/plan.toml" plan
 for scenario in "$top"/plans/*.scenario "$top"/examples/*.toml; do
   why=
   timeout 60 "$planner" --check < "$scenario" > "$work/out" 2>&1 || why=" status"
