@@ -173,15 +173,13 @@ one_test() {
   echo "$test: $((request - 1)) requests refused$over, $bad wrong"
 }
 
-# tests CRATE PATTERN: the tests of a crate whose names match. Those of no folder are built where they aren't.
+# tests CRATE PATTERN: the tests of a crate whose names match. Where no folder is given they are built.
 tests() {
-  local path
+  local path test names
   path=$(program "$1_tests") || [ -n "$folder" ] || { (cd "crates/$1" && rt test) > "$work/built" 2>&1; path=$(program "$1_tests"); }
-  if [ -z "$path" ]; then
-    [ -n "$folder" ] && [ "$1" != hsr_hostile_tests ] || wrong "no tests of $1: $(tail -n 1 "$work/built" 2> /dev/null)"
-    return
-  fi
-  for test in $("$path" --list | sed -n 's/: test$//p' | grep -E "$2"); do is_over || one_test "$path" "$test"; done
+  [ -n "$path" ] || { wrong "no tests of $1: $(tail -n 1 "$work/built" 2> /dev/null)"; return; }
+  names=$("$path" --list | sed -n 's/: test$//p' | grep -E "$2") || wrong "no test of $1 speaks of refused room"
+  for test in $names; do is_over || one_test "$path" "$test"; done
 }
 
 calls() {
