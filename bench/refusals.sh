@@ -183,9 +183,9 @@ tests() {
 }
 
 calls() {
-  tests hsr_hostile_tests '^refused_'
   tests hsr_tests refused_for_memory
   tests hsr_cell_tests 'refused_for_memory|^link_tests'
+  tests hsr_hostile_tests '^refused_'
 }
 
 # try_all TITLE CRATE INPUT WORD..: refuses each request of a program, or of a crate's tests, over one build. What is told to be
