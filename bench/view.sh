@@ -1,6 +1,7 @@
 #!/bin/sh
-# Shows the run of each example by hsr_view, and tells what other tools make of it: tshark (Debian's package tshark: apt-get install
-# tshark) of its captures, librsvg (package librsvg2-bin) of its pictures, and the bench's own report of its devices. Runs rows_view.
+# Shows the run of each example by hsr_view, and tells what other tools make of it. The tools are those of Debian: tshark reads its
+# captures, and rsvg-convert of librsvg2-bin its pictures (`apt-get update; apt-get install -y tshark librsvg2-bin`). The devices are
+# compared with the bench's own report. Runs rows_view.
 # Usage: bench/view.sh HSR_BENCH HSR_VIEW, both built. Status 1 where a capture doesn't open, has a malformed field or a warning,
 # hasn't as many packets as the run has rows, of the whole, of each link and of each send; where names aren't the scenario's; where a
 # picture doesn't render, or hasn't as many arrows as rows are wanted; where over 400 aren't refused; or where devices don't sum up to
@@ -118,5 +119,5 @@ drawn 420
 drawn 6 --send n0:0
 drawn 12 --send n0:0 --send n0:3
 
-(cd "$here" && bench/rows.sh "$view" rows_view/words rows_view/faults) || bad=1
+(cd "$here" && bench/rows.sh "$view" rows_view/words rows_view/faults rows_view/shown) || bad=1
 exit $bad
