@@ -10,8 +10,8 @@
 #     bench/refusals.sh try FROM TO                these requests of them, each by a build of its own, for a kit that has no `1..`
 #     bench/refusals.sh                            rows, calls and try
 #
-# The programs are those of FOLDER, or those that stand in the crates' out/; with a number of seconds it stops there and says how
-# far it came.
+# The programs are those of FOLDER, or those that stand in the crates' out/. With a number of seconds it stops there and says how
+# far it came; the short rows are always done to the end.
 #
 # A row has to answer as without a refusal, where the memory wasn't needed; or to end with status 1, the line `fault: memory` and
 # nothing on standard output. Of what `node` and `sweep` write a front stands, `threads` may say `fault: thread`, and hsr_plan names
@@ -21,7 +21,7 @@
 set -u
 top=$(cd "$(dirname "${BASH_SOURCE[0]}")/.." && pwd)
 what=${1:-all} folder=${2:-} seconds=${3:-0}
-case $what in rows|calls) [ -z "$folder" ] || folder=$(realpath "$folder") ;; try|all) ;; *) sed -n '2,22s/^# \{0,1\}//p' "$0"; exit 3 ;; esac
+case $what in rows|calls) [ -z "$folder" ] || folder=$(realpath "$folder") ;; try|all) ;; *) sed -n '2,/^set/s/^# \{0,1\}//p' "$0"; exit 3 ;; esac
 work=$(mktemp -d); trap 'rm -rf "$work"' EXIT
 passed=0 failed=0 swept=0 all_refused=0
 cd "$top" || exit 1
@@ -42,7 +42,7 @@ program() {
 # run REQUEST PROGRAM INPUT WORD..: runs a program with that request refused, none where it is 0. Sets status, requests and refused.
 run() {
   local request=$1 program=$2 input=$3; shift 3
-  rm -f "$work/tally"
+  : > "$work/tally"
   { timeout -k 1 10 env LD_PRELOAD="$work/refuse.so" REFUSE_AT="$request" REFUSE_TALLY="$work/tally" "$program" "$@" \
     < "$input" > "$work/out" 2> "$work/err"; } 2> /dev/null # bash's own words on a program that was killed
   status=$? requests=0 refused=0
@@ -61,13 +61,13 @@ is_front() {
 
 # is_want NAME COMMAND: whether a program says that it wants memory, by one line.
 is_want() {
-  local line
-  line=$(cat "$work/err")
-  [ "$status" = 1 ] && [ "$(wc -l < "$work/err")" = 1 ] || return
+  local lines
+  mapfile -t lines < "$work/err"
+  [ "$status" = 1 ] && [ ${#lines[@]} = 1 ] || return
   case $1-$2 in
-    hsr_bench-threads) [ "$line" = 'fault: memory' ] || [ "$line" = 'fault: thread' ] ;;
-    hsr_plan-*) [[ $line =~ ^fault:\ (.*\ )?memory$ ]] ;;
-    *) [ "$line" = 'fault: memory' ] ;;
+    hsr_bench-threads) [ "${lines[0]}" = 'fault: memory' ] || [ "${lines[0]}" = 'fault: thread' ] ;;
+    hsr_plan-*) [[ ${lines[0]} =~ ^fault:\ (.*\ )?memory$ ]] ;;
+    *) [ "${lines[0]}" = 'fault: memory' ] ;;
   esac
 }
 
@@ -132,11 +132,14 @@ are_there() {
   for name in hsr_bench hsr_plan hsr_view; do program $name > /dev/null || { wrong "no program $name"; return 1; }; done
 }
 
-# A short row of each command, for which there has to be time, and then all rows.
+# A short row of each command, whatever time that takes, and then all rows.
 rows() {
+  local limit=$seconds
   are_there || return
+  seconds=0
   short_rows row
-  if is_over; then wrong 'no time was left after the short rows'; else all_rows; fi
+  seconds=$limit
+  all_rows
 }
 
 # The examples, each worked row, and the plans.
