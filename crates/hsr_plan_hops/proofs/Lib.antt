@@ -1,1 +1,3 @@
 mod Listing
+mod Standing
+mod Told

@@ -1,4 +1,4 @@
-pub mod Deeds
-pub mod Moves
+pub mod Turns
+pub mod Telling
 pub mod Hops
 pub mod Moving

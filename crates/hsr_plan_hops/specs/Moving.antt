@@ -1,5 +1,5 @@
 -- What a plan means, with the moves of its copies.
-use Rattle.std.specs.Prelude.{ℕ, ◌≡◌, true, List}
+use Rattle.std.specs.Prelude.{ℕ, ◌≡◌, true, false, List}
 use Rattle.hsr_closing.specs.Finished.{Finished}
 use Rattle.hsr_playing.specs.Finishing.{IsFinishedBy}
 use Rattle.hsr_scenario.specs.declared.steps.Order.{Order}
@@ -7,22 +7,27 @@ use Rattle.hsr_plan_text.specs.Plan.{Plan}
 use Rattle.hsr_plan_text.specs.declared.plan.Moves.{Moves}
 use Rattle.hsr_plan_text.specs.declared.plan.Moves.TheVariants.{EachSendDrains, EachMomentDrains, Hop}
 use Rattle.hsr_plan_meaning.specs.Meaning.{Meaning, Means}
-use Rattle.hsr_plan_hops.specs.Deeds.{deeds}
+use Rattle.hsr_world.specs.World.{World, new_world}
 use Rattle.hsr_plan_hops.specs.Hops.{are_in_time}
-use Rattle.hsr_plan_hops.specs.Moves.{are_at_once}
-use Rattle.hsr_plan_hops.specs.declared.moves.Move.TheVariants.{Other}
+use Rattle.hsr_plan_hops.specs.Telling.{Tells}
+use Rattle.hsr_plan_hops.specs.Turns.{are_in_turn}
+use Rattle.hsr_plan_hops.specs.declared.turns.Due.TheVariants.{Nothing}
 
--- Orders lead to a finished run with tables of so many entries: none is refused, and at the end nothing is on its way. Each copy that
--- isn't lost is judged just so many microseconds after it was passed.
+-- a world in which nothing of what is told was done
+abbrev pub world_of : Meaning → World
+world_of told = new_world told.capacity told.topology.places told.topology.links
+
+-- Orders lead to a finished run with tables of so many entries: none is refused, and at the end nothing is on its way. They do what is
+-- told, and put at once what a node passed. Each copy that isn't lost is judged just so many microseconds after it was passed.
 pub record IsRunByHops (capacity us : ℕ) (told : Meaning) (orders : List Order) : Type 0 where
   pub run : Finished
   pub finished : IsFinishedBy capacity told.topology told.capacity orders run
+  pub tells : Tells capacity told.topology.links told.orders Nothing (world_of told) orders finished.world
   pub in_time : are_in_time us run.run ≡ true
 
--- and they ask for what is told, each at its moment; copies are put at once, and judged as soon as they are taken
+-- and each copy is judged as soon as it is taken, and taken before what is told is done at that moment
 pub record MovesByHops (capacity us : ℕ) (told : Meaning) (orders : List Order) : Type 0 where
-  pub deeds : deeds 0 orders ≡ deeds 0 told.orders
-  pub at_once : are_at_once Other orders ≡ true
+  pub in_turn : are_in_turn told.topology.links Nothing 0 false orders ≡ true
   pub run : IsRunByHops capacity us told orders
 
 -- what is told, with other orders

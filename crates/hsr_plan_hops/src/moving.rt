@@ -1,19 +1,22 @@
 //! What a plan means once its copies move.
 ghost use Rattle.std.specs.Prelude.{◌≡◌, ◌≤◌, IfOk, OnOk};
-ghost use Rattle.hsr_plan_hops.specs.Deeds.{deeds};
+ghost use Rattle.hsr_world.specs.Lawful.{IsEnded, finished_of};
 ghost use Rattle.hsr_plan_text.specs.declared.plan.Moves.TheVariants.{Hop};
-ghost use Rattle.hsr_plan_hops.specs.Moving.{IsRunByHops, MeansMoved, Moved, MovesByHops};
+ghost use Rattle.hsr_plan_hops.specs.Telling.{Tells};
+ghost use Rattle.hsr_plan_hops.specs.declared.turns.Due.TheVariants.{Nothing};
+ghost use Rattle.hsr_plan_hops.specs.Moving.{IsRunByHops, MeansMoved, Moved, MovesByHops, world_of};
 
-use crate::deeds::{are_same_deeds, deeds};
-use crate::moves::are_at_once;
+use crate::telling::tell;
 use crate::timing::are_in_time;
+use crate::turns::are_in_turn;
 use crate::weaving::woven;
+use hsr_closing::{CheckFault, Closed};
 use hsr_frame::NoMemory;
 use hsr_plan_meaning::{Meaning, meaning_of};
 use hsr_plan_text::{Moves, Plan, PlanFault};
-use hsr_playing::{Unfinished, finished};
+use hsr_ring::World;
 use hsr_scenario::Order;
-use std::alloc::Global;
+use std::alloc::{AllocError, AllocFailed, Global};
 
 /// How many copies may wait in each direction of a link.
 const CAPACITY_LIMIT: usize = 4096;
@@ -41,20 +44,67 @@ impl From<NoMemory> for Unmoved {
     }
 }
 
-/// Refuses orders that don't ask for what is told.
-fn check_deeds(alloc: Global, told: &[Order], orders: &[Order]) -> Result<(), Unmoved>
-    ensures { OnOk result (deeds 0 orders.now ≡ deeds 0 told.now) }
-{
-    let asked = deeds(alloc, told)?;
-    let done = deeds(alloc, orders)?;
-    if are_same_deeds(done.as_slice(), asked.as_slice()) {
-        Ok(())
-    } else {
-        Err(Unmoved::Differs)
+impl From<AllocError> for Unmoved {
+    ghost use Rattle.hsr_plan_hops.specs.declared.moving.Unmoved.TheVariants.{Memory};
+
+    ghost from_gives = { λ _ f. f ≡ Memory };
+
+    fn from(_refused: AllocError) -> Unmoved {
+        Unmoved::Memory
     }
 }
 
-/// Plays orders, and refuses those that don't move copies by hops.
+impl<T: Drop> From<AllocFailed<T>> for Unmoved {
+    ghost use Rattle.hsr_plan_hops.specs.declared.moving.Unmoved.TheVariants.{Memory};
+
+    ghost from_gives = { λ _ f. f ≡ Memory };
+
+    fn from(_refused: AllocFailed<T>) -> Unmoved {
+        Unmoved::Memory
+    }
+}
+
+/// A world in which nothing of what is told was done.
+pub(crate) fn world_of<const C: usize>(alloc: Global, told: &Meaning) -> Result<World<C>, Unmoved>
+    requires { (1 ≤ C) × (C ≤ 65535) }
+    ensures { IfOk result (λ world. world ≡ world_of told.now) }
+{
+    // no plan that is read has another capacity
+    if told.capacity < 1 || told.capacity > CAPACITY_LIMIT {
+        return Err(Unmoved::Differs);
+    }
+    let topology = told.topology.copy()?;
+    Ok(World::<C>::new(alloc, topology, told.capacity)?)
+}
+
+/// The world that orders lead to which do what is told.
+fn told_world<const C: usize>(
+    alloc: Global,
+    told: &Meaning,
+    orders: &[Order],
+) -> Result<World<C>, Unmoved>
+    requires { (1 ≤ C) × (C ≤ 65535) }
+    ensures { IfOk result (λ world. Tells C told.now.topology.links told.now.orders Nothing (world_of told.now) orders.now world) }
+{
+    let mut world = world_of::<C>(alloc, told)?;
+    let links = told.topology.links();
+    tell(&mut world, links, told.orders.as_slice(), orders)?;
+    Ok(world)
+}
+
+/// The finished run that a world is.
+fn closed<const C: usize>(world: World<C>) -> Result<Closed<C>, Unmoved>
+    ensures { IfOk result (λ run. IsEnded world.entry × (run ≡ finished_of C world.entry)) }
+{
+    match world.close() {
+        Ok(closed) => Ok(closed),
+        Err((_world, CheckFault::NoMemory)) => Err(Unmoved::Memory),
+        Err(_) => Err(Unmoved::Differs),
+    }
+}
+
+/// Plays orders, and refuses those that don't do what is told, or whose copies aren't in time.
+#[tactic(auto, using(crate::proofs::Told::by_hops))]
 fn check_run<const C: usize>(
     alloc: Global,
     told: &Meaning,
@@ -64,21 +114,12 @@ fn check_run<const C: usize>(
     requires { (1 ≤ C) × (C ≤ 65535) }
     ensures { OnOk result (IsRunByHops C us told.now orders.now) }
 {
-    // no plan that is read has another capacity
-    if told.capacity < 1 || told.capacity > CAPACITY_LIMIT {
-        return Err(Unmoved::Differs);
-    }
-    let topology = told.topology.copy()?;
-    match finished::<C>(alloc, topology, told.capacity, orders) {
-        Ok(closed) => {
-            if are_in_time(alloc, &closed, us)? {
-                Ok(())
-            } else {
-                Err(Unmoved::Differs)
-            }
-        }
-        Err(Unfinished::Memory) => Err(Unmoved::Memory),
-        Err(_) => Err(Unmoved::Differs),
+    let world = told_world::<C>(alloc, told, orders)?;
+    let run = closed(world)?;
+    if are_in_time(alloc, &run, us)? {
+        Ok(())
+    } else {
+        Err(Unmoved::Differs)
     }
 }
 
@@ -92,8 +133,7 @@ fn check<const C: usize>(
     requires { (1 ≤ C) × (C ≤ 65535) }
     ensures { OnOk result (MovesByHops C us told.now orders.now) }
 {
-    check_deeds(alloc, told.orders.as_slice(), orders)?;
-    if !are_at_once(orders) {
+    if !are_in_turn(told.topology.links(), orders) {
         return Err(Unmoved::Differs);
     }
     check_run::<C>(alloc, told, us, orders)

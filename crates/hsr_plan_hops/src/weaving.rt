@@ -1,7 +1,9 @@
 //! The run of what a plan tells, played while its orders are written, with its copies on their way.
 ghost use Rattle.std.specs.Prelude.{◌≤◌};
 
-use crate::moving::Unmoved;
+use crate::moving::{Unmoved, world_of};
+use crate::telling::PORT_LIMIT;
+use crate::turns::receiver;
 use hsr_frame::About;
 use hsr_link::{Dir, Fate};
 use hsr_plan_meaning::Meaning;
@@ -11,14 +13,8 @@ use hsr_step::{Step, WorldFault};
 use hsr_topology::End;
 use std::alloc::Global;
 
-/// How many copies may wait in each direction of a link.
-const CAPACITY_LIMIT: usize = 4096;
-
 /// The most orders.
 const ORDER_LIMIT: usize = 1 << 20;
-
-/// As many ports as a node may have.
-const PORT_LIMIT: u8 = 4;
 
 /// A copy that was put: when it comes to the end of its link, in microseconds, its link and direction, and its row there.
 #[derive(Clone, Copy, Debug, PartialEq, Eq)]
@@ -56,15 +52,6 @@ fn way_from(links: &[[End; 2]], end: End) -> Option<(usize, Dir)> {
     None
 }
 
-/// The port to which copies go.
-fn end_of(links: &[[End; 2]], link: usize, dir: Dir) -> Option<End> {
-    let [one, other] = *links.get(link)?;
-    match dir {
-        Dir::Forth => Some(other),
-        Dir::Back => Some(one),
-    }
-}
-
 /// The row of the copy that was put last on a link.
 fn last_row<const C: usize>(world: &World<C>, link: usize) -> Option<usize> {
     if link >= world.link_count() {
@@ -84,14 +71,6 @@ fn waits<const C: usize>(world: &World<C>, link: usize, row: usize) -> bool {
     }
 }
 
-/// The same step again.
-fn copy_of(step: &Step) -> Result<Step, Unmoved> {
-    match step.clone() {
-        Ok(step) => Ok(step),
-        Err(_) => Err(Unmoved::Memory),
-    }
-}
-
 impl<'a, const C: usize> Weaving<'a, C> {
     /// Does a step, if the world doesn't refuse it, and writes it down.
     fn tries(&mut self, step: Step) -> Result<bool, Unmoved> {
@@ -100,9 +79,7 @@ impl<'a, const C: usize> Weaving<'a, C> {
         }
         match self.world.step(&step) {
             Ok(()) => {
-                if self.orders.push(Order::Step(step)).is_err() {
-                    return Err(Unmoved::Memory);
-                }
+                self.orders.push(Order::Step(step))?;
                 Ok(true)
             }
             Err(WorldFault::NoMemory) => Err(Unmoved::Memory),
@@ -137,10 +114,8 @@ impl<'a, const C: usize> Weaving<'a, C> {
             return Err(Unmoved::Differs);
         };
         let at = self.now.saturating_add(self.hop);
-        match self.flights.push(Flight { at, link, dir, row }) {
-            Ok(()) => Ok(()),
-            Err(_) => Err(Unmoved::Memory),
-        }
+        self.flights.push(Flight { at, link, dir, row })?;
+        Ok(())
     }
 
     /// Puts what a node has just passed.
@@ -156,7 +131,7 @@ impl<'a, const C: usize> Weaving<'a, C> {
     /// Takes and judges a copy that has come to the end of its link, and puts what is passed of it.
     fn land(&mut self, flight: Flight) -> Result<(), Unmoved> {
         let Flight { at, link, dir, .. } = flight;
-        let Some(End { node, port }) = end_of(self.links, link, dir) else {
+        let Some(End { node, port }) = receiver(self.links, link, dir) else {
             return Err(Unmoved::Differs);
         };
         self.clock(at)?;
@@ -208,10 +183,10 @@ impl<'a, const C: usize> Weaving<'a, C> {
             }
             Step::Supervise { node, about } => self.speak(*node, *about),
             Step::Send { node, .. } => {
-                self.does(copy_of(step)?)?;
+                self.does(step.clone()?)?;
                 self.put_all(*node)
             }
-            _ => self.does(copy_of(step)?),
+            _ => self.does(step.clone()?),
         }
     }
 
@@ -236,14 +211,8 @@ pub(crate) fn woven<const C: usize>(
 ) -> Result<Vec<Order>, Unmoved>
     requires { (1 ≤ C) × (C ≤ 65535) }
 {
-    // no plan that is read has another capacity
-    if told.capacity < 1 || told.capacity > CAPACITY_LIMIT {
-        return Err(Unmoved::Differs);
-    }
-    let topology = told.topology.copy()?;
-    let world = World::<C>::new(alloc, topology, told.capacity)?;
     let mut weaving = Weaving {
-        world,
+        world: world_of::<C>(alloc, told)?,
         links: told.topology.links(),
         hop,
         now: 0,
