@@ -4,8 +4,8 @@
 # compared with the bench's own report. Runs rows_view.
 # Usage: bench/view.sh HSR_BENCH HSR_VIEW, both built. Status 1 where a capture doesn't open, has a malformed field or a warning,
 # hasn't as many packets as the run has rows, of the whole, of each link and of each send; where names aren't the scenario's; where a
-# picture doesn't render, or hasn't as many arrows as rows are wanted; where over 400 aren't refused; or where devices don't sum up to
-# the report.
+# picture doesn't render, or hasn't as many arrows as rows are wanted; where the one in docs isn't that of its example; where over 400
+# aren't refused; or where devices don't sum up to the report.
 set -u
 bench=$1 view=$2
 here=$(cd "$(dirname "$0")/.." && pwd)
@@ -85,6 +85,9 @@ for plan in "$here"/examples/*.toml; do
 
     # pictures: the whole, each send alone, and the two halves of time
     drawn "$rows" --names "$plan"
+    if [ "$name" = ring3_cut ]; then
+        told 'the picture in docs' "$(cksum <"$here/docs/ring3_cut.svg")" "$(cksum <"$work/run.svg")"
+    fi
     for send in $(cut -d' ' -f2 "$work/rows" | sort -u | head -5); do
         drawn "$(awk -v send="$send" '$2 == send' "$work/rows" | wc -l)" --send "n$send"
     done
