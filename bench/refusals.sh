@@ -91,7 +91,10 @@ row() {
   for ((request = 1; ; request++)); do
     is_over && { over=', and not the rest'; break; }
     run "$request" "$path" "$input" "$@"
-    [ "$refused" = 1 ] || [ "$status" = 124 ] || break
+    if [ "$refused" != 1 ]; then
+      [ "$status" != 124 ] || wrong "$title, request $request: no end, though nothing was refused"
+      break
+    fi
     judge "$name" "${1:-node}"
     case $verdict in
       want) want=$((want + 1)) ;;
