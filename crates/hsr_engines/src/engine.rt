@@ -1,5 +1,5 @@
 //! The run of `node` over a reader and a writer.
-ghost use Rattle.std.specs.Prelude.{◌≡◌, ◌≢◌, ◌<◌, ◌≤◌, ℕ, IfErr, IfSome, List, OnOk, Option, length};
+ghost use Rattle.std.specs.Prelude.{◌≡◌, ◌≢◌, ◌<◌, ◌≤◌, ◌^◌, ℕ, IfErr, IfSome, List, OnOk, Option, length};
 ghost use Rattle.hsr_text.specs.Lines.{ReadsFront, lines_of};
 ghost use Rattle.hsr_danh.specs.Machine.{new_machine};
 ghost use Rattle.hsr_engines.specs.Output.{Ended, output};
@@ -8,11 +8,12 @@ ghost use Rattle.hsr_engines.specs.Run.{Finished, Ran, Served, Turned};
 ghost use Rattle.hsr_engines.specs.declared.fault.Fault.TheVariants.{Read as ReadFailed};
 
 use crate::fault::{Fault, Status};
+use crate::text::granted_reads;
 use arrayvec::ArrayVec;
 use hsr_danh::Danh;
 use hsr_node_text::{answer_request, put_counters, read_request};
 use hsr_options::{NodeOptions, Table};
-use hsr_text::{Front, READ_LIMIT, TimeUnit, WordFault, next_line};
+use hsr_text::{Front, TimeUnit, WordFault, next_line};
 use std::alloc::Global;
 use std::io::{BufRead, BufReader, Read, Write};
 
@@ -120,15 +121,17 @@ fn finish<W: Write, const C: usize>(
     }
 }
 
-/// Reads all lines, and answers each.
+/// Reads all lines with the reads that are granted, and answers each.
 #[tactic(auto, using(crate::proofs::Turns::way_begins, crate::proofs::Turns::way_on, crate::proofs::Turns::way_fails, crate::proofs::Turns::way_ends))]
 fn run<R: BufRead, W: Write, const C: usize>(
     alloc: Global,
     reader: &mut R,
     writer: &mut W,
+    reads: &mut u64,
     chosen: &NodeOptions,
 ) -> Result<(), Fault>
-    requires { (1 ≤ C) × (C ≤ 65535) }
+    requires entries { (1 ≤ C) × (C ≤ 65535) }
+    requires granted { reads.old ≡ 2 ^ 40 }
     ensures { Ran chosen.now.unit (R.remaining reader.old) (W.contents writer.old) (W.contents writer.new) C (new_machine chosen.now.mac chosen.now.mode) result }
 {
     let mut danh = match Danh::<C>::new(alloc, chosen.mac, chosen.mode) {
@@ -139,7 +142,6 @@ fn run<R: BufRead, W: Write, const C: usize>(
         line: ArrayVec::new(),
         text: Vec::new(alloc),
     };
-    let mut reads = READ_LIMIT;
     let mut number = 1u64;
     loop {
         match turn(
@@ -148,7 +150,7 @@ fn run<R: BufRead, W: Write, const C: usize>(
             &mut danh,
             number,
             reader,
-            &mut reads,
+            reads,
             writer,
             &mut room,
         ) {
@@ -174,9 +176,10 @@ pub fn node_run<R: Read, W: Write>(
     let Ok(mut lines) = BufReader::new(alloc, reader) else {
         return Status::Fault(Fault::Memory);
     };
+    let mut reads = granted_reads();
     let ran = match chosen.table {
-        Table::Small => run::<_, W, 4>(alloc, &mut lines, writer, chosen),
-        Table::Large => run::<_, W, 512>(alloc, &mut lines, writer, chosen),
+        Table::Small => run::<_, W, 4>(alloc, &mut lines, writer, &mut reads, chosen),
+        Table::Large => run::<_, W, 512>(alloc, &mut lines, writer, &mut reads, chosen),
     };
     match ran {
         Ok(()) => Status::Certified,
