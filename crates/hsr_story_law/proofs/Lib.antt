@@ -1,1 +1,7 @@
+mod Listed
+mod Rising
+mod Judging
+mod MainOrder
+mod Following
+mod Keeping
 pub mod Standing

@@ -1,5 +1,5 @@
 -- Each row of a closed run stands at an entry that is there. So its entry has a time where entries have times.
-use Rattle.std.proofs.Common.{◌≡◌, ℕ, zero, suc, ◌+◌, ◌<◌, ◌≤◌, Bool, true, false, cond, List, [], ◌∷◌, ◌++◌, length, map, take, drop, filter, get_or, count_by, reverse, Option, Some, None, refl, sym, ap, ◌∙◌, subst, ⊎_elim, arith, slice_get}
+use Rattle.std.proofs.Common.{◌≡◌, ℕ, zero, suc, ◌+◌, ◌<◌, ◌≤◌, Bool, true, false, cond, List, [], ◌∷◌, ◌++◌, length, map, take, drop, get_or, count_by, reverse, Option, Some, None, refl, sym, ap, ◌∙◌, subst, ⊎_elim, arith, slice_get}
 use Rattle.std.specs.Prelude.{filter_map, option_map, is_some, not, ◌&&◌}
 use Rattle.std.specs.List.{AllByRecursion, cons_option, range_with_len}
 use Rattle.std.specs.Option.{option_and_then, option_or}
@@ -36,6 +36,7 @@ use Rattle.hsr_hops.proofs.Placing.{counted_more, places_more}
 use Rattle.hsr_story.specs.Causes.{cause_in, hop_pairs, main_pairs, origins, origins_below, origins_from}
 use Rattle.hsr_story.specs.Story.{AreShown, HasNoStory, shown_at, shown_by, shown_then, shown_where}
 use Rattle.hsr_story.specs.declared.shown.Shown.{Shown}
+use Rattle.hsr_story_law.proofs.Listed.{all_kept, holds_at, take_all}
 
 -- ---- counts
 
@@ -77,22 +78,9 @@ places_counted copy xs (suc n) le =
     by true = refl
     by false = refl
 
-all_kept : (f : ℕ → Bool) (P : ℕ → Type 0) (xs : List ℕ) → AllByRecursion P xs → AllByRecursion P (filter f xs)
-all_kept f P [] all = tt
-all_kept f P (x ∷ xs) all = of (f x) (all_kept f P xs all.1)
-  where
-    of : (b : Bool) → AllByRecursion P (filter f xs) → AllByRecursion P (cond b (x ∷ filter f xs) (filter f xs))
-    of true kept = (all.0, kept)
-    of false kept = kept
-
 all_below : (a n m : ℕ) → a + n ≤ m → AllByRecursion (λ i. i < m) (range_with_len a n)
 all_below a zero m le = tt
 all_below a (suc n) m le = (omega arith, all_below (a + 1) n m (omega arith))
-
-all_at : (P : ℕ → Type 0) (xs : List ℕ) (k x : ℕ) → AllByRecursion P xs → slice_get xs k ≡ Some x → P x
-all_at P [] k x all is = absurd (cc)
-all_at P (y ∷ xs) zero x all is = let e : y ≡ x = cc in subst P e all.0
-all_at P (y ∷ xs) (suc k) x all is = all_at P xs k x all.1 is
 
 -- a place that is found is one of the list
 pub partner_within : (xs ys : List (Option Carried)) (j place : ℕ) → partner xs ys j ≡ Some place → place < length xs
@@ -101,7 +89,7 @@ partner_within xs ys j place is = of (get_or ys j None) is
     of : (o : Option Carried) → partner_of xs ys j o ≡ Some place → place < length xs
     of None is = absurd (cc)
     of (Some copy) is =
-        all_at (λ i. i < length xs) (places copy xs) (count_by (is_at copy) (take j ys)) place
+        holds_at (λ i. i < length xs) (places copy xs) (count_by (is_at copy) (take j ys)) place
         (all_kept (λ i. is_at copy (get_or xs i None)) (λ i. i < length xs) (range_with_len 0 (length xs)) (all_below 0 (length xs) (length xs) (omega arith))) is
 
 count_front : (copy : Carried) (ys : List (Option Carried)) (n : ℕ) → count_by (is_at copy) (take n ys) ≤ count_by (is_at copy) ys
@@ -109,10 +97,6 @@ count_front copy ys n =
     let whole : count_by (is_at copy) ys ≡ count_by (is_at copy) (take n ys) + count_by (is_at copy) (drop n ys) =
     ap (count_by (is_at copy)) (sym (take-append-drop n ys)) ∙ sum_by-append (λ x. cond {A = ℕ} (is_at copy x) 1 0) (take n ys) (drop n ys) in
     omega (arith, whole)
-
-take_all : {X : Type 0} (xs : List X) → take (length xs) xs ≡ xs
-take_all [] = refl
-take_all (x ∷ xs) = ap (λ ys. x ∷ ys) (take_all xs)
 
 -- a copy that is as often in both lists has a partner
 pub partner_there : (xs ys : List (Option Carried)) (j : ℕ) (copy : Carried) → j < length ys → get_or ys j None ≡ Some copy → count_by (is_at copy) xs ≡ count_by (is_at copy) ys →
@@ -204,14 +188,14 @@ origins_long : (planned passed : Spot → Option Spot) (node n : ℕ) (xs : List
 origins_long planned passed node n [] = refl
 origins_long planned passed node n (x ∷ xs) = ap suc (origins_long planned passed node (n + 1) xs)
 
-below_long : (run : Run) (planned passed : Spot → Option Spot) (n : ℕ) → length (origins_below run planned passed n) ≡ n
+pub below_long : (run : Run) (planned passed : Spot → Option Spot) (n : ℕ) → length (origins_below run planned passed n) ≡ n
 below_long run planned passed zero = refl
 below_long run planned passed (suc n) =
     let e = length-append (origins_below run planned passed n) (origins_from planned passed n 0 (record_of run n) ∷ []) in
     let f = below_long run planned passed n in
     omega (arith, e, f)
 
-below_at : (run : Run) (planned passed : Spot → Option Spot) (n k : ℕ) → k < n → get_or (origins_below run planned passed n) k [] ≡ origins_from planned passed k 0 (record_of run k)
+pub below_at : (run : Run) (planned passed : Spot → Option Spot) (n k : ℕ) → k < n → get_or (origins_below run planned passed n) k [] ≡ origins_from planned passed k 0 (record_of run k)
 below_at run planned passed zero k lt = absurd (omega arith)
 below_at run planned passed (suc n) k lt = ⊎_elim here (before (λ less. below_at run planned passed n k less)) (cases_eq k n)
   where
@@ -228,7 +212,7 @@ below_at run planned passed (suc n) k lt = ⊎_elim here (before (λ less. below
         let f = below_long run planned passed n in
         get_or_append_left (origins_below run planned passed n) one [] k (omega (arith, f, other)) ∙ lower (omega (arith, other))
 
-time_there : (run : Run) (plan : List Planned) (time : Spot → Option Time) → IsClosed run → AreTimes (origins run plan) time → (spot : Spot) → spot.place < length (record_of run spot.node) → (t : Time) × (time spot ≡ Some t)
+pub time_there : (run : Run) (plan : List Planned) (time : Spot → Option Time) → IsClosed run → AreTimes (origins run plan) time → (spot : Spot) → spot.place < length (record_of run spot.node) → (t : Time) × (time spot ≡ Some t)
 time_there run plan time closed are spot below = of (time spot) refl
   where
     planned : Spot → Option Spot
