@@ -1,17 +1,28 @@
 """Random plans, by the planner's program: what each scenario says against what docs/USING.md says that the plan means, in another language.
 
-    python3 bench/random_plans.py PLANNER [COUNT [SEED [BENCH]]]
+    python3 bench/random_plans.py PLANNER [COUNT [SEED [BENCH [SECONDS]]]]
 
-COUNT (1000) plans from SEED (1) on. Of each that is no fault: the steps are those that the plan means, in order; model.py refuses none of
-them; and a RedBox sends supervision about a station just where the model's RedBox knows it then. With BENCH the program plays the scenario
-too, and refuses no step. Each 20th plan is swept, and the lines compared with what model.py counts. About half of the plans move copies by hops: there each copy is put
-in the moment of the entry that passed it, and taken and judged just a hop later, before anything else happens at that moment. The first
-difference is shown, with its plan, and ends it. The last line says how many plans were told, how many of these by hops, and how many were
-faults, each by the words behind its place.
+COUNT (1000) plans from SEED (1) on, or as many as SECONDS allow. Of each that is no fault: the steps are those that the plan means, in
+order; model.py refuses none of them; and a RedBox sends supervision about a station just where the model's RedBox knows it then. With BENCH
+the program plays the scenario too, and refuses no step. Each 20th plan is swept, and the lines compared with what model.py counts. About
+half of the plans move copies by hops: there each copy is put in the moment of the entry that passed it, and taken and judged just a hop
+later, before anything else happens at that moment. Of each that is a fault: the status is 1, nothing is written, and the line says why there
+is none: the reason, or one of those, that this script finds by itself.
+
+What is excused:
+- Of a fault's line only the reason is compared, not line and column; where a plan has several reasons, the line may tell any of them.
+- Of a payload of type "goose" or "sv" nothing is compared.
+- In which order copies are put, taken and judged at one moment is compared with no other reading: model.py plays the steps as they stand.
+- A sweep is compared where it ends. Its line on a terminal isn't looked at.
+- With the small tables, which may forget, the bench may end a run as unsettled.
+
+The first difference is shown, with its plan, and ends it. The last line but one says how many plans were told, how many of these by hops,
+how many were swept, and how many were faults, each by its reason; the last how many passed and failed.
 """
 import random
 import subprocess
 import sys
+import time
 import tomllib
 from collections import Counter
 
@@ -22,6 +33,7 @@ COUNT = int(sys.argv[2]) if len(sys.argv) > 2 else 1000
 SEED = int(sys.argv[3]) if len(sys.argv) > 3 else 1
 EACH = 20  # of so many plans one is swept
 BENCH = sys.argv[4] if len(sys.argv) > 4 else None
+SECONDS = float(sys.argv[5]) if len(sys.argv) > 5 else None
 GROUP = "01-0C-CD-01-00-01"
 TYPES = {"goose": 0x88B8, "sv": 0x88BA}
 ENDLESS = 1 << 41
@@ -132,6 +144,25 @@ class Meaning:
             usual = next(f"02-00-00-01-{k + 1:02X}-{self.redboxes[box].index(name) + 1:02X}" for k, box in enumerate(self.boxes) if name in self.redboxes[box])
         return self.plan.get("address", {}).get(name, usual)
 
+    def behind(self, name):
+        """The RedBox that a station is behind, or None."""
+        return next((box for box in self.boxes if name in self.redboxes[box]), None)
+
+    def senders(self, stream):
+        return stream["from"] if isinstance(stream["from"], list) else [stream["from"]]
+
+    def reasons(self):
+        """Why the plan may mean nothing, each by words of a fault's line."""
+        known = [name for name in self.names if name not in self.couplers] + [name for box in self.boxes for name in self.redboxes[box]]
+        if any(len({*map(self.mac, names)}) < len(names) for names in self.redboxes.values()):
+            yield "no network"
+        for stream in self.plan.get("stream", []):
+            target = stream["to"]
+            yield from (f"unknown name {name}:" for name in [*self.senders(stream), target] if name not in known and name != GROUP)
+            for name in self.senders(stream):
+                if target in known and name in known and self.mac(target) in map(self.mac, self.redboxes.get(self.behind(name), [name])):
+                    yield f"{name} sends to itself"
+
     def ends(self):
         """The links, each by its two ends."""
         for number, ring in enumerate(self.rings):
@@ -153,7 +184,7 @@ class Meaning:
                 at, gap, count = at + gap, min(gap * stream.get("grow", 1), most), count + 1
 
     def send(self, stream, name, count):
-        behind = next((box for box in self.boxes if name in self.redboxes[box]), None)
+        behind = self.behind(name)
         kind = TYPES.get(stream["type"], stream["type"])
         said = {"do": "send", "node": f"{behind}-sans" if behind else name, "to": stream["to"], "type": kind}
         if behind and self.redboxes[behind].index(name):
@@ -172,8 +203,7 @@ class Meaning:
         lives = [name for name in self.names if name not in self.couplers]
         listed += [(at, {"do": "life", "node": name}) for at in (range(0, self.until, life) if life else ()) for name in lives]
         for stream in self.plan.get("stream", []):
-            senders = stream["from"] if isinstance(stream["from"], list) else [stream["from"]]
-            listed += [(at, self.send(stream, name, count)) for name in senders for at, _, count in self.moments(stream)]
+            listed += [(at, self.send(stream, name, count)) for name in self.senders(stream) for at, _, count in self.moments(stream)]
         return sorted(listed, key=lambda occasion: occasion[0])
 
     def steps(self):
@@ -369,23 +399,55 @@ def played(scenario, table):
     return ended.stderr
 
 
+def faulty(plan, table, ended):
+    """The reason that a fault's line tells, and what is wrong with it, or None."""
+    reasons = [*Meaning(plan).reasons()]
+    if table == "small" and plan["moves"].startswith("hop_us"):
+        reasons.append("copies are still on their way after ")
+    line = ended.stderr
+    reason = next((reason for reason in reasons if reason in line), None)
+    if ended.returncode != 1 or ended.stdout or not line.startswith("fault: plan ") or line.count("\n") != 1 or not reason:
+        return reason, f"status {ended.returncode}, {line}, not {reasons}"
+    return " ".join(word for word in reason.split() if "-" not in word and word != "nobody:"), None
+
+
+def told(plan, table, scenario):
+    """What is wrong with the scenario of a plan, or None."""
+    for reason in Meaning(plan).reasons():
+        return f"no fault, although {reason}"
+    return check(plan, tomllib.loads(scenario), TABLES[table]) or (BENCH and played(scenario, table))
+
+
+def one(seed, counts):
+    """Plans one random plan, and counts it. What is wrong, or None."""
+    said, table = text(random_plan(random.Random(seed))), "small" if seed % 4 == 0 else "large"
+    plan = tomllib.loads(said)
+    ended = subprocess.run([PLANNER, "--table", table], input=said, capture_output=True, text=True, timeout=60)
+    if ended.returncode:
+        reason, wrong = faulty(plan, table, ended)
+        counts[f"fault: {reason}"] += 1
+    else:
+        wrong = told(plan, table, ended.stdout)
+        counts["told"] += 1
+        counts["by hops"] += plan["moves"].startswith("hop_us")
+        if not wrong and seed % EACH == 0:
+            wrong = swept(said, seed % 3 * 2000)
+            counts["swept"] += 1
+    return wrong and f"{said}\nseed {seed}: {wrong}"
+
+
 def main():
-    told, hops, faults = 0, 0, Counter()
+    counts, passed, wrong, began = Counter(), 0, None, time.monotonic()
     for seed in range(SEED, SEED + COUNT):
-        said, table = text(random_plan(random.Random(seed))), "small" if seed % 4 == 0 else "large"
-        ended = subprocess.run([PLANNER, "--table", table], input=said, capture_output=True, text=True, timeout=60)
-        if ended.returncode:
-            if ended.returncode != 1 or ended.stdout or not ended.stderr.startswith("fault: plan "):
-                sys.exit(f"{said}\nseed {seed}: status {ended.returncode}, {ended.stderr}")
-            faults["to itself" if "sends to itself" in ended.stderr else " ".join(ended.stderr.split()[3:5])] += 1
-            continue
-        plan = tomllib.loads(said)
-        wrong = check(plan, tomllib.loads(ended.stdout), TABLES[table]) or (BENCH and played(ended.stdout, table))
-        wrong = wrong or (swept(said, seed % 3 * 2000) if seed % EACH == 0 else None)
-        if wrong:
-            sys.exit(f"{said}\nseed {seed}: {wrong}")
-        told, hops = told + 1, hops + plan["moves"].startswith("hop_us")
-    print(f"{told} told, {hops} by hops, {sum(faults.values())} faults: {dict(faults)}")
+        if SECONDS and time.monotonic() > began + SECONDS:
+            break
+        if wrong := one(seed, counts):
+            print(wrong)
+            break
+        passed += 1
+    print(", ".join(f"{count} {what}" for what, count in sorted(counts.items())))
+    print(f"{passed} passed, {1 if wrong else 0} failed")
+    sys.exit(1 if wrong else 0)
 
 
 if __name__ == "__main__":
