@@ -6,8 +6,8 @@
 # Of each plans/NAME.toml the scenario that the planner writes has, played by the bench, the report of plans/NAME.scenario, which
 # another program wrote; and a sweep says of the undisturbed run what the bench's audit of networks says. Of each
 # plans/faults/NAME.toml the planner writes nothing, with status 1, and on standard error what stands in NAME.err; and with --check of
-# each plans/checks/NAME.scenario. In plans/rows stand a plan with each word and its faults: a row tells which lines are replaced by
-# which text, and where what is wrong then.
+# each plans/checks/NAME.scenario. In plans/rows stand a plan and a scenario with each word, and their faults: a row tells which lines
+# are replaced by which text, and where what is wrong then.
 set -u
 planner=$(realpath "${1:?bench/plans.sh PLANNER BENCH}") bench=$(realpath "${2:?bench/plans.sh PLANNER BENCH}")
 top=$(cd "$(dirname "${BASH_SOURCE[0]}")/.." && pwd)
@@ -59,6 +59,7 @@ for scenario in "$top"/plans/checks/*.scenario; do
   refused "$scenario" "$scenario" "${scenario%.scenario}.err" --check
 done
 rows "$top/plans/rows/plan.toml" plan
+rows "$top/plans/rows/scenario.toml" scenario --check
 for scenario in "$top"/plans/*.scenario "$top"/examples/*.toml; do
   why=
   timeout 60 "$planner" --check < "$scenario" > "$work/out" 2>&1 || why=" status"
