@@ -600,8 +600,10 @@ class World:
         return None
 
     def is_covered(self, send, frame):
-        """Whether ways alone say where a send goes. To a Station it goes by what RedBoxes heard, so that isn't covered."""
-        if frame.is_supervision() and self.nodes[send[0]].role == "station":
+        """Whether ways alone say where a send goes. To a Station it goes by what RedBoxes heard, so that isn't covered. A Station takes
+        up supervision that comes from a Station, though it is due at none."""
+        here = (send[0], "P")
+        if frame.is_supervision() and here in self.lanes and self.nodes[self.goal(here)[0]].role == "station":
             return False
         return is_group(frame.dst) or not any(frame.dst in node.macs for node in self.nodes)
 

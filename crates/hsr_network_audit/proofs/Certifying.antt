@@ -1,7 +1,7 @@
 -- The first doubt, and the certificate.
-use Rattle.std.proofs.Common.{◌≡◌, ℕ, ◌<◌, ◌==◌, ◌&&◌, ◌||◌, not, Bool, true, false, if◌then◌else◌, List, [], ◌∷◌, length, slice_index_or, Option, Some, None, refl, sym, ap, ◌∙◌, subst, arith, zero, suc, ◌⊎◌, inl, inr, ⊎_elim, eqb-true}
+use Rattle.std.proofs.Common.{◌≡◌, ℕ, ◌<◌, ◌==◌, ◌&&◌, ◌||◌, not, Bool, true, false, if◌then◌else◌, List, [], ◌∷◌, length, slice_index_or, Some, refl, sym, ap, ◌∙◌, subst, arith, zero, suc, ◌⊎◌, inl, inr, ⊎_elim, eqb-true}
 use Rattle.std.specs.List.{AllByRecursion, list_any}
-use Rattle.std.proofs.lemmas.Bool.{and_parts, false≢true, or_cases, or_left, or_right}
+use Rattle.std.proofs.lemmas.Bool.{and_parts, cases_Bool, false≢true, or_cases, or_left, or_right}
 use Rattle.hsr_frame.specs.Address.{is_group, is_same_address}
 use Rattle.hsr_frame.specs.declared.node.Mode as modes
 use Rattle.hsr_node.specs.Station.{is_among}
@@ -16,15 +16,16 @@ use Rattle.hsr_law.specs.Premises.{IsRing, NothingForgotten, NothingMistaken, On
 use Rattle.hsr_deliveries.specs.Delivered.{Delivery, IsComplete, deliveries, is_due, is_for, times}
 use Rattle.hsr_deliveries.proofs.Completing.{IsAsDue, all_complete}
 use Rattle.hsr_law.specs.Closed.{IsClosed, IsSend}
-use Rattle.hsr_law.specs.Run.{Run, past_of, place_of, record_of}
+use Rattle.hsr_link.specs.declared.row.Dir.TheVariants.{Forth}
+use Rattle.hsr_topology.specs.declared.end.End.{End}
+use Rattle.hsr_law.specs.Run.{Run, from_end, past_of, place_of, record_of, to_end}
 use Rattle.hsr_law.proofs.Same.{same_address}
 use Rattle.hsr_network_law.proofs.Delivered.{not_to_itself}
 use Rattle.hsr_network_law.specs.Delivered.{IsOnceInNetwork, OnceInNetwork, is_covered, is_meant}
 use Rattle.hsr_network_law.specs.Late.{LateDecides}
-use Rattle.hsr_network_law.specs.Lives.{LivesStay}
+use Rattle.hsr_network_law.specs.Lives.{LivesStay, is_joined_with_station, is_station_at, joins_stations}
 use Rattle.hsr_network_law.specs.Rings.{IsCrossed, RingIsCrossed}
 use Rattle.hsr_network_law.specs.Network.{IsNetwork, is_station, is_station_with}
-use Rattle.hsr_premises.specs.Flaws.{IsFirstNot, KnowsOwnAt, RemembersAt}
 use Rattle.hsr_premises.specs.declared.flaw.Flaw.{Flaw}
 use Rattle.hsr_premises.specs.declared.flaw.Flaw.TheVariants.{Forgot, Late, Mistaken}
 use Rattle.hsr_ways.specs.Networks.{IsFirstReason}
@@ -179,20 +180,23 @@ undue_at (Station macs) sender frame k never none =
 
 -- ---- the certificate
 
-covered_part : (run : Run) (send : Probe) (sending : Sending) → IsPremised run → IsSend run send sending → is_covered run.places sending.frame ≡ true
-covered_part run send sending all is =
-    (and_parts (is_covered run.places sending.frame) (not (is_station (place_of run send.node) && is_supervision sending.frame.dst sending.frame.kind)) (all.covered send sending is)).0
+promised_parts : (run : Run) (send : Probe) (sending : Sending) → IsPremised run → IsSend run send sending →
+    (is_covered run.places sending.frame ≡ true) × (not (is_supervision sending.frame.dst sending.frame.kind && is_joined_with_station run.places run.links send.node) ≡ true)
+promised_parts run send sending all is =
+    and_parts (is_covered run.places sending.frame) (not (is_supervision sending.frame.dst sending.frame.kind && is_joined_with_station run.places run.links send.node)) (all.covered send sending is)
 
--- no supervision frame is a Station's
-no_station_sends : (run : Run) (send : Probe) (sending : Sending) → IsPremised run → IsSend run send sending → is_supervision sending.frame.dst sending.frame.kind ≡ true → is_station (place_of run send.node) ≡ false
-no_station_sends run send sending all is life =
-    by_test (is_station (place_of run send.node)) (is_supervision sending.frame.dst sending.frame.kind) life
-    (and_parts (is_covered run.places sending.frame) (not (is_station (place_of run send.node) && is_supervision sending.frame.dst sending.frame.kind)) (all.covered send sending is)).1
+covered_part : (run : Run) (send : Probe) (sending : Sending) → IsPremised run → IsSend run send sending → is_covered run.places sending.frame ≡ true
+covered_part run send sending all is = (promised_parts run send sending all is).0
+
+-- no supervision frame is of a Station that is joined with a Station
+sends_alone : (run : Run) (send : Probe) (sending : Sending) → IsPremised run → IsSend run send sending → is_supervision sending.frame.dst sending.frame.kind ≡ true → is_joined_with_station run.places run.links send.node ≡ false
+sends_alone run send sending all is life =
+    by_test (is_supervision sending.frame.dst sending.frame.kind) (is_joined_with_station run.places run.links send.node) life (promised_parts run send sending all is).1
   where
-    by_test : (station life : Bool) → life ≡ true → not (station && life) ≡ true → station ≡ false
+    by_test : (life joined : Bool) → life ≡ true → not (life && joined) ≡ true → joined ≡ false
     by_test true true l h = absurd (false≢true h)
-    by_test true false l h = absurd (false≢true l)
-    by_test false life l h = refl
+    by_test true false l h = refl
+    by_test false joined l h = absurd (false≢true l)
 
 module _ (run : Run) (closed : IsClosed run) (once : IsOnceInNetwork run) (stay : LivesStay) (all : IsPremised run) where
   taken_up : TakenUpOnce run
@@ -204,7 +208,7 @@ module _ (run : Run) (closed : IsClosed run) (once : IsOnceInNetwork run) (stay 
   none_else send sending k is below other =
       ⊎_elim
       (λ undue. once.none send sending k is below undue)
-      (λ life. stay run closed all.sound.network send sending k is life.1 (no_station_sends run send sending all is life.1) below life.0)
+      (λ life. stay run closed all.sound.network send sending k is life.1 (sends_alone run send sending all is life.1) below life.0)
       (undue_at (place_of run k) send.node sending.frame k own other)
     where
       own : (mac : List ℕ) (mode : modes.Mode) → place_of run k ≡ Danh mac mode → (k == send.node) ≡ true → is_group sending.frame.dst ≡ false → is_same_address mac sending.frame.dst ≡ true → ⊥
@@ -229,6 +233,27 @@ once_of run closed law decides all = law run closed all.sound.network ((decides 
 
 -- ---- a ring
 
+-- what is no Station is joined with none as one
+no_station_joined : (places : List Place) (k : ℕ) → is_station (slice_index_or places k QuadBox) ≡ false → (links : List (List End)) → is_joined_with_station places links k ≡ false
+no_station_joined places k other [] = refl
+no_station_joined places k other (ends ∷ links) = ap (λ b. b || is_joined_with_station places links k) apart ∙ no_station_joined places k other links
+  where
+    clash : (end : End) → (end.node == k) ≡ true → is_station_at places end ≡ true → ⊥
+    clash end here station =
+        let S : ℕ → Type 0 = λ n. is_station (slice_index_or places n QuadBox) ≡ true in
+        false≢true (sym other ∙ subst S (eqb-true end.node k here) station)
+
+    never : joins_stations places k ends ≡ true → ⊥
+    never h =
+        let a = from_end Forth ends in
+        let b = to_end Forth ends in
+        let parts = and_parts ((a.node == k) || (b.node == k)) (is_station_at places a && is_station_at places b) h in
+        let stations = and_parts (is_station_at places a) (is_station_at places b) parts.1 in
+        ⊎_elim (λ first. clash a first stations.0) (λ second. clash b second stations.1) (or_cases (a.node == k) (b.node == k) parts.0)
+
+    apart : joins_stations places k ends ≡ false
+    apart = ⊎_elim (λ yes. absurd (never yes)) (λ no. no) (cases_Bool (joins_stations places k ends))
+
 -- a ring's run that audit certifies is certified here
 ring_premised : (run : Run) (macs : List (List ℕ)) → IsClosed run → RingIsCrossed → IsRing run macs → OneLossyLink run → NothingForgotten run → NothingMistaken run → IsPremised run
 ring_premised run macs closed crosses ring losses remembers own = record {
@@ -247,9 +272,14 @@ ring_premised run macs closed crosses ring losses remembers own = record {
     promised send sending is =
         let many = ring.places in
         let low = is.0 in
-        let none = no_station send.node (omega (arith, low, many)) in
-        both (is_covered run.places sending.frame) (not (is_station (place_of run send.node) && is_supervision sending.frame.dst sending.frame.kind)) (crossed.covered send sending is)
-        (ap (λ b. not (b && is_supervision sending.frame.dst sending.frame.kind)) none)
+        let alone = no_station_joined run.places send.node (no_station send.node (omega (arith, low, many))) run.links in
+        both (is_covered run.places sending.frame) (not (is_supervision sending.frame.dst sending.frame.kind && is_joined_with_station run.places run.links send.node)) (crossed.covered send sending is)
+        (not_both (is_supervision sending.frame.dst sending.frame.kind) (is_joined_with_station run.places run.links send.node) alone)
+      where
+        not_both : (life joined : Bool) → joined ≡ false → not (life && joined) ≡ true
+        not_both true true j = absurd (false≢true (sym j))
+        not_both true false j = refl
+        not_both false joined j = refl
 
 pub no_ring : (run : Run) (fault : NetworkFault) → IsClosed run → RingIsCrossed → IsFirstFault run fault → IsNoRing run fault
 no_ring run (Doubt d) closed crosses first = λ macs ring losses remembers own. refuses run d first (ring_premised run macs closed crosses ring losses remembers own)

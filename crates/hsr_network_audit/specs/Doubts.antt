@@ -12,9 +12,10 @@ use Rattle.hsr_node.specs.declared.sending.Sending.{Sending}
 use Rattle.hsr_deliveries.specs.Delivered.{is_due}
 use Rattle.hsr_law.specs.Closed.{IsSend}
 use Rattle.hsr_law.specs.Premises.{IsRing, NothingForgotten, NothingMistaken, OneLossyLink}
-use Rattle.hsr_law.specs.Run.{Run, place_of}
+use Rattle.hsr_law.specs.Run.{Run}
 use Rattle.hsr_network_law.specs.Late.{NothingLate}
-use Rattle.hsr_network_law.specs.Network.{IsNetwork, is_station}
+use Rattle.hsr_network_law.specs.Lives.{is_joined_with_station}
+use Rattle.hsr_network_law.specs.Network.{IsNetwork}
 use Rattle.hsr_network_law.specs.Ways.{IsReached}
 use Rattle.hsr_premises.specs.Flaws.{IsFirstNot, IsInTimeAt, KnowsOwnAt, RemembersAt}
 use Rattle.hsr_ways.specs.Networks.{AreGoingRound, HaveOwnAddresses, IsFirstUnlike}
@@ -33,9 +34,9 @@ use Rattle.hsr_network_audit.specs.declared.doubt.Doubt.TheVariants as doubt
 abbrev pub probe_at : ℕ → ℕ → Probe
 probe_at k i = record { node = k; place = i }
 
--- a send is covered, and no Station sent it for supervision
+-- a send is covered, and isn't supervision of a Station that is joined with a Station
 abbrev pub is_promised : Run → ℕ → Fields → Bool
-is_promised run sender frame = is_covered run.places frame && not (is_station (place_of run sender) && is_supervision frame.dst frame.kind)
+is_promised run sender frame = is_covered run.places frame && not (is_supervision frame.dst frame.kind && is_joined_with_station run.places run.links sender)
 
 -- the entry at a place of a node's record is no send, or one of which this is promised
 abbrev pub IsCoveredAt : Run → ℕ → ℕ → Type 0

@@ -120,8 +120,8 @@ fn certify<const C: usize>(
 /// There is one exactly where nodes are DANHs and RedBoxes in modes H and U, QuadBoxes and Stations, with addresses that are
 /// theirs alone, each link joins two ports on rings or two edges, nothing was forgotten that was needed, nothing mistaken, and
 /// nothing numbered late, and each send is covered and reaches each node that it is due at; else the first doubt is named. All
-/// is covered but a single frame to a Station and a supervision frame that a Station sends. Each run that `audit` of hsr_audit
-/// certifies is certified. `NoMemory` where room is refused.
+/// is covered but a single frame to a Station and a supervision frame of a Station that is joined with a Station. Each run that
+/// `audit` of hsr_audit certifies is certified. `NoMemory` where room is refused.
 pub fn audit_network<const C: usize>(
     alloc: Global,
     closed: &Closed<C>,

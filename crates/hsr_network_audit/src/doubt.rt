@@ -27,7 +27,7 @@ pub enum Doubt {
         node: usize,
         place: usize,
     },
-    /// A send isn't covered: a single frame to a Station, or a supervision frame that a Station sent.
+    /// A send isn't covered: a single frame to a Station, or a supervision frame of a Station that is joined with a Station.
     Uncovered {
         node: usize,
         place: usize,

@@ -15,10 +15,10 @@ fn is_covered_at<const C: usize>(closed: &Closed<C>, node: usize, place: usize) 
     requires place { place < length (record_of closed.now.run node) }
     ensures { IsTrue result ↔ IsCoveredAt closed.now.run node place }
 {
-    let places = closed.topology().places();
+    let topology = closed.topology();
     let x = &closed.entries(node)[place];
-    match sent_view(&places[node], &x.event, &x.outcome) {
-        Some(sending) => is_promised(places, &places[node], &sending.frame),
+    match sent_view(&topology.places()[node], &x.event, &x.outcome) {
+        Some(sending) => is_promised(topology, node, &sending.frame),
         None => true,
     }
 }

@@ -1,8 +1,8 @@
--- No supervision frame leaves a RedBox by its interlink, so none comes to a Station but another Station's.
-use Rattle.std.proofs.Common.{◌≡◌, ℕ, ◌<◌, ◌≤◌, ◌%◌, ◌==◌, ◌&&◌, ◌||◌, ◌⊎◌, Bool, true, false, if◌then◌else◌, List, [], ◌∷◌, length, count_by, Option, Some, None, Ok, Err, refl, sym, ap, ◌∙◌, subst, arith, ⊎_elim, zero, suc, eqb-true, ne_eqb, eq-eqb}
-use Rattle.std.specs.Prelude.{option_map}
+-- No supervision frame leaves a RedBox by its interlink, so none comes to a Station but from one that it is joined with.
+use Rattle.std.proofs.Common.{◌≡◌, ℕ, ◌<◌, ◌%◌, ◌==◌, ◌&&◌, ◌||◌, ◌⊎◌, Bool, true, false, if◌then◌else◌, List, [], ◌∷◌, length, count_by, Option, Some, None, Ok, Err, refl, sym, ap, ◌∙◌, subst, arith, ⊎_elim, zero, suc, eqb-true, ne_eqb, eq-eqb}
+use Rattle.std.specs.Prelude.{option_map, slice_index_or}
 use Rattle.std.specs.List.{list_any, AllByRecursion, cons_option}
-use Rattle.std.proofs.lemmas.Bool.{false≢true, or_left, cases_Bool}
+use Rattle.std.proofs.lemmas.Bool.{false≢true, and_from, or_left, or_right, cases_Bool}
 use Rattle.hsr_frame.specs.Address.{is_group, is_same_address, supervision_address}
 use Rattle.hsr_frame.specs.Cases.{first_of}
 use Rattle.hsr_frame.specs.Egress.{beyond, has_exit, in_mode, is_supervision, nowhere, onward, to, up}
@@ -16,7 +16,7 @@ use Rattle.hsr_frame.specs.declared.node.Mode.{Mode}
 use Rattle.hsr_frame.specs.declared.node.Mode.TheVariants.{H, N, U}
 use Rattle.hsr_frame.specs.declared.node.RingPort.{RingPort}
 use Rattle.hsr_frame.specs.declared.node.RingPort.TheVariants as ring
-use Rattle.hsr_tag.specs.Tag.{TaggedFields, untag_of}
+use Rattle.hsr_tag.specs.Tag.{TaggedFields}
 use Rattle.hsr_tag.specs.declared.seen.Seen.TheVariants.{Plain, Tagged}
 use Rattle.hsr_redbox.specs.Step.{life_refusal, number_of}
 use Rattle.hsr_redbox.specs.Wanted as of_redbox
@@ -25,10 +25,9 @@ use Rattle.hsr_redbox.specs.declared.call.BoxPort.{BoxPort}
 use Rattle.hsr_redbox.specs.declared.call.BoxPort.TheVariants as box
 use Rattle.hsr_redbox.specs.declared.call.LifeFault.{LifeFault}
 use Rattle.hsr_redbox.specs.declared.wanted.Handling.{Handling}
-use Rattle.hsr_node.specs.Copies.{address_at, asked_frame, copy_octets, forwarded, passed_octets, ports_of, side_of}
+use Rattle.hsr_node.specs.Copies.{address_at, asked_frame, copy_octets, passed_octets, ports_of}
 use Rattle.hsr_node.specs.Flow.{arrivals, pass_of, passes, send_at, sent_by, wanted_at, wants}
-use Rattle.hsr_node.specs.Place.{ports as ports_there}
-use Rattle.hsr_node.specs.Record.{Each, Owner, answer, box_handling, has_port, knows, lived_or_refused, lives, next_number, now, number_in, ports, probe_handled, sent_as, steps}
+use Rattle.hsr_node.specs.Record.{Each, Owner, answer, box_handling, has_port, knows, lived_or_refused, lives, next_number, now, ports, probe_handled, steps}
 use Rattle.hsr_node.specs.Record as of_record
 use Rattle.hsr_node.specs.Step.{box_port}
 use Rattle.hsr_node.specs.declared.entry.Entry.{Entry}
@@ -41,9 +40,11 @@ use Rattle.hsr_node.specs.declared.event.Probe.{Probe}
 use Rattle.hsr_node.specs.declared.place.Place.{Place}
 use Rattle.hsr_node.specs.declared.place.Place.TheVariants.{Danh, RedBox, QuadBox, Station}
 use Rattle.hsr_node.specs.declared.sending.Sending.{Sending}
+use Rattle.hsr_link.specs.declared.row.Dir.{Dir}
+use Rattle.hsr_link.specs.declared.row.Dir.TheVariants.{Forth, Back}
 use Rattle.hsr_law.specs.Closed.{IsClosed, IsOfSend, IsSend}
 use Rattle.hsr_law.specs.Once.{delivers, is_copy}
-use Rattle.hsr_law.specs.Run.{Run, ends_of, from_end, is_of, owner_of, past_of, place_of, record_of}
+use Rattle.hsr_law.specs.Run.{Run, ends_of, from_end, is_of, owner_of, past_of, place_of, record_of, to_end}
 use Rattle.hsr_topology.specs.declared.end.End.{End}
 use Rattle.hsr_law.proofs.Keys.{each_of_send, tagged_of_send}
 use Rattle.hsr_law.proofs.LinkLaws.{arrives_between}
@@ -53,17 +54,22 @@ use Rattle.hsr_law.proofs.Records.{Answered, OfArrival, each_so, sending_frame}
 use Rattle.hsr_law.proofs.Same.{probe_is, same_address}
 use Rattle.hsr_law.proofs.Views.{Came, came, knows_at, leaves_wanted}
 use Rattle.hsr_law.proofs.Wanted.{no_exit}
-use Rattle.hsr_network_law.specs.Lives.{LivesStay}
-use Rattle.hsr_network_law.specs.Network.{IsNetwork, Way, is_edge, is_station}
+use Rattle.hsr_network_law.specs.Lives.{LivesStay, is_joined_with_station, joins_stations}
+use Rattle.hsr_network_law.specs.Network.{IsNetwork, IsPortOf, Way, is_edge, is_edge_of, is_station, is_station_of, start_of, stop_of}
 use Rattle.hsr_network_law.proofs.Counts.{Delivers, delivered_came}
 use Rattle.hsr_network_law.proofs.Covered.{all_unknown_before}
 use Rattle.hsr_network_law.proofs.Fits.{legal}
 use Rattle.hsr_network_law.proofs.Hops.{IsFrom, station_own}
-use Rattle.hsr_network_law.proofs.Leaving.{came_by, came_pass, leaves_port}
+use Rattle.hsr_network_law.proofs.Leaving.{came_by, leaves_port}
 use Rattle.hsr_network_law.proofs.Sending.{asked_is, send_by, sent_outcome}
-use Rattle.hsr_network_law.proofs.Sides.{exit_of, few_ports, one_port}
+use Rattle.hsr_network_law.proofs.Sides.{few_ports, one_port}
 use Rattle.hsr_network_law.proofs.Unknown.{UnknownBefore}
 use Rattle.hsr_network_law.proofs.Unwanted.{fault_unwanted}
+
+any_at : {X : Type 0} (p : X → Bool) (xs : List X) (i : ℕ) (d : X) → i < length xs → p (slice_index_or xs i d) ≡ true → list_any p xs ≡ true
+any_at p [] i d below is = absurd (omega (arith, below))
+any_at p (x ∷ xs) zero d below is = or_left (p x) (list_any p xs) is
+any_at p (x ∷ xs) (suc i) d below is = or_right (p x) (list_any p xs) (any_at p xs i d (omega (arith, below)) is)
 
 -- ---- what a RedBox wants at its interlink
 
@@ -270,11 +276,33 @@ module _ (run : Run) (closed : IsClosed run) (net : IsNetwork run) (send : Probe
 
   -- ---- what comes to a Station
 
-  module _ (no_station : is_station (place_of run send.node) ≡ false) where
-    -- what leaves by an edge
-    none_out : (j port : ℕ) → j < length run.places → port < ports_there (place_of run j) → is_edge (place_of run j) port ≡ true → AllByRecursion NotMine (passes (owner_of run j) port (past_of run j))
-    none_out j port below few edge = by_place (place_of run j) refl
+  module _ (alone : is_joined_with_station run.places run.links send.node ≡ false) where
+    -- no Station that is joined with a Station sent it
+    not_joined : (way : Way) → way.link < length run.links → (start_of run way).node ≡ send.node → is_station_of run (start_of run way) ≡ true → is_station_of run (stop_of run way) ≡ true → ⊥
+    not_joined way below node from to =
+        false≢true (sym alone ∙ any_at (joins_stations run.places send.node) run.links way.link [] below (joins way.dir node from to))
       where
+        joins : (dir : Dir) → (from_end dir (ends_of run way.link)).node ≡ send.node → is_station_of run (from_end dir (ends_of run way.link)) ≡ true → is_station_of run (to_end dir (ends_of run way.link)) ≡ true →
+            joins_stations run.places send.node (ends_of run way.link) ≡ true
+        joins Forth node from to =
+            and_from _ _ (or_left _ _ (eq-eqb (from_end Forth (ends_of run way.link)).node send.node node)) (and_from _ _ from to)
+        joins Back node from to =
+            and_from _ _ (or_right _ _ (eq-eqb (to_end Forth (ends_of run way.link)).node send.node node)) (and_from _ _ to from)
+
+    -- what leaves by an edge for a Station
+    none_out : (way : Way) → way.link < length run.links → is_edge_of run (start_of run way) ≡ true → is_station_of run (stop_of run way) ≡ true →
+        AllByRecursion NotMine (passes (owner_of run (start_of run way).node) (start_of run way).port (past_of run (start_of run way).node))
+    none_out way below edge to = by_place (place_of run j) refl
+      where
+        j : ℕ
+        j = (start_of run way).node
+
+        port : ℕ
+        port = (start_of run way).port
+
+        there : IsPortOf run (start_of run way)
+        there = net.ends way below
+
         E : Place → Type 0
         E p = is_edge p port ≡ true
 
@@ -283,31 +311,36 @@ module _ (run : Run) (closed : IsClosed run) (net : IsNetwork run) (send : Probe
         by_place QuadBox here = absurd (false≢true (subst E here edge))
         by_place (RedBox mac mode) here =
             let P : ℕ → Type 0 = λ n. AllByRecursion NotMine (passes (owner_of run j) n (past_of run j)) in
-            subst P (sym (eqb-true port 2 (subst E here edge))) (none_down j mac mode here below)
+            subst P (sym (eqb-true port 2 (subst E here edge))) (none_down j mac mode here there.node)
         by_place (Station macs) here =
             all_weaker (IsFrom run closed net j) NotMine (passes (owner_of run j) port (past_of run j)) own
-            (station_own run closed net j port (ap is_station here) (few_ports (place_of run j) port few) (past_of run j) (legal run closed net j below))
+            (station_own run closed net j port (ap is_station here) (few_ports (place_of run j) port there.port) (past_of run j) (legal run closed net j there.node))
           where
             own : (copy : Carried) → IsFrom run closed net j copy → is_copy send copy ≡ true → ⊥
             own copy from mine =
                 let both : Some from.0 ≡ Some send = sym from.1 ∙ probe_is send copy.probe mine in
                 let node : send.node ≡ j = sym (ap (λ (p : Option Probe). (Rattle.std.specs.Prelude.unwrap_or p send).node) both) ∙ from.2 in
-                let S : ℕ → Type 0 = λ n. is_station (place_of run n) ≡ false in
-                false≢true (sym (subst S node no_station) ∙ ap is_station here)
+                not_joined way below (sym node) (ap is_station here) to
 
-    none_in : (k port : ℕ) → k < length run.places → port < ports_there (place_of run k) → is_edge (place_of run k) port ≡ true → AllByRecursion NotMine (arrivals port (past_of run k))
-    none_in k port below few edge =
+    none_in : (k : ℕ) → k < length run.places → is_station (place_of run k) ≡ true → AllByRecursion NotMine (arrivals 0 (past_of run k))
+    none_in k below station =
         ⊎_elim
         (λ at.
-        let from : End = from_end at.dir (ends_of run at.link) in
-        let there = net.ends (record { link = at.link; dir = at.dir }) at.below in
-        let S : End → Type 0 = λ end. is_edge (place_of run (from_end at.dir (ends_of run at.link)).node) (from_end at.dir (ends_of run at.link)).port ≡ is_edge (place_of run end.node) end.port in
-        let same = subst S at.ends (net.sides (record { link = at.link; dir = at.dir }) at.below) in
-        all_weaker (λ copy. NotMine copy × IsOfSend run copy) NotMine (arrivals port (past_of run k)) (λ copy two. two.0)
-        (arrives_between run closed NotMine at.link at.dir (from_end at.dir (ends_of run at.link)) (record { node = k; port = port }) at.below refl at.ends
-        (none_out (from_end at.dir (ends_of run at.link)).node (from_end at.dir (ends_of run at.link)).port there.node there.port (same ∙ edge))))
+        let way : Way = record { link = at.link; dir = at.dir } in
+        let S : End → Type 0 = λ end. is_edge_of run (start_of run way) ≡ is_edge_of run end in
+        let T : End → Type 0 = λ end. is_station_of run end ≡ true in
+        let same = subst S at.ends (net.sides way at.below) in
+        all_weaker (λ copy. NotMine copy × IsOfSend run copy) NotMine (arrivals 0 (past_of run k)) (λ copy two. two.0)
+        (arrives_between run closed NotMine at.link at.dir (start_of run way) (record { node = k; port = 0 }) at.below refl at.ends
+        (none_out way at.below (same ∙ edge_there (place_of run k) station) (subst T (sym at.ends) station))))
         (λ none. let Q : List Carried → Type 0 = AllByRecursion NotMine in subst Q (sym none) tt)
-        (closed.linked k port below)
+        (closed.linked k 0 below)
+      where
+        edge_there : (place : Place) → is_station place ≡ true → is_edge place 0 ≡ true
+        edge_there (Danh mac mode) s = absurd (false≢true s)
+        edge_there (RedBox mac mode) s = absurd (false≢true s)
+        edge_there QuadBox s = absurd (false≢true s)
+        edge_there (Station macs) s = refl
 
     none_any : (cs : List Carried) → AllByRecursion NotMine cs → list_any (is_copy send) cs ≡ false
     none_any [] all = refl
@@ -318,21 +351,9 @@ module _ (run : Run) (closed : IsClosed run) (net : IsNetwork run) (send : Probe
         let one = each_so (Answered run.capacity (owner_of run k)) (λ x past. (d : Delivers run.capacity (owner_of run k) x past send) → d.port ≡ 0) (past_of run k)
         (λ x past ok d. one_port (place_of run k) d.port station (came_by run.capacity (owner_of run k) past (now (x ∷ past)) d.port d.copy x.outcome d.ok)) (legal run closed net k below) in
         let less = delivered_came run.capacity (owner_of run k) 0 send (past_of run k) (legal run closed net k below) one in
-        let none = count_zero (is_copy send) (arrivals 0 (past_of run k)) (none_any (arrivals 0 (past_of run k)) (none_in k 0 below (port_there (place_of run k) station) (edge_there (place_of run k) station))) in
+        let none = count_zero (is_copy send) (arrivals 0 (past_of run k)) (none_any (arrivals 0 (past_of run k)) (none_in k below station)) in
         let same = counted run send k in
         omega (arith, less, none, same)
-      where
-        port_there : (place : Place) → is_station place ≡ true → 0 < ports_there place
-        port_there (Danh mac mode) s = absurd (false≢true s)
-        port_there (RedBox mac mode) s = absurd (false≢true s)
-        port_there QuadBox s = absurd (false≢true s)
-        port_there (Station macs) s = omega arith
-
-        edge_there : (place : Place) → is_station place ≡ true → is_edge place 0 ≡ true
-        edge_there (Danh mac mode) s = absurd (false≢true s)
-        edge_there (RedBox mac mode) s = absurd (false≢true s)
-        edge_there QuadBox s = absurd (false≢true s)
-        edge_there (Station macs) s = refl
 
 pub lives_stay : LivesStay
-lives_stay run closed net send sending k is life no_station below station = none_up run closed net send sending is life no_station k below station
+lives_stay run closed net send sending k is life alone below station = none_up run closed net send sending is life alone k below station

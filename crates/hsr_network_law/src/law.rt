@@ -35,7 +35,8 @@ pub fn late_decides()
     ensures { LateDecides }
 {}
 
-/// In a closed run of a network no Station takes up a supervision frame that no Station sent (IEC 62439-3 clause 5.7).
+/// In a closed run of a network no Station takes up a supervision frame, but for one that a Station sent which is joined with a
+/// Station (IEC 62439-3 clause 5.7).
 pub fn lives_stay()
     ensures { LivesStay }
 {}

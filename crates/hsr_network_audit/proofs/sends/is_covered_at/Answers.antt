@@ -1,14 +1,9 @@
-use Rattle.std.proofs.Common.{rules, ◌≡◌, ◌∙◌, ℕ, Some, None, slice_index_or, refl, sym, ap}
+use Rattle.std.proofs.Common.{rules, ◌≡◌, ◌∙◌, ℕ, Some, None, slice_index_or, refl, sym}
 use Rattle.hsr_node.specs.Flow.{send_at}
 use Rattle.hsr_node.specs.declared.entry.Entry.{Entry}
 use Rattle.hsr_node.specs.declared.place.Place.{Place}
 use Rattle.hsr_node.specs.declared.sending.Sending.{Sending}
 use Rattle.hsr_law.specs.Run.{Run, past_of, place_of, record_of}
-use Rattle.hsr_needed.proofs.Walking.{place_at}
-use Rattle.std.specs.Prelude.{◌&&◌, not}
-use Rattle.hsr_frame.specs.Egress.{is_supervision}
-use Rattle.hsr_network_law.specs.Delivered.{is_covered}
-use Rattle.hsr_network_law.specs.Network.{is_station}
 use Rattle.hsr_network_audit.specs.Doubts.{is_promised}
 use Rattle.hsr_network_audit.proofs.Sending.{covered_none, covered_so, sent_is, so_covered}
 use Rattle.hsr_network_audit.proofs.sends.is_covered_at.Goals as goal
@@ -24,9 +19,7 @@ returns-in-Some g c =
     let x_is : x ≡ slice_index_or (record_of run k) i x = search rules in
     let p_is : p ≡ slice_index_or run.places k p = search rules in
     let some : send_at (place_of run k) i (past_of run k) ≡ Some s = sent_is run k i p x c.requires.node c.requires.place p_is x_is ∙ sym c.in-Some.ensures in
-    let at : c.index-places-node-in-Some.result ≡ place_of run k = place_at run.places k c.index-places-node-in-Some.result c.requires.node (search rules) in
-    let said : c.is_promised.result ≡ (is_covered run.places s.frame && not (is_station c.index-places-node-in-Some.result && is_supervision s.frame.dst s.frame.kind)) = search rules in
-    let covered : c.is_promised.result ≡ is_promised run k s.frame = said ∙ ap (λ (q : Place). is_covered run.places s.frame && not (is_station q && is_supervision s.frame.dst s.frame.kind)) at in
+    let covered : c.is_promised.result ≡ is_promised run k s.frame = search rules in
     (λ is. covered_so run k i s some (sym covered ∙ is), λ all. covered ∙ so_covered run k i s c.requires.node some all)
 
 pub returns-in-None : goal.returns-in-None
