@@ -72,14 +72,20 @@ fn put_send_label(
 ) -> Result<(), NoMemory> {
     let mut words = Vec::new(alloc);
     put_send(&mut words, names, send)?;
+    // beyond the point, so that the arrow is free
+    let (x, anchor) = if way.x1 < way.x2 {
+        (way.x2.saturating_add(6), "start")
+    } else {
+        (way.x2.saturating_sub(6), "end")
+    };
     put_label(
         text,
         Label {
-            x: way.x2.saturating_add(6),
+            x,
             y: way.y2.saturating_sub(2),
             size: "7",
             colour,
-            anchor: "start",
+            anchor,
             weight: "normal",
         },
         words.as_slice(),
@@ -93,11 +99,11 @@ fn put_loss_label(
     word: &str,
     colour: &'static str,
 ) -> Result<(), NoMemory> {
-    // two copies may be lost on one lane at one time: their labels stand between the crosses, one above the other
+    // two copies may be lost on one lane at one time: their labels stand between the crosses
     let (x, y, anchor) = if way.x1 < way.x2 {
-        (way.x2.saturating_add(6), way.y2.saturating_sub(1), "start")
+        (way.x2.saturating_add(6), way.y2, "start")
     } else {
-        (way.x2.saturating_sub(6), way.y2.saturating_add(8), "end")
+        (way.x2.saturating_sub(6), way.y2.saturating_add(3), "end")
     };
     put_label(
         text,

@@ -169,7 +169,7 @@ fn put_moment(alloc: Global, text: &mut Vec<u8>, sheet: &Sheet, row: &Row) -> Re
     put_stroke(
         text,
         Stroke {
-            x1: sheet.left.saturating_sub(36),
+            x1: sheet.left.saturating_sub(sheet.side),
             y1: above,
             x2: sheet.columns.next.saturating_sub(sheet.columns.width),
             y2: above,
@@ -183,7 +183,7 @@ fn put_moment(alloc: Global, text: &mut Vec<u8>, sheet: &Sheet, row: &Row) -> Re
     put_label(
         text,
         Label {
-            x: sheet.left.saturating_sub(36),
+            x: sheet.left.saturating_sub(sheet.side),
             y: row.y.saturating_add(3),
             size: "9",
             colour: "#333",

@@ -10,12 +10,16 @@ use std::alloc::Global;
 /// The least width of a lane.
 const LANE: u64 = 72;
 
+/// The least width between the moments and the first line.
+const SIDE: u64 = 36;
+
 /// The places of a picture.
 #[derive(Drop)]
 pub(crate) struct Sheet {
     pub rows: Rows,
     pub columns: Columns,
     pub left: u64,
+    pub side: u64,
 }
 
 /// Where an arrow runs.
@@ -59,14 +63,16 @@ fn longest_record<const C: usize>(closed: &Closed<C>) -> u64 {
     longest
 }
 
-/// How wide a lane is that has room for the name of a node, or for one label.
-fn lane_width(name: u64, place: u64) -> u64 {
+/// How wide a lane is that has room for the name of a node, or for two labels of so many octets side by side.
+fn lane_width(name: u64, label: u64) -> u64 {
     let by_name = name.saturating_mul(7).saturating_add(14);
-    let by_label = name
-        .saturating_add(place)
-        .saturating_mul(6)
-        .saturating_add(20);
+    let by_label = label.saturating_mul(9).saturating_add(14);
     LANE.max(by_name).max(by_label)
+}
+
+/// How far the moments stand from the first line, where a label of so many octets may stand between.
+fn side_width(label: u64) -> u64 {
+    SIDE.max(label.saturating_mul(5).saturating_add(12))
 }
 
 /// The last moment of rows.
@@ -86,14 +92,19 @@ pub(crate) fn sheet_of<const C: usize>(
 ) -> Result<Sheet, NoMemory> {
     let rows = rows_of(alloc, picture)?;
     let name = longest_name(alloc, closed, names)?;
-    let width = lane_width(name, digits(longest_record(closed)));
-    let label = digits(last_moment(&rows)).saturating_mul(6);
-    let left = label.saturating_add(80);
+    let label = name
+        .saturating_add(digits(longest_record(closed)))
+        .saturating_add(1);
+    let width = lane_width(name, label);
+    let side = side_width(label);
+    let moment = digits(last_moment(&rows)).saturating_mul(6);
+    let left = moment.saturating_add(44).saturating_add(side);
     let columns = columns_of(alloc, picture.panels.as_slice(), left, width)?;
     Ok(Sheet {
         rows,
         columns,
         left,
+        side,
     })
 }
 
@@ -116,7 +127,8 @@ impl Sheet {
             } else {
                 x1.saturating_sub(part)
             };
-            let y2 = y1.saturating_add(self.rows.space / 2);
+            // below the label of its own row, and above that of the next
+            let y2 = y1.saturating_add(self.rows.space / 3);
             return Some(Way { x1, y1, x2, y2 });
         }
         let y2 = self.rows.at(hsr_order::Time {
