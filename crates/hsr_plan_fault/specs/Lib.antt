@@ -1,1 +1,5 @@
 pub mod Position
+pub mod Lexing
+pub mod Places
+pub mod Line
+pub mod Headers

@@ -19,27 +19,6 @@ before text at = if at == 0 then None else slice_get text (at - 1)
 unfoldable pub is_whole : List ℕ → List ℕ → ℕ → Bool
 is_whole text word at = bytes_eq (take (length word) (drop at text)) word && (is_edge (before text at) && is_edge (slice_get text (at + length word)))
 
--- the first place from `from` on where the word stands whole
-pub record IsFirst (text word : List ℕ) (from at : ℕ) : Type 0 where
-  pub behind : from ≤ at
-  pub whole : is_whole text word at ≡ true
-  pub first : (k : ℕ) → from ≤ k → k < at → is_whole text word k ≡ false
-
--- ---- headers
-
-abbrev pub is_octet : Option ℕ → ℕ → Bool
-is_octet None b = false
-is_octet (Some c) b = c == b
-
--- two brackets open before a place, and one closes so much behind it
-abbrev pub is_bracketed : List ℕ → ℕ → ℕ → Bool
-is_bracketed text at long = nat_le 2 at && (is_octet (slice_get text (at - 1)) 91 && (is_octet (slice_get text (at - 2)) 91 && is_octet (slice_get text (at + long)) 93))
-
--- the word stands there whole, as in a header `[[word]]`
-pub record IsHeader (text word : List ℕ) (at : ℕ) : Type 0 where
-  pub whole : is_whole text word at ≡ true
-  pub bracketed : is_bracketed text at (length word) ≡ true
-
 -- ---- lines and columns
 
 -- octets since the last line feed

@@ -1,8 +1,21 @@
-//! Where the tables of a text begin.
+//! Where words and the headers of tables stand in a text, whatever they are part of.
 ghost use Rattle.std.specs.Prelude.{◌≡◌, ◌≤◌, ◌<◌, length, IfSome};
-ghost use Rattle.hsr_plan_fault.specs.Position.{IsHeader, is_bracketed, is_octet};
+ghost use Rattle.hsr_plan_fault.specs.Headers.{IsFirst, IsHeader, is_bracketed, is_octet};
 
-use crate::position::whole_word;
+use crate::position::is_whole;
+
+/// The first place from `from` on where a word stands whole.
+pub fn whole_word(text: &[u8], word: &[u8], from: usize) -> Option<usize>
+    ensures found { IfSome result (λ at. IsFirst text.now word.now from at) }
+    ensures within { IfSome result (λ at. at < length text.now) }
+{
+    for at in from..text.len() {
+        if is_whole(text, word, at) {
+            return Some(at);
+        }
+    }
+    None
+}
 
 /// Whether an octet is there and is this one.
 fn is_octet(there: Option<u8>, b: u8) -> bool

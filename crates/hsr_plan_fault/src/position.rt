@@ -1,6 +1,6 @@
 //! Where a word stands in a text.
-ghost use Rattle.std.specs.Prelude.{◌≡◌, ◌≤◌, ◌<◌, ◌==◌, ◌+◌, ◌-◌, ℕ, true, false, count_by, length, take, drop, slice_get, IfSome};
-ghost use Rattle.hsr_plan_fault.specs.Position.{IsFirst, before, column, is_edge, is_whole, is_word_octet, position_of};
+ghost use Rattle.std.specs.Prelude.{◌≡◌, ◌≤◌, ◌==◌, ◌+◌, ◌-◌, ℕ, true, false, count_by, length, take, drop, slice_get};
+ghost use Rattle.hsr_plan_fault.specs.Position.{before, column, is_edge, is_whole, is_word_octet, position_of};
 
 /// A place in a text: its line and its column, both from 1; columns are counted in octets.
 #[derive(Clone, Copy, Debug, PartialEq, Eq)]
@@ -27,7 +27,7 @@ fn is_edge(b: Option<u8>) -> bool
 }
 
 /// The octet before a place.
-fn before(text: &[u8], at: usize) -> Option<u8>
+pub(crate) fn before(text: &[u8], at: usize) -> Option<u8>
     ensures { result ≡ before text.now at }
 {
     if at == 0 {
@@ -38,7 +38,7 @@ fn before(text: &[u8], at: usize) -> Option<u8>
 
 /// Whether a word stands at a place, and isn't part of a longer one.
 #[tactic(auto, unfolding(crate::specs::Position::is_whole))]
-fn is_whole(text: &[u8], word: &[u8], at: usize) -> bool
+pub(crate) fn is_whole(text: &[u8], word: &[u8], at: usize) -> bool
     requires { at ≤ length text.now }
     ensures { result ≡ is_whole text.now word.now at }
 {
@@ -47,19 +47,6 @@ fn is_whole(text: &[u8], word: &[u8], at: usize) -> bool
         return false;
     }
     is_edge(before(text, at)) && is_edge(text.get(at + word.len()).copied())
-}
-
-/// The first place from `from` on where a word stands whole.
-pub fn whole_word(text: &[u8], word: &[u8], from: usize) -> Option<usize>
-    ensures found { IfSome result (λ at. IsFirst text.now word.now from at) }
-    ensures within { IfSome result (λ at. at < length text.now) }
-{
-    for at in from..text.len() {
-        if is_whole(text, word, at) {
-            return Some(at);
-        }
-    }
-    None
 }
 
 /// How many octets stand behind the last line feed.

@@ -1,82 +1,101 @@
 //! The line of a fault.
-use crate::header::table_header;
-use crate::position::{Position, position_of, whole_word};
+ghost use Rattle.std.specs.Prelude.{IfOk};
+ghost use Rattle.hsr_plan_fault.specs.Line.{IsLine};
+
+use crate::keys::{Source, key_in, member_at, name_again, name_in, table_at, top_key};
+use crate::lexing::bare;
+use crate::line::fault_line;
+use crate::text::{put, put_no_toml, put_place};
+use crate::wiring::reason_of;
 use hsr_frame::NoMemory;
 use hsr_plan_text::{Key, PlanFault, Refusal, Spot, What, Word};
-use hsr_text::put_decimal;
 use std::alloc::Global;
 
-/// Puts words last.
-fn put(line: &mut Vec<u8>, words: &str) -> Result<(), NoMemory> {
-    line.extend_from_slice(words.as_bytes())?;
-    Ok(())
-}
+/// The keys of an event that name nodes.
+const EVENT_KEYS: [Key; 4] = [Key::Cut, Key::Mend, Key::Off, Key::On];
+
+// ---- where it is
 
 /// Where the table of a fault begins.
-fn start_of(text: &[u8], spot: Spot) -> usize {
+fn start_of(source: Source<'_>, spot: Spot) -> usize {
     match spot {
         Spot::Top => 0,
-        Spot::Stream(number) => table_header(text, b"stream", number).unwrap_or(0),
-        Spot::Event(number) => table_header(text, b"event", number).unwrap_or(0),
+        Spot::Stream(number) => table_at(source, b"stream", number).unwrap_or(0),
+        Spot::Event(number) => table_at(source, b"event", number).unwrap_or(0),
     }
 }
 
-/// The word that a fault is about.
-fn word_of(what: &What) -> &[u8] {
-    match what {
-        What::Unknown(word) => word.as_bytes(),
-        What::WrongKind(key) | What::BadValue(key) => key.text().as_bytes(),
-        What::Refused(refusal) => refused_word(refusal),
-        What::Text | What::Missing(_) | What::NoMemory => b"",
+/// Where a key of the table stands that begins at a place.
+fn key_of(source: Source<'_>, spot: Spot, start: usize, word: &[u8]) -> Option<usize> {
+    match spot {
+        Spot::Top => top_key(source, word),
+        Spot::Stream(_) | Spot::Event(_) => key_in(source, word, start),
     }
 }
 
-/// The word that a refusal is about.
-fn refused_word(refusal: &Refusal) -> &[u8] {
+/// Where a name stands that nobody has, in what a plan says of its nodes.
+fn unknown_node(source: Source<'_>, name: &[u8]) -> Option<usize> {
+    match member_at(source, b"redbox", name) {
+        Some(at) => Some(at),
+        None => match member_at(source, b"address", name) {
+            Some(at) => Some(at),
+            None => member_at(source, b"mode", name),
+        },
+    }
+}
+
+/// Where a name stands in the value of one of these keys of the table that begins at a place.
+fn name_of(source: Source<'_>, keys: &[Key], name: &[u8], start: usize) -> Option<usize> {
+    for key in keys.iter() {
+        if let Some(at) = name_in(source, key.text().as_bytes(), name, start) {
+            return Some(at);
+        }
+    }
+    None
+}
+
+/// Where a name stands that nobody has.
+fn unknown_name(source: Source<'_>, spot: Spot, start: usize, name: &[u8]) -> Option<usize> {
+    match spot {
+        Spot::Top => unknown_node(source, name),
+        Spot::Stream(_) => name_of(source, &[Key::To, Key::From], name, start),
+        Spot::Event(_) => name_of(source, &EVENT_KEYS, name, start),
+    }
+}
+
+/// Where what is refused stands.
+fn refused_at(source: Source<'_>, spot: Spot, start: usize, refusal: &Refusal) -> Option<usize> {
     match refusal {
-        Refusal::NameTwice(word) | Refusal::NoSuchName(word) | Refusal::ToItself(word) =>
-            word.as_bytes(),
+        Refusal::NameTwice(word) => name_again(source, word.as_bytes()),
+        Refusal::NoSuchName(word) => unknown_name(source, spot, start, word.as_bytes()),
+        Refusal::ToItself(word) => name_of(source, &[Key::From], word.as_bytes(), start),
         Refusal::Nobody(key)
         | Refusal::NoLink(key)
         | Refusal::Endless(key)
-        | Refusal::TooMany(key) => key.text().as_bytes(),
-        Refusal::Topology => b"",
+        | Refusal::TooMany(key) => key_of(source, spot, start, key.text().as_bytes()),
+        Refusal::Topology => None,
     }
 }
 
-/// The place of a word, from the start of its table on, or else anywhere, or else the start of the table.
-fn place_of(text: &[u8], start: usize, word: &[u8]) -> usize {
-    if word.is_empty() {
-        return start;
+/// Where the word of a fault stands, in its table that begins at a place.
+fn word_in(source: Source<'_>, spot: Spot, start: usize, what: &What) -> Option<usize> {
+    match what {
+        What::Unknown(word) => key_of(source, spot, start, word.as_bytes()),
+        What::WrongKind(key) | What::BadValue(key) => {
+            key_of(source, spot, start, key.text().as_bytes())
+        }
+        What::Refused(refusal) => refused_at(source, spot, start, refusal),
+        What::Text | What::Missing(_) | What::NoMemory => None,
     }
-    match whole_word(text, word, start) {
+}
+
+/// Where the word of a fault stands, or else its table.
+fn place_of(source: Source<'_>, fault: &PlanFault) -> usize {
+    let start = start_of(source, fault.spot);
+    match word_in(source, fault.spot, start, &fault.what) {
         Some(at) => at,
-        None => match whole_word(text, word, 0) {
-            Some(at) => at,
-            None => start,
-        },
+        None => start,
     }
-}
-
-/// The place at which a text isn't TOML.
-fn place_in_text(alloc: Global, text: &str) -> usize {
-    match toml::table_from_str(alloc, text) {
-        Ok(_) => 0,
-        Err(error) => match error.span() {
-            Some(span) => span.start,
-            None => 0,
-        },
-    }
-}
-
-/// Line and column of what a fault is about.
-fn found(alloc: Global, text: &str, fault: &PlanFault) -> Position {
-    let octets = text.as_bytes();
-    let at = match fault.what {
-        What::Text => place_in_text(alloc, text),
-        _ => place_of(octets, start_of(octets, fault.spot), word_of(&fault.what)),
-    };
-    position_of(octets, at.min(octets.len()))
 }
 
 // ---- what is wrong
@@ -185,17 +204,14 @@ fn put_refusal(line: &mut Vec<u8>, refusal: &Refusal) -> Result<(), NoMemory> {
         ),
         Refusal::Endless(_) => put(line, "a stream without end: give count or until_us"),
         Refusal::TooMany(key) => put(line, most_of(*key)),
-        Refusal::Topology => put(
-            line,
-            "no network: at most 64 nodes and 128 links, two nodes in a ring at least, each station another address, no address a group's",
-        ),
+        Refusal::Topology => put(line, "no network"),
     }
 }
 
 /// Puts what a fault is last.
 fn put_what(line: &mut Vec<u8>, spot: Spot, what: &What) -> Result<(), NoMemory> {
     match what {
-        What::Text => put(line, "no TOML, or over 16 MiB"),
+        What::Text => put(line, "no TOML"),
         What::Missing(key) => put_values(line, "missing word ", *key),
         What::Unknown(word) => {
             put_word(line, "unknown word ", word, ": ")?;
@@ -208,17 +224,52 @@ fn put_what(line: &mut Vec<u8>, spot: Spot, what: &What) -> Result<(), NoMemory>
     }
 }
 
+/// Puts where a fault is and what it is last.
+fn put_fault(
+    alloc: Global,
+    line: &mut Vec<u8>,
+    text: &str,
+    fault: &PlanFault,
+) -> Result<(), NoMemory> {
+    let bare = bare(alloc, text.as_bytes())?;
+    let source = Source {
+        text: text.as_bytes(),
+        bare: bare.as_slice(),
+    };
+    put_place(line, source.text, place_of(source, fault))?;
+    put_what(line, fault.spot, &fault.what)
+}
+
+/// Puts why the nodes and links of a plan are no topology last, and where that is.
+fn put_topology(alloc: Global, line: &mut Vec<u8>, text: &str) -> Result<(), NoMemory> {
+    let bare = bare(alloc, text.as_bytes())?;
+    let source = Source {
+        text: text.as_bytes(),
+        bare: bare.as_slice(),
+    };
+    match toml::table_from_str(alloc, text) {
+        Ok(document) => {
+            let reason = reason_of(source, &document);
+            put_place(line, source.text, reason.at)?;
+            put(line, reason.words)
+        }
+        // it was read before
+        Err(_) => Err(NoMemory),
+    }
+}
+
 /// The line of a fault of a text, as `fault: plan 12:5 unknown word evry_us: a stream has from, to, ..`, without a line feed. Line and
-/// column are those of the word that the fault is about, in its own table; of a missing word, those of its table; and of a text that is
-/// no TOML those at which that shows. `NoMemory` where room is refused.
-pub fn told(alloc: Global, text: &str, fault: &PlanFault) -> Result<Vec<u8>, NoMemory> {
-    let position = found(alloc, text, fault);
-    let mut line = Vec::new(alloc);
-    put(&mut line, "fault: plan ")?;
-    put_decimal(&mut line, position.line as u64)?;
-    put(&mut line, ":")?;
-    put_decimal(&mut line, position.column as u64)?;
-    put(&mut line, " ")?;
-    put_what(&mut line, fault.spot, &fault.what)?;
-    Ok(line)
+/// column are those of the word that the fault is about, in its own table, outside of comments and of other strings; of a missing word,
+/// those of its table; and of a text that is no TOML those at which that shows. `NoMemory` where room is refused.
+pub fn told(alloc: Global, text: &str, fault: &PlanFault) -> Result<Vec<u8>, NoMemory>
+    ensures { IfOk result (λ v. IsLine v.items) }
+{
+    let mut words = Vec::new(alloc);
+    put(&mut words, "plan ")?;
+    match &fault.what {
+        What::Text => put_no_toml(alloc, &mut words, text)?,
+        What::Refused(Refusal::Topology) => put_topology(alloc, &mut words, text)?,
+        _ => put_fault(alloc, &mut words, text, fault)?,
+    }
+    fault_line(alloc, words.as_slice())
 }
