@@ -1,10 +1,9 @@
 //! How a fault of a scenario is told in plain words: line, column, what is wrong, and what would be right.
 //!
-//! Its modules, in the order to read them: `tables`, `keys`, `wiring`, `words`, `telling`.
+//! Its modules, in the order to read them: `keys`, `wiring`, `words`, `telling`.
 #![tactic(auto)]
 
 mod keys;
-mod tables;
 mod telling;
 mod wiring;
 mod words;

@@ -1,20 +1,18 @@
 //! The line of a fault.
+ghost use Rattle.std.specs.Prelude.{IfOk};
+ghost use Rattle.hsr_plan_fault.specs.Line.{IsLine};
+
 use crate::keys::{keys_at, other_key, table_of};
-use crate::tables::table_at;
 use crate::wiring::spot_of;
 use crate::words::{values_of, words_of};
 use hsr_frame::NoMemory;
-use hsr_plan_fault::{Position, position_of, whole_word};
+use hsr_plan_fault::{
+    Source, bare, fault_line, key_in, put, put_no_toml, put_place, table_at, top_key,
+};
 use hsr_scenario::{Key, ScenarioFault, Spot, What};
 use hsr_text::put_decimal;
 use std::alloc::Global;
 use toml::Table;
-
-/// Puts words last.
-fn put(line: &mut Vec<u8>, words: &str) -> Result<(), NoMemory> {
-    line.extend_from_slice(words.as_bytes())?;
-    Ok(())
-}
 
 // ---- where it is
 
@@ -27,12 +25,12 @@ fn spot_in(document: &Table, fault: &ScenarioFault) -> Spot {
 }
 
 /// Where the table at a place begins.
-fn start_of(text: &[u8], spot: Spot) -> usize {
+fn start_of(source: Source<'_>, spot: Spot) -> usize {
     match spot {
         Spot::Top => 0,
-        Spot::Node(number) => table_at(text, "node", number),
-        Spot::Link(number) => table_at(text, "link", number),
-        Spot::Step(number) => table_at(text, "step", number),
+        Spot::Node(number) => table_at(source, b"node", number).unwrap_or(0),
+        Spot::Link(number) => table_at(source, b"link", number).unwrap_or(0),
+        Spot::Step(number) => table_at(source, b"step", number).unwrap_or(0),
     }
 }
 
@@ -61,12 +59,24 @@ fn word_of<'a>(table: &'a Table, spot: Spot, what: &What) -> &'a str {
     }
 }
 
-/// The place of a word from the start of its table on, or else the start.
-fn place_of(text: &[u8], start: usize, word: &str) -> usize {
+/// The place of a word of the table that begins at a place, if there is one.
+fn word_in(source: Source<'_>, spot: Spot, start: usize, word: &str) -> Option<usize> {
     if word.is_empty() {
-        return start;
+        return None;
     }
-    whole_word(text, word.as_bytes(), start).unwrap_or(start)
+    match spot {
+        Spot::Top => top_key(source, word.as_bytes()),
+        Spot::Node(_) | Spot::Link(_) | Spot::Step(_) => key_in(source, word.as_bytes(), start),
+    }
+}
+
+/// The place of a word of a table, or else the start of that.
+fn place_of(source: Source<'_>, spot: Spot, word: &str) -> usize {
+    let start = start_of(source, spot);
+    match word_in(source, spot, start, word) {
+        Some(at) => at,
+        None => start,
+    }
 }
 
 // ---- what is wrong
@@ -87,7 +97,7 @@ fn put_spot(line: &mut Vec<u8>, name: &str, number: usize) -> Result<(), NoMemor
 }
 
 /// Puts where a fault is last, as a scenario counts it.
-fn put_place(line: &mut Vec<u8>, spot: Spot) -> Result<(), NoMemory> {
+fn put_spots(line: &mut Vec<u8>, spot: Spot) -> Result<(), NoMemory> {
     match spot {
         Spot::Top => Ok(()),
         Spot::Node(number) => put_spot(line, "node ", number),
@@ -105,7 +115,7 @@ fn put_what(
     word: &str,
 ) -> Result<(), NoMemory> {
     match what {
-        What::Text => put(line, "no TOML, or over 16 MiB"),
+        What::Text => put(line, "no TOML"),
         What::Missing(key) => put_values(line, "missing word ", *key),
         What::Unknown => {
             put(line, "unknown word ")?;
@@ -131,54 +141,52 @@ fn put_what(
     }
 }
 
-/// Puts the start of a line last.
-fn put_position(line: &mut Vec<u8>, position: Position) -> Result<(), NoMemory> {
-    put(line, "fault: scenario ")?;
-    put_decimal(line, position.line as u64)?;
-    put(line, ":")?;
-    put_decimal(line, position.column as u64)?;
-    put(line, " ")
-}
-
-/// Puts the line of a fault of a document last.
-fn put_told(
+/// Puts where the fault of a document is and what it is last.
+fn put_fault(
     line: &mut Vec<u8>,
-    text: &[u8],
+    source: Source<'_>,
     document: &Table,
     fault: &ScenarioFault,
 ) -> Result<(), NoMemory> {
     let spot = spot_in(document, fault);
     let table = table_of(document, spot).unwrap_or(document);
     let word = word_of(table, spot, &fault.what);
-    let at = place_of(text, start_of(text, spot), word);
-    put_position(line, position_of(text, at.min(text.len())))?;
-    put_place(line, spot)?;
+    put_place(line, source.text, place_of(source, spot, word))?;
+    put_spots(line, spot)?;
     put_what(line, table, spot, &fault.what, word)
 }
 
-/// Puts the line of a text that is no TOML last.
-fn put_no_toml(line: &mut Vec<u8>, text: &[u8], at: usize) -> Result<(), NoMemory> {
-    put_position(line, position_of(text, at.min(text.len())))?;
-    put(line, "no TOML, or over 16 MiB")
+/// Puts where the fault of a text is and what it is last.
+fn put_told(
+    alloc: Global,
+    line: &mut Vec<u8>,
+    text: &str,
+    fault: &ScenarioFault,
+) -> Result<(), NoMemory> {
+    let bare = bare(alloc, text.as_bytes())?;
+    let source = Source {
+        text: text.as_bytes(),
+        bare: bare.as_slice(),
+    };
+    match toml::table_from_str(alloc, text) {
+        Ok(document) => put_fault(line, source, &document, fault),
+        // it was read before
+        Err(_) => Err(NoMemory),
+    }
 }
 
 /// The line of a fault of a text, as `fault: scenario 12:5 step 3: unknown word too: a send has do, node, to, ..`, without a line feed. Line
-/// and column are those of the word that the fault is about, in its own table; of a missing word, and of a node or link that no topology
-/// has, those of its table; and of a text that is no TOML those at which that shows. `NoMemory` where room is refused.
-pub fn told(alloc: Global, text: &str, fault: &ScenarioFault) -> Result<Vec<u8>, NoMemory> {
-    let mut line = Vec::new(alloc);
-    match toml::table_from_str(alloc, text) {
-        Ok(document) => put_told(&mut line, text.as_bytes(), &document, fault)?,
-        Err(error) => {
-            if error.is_memory() {
-                return Err(NoMemory);
-            }
-            let at = match error.span() {
-                Some(span) => span.start,
-                None => 0,
-            };
-            put_no_toml(&mut line, text.as_bytes(), at)?;
-        }
+/// and column are those of the word that the fault is about, in its own table, outside of comments and strings; of a missing word, and of a
+/// node or link that no topology has, those of its table; and of a text that is no TOML those at which that shows. `NoMemory` where room is
+/// refused.
+pub fn told(alloc: Global, text: &str, fault: &ScenarioFault) -> Result<Vec<u8>, NoMemory>
+    ensures { IfOk result (λ v. IsLine v.items) }
+{
+    let mut words = Vec::new(alloc);
+    put(&mut words, "scenario ")?;
+    match fault.what {
+        What::Text => put_no_toml(alloc, &mut words, text)?,
+        _ => put_told(alloc, &mut words, text, fault)?,
     }
-    Ok(line)
+    fault_line(alloc, words.as_slice())
 }
