@@ -1,15 +1,15 @@
 -- Each of a list passes, or the first fault.
-use Rattle.std.proofs.Common.{◌≡◌, ℕ, ◌+◌, ◌<◌, ◌∙◌, length, get_or, drop, List, [], ◌∷◌, Result, Ok, not, ap, sym, subst}
+use Rattle.std.proofs.Common.{◌≡◌, ℕ, ◌+◌, ◌<◌, ◌∙◌, ◌++◌, length, get_or, drop, List, [], ◌∷◌, Result, Ok, not, ap, sym, subst, append_assoc}
 use Rattle.std.specs.Prelude.{⊤}
 use Rattle.std.proofs.lemmas.List.{drop_more}
 use Rattle.hsr_plan_text.proofs.Lists.{stays}
 use Rattle.hsr_plan_text.specs.Fallible.{◌>>=◌, Fails}
 use Rattle.hsr_plan_text.specs.Plan.{Behind, Network}
 use Rattle.hsr_plan_text.specs.declared.fault.What.{What}
-use Rattle.hsr_plan_text.specs.declared.fault.Refusal.TheVariants.{NameTwice}
+use Rattle.hsr_plan_text.specs.declared.fault.Refusal.TheVariants.{NameTwice, Topology as NoTopology}
 use Rattle.hsr_plan_text.specs.declared.plan.Addressed.{Addressed}
 use Rattle.hsr_plan_text.specs.declared.plan.InMode.{InMode}
-use Rattle.hsr_plan_network.specs.Checks.{address_passes, each_once, each_passes, in_two, is_new, mode_passes, redbox_passes, ring_passes, unless_held}
+use Rattle.hsr_plan_network.specs.Checks.{address_passes, each_once, each_passes, has_mac, in_two, is_new, mode_passes, own_addresses, redbox_passes, ring_passes, stations_of, unless_held}
 use Rattle.hsr_plan_network.specs.Names.{is_in}
 
 module _ {A : Type 0} (check : A → Result ⊤ What) where
@@ -91,3 +91,21 @@ modes_step rings = step (mode_passes rings)
 pub modes_fails : (rings : List (List (List ℕ))) (xs : List InMode) (i : ℕ) (d : InMode) (what : What) (whole : Result ⊤ What) → i < length xs
     → each_passes (mode_passes rings) (drop i xs) ≡ whole → Fails what (mode_passes rings (get_or xs i d)) → Fails what whole
 modes_fails rings = fails (mode_passes rings)
+
+-- ---- stations
+
+pub stations_step : (seen : List (List ℕ)) (xs : List Behind) (i : ℕ) (d : Behind) → i < length xs
+    → seen ++ stations_of (drop i xs) ≡ (seen ++ (get_or xs i d).stations) ++ stations_of (drop (i + 1) xs)
+stations_step seen xs i d h =
+    ap (λ bs. seen ++ stations_of bs) (drop_more xs i d h) ∙ sym (append_assoc seen (get_or xs i d).stations (stations_of (drop (i + 1) xs)))
+
+-- ---- addresses that stand once
+
+pub own_step : (xs : List Addressed) (i : ℕ) (d : Addressed) (u : ⊤) → i < length xs
+    → unless_held (not (has_mac (get_or xs i d).mac (drop (i + 1) xs))) NoTopology ≡ Ok u → own_addresses (drop i xs) ≡ own_addresses (drop (i + 1) xs)
+own_step xs i d u h e = ap own_addresses (drop_more xs i d h) ∙ ap (λ r. r >>= λ _. own_addresses (drop (i + 1) xs)) e
+
+pub own_fails : (xs : List Addressed) (i : ℕ) (d : Addressed) (what : What) (whole : Result ⊤ What) → i < length xs
+    → own_addresses (drop i xs) ≡ whole → Fails what (unless_held (not (has_mac (get_or xs i d).mac (drop (i + 1) xs))) NoTopology) → Fails what whole
+own_fails xs i d what whole h same f =
+    subst (Fails what) (sym (ap own_addresses (drop_more xs i d h)) ∙ same) (stays what (unless_held (not (has_mac (get_or xs i d).mac (drop (i + 1) xs))) NoTopology) (λ _. own_addresses (drop (i + 1) xs)) f)

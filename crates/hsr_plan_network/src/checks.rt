@@ -1,13 +1,19 @@
 //! What names a plan may not have.
-ghost use Rattle.std.specs.Prelude.{◌≡◌};
-ghost use Rattle.hsr_plan_text.specs.Fallible.{Gives};
+ghost use Rattle.std.specs.Prelude.{◌≡◌, ◌++◌, codes, length, nat_le, IfOk, OnOk};
+ghost use Rattle.hsr_plan_text.specs.Fallible.{Gives, guard};
 ghost use Rattle.hsr_plan_text.specs.declared.fault.Key.TheVariants as key;
 ghost use Rattle.hsr_plan_text.specs.declared.fault.Refusal.TheVariants as why;
-ghost use Rattle.hsr_plan_network.specs.Checks.{address_passes, each_once, each_passes, in_one, in_two, is_new, is_station, mode_passes, passes, redbox_passes, ring_passes, some_sixteen, unless_held};
+ghost use Rattle.hsr_plan_text.specs.declared.fault.What.TheVariants.{BadValue};
+ghost use Rattle.hsr_plan_network.specs.Checks.{address_passes, each_once, each_passes, has_mac, in_one, in_two, is_new, is_station, mode_passes, own_addresses, passes, redbox_passes, ring_passes, some_sixteen, stations_of, unless_held};
 
 use crate::names::{is_in, times_met};
+use crate::nodes::station_name;
+use hsr_frame::{Mac, NoMemory};
 use hsr_plan_text::{Addressed, Behind, InMode, Key, Network, Refusal, Ring, What, Word};
 use std::alloc::Global;
+
+/// The most octets of a RedBox's name, so that its Station's has 32.
+const BOX_NAME_LIMIT: usize = 27;
 
 /// Refuses a name that stands twice, unless it doesn't.
 fn once(alloc: Global, is_once: bool, name: &[u8]) -> Result<(), What>
@@ -29,6 +35,17 @@ fn there(alloc: Global, is_there: bool, name: &[u8]) -> Result<(), What>
     }
     let name = Word::of(alloc, name)?;
     Err(What::Refused(Refusal::NoSuchName(name)))
+}
+
+/// Refuses nodes that are no topology, unless they may be one.
+fn fit(is_fit: bool) -> Result<(), What>
+    ensures { Gives (λ u. u) result (unless_held is_fit why.Topology) }
+{
+    if is_fit {
+        Ok(())
+    } else {
+        Err(What::Refused(Refusal::Topology))
+    }
 }
 
 /// Refuses names of which one stands again further on.
@@ -71,12 +88,13 @@ fn each_in_two(alloc: Global, rings: &[Ring], names: &[Word]) -> Result<(), What
     Ok(())
 }
 
-/// Refuses a ring that has a name twice, or one that is in more than two rings.
+/// Refuses a ring that has a name twice, fewer than two names, or one that is in more than two rings.
 #[tactic(auto, unfolding(crate::specs::Checks::ring_passes))]
 fn check_ring(alloc: Global, rings: &[Ring], ring: &Ring) -> Result<(), What>
     ensures { Gives (λ u. u) result (ring_passes rings.now ring.now) }
 {
     each_once(alloc, ring.nodes.as_slice())?;
+    fit(ring.nodes.len() >= 2)?;
     each_in_two(alloc, rings, ring.nodes.as_slice())
 }
 
@@ -137,15 +155,35 @@ fn some_sixteen(names: &[Word]) -> Result<(), What>
     }
 }
 
-/// Refuses a RedBox that isn't in one ring, or hasn't 1 to 16 stations of new names.
+/// Refuses a RedBox whose Station's name would be too long.
+fn short(redbox: &Word) -> Result<(), What>
+    ensures { Gives (λ u. u) result (guard (nat_le (length redbox.now) 27) (BadValue key.RedBox)) }
+{
+    if redbox.as_bytes().len() <= BOX_NAME_LIMIT {
+        Ok(())
+    } else {
+        Err(What::BadValue(Key::RedBox))
+    }
+}
+
+/// Refuses a RedBox whose Station would have a name of a ring.
+fn new_station(alloc: Global, rings: &[Ring], redbox: &Word) -> Result<(), What>
+    ensures { Gives (λ u. u) result (is_new rings.now (redbox.now ++ codes "-sans")) }
+{
+    let station = station_name(alloc, redbox.as_bytes())?;
+    is_new(alloc, rings, &station)
+}
+
+/// Refuses a RedBox that isn't in one ring, whose Station has no new name, or that hasn't 1 to 16 stations of new names.
 #[tactic(auto, unfolding(crate::specs::Checks::redbox_passes))]
 fn check_redbox(alloc: Global, rings: &[Ring], redbox: &Behind) -> Result<(), What>
     ensures { Gives (λ u. u) result (redbox_passes rings.now redbox.now) }
 {
     let name = redbox.redbox.as_bytes();
     there(alloc, in_one(rings, name), name)?;
+    short(&redbox.redbox)?;
+    new_station(alloc, rings, &redbox.redbox)?;
     some_sixteen(redbox.stations.as_slice())?;
-    each_once(alloc, redbox.stations.as_slice())?;
     each_new(alloc, rings, redbox.stations.as_slice())
 }
 
@@ -161,6 +199,36 @@ fn check_redboxes(alloc: Global, rings: &[Ring], redboxes: &[Behind]) -> Result<
         }
     }
     Ok(())
+}
+
+/// Puts names behind others.
+fn add_names(alloc: Global, names: &mut Vec<Word>, more: &[Word]) -> Result<(), NoMemory>
+    ensures { OnOk result (names.new.items ≡ names.old.items ++ more.now) }
+{
+    for name in more.iter() {
+        names.push(name.copy(alloc)?)?;
+    }
+    Ok(())
+}
+
+/// The stations behind all RedBoxes.
+#[tactic(auto, using(crate::proofs::Passing::stations_step))]
+fn stations_of(alloc: Global, redboxes: &[Behind]) -> Result<Vec<Word>, NoMemory>
+    ensures { IfOk result (λ v. v.items ≡ stations_of redboxes.now) }
+{
+    let mut stations = Vec::new(alloc);
+    for redbox in redboxes.iter() {
+        add_names(alloc, &mut stations, redbox.stations.as_slice())?;
+    }
+    Ok(stations)
+}
+
+/// Refuses stations of which two have one name, behind one RedBox or two.
+fn stations_once(alloc: Global, redboxes: &[Behind]) -> Result<(), What>
+    ensures { Gives (λ u. u) result (each_once (stations_of redboxes.now)) }
+{
+    let stations = stations_of(alloc, redboxes)?;
+    each_once(alloc, stations.as_slice())
 }
 
 /// Whether a name is a station's.
@@ -197,6 +265,24 @@ fn check_addresses(alloc: Global, network: &Network, addresses: &[Addressed]) ->
     Ok(())
 }
 
+/// Whether some of these has an address.
+fn has_mac(addresses: &[Addressed], mac: Mac) -> bool
+    ensures { result ≡ has_mac mac addresses.now }
+{
+    addresses.iter().any(|address| address.mac == mac)
+}
+
+/// Refuses addresses of which one stands again further on.
+#[tactic(auto, using(crate::proofs::Passing::own_step, crate::proofs::Passing::own_fails))]
+fn own_addresses(addresses: &[Addressed]) -> Result<(), What>
+    ensures { Gives (λ u. u) result (own_addresses addresses.now) }
+{
+    for (i, address) in addresses.iter().enumerate() {
+        fit(!has_mac(&addresses[i + 1..], address.mac))?;
+    }
+    Ok(())
+}
+
 /// Refuses a mode of what isn't a node in one ring.
 #[tactic(auto, unfolding(crate::specs::Checks::mode_passes))]
 fn check_mode(alloc: Global, rings: &[Ring], mode: &InMode) -> Result<(), What>
@@ -220,7 +306,7 @@ fn check_modes(alloc: Global, rings: &[Ring], modes: &[InMode]) -> Result<(), Wh
     Ok(())
 }
 
-/// Refuses a network of which something is refused: rings, RedBoxes, addresses, then modes.
+/// Refuses a network of which something is refused: rings, RedBoxes, stations, addresses, then modes.
 #[tactic(auto, unfolding(crate::specs::Checks::passes))]
 pub(crate) fn check(alloc: Global, network: &Network) -> Result<(), What>
     ensures { Gives (λ u. u) result (passes network.now) }
@@ -228,6 +314,8 @@ pub(crate) fn check(alloc: Global, network: &Network) -> Result<(), What>
     let rings = network.rings.as_slice();
     check_rings(alloc, rings)?;
     check_redboxes(alloc, rings, network.redboxes.as_slice())?;
+    stations_once(alloc, network.redboxes.as_slice())?;
     check_addresses(alloc, network, network.addresses.as_slice())?;
+    own_addresses(network.addresses.as_slice())?;
     check_modes(alloc, rings, network.modes.as_slice())
 }

@@ -50,7 +50,7 @@ fn copies(alloc: Global, names: &[Word]) -> Result<Vec<Word>, NoMemory>
 }
 
 /// The name of the Station behind a RedBox.
-fn station_name(alloc: Global, redbox: &[u8]) -> Result<Word, NoMemory>
+pub(crate) fn station_name(alloc: Global, redbox: &[u8]) -> Result<Word, NoMemory>
     ensures { IfOk result (λ n. n ≡ redbox.now ++ codes "-sans") }
 {
     let mut name = Vec::new(alloc);
