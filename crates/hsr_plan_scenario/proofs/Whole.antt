@@ -1,7 +1,7 @@
 -- A plan or a scenario that is read whole, or up to a front that is too long.
-use Rattle.std.proofs.Common.{◌≡◌, ℕ, Bool, ◌^◌, ◌<◌, true, false, nat_le, length, List, Option, inl, inr, sym, subst, arith}
+use Rattle.std.proofs.Common.{◌≡◌, ℕ, ◌^◌, ◌<◌, false, nat_le, length, List, Option, inl, inr, sym, subst, arith}
 use Rattle.std.proofs.lemmas.Bool.Decides.{nat_tests}
-use Rattle.hsr_plan_scenario.specs.Ends.{Ends}
+use Rattle.hsr_plan_scenario.specs.Ends.{Checks, Ends}
 use Rattle.hsr_plan_scenario.specs.Input.{IsWhole}
 use Rattle.hsr_plan_scenario.specs.Says.{IsScenario, SaysPlan}
 use Rattle.hsr_plan_scenario.specs.declared.planning.Ending.{Ending}
@@ -12,12 +12,12 @@ too_long : (capacity : ℕ) (front text : List ℕ) → 2 ^ 24 < length front �
 too_long capacity front text h says = let e : nat_le (length front) (2 ^ 24) ≡ false = grind (arith, nat_tests) in rw e at says
 
 -- what is told of what was read is told of all
-pub ends_whole : (capacity : ℕ) (all front : List ℕ) (held holds : Option (List ℕ)) (ending : Ending) → IsWhole (2 ^ 24) all front
-    → Ends capacity front held holds ending → Ends capacity all held holds ending
-ends_whole capacity all front held holds Planned (inl same) (text, says, appends) = (text, subst (λ t. SaysPlan capacity t text) (sym same) says, appends)
-ends_whole capacity all front held holds Planned (inr long) (text, says, appends) = absurd (too_long capacity front text long.0 says)
-ends_whole capacity all front held holds Refused whole ends = ends
-ends_whole capacity all front held holds Unwritten whole ends = tt
+pub ends_whole : (capacity : ℕ) (all front : List ℕ) (held holds told tells : Option (List ℕ)) (ending : Ending) → IsWhole (2 ^ 24) all front
+    → Ends capacity front held holds told tells ending → Ends capacity all held holds told tells ending
+ends_whole capacity all front held holds told tells Planned (inl same) (text, says, written, kept) = (text, subst (λ t. SaysPlan capacity t text) (sym same) says, written, kept)
+ends_whole capacity all front held holds told tells Planned (inr long) (text, says, written, kept) = absurd (too_long capacity front text long.0 says)
+ends_whole capacity all front held holds told tells Refused whole ends = ends
+ends_whole capacity all front held holds told tells Unwritten whole ends = ends
 
 -- a text over 16 MiB is no scenario
 no_scenario : (front : List ℕ) → 2 ^ 24 < length front → IsScenario front → ⊥
@@ -26,6 +26,9 @@ no_scenario front h (m, is) =
     let clash = rw e at is in
     absurd cc
 
-pub scenario_whole : (all front : List ℕ) (answer : Bool) → IsWhole (2 ^ 24) all front → (answer ≡ true → IsScenario front) → answer ≡ true → IsScenario all
-scenario_whole all front answer (inl same) says is_so = subst IsScenario (sym same) (says is_so)
-scenario_whole all front answer (inr long) says is_so = absurd (no_scenario front long.0 (says is_so))
+pub scenario_whole : (all front : List ℕ) (told tells : Option (List ℕ)) (ending : Ending) → IsWhole (2 ^ 24) all front
+    → Checks front told tells ending → Checks all told tells ending
+scenario_whole all front told tells Planned (inl same) (is, kept) = (subst IsScenario (sym same) is, kept)
+scenario_whole all front told tells Planned (inr long) (is, kept) = absurd (no_scenario front long.0 is)
+scenario_whole all front told tells Refused whole checks = checks
+scenario_whole all front told tells Unwritten whole checks = elim checks [ ]

@@ -1,14 +1,15 @@
 //! Whether a text is a scenario, over a reader and a writer.
-ghost use Rattle.std.specs.Prelude.{◌≡◌, IfSome, IsTrue, OnOk};
+ghost use Rattle.std.specs.Prelude.{◌≡◌, IfOk, IfSome, OnOk};
+ghost use Rattle.hsr_plan_scenario.specs.Ends.{Checks};
 ghost use Rattle.hsr_plan_scenario.specs.Says.{IsScenario};
 
 use crate::input::{InputFault, read_text};
-use crate::planning::{Line, complain, words};
+use crate::planning::{Ending, Line, complain, words};
 use hsr_frame::NoMemory;
 use hsr_scenario::{TEXT_LIMIT, What, read};
 use hsr_scenario_fault::told;
 use std::alloc::Global;
-use std::io::{Read, Write};
+use std::io::{self, Read, Write};
 
 /// Judges octets: nothing where they are a scenario, or the line of what is wrong.
 fn judged(alloc: Global, octets: &[u8]) -> Result<(), Line>
@@ -26,34 +27,31 @@ fn judged(alloc: Global, octets: &[u8]) -> Result<(), Line>
     }
 }
 
-/// Whether octets are a scenario; where they aren't, the line of what is wrong is written.
-fn is_right<E: Write>(alloc: Global, octets: &[u8], errors: &mut E) -> bool
-    ensures { IsTrue result → IsScenario octets.now }
+/// Judges octets; where they are no scenario, the line of what is wrong is written.
+fn answer<E: Write>(alloc: Global, octets: &[u8], errors: &mut E) -> io::Result<Ending>
+    ensures { IfOk result (Checks octets.now (E.contents errors.old) (E.contents errors.new)) }
 {
     match judged(alloc, octets) {
-        Ok(()) => true,
-        Err(line) => {
-            let _ending = complain(errors, line);
-            false
-        }
+        Ok(()) => Ok(Ending::Planned),
+        Err(line) => complain(alloc, errors, line),
     }
 }
 
 /// Reads a scenario, and tells whether it is one: a text that `hsr_scenario::read` reads. Where it isn't, one line on `errors` says why:
-/// `fault: scenario <line>:<column>` and what would be right, `fault: read`, or `fault: memory`. A scenario has at most 16 MiB.
+/// `fault: scenario <line>:<column>` and what would be right, `fault: read`, or `fault: memory`. A scenario has at most 16 MiB. The error
+/// of `errors`, where that line can't be written there.
 #[tactic(auto, using(crate::proofs::Whole::scenario_whole))]
-pub fn check_run<R: Read, E: Write>(alloc: Global, reader: &mut R, errors: &mut E) -> bool
-    ensures { IfSome (R.remaining reader.old) (λ octets. IsTrue result → IsScenario octets) }
+pub fn check_run<R: Read, E: Write>(
+    alloc: Global,
+    reader: &mut R,
+    errors: &mut E,
+) -> io::Result<Ending>
+    ensures { IfOk result (λ ending. IfSome (R.remaining reader.old) (λ octets.
+        Checks octets (E.contents errors.old) (E.contents errors.new) ending)) }
 {
     match read_text(alloc, reader, TEXT_LIMIT) {
-        Ok(octets) => is_right(alloc, octets.as_slice(), errors),
-        Err(InputFault::Read) => {
-            let _ending = complain(errors, words(alloc, "fault: read"));
-            false
-        }
-        Err(InputFault::Memory) => {
-            let _ending = complain(errors, Err(NoMemory));
-            false
-        }
+        Ok(octets) => answer(alloc, octets.as_slice(), errors),
+        Err(InputFault::Read) => complain(alloc, errors, words(alloc, "fault: read")),
+        Err(InputFault::Memory) => complain(alloc, errors, Err(NoMemory)),
     }
 }

@@ -1,6 +1,8 @@
 //! The whole way from a plan's text to its scenario's, over a reader and two writers.
-ghost use Rattle.std.specs.Prelude.{◌≡◌, ◌≤◌, IfOk, IfSome};
-ghost use Rattle.hsr_plan_scenario.specs.Ends.{Ends, IsDelivered, code_of};
+ghost use Rattle.std.specs.Prelude.{◌≡◌, ◌≤◌, ◌&&◌, ◌==◌, ◌++◌, IfOk, IfSome, OnOk, codes, nat_le, not, true};
+ghost use Rattle.std.specs.Io.KnownBytes.{Appends};
+ghost use Rattle.hsr_plan_text.specs.Words.{is_title};
+ghost use Rattle.hsr_plan_scenario.specs.Ends.{Ends, IsDelivered, TellsFault, code_of};
 ghost use Rattle.hsr_plan_scenario.specs.Says.{SaysPlan};
 ghost use Rattle.hsr_plan_scenario.specs.declared.planning.Ending.TheVariants.{Refused};
 
@@ -11,12 +13,12 @@ use hsr_plan_fault::told;
 use hsr_plan_text::{PlanFault, TEXT_LIMIT, What};
 use hsr_text::put_decimal;
 use std::alloc::Global;
-use std::io::{Read, Write};
+use std::io::{self, Read, Write};
 
 /// How it ended.
 #[derive(Clone, Copy, Debug, PartialEq, Eq)]
 pub enum Ending {
-    /// The scenario was written.
+    /// The scenario was written, or is right.
     Planned,
     /// There is none; a line on the second writer says why, and nothing else was written.
     Refused,
@@ -100,16 +102,59 @@ fn scenario_of<const C: usize>(alloc: Global, octets: &[u8]) -> Result<Vec<u8>, 
     }
 }
 
-/// Writes the line of what is wrong. Whether that is written is not told: there is nothing to be done where it isn't.
-pub fn complain<E: Write>(errors: &mut E, line: Line) -> Ending
-    ensures { result ≡ Refused }
+/// An octet, or a question mark in place of a control character.
+fn shown(octet: u8) -> u8
+    ensures { (nat_le 32 result && not (result == 127)) ≡ true }
 {
-    let _written = match line {
-        Ok(line) => errors.write_all(line.as_slice()).is_ok() && errors.write_all(b"\n").is_ok(),
-        Err(_) => errors.write_all(b"fault: memory\n").is_ok(),
-    };
-    let _left = errors.flush().is_ok();
-    Ending::Refused
+    if octet < 32 || octet == 127 {
+        b'?'
+    } else {
+        octet
+    }
+}
+
+/// Why something is wrong, without control characters: a name in a plan or in a scenario may have them.
+fn reason(alloc: Global, line: Line) -> Line
+    ensures { IfOk result (λ why. is_title why.items ≡ true) }
+{
+    let line = line?;
+    let octets = line.as_slice();
+    let mut why = Vec::new(alloc);
+    for octet in octets.strip_prefix(b"fault: ").unwrap_or(octets).iter() {
+        why.push(shown(*octet))?;
+    }
+    Ok(why)
+}
+
+/// Writes a fault's line.
+fn tell<E: Write>(errors: &mut E, why: &[u8]) -> io::Result<()>
+    ensures { OnOk result (Appends (E.contents errors.old) (E.contents errors.new) (codes "fault: " ++ why.now ++ codes "\n")) }
+{
+    errors.write_all(b"fault: ")?;
+    errors.write_all(why)?;
+    errors.write_all(b"\n")?;
+    errors.flush()
+}
+
+/// Writes a fault's line, after which nothing is written.
+fn refuse<E: Write>(errors: &mut E, why: &[u8]) -> io::Result<Ending>
+    requires { is_title why.now ≡ true }
+    ensures is { IfOk result (λ ending. ending ≡ Refused) }
+    ensures told { OnOk result (TellsFault (E.contents errors.old) (E.contents errors.new)) }
+{
+    tell(errors, why)?;
+    Ok(Ending::Refused)
+}
+
+/// Writes the line of what is wrong. The error of `errors`, where it can't be written there.
+pub fn complain<E: Write>(alloc: Global, errors: &mut E, line: Line) -> io::Result<Ending>
+    ensures is { IfOk result (λ ending. ending ≡ Refused) }
+    ensures told { OnOk result (TellsFault (E.contents errors.old) (E.contents errors.new)) }
+{
+    match reason(alloc, line) {
+        Ok(why) => refuse(errors, why.as_slice()),
+        Err(_) => refuse(errors, b"memory"),
+    }
 }
 
 /// Writes a scenario.
@@ -128,32 +173,35 @@ fn answer<W: Write, E: Write, const C: usize>(
     octets: &[u8],
     writer: &mut W,
     errors: &mut E,
-) -> Ending
+) -> io::Result<Ending>
     requires { (1 ≤ C) × (C ≤ 65535) }
-    ensures { Ends C octets.now (W.contents writer.old) (W.contents writer.new) result }
+    ensures { IfOk result (Ends C octets.now (W.contents writer.old) (W.contents writer.new) (E.contents errors.old) (E.contents errors.new)) }
 {
     match scenario_of::<C>(alloc, octets) {
-        Ok(text) => deliver(writer, text.as_slice()),
-        Err(line) => complain(errors, line),
+        Ok(text) => Ok(deliver(writer, text.as_slice())),
+        Err(line) => complain(alloc, errors, line),
     }
 }
 
 /// Reads a plan, and writes the scenario that it means: a text that `hsr_scenario::read` reads as the topology, the capacity and the
-/// orders that the definition of the plan's meaning lists, for a run with tables of `C` entries. Where there is none, nothing is written but one line on `errors`:
-/// `fault: plan <line>:<column>` and what is wrong, `fault: read`, or `fault: memory`. The plan and the scenario have at most 16 MiB.
+/// orders that the definition of the plan's meaning lists, for a run with tables of `C` entries, with the plan's names and its title as
+/// its first comment. Where there is none, nothing is written but one line on `errors`: `fault: plan <line>:<column>` and what is wrong,
+/// `fault: read`, or `fault: memory`. The plan and the scenario have at most 16 MiB. The error of `errors`, where that line can't be
+/// written there.
 #[tactic(auto, using(crate::proofs::Whole::ends_whole))]
 pub fn plan_run<R: Read, W: Write, E: Write, const C: usize>(
     alloc: Global,
     reader: &mut R,
     writer: &mut W,
     errors: &mut E,
-) -> Ending
+) -> io::Result<Ending>
     requires { (1 ≤ C) × (C ≤ 65535) }
-    ensures { IfSome (R.remaining reader.old) (λ octets. Ends C octets (W.contents writer.old) (W.contents writer.new) result) }
+    ensures { IfOk result (λ ending. IfSome (R.remaining reader.old) (λ octets.
+        Ends C octets (W.contents writer.old) (W.contents writer.new) (E.contents errors.old) (E.contents errors.new) ending)) }
 {
     match read_text(alloc, reader, TEXT_LIMIT) {
         Ok(octets) => answer::<W, E, C>(alloc, octets.as_slice(), writer, errors),
-        Err(InputFault::Read) => complain(errors, words(alloc, "fault: read")),
-        Err(InputFault::Memory) => complain(errors, Err(NoMemory)),
+        Err(InputFault::Read) => complain(alloc, errors, words(alloc, "fault: read")),
+        Err(InputFault::Memory) => complain(alloc, errors, Err(NoMemory)),
     }
 }

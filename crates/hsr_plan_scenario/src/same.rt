@@ -1,12 +1,14 @@
 //! Whether a scenario is what a plan means.
-ghost use Rattle.std.specs.Prelude.{◌≡◌, ◌↔◌, IsTrue};
+ghost use Rattle.std.specs.Prelude.{◌≡◌, ◌↔◌, ◌++◌, IfSome, IsTrue, codes, map, option_map, string_bytes};
 ghost use Rattle.hsr_scenario.specs.Meaning.{scenario_view};
-ghost use Rattle.hsr_plan_scenario.specs.Says.{scenario_meant};
+ghost use Rattle.hsr_scenario.specs.Names.{names_view};
+ghost use Rattle.hsr_plan_scenario.specs.Says.{IsTitled, names_meant_by, scenario_meant};
 
 use hsr_frame::Mac;
 use hsr_node::Place;
 use hsr_plan_meaning::Meaning;
-use hsr_scenario::{Order, Scenario};
+use hsr_plan_network::Node;
+use hsr_scenario::{Names, Order, Scenario};
 use hsr_topology::{End, Topology};
 
 fn are_same_macs(a: &[Mac], b: &[Mac]) -> bool
@@ -126,4 +128,56 @@ pub(crate) fn is_meant(scenario: &Scenario, meaning: &Meaning) -> bool
     scenario.capacity == meaning.capacity
         && is_same_topology(&scenario.topology, &meaning.topology)
         && are_same_orders(scenario.steps.as_slice(), meaning.orders.as_slice())
+}
+
+/// Whether names are those of nodes, one by one.
+#[tactic(auto, using(crate::proofs::Names::names_step))]
+fn are_same_names(names: &[Vec<u8>], nodes: &[Node]) -> bool
+    ensures { IsTrue result → map (λ name. name.items) names.now ≡ map (λ node. node.name) nodes.now }
+{
+    let mut left = nodes;
+    for name in names.iter() {
+        let Some((node, more)) = left.split_first() else {
+            return false;
+        };
+        if name.as_slice() != node.name.as_bytes() {
+            return false;
+        }
+        left = more;
+    }
+    left.is_empty()
+}
+
+/// Whether the nodes have the names that a plan means.
+pub(crate) fn is_named(names: &Names, meaning: &Meaning) -> bool
+    ensures { IsTrue result → names_view names.now ≡ names_meant_by meaning.now }
+{
+    is_same_topology(&names.topology, &meaning.topology)
+        && are_same_names(names.names.as_slice(), meaning.nodes.as_slice())
+}
+
+/// What stands behind a front.
+fn behind<'a>(text: &'a [u8], front: &[u8]) -> Option<&'a [u8]>
+    ensures { IfSome result (λ rest. text.entry.now ≡ front.now ++ rest.now) }
+{
+    text.strip_prefix(front)
+}
+
+/// What stands behind a first comment that is a title.
+fn behind_title<'a>(text: &'a [u8], title: &str) -> Option<&'a [u8]>
+    ensures { IfSome result (λ rest. text.entry.now ≡ codes "# " ++ title.now ++ codes "\n" ++ rest.now) }
+{
+    let words = behind(text, b"# ")?;
+    let end = behind(words, title.as_bytes())?;
+    behind(end, b"\n")
+}
+
+/// Whether a text begins with a title as a comment, if there is one.
+pub(crate) fn is_titled(text: &[u8], title: &Option<String>) -> bool
+    ensures { IsTrue result → IsTitled (option_map string_bytes title.now) text.now }
+{
+    match title {
+        Some(title) => behind_title(text, title.as_str()).is_some(),
+        None => true,
+    }
 }

@@ -307,11 +307,22 @@ fn put_links(text: &mut Vec<u8>, nodes: &[Node], links: &[[End; 2]]) -> Result<(
 
 /// Puts the lines of all orders last.
 fn put_orders(text: &mut Vec<u8>, nodes: &[Node], orders: &[Order]) -> Result<(), NoMemory> {
-    put(text, "step = [\n")?;
     for order in orders.iter() {
         put_order(text, nodes, order)?;
     }
-    put(text, "]\n")
+    Ok(())
+}
+
+/// How many octets the lines of all orders have. One of them is kept at a time.
+fn measured_orders(alloc: Global, nodes: &[Node], orders: &[Order]) -> Result<usize, NoMemory> {
+    let mut octets = 0usize;
+    let mut line = Vec::new(alloc);
+    for order in orders.iter() {
+        line.clear();
+        put_order(&mut line, nodes, order)?;
+        octets = octets.saturating_add(line.len());
+    }
+    Ok(octets)
 }
 
 /// Puts the title as a comment last, if there is one.
@@ -324,12 +335,11 @@ fn put_title(text: &mut Vec<u8>, title: &Option<String>) -> Result<(), NoMemory>
     Ok(())
 }
 
-/// The scenario's text: the title, the unit of moments, the capacity, then nodes, links and steps, one a line.
-pub(crate) fn spelled(
-    alloc: Global,
-    title: &Option<String>,
-    meaning: &Meaning,
-) -> Result<Vec<u8>, NoMemory> {
+/// What ends the list of steps.
+const END: &str = "]\n";
+
+/// What stands before the lines of steps: the title, the unit of moments, the capacity, then nodes and links, one a line.
+fn begun(alloc: Global, title: &Option<String>, meaning: &Meaning) -> Result<Vec<u8>, NoMemory> {
     let nodes = meaning.nodes.as_slice();
     let mut text = Vec::new(alloc);
     put_title(&mut text, title)?;
@@ -338,6 +348,35 @@ pub(crate) fn spelled(
     put(&mut text, "\n")?;
     put_nodes(&mut text, nodes)?;
     put_links(&mut text, nodes, meaning.topology.links())?;
-    put_orders(&mut text, nodes, meaning.orders.as_slice())?;
+    put(&mut text, "step = [\n")?;
+    Ok(text)
+}
+
+/// How many octets the scenario's text has. The text isn't formed for it.
+pub(crate) fn measured(
+    alloc: Global,
+    title: &Option<String>,
+    meaning: &Meaning,
+) -> Result<usize, NoMemory> {
+    let front = begun(alloc, title, meaning)?
+        .len()
+        .saturating_add(END.len());
+    let steps = measured_orders(alloc, meaning.nodes.as_slice(), meaning.orders.as_slice())?;
+    Ok(front.saturating_add(steps))
+}
+
+/// The scenario's text: what stands before its steps, and the steps, one a line.
+pub(crate) fn spelled(
+    alloc: Global,
+    title: &Option<String>,
+    meaning: &Meaning,
+) -> Result<Vec<u8>, NoMemory> {
+    let mut text = begun(alloc, title, meaning)?;
+    put_orders(
+        &mut text,
+        meaning.nodes.as_slice(),
+        meaning.orders.as_slice(),
+    )?;
+    put(&mut text, END)?;
     Ok(text)
 }

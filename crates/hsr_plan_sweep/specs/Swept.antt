@@ -1,8 +1,9 @@
 -- How the sweep of a text ends, and what it wrote.
-use Rattle.std.specs.Prelude.{◌≡◌, ℕ, List, Option, Ok}
+use Rattle.std.specs.Prelude.{◌≡◌, ℕ, Bool, false, List, Option, Ok}
 use Rattle.std.specs.Io.KnownBytes.{Appends, Keeps}
 use Rattle.hsr_plan_text.specs.Meaning.{plan_of}
 use Rattle.hsr_plan_text.specs.Plan.{Plan}
+use Rattle.hsr_plan_scenario.specs.Ends.{TellsFault}
 use Rattle.hsr_plan_scenario.specs.declared.planning.Ending.{Ending}
 use Rattle.hsr_plan_scenario.specs.declared.planning.Ending.TheVariants.{Planned, Refused, Unwritten}
 use Rattle.hsr_plan_sweep.specs.Lines.{sweep_text}
@@ -18,8 +19,13 @@ pub record TellsSweep (plan : Plan) (at : ℕ) (text : List ℕ) : Type 0 where
 abbrev pub IsSwept : List ℕ → ℕ → List ℕ → Type 0
 IsSwept octets at text = (plan : Plan) × (plan_of octets ≡ Ok plan) × TellsSweep plan at text
 
--- the lines of a sweep were written, or nothing; of a failed write no more is said
-abbrev pub SweepEnds : List ℕ → ℕ → Option (List ℕ) → Option (List ℕ) → Ending → Type 0
-SweepEnds octets at held holds Planned = (text : List ℕ) × IsSwept octets at text × Appends held holds text
-SweepEnds octets at held holds Refused = Keeps held holds
-SweepEnds octets at held holds Unwritten = Unit {0}
+-- what is said of a sweep that doesn't show how far it is
+abbrev pub IfHidden : Bool → Type 0 → Type 0
+IfHidden shown said = shown ≡ false → said
+
+-- the lines of a sweep were written, and nothing told; or nothing was written, and a fault told; of a failed write no more is said than
+-- that nothing was told. What is told of a sweep that shows how far it is stays open.
+abbrev pub SweepEnds : List ℕ → ℕ → Bool → Option (List ℕ) → Option (List ℕ) → Option (List ℕ) → Option (List ℕ) → Ending → Type 0
+SweepEnds octets at shown held holds told tells Planned = (text : List ℕ) × IsSwept octets at text × Appends held holds text × IfHidden shown (Keeps told tells)
+SweepEnds octets at shown held holds told tells Refused = Keeps held holds × IfHidden shown (TellsFault told tells)
+SweepEnds octets at shown held holds told tells Unwritten = IfHidden shown (Keeps told tells)

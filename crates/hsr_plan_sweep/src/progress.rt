@@ -1,4 +1,6 @@
 //! How far a sweep is, as a terminal shows it.
+ghost use Rattle.std.specs.Prelude.{◌≡◌, false};
+
 use hsr_text::put_decimal;
 use std::alloc::{AllocError, Global};
 use std::io::Write;
@@ -22,7 +24,9 @@ fn line(alloc: Global, done: usize, runs: usize) -> Result<Vec<u8>, AllocError> 
 
 impl Progress {
     /// Shows how many runs are done. Whether that is written is not told: the sweep goes on without it.
-    pub(crate) fn show<E: Write>(self, alloc: Global, errors: &mut E, done: usize) {
+    pub(crate) fn show<E: Write>(self, alloc: Global, errors: &mut E, done: usize)
+        ensures { self.is_shown ≡ false → E.contents errors.new ≡ E.contents errors.old }
+    {
         if !self.is_shown {
             return;
         }
@@ -33,7 +37,9 @@ impl Progress {
 }
 
 /// Leaves an empty line behind, where a line was shown.
-pub(crate) fn clear<E: Write>(is_shown: bool, errors: &mut E) {
+pub(crate) fn clear<E: Write>(is_shown: bool, errors: &mut E)
+    ensures { is_shown ≡ false → E.contents errors.new ≡ E.contents errors.old }
+{
     if is_shown {
         let _written = errors.write_all(b"\r\x1b[K").is_ok() && errors.flush().is_ok();
     }

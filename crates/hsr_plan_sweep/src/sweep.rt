@@ -1,5 +1,5 @@
 //! The sweep of a plan.
-ghost use Rattle.std.specs.Prelude.{◌≡◌, length, IfOk, OnOk};
+ghost use Rattle.std.specs.Prelude.{◌≡◌, false, length, IfOk, OnOk};
 ghost use Rattle.hsr_plan_sweep.specs.Sweep.{AreCountsOf, IsCountOf, IsSweep, cut_of, off_of, with_deed, without_link, without_node};
 
 use crate::counting::Count;
@@ -62,6 +62,7 @@ fn without_links<E: Write>(
     ensures each { IfOk result (λ v. AreCountsOf (without_link plan.old at nodes.now links.now) v.items) }
     ensures all { IfOk result (λ v. length v.items ≡ length links.now) }
     ensures same { OnOk result (plan.new ≡ plan.old) }
+    ensures hidden { progress.is_shown ≡ false → E.contents errors.new ≡ E.contents errors.old }
 {
     let mut counts = Vec::new(alloc);
     for link in links.iter() {
@@ -98,6 +99,7 @@ fn without_nodes<E: Write>(
     ensures each { IfOk result (λ v. (d : _) → AreCountsOf (without_node plan.old at nodes.now d) v.items) }
     ensures all { IfOk result (λ v. length v.items ≡ length nodes.now) }
     ensures same { OnOk result (plan.new ≡ plan.old) }
+    ensures hidden { progress.is_shown ≡ false → E.contents errors.new ≡ E.contents errors.old }
 {
     let mut counts = Vec::new(alloc);
     for node in nodes.iter() {
@@ -121,7 +123,8 @@ pub fn sweep_plan<E: Write>(
     is_shown: bool,
     errors: &mut E,
 ) -> Result<Sweep, Trouble>
-    ensures { IfOk result (λ s. IsSweep plan.old at s) }
+    ensures swept { IfOk result (λ s. IsSweep plan.old at s) }
+    ensures hidden { is_shown ≡ false → E.contents errors.new ≡ E.contents errors.old }
 {
     let undisturbed = count_of(alloc, plan)?;
     let Ok(wired) = wire(alloc, &plan.outline.network) else {

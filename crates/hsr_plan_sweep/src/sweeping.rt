@@ -1,5 +1,5 @@
 //! The sweep of a plan, over a reader and two writers.
-ghost use Rattle.std.specs.Prelude.{◌≡◌, IfOk, IfSome};
+ghost use Rattle.std.specs.Prelude.{◌≡◌, false, IfOk, IfSome};
 ghost use Rattle.hsr_plan_sweep.specs.Lines.{sweep_text};
 ghost use Rattle.hsr_plan_sweep.specs.Swept.{IsSwept, SweepEnds, TellsSweep};
 
@@ -15,7 +15,7 @@ use hsr_plan_scenario::{
 use hsr_plan_text::{Plan, TEXT_LIMIT, read};
 use hsr_playing::Unfinished;
 use std::alloc::Global;
-use std::io::{Read, Write};
+use std::io::{self, Read, Write};
 
 /// The line of what is wrong.
 fn line_of_trouble(alloc: Global, text: &str, trouble: Trouble) -> Line {
@@ -48,7 +48,8 @@ fn swept_plan<E: Write>(
     is_shown: bool,
     errors: &mut E,
 ) -> Result<Vec<u8>, Line>
-    ensures { IfOk result (λ lines. TellsSweep plan at lines.items) }
+    ensures told { IfOk result (λ lines. TellsSweep plan at lines.items) }
+    ensures hidden { is_shown ≡ false → E.contents errors.new ≡ E.contents errors.old }
 {
     let mut plan = plan;
     let swept = sweep_plan(alloc, &mut plan, at, is_shown, errors);
@@ -67,7 +68,8 @@ fn swept<E: Write>(
     is_shown: bool,
     errors: &mut E,
 ) -> Result<Vec<u8>, Line>
-    ensures { IfOk result (λ lines. IsSwept octets.now at lines.items) }
+    ensures swept { IfOk result (λ lines. IsSwept octets.now at lines.items) }
+    ensures hidden { is_shown ≡ false → E.contents errors.new ≡ E.contents errors.old }
 {
     let Ok(text) = str::from_utf8(octets) else {
         return Err(words(alloc, "fault: plan 1:1 no UTF-8"));
@@ -79,6 +81,7 @@ fn swept<E: Write>(
 }
 
 /// Writes the lines of a sweep, or the line of what is wrong.
+#[tactic(auto, using(crate::proofs::Whole::kept_if_hidden, crate::proofs::Whole::told_if_hidden))]
 fn answer<W: Write, E: Write>(
     alloc: Global,
     octets: &[u8],
@@ -86,12 +89,12 @@ fn answer<W: Write, E: Write>(
     is_shown: bool,
     writer: &mut W,
     errors: &mut E,
-) -> Ending
-    ensures { SweepEnds octets.now at (W.contents writer.old) (W.contents writer.new) result }
+) -> io::Result<Ending>
+    ensures { IfOk result (SweepEnds octets.now at is_shown (W.contents writer.old) (W.contents writer.new) (E.contents errors.old) (E.contents errors.new)) }
 {
     match swept(alloc, octets, at, is_shown, errors) {
-        Ok(text) => deliver(writer, text.as_slice()),
-        Err(line) => complain(errors, line),
+        Ok(text) => Ok(deliver(writer, text.as_slice())),
+        Err(line) => complain(alloc, errors, line),
     }
 }
 
@@ -107,12 +110,13 @@ pub fn sweep_run<R: Read, W: Write, E: Write>(
     errors: &mut E,
     at: u64,
     is_shown: bool,
-) -> Ending
-    ensures { IfSome (R.remaining reader.old) (λ octets. SweepEnds octets at (W.contents writer.old) (W.contents writer.new) result) }
+) -> io::Result<Ending>
+    ensures { IfOk result (λ ending. IfSome (R.remaining reader.old) (λ octets.
+        SweepEnds octets at is_shown (W.contents writer.old) (W.contents writer.new) (E.contents errors.old) (E.contents errors.new) ending)) }
 {
     match read_text(alloc, reader, TEXT_LIMIT) {
         Ok(octets) => answer(alloc, octets.as_slice(), at, is_shown, writer, errors),
-        Err(InputFault::Read) => complain(errors, words(alloc, "fault: read")),
-        Err(InputFault::Memory) => complain(errors, Err(NoMemory)),
+        Err(InputFault::Read) => complain(alloc, errors, words(alloc, "fault: read")),
+        Err(InputFault::Memory) => complain(alloc, errors, Err(NoMemory)),
     }
 }

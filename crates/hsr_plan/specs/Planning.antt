@@ -1,0 +1,66 @@
+-- What the planner's program does, over words, a text that is read, and two writers: standard output and standard error.
+use Rattle.std.specs.Prelude.{ℕ, ◌<◌, ◌≡◌, ◌⊎◌, Bool, List, ◌++◌, length, codes, string_bytes, Option, Result, Ok, Err}
+use Rattle.std.specs.Io.KnownBytes.{Appends, Keeps}
+use Rattle.clap.specs.Words.{Text}
+use Rattle.hsr_options.specs.Tables.{capacity_of}
+use Rattle.hsr_plan_words.specs.Choices.{IsRefused, Says}
+use Rattle.hsr_plan_words.specs.declared.task.Task.{Task}
+use Rattle.hsr_plan_words.specs.declared.task.Task.TheVariants.{Plan, Check, Sweep}
+use Rattle.hsr_plan_words.specs.declared.task.WordsFault.{WordsFault}
+use Rattle.hsr_plan_words.specs.declared.task.WordsFault.TheVariants.{Usage, Memory}
+use Rattle.hsr_plan_scenario.specs.Ends.{Checks, Ends, code_of}
+use Rattle.hsr_plan_scenario.specs.declared.planning.Ending.{Ending}
+use Rattle.hsr_plan_scenario.specs.declared.planning.Ending.TheVariants.{Planned, Refused, Unwritten}
+use Rattle.hsr_plan_sweep.specs.Swept.{SweepEnds}
+
+-- a text is handled as was chosen: as a plan, for tables of some size; as a scenario, and nothing is written; or as a plan that is swept
+abbrev pub Does : Task → List ℕ → Bool → Option (List ℕ) → Option (List ℕ) → Option (List ℕ) → Option (List ℕ) → Ending → Type 0
+Does (Plan table) text shown held holds told tells ending = Ends (capacity_of table) text held holds told tells ending
+Does Check text shown held holds told tells ending = Checks text told tells ending × Keeps held holds
+Does (Sweep at) text shown held holds told tells ending = SweepEnds text at shown held holds told tells ending
+
+-- of a failed write a line is told, of another end no more than was
+abbrev pub TellsWrite : Ending → Option (List ℕ) → Option (List ℕ) → Type 0
+TellsWrite Planned told tells = Keeps told tells
+TellsWrite Refused told tells = Keeps told tells
+TellsWrite Unwritten told tells = Appends told tells (codes "fault: write\n")
+
+-- what was chosen is done, a failed write is told, and the code is that of the end
+pub record IsDone (task : Task) (text : List ℕ) (shown : Bool) (held holds told tells : Option (List ℕ)) (code : ℕ) : Type 0 where
+  pub ending : Ending
+  pub middle : Option (List ℕ)
+  pub does : Does task text shown held holds told middle ending
+  pub ends : TellsWrite ending middle tells
+  pub is_code : code ≡ code_of ending
+
+-- there was no memory to read the words
+pub record IsShort (held holds told tells : Option (List ℕ)) (code : ℕ) : Type 0 where
+  pub is_code : code ≡ 1
+  pub line : Appends told tells (codes "fault: memory\n")
+  pub kept : Keeps held holds
+
+-- What the words choose is done; or the text by which they are refused is told, and nothing is written; or there was no memory to read
+-- them.
+abbrev pub Answers : Result Task WordsFault → List ℕ → Bool → Option (List ℕ) → Option (List ℕ) → Option (List ℕ) → Option (List ℕ) → ℕ → Type 0
+Answers (Ok task) text shown held holds told tells code = IsDone task text shown held holds told tells code
+Answers (Err (Usage why)) text shown held holds told tells code = (code ≡ 3) × Appends told tells (string_bytes why ++ codes "\n") × Keeps held holds
+Answers (Err Memory) text shown held holds told tells code = IsShort held holds told tells code
+
+-- the words say what is to be done, and it is done
+pub record IsAnswered (words : List Text) (text : List ℕ) (shown : Bool) (held holds told tells : Option (List ℕ)) (code : ℕ) : Type 0 where
+  pub task : Task
+  pub says : Says words task
+  pub done : IsDone task text shown held holds told tells code
+
+-- the words are refused by a text that isn't empty, and nothing is written
+pub record IsTurnedAway (words : List Text) (held holds told tells : Option (List ℕ)) (code : ℕ) : Type 0 where
+  pub why : Text
+  pub refused : IsRefused words
+  pub some : 0 < length why
+  pub is_code : code ≡ 3
+  pub line : Appends told tells (why ++ codes "\n")
+  pub kept : Keeps held holds
+
+abbrev pub Plans : List Text → List ℕ → Bool → Option (List ℕ) → Option (List ℕ) → Option (List ℕ) → Option (List ℕ) → ℕ → Type 0
+Plans words text shown held holds told tells code =
+    IsAnswered words text shown held holds told tells code ⊎ (IsTurnedAway words held holds told tells code ⊎ IsShort held holds told tells code)
