@@ -1,2 +1,0 @@
-mod Showing
-pub mod Sending

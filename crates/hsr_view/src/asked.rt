@@ -1,24 +1,5 @@
 //! What the words of a command line ask for.
-use hsr_picture::Span;
-
-/// What is to be shown of a run.
-#[derive(Debug, Drop)]
-pub enum What<'a> {
-    /// A capture: of one link, counted from 0, or of all; of the copies of one send, by the name of its node and its place in that
-    /// node's record, or of all.
-    Capture {
-        link: Option<usize>,
-        send: Option<(&'a str, usize)>,
-    },
-    /// A picture: of the copies of some sends, each by the name of its node and its place in that node's record, or of all; of those
-    /// that are of a span.
-    Picture {
-        sends: Vec<(&'a str, usize)>,
-        span: Span,
-    },
-    /// The devices.
-    Devices,
-}
+use hsr_viewing::What;
 
 /// What is asked for, and the path of the scenario whose names stand in place of numbers.
 #[derive(Debug, Drop)]

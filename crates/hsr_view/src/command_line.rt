@@ -1,9 +1,10 @@
 //! Reads the words of a command line, by clap.
-use crate::asked::{Asked, What};
+use crate::asked::Asked;
 use clap::error::ErrorKind;
 use clap::{Arg, ArgAction, ArgMatches, Command, Error};
 use hsr_picture::Span;
 use hsr_text::decimal;
+use hsr_viewing::What;
 use std::alloc::{AllocError, Global};
 
 const CAPTURE_ENDS: &str = "\

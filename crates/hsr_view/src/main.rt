@@ -1,28 +1,32 @@
 //! The second program: a finished run as a capture, as a picture, or as devices.
 //!
-//! Its modules, in the order in which to read them: `asked`, `fault`, `same`, `viewing`,
-//! `command_line`.
+//! Its modules, in the order in which to read them: `asked`, `command_line`.
 #![tactic(auto)]
+
+ghost use Rattle.std.specs.Prelude.{◌≡◌, ◌++◌, IfOk, OnOk, codes, drop, map, string_bytes};
+ghost use Rattle.std.specs.Io.KnownBytes.{Appends};
+ghost use Rattle.std.specs.Process.{exit_status};
 
 mod asked;
 mod command_line;
-mod fault;
-mod same;
-mod viewing;
 
-use crate::asked::{Asked, What};
+use crate::asked::Asked;
 use crate::command_line::{WordFault, asked};
-use crate::fault::Fault;
-use crate::viewing::shown;
+use hsr_viewing::{Fault, tell, view_run};
 use std::alloc::{AllocError, Global};
 use std::fs::Files;
-use std::io::{ErrorKind, Read, Write};
+use std::io::{ErrorKind, Write};
 use std::process::ExitCode;
 use std::rt::Env;
 use std::{env, fs, io};
 
+/// The status where words are refused.
+const USAGE: u8 = 3;
+
 /// The words after the program's name.
-fn words_of(alloc: Global, args: &Vec<String>) -> Result<Vec<&str>, AllocError> {
+fn words_of(alloc: Global, args: &Vec<String>) -> Result<Vec<&str>, AllocError>
+    ensures { IfOk result (λ words. map (λ s. s.now) words.items ≡ map string_bytes (drop 1 args.now.items)) }
+{
     let mut words = Vec::new(alloc);
     for word in args.iter().skip(1) {
         words.push(word.as_str())?;
@@ -45,69 +49,73 @@ fn scenario_at<H: AllocGlobal + Files>(
     }
 }
 
-/// Reads a transcript, and writes what is asked for of it: all of it, or nothing.
-fn view<R: Read, W: Write>(
-    alloc: Global,
-    what: &What<'_>,
-    scenario: Option<&str>,
-    reader: &mut R,
-    writer: &mut W,
-) -> Result<(), Fault> {
-    let mut text = Vec::new(alloc);
-    if reader.read_to_end(&mut text).is_err() {
-        return Err(Fault::Read);
-    }
-    let octets = shown(alloc, text.as_slice(), what, scenario)?;
-    if writer.write_all(octets.as_slice()).is_err() || writer.flush().is_err() {
-        return Err(Fault::Write);
-    }
-    Ok(())
-}
-
-/// Shows the transcript on standard input.
-fn view_input<H: AllocGlobal + Files + Input + Print>(
+/// Shows the transcript on standard input, and gives the status of the process.
+fn view_input<H: AllocGlobal + Files + Input + Print, E: Write>(
     rt: &H,
     asked: Asked<'_>,
-) -> Result<(), Fault> {
-    let scenario = scenario_at(rt, asked.names)?;
+    errors: &mut E,
+) -> io::Result<u8> {
+    let scenario = match scenario_at(rt, asked.names) {
+        Ok(scenario) => scenario,
+        Err(fault) => return tell(errors, Err(fault)),
+    };
     let scenario = match &scenario {
         Some(text) => Some(text.as_str()),
         None => None,
     };
     let mut reader = rt.reader();
     let mut writer = io::writer(rt);
-    view(rt.alloc(), &asked.what, scenario, &mut reader, &mut writer)
+    view_run(
+        rt.alloc(),
+        &asked.what,
+        scenario,
+        &mut reader,
+        &mut writer,
+        errors,
+    )
 }
 
-/// Writes a fault's line on standard error, and gives the status of the process.
-fn finish<H: Eprint>(rt: &H, ended: Result<(), Fault>) -> io::Result<ExitCode> {
-    match ended {
-        Ok(()) => Ok(ExitCode::from(0)),
-        Err(fault) => {
-            eprintln!(rt; "{fault}")?;
-            Ok(ExitCode::from(1))
-        }
+/// Writes why words are refused, and gives the status of the process.
+fn refuse<E: Write>(errors: &mut E, text: &str) -> io::Result<u8>
+    ensures { OnOk result (Appends (E.contents errors.old) (E.contents errors.new) (text.now ++ codes "\n")) }
+{
+    errors.write_all(text.as_bytes())?;
+    errors.write_all(b"\n")?;
+    Ok(USAGE)
+}
+
+/// The end of the process with a status.
+fn exit_of(code: io::Result<u8>) -> io::Result<ExitCode>
+    ensures { IfOk result (λ exit. IfOk code (λ status. exit_status exit ≡ status)) }
+{
+    match code {
+        Ok(code) => Ok(ExitCode::from(code)),
+        Err(error) => Err(error),
     }
 }
 
-/// Does what the words ask for.
-fn run<H: AllocGlobal + Env + Eprint + Files + Input + Print>(rt: &H) -> io::Result<ExitCode> {
+/// Does what the program's words ask for.
+fn run<H: AllocGlobal + Env + Files + Input + Print, E: Write>(
+    rt: &H,
+    errors: &mut E,
+) -> io::Result<ExitCode> {
     let args: Vec<String> = env::args(rt)?.collect(rt.alloc())?;
     let words = words_of(rt.alloc(), &args)?;
-    match asked(rt.alloc(), words.as_slice()) {
-        Ok(asked) => finish(rt, view_input(rt, asked)),
-        Err(WordFault::Usage { text }) => {
-            eprintln!(rt; "{text}")?;
-            Ok(ExitCode::from(3))
-        }
-        Err(WordFault::Memory) => finish(rt, Err(Fault::Memory)),
-    }
+    let code = match asked(rt.alloc(), words.as_slice()) {
+        Ok(asked) => view_input(rt, asked, errors),
+        Err(WordFault::Usage { text }) => refuse(errors, text.as_str()),
+        Err(WordFault::Memory) => tell(errors, Err(Fault::Memory)),
+    };
+    exit_of(code)
 }
 
 fn main(rt: HostRuntime) -> io::Result<ExitCode> {
-    match run(&rt) {
+    let mut errors = rt.stderr();
+    match run(&rt, &mut errors) {
         // the words themselves take memory
-        Err(error) if error.kind() == ErrorKind::OutOfMemory => finish(&rt, Err(Fault::Memory)),
+        Err(error) if error.kind() == ErrorKind::OutOfMemory => {
+            exit_of(tell(&mut errors, Err(Fault::Memory)))
+        }
         ended => ended,
     }
 }

@@ -8,11 +8,11 @@ use Rattle.hsr_topology.specs.Topology.{Topology}
 use Rattle.hsr_closing.specs.Finished.{Finished}
 use Rattle.hsr_order.specs.Fronts.{lists_of}
 use Rattle.hsr_devices.specs.Listing.{IsListing}
-use Rattle.hsr_view.specs.Viewing.{AreNames, IsCaptureOf, IsPictured, IsSend, IsShown, Shows, send_words, topology_of}
-use Rattle.hsr_view.specs.declared.asked.What.{What}
-use Rattle.hsr_view.specs.declared.asked.What.TheVariants.{Capture, Devices, Picture}
+use Rattle.hsr_viewing.specs.Viewing.{AreNames, IsCaptureOf, IsPictured, IsSend, IsShown, Shows, send_words, topology_of}
+use Rattle.hsr_viewing.specs.declared.asked.What.{What}
+use Rattle.hsr_viewing.specs.declared.asked.What.TheVariants.{Capture, Devices, Picture}
 use Rattle.hsr_picture.specs.declared.span.Span.{Span}
-use Rattle.hsr_view.specs.declared.fault.Fault.{Fault}
+use Rattle.hsr_viewing.specs.declared.fault.Fault.{Fault}
 
 abbrev Names : Type 0
 Names = List (Vec ℕ Global)

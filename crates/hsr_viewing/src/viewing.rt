@@ -1,8 +1,11 @@
 //! What is shown of a transcript.
-ghost use Rattle.std.specs.Prelude.{◌≡◌, ◌≤◌, ◌⊎◌, ◌++◌, ◌∷◌, [], IfErr, IfOk, OnOk, option_map};
+ghost use Rattle.std.specs.Prelude.{◌≡◌, ◌≤◌, ◌⊎◌, ◌++◌, ◌∷◌, [], Err, None, IfErr, IfOk, OnOk, option_map};
 ghost use Rattle.hsr_order.specs.Fronts.{lists_of};
-ghost use Rattle.hsr_transcript.specs.Answers.{IsTextOf};
-ghost use Rattle.hsr_view.specs.Viewing.{AreNames, AreSends, IsCaptureOf, IsMissing, IsPictured, IsSend, IsShown, IsShownOf, probe_of};
+ghost use Rattle.hsr_options.specs.Tables.{capacity_of};
+ghost use Rattle.hsr_transcript.specs.Answers.{Answers, IsTextOf};
+ghost use Rattle.hsr_viewing.specs.Refusals.{HasStray, IsMisnamed, IsStray, IsUncaptured, IsUndrawn, IsUnshown, IsUnshownOf};
+ghost use Rattle.hsr_viewing.specs.Viewing.{AreNames, AreSends, IsCaptureOf, IsPictured, IsSend, IsShown, IsShownOf, probe_of, second_line, table_of};
+ghost use Rattle.hsr_viewing.specs.declared.fault.Fault.TheVariants.{Memory, Send};
 
 use crate::asked::What;
 use crate::fault::Fault;
@@ -14,11 +17,13 @@ use hsr_drawing::drawing;
 use hsr_frame::NoMemory;
 use hsr_names::node_called;
 use hsr_node::Probe;
+use hsr_options::Table;
 use hsr_picture::{Span, picture_run};
 use hsr_scenario::{What as Refused, read_names};
 use hsr_story::{Choice, check_choice, chosen, story};
+use hsr_text::split_at;
 use hsr_topology::Topology;
-use hsr_transcript::read;
+use hsr_transcript::{ReadFault, read};
 use std::alloc::Global;
 
 /// The names of the nodes of a run, by the scenario from which it came; none without it. `Names` where that is no scenario, or has
@@ -28,7 +33,8 @@ fn names_of(
     topology: &Topology,
     scenario: Option<&str>,
 ) -> Result<Vec<Vec<u8>>, Fault>
-    ensures { IfOk result (λ names. AreNames topology.now (option_map (λ s. s.now) scenario.entry) (lists_of names.items)) }
+    ensures names { IfOk result (λ names. AreNames topology.now (option_map (λ s. s.now) scenario.entry) (lists_of names.items)) }
+    ensures misnamed { IfErr result (IsMisnamed (option_map (λ s. s.now) scenario.entry)) }
 {
     let Some(text) = scenario else {
         return Ok(Vec::new(alloc));
@@ -60,7 +66,7 @@ fn capture_of<const C: usize>(
     wanted: Choice,
 ) -> Result<Vec<u8>, Fault>
     ensures capture { IfOk result (λ octets. IsCaptureOf (lists_of names.now) closed.now wanted octets.items) }
-    ensures missing { IfErr result (IsMissing closed.now wanted) }
+    ensures missing { IfErr result (IsUncaptured closed.now wanted) }
 {
     check_choice(closed, wanted)?;
     let rows = story(alloc, closed)?;
@@ -71,7 +77,8 @@ fn capture_of<const C: usize>(
 
 /// The send that a node's name and a place mean; `Send` where no node has the name.
 fn probe_of(names: &[Vec<u8>], send: &(&str, usize)) -> Result<Probe, Fault>
-    ensures { IfOk result (λ probe. probe_of (lists_of names.now) send.now ≡ Some probe) }
+    ensures known { IfOk result (λ probe. probe_of (lists_of names.now) send.now ≡ Some probe) }
+    ensures stray { IfErr result (λ fault. (fault ≡ Send) × (probe_of (lists_of names.now) send.now ≡ None)) }
 {
     let (name, place) = *send;
     match node_called(names, name.as_bytes()) {
@@ -82,7 +89,8 @@ fn probe_of(names: &[Vec<u8>], send: &(&str, usize)) -> Result<Probe, Fault>
 
 /// The sends that nodes' names and places mean, in their order; `Send` where no node has a name.
 fn probes_of(alloc: Global, names: &[Vec<u8>], sends: &[(&str, usize)]) -> Result<Vec<Probe>, Fault>
-    ensures { IfOk result (λ probes. AreSends (lists_of names.now) sends.now probes.items) }
+    ensures known { IfOk result (λ probes. AreSends (lists_of names.now) sends.now probes.items) }
+    ensures stray { IfErr result (λ fault. (fault ≡ Memory) ⊎ ((fault ≡ Send) × HasStray (lists_of names.now) sends.now)) }
 {
     let mut probes = Vec::new(alloc);
     for send in sends {
@@ -109,7 +117,8 @@ fn picture_of<const C: usize>(
     sends: &[(&str, usize)],
     span: Span,
 ) -> Result<Vec<u8>, Fault>
-    ensures { IfOk result (λ _. IsPictured (lists_of names.now) closed.now sends.now span) }
+    ensures picture { IfOk result (λ _. IsPictured (lists_of names.now) closed.now sends.now span) }
+    ensures undrawn { IfErr result (λ fault. (fault ≡ Memory) ⊎ (((fault ≡ Send) × HasStray (lists_of names.now) sends.now) ⊎ IsUndrawn (lists_of names.now) closed.now sends.now span fault)) }
 {
     let probes = probes_of(alloc, names, sends)?;
     let picture = picture_run(alloc, closed, probes.as_slice(), span)?;
@@ -118,7 +127,8 @@ fn picture_of<const C: usize>(
 
 /// The send that a node's name and a place mean; `Send` where no node has the name.
 fn send_of(names: &[Vec<u8>], send: Option<(&str, usize)>) -> Result<Option<Probe>, Fault>
-    ensures { IfOk result (IsSend (lists_of names.now) (option_map (λ s. (s.0.now, s.1)) send.entry)) }
+    ensures known { IfOk result (IsSend (lists_of names.now) (option_map (λ s. (s.0.now, s.1)) send.entry)) }
+    ensures stray { IfErr result (λ fault. (fault ≡ Send) × IsStray (lists_of names.now) (option_map (λ s. (s.0.now, s.1)) send.entry)) }
 {
     match send {
         Some((name, place)) => match node_called(names, name.as_bytes()) {
@@ -130,14 +140,15 @@ fn send_of(names: &[Vec<u8>], send: Option<(&str, usize)>) -> Result<Option<Prob
 }
 
 /// The finished run that a text is of.
-fn read_run<const C: usize>(alloc: Global, text: &[u8]) -> Result<Closed<C>, Fault>
+fn read_run<const C: usize>(alloc: Global, text: &[u8]) -> Result<Closed<C>, ReadFault>
     requires entries { (1 ≤ C) × (C ≤ 65535) }
-    ensures { IfOk result (λ closed. IsTextOf C closed text.now) }
+    ensures run { IfOk result (λ closed. IsTextOf C closed text.now) }
+    ensures none { IfErr result (λ fault. Answers C (Err fault) text.now) }
 {
     let mut reader = text;
     match read(alloc, &mut reader) {
         Ok(closed) => Ok(closed),
-        Err(fault) => Err(Fault::Transcript(fault)),
+        Err(fault) => Err(fault),
     }
 }
 
@@ -148,7 +159,8 @@ fn shown_of<const C: usize>(
     what: &What<'_>,
     scenario: Option<&str>,
 ) -> Result<Vec<u8>, Fault>
-    ensures { IfOk result (λ octets. IsShown closed.now what.now (option_map (λ s. s.now) scenario.entry) octets.items) }
+    ensures shown { IfOk result (λ octets. IsShown closed.now what.now (option_map (λ s. s.now) scenario.entry) octets.items) }
+    ensures unshown { IfErr result (IsUnshown closed.now what.now (option_map (λ s. s.now) scenario.entry)) }
 {
     let names = names_of(alloc, closed.topology(), scenario)?;
     match what {
@@ -176,34 +188,48 @@ fn shown_with<const C: usize>(
     scenario: Option<&str>,
 ) -> Result<Vec<u8>, Fault>
     requires entries { (1 ≤ C) × (C ≤ 65535) }
-    ensures { IfOk result (λ octets. IsShownOf C text.now what.now (option_map (λ s. s.now) scenario.entry) octets.items) }
+    ensures shown { IfOk result (λ octets. IsShownOf C text.now what.now (option_map (λ s. s.now) scenario.entry) octets.items) }
+    ensures unshown { IfErr result (IsUnshownOf C text.now what.now (option_map (λ s. s.now) scenario.entry)) }
 {
     match read_run::<C>(alloc, text) {
         Ok(closed) => shown_of(alloc, &closed, what, scenario),
-        Err(fault) => Err(fault),
+        Err(fault) => Err(Fault::Transcript(fault)),
     }
 }
 
-/// Whether the second line of a text says that tables have 4 entries.
-fn has_small_tables(text: &[u8]) -> bool {
-    match text.split(|octet| *octet == b'\n').nth(1) {
-        Some(line) => line == b"table 4".as_slice(),
-        None => false,
+/// The second line of a text, without its line feed; empty where it isn't there.
+fn second_line(text: &[u8]) -> &[u8]
+    ensures { result.now ≡ second_line text.now }
+{
+    match split_at(text, b'\n').1 {
+        Some(rest) => split_at(rest, b'\n').0,
+        None => &[],
     }
 }
 
-/// What is asked for of a transcript, with tables as its second line says: of 4 entries, or of 512.
-pub(crate) fn shown(
+/// The size of the tables of which a text tells in its second line: of 4 entries where it is `table 4`, or else of 512.
+fn table_of(text: &[u8]) -> Table
+    ensures { result ≡ table_of text.now }
+{
+    if second_line(text) == b"table 4".as_slice() {
+        Table::Small
+    } else {
+        Table::Large
+    }
+}
+
+/// What is asked for of a transcript, with tables of the size of which it tells.
+pub fn shown(
     alloc: Global,
     text: &[u8],
     what: &What<'_>,
     scenario: Option<&str>,
 ) -> Result<Vec<u8>, Fault>
-    ensures { IfOk result (λ octets. IsShownOf 4 text.now what.now (option_map (λ s. s.now) scenario.entry) octets.items ⊎ IsShownOf 512 text.now what.now (option_map (λ s. s.now) scenario.entry) octets.items) }
+    ensures shown { IfOk result (λ octets. IsShownOf (capacity_of (table_of text.now)) text.now what.now (option_map (λ s. s.now) scenario.entry) octets.items) }
+    ensures unshown { IfErr result (IsUnshownOf (capacity_of (table_of text.now)) text.now what.now (option_map (λ s. s.now) scenario.entry)) }
 {
-    if has_small_tables(text) {
-        shown_with::<4>(alloc, text, what, scenario)
-    } else {
-        shown_with::<512>(alloc, text, what, scenario)
+    match table_of(text) {
+        Table::Small => shown_with::<4>(alloc, text, what, scenario),
+        Table::Large => shown_with::<512>(alloc, text, what, scenario),
     }
 }

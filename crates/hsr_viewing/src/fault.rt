@@ -1,4 +1,7 @@
 //! Why nothing is shown.
+ghost use Rattle.std.specs.Prelude.{◌≡◌, Some};
+ghost use Rattle.hsr_viewing.specs.Fault.{fault_line};
+
 use hsr_capture::BlockFault;
 use hsr_frame::NoMemory;
 use hsr_picture::PictureFault;
@@ -35,7 +38,7 @@ pub enum Fault {
 
 impl From<NoMemory> for Fault {
     ghost use Rattle.std.specs.Prelude.{◌≡◌};
-    ghost use Rattle.hsr_view.specs.declared.fault.Fault.TheVariants.{Memory as NoRoom};
+    ghost use Rattle.hsr_viewing.specs.declared.fault.Fault.TheVariants.{Memory as NoRoom};
 
     ghost from_gives = { λ _ fault. fault ≡ NoRoom };
 
@@ -46,7 +49,7 @@ impl From<NoMemory> for Fault {
 
 impl From<ChoiceFault> for Fault {
     ghost use Rattle.std.specs.Prelude.{◌≡◌};
-    ghost use Rattle.hsr_view.specs.Viewing.{choice_fault};
+    ghost use Rattle.hsr_viewing.specs.Fault.{choice_fault};
 
     ghost from_gives = { λ refused fault. fault ≡ choice_fault refused };
 
@@ -60,7 +63,7 @@ impl From<ChoiceFault> for Fault {
 
 impl From<StoryFault> for Fault {
     ghost use Rattle.std.specs.Prelude.{◌≡◌};
-    ghost use Rattle.hsr_view.specs.Viewing.{story_fault};
+    ghost use Rattle.hsr_viewing.specs.Fault.{story_fault};
 
     ghost from_gives = { λ refused fault. fault ≡ story_fault refused };
 
@@ -74,7 +77,7 @@ impl From<StoryFault> for Fault {
 
 impl From<BlockFault> for Fault {
     ghost use Rattle.std.specs.Prelude.{◌≡◌};
-    ghost use Rattle.hsr_view.specs.Viewing.{block_fault};
+    ghost use Rattle.hsr_viewing.specs.Fault.{block_fault};
 
     ghost from_gives = { λ refused fault. fault ≡ block_fault refused };
 
@@ -88,7 +91,7 @@ impl From<BlockFault> for Fault {
 
 impl From<PictureFault> for Fault {
     ghost use Rattle.std.specs.Prelude.{◌≡◌};
-    ghost use Rattle.hsr_view.specs.Viewing.{picture_fault};
+    ghost use Rattle.hsr_viewing.specs.Fault.{picture_fault};
 
     ghost from_gives = { λ refused fault. fault ≡ picture_fault refused };
 
@@ -105,6 +108,8 @@ impl From<PictureFault> for Fault {
 
 /// The line on standard error, without its line feed; that of a transcript is the one that `hsr_bench audit` has.
 impl fmt::Display for Fault {
+    ghost output = { λ fault. Some (fault_line fault) };
+
     fn fmt<W: fmt::Write>(&self, f: &mut fmt::Formatter<W>) -> fmt::Result {
         match self {
             Fault::Transcript(ReadFault::Version) => write!(f, "fault: transcript version"),
@@ -116,8 +121,8 @@ impl fmt::Display for Fault {
                 let code = cause.code();
                 write!(f, "fault: check {code}")
             }
-            Fault::Transcript(ReadFault::Read) | Fault::Read => write!(f, "fault: read"),
-            Fault::Transcript(ReadFault::NoMemory) | Fault::Memory => write!(f, "fault: memory"),
+            Fault::Transcript(ReadFault::Read) => write!(f, "fault: read"),
+            Fault::Transcript(ReadFault::NoMemory) => write!(f, "fault: memory"),
             Fault::Names => write!(f, "fault: names"),
             Fault::Link => write!(f, "fault: link"),
             Fault::Send => write!(f, "fault: send"),
@@ -128,7 +133,9 @@ impl fmt::Display for Fault {
             ),
             Fault::Circle => write!(f, "fault: order"),
             Fault::TooLong => write!(f, "fault: length"),
+            Fault::Read => write!(f, "fault: read"),
             Fault::Write => write!(f, "fault: write"),
+            Fault::Memory => write!(f, "fault: memory"),
         }
     }
 }

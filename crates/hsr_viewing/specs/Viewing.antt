@@ -1,68 +1,34 @@
 -- What is shown of a finished run.
 --     IsCaptureOf   the capture of the rows that are wanted
---     IsMissing     why a choice is refused
 --     AreNames      the names of a scenario with this topology
 --     IsSend        the send that words mean
 --     AreSends      the sends that words mean
 --     IsPictured    there is a picture of what is wanted
+--     table_of      the size of the tables, by a text's second line
 --     IsShownOf     what is shown of the text of a run
-use Rattle.std.specs.Prelude.{ℕ, ◌≡◌, List, map, filter, Ok, Err, [], Option, Some, None, option_map}
+use Rattle.std.specs.Prelude.{ℕ, ◌≡◌, List, map, filter, Ok, [], Option, Some, None, option_map, codes, if◌then◌else◌}
+use Rattle.std.specs.Str.{bytes_eq}
+use Rattle.hsr_text.specs.Words.{cut}
+use Rattle.hsr_options.specs.declared.chosen.Table.{Table}
+use Rattle.hsr_options.specs.declared.chosen.Table.TheVariants.{Small, Large}
 use Rattle.hsr_node.specs.declared.event.Probe.{Probe}
 use Rattle.hsr_topology.specs.Topology.{Topology}
 use Rattle.hsr_closing.specs.Finished.{Finished}
 use Rattle.hsr_scenario.specs.Names.{NamesMeant, names_meant}
 use Rattle.hsr_names.specs.Names.{node_called}
-use Rattle.hsr_pcapng.specs.declared.fault.BlockFault.{BlockFault}
-use Rattle.hsr_pcapng.specs.declared.fault.BlockFault.TheVariants as block
 use Rattle.hsr_story.specs.Choice.{checked, is_wanted}
-use Rattle.hsr_story.specs.Story.{HasNoStory, IsStory}
+use Rattle.hsr_story.specs.Story.{IsStory}
 use Rattle.hsr_story.specs.declared.choice.Choice.{Choice}
-use Rattle.hsr_story.specs.declared.choice.ChoiceFault.{ChoiceFault}
-use Rattle.hsr_story.specs.declared.choice.ChoiceFault.TheVariants as choice
 use Rattle.hsr_story.specs.declared.shown.Shown.{Shown}
-use Rattle.hsr_story.specs.declared.telling.StoryFault.{StoryFault}
-use Rattle.hsr_story.specs.declared.telling.StoryFault.TheVariants as story
 use Rattle.hsr_capture.specs.Capture.{capture}
 use Rattle.hsr_devices.specs.Listing.{IsListing}
 use Rattle.hsr_law.specs.Run.{Run}
 use Rattle.hsr_transcript.specs.Answers.{IsTextOf}
 use Rattle.std.specs.Borrow.{Bor}
-use Rattle.hsr_view.specs.declared.asked.What.{What}
-use Rattle.hsr_view.specs.declared.asked.What.TheVariants as asked
-use Rattle.hsr_view.specs.declared.fault.Fault.{Fault}
-use Rattle.hsr_view.specs.declared.fault.Fault.TheVariants.{Link, Send, Moments, Copies, Circle, TooLong, Memory}
+use Rattle.hsr_viewing.specs.declared.asked.What.{What}
+use Rattle.hsr_viewing.specs.declared.asked.What.TheVariants as asked
 use Rattle.hsr_picture.specs.Pictures.{IsPicture, Picture}
-use Rattle.hsr_picture.specs.declared.picturing.PictureFault.{PictureFault}
-use Rattle.hsr_picture.specs.declared.picturing.PictureFault.TheVariants as refused
 use Rattle.hsr_picture.specs.declared.span.Span.{Span}
-
--- ---- faults
-
-abbrev pub choice_fault : ChoiceFault → Fault
-choice_fault choice.NoLink = Link
-choice_fault choice.NoSend = Send
-
-abbrev pub story_fault : StoryFault → Fault
-story_fault story.Circle = Circle
-story_fault story.NoMemory = Memory
-
-abbrev pub block_fault : BlockFault → Fault
-block_fault block.TooLong = TooLong
-block_fault block.NoMemory = Memory
-
-abbrev pub picture_fault : PictureFault → Fault
-picture_fault refused.NoSend = Send
-picture_fault refused.Reversed = Moments
-picture_fault refused.Circle = Circle
-picture_fault (refused.TooMany copies) = Copies copies
-picture_fault refused.NoMemory = Memory
-
--- the run hasn't the link, or the send, that is wanted; or its rows have no order of time
-abbrev pub IsMissing : Finished → Choice → Fault → Type 0
-IsMissing f wanted Link = checked f.run wanted ≡ Err choice.NoLink
-IsMissing f wanted Send = checked f.run wanted ≡ Err choice.NoSend
-IsMissing f wanted Circle = HasNoStory f.run f.plan
-IsMissing f wanted fault = Unit {0}
 
 -- ---- names
 
@@ -125,6 +91,20 @@ pub record IsShown (f : Finished) (what : What) (scenario : Option (List ℕ)) (
   pub names : List (List ℕ)
   pub named : AreNames (topology_of f.run) scenario names
   pub shows : Shows names f what octets
+
+-- ---- texts
+
+-- what stands before the first line feed, if there is a text
+abbrev pub front_line : Option (List ℕ) → List ℕ
+front_line None = []
+front_line (Some text) = (cut 10 text).0
+
+abbrev pub second_line : List ℕ → List ℕ
+second_line text = front_line (cut 10 text).1
+
+-- the size of the tables of which a text tells in its second line
+abbrev pub table_of : List ℕ → Table
+table_of text = if bytes_eq (second_line text) (codes "table 4") then Small else Large
 
 -- a text of a finished run, and what is shown of it
 pub record IsShownOf (capacity : ℕ) (text : List ℕ) (what : What) (scenario : Option (List ℕ)) (octets : List ℕ) : Type 0 where

@@ -1,0 +1,60 @@
+-- The line of a fault, and refusals as faults.
+--     fault_line   what stands on standard error, without its line feed
+use Rattle.std.specs.Prelude.{ℕ, List, ◌++◌, codes}
+use Rattle.std.specs.Fmt.{decimal}
+use Rattle.hsr_closing.specs.Disagree.{disagree_code}
+use Rattle.hsr_pcapng.specs.declared.fault.BlockFault.{BlockFault}
+use Rattle.hsr_pcapng.specs.declared.fault.BlockFault.TheVariants as block
+use Rattle.hsr_story.specs.declared.choice.ChoiceFault.{ChoiceFault}
+use Rattle.hsr_story.specs.declared.choice.ChoiceFault.TheVariants as choice
+use Rattle.hsr_story.specs.declared.telling.StoryFault.{StoryFault}
+use Rattle.hsr_story.specs.declared.telling.StoryFault.TheVariants as story
+use Rattle.hsr_picture.specs.declared.picturing.PictureFault.{PictureFault}
+use Rattle.hsr_picture.specs.declared.picturing.PictureFault.TheVariants as picture
+use Rattle.hsr_transcript_text.specs.declared.fault.ReadFault.{ReadFault}
+use Rattle.hsr_transcript_text.specs.declared.fault.ReadFault.TheVariants as read
+use Rattle.hsr_viewing.specs.declared.fault.Fault.{Fault}
+use Rattle.hsr_viewing.specs.declared.fault.Fault.TheVariants.{Transcript, Names, Link, Send, Moments, Copies, Circle, TooLong, Read, Write, Memory}
+
+-- why a text isn't read
+abbrev pub read_line : ReadFault → List ℕ
+read_line read.Version = codes "fault: transcript version"
+read_line (read.BadLine n) = codes "fault: transcript line " ++ decimal n
+read_line read.End = codes "fault: transcript end"
+read_line (read.Disagrees cause) = codes "fault: check " ++ decimal (disagree_code cause)
+read_line read.Read = codes "fault: read"
+read_line read.NoMemory = codes "fault: memory"
+
+abbrev pub fault_line : Fault → List ℕ
+fault_line (Transcript fault) = read_line fault
+fault_line Names = codes "fault: names"
+fault_line Link = codes "fault: link"
+fault_line Send = codes "fault: send"
+fault_line Moments = codes "fault: moments"
+fault_line (Copies n) = codes "fault: copies " ++ (decimal n ++ codes ", and a picture shows 400: choose by --send, --from or --until")
+fault_line Circle = codes "fault: order"
+fault_line TooLong = codes "fault: length"
+fault_line Read = codes "fault: read"
+fault_line Write = codes "fault: write"
+fault_line Memory = codes "fault: memory"
+
+-- ---- refusals
+
+abbrev pub choice_fault : ChoiceFault → Fault
+choice_fault choice.NoLink = Link
+choice_fault choice.NoSend = Send
+
+abbrev pub story_fault : StoryFault → Fault
+story_fault story.Circle = Circle
+story_fault story.NoMemory = Memory
+
+abbrev pub block_fault : BlockFault → Fault
+block_fault block.TooLong = TooLong
+block_fault block.NoMemory = Memory
+
+abbrev pub picture_fault : PictureFault → Fault
+picture_fault picture.NoSend = Send
+picture_fault picture.Reversed = Moments
+picture_fault picture.Circle = Circle
+picture_fault (picture.TooMany copies) = Copies copies
+picture_fault picture.NoMemory = Memory

@@ -1,0 +1,4 @@
+pub mod Fault
+pub mod Viewing
+pub mod Refusals
+pub mod Ends

@@ -1,0 +1,82 @@
+-- Why nothing is shown.
+--     IsMisnamed     a scenario's names aren't taken
+--     IsUncaptured   there is no capture of what is wanted
+--     IsUnshown      nothing is shown of a run
+--     IsUnshownOf    nothing is shown of a text
+use Rattle.std.specs.Prelude.{ℕ, ◌≡◌, ◌⊎◌, List, Option, Some, None, Ok, Err, slice_get}
+use Rattle.std.specs.Borrow.{Bor}
+use Rattle.hsr_node.specs.declared.event.Probe.{Probe}
+use Rattle.hsr_closing.specs.Finished.{Finished}
+use Rattle.hsr_names.specs.Names.{node_called}
+use Rattle.hsr_story.specs.Choice.{checked}
+use Rattle.hsr_story.specs.Story.{HasNoStory}
+use Rattle.hsr_story.specs.declared.choice.Choice.{Choice}
+use Rattle.hsr_story.specs.declared.choice.ChoiceFault.TheVariants as choice
+use Rattle.hsr_picture.specs.Pictures.{IsRefused}
+use Rattle.hsr_picture.specs.declared.picturing.PictureFault.{PictureFault}
+use Rattle.hsr_picture.specs.declared.span.Span.{Span}
+use Rattle.hsr_transcript.specs.Answers.{Answers, IsTextOf}
+use Rattle.hsr_transcript_text.specs.declared.fault.ReadFault.{ReadFault}
+use Rattle.hsr_viewing.specs.Fault.{picture_fault}
+use Rattle.hsr_viewing.specs.Viewing.{AreNames, AreSends, IsSend, probe_of, send_words, topology_of}
+use Rattle.hsr_viewing.specs.declared.asked.What.{What}
+use Rattle.hsr_viewing.specs.declared.asked.What.TheVariants as asked
+use Rattle.hsr_viewing.specs.declared.fault.Fault.{Fault}
+use Rattle.hsr_viewing.specs.declared.fault.Fault.TheVariants.{Transcript, Names, Link, Send, Circle, TooLong, Read, Memory}
+
+-- a scenario was given
+abbrev pub IsMisnamed : Option (List ℕ) → Fault → Type 0
+IsMisnamed scenario Names = ¬ (scenario ≡ None)
+IsMisnamed scenario Memory = Unit {0}
+IsMisnamed scenario _ = ⊥
+
+-- the run hasn't the link, or the send, that is wanted; its rows have no order of time; or a name or a frame is too long for a block
+abbrev pub IsUncaptured : Finished → Choice → Fault → Type 0
+IsUncaptured f wanted Link = checked f.run wanted ≡ Err choice.NoLink
+IsUncaptured f wanted Send = checked f.run wanted ≡ Err choice.NoSend
+IsUncaptured f wanted Circle = HasNoStory f.run f.plan
+IsUncaptured f wanted TooLong = Unit {0}
+IsUncaptured f wanted Memory = Unit {0}
+IsUncaptured f wanted _ = ⊥
+
+-- the sends that are meant can't be pictured
+pub record IsUndrawn (names : List (List ℕ)) (f : Finished) (asked : List (Bor (List ℕ) × ℕ)) (span : Span) (fault : Fault) : Type 0 where
+  pub sends : List Probe
+  pub meant : AreSends names asked sends
+  pub why : PictureFault
+  pub is : fault ≡ picture_fault why
+  pub refused : IsRefused f.run f.plan sends span why
+
+-- a send of no node
+abbrev pub IsStray : List (List ℕ) → Option (List ℕ × ℕ) → Type 0
+IsStray names None = ⊥
+IsStray names (Some asked) = node_called names asked.0 ≡ None
+
+-- one of the sends is of no node
+abbrev pub HasStray : List (List ℕ) → List (Bor (List ℕ) × ℕ) → Type 0
+HasStray names asked = (i : ℕ) × (one : Bor (List ℕ) × ℕ) × (slice_get asked i ≡ Some one) × (probe_of names one ≡ None)
+
+-- with these names it can't be shown
+abbrev pub IsUnshownBy : List (List ℕ) → Finished → What → Fault → Type 0
+IsUnshownBy names f (asked.Capture link send) fault =
+    ((fault ≡ Send) × IsStray names (send_words send)) ⊎ ((probe : Option Probe) × IsSend names (send_words send) probe × IsUncaptured f (record { link = link; send = probe }) fault)
+IsUnshownBy names f (asked.Picture sends span) fault = ((fault ≡ Send) × HasStray names sends.items) ⊎ IsUndrawn names f sends.items span fault
+IsUnshownBy names f asked.Devices fault = ⊥
+
+-- names are asked for and not taken, or what is asked for can't be shown with those that are; or there was no memory
+abbrev pub IsUnshown : Finished → What → Option (List ℕ) → Fault → Type 0
+IsUnshown f what scenario fault =
+    (fault ≡ Memory) ⊎ (IsMisnamed scenario fault ⊎ ((names : List (List ℕ)) × AreNames (topology_of f.run) scenario names × IsUnshownBy names f what fault))
+
+-- the text is that of no run, for this cause
+abbrev pub IsUnread : ℕ → List ℕ → Fault → Type 0
+IsUnread capacity text fault = (read : ReadFault) × (fault ≡ Transcript read) × Answers capacity (Err read) text
+
+-- the text is of a run of which nothing can be shown
+abbrev pub IsUnshowable : ℕ → List ℕ → What → Option (List ℕ) → Fault → Type 0
+IsUnshowable capacity text what scenario fault = (f : Finished) × IsTextOf capacity f text × IsUnshown f what scenario fault
+
+-- one of these; or reading or memory failed
+abbrev pub IsUnshownOf : ℕ → List ℕ → What → Option (List ℕ) → Fault → Type 0
+IsUnshownOf capacity text what scenario fault =
+    ((fault ≡ Read) ⊎ (fault ≡ Memory)) ⊎ (IsUnread capacity text fault ⊎ IsUnshowable capacity text what scenario fault)

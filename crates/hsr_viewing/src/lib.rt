@@ -1,0 +1,19 @@
+//! All that hsr_view does once it knows what is asked for, over a reader and two writers.
+//!
+//! Its modules, in the order in which to read them:
+//! - `asked`: what can be asked for
+//! - `fault`: why nothing is shown, and the line that says it
+//! - `same`: whether two topologies are the same
+//! - `viewing`: what is shown of a text
+//! - `running`: the whole, its calls
+#![tactic(auto)]
+
+mod asked;
+mod fault;
+mod running;
+mod same;
+mod viewing;
+
+pub use asked::What;
+pub use fault::Fault;
+pub use running::{tell, view_run};
