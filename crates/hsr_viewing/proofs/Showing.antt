@@ -14,10 +14,10 @@ use Rattle.hsr_viewing.specs.declared.asked.What.TheVariants.{Capture, Devices, 
 use Rattle.hsr_picture.specs.declared.span.Span.{Span}
 use Rattle.hsr_viewing.specs.declared.fault.Fault.{Fault}
 
-abbrev Names : Type 0
+abbrev pub Names : Type 0
 Names = List (Vec ℕ Global)
 
-named_there : (f : Finished) (t : Topology) (scenario : Option (List ℕ)) (names : Names) → t.places ≡ f.run.places → t.links ≡ f.run.links → AreNames t scenario (lists_of names) → AreNames (topology_of f.run) scenario (lists_of names)
+pub named_there : (f : Finished) (t : Topology) (scenario : Option (List ℕ)) (names : Names) → t.places ≡ f.run.places → t.links ≡ f.run.links → AreNames t scenario (lists_of names) → AreNames (topology_of f.run) scenario (lists_of names)
 named_there f t scenario names places links named =
     let same : t ≡ topology_of f.run = λ i. record { places = places i; links = links i } in
     let P : Topology → Type 0 = λ u. AreNames u scenario (lists_of names) in

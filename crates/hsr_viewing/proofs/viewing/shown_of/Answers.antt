@@ -35,6 +35,6 @@ returns-clause-unshown g c =
 
 pub returns-in_err-send-in-Capture-clause-unshown : goal.returns-in_err-send-in-Capture-clause-unshown
 returns-in_err-send-in-Capture-clause-unshown g c =
-    let exit = err_from_is_err_and c.from_residual.result c.from_residual.ensures.1 in
+    let exit = err_from_is_err_and c.from_residual-in_err-send-in-Capture.result c.from_residual-in_err-send-in-Capture.ensures.1 in
     rw (exit.1, exit.2) (stray_send c.args.closed.now c.topology.result.now (option_map (λ s. s.now) c.args.scenario) c.in_ok-names.names.items c.topology.ensures.places c.topology.ensures.links c.in_ok-names.ensures.names
     c.args.what.now c.as_slice-in-Capture.result.now c.in-Capture.link c.in-Capture.send _ c.in-Capture.is c.as_slice-in-Capture.ensures.value c.in_err-send-in-Capture.ensures.stray)
