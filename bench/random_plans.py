@@ -96,7 +96,9 @@ def random_plan(chance):
     if len(rings) > 1:
         said["tables"]["rings"] = {f"k{ring}": names for ring, names in enumerate(rings)}
     if senders and chance.random() < 0.2:
-        said["tables"]["address"] = {name: f"02-00-00-00-01-{chance.randint(1, 4):02X}" for name in chance.sample(senders, min(2, len(senders)))}
+        # (two given addresses that are the same are a fault: plans/faults)
+        given = zip(chance.sample(senders, min(2, len(senders))), chance.sample(range(1, 5), 2))
+        said["tables"]["address"] = {name: f"02-00-00-00-01-{last:02X}" for name, last in given}
     if chance.random() < 0.2:
         said["tables"]["mode"] = {name: chance.choice("HNU") for name in chance.sample(alone, min(1, len(alone)))}
     if chance.random() < 0.1:  # a name that isn't there, or one that can't do this
