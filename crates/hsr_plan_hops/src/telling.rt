@@ -80,6 +80,14 @@ fn check_unknown<const C: usize>(world: &mut World<C>, order: &Order) -> Result<
     }
 }
 
+/// Whether a step moves a copy.
+fn is_move(step: &Step) -> bool {
+    matches!(
+        step,
+        Step::Put { .. } | Step::Take { .. } | Step::Judge { .. }
+    )
+}
+
 /// Leaves out supervision about stations from the front of what is told, up to a step.
 #[tactic(auto, using(crate::proofs::Told::left_all, crate::proofs::Told::left_more))]
 fn leave_out<'a, const C: usize>(
@@ -188,6 +196,23 @@ fn check_puts_first<const C: usize>(
     }
 }
 
+/// Leaves out supervision about stations from the front of what is told, up to a step that is told. Moves of copies aren't: they may
+/// stand before what is told next.
+#[tactic(auto, using(crate::proofs::Told::leaves_none))]
+fn leave_out_before<'a, const C: usize>(
+    world: &mut World<C>,
+    told: &'a [Order],
+    step: &Step,
+) -> Result<&'a [Order], Unmoved>
+    ensures { IfOk result (λ left. (world.new ≡ world.old) × LeavesOut C world.old told.now left.now) }
+{
+    if is_move(step) {
+        Ok(told)
+    } else {
+        leave_out(world, told, Some(step))
+    }
+}
+
 /// Does a step, if it is done at once and does what is told next. The answer is what is told behind it.
 fn take_turn<'a, const C: usize>(
     world: &mut World<C>,
@@ -198,7 +223,7 @@ fn take_turn<'a, const C: usize>(
     ensures { IfOk result (λ more. IsDone C told.now due world.old step.now more.now world.new) }
 {
     check_puts_first(world, due, step)?;
-    let left = leave_out(world, told, Some(step))?;
+    let left = leave_out_before(world, told, step)?;
     let Some(more) = behind(step, left) else {
         return Err(Unmoved::Differs);
     };
