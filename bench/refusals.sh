@@ -66,8 +66,6 @@ is_want() {
   [ "$status" = 1 ] && [ ${#lines[@]} = 1 ] || return
   case $1-$2 in
     hsr_bench-threads) [ "${lines[0]}" = 'fault: memory' ] || [ "${lines[0]}" = 'fault: thread' ] ;;
-    # (a run of a sweep that lacks memory is told as one that doesn't end: to be mended)
-    hsr_plan-sweep) [[ ${lines[0]} =~ ^fault:\ (.*\ )?memory$ || ${lines[0]} == *"a run of the plan doesn't end"* ]] ;;
     hsr_plan-*) [[ ${lines[0]} =~ ^fault:\ (.*\ )?memory$ ]] ;;
     *) [ "${lines[0]}" = 'fault: memory' ] ;;
   esac

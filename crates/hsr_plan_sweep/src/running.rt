@@ -3,10 +3,12 @@ ghost use Rattle.std.specs.Prelude.{◌≡◌, IfOk, OnOk};
 ghost use Rattle.hsr_plan_sweep.specs.Sweep.{IsCountOf, IsCountOfMeaning, with_deed};
 
 use crate::counting::{Count, counted};
+use hsr_closing::CheckFault;
 use hsr_plan_hops::{Unmoved, moved_meaning_of};
 use hsr_plan_meaning::Meaning;
 use hsr_plan_text::{Deed, Event, Plan};
 use hsr_playing::{Unfinished, finished};
+use hsr_step::{DrainFault, WorldFault};
 use std::alloc::Global;
 
 /// How many entries the tables have.
@@ -29,6 +31,16 @@ pub(crate) fn no_memory() -> Trouble {
     Trouble::Run(Unfinished::Memory)
 }
 
+/// The trouble where orders lead to no finished run.
+fn trouble_of(fault: Unfinished) -> Trouble {
+    match fault {
+        Unfinished::Memory
+        | Unfinished::Check(CheckFault::NoMemory)
+        | Unfinished::Step(_, DrainFault::World(WorldFault::NoMemory)) => no_memory(),
+        Unfinished::Check(_) | Unfinished::Step(_, _) => Trouble::Run(fault),
+    }
+}
+
 /// The count of a run of what is meant.
 fn count_of_meaning(alloc: Global, meaning: &Meaning) -> Result<Count, Trouble>
     ensures { IfOk result (λ count. IsCountOfMeaning meaning.now count) }
@@ -46,7 +58,7 @@ fn count_of_meaning(alloc: Global, meaning: &Meaning) -> Result<Count, Trouble>
             Ok(count) => Ok(count),
             Err(_) => Err(no_memory()),
         },
-        Err(fault) => Err(Trouble::Run(fault)),
+        Err(fault) => Err(trouble_of(fault)),
     }
 }
 
