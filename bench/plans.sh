@@ -86,6 +86,11 @@ words 3 plan.toml
 words 3 sweep --at-us 1099511627777
 words 3 sweep --at-us -1
 words 3 sweep --at-us
+words 3 sweep --table small
+words 3 --table small sweep
+words 3 --check --table small
+words 3 --check sweep
+words 3 sweep --check
 words 3 --help
 echo "$passed passed, $failed failed"
 [ "$failed" = 0 ]
