@@ -5,8 +5,8 @@
 COUNT (300) scenarios, from SEED (1) on, by the generator of compare.py, without its puts, takes and judgements. In half of them, and in
 all with small tables, each step is drained before the next one: then the counts of every node and link, the fault and the kind of the
 doubt have to be those of `run`. In the others each node has sent as often as the scenario says. In all of them each copy that was put was
-taken or lost, and `audit` of the text has the status of `threads`, and prints the report that tells of the text. A run that hasn't ended after a
-minute is a failure. Each failure is shown; the last line says how many scenarios passed, and the status is 0 if all did.
+taken or lost, each arrival was judged by the worker of its port, and `audit` of the text has the status of `threads`, and prints the
+report that tells of the text. A run that hasn't ended after a minute is a failure. Each failure is shown; the last line says how many scenarios passed, and the status is 0 if all did.
 """
 import random
 import subprocess
@@ -17,6 +17,7 @@ import compare
 import model
 
 SECONDS = 60
+PORTS = {"A": 0, "B": 1, "C": 2, "D": 3, "I": 2, "P": 0}  # by their letters
 LIVELY = ("send", "life", "inject")  # steps that bring copies about
 
 
@@ -63,6 +64,17 @@ def look_at(made, report):
         expect(f"link {number}: copies put", int(put), int(taken) + int(lost))
 
 
+def look_at_workers(text):
+    """Each arrival was judged by the worker of its port."""
+    node = -1
+    for line in text.splitlines():
+        word, *rest = line.split()
+        if word == "record":
+            node += 1
+        elif len(rest) > 2 and rest[1] == "arrive":
+            expect(f"worker of an arrival at {node} {rest[2]}", int(word), 1 + 8 * node + PORTS[rest[2]])
+
+
 def try_one(program, seed):
     """What became of a scenario, in a word or two."""
     chance = random.Random(seed)
@@ -85,6 +97,7 @@ def try_one(program, seed):
             if is_drained:
                 expect("fault", fault, ran_fault)
             return "fault: " + " ".join("step .." if word == "step" else word for word in fault.split()[1:] if not word.isdigit())
+        look_at_workers(text)
         audit_status, report, audit_fault = bench(program, ["audit", *table], text)
         expect("status of the audit", (audit_status, audit_fault), (status, ""))
         look_at(made, report)
