@@ -5,8 +5,9 @@
 COUNT (300) scenarios, from SEED (1) on, by the generator of compare.py, without its puts, takes and judgements. In half of them, and in
 all with small tables, each step is drained before the next one: then the counts of every node and link, the fault and the kind of the
 doubt have to be those of `run`. In the others each node has sent as often as the scenario says. In all of them each copy that was put was
-taken or lost, each arrival was judged by the worker of its port, and `audit` of the text has the status of `threads`, and prints the
-report that tells of the text. A run that hasn't ended after a minute is a failure. Each failure is shown; the last line says how many scenarios passed, and the status is 0 if all did.
+taken or lost, each arrival was judged by the worker of its port, each node's ager aged it at the last clock, and `audit` of the text has
+the status of `threads`, and prints the report that tells of the text. A run that hasn't ended after a minute is a failure. Each failure is
+shown; the last line says how many scenarios passed, and the status is 0 if all did.
 """
 import random
 import subprocess
@@ -64,15 +65,42 @@ def look_at(made, report):
         expect(f"link {number}: copies put", int(put), int(taken) + int(lost))
 
 
-def look_at_workers(text):
-    """Each arrival was judged by the worker of its port."""
-    node = -1
+def last_clock(made):
+    """The moment of the last clock step, in microseconds."""
+    moments = [step["at"] for step in made["step"] if step["do"] == "clock"]
+    return (moments or [0])[-1] * model.MICROSECONDS[made.get("unit", "ms")]
+
+
+def look_at_record(made, node, lines):
+    """Each arrival was judged by the worker of its port; the ager aged, at the last clock too; the main worker did the steps."""
+    own, aged = Counter(), []
+    for worker, at, done, *rest in lines:
+        if done == "arrive":
+            expect(f"worker of an arrival at {node} {rest[0]}", int(worker), 1 + 8 * node + PORTS[rest[0]])
+        elif done == "age" and worker != "0":
+            expect(f"ager of {node}", int(worker), 8 + 8 * node)
+            aged.append(int(at))
+        else:
+            expect(f"worker of a step at {node}", worker, "0")
+            own[done] += 1
+    expect(f"last moment at which {node} was aged", (aged or [0])[-1], last_clock(made))
+    told = Counter(step["do"] for step in made["step"] if step.get("node") == made["node"][node]["name"])
+    expect(f"ages of {node} that were steps", own["age"], told["age"])
+
+
+def look_at_workers(made, text):
+    """What each record says of who did it."""
+    records = []
     for line in text.splitlines():
         word, *rest = line.split()
         if word == "record":
-            node += 1
-        elif len(rest) > 2 and rest[1] == "arrive":
-            expect(f"worker of an arrival at {node} {rest[2]}", int(word), 1 + 8 * node + PORTS[rest[2]])
+            records.append([])
+        elif word == "carried":
+            break
+        elif records:
+            records[-1].append([word, *rest])
+    for node, lines in enumerate(records):
+        look_at_record(made, node, lines)
 
 
 def try_one(program, seed):
@@ -97,7 +125,7 @@ def try_one(program, seed):
             if is_drained:
                 expect("fault", fault, ran_fault)
             return "fault: " + " ".join("step .." if word == "step" else word for word in fault.split()[1:] if not word.isdigit())
-        look_at_workers(text)
+        look_at_workers(made, text)
         audit_status, report, audit_fault = bench(program, ["audit", *table], text)
         expect("status of the audit", (audit_status, audit_fault), (status, ""))
         look_at(made, report)

@@ -142,6 +142,32 @@ fn rows_of_a_link_under_a_lock(rt: HostRuntime) -> Result<(), Fail> {
     Ok(())
 }
 
+/// With room for two copies: a mend of a whole link takes nothing away, the oldest comes first, and a cut tells how many it lost.
+#[test]
+fn order_and_cuts_under_a_lock(rt: HostRuntime) -> Result<(), Fail> {
+    let cell = LinkCell::new(Link::new(rt.alloc(), 2)?);
+    let copy = |place| copy_of(rt.alloc(), place);
+    assert!(rt; cell.cut(&rt) == 0);
+    assert!(rt; cell.put(&rt, Dir::Forth, copy(0)).ok() == Some(Fate::LostDown));
+    cell.mend(&rt);
+    assert!(rt; cell.put(&rt, Dir::Forth, copy(1)).ok() == Some(Fate::Queued));
+    assert!(rt; cell.put(&rt, Dir::Forth, copy(2)).ok() == Some(Fate::Queued));
+    assert!(rt; cell.put(&rt, Dir::Forth, copy(3)).ok() == Some(Fate::LostOverrun));
+    cell.mend(&rt);
+    let taken = cell.take_or_closed(&rt, Dir::Forth);
+    assert!(rt; taken.is_some_and(|carried| place_of(&carried) == Some(1)));
+    assert!(rt; cell.cut(&rt) == 1);
+    let rows = cell.into_link().into_rows();
+    let told = [
+        (Some(0), Fate::LostDown),
+        (Some(1), Fate::Taken),
+        (Some(2), Fate::LostCut),
+        (Some(3), Fate::LostOverrun),
+    ];
+    assert!(rt; fates(rt.alloc(), rows.as_slice())?.as_slice() == told.as_slice());
+    Ok(())
+}
+
 /// The usual payload; where room is refused, it is asked for again.
 fn payload(rt: &HostRuntime) -> Result<Octets, Fail> {
     Ok(match Octets::from_slice(rt.alloc(), &PAYLOAD) {

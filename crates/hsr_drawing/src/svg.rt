@@ -54,13 +54,12 @@ fn put_title<const C: usize>(
             Part::Number(topology.links().len() as u64),
             Part::Words(" links, tables of "),
             Part::Number(C as u64),
-            Part::Words("; shown: "),
+            Part::Words("; shown: sends "),
             Part::Number(picture.sends.len() as u64),
-            Part::Words(" sends, "),
+            Part::Words(", complete "),
             Part::Number(complete(picture) as u64),
-            Part::Words(" complete, "),
+            Part::Words(", copies "),
             Part::Number(picture.arrows.len() as u64),
-            Part::Words(" copies"),
         ],
     )?;
     put_label(

@@ -1,5 +1,5 @@
 //! A place for each of some numbers, by an index.
-ghost use Rattle.std.specs.Prelude.{◌≡◌, ℕ, if◌then◌else◌, nat_eq, OnOk};
+ghost use Rattle.std.specs.Prelude.{◌≡◌, ℕ, if◌then◌else◌, nat_eq, OnOk, OnErr};
 ghost use Rattle.hsr_index.specs.Turns.{place_at};
 
 use hsr_frame::NoMemory;
@@ -38,9 +38,10 @@ impl Places {
         self.places.get(&number).copied().unwrap_or(0)
     }
 
-    /// Gives a number a place, in place of the one that it had. `NoMemory` where room for it is refused.
+    /// Gives a number a place, in place of the one that it had. `NoMemory` where room for it is refused: then nothing changes.
     pub fn put(&mut self, number: usize, place: usize) -> Result<(), NoMemory>
-        ensures { OnOk result ((other : ℕ) → place_at self.new other ≡ (if nat_eq number other then place else place_at self.old other)) }
+        ensures ok { OnOk result ((other : ℕ) → place_at self.new other ≡ (if nat_eq number other then place else place_at self.old other)) }
+        ensures err { OnErr result (self.new ≡ self.old) }
     {
         match self.places.insert(number, place) {
             Ok(_) => Ok(()),

@@ -1,7 +1,7 @@
 //! Nodes and stations that were heard.
 use hsr_frame::{Mac, RingPort};
 use hsr_supervision::{SupKind, Supervision};
-use hsr_tables::{NodeRow, NodeTable, ProxyTable};
+use hsr_tables::{LIFE_CHECK, NODE_FORGET, NodeRow, NodeTable, ProxyTable, ROW_LIMIT};
 use std::process::Abort;
 
 /// An address that ends in this octet.
@@ -118,4 +118,12 @@ fn begins_anew(rt: &impl Abort, nodes: &mut NodeTable) -> bool {
 fn pushed_out_begins_anew(rt: HostRuntime) {
     let mut nodes = NodeTable::new();
     assert!(rt; begins_anew(&rt, &mut nodes));
+}
+
+/// What users read of times and sizes is what the standard and this profile say.
+#[test]
+fn numbers_of_the_tables(rt: HostRuntime) {
+    assert_eq!(rt; NODE_FORGET, 60_000_000);
+    assert_eq!(rt; LIFE_CHECK, 2_000_000);
+    assert_eq!(rt; ROW_LIMIT, 64);
 }

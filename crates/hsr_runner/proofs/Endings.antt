@@ -1,10 +1,10 @@
 -- How the threads of a run end.
-use Rattle.std.proofs.Common.{ℕ, ◌≡◌, ◌≤◌, Bool, true, false, subst, length, IfSome, inl, inr, refl, arith}
+use Rattle.std.proofs.Common.{ℕ, ◌≡◌, ◌≤◌, Bool, true, false, subst, length, None, IfSome, inl, inr, refl, arith}
 use Rattle.hsr_scenario.specs.Meaning.{Meant}
 use Rattle.hsr_closing.specs.declared.disagree.CheckFault.TheVariants as check
 use Rattle.hsr_step.specs.declared.step.WorldFault.TheVariants as world
 use Rattle.hsr_runner.specs.Endings.{IsCheckFault, IsConducted, IsEnding, IsPlayFault, fault_of, worker_fault}
-use Rattle.hsr_runner.specs.Faults.{IsRunFault, is_fine_step}
+use Rattle.hsr_runner.specs.Faults.{AllFit, IsRunFault, is_fine_step}
 use Rattle.hsr_runner.specs.declared.conduct.Conducted.{Conducted}
 use Rattle.hsr_runner.specs.declared.conduct.Conducted.TheVariants.{All, Left, Own}
 use Rattle.hsr_runner.specs.declared.conduct.Conducted.TheVariants as conducted
@@ -29,7 +29,10 @@ worker_end capacity may_shut s k NoMemory below h = tt
 pub play_fault : (capacity : ℕ) (may_shut : Bool) (s : Meant) (c : Conducted) (ending : Ending) → IsConducted capacity may_shut s c → IsEnding capacity may_shut ending
     → IfSome (fault_of c ending (length s.steps)) (λ f. IsPlayFault capacity may_shut s f)
 play_fault capacity may_shut s All ending c h = worker_end capacity may_shut s (length s.steps) ending (omega arith) h
-play_fault capacity may_shut s (Left k) ending c h = worker_end capacity may_shut s k ending c h
+play_fault capacity may_shut s (Left k) Stopped c h = tt
+play_fault capacity may_shut s (Left k) Shut c h = h
+play_fault capacity may_shut s (Left k) (Refused f) c h = (c, inr h)
+play_fault capacity may_shut s (Left k) NoMemory c h = tt
 play_fault capacity may_shut s (Own k world.NoMemory) ending c h = tt
 play_fault capacity may_shut s (Own k (world.Node f)) ending c h = (omega (arith, c.0), inl c.1)
 play_fault capacity may_shut s (Own k world.NoSuchNode) ending c h = (omega (arith, c.0), inl c.1)
@@ -41,6 +44,26 @@ play_fault capacity may_shut s (Own k world.TooLong) ending c h = (omega (arith,
 play_fault capacity may_shut s conducted.Shut ending c h = c
 play_fault capacity may_shut s conducted.NoThread ending c h = tt
 play_fault capacity may_shut s conducted.NoMemory ending c h = tt
+
+-- where there is a run, each step fits
+pub all_fit : (capacity : ℕ) (may_shut : Bool) (s : Meant) (c : Conducted) (ending : Ending) (last : ℕ) → IsConducted capacity may_shut s c → fault_of c ending last ≡ None
+    → AllFit s.topology s.steps
+all_fit capacity may_shut s All ending last c is = c
+all_fit capacity may_shut s (Left k) Stopped last c is = absurd cc
+all_fit capacity may_shut s (Left k) Shut last c is = absurd cc
+all_fit capacity may_shut s (Left k) (Refused f) last c is = absurd cc
+all_fit capacity may_shut s (Left k) NoMemory last c is = absurd cc
+all_fit capacity may_shut s (Own k world.NoMemory) ending last c is = absurd cc
+all_fit capacity may_shut s (Own k (world.Node f)) ending last c is = absurd cc
+all_fit capacity may_shut s (Own k world.NoSuchNode) ending last c is = absurd cc
+all_fit capacity may_shut s (Own k world.NoSuchLink) ending last c is = absurd cc
+all_fit capacity may_shut s (Own k world.NoSuchPort) ending last c is = absurd cc
+all_fit capacity may_shut s (Own k world.Busy) ending last c is = absurd cc
+all_fit capacity may_shut s (Own k world.Nothing) ending last c is = absurd cc
+all_fit capacity may_shut s (Own k world.TooLong) ending last c is = absurd cc
+all_fit capacity may_shut s conducted.Shut ending last c is = absurd cc
+all_fit capacity may_shut s conducted.NoThread ending last c is = absurd cc
+all_fit capacity may_shut s conducted.NoMemory ending last c is = absurd cc
 
 -- what is known of a fault that threads leave
 pub run_fault : (capacity : ℕ) (may_shut : Bool) (s : Meant) (f : RunFault) → IsPlayFault capacity may_shut s f → IsRunFault capacity s f

@@ -3,6 +3,7 @@
 --     IsConducted  how the main worker may end
 --     IsPlayFault  why threads that were started leave no run
 use Rattle.std.specs.Prelude.{ℕ, ◌≡◌, ◌≤◌, ◌<◌, Bool, true, length, slice_get, MatchOption, Option, Some, None}
+use Rattle.std.specs.Option.{option_or}
 use Rattle.hsr_scenario.specs.Meaning.{Meant}
 use Rattle.hsr_step.specs.declared.step.WorldFault.{WorldFault}
 use Rattle.hsr_step.specs.declared.step.WorldFault.TheVariants.{Node, NoMemory as NoRoom}
@@ -12,7 +13,7 @@ use Rattle.hsr_topology.specs.Topology.{Topology}
 use Rattle.hsr_closing.specs.declared.disagree.CheckFault.TheVariants as check
 use Rattle.hsr_closing.specs.declared.planned.Planned.{Planned}
 use Rattle.hsr_scenario.specs.declared.steps.Order.{Order}
-use Rattle.hsr_runner.specs.Faults.{IsRefusedCopy, IsRefusedEvent, IsRefusedOrder, IsRunFault, if_node}
+use Rattle.hsr_runner.specs.Faults.{AllFit, IsRefusedCopy, IsRefusedEvent, IsRefusedOrder, IsRunFault, if_node}
 use Rattle.hsr_runner.specs.declared.conduct.Conducted.{Conducted}
 use Rattle.hsr_runner.specs.declared.conduct.Conducted.TheVariants.{All, Left, Own}
 use Rattle.hsr_runner.specs.declared.conduct.Conducted.TheVariants as conducted
@@ -53,9 +54,14 @@ IsPlanEnd capacity topology planned fault = if_node topology planned.node ≡ So
 abbrev pub IsOwnEnd : ℕ → Meant → ℕ → WorldFault → Type 0
 IsOwnEnd capacity s k fault = MatchOption (slice_get s.steps k) ⊥ (λ o. IsOrderEnd capacity s.topology o fault)
 
--- the main worker ends after all steps, or at a place, or by its gate where that may shut
+-- what is planned of an order is for a node that is there
+abbrev pub FitsNode : Topology → Option Planned → Type 0
+FitsNode topology None = Unit {0}
+FitsNode topology (Some planned) = if_node topology planned.node ≡ None
+
+-- the main worker ends after all steps, of which each fits; or at a place, or by its gate where that may shut
 abbrev pub IsConducted : ℕ → Bool → Meant → Conducted → Type 0
-IsConducted capacity may_shut s All = Unit {0}
+IsConducted capacity may_shut s All = AllFit s.topology s.steps
 IsConducted capacity may_shut s (Left k) = k ≤ length s.steps
 IsConducted capacity may_shut s (Own k fault) = (k < length s.steps) × IsOwnEnd capacity s k fault
 IsConducted capacity may_shut s conducted.Shut = may_shut ≡ true
@@ -69,10 +75,11 @@ worker_fault k Shut = Some fault.GateShut
 worker_fault k (Refused f) = Some (fault.Step k (Node f))
 worker_fault k NoMemory = Some fault.NoMemory
 
--- why there is no run where the main worker ended so, of so many steps, and the lowest of the others: the main worker's reason first
+-- Why there is no run where the main worker ended so, of so many steps, and the lowest of the others: the main worker's reason first. It is
+-- told to stop only by one that gave up.
 abbrev pub fault_of : Conducted → Ending → ℕ → Option RunFault
 fault_of All ending last = worker_fault last ending
-fault_of (Left k) ending last = worker_fault k ending
+fault_of (Left k) ending last = option_or (worker_fault k ending) (Some fault.Thread)
 fault_of (Own k NoRoom) ending last = Some fault.NoMemory
 fault_of (Own k f) ending last = Some (fault.Step k f)
 fault_of conducted.Shut ending last = Some fault.GateShut

@@ -1,8 +1,9 @@
 -- What is known of the reason why there is no run.
 --     misfit        why a step is refused whatever was done before it
+--     AllFit        no step of these is
 --     IsOwnFault    why the order at a place is refused
 --     IsRunFault    why there is no run of a scenario
-use Rattle.std.specs.Prelude.{ℕ, ◌≡◌, ◌≤◌, ◌⊎◌, nat_lt, Bool, true, false, if◌then◌else◌, List, length, slice_get, position, MatchOption, Option, Some, None, Err}
+use Rattle.std.specs.Prelude.{ℕ, ◌≡◌, ◌≤◌, ◌⊎◌, nat_lt, Bool, true, false, if◌then◌else◌, List, [], ◌∷◌, length, slice_get, position, MatchOption, Option, Some, None, Err}
 use Rattle.hsr_topology.specs.Topology.{Topology}
 use Rattle.hsr_node.specs.Cell.{IsLegalRecord}
 use Rattle.hsr_node.specs.Kept.{Record, answer_to}
@@ -48,6 +49,11 @@ misfit topology (order.Step (Cut link)) = if_link topology link None
 misfit topology (order.Step (Mend link)) = if_link topology link None
 misfit topology (order.Step (Inject link dir octets)) = if_link topology link (too_long octets)
 misfit topology _ = None
+
+-- no step of these is refused whatever was done before
+abbrev pub AllFit : Topology → List Order → Type 0
+AllFit topology [] = Unit {0}
+AllFit topology (o ∷ os) = (misfit topology o ≡ None) × AllFit topology os
 
 -- ---- steps that a node refuses
 

@@ -1,9 +1,10 @@
 //! The main worker.
-ghost use Rattle.std.specs.Prelude.{◌≡◌, ◌⊎◌, IfErr, None, Some, length, vec_len};
+ghost use Rattle.std.specs.Prelude.{◌≡◌, ◌⊎◌, IfErr, IfOk, None, Some, length, vec_len};
 ghost use Rattle.hsr_step.specs.declared.step.WorldFault.TheVariants.{NoMemory as NoRoom};
-ghost use Rattle.hsr_runner.specs.Faults.{if_link, too_long};
+ghost use Rattle.hsr_runner.specs.Faults.{if_link, if_node, misfit, too_long};
 ghost use Rattle.hsr_scenario.specs.Meaning.{scenario_view};
-ghost use Rattle.hsr_runner.specs.Endings.{IsConducted, IsOrderEnd, IsPlanEnd, own_fault};
+ghost use Rattle.hsr_runner.specs.Endings.{FitsNode, IsConducted, IsOrderEnd, IsPlanEnd, own_fault};
+ghost use Rattle.hsr_runner.specs.Plan.{planned_at};
 
 use crate::cells::Cells;
 use crate::gate::Gate;
@@ -56,7 +57,8 @@ fn bring<const C: usize>(
     planned: Planned,
 ) -> Result<(), WorldFault>
     requires { vec_len cells.now.seats ≡ length topology.now.places }
-    ensures { IfErr result (λ fault. IsPlanEnd C topology.now planned fault) }
+    ensures fits { IfOk result (λ u. if_node topology.now planned.node ≡ None) }
+    ensures fault { IfErr result (λ fault. IsPlanEnd C topology.now planned fault) }
 {
     let Some(seat) = cells.seats.get(planned.node) else {
         return Err(WorldFault::NoSuchNode);
@@ -83,7 +85,8 @@ fn bring_order<const C: usize>(
     order: &Order,
 ) -> Result<(), WorldFault>
     requires { vec_len cells.now.seats ≡ length topology.now.places }
-    ensures { IfErr result (λ fault. IsOrderEnd C topology.now order.now fault) }
+    ensures fits { IfOk result (λ u. FitsNode topology.now (planned_at at order.now)) }
+    ensures fault { IfErr result (λ fault. IsOrderEnd C topology.now order.now fault) }
 {
     let planned = match planned_at(at, order) {
         Ok(Some(planned)) => planned,
@@ -101,7 +104,8 @@ fn cut<const C: usize>(
     link: usize,
 ) -> Result<(), WorldFault>
     requires { vec_len cells.now.links ≡ length topology.now.links }
-    ensures { IfErr result (λ fault. if_link topology.now link None ≡ Some fault) }
+    ensures fits { IfOk result (λ u. if_link topology.now link None ≡ None) }
+    ensures fault { IfErr result (λ fault. if_link topology.now link None ≡ Some fault) }
 {
     let Some(cell) = cells.links.get(link) else {
         return Err(WorldFault::NoSuchLink);
@@ -118,7 +122,8 @@ fn mend<const C: usize>(
     link: usize,
 ) -> Result<(), WorldFault>
     requires { vec_len cells.now.links ≡ length topology.now.links }
-    ensures { IfErr result (λ fault. if_link topology.now link None ≡ Some fault) }
+    ensures fits { IfOk result (λ u. if_link topology.now link None ≡ None) }
+    ensures fault { IfErr result (λ fault. if_link topology.now link None ≡ Some fault) }
 {
     let Some(cell) = cells.links.get(link) else {
         return Err(WorldFault::NoSuchLink);
@@ -138,7 +143,8 @@ fn inject_on<const C: usize>(
     octets: &Octets,
 ) -> Result<(), WorldFault>
     requires { vec_len cells.now.links ≡ length topology.now.links }
-    ensures { IfErr result (λ fault. (fault ≡ NoRoom) ⊎ (if_link topology.now link (too_long octets.now) ≡ Some fault)) }
+    ensures fits { IfOk result (λ u. if_link topology.now link (too_long octets.now) ≡ None) }
+    ensures fault { IfErr result (λ fault. (fault ≡ NoRoom) ⊎ (if_link topology.now link (too_long octets.now) ≡ Some fault)) }
 {
     if link >= cells.links.len() {
         return Err(WorldFault::NoSuchLink);
@@ -165,7 +171,8 @@ fn obey<const C: usize>(
 ) -> Result<bool, WorldFault>
     requires nodes { vec_len cells.now.seats ≡ length topology.now.places }
     requires links { vec_len cells.now.links ≡ length topology.now.links }
-    ensures { IfErr result (λ fault. IsOrderEnd C topology.now order.now fault) }
+    ensures fits { IfOk result (λ more. misfit topology.now order.now ≡ None) }
+    ensures fault { IfErr result (λ fault. IsOrderEnd C topology.now order.now fault) }
 {
     let Order::Step(step) = order else {
         return Ok(cells.flight.settles(rt));

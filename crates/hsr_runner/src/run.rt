@@ -1,7 +1,7 @@
 //! A scenario that runs in threads.
 ghost use Rattle.std.specs.Prelude.{◌≡◌, ◌≤◌, Err, false, true, IfErr, IfOk, MatchOption, position};
 ghost use Rattle.hsr_scenario.specs.Meaning.{scenario_view};
-ghost use Rattle.hsr_runner.specs.Faults.{IsRunFault, is_fine_step};
+ghost use Rattle.hsr_runner.specs.Faults.{AllFit, IsRunFault, is_fine_step};
 ghost use Rattle.hsr_runner.specs.Endings.{IsCheckFault, IsPlayFault};
 ghost use Rattle.hsr_runner.specs.Plan.{is_fine};
 ghost use Rattle.hsr_runner.specs.Runs.{IsRunOf, IsRunWith};
@@ -38,7 +38,8 @@ fn run_unchecked<const C: usize, G: Gate, R: Threads + Wait + Sync>(
     gate: &G,
 ) -> Result<Left<C>, RunFault>
     requires entries { (1 ≤ C) × (C ≤ 65535) }
-    ensures { IfErr result (λ fault. IsPlayFault C G.may_shut (scenario_view scenario.now) fault) }
+    ensures fits { IfOk result (λ left. AllFit scenario.now.topology scenario.now.steps.items) }
+    ensures fault { IfErr result (λ fault. IsPlayFault C G.may_shut (scenario_view scenario.now) fault) }
 {
     let Ok(roles) = roles_of(alloc, &scenario.topology) else {
         return Err(RunFault::NoMemory);
@@ -82,7 +83,8 @@ fn checked<const C: usize>(
 /// and at the end waits until no copy is in flight. Then all threads are joined, and what they left is checked. Duplicate tables have
 /// `C` entries each.
 ///
-/// Only a finished run is answered. The first of these faults is: `FineStep` exactly where the scenario has a Put, Take or
+/// Only a finished run is answered, of a scenario in which each step names a node or link that is there and injects at most 2048 octets.
+/// The first of these faults is: `FineStep` exactly where the scenario has a Put, Take or
 /// Judge, with its lowest place, and then no thread was started; the main worker's own `Step`, `GateShut`, `Thread` or `NoMemory`;
 /// that of the lowest worker that gave up, `GateShut`, `NoMemory` or `Step`; and `Check`. `GateShut` comes only where the type of the
 /// gate may answer false. It waits for its threads and may not return; what is said of its answer is said if it does.
@@ -95,6 +97,7 @@ pub fn run_threads<const C: usize, G: Gate, R: Threads + Wait + Sync>(
 ) -> Result<Closed<C>, RunFault>
     requires entries { (1 ≤ C) × (C ≤ 65535) }
     ensures closed { IfOk result (λ closed. IsRunOf C (scenario_view scenario.now) closed) }
+    ensures fits { IfOk result (λ closed. AllFit scenario.now.topology scenario.now.steps.items) }
     ensures fine { MatchOption (position is_fine scenario.now.steps.items) (IfErr result (λ fault. is_fine_step fault ≡ false)) (λ k. result ≡ Err (FineStep k)) }
     ensures shut { result ≡ Err Shut → G.may_shut ≡ true }
     ensures fault { IfErr result (λ fault. IsRunFault C (scenario_view scenario.now) fault) }

@@ -1,7 +1,8 @@
 //! The threads of a run.
-ghost use Rattle.std.specs.Prelude.{◌≡◌, IfErr, IfSome, length, vec_len};
+ghost use Rattle.std.specs.Prelude.{◌≡◌, IfErr, IfOk, IfSome, length, vec_len};
 ghost use Rattle.hsr_scenario.specs.Meaning.{scenario_view};
-ghost use Rattle.hsr_runner.specs.Endings.{IsConducted, IsEnding, IsPlayFault, fault_of};
+ghost use Rattle.hsr_runner.specs.Endings.{IsConducted, IsEnding, IsPlayFault, fault_of, worker_fault};
+ghost use Rattle.hsr_runner.specs.Faults.{AllFit};
 
 use crate::ager::age;
 use crate::cells::Cells;
@@ -110,21 +111,10 @@ fn join_all<const C: usize, G: Gate, R: Threads>(
     first
 }
 
-/// Why there is no run where the main worker and the others ended so, in the order of the faults; none where all is done. `last` is the
-/// place after the last step.
-fn fault_of(conducted: Conducted, ending: Ending, last: usize) -> Option<RunFault>
-    ensures { result ≡ fault_of conducted ending last }
+/// Why there is no run where the main worker was at a place when the lowest of the others that gave up ended so.
+fn worker_fault(step: usize, ending: Ending) -> Option<RunFault>
+    ensures { result ≡ worker_fault step ending }
 {
-    let step = match conducted {
-        Conducted::Own(_, WorldFault::NoMemory) | Conducted::NoMemory => {
-            return Some(RunFault::NoMemory);
-        }
-        Conducted::Own(step, fault) => return Some(RunFault::Step { step, fault }),
-        Conducted::Shut => return Some(RunFault::GateShut),
-        Conducted::NoThread => return Some(RunFault::Thread),
-        Conducted::Left(step) => step,
-        Conducted::All => last,
-    };
     match ending {
         Ending::Stopped => None,
         Ending::Shut => Some(RunFault::GateShut),
@@ -136,9 +126,25 @@ fn fault_of(conducted: Conducted, ending: Ending, last: usize) -> Option<RunFaul
     }
 }
 
+/// Why there is no run where the main worker and the others ended so, in the order of the faults; none where all is done. `last` is the
+/// place after the last step.
+fn fault_of(conducted: Conducted, ending: Ending, last: usize) -> Option<RunFault>
+    ensures { result ≡ fault_of conducted ending last }
+{
+    match conducted {
+        Conducted::All => worker_fault(last, ending),
+        // it was told to stop by one that gave up, so there is a reason
+        Conducted::Left(step) => worker_fault(step, ending).or(Some(RunFault::Thread)),
+        Conducted::Own(_, WorldFault::NoMemory) | Conducted::NoMemory => Some(RunFault::NoMemory),
+        Conducted::Own(step, fault) => Some(RunFault::Step { step, fault }),
+        Conducted::Shut => Some(RunFault::GateShut),
+        Conducted::NoThread => Some(RunFault::Thread),
+    }
+}
+
 /// Does the scenario's own steps, unless a thread is missing; tells all to stop, and joins them. The passes come by the numbers of their
 /// workers, the main worker's first.
-#[tactic(auto, using(crate::proofs::Endings::play_fault))]
+#[tactic(auto, using(crate::proofs::Endings::play_fault, crate::proofs::Endings::all_fit))]
 fn finish<const C: usize, G: Gate, R: Threads + Wait>(
     rt: &R,
     alloc: Global,
@@ -151,7 +157,8 @@ fn finish<const C: usize, G: Gate, R: Threads + Wait>(
     requires nodes { vec_len cells.now.seats ≡ length scenario.now.topology.places }
     requires links { vec_len cells.now.links ≡ length scenario.now.topology.links }
     requires unstarted { IfSome unstarted (λ c. IsConducted C G.may_shut (scenario_view scenario.now) c) }
-    ensures { IfErr result (λ fault. IsPlayFault C G.may_shut (scenario_view scenario.now) fault) }
+    ensures fits { IfOk result (λ passes. AllFit scenario.now.topology scenario.now.steps.items) }
+    ensures fault { IfErr result (λ fault. IsPlayFault C G.may_shut (scenario_view scenario.now) fault) }
 {
     let mut main = Pass::new(alloc, 0);
     let conducted = match unstarted {
@@ -182,7 +189,8 @@ pub(crate) fn play<const C: usize, G: Gate, R: Threads + Wait + Sync>(
 ) -> Result<Vec<Pass>, RunFault>
     requires nodes { vec_len cells.now.seats ≡ length scenario.now.topology.places }
     requires links { vec_len cells.now.links ≡ length scenario.now.topology.links }
-    ensures { IfErr result (λ fault. IsPlayFault C G.may_shut (scenario_view scenario.now) fault) }
+    ensures fits { IfOk result (λ passes. AllFit scenario.now.topology scenario.now.steps.items) }
+    ensures fault { IfErr result (λ fault. IsPlayFault C G.may_shut (scenario_view scenario.now) fault) }
 {
     thread::scope(
         thread::scope_env(),
@@ -190,7 +198,8 @@ pub(crate) fn play<const C: usize, G: Gate, R: Threads + Wait + Sync>(
         |scope| -> Result<Vec<Pass>, RunFault>
             requires nodes { vec_len cells.now.seats ≡ length scenario.now.topology.places }
             requires links { vec_len cells.now.links ≡ length scenario.now.topology.links }
-            ensures { IfErr result (λ fault. IsPlayFault C G.may_shut (scenario_view scenario.entry.now) fault) }
+            ensures fits { IfOk result (λ passes. AllFit scenario.entry.now.topology scenario.entry.now.steps.items) }
+            ensures fault { IfErr result (λ fault. IsPlayFault C G.may_shut (scenario_view scenario.entry.now) fault) }
         {
             let Ok(mut handles) = Vec::with_capacity(alloc, roles.len()) else {
                 return Err(RunFault::NoMemory);

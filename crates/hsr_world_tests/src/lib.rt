@@ -8,8 +8,6 @@ mod budget_tests;
 #[cfg(test)]
 mod closing_tests;
 #[cfg(test)]
-mod ring_rows_tests;
-#[cfg(test)]
 mod world_closing_tests;
 #[cfg(test)]
 mod world_tests;
