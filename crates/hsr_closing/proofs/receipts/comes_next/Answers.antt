@@ -36,4 +36,4 @@ returns-clause-comes g c is rest =
     (λ d.
     let from : ℕ → Type 0 = λ m. IsNext c.args.worker (get_or kept r.node d).entries m r.place in
     subst from c.at-from.ensures ((c.if-not-is_next.ensures.next d).0 refl).1)
-    c.in_ok-put.ensures rest
+    c.in_ok-put.ensures.ok rest

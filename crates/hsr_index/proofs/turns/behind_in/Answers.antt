@@ -15,7 +15,7 @@ loop-place-preserved c =
           (subst (IsBehind x.worker entries place) (sym c.at.ensures) (subst (λ w. IsBehind x.worker entries place (place_at c.loop-place.latest w)) (sym c.from-worker.ensures) (old.latest x.worker)))
           c.loop-place-test.true c.index-entries-place.is c.in_ok-add.ensures;
       latest = latest_more entries place worker x (place_at c.loop-place.latest) (place_at c.put.new.self) c.loop-place-test.true c.index-entries-place.is c.from-worker.ensures old.latest
-          c.in_ok-put.ensures;
+          c.in_ok-put.ensures.ok;
     }
 
 pub returns : goal.returns

@@ -21,7 +21,7 @@ loop-i-preserved g c =
     let pair : pair_of c.main_by-entry.result c.loop-i.before ≡ main_pair run plan i =
     ap (λ (e : Option Spot). pair_of e c.loop-i.before) entry ∙ ap (λ (b : Option Spot). pair_of (main_at run plan i) b) c.loop-i.invariant.before in
     record {
-      counts = λ node. c.in_ok-put.ensures node ∙ counts_more plan i x node c.at-count.result _ below c.index-plan-i.is counted (c.loop-i.invariant.counts node);
+      counts = λ node. c.in_ok-put.ensures.ok node ∙ counts_more plan i x node c.at-count.result _ below c.index-plan-i.is counted (c.loop-i.invariant.counts node);
       before = entry ∙ sym (before_more run plan i);
       pairs =
           c.in_ok-list_pair.ensures
