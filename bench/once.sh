@@ -1,7 +1,8 @@
 #!/usr/bin/env bash
 # One read of standard input, or one write to standard output, fails, and the next would not (by a small preloaded library, for cc and
-# GNU on Linux): each command has to end at once with status 1 and tell which it was, and what it has written is a front of what it
-# writes otherwise. And `node` has to tell a bad line while its input is still open.
+# GNU on Linux): each command has to end at once with status 1 and tell which it was. After a read that failed it has written a front of
+# what it writes otherwise, and not all of it; after a write that failed a front or all, since what stands in the buffer is tried once
+# more at the end. And `node` has to tell a bad line while its input is still open.
 #
 #     bench/once.sh PROGRAM
 set -u
@@ -15,11 +16,12 @@ count() {
   if [ "$2" = yes ]; then passed=$((passed + 1)); else failed=$((failed + 1)); echo "differs: $1"; fi
 }
 
-# Whether the command ended with status 1 and this fault, and wrote a front of what it writes otherwise, but not all.
+# is_stopped STATUS WHAT: whether the command ended with status 1 and this fault, and has written no more than it may.
 is_stopped() {
-  local size
-  size=$(stat -c %s "$work/out")
-  [ "$1" = 1 ] && [ "$(cat "$work/err")" = "fault: $2" ] && [ "$size" -lt "$(stat -c %s "$work/whole")" ] && cmp -sn "$size" "$work/out" "$work/whole"
+  local size whole
+  size=$(stat -c %s "$work/out") whole=$(stat -c %s "$work/whole")
+  [ "$2" = write ] || whole=$((whole - 1))
+  [ "$1" = 1 ] && [ "$(cat "$work/err")" = "fault: $2" ] && [ "$size" -le "$whole" ] && cmp -sn "$size" "$work/out" "$work/whole"
 }
 
 # fail WHAT PLACE INPUT WORD..: the read or write at a place fails.
@@ -49,7 +51,7 @@ try "$work/long.toml" 3 1 threads
 try "$work/long.toml" 1 1 run --transcript
 try "$work/transcript" 2 1 audit
 
-row=$top/rows/first-path/bad-line
+row=$top/rows/arrivals/bad-line
 { cat "$row.in"; sleep 3; } | timeout 2 "$program" $(cat "$row.words") > "$work/out" 2> "$work/err"
 status=${PIPESTATUS[1]}
 if [ "$status" = "$(cat "$row.status")" ] && cmp -s "$work/out" "$row.out" && cmp -s "$work/err" "$row.err"; then count bad-line yes
