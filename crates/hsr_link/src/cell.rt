@@ -1,7 +1,7 @@
 //! A link that threads share.
-ghost use Rattle.std.specs.Prelude.{◌≡◌, true, IfErr, IfOk, MatchBool, None, is_some};
+ghost use Rattle.std.specs.Prelude.{◌≡◌, true, false, IfErr, IfOk, MatchBool, None, is_some};
 ghost use Rattle.hsr_link.specs.Cell.{is_put_fate, is_ready};
-ghost use Rattle.hsr_link.specs.Link.{take_step};
+ghost use Rattle.hsr_link.specs.Link.{add_step, cut_step, mended, take_step};
 
 use crate::link::Link;
 use crate::row::{Dir, Fate};
@@ -14,6 +14,59 @@ use std::sync::{Condvar, Mutex, Wait};
 struct Desk {
     link: Link,
     closed: bool,
+}
+
+/// The desk of a link, which isn't closed.
+fn desk_of(link: Link) -> Desk
+    ensures { result ≡ record { link = link; closed = false } }
+{
+    Desk {
+        link,
+        closed: false,
+    }
+}
+
+/// The link of a desk.
+fn link_of(desk: Desk) -> Link
+    ensures { result ≡ desk.link }
+{
+    desk.link
+}
+
+/// Adds the row of a copy that was put or injected.
+fn add_at(
+    desk: &mut Desk,
+    dir: Dir,
+    carried: Carried,
+    injected: bool,
+) -> Result<Fate, (Carried, NoMemory)>
+    ensures ok { IfOk result (λ fate. (fate, desk.new.link) ≡ add_step desk.old.link dir carried injected) }
+    ensures err { IfErr result (λ e. (desk.new ≡ desk.old) × (e.0 ≡ carried)) }
+    ensures closed { desk.new.closed ≡ desk.old.closed }
+{
+    desk.link.add(dir, carried, injected)
+}
+
+/// Cuts the link, and tells how many copies that waited are lost.
+fn cut_at(desk: &mut Desk) -> usize
+    ensures link { (result, desk.new.link) ≡ cut_step desk.old.link }
+    ensures closed { desk.new.closed ≡ desk.old.closed }
+{
+    desk.link.cut()
+}
+
+/// Mends the link.
+fn mend_at(desk: &mut Desk)
+    ensures { desk.new ≡ record desk.old { link = mended desk.old.link } }
+{
+    desk.link.mend();
+}
+
+/// Closes the desk.
+fn close_at(desk: &mut Desk)
+    ensures { desk.new ≡ record desk.old { closed = true } }
+{
+    desk.closed = true;
 }
 
 /// Whether there is nothing to wait for in a direction: a copy is there, or the desk is closed.
@@ -50,10 +103,7 @@ impl LinkCell {
     /// Puts a link under a lock. Waits for nobody, and needs no memory.
     pub fn new(link: Link) -> LinkCell {
         LinkCell {
-            desk: Mutex::new(Desk {
-                link,
-                closed: false,
-            }),
+            desk: Mutex::new(desk_of(link)),
             changed: Condvar::new(),
         }
     }
@@ -99,19 +149,19 @@ impl LinkCell {
         ensures ok { IfOk result (λ fate. is_put_fate fate ≡ true) }
         ensures err { IfErr result (λ e. e.0 ≡ carried) }
     {
-        let fate = self.desk.lock(rt).link.add(dir, carried, injected)?;
+        let fate = add_at(&mut self.desk.lock(rt), dir, carried, injected)?;
         self.changed.notify_all();
         Ok(fate)
     }
 
     /// Waits for the lock and cuts the link: all copies that wait are lost, and it tells how many. Needs no memory.
     pub fn cut(&self, rt: &impl Wait) -> usize {
-        self.desk.lock(rt).link.cut()
+        cut_at(&mut self.desk.lock(rt))
     }
 
     /// Waits for the lock and mends the link; what was lost stays so. Needs no memory.
     pub fn mend(&self, rt: &impl Wait) {
-        self.desk.lock(rt).link.mend();
+        mend_at(&mut self.desk.lock(rt));
     }
 
     /// Waits until a copy waits in a direction or the cell is closed. Takes the oldest such copy, or none once the cell is
@@ -126,13 +176,13 @@ impl LinkCell {
     /// Waits for the lock and closes the cell for good: it wakes all who wait for a copy, and nobody waits for one again.
     /// Needs no memory.
     pub fn close(&self, rt: &impl Wait) {
-        self.desk.lock(rt).closed = true;
+        close_at(&mut self.desk.lock(rt));
         self.changed.notify_all();
     }
 
     /// The link, out of the lock. Waits for nobody, and needs no memory.
     pub fn into_link(self) -> Link {
         let LinkCell { desk, changed: _ } = self;
-        desk.into_inner().link
+        link_of(desk.into_inner())
     }
 }
