@@ -1,5 +1,5 @@
 -- Receipts in passes, one worker after another.
-use Rattle.std.proofs.Common.{◌≡◌, ℕ, ◌+◌, ◌<◌, ◌==◌, ◌&&◌, not, zero, suc, cond, Bool, true, false, List, [], ◌∷◌, ◌++◌, length, map, get_or, set, filter_map, Some, None, refl, sym, ap, ◌∙◌, subst, arith, eqb-true, append_assoc, append-nil}
+use Rattle.std.proofs.Common.{◌≡◌, ℕ, ◌+◌, ◌<◌, ◌==◌, ◌&&◌, not, zero, suc, cond, Bool, true, false, List, [], ◌∷◌, ◌++◌, length, map, max, get_or, set, filter_map, Some, None, refl, sym, ap, ◌∙◌, subst, arith, eqb-true, append_assoc, append-nil}
 use Rattle.std.specs.Prelude.{slice_get}
 use Rattle.std.specs.List.{cons_option, AllByRecursion}
 use Rattle.std.proofs.lemmas.List.{length_push, map-append}
@@ -78,6 +78,9 @@ receipts_set w n zero (p ∷ ps) old new rs h below stands is =
 receipts_set w n (suc i) (p ∷ ps) old new rs h below stands is =
     ap (λ xs. receipts_in w p ++ xs) (receipts_set w (n + 1) i ps old new rs h.1 (omega (arith, below)) stands is)
     ∙ sym (append_assoc (receipts_in w p) (receipts_of w ps) (cond (old.worker == w) rs []))
+
+pub long_enough : (after ps : List Receipts) (worker : ℕ) → length after ≡ max (length ps) (worker + 1) → worker < length after
+long_enough after ps worker count = omega (arith, count)
 
 -- the receipt of an entry of another than the main worker
 pub other_set : (ps : List Receipts) (i node place : ℕ) (x : Entry) (old new : Receipts) (r : Receipt) → AreByWorker 0 ps → x.worker < length ps → i ≡ x.worker → (x.worker ≡ 0 → ⊥) →

@@ -1,7 +1,8 @@
 //! The passes that records and a plan tell of.
-ghost use Rattle.std.specs.Prelude.{◌≡◌, ◌<◌, ◌++◌, [], ◌∷◌, ℕ, length, IfOk, OnOk};
+ghost use Rattle.std.specs.Prelude.{◌≡◌, ◌<◌, ◌+◌, ◌++◌, [], ◌∷◌, ℕ, length, max, IfOk, OnOk};
 ghost use Rattle.hsr_closing.specs.Passes.{AreByPlan, AreByWorker, AreMain, IsKeptNext, IsLeft, IsOver, IsToldBy, other_in, others_in, others_of, receipts_of};
 ghost use Rattle.hsr_closing.specs.Receipts.{HasReceipts};
+ghost use Rattle.hsr_closing.specs.Workers.{most_in, most_kept};
 
 use crate::next::{first_places, next_place};
 use crate::planned::Planned;
@@ -42,7 +43,7 @@ fn add_receipt(pass: &mut Pass, receipt: Receipt) -> Result<(), NoMemory>
 fn add_passes(alloc: Global, passes: &mut Vec<Pass>, worker: u16) -> Result<(), NoMemory>
     requires { AreByWorker 0 passes.old.items }
     ensures workers { OnOk result (AreByWorker 0 passes.new.items) }
-    ensures long { OnOk result (worker < length passes.new.items) }
+    ensures count { OnOk result (length passes.new.items ≡ max (length passes.old.items) (worker + 1)) }
     ensures receipts { OnOk result ((w : ℕ) → receipts_of w passes.new.items ≡ receipts_of w passes.old.items) }
 {
     for number in passes.len()..usize::from(worker) + 1 {
@@ -59,8 +60,10 @@ fn add_other(
     place: usize,
     entry: &Entry,
 ) -> Result<(), NoMemory>
-    requires { AreByWorker 0 passes.old.items }
+    requires workers { AreByWorker 0 passes.old.items }
+    requires main { 0 < length passes.old.items }
     ensures workers { OnOk result (AreByWorker 0 passes.new.items) }
+    ensures count { OnOk result (length passes.new.items ≡ max (length passes.old.items) (entry.now.worker + 1)) }
     ensures receipts { OnOk result ((w : ℕ) → receipts_of w passes.new.items ≡ receipts_of w passes.old.items ++ other_in w node place entry.now) }
 {
     let worker = entry.worker;
@@ -79,8 +82,10 @@ fn add_others_in(
     node: usize,
     entries: &[Entry],
 ) -> Result<(), NoMemory>
-    requires { AreByWorker 0 passes.old.items }
+    requires workers { AreByWorker 0 passes.old.items }
+    requires main { 0 < length passes.old.items }
     ensures workers { OnOk result (AreByWorker 0 passes.new.items) }
+    ensures count { OnOk result (length passes.new.items ≡ max (length passes.old.items) (most_in entries.now + 1)) }
     ensures receipts { OnOk result ((w : ℕ) → receipts_of w passes.new.items ≡ receipts_of w passes.old.items ++ others_in w node 0 entries.now) }
 {
     for (place, entry) in entries.iter().enumerate() {
@@ -95,8 +100,10 @@ fn add_others<const C: usize>(
     passes: &mut Vec<Pass>,
     kept: &[Kept<C>],
 ) -> Result<(), NoMemory>
-    requires { AreByWorker 0 passes.old.items }
+    requires workers { AreByWorker 0 passes.old.items }
+    requires main { 0 < length passes.old.items }
     ensures workers { OnOk result (AreByWorker 0 passes.new.items) }
+    ensures count { OnOk result (length passes.new.items ≡ max (length passes.old.items) (most_kept kept.now + 1)) }
     ensures receipts { OnOk result ((w : ℕ) → receipts_of w passes.new.items ≡ receipts_of w passes.old.items ++ others_of w 0 kept.now) }
 {
     for (node, record) in kept.iter().enumerate() {
@@ -158,9 +165,9 @@ fn main_pass<const C: usize>(
 }
 
 /// Passes that are right for these records and this plan, where for each node the records tell of the main worker what is
-/// planned, in order. In any case pass w is worker w's: of the main worker, number 0, the next entry of each node that the
-/// plan names, up to the first that has none left, and of all others their entries, in node and place order. `NoMemory` where
-/// room is refused.
+/// planned, in order. In any case pass w is worker w's, up to the highest worker that has an entry: of the main worker, number 0,
+/// the next entry of each node that the plan names, up to the first that has none left, and of all others their entries, in node
+/// and place order. `NoMemory` where room is refused.
 #[tactic(auto, using(crate::proofs::Receiving::has_receipts, crate::proofs::Receiving::by_plan, crate::proofs::Receiving::of_other))]
 pub fn passes_of<const C: usize>(
     alloc: Global,
@@ -169,6 +176,7 @@ pub fn passes_of<const C: usize>(
 ) -> Result<Vec<Pass>, NoMemory>
     ensures right { IfOk result (λ passes. IsToldBy kept.now plan.now → HasReceipts kept.now passes.items plan.now) }
     ensures workers { IfOk result (λ passes. AreByWorker 0 passes.items) }
+    ensures count { IfOk result (λ passes. length passes.items ≡ most_kept kept.now + 1) }
     ensures main { IfOk result (λ passes. AreByPlan kept.now plan.now (receipts_of 0 passes.items)) }
     ensures others { IfOk result (λ passes. (w : ℕ) → (w ≡ 0 → ⊥) → receipts_of w passes.items ≡ others_of w 0 kept.now) }
 {
