@@ -1,6 +1,6 @@
 //! The finished run that orders lead to.
-ghost use Rattle.std.specs.Prelude.{◌≡◌, ◌≤◌, IfOk};
-ghost use Rattle.hsr_playing.specs.Finishing.{IsFinishedBy};
+ghost use Rattle.std.specs.Prelude.{◌≡◌, ◌≤◌, IfErr, IfOk};
+ghost use Rattle.hsr_playing.specs.Finishing.{IsFinishedBy, IsUnfinishedBy};
 ghost use Rattle.hsr_playing.specs.Playing.{Plays};
 ghost use Rattle.hsr_world.specs.World.{new_world};
 
@@ -32,7 +32,8 @@ fn played<const C: usize>(
 ) -> Result<World<C>, Unfinished>
     requires entries { (1 ≤ C) × (C ≤ 65535) }
     requires room { (1 ≤ capacity) × (capacity ≤ 4096) }
-    ensures { IfOk result (λ w. Plays C orders.now (new_world capacity topology.places topology.links) w) }
+    ensures ok { IfOk result (λ w. Plays C orders.now (new_world capacity topology.places topology.links) w) }
+    ensures err { IfErr result (λ u. IsUnfinishedBy C topology capacity orders.now u) }
 {
     let Ok(mut world) = World::<C>::new(alloc, topology, capacity) else {
         return Err(Unfinished::Memory);
@@ -44,7 +45,8 @@ fn played<const C: usize>(
 }
 
 /// The finished run that orders lead to, in a new world of the topology, where so many copies wait in each direction of a link, with
-/// tables of `C` entries.
+/// tables of `C` entries. Else why there is none: the place of the first order that is refused, the first cause why the world isn't
+/// closed, or want of memory.
 pub fn finished<const C: usize>(
     alloc: Global,
     topology: Topology,
@@ -53,7 +55,8 @@ pub fn finished<const C: usize>(
 ) -> Result<Closed<C>, Unfinished>
     requires entries { (1 ≤ C) × (C ≤ 65535) }
     requires room { (1 ≤ capacity) × (capacity ≤ 4096) }
-    ensures { IfOk result (λ c. IsFinishedBy C topology capacity orders.now c) }
+    ensures ok { IfOk result (λ c. IsFinishedBy C topology capacity orders.now c) }
+    ensures err { IfErr result (λ u. IsUnfinishedBy C topology capacity orders.now u) }
 {
     let world = played::<C>(alloc, topology, capacity, orders)?;
     match world.close() {

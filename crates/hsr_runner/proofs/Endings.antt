@@ -1,5 +1,10 @@
 -- How the threads of a run end.
-use Rattle.std.proofs.Common.{ℕ, ◌≡◌, ◌≤◌, Bool, true, false, subst, length, None, IfSome, inl, inr, refl, arith}
+use Rattle.std.proofs.Common.{ℕ, ◌≡◌, ◌≤◌, Bool, true, false, subst, List, length, None, IfSome, Vec, inl, inr, refl, arith}
+use Rattle.std.specs.Global.{Global}
+use Rattle.hsr_node.specs.Kept.{Receipts, Record}
+use Rattle.hsr_link.specs.declared.row.Row.{Row}
+use Rattle.hsr_topology.specs.Topology.{Topology}
+use Rattle.hsr_closing.specs.declared.planned.Planned.{Planned}
 use Rattle.hsr_scenario.specs.Meaning.{Meant}
 use Rattle.hsr_closing.specs.declared.disagree.CheckFault.TheVariants as check
 use Rattle.hsr_step.specs.declared.step.WorldFault.TheVariants as world
@@ -87,11 +92,12 @@ pub shuts : (capacity : ℕ) (may_shut : Bool) (s : Meant) (f : RunFault) → Is
 shuts capacity may_shut s f h is = subst (λ g. IsPlayFault capacity may_shut s g) is h
 
 -- what the closing check leaves is a fault as well that threads may leave
-pub check_fault : (capacity : ℕ) (may_shut : Bool) (s : Meant) (f : RunFault) → IsCheckFault f → IsPlayFault capacity may_shut s f
-check_fault capacity may_shut s (fault.FineStep k) h = absurd h
-check_fault capacity may_shut s fault.GateShut h = absurd h
-check_fault capacity may_shut s (fault.Step k f) h = absurd h
-check_fault capacity may_shut s fault.Thread h = absurd h
-check_fault capacity may_shut s (fault.Check (check.Disagree d)) h = tt
-check_fault capacity may_shut s (fault.Check check.NoMemory) h = absurd h
-check_fault capacity may_shut s fault.NoMemory h = tt
+pub check_fault : (capacity : ℕ) (may_shut : Bool) (s : Meant) (topology : Topology) (kept : List Record) (rows : List (Vec Row Global)) (passes : List Receipts) (plan : List Planned) (f : RunFault)
+    → IsCheckFault capacity topology kept rows passes plan f → IsPlayFault capacity may_shut s f
+check_fault capacity may_shut s topology kept rows passes plan (fault.FineStep k) h = absurd h
+check_fault capacity may_shut s topology kept rows passes plan fault.GateShut h = absurd h
+check_fault capacity may_shut s topology kept rows passes plan (fault.Step k f) h = absurd h
+check_fault capacity may_shut s topology kept rows passes plan fault.Thread h = absurd h
+check_fault capacity may_shut s topology kept rows passes plan (fault.Check (check.Disagree d)) h = tt
+check_fault capacity may_shut s topology kept rows passes plan (fault.Check check.NoMemory) h = absurd h
+check_fault capacity may_shut s topology kept rows passes plan fault.NoMemory h = tt

@@ -2,14 +2,18 @@
 --     IsEnding     how a worker may end
 --     IsConducted  how the main worker may end
 --     IsPlayFault  why threads that were started leave no run
-use Rattle.std.specs.Prelude.{ℕ, ◌≡◌, ◌≤◌, ◌<◌, Bool, true, length, slice_get, MatchOption, Option, Some, None}
+use Rattle.std.specs.Prelude.{ℕ, ◌≡◌, ◌≤◌, ◌<◌, Bool, true, List, length, slice_get, MatchOption, Option, Some, None, Vec}
+use Rattle.std.specs.Global.{Global}
 use Rattle.std.specs.Option.{option_or}
 use Rattle.hsr_scenario.specs.Meaning.{Meant}
 use Rattle.hsr_step.specs.declared.step.WorldFault.{WorldFault}
 use Rattle.hsr_step.specs.declared.step.WorldFault.TheVariants.{Node, NoMemory as NoRoom}
+use Rattle.hsr_node.specs.Kept.{Receipts, Record}
 use Rattle.hsr_node.specs.declared.event.StepFault.{StepFault}
 use Rattle.hsr_node.specs.declared.event.StepFault.TheVariants as refused
 use Rattle.hsr_topology.specs.Topology.{Topology}
+use Rattle.hsr_link.specs.declared.row.Row.{Row}
+use Rattle.hsr_closing.specs.Checked.{IsFirst}
 use Rattle.hsr_closing.specs.declared.disagree.CheckFault.TheVariants as check
 use Rattle.hsr_closing.specs.declared.planned.Planned.{Planned}
 use Rattle.hsr_scenario.specs.declared.steps.Order.{Order}
@@ -92,8 +96,8 @@ IsPlayFault capacity may_shut s (fault.FineStep k) = ⊥
 IsPlayFault capacity may_shut s fault.GateShut = may_shut ≡ true
 IsPlayFault capacity may_shut s f = IsRunFault capacity s f
 
--- what the closing check leaves: what it found, or want of memory
-abbrev pub IsCheckFault : RunFault → Type 0
-IsCheckFault (fault.Check (check.Disagree disagree)) = Unit {0}
-IsCheckFault fault.NoMemory = Unit {0}
-IsCheckFault _ = ⊥
+-- what the closing check of these parts leaves: the first cause why they don't agree, or want of memory
+abbrev pub IsCheckFault : ℕ → Topology → List Record → List (Vec Row Global) → List Receipts → List Planned → RunFault → Type 0
+IsCheckFault capacity topology kept rows passes plan (fault.Check (check.Disagree disagree)) = IsFirst capacity topology kept rows passes plan disagree
+IsCheckFault capacity topology kept rows passes plan fault.NoMemory = Unit {0}
+IsCheckFault capacity topology kept rows passes plan _ = ⊥

@@ -2,3 +2,5 @@ pub mod Plan
 pub mod Faults
 pub mod Runs
 pub mod Endings
+pub mod Brought
+pub mod Wires

@@ -14,10 +14,12 @@
 //! - `conduct`: the main worker
 //! - `role`: what each thread does
 //! - `threads`: the threads of a run
+//! - `brought`: who brought the entries of a run
 //! - `run`: the run, its call
 #![tactic(auto)]
 
 mod ager;
+mod brought;
 mod cells;
 mod conduct;
 mod ending;

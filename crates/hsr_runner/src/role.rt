@@ -1,5 +1,7 @@
 //! What each thread does.
-ghost use Rattle.std.specs.Prelude.{◌≡◌, ◌+◌, ◌*◌, ◌<◌, ◌≤◌, IfSome, length};
+ghost use Rattle.std.specs.Prelude.{◌≡◌, ◌<◌, [], ◌++◌, IfOk, OnOk};
+ghost use Rattle.std.specs.List.{cons_option};
+ghost use Rattle.hsr_runner.specs.Wires.{role_at, roles_of};
 
 use crate::wire::{Wire, wire_at};
 use hsr_frame::NoMemory;
@@ -27,7 +29,7 @@ pub(crate) struct Role {
 /// these have links, and the last ages it.
 fn role_at(topology: &Topology, number: usize) -> Option<Role>
     requires { number < 512 }
-    ensures { IfSome result (λ role. role.worker ≡ number + 1) }
+    ensures { result ≡ role_at topology.now number }
 {
     let worker = (number + 1) as u16;
     let node = number / 8;
@@ -41,14 +43,24 @@ fn role_at(topology: &Topology, number: usize) -> Option<Role>
     Some(Role { worker, node, task })
 }
 
+/// Puts a thread last, if there is one.
+fn push_if(roles: &mut Vec<Role>, role: Option<Role>) -> Result<(), NoMemory>
+    ensures { OnOk result (roles.new.items ≡ roles.old.items ++ cons_option role []) }
+{
+    if let Some(role) = role {
+        roles.push(role)?;
+    }
+    Ok(())
+}
+
 /// The threads of a topology, by the numbers of their workers: worker `1 + 8 k + p` judges at port p of node k, where that has a
 /// link, and worker `8 + 8 k` ages node k.
-pub(crate) fn roles_of(alloc: Global, topology: &Topology) -> Result<Vec<Role>, NoMemory> {
+pub(crate) fn roles_of(alloc: Global, topology: &Topology) -> Result<Vec<Role>, NoMemory>
+    ensures { IfOk result (λ roles. roles.items ≡ roles_of topology.now) }
+{
     let mut roles = Vec::new(alloc);
     for number in 0..8 * topology.places().len() {
-        if let Some(role) = role_at(topology, number) {
-            roles.push(role)?;
-        }
+        push_if(&mut roles, role_at(topology, number))?;
     }
     Ok(roles)
 }

@@ -1,12 +1,14 @@
 //! A scenario that runs in threads.
 ghost use Rattle.std.specs.Prelude.{◌≡◌, ◌≤◌, Err, false, true, IfErr, IfOk, MatchOption, position};
 ghost use Rattle.hsr_scenario.specs.Meaning.{scenario_view};
+ghost use Rattle.hsr_runner.specs.Brought.{InjectsNothing, NoneIsAlien};
 ghost use Rattle.hsr_runner.specs.Faults.{AllFit, IsRunFault, is_fine_step};
 ghost use Rattle.hsr_runner.specs.Endings.{IsCheckFault, IsPlayFault};
 ghost use Rattle.hsr_runner.specs.Plan.{is_fine};
 ghost use Rattle.hsr_runner.specs.Runs.{IsRunOf, IsRunWith};
 ghost use Rattle.hsr_runner.specs.declared.fault.RunFault.TheVariants.{FineStep, GateShut as Shut};
 
+use crate::brought::unlike;
 use crate::cells::Cells;
 use crate::fault::RunFault;
 use crate::gate::Gate;
@@ -57,7 +59,7 @@ fn run_unchecked<const C: usize, G: Gate, R: Threads + Wait + Sync>(
     }
 }
 
-/// The finished run that threads left.
+/// The finished run that threads left, or why it is none.
 fn checked<const C: usize>(
     alloc: Global,
     topology: Topology,
@@ -65,7 +67,7 @@ fn checked<const C: usize>(
     left: Left<C>,
 ) -> Result<Closed<C>, RunFault>
     ensures ok { IfOk result (λ closed. IsRunWith C topology plan.items closed) }
-    ensures err { IfErr result (λ fault. IsCheckFault fault) }
+    ensures err { IfErr result (λ fault. IsCheckFault C topology left.entry.kept.items left.entry.rows.items left.entry.passes.items plan.items fault) }
 {
     let Left { kept, rows, passes } = left;
     match Closed::check(alloc, topology, plan, kept, rows, passes) {
@@ -83,8 +85,9 @@ fn checked<const C: usize>(
 /// and at the end waits until no copy is in flight. Then all threads are joined, and what they left is checked. Duplicate tables have
 /// `C` entries each.
 ///
-/// Only a finished run is answered, of a scenario in which each step names a node or link that is there and injects at most 2048 octets.
-/// The first of these faults is: `FineStep` exactly where the scenario has a Put, Take or
+/// Only a finished run is answered, of a scenario in which each step names a node or link that is there and none injects. In it each
+/// entry is the main worker's, number 0, or an arrival of the worker of its port, `1 + 8 k + p` at port p of node k, or an age of the
+/// node's ager, `8 + 8 k`. The first of these faults is: `FineStep` exactly where the scenario has a Put, Take or
 /// Judge, with its lowest place, and then no thread was started; the main worker's own `Step`, `GateShut`, `Thread` or `NoMemory`;
 /// that of the lowest worker that gave up, `GateShut`, `NoMemory` or `Step`; and `Check`. `GateShut` comes only where the type of the
 /// gate may answer false. It waits for its threads and may not return; what is said of its answer is said if it does.
@@ -98,6 +101,8 @@ pub fn run_threads<const C: usize, G: Gate, R: Threads + Wait + Sync>(
     requires entries { (1 ≤ C) × (C ≤ 65535) }
     ensures closed { IfOk result (λ closed. IsRunOf C (scenario_view scenario.now) closed) }
     ensures fits { IfOk result (λ closed. AllFit scenario.now.topology scenario.now.steps.items) }
+    ensures injected { IfOk result (λ closed. InjectsNothing scenario.now.steps.items) }
+    ensures brought { IfOk result (λ closed. NoneIsAlien closed.run) }
     ensures fine { MatchOption (position is_fine scenario.now.steps.items) (IfErr result (λ fault. is_fine_step fault ≡ false)) (λ k. result ≡ Err (FineStep k)) }
     ensures shut { result ≡ Err Shut → G.may_shut ≡ true }
     ensures fault { IfErr result (λ fault. IsRunFault C (scenario_view scenario.now) fault) }
@@ -111,8 +116,12 @@ pub fn run_threads<const C: usize, G: Gate, R: Threads + Wait + Sync>(
     let Ok(topology) = scenario.topology.copy() else {
         return Err(RunFault::NoMemory);
     };
-    match run_unchecked(rt, alloc, scenario, gate) {
-        Ok(left) => checked(alloc, topology, plan, left),
-        Err(fault) => Err(fault),
+    let closed = match run_unchecked(rt, alloc, scenario, gate) {
+        Ok(left) => checked(alloc, topology, plan, left)?,
+        Err(fault) => return Err(fault),
+    };
+    match unlike(&closed, scenario.steps.as_slice()) {
+        Some(disagree) => Err(RunFault::Check(CheckFault::Disagree(disagree))),
+        None => Ok(closed),
     }
 }

@@ -1,5 +1,6 @@
 //! Where the ports of nodes lead.
-ghost use Rattle.std.specs.Prelude.{◌≡◌, ◌<◌, IfSome, length};
+ghost use Rattle.std.specs.Prelude.{◌≡◌, ◌<◌, [], ◌∷◌, IfSome, length};
+ghost use Rattle.hsr_runner.specs.Wires.{other, wire_at};
 
 use hsr_link::Dir;
 use hsr_topology::{End, Topology};
@@ -13,7 +14,9 @@ pub(crate) struct Wire {
 
 impl Wire {
     /// The direction in which copies come to the port.
-    pub(crate) fn into(self) -> Dir {
+    pub(crate) fn into(self) -> Dir
+        ensures { result ≡ other self.out }
+    {
         match self.out {
             Dir::Forth => Dir::Back,
             Dir::Back => Dir::Forth,
@@ -23,7 +26,8 @@ impl Wire {
 
 /// Where a port of a node leads, each by its number; `None` for a port without a link, or that isn't there.
 pub(crate) fn wire_at(topology: &Topology, node: usize, port: u8) -> Option<Wire>
-    ensures { IfSome result (λ wire. wire.link < length topology.now.links) }
+    ensures exact { result ≡ wire_at topology.now node port }
+    ensures there { IfSome result (λ wire. wire.link < length topology.now.links) }
 {
     let (link, is_first) = topology.link_at(End { node, port })?;
     let out = if is_first { Dir::Forth } else { Dir::Back };
@@ -31,7 +35,9 @@ pub(crate) fn wire_at(topology: &Topology, node: usize, port: u8) -> Option<Wire
 }
 
 /// Where the ports of a node lead, by their numbers.
-pub(crate) fn wires_of(topology: &Topology, node: usize) -> [Option<Wire>; 4] {
+pub(crate) fn wires_of(topology: &Topology, node: usize) -> [Option<Wire>; 4]
+    ensures { result ≡ wire_at topology.now node 0 ∷ wire_at topology.now node 1 ∷ wire_at topology.now node 2 ∷ wire_at topology.now node 3 ∷ [] }
+{
     [
         wire_at(topology, node, 0),
         wire_at(topology, node, 1),
