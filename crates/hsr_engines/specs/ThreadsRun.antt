@@ -5,7 +5,8 @@
 use Rattle.std.specs.Prelude.{ℕ, ◌≡◌, List, Option, None, Some, Ok, Err, position}
 use Rattle.hsr_closing.specs.Finished.{Finished}
 use Rattle.hsr_closing.specs.declared.disagree.CheckFault.TheVariants as check
-use Rattle.hsr_runner.specs.Faults.{IsRunFault}
+use Rattle.hsr_runner.specs.Brought.{InjectsNothing, NoneIsAlien}
+use Rattle.hsr_runner.specs.Faults.{AllFit, IsRunFault}
 use Rattle.hsr_runner.specs.Plan.{is_fine}
 use Rattle.hsr_runner.specs.Runs.{IsRunOf}
 use Rattle.hsr_runner.specs.declared.fault.RunFault.{RunFault}
@@ -49,12 +50,16 @@ IsUnrun capacity said Thread = IsNoRun capacity said run.Thread
 IsUnrun capacity said Memory = Unit {0}
 IsUnrun capacity said _ = ⊥
 
--- a finished run of the scenario, whatever came first in it; no step of that moves or judges one copy
+-- A finished run of the scenario, whatever came first in it; no step of that moves or judges one copy, or injects, and each names a node
+-- or link that is there. Each entry is of the main worker, or an arrival of the worker of its port, or an age of its node's ager.
 pub record IsRan (capacity : ℕ) (said : Said) (f : Finished) : Type 0 where
   pub meant : Meant
   pub means : said ≡ Ok meant
   pub orderly : position is_fine meant.steps ≡ None
+  pub fits : AllFit meant.topology meant.steps
+  pub injected : InjectsNothing meant.steps
   pub is_run : IsRunOf capacity meant f
+  pub brought : NoneIsAlien f.run
 
 -- this was found of such a run, and this is shown of it
 pub record IsRunShown (capacity : ℕ) (showing : Showing) (said : Said) (found : Finding) (text : List ℕ) : Type 0 where

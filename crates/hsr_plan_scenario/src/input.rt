@@ -1,5 +1,5 @@
 //! A text that is read whole, up to a length, with a bound on the number of reads.
-ghost use Rattle.std.specs.Prelude.{IfOk, IfSome};
+ghost use Rattle.std.specs.Prelude.{◌≡◌, ◌^◌, IfOk, IfSome, None};
 ghost use Rattle.hsr_plan_scenario.specs.Input.{IsWhole, ReadsPiece};
 
 use hsr_text::READ_LIMIT;
@@ -33,19 +33,45 @@ fn read_piece<R: Read>(reader: &mut R, text: &mut Vec<u8>) -> Result<bool, Input
     }
 }
 
+/// How many reads a text is granted.
+fn granted_reads() -> u64
+    ensures { result ≡ 2 ^ 40 }
+{
+    READ_LIMIT
+}
+
+/// Reads a whole text, or of one with more than `most` octets a front that has more, with the reads that are granted. `None` where
+/// they are used up.
+fn read_granted<R: Read>(
+    alloc: Global,
+    reader: &mut R,
+    reads: &mut u64,
+    most: usize,
+) -> Result<Option<Vec<u8>>, InputFault>
+    requires granted { reads.old ≡ 2 ^ 40 }
+    ensures read { IfOk result (λ read. IfSome read (λ text. IfSome (R.remaining reader.old) (λ all. IsWhole most all text.items))) }
+    ensures spent { IfOk result (λ read. read ≡ None → reads.new ≡ 0) }
+{
+    let mut text = Vec::new(alloc);
+    while *reads > 0 {
+        *reads -= 1;
+        let more = read_piece(reader, &mut text)?;
+        if !more || text.len() > most {
+            return Ok(Some(text));
+        }
+    }
+    Ok(None)
+}
+
 /// Reads a whole text, or of one with more than `most` octets a front that has more. `Read` where the reader fails or takes 2^40
 /// reads, `Memory` where room is refused.
 pub fn read_text<R: Read>(alloc: Global, reader: &mut R, most: usize) -> Result<Vec<u8>, InputFault>
     ensures { IfOk result (λ text. IfSome (R.remaining reader.old) (λ all. IsWhole most all text.items)) }
 {
-    let mut text = Vec::new(alloc);
-    let mut reads = READ_LIMIT;
-    while reads > 0 {
-        reads -= 1;
-        let more = read_piece(reader, &mut text)?;
-        if !more || text.len() > most {
-            return Ok(text);
-        }
+    let mut reads = granted_reads();
+    match read_granted(alloc, reader, &mut reads, most) {
+        Ok(Some(text)) => Ok(text),
+        Ok(None) => Err(InputFault::Read),
+        Err(fault) => Err(fault),
     }
-    Err(InputFault::Read)
 }

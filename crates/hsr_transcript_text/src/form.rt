@@ -9,10 +9,9 @@ ghost use Rattle.hsr_transcript_text.specs.CodeReads.{Gives, Says};
 use crate::fault::ReadFault;
 use crate::plain::Plain;
 use crate::sections::{Progress, fixed, nothing_more, section, version};
-use arrayvec::ArrayVec;
 use hsr_link::Row;
 use hsr_node::{Entry, Place};
-use hsr_text::{READ_LIMIT, TimeUnit};
+use hsr_text::TimeUnit;
 use hsr_topology::End;
 use hsr_transcript_lines::{EntryLine, LinkLine, NumberLine, PlaceLine, RowLine, put_number};
 use std::alloc::{AllocError, Global};
@@ -301,12 +300,7 @@ fn all_lines<R: BufRead>(
 fn whole<R: BufRead>(capacity: usize, alloc: Global, reader: &mut R) -> Result<Plain, ReadFault>
     ensures { Says plain_view (R.remaining reader.old) result (form_of capacity) }
 {
-    let mut progress = Progress {
-        reads: READ_LIMIT,
-        number: 1,
-        line: ArrayVec::new(),
-        spelled: Vec::new(alloc),
-    };
+    let mut progress = Progress::new(alloc);
     match all_lines(capacity, alloc, reader, &mut progress) {
         Ok(plain) => match nothing_more(reader, &mut progress) {
             Ok(()) => Ok(plain),

@@ -9,7 +9,7 @@ ghost use Rattle.hsr_transcript_text.specs.declared.fault.ReadFault.TheVariants.
 use crate::fault::ReadFault;
 use crate::version::VersionLine;
 use arrayvec::ArrayVec;
-use hsr_text::{Front, TimeUnit, WordFault, next_line};
+use hsr_text::{Front, READ_LIMIT, TimeUnit, WordFault, next_line};
 use hsr_transcript_lines::{CountLine, FixedLine, LineKind, read_line};
 use std::alloc::Global;
 use std::io::BufRead;
@@ -24,6 +24,21 @@ pub(crate) struct Progress {
     pub(crate) number: u64,
     pub(crate) line: ArrayVec<u8, LINE_LIMIT>,
     pub(crate) spelled: Vec<u8>,
+}
+
+impl Progress {
+    /// At the first line of a text, with all the reads that a text is granted.
+    pub(crate) fn new(alloc: Global) -> Progress
+        ensures number { result.number ≡ 1 }
+        ensures reads { result.reads ≡ 2 ^ 40 }
+    {
+        Progress {
+            reads: READ_LIMIT,
+            number: 1,
+            line: ArrayVec::new(),
+            spelled: Vec::new(alloc),
+        }
+    }
 }
 
 /// Reads the next line.
