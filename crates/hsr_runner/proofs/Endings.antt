@@ -9,7 +9,12 @@ use Rattle.hsr_scenario.specs.Meaning.{Meant}
 use Rattle.hsr_closing.specs.declared.disagree.CheckFault.TheVariants as check
 use Rattle.hsr_step.specs.declared.step.WorldFault.TheVariants as world
 use Rattle.hsr_runner.specs.Endings.{IsCheckFault, IsConducted, IsEnding, IsPlayFault, fault_of, worker_fault}
-use Rattle.hsr_runner.specs.Faults.{AllFit, IsRunFault, is_fine_step}
+use Rattle.hsr_closing.specs.Finished.{Finished}
+use Rattle.hsr_closing.specs.declared.disagree.Disagree.{Disagree}
+use Rattle.hsr_runner.specs.Brought.{IsUnlike}
+use Rattle.hsr_runner.specs.Faults.{AllFit, IsCause, IsRunFault, is_fine_step}
+use Rattle.hsr_runner.specs.Plan.{plan_of}
+use Rattle.hsr_runner.specs.Runs.{IsRunOf}
 use Rattle.hsr_runner.specs.declared.conduct.Conducted.{Conducted}
 use Rattle.hsr_runner.specs.declared.conduct.Conducted.TheVariants.{All, Left, Own}
 use Rattle.hsr_runner.specs.declared.conduct.Conducted.TheVariants as conducted
@@ -91,13 +96,18 @@ not_fine capacity may_shut s fault.NoMemory h = refl
 pub shuts : (capacity : ℕ) (may_shut : Bool) (s : Meant) (f : RunFault) → IsPlayFault capacity may_shut s f → f ≡ fault.GateShut → may_shut ≡ true
 shuts capacity may_shut s f h is = subst (λ g. IsPlayFault capacity may_shut s g) is h
 
--- what the closing check leaves is a fault as well that threads may leave
+-- what the closing check leaves of the scenario's nodes, links and plan is a fault as well that threads may leave
 pub check_fault : (capacity : ℕ) (may_shut : Bool) (s : Meant) (topology : Topology) (kept : List Record) (rows : List (Vec Row Global)) (passes : List Receipts) (plan : List Planned) (f : RunFault)
-    → IsCheckFault capacity topology kept rows passes plan f → IsPlayFault capacity may_shut s f
-check_fault capacity may_shut s topology kept rows passes plan (fault.FineStep k) h = absurd h
-check_fault capacity may_shut s topology kept rows passes plan fault.GateShut h = absurd h
-check_fault capacity may_shut s topology kept rows passes plan (fault.Step k f) h = absurd h
-check_fault capacity may_shut s topology kept rows passes plan fault.Thread h = absurd h
-check_fault capacity may_shut s topology kept rows passes plan (fault.Check (check.Disagree d)) h = tt
-check_fault capacity may_shut s topology kept rows passes plan (fault.Check check.NoMemory) h = absurd h
-check_fault capacity may_shut s topology kept rows passes plan fault.NoMemory h = tt
+    → topology ≡ s.topology → plan ≡ plan_of s.steps → IsCheckFault capacity topology kept rows passes plan f → IsPlayFault capacity may_shut s f
+check_fault capacity may_shut s topology kept rows passes plan (fault.FineStep k) here planned h = absurd h
+check_fault capacity may_shut s topology kept rows passes plan fault.GateShut here planned h = absurd h
+check_fault capacity may_shut s topology kept rows passes plan (fault.Step k f) here planned h = absurd h
+check_fault capacity may_shut s topology kept rows passes plan fault.Thread here planned h = absurd h
+check_fault capacity may_shut s topology kept rows passes plan (fault.Check (check.Disagree d)) here planned h =
+    inl (subst (λ t. IsCause capacity t (plan_of s.steps) d) here (subst (λ p. IsCause capacity topology p d) planned (record { kept = kept; rows = rows; passes = passes; first = h })))
+check_fault capacity may_shut s topology kept rows passes plan (fault.Check check.NoMemory) here planned h = absurd h
+check_fault capacity may_shut s topology kept rows passes plan fault.NoMemory here planned h = tt
+
+-- and so is what the look behind it leaves
+pub unlike_fault : (capacity : ℕ) (s : Meant) (f : Finished) (d : Disagree) → IsRunOf capacity s f → IsUnlike f.run s.steps d → IsRunFault capacity s (fault.Check (check.Disagree d))
+unlike_fault capacity s f d is_run unlike = inr (record { finished = f; is_run = is_run; unlike = unlike })

@@ -98,6 +98,6 @@ IsPlayFault capacity may_shut s f = IsRunFault capacity s f
 
 -- what the closing check of these parts leaves: the first cause why they don't agree, or want of memory
 abbrev pub IsCheckFault : ℕ → Topology → List Record → List (Vec Row Global) → List Receipts → List Planned → RunFault → Type 0
-IsCheckFault capacity topology kept rows passes plan (fault.Check (check.Disagree disagree)) = IsFirst capacity topology kept rows passes plan disagree
+IsCheckFault capacity topology kept rows passes plan (fault.Check (check.Disagree d)) = IsFirst capacity topology kept rows passes plan d
 IsCheckFault capacity topology kept rows passes plan fault.NoMemory = Unit {0}
 IsCheckFault capacity topology kept rows passes plan _ = ⊥

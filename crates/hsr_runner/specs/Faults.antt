@@ -2,17 +2,23 @@
 --     misfit        why a step is refused whatever was done before it
 --     AllFit        no step of these is
 --     IsOwnFault    why the order at a place is refused
+--     IsNoRunOf     what there is in place of a run, as a cause of the closing check
 --     IsRunFault    why there is no run of a scenario
-use Rattle.std.specs.Prelude.{ℕ, ◌≡◌, ◌≤◌, ◌⊎◌, nat_lt, Bool, true, false, if◌then◌else◌, List, [], ◌∷◌, length, slice_get, position, MatchOption, Option, Some, None, Err}
+use Rattle.std.specs.Prelude.{ℕ, ◌≡◌, ◌≤◌, ◌⊎◌, nat_lt, Bool, true, false, if◌then◌else◌, List, [], ◌∷◌, length, slice_get, position, MatchOption, Option, Some, None, Err, Vec}
+use Rattle.std.specs.Global.{Global}
 use Rattle.hsr_topology.specs.Topology.{Topology}
 use Rattle.hsr_node.specs.Cell.{IsLegalRecord}
-use Rattle.hsr_node.specs.Kept.{Record, answer_to}
+use Rattle.hsr_node.specs.Kept.{Receipts, Record, answer_to}
+use Rattle.hsr_link.specs.declared.row.Row.{Row}
 use Rattle.hsr_node.specs.declared.event.Carried.{Carried}
 use Rattle.hsr_node.specs.declared.event.Event.{Event}
 use Rattle.hsr_node.specs.declared.event.Event.TheVariants.{Arrive}
 use Rattle.hsr_node.specs.declared.event.StepFault.{StepFault}
 use Rattle.hsr_node.specs.declared.event.StepFault.TheVariants.{NoMemory as NoRoom}
-use Rattle.hsr_closing.specs.declared.disagree.CheckFault.TheVariants.{Disagree, NoMemory as NoRoomToCheck}
+use Rattle.hsr_closing.specs.Checked.{IsFirst}
+use Rattle.hsr_closing.specs.Finished.{Finished}
+use Rattle.hsr_closing.specs.declared.disagree.CheckFault.TheVariants as check
+use Rattle.hsr_closing.specs.declared.disagree.Disagree.{Disagree}
 use Rattle.hsr_closing.specs.declared.planned.Planned.{Planned}
 use Rattle.hsr_scenario.specs.Meaning.{Meant}
 use Rattle.hsr_scenario.specs.declared.steps.Order.{Order}
@@ -20,7 +26,9 @@ use Rattle.hsr_scenario.specs.declared.steps.Order.TheVariants as order
 use Rattle.hsr_step.specs.declared.step.Step.TheVariants.{Send, Supervise, Age, Cut, Mend, Inject}
 use Rattle.hsr_step.specs.declared.step.WorldFault.{WorldFault}
 use Rattle.hsr_step.specs.declared.step.WorldFault.TheVariants.{NoSuchNode, NoSuchLink, TooLong, Node}
-use Rattle.hsr_runner.specs.Plan.{is_fine, planned_at}
+use Rattle.hsr_runner.specs.Brought.{IsUnlike}
+use Rattle.hsr_runner.specs.Plan.{is_fine, plan_of, planned_at}
+use Rattle.hsr_runner.specs.Runs.{IsRunOf}
 use Rattle.hsr_runner.specs.declared.fault.RunFault.{RunFault}
 use Rattle.hsr_runner.specs.declared.fault.RunFault.TheVariants.{FineStep, Step, GateShut, Thread, Check, NoMemory}
 
@@ -83,15 +91,33 @@ IsCopyFault capacity _ = ⊥
 abbrev pub IsOwnFault : ℕ → Meant → ℕ → WorldFault → Type 0
 IsOwnFault capacity s k fault = MatchOption (slice_get s.steps k) ⊥ (λ o. IsRefusedOrder capacity s.topology o fault)
 
+-- ---- parts that are no run
+
+-- some parts with these nodes, links and plan don't agree, and this is the first cause
+pub record IsCause (capacity : ℕ) (topology : Topology) (plan : List Planned) (d : Disagree) : Type 0 where
+  pub kept : List Record
+  pub rows : List (Vec Row Global)
+  pub passes : List Receipts
+  pub first : IsFirst capacity topology kept rows passes plan d
+
+-- some finished run of a scenario has what no run by threads has
+pub record IsUnlikeRun (capacity : ℕ) (s : Meant) (d : Disagree) : Type 0 where
+  pub finished : Finished
+  pub is_run : IsRunOf capacity s finished
+  pub unlike : IsUnlike finished.run s.steps d
+
+abbrev pub IsNoRunOf : ℕ → Meant → Disagree → Type 0
+IsNoRunOf capacity s d = IsCause capacity s.topology (plan_of s.steps) d ⊎ IsUnlikeRun capacity s d
+
 -- ---- faults
 
 -- Why there is no run of a scenario: its lowest fine step; an order of the main worker that is refused, or a copy that is while the main
--- worker is at a place; or what the closing check found. Want of memory is always `NoMemory`.
+-- worker is at a place; or what the closing check found, or the look behind it. Want of memory is always `NoMemory`.
 abbrev pub IsRunFault : ℕ → Meant → RunFault → Type 0
 IsRunFault capacity s (FineStep k) = position is_fine s.steps ≡ Some k
 IsRunFault capacity s (Step k fault) = (k ≤ length s.steps) × (IsOwnFault capacity s k fault ⊎ IsCopyFault capacity fault)
-IsRunFault capacity s (Check (Disagree disagree)) = Unit {0}
-IsRunFault capacity s (Check NoRoomToCheck) = ⊥
+IsRunFault capacity s (Check (check.Disagree d)) = IsNoRunOf capacity s d
+IsRunFault capacity s (Check check.NoMemory) = ⊥
 IsRunFault capacity s GateShut = Unit {0}
 IsRunFault capacity s Thread = Unit {0}
 IsRunFault capacity s NoMemory = Unit {0}

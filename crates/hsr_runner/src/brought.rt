@@ -1,7 +1,6 @@
 //! Who brought the entries of a run by threads.
-ghost use Rattle.std.specs.Prelude.{◌≡◌, ◌<◌, true, false, IfNone, MatchOption};
-ghost use Rattle.std.specs.List.{list_any};
-ghost use Rattle.hsr_runner.specs.Brought.{InjectsNothing, NoneIsAlien, brings, injects, is_alien};
+ghost use Rattle.std.specs.Prelude.{◌≡◌, ◌<◌, MatchOption};
+ghost use Rattle.hsr_runner.specs.Brought.{InjectsNothing, IsFirstAlien, IsUnlike, NoneIsAlien, brings, first_alien, first_injected};
 
 use hsr_closing::{Closed, Disagree};
 use hsr_node::{Entry, Event};
@@ -24,7 +23,7 @@ fn brings(node: usize, event: &Event, worker: u16) -> bool
 /// The worker of the first entry of a node that is neither the main worker's nor of the one that brings such.
 fn first_alien(node: usize, entries: &[Entry]) -> Option<u16>
     requires { node < 64 }
-    ensures { IfNone result (list_any (is_alien node) entries.now ≡ false) }
+    ensures { result ≡ first_alien node entries.now }
 {
     for (place, entry) in entries.iter().enumerate() {
         if entry.worker != 0 && !brings(node, &entry.event, entry.worker) {
@@ -34,9 +33,9 @@ fn first_alien(node: usize, entries: &[Entry]) -> Option<u16>
     None
 }
 
-/// The worker of the first such entry of a run.
+/// The worker of the first such entry of the lowest node that has one.
 fn alien_of<const C: usize>(closed: &Closed<C>) -> Option<u16>
-    ensures { IfNone result (NoneIsAlien closed.now.run) }
+    ensures { MatchOption result (NoneIsAlien closed.now.run) (IsFirstAlien closed.now.run) }
 {
     for node in 0..closed.topology().places().len() {
         if let Some(worker) = first_alien(node, closed.entries(node)) {
@@ -48,7 +47,7 @@ fn alien_of<const C: usize>(closed: &Closed<C>) -> Option<u16>
 
 /// The link on which orders first put what no port sent.
 fn injected_link(orders: &[Order]) -> Option<usize>
-    ensures { IfNone result (InjectsNothing orders.now) }
+    ensures { result ≡ first_injected orders.now }
 {
     for (place, order) in orders.iter().enumerate() {
         if let Order::Step(Step::Inject { link, .. }) = order {
@@ -61,8 +60,7 @@ fn injected_link(orders: &[Order]) -> Option<usize>
 /// What the closing check can't see, since it knows no scenario: that an injection was passed over, whose row it would have refused;
 /// or that an entry was brought by another worker than its own.
 pub(crate) fn unlike<const C: usize>(closed: &Closed<C>, orders: &[Order]) -> Option<Disagree>
-    ensures injected { IfNone result (InjectsNothing orders.now) }
-    ensures brought { IfNone result (NoneIsAlien closed.now.run) }
+    ensures { MatchOption result (InjectsNothing orders.now × NoneIsAlien closed.now.run) (IsUnlike closed.now.run orders.now) }
 {
     if let Some(link) = injected_link(orders) {
         return Some(Disagree::Stranger { link, row: 0 });

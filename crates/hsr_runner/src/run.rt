@@ -91,7 +91,7 @@ fn checked<const C: usize>(
 /// Judge, with its lowest place, and then no thread was started; the main worker's own `Step`, `GateShut`, `Thread` or `NoMemory`;
 /// that of the lowest worker that gave up, `GateShut`, `NoMemory` or `Step`; and `Check`. `GateShut` comes only where the type of the
 /// gate may answer false. It waits for its threads and may not return; what is said of its answer is said if it does.
-#[tactic(auto, using(crate::proofs::Endings::run_fault, crate::proofs::Endings::not_fine, crate::proofs::Endings::check_fault, crate::proofs::Endings::shuts))]
+#[tactic(auto, using(crate::proofs::Endings::run_fault, crate::proofs::Endings::not_fine, crate::proofs::Endings::check_fault, crate::proofs::Endings::shuts, crate::proofs::Endings::unlike_fault))]
 pub fn run_threads<const C: usize, G: Gate, R: Threads + Wait + Sync>(
     rt: &R,
     alloc: Global,
