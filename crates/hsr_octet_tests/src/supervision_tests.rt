@@ -1,5 +1,6 @@
-//! Each prefix and each change of one octet of a supervision payload.
-use hsr_supervision::{SupFault, Supervision};
+//! Supervision payloads: those of each kind of node, and each prefix and each change of one octet of one.
+use hsr_frame::Mac;
+use hsr_supervision::{SupFault, SupKind, Supervision};
 
 /// A RedBox tells of a station: the first TLV, that of the RedBox, and the end.
 const PAYLOAD: [u8; 22] = [
@@ -52,4 +53,48 @@ fn every_change_of_one_octet(rt: HostRuntime) {
             assert!(rt; redbox_in(&octets) == changed_has(place, value));
         }
     }
+}
+
+/// What a payload says that begins so and ends with the address 02-00-00-00-00-02.
+fn said(front: [u8; 6]) -> Option<Supervision> {
+    let [a, b, c, d, e, f] = front;
+    Supervision::read(&[a, b, c, d, e, f, 2, 0, 0, 0, 0, 2]).ok()
+}
+
+#[test]
+fn supervision_payloads(rt: HostRuntime) {
+    let told = [
+        ([0, 1, 0, 0, 23, 6], 0, 1, 0, SupKind::Hsr),
+        ([0, 1, 1, 5, 20, 6], 0, 1, 261, SupKind::PrpDiscard),
+        ([0xF0, 2, 0, 5, 21, 6], 15, 2, 5, SupKind::PrpAccept),
+    ];
+    for (front, path, version, seq, kind) in told {
+        let about = Mac::new([2, 0, 0, 0, 0, 2]);
+        let wanted = Supervision {
+            path,
+            version,
+            seq,
+            kind,
+            about,
+            redbox: None,
+        };
+        assert!(rt; said(front) == Some(wanted));
+    }
+}
+
+/// Whether what octets say of a station is written in them and zeros behind them.
+fn is_written_again(octets: &[u8]) -> bool {
+    let Ok(said) = Supervision::read(octets) else {
+        return false;
+    };
+    let written = said.write();
+    match written.as_slice().strip_prefix(octets) {
+        Some(rest) => rest.len() == 24 && rest.iter().all(|octet| *octet == 0),
+        None => false,
+    }
+}
+
+#[test]
+fn supervision_of_a_redbox(rt: HostRuntime) {
+    assert!(rt; is_written_again(&PAYLOAD));
 }
