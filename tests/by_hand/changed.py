@@ -2,7 +2,7 @@
 text with what the grammar says: which line is bad, that the text ends early, that a run can't be done again or doesn't agree, or
 just the run that the changed text tells, whose report model.py works out.
 
-    python3 bench/changed.py PROGRAM [EACH]
+    python3 tests/by_hand/changed.py PROGRAM [EACH]
 
 Only each EACH-th change (1: all) is tried, the rest is left out. The first difference is shown, and ends it.
 """
@@ -10,7 +10,9 @@ import re
 import subprocess
 import sys
 from collections import Counter
+from pathlib import Path
 
+sys.path.insert(0, str(Path(__file__).resolve().parents[1] / "second"))
 import model
 
 NUMBER = r"(?:0|[1-9][0-9]*)"

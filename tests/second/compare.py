@@ -2,9 +2,9 @@
 without each of `--deliveries`, `--needed`, `--budget` and `--network`, and by `run --transcript`, and random lines by `node`; every octet of
 what is printed, and the status.
 
-    python3 bench/compare.py [COUNT [SEED [PROGRAM]]]
+    python3 tests/second/compare.py [COUNT [SEED [PROGRAM]]]
 
-COUNT (500) of each, from SEED (1) on, by PROGRAM (./hsr_bench). The first difference is shown, with its input, and ends it. The last
+COUNT (500) of each, from SEED (1) on, by PROGRAM (bin/hsr_bench). The first difference is shown, with its input, and ends it. The last
 line says how many agreed.
 """
 import random
@@ -15,7 +15,7 @@ from pathlib import Path
 
 import model
 
-PROGRAM = sys.argv[3] if len(sys.argv) > 3 else Path(__file__).resolve().parent.parent / "hsr_bench"
+PROGRAM = Path(__file__).resolve().parents[2] / "bin" / "hsr_bench"
 GROUP = "01-00-5E-00-00-01"
 DRAIN_LIMIT = 10000  # above that the model is too slow, and the scenario is left out
 
@@ -351,8 +351,15 @@ def compare_node(seed):
     return "node"
 
 
+def use(program):
+    """The program that is compared."""
+    global PROGRAM
+    PROGRAM = program
+
+
 def main():
     words = sys.argv[1:3]
+    use(sys.argv[3] if len(sys.argv) > 3 else PROGRAM)
     count, first = (int(word) for word in words + ["500", "1"][len(words) :])
     seen, failed = Counter(), 0
     try:

@@ -1,6 +1,6 @@
 """Random plans, by the planner's program: what each scenario says against what docs/USING.md says that the plan means, in another language.
 
-    python3 bench/random_plans.py PLANNER [COUNT [SEED [BENCH [SECONDS]]]]
+    python3 tests/second/random_plans.py PLANNER [COUNT [SEED [BENCH [SECONDS]]]]
 
 COUNT (1000) plans from SEED (1) on, or as many as SECONDS allow. Of each that is no fault: the steps are those that the plan means, in
 order; model.py refuses none of them; and a RedBox sends supervision about a station just where the model's RedBox knows it then. With BENCH
@@ -28,12 +28,8 @@ from collections import Counter
 
 import model
 
-PLANNER = sys.argv[1]
-COUNT = int(sys.argv[2]) if len(sys.argv) > 2 else 1000
-SEED = int(sys.argv[3]) if len(sys.argv) > 3 else 1
+PLANNER = BENCH = None
 EACH = 20  # of so many plans one is swept
-BENCH = sys.argv[4] if len(sys.argv) > 4 else None
-SECONDS = float(sys.argv[5]) if len(sys.argv) > 5 else None
 GROUP = "01-0C-CD-01-00-01"
 TYPES = {"goose": 0x88B8, "sv": 0x88BA}
 ENDLESS = 1 << 41
@@ -438,15 +434,29 @@ def one(seed, counts):
     return wrong and f"{said}\nseed {seed}: {wrong}"
 
 
-def main():
-    counts, passed, wrong, began = Counter(), 0, None, time.monotonic()
-    for seed in range(SEED, SEED + COUNT):
-        if SECONDS and time.monotonic() > began + SECONDS:
+def use(planner, bench):
+    """The programs that are compared; without a bench no scenario is played by it."""
+    global PLANNER, BENCH
+    PLANNER, BENCH = planner, bench
+
+
+def compare(seeds, seconds):
+    """Compares the plans of these seeds, or as many as the seconds allow: how many passed, what came of them, and what is wrong."""
+    counts, passed, began = Counter(), 0, time.monotonic()
+    for seed in seeds:
+        if seconds and time.monotonic() > began + seconds:
             break
         if wrong := one(seed, counts):
-            print(wrong)
-            break
+            return passed, counts, wrong
         passed += 1
+    return passed, counts, None
+
+
+def main():
+    planner, count, seed, bench, seconds = (sys.argv[1:] + ["1000", "1", None, 0][len(sys.argv) - 2 :])[:5]
+    use(planner, bench)
+    passed, counts, wrong = compare(range(int(seed), int(seed) + int(count)), float(seconds))
+    print(wrong or "", end="\n" if wrong else "")
     print(", ".join(f"{count} {what}" for what, count in sorted(counts.items())))
     print(f"{passed} passed, {1 if wrong else 0} failed")
     sys.exit(1 if wrong else 0)

@@ -1,6 +1,6 @@
 """Runs random scenarios by `threads --transcript`, audits each text by `audit`, and compares what no order of threads changes.
 
-    python3 bench/threads.py PROGRAM [COUNT [SEED]]
+    python3 tests/second/by_threads.py PROGRAM [COUNT [SEED]]
 
 COUNT (300) scenarios, from SEED (1) on, by the generator of compare.py, without its puts, takes and judgements. In half of them, and in
 all with small tables, each step is drained before the next one: then the counts of every node and link, the fault and the kind of the

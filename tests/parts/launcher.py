@@ -1,0 +1,27 @@
+"""What a user calls besides the programs: the launcher, the release and `install` (tests/launcher.sh), and the manuals, which have to be those
+that `--help` says (tools/manuals --check). Each ends with a line `N passed, M failed`, or its status tells of one try."""
+import re
+import subprocess
+
+from lib.case_files import ROOT
+from lib.running import Job, Tally
+
+COMMANDS = (["tests/launcher.sh"], ["tools/manuals", "--check"])
+SECONDS = 300
+
+
+def try_command(setting, words):
+    """Runs a script, and counts what its last line says."""
+    if not (ROOT / words[0]).is_file():
+        return Tally(0, [f"{words[0]} isn't there"])
+    ended = subprocess.run([ROOT / words[0], *words[1:]], stdout=subprocess.PIPE, stderr=subprocess.STDOUT, text=True, timeout=SECONDS, cwd=ROOT)
+    *said, last = ended.stdout.rstrip("\n").split("\n")
+    found = re.fullmatch(r"(\d+) passed, (\d+) failed", last)
+    if not found:
+        return Tally(1) if ended.returncode == 0 else Tally(0, [f"{' '.join(words)}: status {ended.returncode}\n{ended.stdout}"])
+    shown = "\n".join([" ".join(words), *said])
+    return Tally(int(found[1]), [shown] * int(found[2]))
+
+
+def jobs(setting):
+    return [Job(try_command, (words,), 10) for words in COMMANDS]
