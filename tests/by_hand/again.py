@@ -1,19 +1,22 @@
 """Runs scenarios by `threads` many times in a row: each run has to end, and to say the same.
 
-    python3 bench/again.py PROGRAM [TIMES [FOLDER]]
+    python3 tests/by_hand/again.py PROGRAM [TIMES [GROUP]]
 
 TIMES (200) for each of the examples in which each send is drained before the next step: status and report have to be those of `run`. The
-examples that move copies by hand have to be refused, by the place of the first such step. With a FOLDER its rows are run instead: a row NAME is
-NAME.words (the words after the program's name), NAME.in, NAME.out, NAME.err and NAME.status. A run that hasn't ended after a minute is a
-failure. Each failure is shown; the last line says how many runs passed, and the status is 0 if all did.
+examples that move copies by hand have to be refused, by the place of the first such step. With a GROUP the cases of
+tests/cases/hsr_bench/GROUP.cases are run instead. A run that hasn't ended after a minute is a failure. Each failure is shown; the last line
+says how many runs passed, and the status is 0 if all did.
 """
 import subprocess
 import sys
 import tomllib
 from pathlib import Path
 
+sys.path.insert(0, str(Path(__file__).resolve().parents[1]))
+from lib import case_files
+
 SECONDS = 60
-EXAMPLES = Path(__file__).resolve().parent.parent / "examples"
+EXAMPLES = case_files.ROOT / "examples" / "scenarios"
 DRAINED = ("coupled_rings", "quad", "red", "ring2", "ring3")
 BY_HAND = ("ring3_cut", "ring16_cut")
 
@@ -39,17 +42,15 @@ def examples(program):
         yield name, ["threads"], given, wanted
 
 
-def rows(folder):
-    for words in sorted(Path(folder).glob("*.words")):
-        given, out, err = (words.with_suffix(end).read_bytes() for end in (".in", ".out", ".err"))
-        status = int(words.with_suffix(".status").read_text())
-        yield words.stem, words.read_text().split(), given, (status, out, err if status == 1 else b"")
+def cases(group):
+    for case in case_files.group("hsr_bench", group):
+        yield case.name, case.words, case.given, (case.status, case.output, case.error)
 
 
 def main():
     program, times = sys.argv[1], int((sys.argv[2:] + ["200"])[0])
     passed, failed = 0, 0
-    for name, words, given, wanted in rows(sys.argv[3]) if len(sys.argv) > 3 else examples(program):
+    for name, words, given, wanted in cases(sys.argv[3]) if len(sys.argv) > 3 else examples(program):
         for turn in range(times):
             got = bench(program, words, given)
             passed, failed = (passed + 1, failed) if got == wanted else (passed, failed + 1)

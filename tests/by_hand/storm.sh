@@ -2,9 +2,8 @@
 # A storm: in two rings joined by two QuadBoxes, with small tables, four sends to a group before one drain settle; of five the copies
 # push each other out of the tables and circle for ever, which the limit of a drain ends. Last line or fault, time and memory of both.
 set -eu
-top=$(cd "$(dirname "${BASH_SOURCE[0]}")/.." && pwd)
+top=$(cd "$(dirname "${BASH_SOURCE[0]}")/../.." && pwd)
 work=$(mktemp -d); trap 'rm -rf "$work"' EXIT
-"$top/hsr_bench" run < "$top/examples/ring3.toml" > /dev/null # builds the program
 storm() {
   echo 'node = [
   {name="n0", role="danh", mac="02-00-00-00-00-01"}, {name="n1", role="danh", mac="02-00-00-00-00-02"},
@@ -21,6 +20,6 @@ step = ['
 }
 for sends in 4 5; do
   storm $sends > "$work/storm.toml"
-  /usr/bin/time -f "%U s of processor time, %M KB at most" -o "$work/took" "$top/hsr_bench" run --table small < "$work/storm.toml" > "$work/told" 2>&1 || true
+  /usr/bin/time -f "%U s of processor time, %M KB at most" -o "$work/took" "$top/bin/hsr_bench" run --table small < "$work/storm.toml" > "$work/told" 2>&1 || true
   echo "$sends sends: $(tail -1 "$work/told"), $(tail -1 "$work/took")"
 done

@@ -1,14 +1,14 @@
 #!/bin/sh
 # Shows the run of each example by hsr_view, and tells what other tools make of it. The tools are those of Debian: tshark reads its
 # captures, and rsvg-convert of librsvg2-bin its pictures (`apt-get update; apt-get install -y tshark librsvg2-bin`). The devices are
-# compared with the bench's own report. Runs rows_view.
-# Usage: bench/view.sh HSR_BENCH HSR_VIEW, both built. Status 1 where a capture doesn't open, has a malformed field or a warning,
+# compared with the bench's own report.
+# Usage: tests/by_hand/view.sh [HSR_BENCH HSR_VIEW], or those of bin/. Status 1 where a capture doesn't open, has a malformed field or a warning,
 # hasn't as many packets as the run has rows, of the whole, of each link and of each send; where names aren't the scenario's; where a
 # picture doesn't render, or hasn't as many arrows as rows are wanted; where the one in docs isn't that of its example; where over 400
 # aren't refused; or where devices don't sum up to the report.
 set -u
-bench=$1 view=$2
-here=$(cd "$(dirname "$0")/.." && pwd)
+here=$(cd "$(dirname "$0")/../.." && pwd)
+bench=${1:-$here/bin/hsr_bench} view=${2:-$here/bin/hsr_view}
 work=$(mktemp -d)
 trap 'rm -rf "$work"' EXIT
 bad=0
@@ -45,7 +45,7 @@ told() {
     fi
 }
 
-for plan in "$here"/examples/*.toml; do
+for plan in "$here"/examples/scenarios/*.toml; do
     name=$(basename "$plan" .toml)
     run=$work/run.transcript
     : >"$work/said"
@@ -113,7 +113,7 @@ done
 # over 400 copies: seventy sends to a group round a ring of three, of six copies each
 name='seventy sends'
 {
-    sed '/^step/,$d' "$here/examples/ring3.toml"
+    sed '/^step/,$d' "$here/examples/scenarios/ring3.toml"
     echo 'step = ['
     for _ in $(seq 70); do echo '{do="send", node="n0", to="01-00-5E-00-00-01", type=0x88B5}, {do="drain"},'; done
     echo ']'
@@ -122,5 +122,4 @@ drawn 420
 drawn 6 --send n0:0
 drawn 12 --send n0:0 --send n0:3
 
-(cd "$here" && bench/rows.sh "$view" rows_view/words rows_view/faults rows_view/shown) || bad=1
 exit $bad
