@@ -41,8 +41,8 @@ def try_tests(setting, tests, seconds):
 
 
 def tests_of(setting, program, pattern):
-    """The tests of a built program whose names match."""
-    path = str(setting.built / program)
+    """The tests of a crate whose names match."""
+    path = str(setting.built / f"{program}_tests")
     listed = subprocess.run([path, "--list"], stdout=subprocess.PIPE, text=True).stdout
     names = [line.removesuffix(": test") for line in listed.splitlines() if line.endswith(": test")]
     return [(path, name) for name in names if re.search(pattern, name)]
@@ -54,7 +54,7 @@ def none_of(setting, program):
 
 
 def jobs(setting):
-    found = {program: tests_of(setting, program, pattern) if (setting.built / program).is_file() else [] for program, pattern in TESTS.items()}
+    found = {program: tests_of(setting, program, pattern) if (setting.built / f"{program}_tests").is_file() else [] for program, pattern in TESTS.items()}
     tests = [test for tests in found.values() for test in tests]
     missing = [Job(none_of, (program,)) for program, tests in found.items() if not tests]
     return missing + [Job(try_tests, part, SECONDS / setting.processors) for part in slices(tests, setting, SECONDS)]
