@@ -1,4 +1,6 @@
 """What all parts use: where the programs are, how one is run, and how tries are counted."""
+import difflib
+import itertools
 import os
 import subprocess
 import threading
@@ -9,9 +11,8 @@ from pathlib import Path
 from lib.case_files import ROOT
 
 NAMES = ("hsr_bench", "hsr_plan", "hsr_view")
-TESTS = ("hsr_tests", "hsr_cell_tests", "hsr_hostile_tests")  # built by the gate alone
 SECONDS = 60  # a run that takes longer has failed
-SHOWN = 12  # lines of a difference
+SHOWN, WIDTH, COMPARED = 12, 200, 200_000  # lines of a difference that are shown, their length, and octets that are compared by line
 
 
 @dataclass
@@ -116,21 +117,19 @@ def wait(process, seconds):
 # ---- differences
 
 
-def shown(octets):
-    """A line of text or octets, as it may be printed."""
-    return octets.decode("latin-1") if octets.isascii() and b"\0" not in octets else octets.hex()
-
-
-def first_lines(name, got, wanted):
-    """The first lines in which two outputs differ."""
-    ours, theirs = got.split(b"\n"), wanted.split(b"\n")
-    place = next((i for i, (one, other) in enumerate(zip(ours, theirs)) if one != other), min(len(ours), len(theirs)))
-    lines = [f"{name} differs at line {place + 1}:"]
-    for sign, text in (("wanted", theirs), ("got", ours)):
-        lines += [f"  {sign}: {shown(line)[:200]}" for line in text[place : place + SHOWN // 4]] or [f"  {sign}: nothing more"]
-    return "\n".join(lines)
+def lines_of(octets):
+    """An output as lines that may be printed: of a text its own, else sixteen octets each."""
+    if not octets.isascii() or b"\0" in octets:
+        return [octets[place : place + 16].hex(" ") for place in range(0, len(octets), 16)]
+    *lines, rest = octets.decode().split("\n")
+    return lines + [rest + " (no line end)"] * (rest != "")
 
 
 def difference(name, got, wanted):
     """How an output differs from the wanted one, or nothing."""
-    return [] if got == wanted else [first_lines(name, got, wanted)]
+    if got == wanted:
+        return []
+    if max(len(got), len(wanted)) > COMPARED:
+        return [f"{name} differs: {len(got)} octets, and {len(wanted)} were wanted"]
+    lines = difflib.unified_diff(lines_of(wanted), lines_of(got), "wanted", "got", lineterm="", n=1)
+    return [f"{name} differs:"] + [line[:WIDTH] for line in itertools.islice(lines, SHOWN)]

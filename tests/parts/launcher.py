@@ -19,8 +19,8 @@ def try_command(setting, words):
     found = re.fullmatch(r"(\d+) passed, (\d+) failed", last)
     if not found:
         return Tally(1) if ended.returncode == 0 else Tally(0, [f"{' '.join(words)}: status {ended.returncode}\n{ended.stdout}"])
-    shown = "\n".join([" ".join(words), *said])
-    return Tally(int(found[1]), [shown] * int(found[2]))
+    failed = int(found[2])
+    return Tally(int(found[1]), ["\n".join([" ".join(words), *said])] * (failed > 0) + [f"{words[0]}: one more"] * (failed - 1))
 
 
 def jobs(setting):
