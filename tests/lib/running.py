@@ -73,7 +73,7 @@ def path_of(name, folder):
     launcher = ROOT / "tools" / "launcher"
     if not launcher.is_file():
         return str(ROOT / "bin" / name)
-    return subprocess.run([launcher, "--path", name], stdout=subprocess.PIPE, text=True).stdout.strip()
+    return subprocess.run([launcher, name], stdout=subprocess.PIPE, text=True).stdout.strip()
 
 
 def programs_of(folder):
