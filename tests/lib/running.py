@@ -21,6 +21,7 @@ class Setting:
 
     work: Path
     programs: dict[str, str]
+    folder: str | None = None
     built: Path | None = None
     whole: bool = False
     processors: int = 1
@@ -67,9 +68,9 @@ class Tally:
 
 
 def path_of(name, folder):
-    """The path of a program: of the folder, else that of the program that bin/NAME runs."""
+    """The path of a program: in the folder, else that of the program that bin/NAME runs."""
     if folder:
-        return str(Path(folder).resolve() / name)
+        return f"{folder}/{name}"
     launcher = ROOT / "tools" / "launcher"
     if not launcher.is_file():
         return str(ROOT / "bin" / name)

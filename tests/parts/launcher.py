@@ -6,7 +6,6 @@ import subprocess
 from lib.case_files import ROOT
 from lib.running import Job, Tally
 
-COMMANDS = (["tests/launcher.sh"], ["tools/manuals", "--check"])
 SECONDS = 300
 
 
@@ -24,4 +23,6 @@ def try_command(setting, words):
 
 
 def jobs(setting):
-    return [Job(try_command, (words,), 10) for words in COMMANDS]
+    """The manuals are those of the programs that are tested."""
+    manuals = ["tools/manuals", "--check", *([setting.folder] if setting.folder else [])]
+    return [Job(try_command, (["tests/launcher.sh"],), 30), Job(try_command, (manuals,), 2)]
