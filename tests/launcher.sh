@@ -287,6 +287,31 @@ PYTHON
   is 'no crate stands on one of tests' '' "$(grep -E '^[a-z].*:.*_tests( |$)' "$top/crates.txt")"
 }
 
+# completed WORD..: what bash completes for the last of these words.
+completed() {
+  (
+    set +u
+    . "$top/release/completions/$1"
+    COMP_WORDS=("$@") COMP_CWORD=$(($# - 1))
+    "_$1"
+    echo "${COMPREPLY[*]}"
+  )
+}
+
+try_completions() {
+  is 'commands' 'node run threads audit help' "$(completed hsr_bench '' | sed 's/ --.*//')"
+  is 'options' '--table --transcript' "$(completed hsr_bench run --t)"
+  is 'options of another command' '--table' "$(completed hsr_bench audit --t)"
+  is 'modes' 'H N U' "$(completed hsr_bench node --mode '')"
+  is 'a mode behind a sign' 'U' "$(completed hsr_bench node --mode = U)"
+  is 'all behind a sign' 'small large' "$(completed hsr_bench run --table =)"
+  is 'units' 'us' "$(completed hsr_bench node --mac 02-00-00-00-00-01 --unit u)"
+  is 'tables of a plan' 'small large' "$(completed hsr_plan --table '')"
+  is 'options of a sweep' '--at-us' "$(completed hsr_plan sweep --a)"
+  is 'files' "$top/crates.txt" "$(completed hsr_view capture --names "$top/crates.t")"
+  is 'input' "$top/crates.txt" "$(completed hsr_bench run '<' "$top/crates.t")"
+}
+
 lay_clean
 lay_kit
 lay_tree
@@ -302,5 +327,6 @@ try_build
 try_release
 try_install
 try_sum
+try_completions
 echo "$passed passed, $failed failed"
 [ "$failed" = 0 ]
