@@ -20,7 +20,7 @@ is() {
 lay_clean() {
   local each
   mkdir "$work/clean"
-  for each in sh cat chmod cp dirname du ls mkdir mktemp mv readlink rm rmdir sha256sum sleep sort tac; do
+  for each in sh cat chmod cp dirname du ls mkdir mktemp mv readlink rm rmdir sha256sum sleep sort tac touch; do
     ln -s "$(command -v "$each")" "$work/clean/$each"
   done
 }
@@ -33,7 +33,11 @@ lay_kit() {
 case $1 in
   version) cat "$(dirname "$0")/line" ;;
   lib) [ ! -e "$(dirname "$0")/refuse" ] && mkdir -p out/rlib ;;
-  run) mkdir -p out && name=$(basename "$PWD") && sed 's/^says=.*/says=built/' "$(dirname "$0")/program" >"out/$name" && chmod +x "out/$name" ;;
+  run)
+    mkdir -p out
+    sed 's/^says=.*/says=built/' "$(dirname "$0")/program" >"out/${PWD##*/}"
+    chmod +x "out/${PWD##*/}"
+    ;;
 esac
 RT
   printf '#!/bin/sh\n' >"$work/kit/strip"
@@ -150,9 +154,11 @@ try_changes() {
 
 # Files that are no source of a program.
 try_no_changes() {
+  local each
   lay_tree; lay_release
   call "${bench[@]}" >/dev/null
-  echo more >>"$tree/crates/low_tests/src/lib.rt"; echo more >>"$tree/crates/low/must-fail/a.edit"; mkdir "$tree/crates/low/out"; echo x >"$tree/crates/low/out/x.rt"
+  mkdir "$tree/crates/low/out"
+  for each in low_tests/src/lib.rt low/must-fail/a.edit low/out/x.rt; do echo more >>"$tree/crates/$each"; done
   is 'tests, wrong bodies and what was made are no sources' 'released hsr_bench = 7' "$(call "${bench[@]}")"
 }
 
@@ -213,7 +219,8 @@ try_build() {
   echo TWO >"$tree/crates/low/src/lib.rt"; touch "$work/kit/refuse"
   is 'what is not proved does not run' 1 "$(with_kit "$tree/bin/hsr_bench" </dev/null >/dev/null 2>&1; echo $?)"
   rm "$work/kit/refuse" "$tree/release/hsr_bench" "$tree/out/built/hsr_bench"
-  is 'no program at all' "hsr_bench: there is no released program, and the command rt of the Rattle kit isn't on PATH: see README.md = 1" "$(call "${bench[@]}")"
+  is 'no program at all' "hsr_bench: there is no released program, and the command rt of the Rattle kit isn't on PATH: see README.md = 1" \
+    "$(call "${bench[@]}")"
 }
 
 try_release() {
@@ -224,14 +231,17 @@ try_release() {
   sum=$("$tree/tools/sources" 'kit-1 logic one')
   for name in "${names[@]}"; do with_kit "$tree/tools/built" "$name" "$work/kit/program" "$sum"; done
   is 'a release' 'release/ is version 1.0.0, of these sources = 0' "$(call with_kit "$tree/tools/release")"
-  is 'its check' 'release/ is version 1.0.0, of these sources, built with kit-1 logic one = 0' "$(call clean "$tree/tools/release" --check)"
+  is 'its check' 'release/ is version 1.0.0, of these sources, built with kit-1 logic one = 0' \
+    "$(call clean "$tree/tools/release" --check)"
   is 'its sums' 0 "$(cd "$tree/release" && sha256sum --check --quiet SHA256SUMS >/dev/null; echo $?)"
-  is 'its files' 'KIT SHA256SUMS SOURCES VERSION hsr_bench hsr_plan hsr_view' "$(cd "$tree/release" && LC_ALL=C ls | tr '\n' ' ' | sed 's/ $//')"
+  is 'its files' 'KIT SHA256SUMS SOURCES VERSION hsr_bench hsr_plan hsr_view ' "$(LC_ALL=C ls "$tree/release" | tr '\n' ' ')"
   is 'no kit, no release' 1 "$(clean "$tree/tools/release" >/dev/null 2>&1; echo $?)"
   is 'the same as what was built' 0 "$(with_kit "$tree/tools/release" --compare "$tree/out/built" >/dev/null; echo $?)"
   mkdir "$work/gate"; cp "$tree/out/built/"hsr_* "$work/gate"; echo >>"$work/gate/hsr_plan"; rm "$work/gate/hsr_view"
-  is 'others than what was built' "release/hsr_plan differs from $work/gate/hsr_plan / hsr_view isn't in $work/gate = 1" "$(call with_kit "$tree/tools/release" --compare "$work/gate")"
-  is 'another sum is not kept' 1 "$(with_kit "$tree/tools/built" hsr_bench "$work/kit/program" "${sum/[0-9a-f]/x}" 2>/dev/null; echo $?)"
+  is 'others than what was built' "release/hsr_plan differs from $work/gate/hsr_plan / hsr_view isn't in $work/gate = 1" \
+    "$(call with_kit "$tree/tools/release" --compare "$work/gate")"
+  is 'another sum is not kept' 1 \
+    "$(with_kit "$tree/tools/built" hsr_bench "$work/kit/program" "${sum/[0-9a-f]/x}" 2>/dev/null; echo $?)"
   echo >>"$tree/release/hsr_bench"
   is 'a damaged release' 2 "$(clean "$tree/tools/release" --check >/dev/null; echo $?)"
   with_kit "$tree/tools/release" >/dev/null
@@ -266,7 +276,8 @@ try_install() {
   echo mine >"$work/.local/share/man/mine"
   is 'remove without PREFIX' 0 "$(clean "$tree/install" --remove >/dev/null; echo $?)"
   is 'what others put there stays' './ ./share/ ./share/man/ ./share/man/mine' "$(below "$work/.local" | tr '\n' ' ' | sed 's/ $//')"
-  is 'a folder that was made goes' 'no' "$(cd "$work" && clean "$tree/install" made >/dev/null && clean "$tree/install" --remove made >/dev/null; [ -e "$work/made" ] && echo yes || echo no)"
+  (cd "$work" && clean "$tree/install" made >/dev/null && clean "$tree/install" --remove made >/dev/null)
+  is 'a folder that was made goes' no "$([ -e "$work/made" ] && echo yes || echo no)"
   is 'unknown words' 'usage: ./install [PREFIX] | ./install --remove [PREFIX] = 3' "$(call clean "$tree/install" --help)"
   is 'too many words' 3 "$(clean "$tree/install" a b 2>/dev/null; echo $?)"
 }
