@@ -4,7 +4,7 @@
 set -eu
 top=$(cd "$(dirname "${BASH_SOURCE[0]}")/.." && pwd)
 lines=${1:-200000}
-"$top/hsr_bench" < /dev/null > /dev/null
+"$top/bin/hsr_bench" < /dev/null > /dev/null # builds the program, where that is to be done
 work=$(mktemp -d); trap 'rm -rf "$work"' EXIT
 payload=ABABABABABABABABABABABABABABABABABABABAB
 awk -v n="$lines" 'BEGIN {
@@ -21,7 +21,7 @@ awk -v n="$lines" -v p="$payload" 'BEGIN {
 }' > "$work/mixed"
 for input in sends mixed; do
   for run in 1 2 3; do
-    /usr/bin/time -f "$lines $input lines: %U s of processor time, %M KB at most" "$top/hsr_bench" node < "$work/$input" > "$work/$input.out"
+    /usr/bin/time -f "$lines $input lines: %U s of processor time, %M KB at most" "$top/bin/hsr_bench" node < "$work/$input" > "$work/$input.out"
   done
   tail -n 1 "$work/$input.out"
 done

@@ -7,7 +7,7 @@
 set -eu
 top=$(cd "$(dirname "${BASH_SOURCE[0]}")/.." && pwd)
 work=$(mktemp -d); trap 'rm -rf "$work"' EXIT
-"$top/hsr_bench" run < "$top/examples/ring3.toml" > /dev/null # builds the program
+"$top/bin/hsr_bench" run < "$top/examples/scenarios/ring3.toml" > /dev/null # builds the program, where that is to be done
 
 # ring NODES SENDS PAYLOAD [STEP]: a ring of DANHs, in which the first sends to all, each send drained, after a step
 ring() {
@@ -25,7 +25,7 @@ ring() {
 # measure NAME INPUT OUTPUT WORD..
 measure() {
   local name=$1 input=$2 output=$3; shift 3
-  /usr/bin/time -f "%U s of processor time, %M KB at most" -o "$work/told" "$top/hsr_bench" "$@" < "$input" > "$output" || true
+  /usr/bin/time -f "%U s of processor time, %M KB at most" -o "$work/told" "$top/bin/hsr_bench" "$@" < "$input" > "$output" || true
   echo "$name: $(tail -1 "$output" | cut -c1-60), $(tail -1 "$work/told"), $(stat -c %s "$output") octets written"
 }
 
@@ -35,7 +35,7 @@ flags() {
   for flag in "" --deliveries --needed --network; do
     : > "$work/times"
     for _ in {1..5}; do
-      /usr/bin/time -q -a -f %U -o "$work/times" "$top/hsr_bench" run $flag < "$2" > "$work/report" || true
+      /usr/bin/time -q -a -f %U -o "$work/times" "$top/bin/hsr_bench" run $flag < "$2" > "$work/report" || true
     done
     echo "$1, run $flag: $(tail -1 "$work/report"), $(sort -n "$work/times" | head -1) s of processor time"
   done

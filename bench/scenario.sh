@@ -33,4 +33,4 @@ for form in tables inline; do
     /usr/bin/time -f "  $form: %U s of processor time, %M KB at most" "$program" < "$work/text"
   done
 done
-for example in "$top"/examples/*.toml; do echo "$(basename "$example"): $("$program" < "$example")"; done
+for example in "$top"/examples/scenarios/*.toml; do echo "$(basename "$example"): $("$program" < "$example")"; done

@@ -38,7 +38,7 @@ abbrev pub sweep_app : App
 sweep_app = with_rule (new_app (codes "sweep")) at_rule
 
 abbrev pub top_app : App
-top_app = record { top = record (new_app (codes "hsr_plan")).top { no_binary_name = true }; subs = [] }
+top_app = record { top = record (new_app (codes "hsr_plan")).top { no_binary_name = true; has_version = true }; subs = [] }
 
 abbrev pub plan_app : Listed → App
 plan_app tables = with_subcommand (with_rule (with_rule top_app (table_rule tables)) check_rule) sweep_app.top

@@ -13,6 +13,7 @@ use clap::error::ErrorKind;
 use clap::{Arg, ArgAction, ArgMatches, Command, Error};
 use hsr_options::Table;
 use hsr_text::decimal;
+use hsr_version::VERSION;
 use std::alloc::{AllocError, Global};
 
 /// Which words go together.
@@ -108,6 +109,7 @@ fn top_command<'a>(alloc: Global) -> Command<'a>
 {
     Command::new(alloc, "hsr_plan")
         .about("Writes the scenario that a plan of a network means, for hsr_bench")
+        .version(VERSION)
         .no_binary_name(true)
         .after_help(ENDS)
 }
@@ -122,17 +124,25 @@ fn plan_command<'a>(alloc: Global, tables: &'a [&'a str]) -> Result<Command<'a>,
     Ok(three)
 }
 
-/// The text that says which words go together.
-fn usage(alloc: Global) -> WordsFault
+/// A refusal by this text, or by which words go together where it is empty.
+fn usage_by(alloc: Global, text: &str) -> WordsFault
     ensures { IfUsage result (λ t. 0 < length t) }
 {
-    match String::from_str(alloc, TOGETHER) {
+    let said = if text.is_empty() { TOGETHER } else { text };
+    match String::from_str(alloc, said) {
         Ok(text) => WordsFault::Usage { text },
         Err(_) => WordsFault::Memory,
     }
 }
 
-/// The text of a refusal.
+/// The text that says which words go together.
+fn usage(alloc: Global) -> WordsFault
+    ensures { IfUsage result (λ t. 0 < length t) }
+{
+    usage_by(alloc, TOGETHER)
+}
+
+/// The text of a refusal, without the end of its last line: whoever prints it ends the line.
 fn refused(alloc: Global, error: &Error) -> WordsFault
     ensures kind { IfUsage result (λ _. kind_of error.now ≢ OutOfMemory) }
     ensures some { IfUsage result (λ t. 0 < length t) }
@@ -141,8 +151,7 @@ fn refused(alloc: Global, error: &Error) -> WordsFault
         return WordsFault::Memory;
     }
     match format!(in alloc; "{error}") {
-        Ok(text) if !text.is_empty() => WordsFault::Usage { text },
-        Ok(_) => usage(alloc),
+        Ok(text) => usage_by(alloc, text.trim_end()),
         Err(_) => WordsFault::Memory,
     }
 }

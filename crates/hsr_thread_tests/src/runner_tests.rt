@@ -1,18 +1,14 @@
-//! Scenarios that run in threads: what comes out of them, whatever the schedule.
-use hsr_audit::{AuditFault, Doubt, audit};
-use hsr_closing::{CheckFault, Closed, Disagree};
-use hsr_frame::Counters;
-use hsr_link::{Dir, Fate};
-use hsr_networks::{group, mac, red, ring2, ring3, send, send_from};
-use hsr_node::{Entry, Event, Octets, Outcome, Probe};
-use hsr_runner::{Gate, OpenGate, RunFault, run_threads};
-use hsr_scenario::{Order, Scenario};
-use hsr_step::{Step, WorldFault};
-use hsr_topology::Topology;
-use std::alloc::{AllocError, Global};
+//! Rings that run in threads under gates, which bring about an order of events that a run seldom has by itself.
+use hsr_closing::Closed;
+use hsr_link::Fate;
+use hsr_node::{Event, Probe, StepFault};
+use hsr_runner::{Gate, RunFault, run_threads};
+use hsr_scenario::Scenario;
+use hsr_step::WorldFault;
+use std::alloc::Global;
 use std::marker::Sync;
+use std::sync::Wait;
 use std::sync::atomic::{AtomicU64, Ordering};
-use std::sync::{Mutex, Wait};
 use std::test::Fail;
 use std::thread;
 use std::thread::Threads;
@@ -22,222 +18,172 @@ const LIMIT: u64 = 1_000_000_000;
 
 // ---- scenarios
 
-/// What these orders do in a topology. In each direction of a link 64 copies may wait.
-fn scenario(topology: Topology, steps: Vec<Order>) -> Scenario {
-    Scenario {
-        topology,
-        capacity: 64,
-        steps,
+/// Three DANHs in a ring, behind the capacity of its links.
+const RING: &str = r#"
+node = [
+  {name="n0", role="danh", mac="02-00-00-00-00-01"},
+  {name="n1", role="danh", mac="02-00-00-00-00-02"},
+  {name="n2", role="danh", mac="02-00-00-00-00-03"},
+]
+link = [{ends=["n0.B","n1.A"]}, {ends=["n1.B","n2.A"]}, {ends=["n2.B","n0.A"]}]
+"#;
+
+/// A send round the ring, and a drain.
+const ROUND: &str = r#"
+{do="send", node="n0", to="01-00-5E-00-00-01", type=0x0800, payload="AABB"},
+{do="drain"},
+"#;
+
+/// The same, and then a step that the node refuses.
+const REFUSED: &str = r#"
+{do="send", node="n0", to="01-00-5E-00-00-01", type=0x0800, payload="AABB"},
+{do="drain"},
+{do="life", node="n0", about="02-00-00-00-00-09"},
+"#;
+
+/// A send, and a link that is cut and mended while its copies are on their way.
+const CUT: &str = r#"
+{do="send", node="n0", to="01-00-5E-00-00-01", type=0x0800, payload="AABB"},
+{do="cut", link=1},
+{do="mend", link=1},
+{do="drain"},
+"#;
+
+/// Three sends before a drain.
+const THREE: &str = r#"
+{do="send", node="n0", to="01-00-5E-00-00-01", type=0x0800, payload="AABB"},
+{do="send", node="n0", to="01-00-5E-00-00-01", type=0x0800, payload="AABB"},
+{do="send", node="n0", to="01-00-5E-00-00-01", type=0x0800, payload="AABB"},
+{do="drain"},
+"#;
+
+/// The scenario with these steps in the ring, in which so many copies may wait in each direction of a link.
+fn scenario(rt: &HostRuntime, capacity: u16, steps: &str) -> Result<Scenario, Fail> {
+    let text = format!(in rt.alloc(); "capacity = {capacity}{RING}step = [{steps}]\n")?;
+    match hsr_scenario::read(rt.alloc(), text.as_str()) {
+        Ok(scenario) => Ok(scenario),
+        Err(_fault) => Err("no scenario".into()),
     }
-}
-
-/// A send of node 0 round a ring of three, and a drain.
-fn round_a_ring(rt: &HostRuntime) -> Result<Scenario, Fail> {
-    let first = Order::Step(send(rt, 0, group())?);
-    let steps = vec![in rt.alloc(); first, Order::Drain]?;
-    Ok(scenario(ring3(rt)?, steps))
-}
-
-/// A ring of three in which one thing is done.
-fn one_step(rt: &HostRuntime, step: Step) -> Result<Scenario, Fail> {
-    let steps = vec![in rt.alloc(); Order::Step(step), Order::Drain]?;
-    Ok(scenario(ring3(rt)?, steps))
-}
-
-/// The run of a scenario under a gate that is always open.
-fn open_run<R: Threads + Wait + Sync>(
-    rt: &R,
-    alloc: Global,
-    scenario: &Scenario,
-) -> Result<Closed<512>, Fail> {
-    Ok(
-        run_threads::<512, _, _>(rt, alloc, scenario, &OpenGate)
-            .ok()
-            .ok_or("no run")?,
-    )
-}
-
-/// Why a scenario has no run under a gate that is always open.
-fn open_fault<R: Threads + Wait + Sync>(
-    rt: &R,
-    alloc: Global,
-    scenario: &Scenario,
-) -> Option<RunFault> {
-    run_threads::<512, _, _>(rt, alloc, scenario, &OpenGate).err()
 }
 
 // ---- what is compared
 
-/// How often a node sent, and how often arrivals of it went up, on, nowhere and back.
-fn counted(closed: &Closed<512>, node: usize) -> Option<[u64; 5]> {
+/// What is told of a run of three nodes: how many arrivals went up at the second and the third, by which port the second had its
+/// first, and how many copies each link lost.
+#[derive(Clone, Copy, PartialEq, Eq)]
+struct Told {
+    up: [u64; 2],
+    first: Option<u8>,
+    lost: [usize; 3],
+}
+
+/// The port at which a node had its first arrival.
+fn first_port(closed: &Closed<4>, node: usize) -> Option<u8> {
     if node >= closed.topology().places().len() {
         return None;
     }
-    let told: Counters = closed.counters(node);
-    Some([
-        told.sent,
-        told.up,
-        told.forwarded,
-        told.duplicate,
-        told.returned,
-    ])
+    match closed.entries(node) {
+        [first, ..] => match &first.event {
+            Event::Arrive { port, carried: _ } => Some(*port),
+            _ => None,
+        },
+        [] => None,
+    }
 }
 
-/// How many copies were put on a link, taken there and lost.
-fn fates(closed: &Closed<512>, link: usize) -> Option<[usize; 3]> {
+/// How many arrivals went up at a node.
+fn up_at(closed: &Closed<4>, node: usize) -> u64 {
+    if node >= closed.topology().places().len() {
+        return 0;
+    }
+    closed.counters(node).up
+}
+
+/// How many copies a link lost.
+fn lost_on(closed: &Closed<4>, link: usize) -> usize {
     if link >= closed.topology().links().len() {
-        return None;
+        return 0;
     }
-    let rows = closed.rows(link);
-    let taken = rows.iter().filter(|row| row.fate == Fate::Taken).count();
-    Some([rows.len(), taken, rows.len().saturating_sub(taken)])
+    closed
+        .rows(link)
+        .iter()
+        .filter(|row| row.fate != Fate::Taken)
+        .count()
 }
 
-/// How many sends the audit certifies, if it does.
-fn certified(rt: &HostRuntime, closed: &Closed<512>) -> Option<usize> {
-    let certificate = audit(rt.alloc(), closed).ok()?;
-    Some(certificate.sends.len())
-}
-
-/// Whether this is the run of one send to a group, round a ring of three.
-fn is_round_a_ring(rt: &HostRuntime, closed: &Closed<512>) -> bool {
-    counted(closed, 0) == Some([1, 0, 0, 0, 2])
-        && counted(closed, 1) == Some([0, 1, 2, 0, 0])
-        && counted(closed, 2) == Some([0, 1, 2, 0, 0])
-        && (0..3).all(|link| fates(closed, link) == Some([2, 2, 0]))
-        && certified(rt, closed) == Some(1)
-}
-
-/// What the arrivals of a record came by, whether they went up, and by which ports they went on.
-fn arrivals(alloc: Global, entries: &[Entry]) -> Result<Vec<(u8, bool, [bool; 4])>, AllocError> {
-    let mut all = Vec::new(alloc);
-    for entry in entries {
-        if let Event::Arrive { port, carried: _ } = &entry.event {
-            if let Outcome::Judged { up, ports, .. } = entry.outcome {
-                all.push((*port, up, ports))?;
-            }
-        }
-    }
-    Ok(all)
-}
-
-/// The record of a node.
-fn entries(closed: &Closed<512>, node: usize) -> Option<&[Entry]> {
-    if node < closed.topology().places().len() {
-        Some(closed.entries(node))
-    } else {
-        None
+fn told(closed: &Closed<4>) -> Told {
+    Told {
+        up: [up_at(closed, 1), up_at(closed, 2)],
+        first: first_port(closed, 1),
+        lost: [lost_on(closed, 0), lost_on(closed, 1), lost_on(closed, 2)],
     }
 }
 
-/// The last age in a record that is of this worker.
-fn last_age(entries: &[Entry], worker: u16) -> Option<u64> {
-    let ages = entries.iter().filter(|entry| entry.worker == worker && entry.event == Event::Age);
-    Some(ages.last()?.at)
-}
-
-// ---- runs under an open gate
-
-#[test]
-fn group_round_a_ring_by_threads(rt: HostRuntime) -> Result<(), Fail> {
-    let closed = open_run(&rt, rt.alloc(), &round_a_ring(&rt)?)?;
-    assert!(rt; is_round_a_ring(&rt, &closed));
-    Ok(())
-}
-
-#[test]
-fn two_links_lost_by_threads(rt: HostRuntime) -> Result<(), Fail> {
-    let steps = vec![in rt.alloc();
-        Order::Step(Step::Cut { link: 0 }),
-        Order::Step(send(&rt, 0, mac(2))?),
-        Order::Drain,
-        Order::Step(Step::Mend { link: 0 }),
-        Order::Step(Step::Cut { link: 1 }),
-        Order::Step(send(&rt, 0, mac(2))?),
-        Order::Drain,
-    ]?;
-    let closed = open_run(&rt, rt.alloc(), &scenario(ring2(&rt)?, steps))?;
-    assert!(rt; counted(&closed, 0) == Some([2, 0, 0, 0, 0]));
-    assert!(rt; counted(&closed, 1) == Some([0, 2, 0, 0, 0]));
-    assert!(rt; fates(&closed, 0) == Some([2, 1, 1]));
-    assert!(rt; fates(&closed, 1) == Some([2, 1, 1]));
-    assert!(rt; audit(rt.alloc(), &closed).err() == Some(AuditFault::Doubt(Doubt::TwoLinks)));
-    Ok(())
-}
-
-#[test]
-fn red_to_and_from_by_threads(rt: HostRuntime) -> Result<(), Fail> {
-    let steps = vec![in rt.alloc();
-        Order::Step(send_from(&rt, 2, 0, mac(1), &[1])?),
-        Order::Drain,
-        Order::Step(Step::Clock { at: 10_000 }),
-        Order::Step(send_from(&rt, 0, 0, mac(10), &[2])?),
-        Order::Drain,
-        Order::Step(Step::Clock { at: 60_000_000 }),
-        Order::Step(send_from(&rt, 0, 0, mac(10), &[2])?),
-        Order::Drain,
-    ]?;
-    let closed = open_run(&rt, rt.alloc(), &scenario(red(&rt)?, steps))?;
-    assert!(rt; counted(&closed, 0) == Some([2, 1, 0, 1, 2]));
-    assert!(rt; counted(&closed, 1) == Some([0, 0, 5, 1, 0]));
-    assert!(rt; counted(&closed, 2) == Some([1, 1, 0, 0, 0]));
-    // the ager of each node has seen the last clock step
-    for (node, worker) in [8u16, 16, 24].iter().enumerate() {
-        let entries = entries(&closed, node).ok_or("node")?;
-        assert!(rt; last_age(entries, *worker) == Some(60_000_000));
+/// What a scenario's run is under a gate.
+fn run<G: Gate, R: Threads + Wait + Sync>(
+    rt: &R,
+    alloc: Global,
+    scenario: &Scenario,
+    gate: &G,
+) -> Result<Told, RunFault> {
+    match run_threads::<4, _, _>(rt, alloc, scenario, gate) {
+        Ok(closed) => Ok(told(&closed)),
+        Err(fault) => Err(fault),
     }
-    Ok(())
-}
-
-#[test]
-fn refused_runs(rt: HostRuntime) -> Result<(), Fail> {
-    let mut fine = round_a_ring(&rt)?;
-    fine.steps
-        .push(Order::Step(Step::Put { node: 0, port: 1 }))?;
-    assert!(rt; open_fault(&rt, rt.alloc(), &fine) == Some(RunFault::FineStep { step: 2 }));
-    let nobody = one_step(&rt, Step::Age { node: 3 })?;
-    let no_node = RunFault::Step {
-        step: 0,
-        fault: WorldFault::NoSuchNode,
-    };
-    assert!(rt; open_fault(&rt, rt.alloc(), &nobody) == Some(no_node));
-    let nowhere = one_step(&rt, Step::Cut { link: 3 })?;
-    let no_link = RunFault::Step {
-        step: 0,
-        fault: WorldFault::NoSuchLink,
-    };
-    assert!(rt; open_fault(&rt, rt.alloc(), &nowhere) == Some(no_link));
-    let stray = Step::Inject {
-        link: 0,
-        dir: Dir::Forth,
-        octets: Octets::from_slice(rt.alloc(), &[1, 2])?,
-    };
-    let stranger = CheckFault::Disagree(Disagree::Stranger { link: 0, row: 0 });
-    assert!(rt;
-        open_fault(&rt, rt.alloc(), &one_step(&rt, stray)?) == Some(RunFault::Check(stranger))
-    );
-    Ok(())
 }
 
 // ---- gates
 
-/// Shuts at once.
-struct Never;
+/// Shuts before a step, or at the first pass.
+struct Shut {
+    before: usize,
+    passes: bool,
+}
 
-impl Gate for Never {
+impl Gate for Shut {
     ghost use Rattle.std.specs.Prelude.{true};
 
     ghost may_shut = { true };
 
     fn pass(&self, _rt: &impl Wait, _node: usize, _port: u8, _probe: Option<Probe>) -> bool {
-        false
+        self.passes
+    }
+
+    fn before(&self, _rt: &impl Wait, step: usize) -> bool {
+        step != self.before
     }
 }
 
 #[test]
 fn shut_gate(rt: HostRuntime) -> Result<(), Fail> {
-    let shut = run_threads::<512, _, _>(&rt, rt.alloc(), &round_a_ring(&rt)?, &Never);
-    assert!(rt; shut.err() == Some(RunFault::GateShut));
+    let scenario = scenario(&rt, 64, REFUSED)?;
+    for before in 0..3usize {
+        let gate = Shut {
+            before,
+            passes: true,
+        };
+        assert!(rt; run(&rt, rt.alloc(), &scenario, &gate) == Err(RunFault::GateShut));
+    }
+    let refused = RunFault::Step {
+        step: 2,
+        fault: WorldFault::Node(StepFault::WrongEvent),
+    };
+    let open = Shut {
+        before: 3,
+        passes: true,
+    };
+    assert!(rt; run(&rt, rt.alloc(), &scenario, &open) == Err(refused));
+    Ok(())
+}
+
+#[test]
+fn shut_before_a_judgement(rt: HostRuntime) -> Result<(), Fail> {
+    let scenario = scenario(&rt, 64, ROUND)?;
+    let gate = Shut {
+        before: 3,
+        passes: false,
+    };
+    assert!(rt; run(&rt, rt.alloc(), &scenario, &gate) == Err(RunFault::GateShut));
     Ok(())
 }
 
@@ -275,26 +221,23 @@ impl Gate for BothPorts {
 
 #[test]
 fn both_ports_at_once(rt: HostRuntime) -> Result<(), Fail> {
+    let scenario = scenario(&rt, 64, ROUND)?;
     let gate = BothPorts {
         at: [AtomicU64::new(0), AtomicU64::new(0)],
     };
-    let run = run_threads::<512, _, _>(&rt, rt.alloc(), &round_a_ring(&rt)?, &gate);
-    let closed = run.ok().ok_or("no run")?;
-    assert!(rt; is_round_a_ring(&rt, &closed));
+    let told = run(&rt, rt.alloc(), &scenario, &gate);
+    assert!(rt; told.is_ok_and(|told| told.up == [1, 1] && told.lost == [0, 0, 0]));
     let [a, b] = &gate.at;
     assert!(rt; a.load(Ordering::SeqCst) == 1 && b.load(Ordering::SeqCst) == 1);
     Ok(())
 }
 
-/// A call of a gate: the node, the port and the send of which the copy is.
-type Call = (usize, u8, Option<Probe>);
-
-/// Holds node 1's pass at one port until the pass at the other port of node 0 has begun, and keeps all calls.
+/// Holds node 1's pass at one port until the pass at the other port of node 0 has begun, and counts the passes of the send.
 #[derive(Drop)]
 struct InOrder {
     held: u8,
     begun: AtomicU64,
-    calls: Mutex<Vec<Call>>,
+    passes: AtomicU64,
 }
 
 impl Gate for InOrder {
@@ -302,9 +245,9 @@ impl Gate for InOrder {
 
     ghost may_shut = { true };
 
-    fn pass(&self, rt: &impl Wait, node: usize, port: u8, probe: Option<Probe>) -> bool {
-        if self.calls.lock(rt).push((node, port, probe)).is_err() {
-            return false;
+    fn pass(&self, _rt: &impl Wait, node: usize, port: u8, probe: Option<Probe>) -> bool {
+        if probe == Some(Probe { node: 0, place: 0 }) {
+            self.passes.fetch_add(1, Ordering::SeqCst);
         }
         if node == 0 && port != self.held {
             self.begun.fetch_add(1, Ordering::SeqCst);
@@ -316,60 +259,25 @@ impl Gate for InOrder {
     }
 }
 
-/// Whether the calls at a port name the sends of which the arrivals there are, in order.
-fn names_arrivals(calls: &[Call], entries: &[Entry], node: usize, port: u8) -> bool {
-    let asked = calls
-        .iter()
-        .filter(|call| call.0 == node && call.1 == port)
-        .map(|call| call.2);
-    let came = entries.iter().filter_map(|entry| match &entry.event {
-        Event::Arrive { port: x, carried } if *x == port => Some(carried.probe),
-        _ => None,
-    });
-    asked.eq(came)
-}
-
-/// Whether a run in which a pass of node 1 was held is as it is to be, and the calls of the gate are.
-fn is_in_order(
-    rt: &HostRuntime,
-    held: u8,
-    closed: &Closed<512>,
-    calls: &[Call],
-) -> Result<bool, Fail> {
-    for (node, port) in [(0usize, 0u8), (0, 1), (1, 0), (1, 1), (2, 0), (2, 1)] {
-        let entries = entries(closed, node).ok_or("node")?;
-        if !names_arrivals(calls, entries, node, port) {
-            return Ok(false);
-        }
-    }
-    let by_a = [true, false, false, false];
-    let by_b = [false, true, false, false];
-    let wanted = if held == 0 {
-        [(1, true, by_a), (0, false, by_b)]
-    } else {
-        [(0, true, by_b), (1, false, by_a)]
-    };
-    let found = arrivals(rt.alloc(), entries(closed, 1).ok_or("node")?)?;
-    Ok(is_round_a_ring(rt, closed) && found.as_slice() == wanted.as_slice())
-}
-
 #[test]
 fn gate_orders(rt: HostRuntime) -> Result<(), Fail> {
+    let scenario = scenario(&rt, 64, ROUND)?;
     for held in 0..2u8 {
         let gate = InOrder {
             held,
             begun: AtomicU64::new(0),
-            calls: Mutex::new(Vec::new(rt.alloc())),
+            passes: AtomicU64::new(0),
         };
-        let run = run_threads::<512, _, _>(&rt, rt.alloc(), &round_a_ring(&rt)?, &gate);
-        let closed = run.ok().ok_or("no run")?;
-        let calls = gate.calls.into_inner();
-        assert!(rt; is_in_order(&rt, held, &closed, calls.as_slice())?);
+        let in_order = Told {
+            up: [1, 1],
+            first: Some(1 - held),
+            lost: [0, 0, 0],
+        };
+        assert!(rt; run(&rt, rt.alloc(), &scenario, &gate) == Ok(in_order));
+        assert!(rt; gate.passes.load(Ordering::SeqCst) == 6);
     }
     Ok(())
 }
-
-// ---- gates that hold the main worker back
 
 /// Lets the first cut come when the pass of this number has begun, of all passes in the order in which they begin, and holds that
 /// pass until the main worker is at its drain.
@@ -405,44 +313,23 @@ impl Gate for CutUnderPass {
     }
 }
 
-/// How many copies a link lost, where each that was put there was taken or lost.
-fn lost_on(closed: &Closed<512>, link: usize) -> Option<usize> {
-    if link >= closed.topology().links().len() {
-        return None;
-    }
-    let rows = closed.rows(link);
-    if rows.iter().any(|row| row.fate == Fate::Queued) {
-        return None;
-    }
-    Some(rows.iter().filter(|row| row.fate != Fate::Taken).count())
+/// Whether each node took the frame up once, and no link but the one that was cut lost a copy.
+fn survives_a_cut(told: Told) -> bool {
+    let [first, _cut, last] = told.lost;
+    told.up == [1, 1] && first == 0 && last == 0
 }
 
 #[test]
 fn cut_in_a_running_ring(rt: HostRuntime) -> Result<(), Fail> {
+    let scenario = scenario(&rt, 64, CUT)?;
     for held in 0..6u64 {
-        let steps = vec![in rt.alloc();
-            Order::Step(send(&rt, 0, group())?),
-            Order::Step(Step::Cut { link: 1 }),
-            Order::Step(Step::Mend { link: 1 }),
-            Order::Drain,
-        ]?;
         let gate = CutUnderPass {
             held,
             passes: AtomicU64::new(0),
             begun: AtomicU64::new(0),
             drained: AtomicU64::new(0),
         };
-        let run = run_threads::<512, _, _>(&rt, rt.alloc(), &scenario(ring3(&rt)?, steps), &gate);
-        let closed = run.ok().ok_or("no run")?;
-        for node in 1..3usize {
-            let [_sent, up, _forwarded, _duplicate, _returned] = counted(&closed, node).ok_or(
-                "node",
-            )?;
-            assert!(rt; up == 1);
-        }
-        assert!(rt; lost_on(&closed, 0) == Some(0) && lost_on(&closed, 2) == Some(0));
-        assert!(rt; lost_on(&closed, 1).is_some());
-        assert!(rt; certified(&rt, &closed) == Some(1));
+        assert!(rt; run(&rt, rt.alloc(), &scenario, &gate).is_ok_and(survives_a_cut));
     }
     Ok(())
 }
@@ -470,73 +357,14 @@ impl Gate for AllHeld {
     }
 }
 
+/// Of three sends at most one copy waits on each link while one is at its end, so both links of the sender lose one.
 #[test]
 fn overrun_in_a_running_ring(rt: HostRuntime) -> Result<(), Fail> {
-    let steps = vec![in rt.alloc();
-        Order::Step(send(&rt, 0, group())?),
-        Order::Step(send(&rt, 0, group())?),
-        Order::Step(send(&rt, 0, group())?),
-        Order::Drain,
-    ]?;
-    let narrow = Scenario {
-        topology: ring3(&rt)?,
-        capacity: 1,
-        steps,
-    };
+    let scenario = scenario(&rt, 1, THREE)?;
     let gate = AllHeld {
         drained: AtomicU64::new(0),
     };
-    let run = run_threads::<512, _, _>(&rt, rt.alloc(), &narrow, &gate);
-    let closed = run.ok().ok_or("no run")?;
-    assert!(rt; lost_on(&closed, 0).ok_or("link")? >= 1);
-    assert!(rt; lost_on(&closed, 1).is_some());
-    assert!(rt; lost_on(&closed, 2).ok_or("link")? >= 1);
-    assert!(rt; audit(rt.alloc(), &closed).err() == Some(AuditFault::Doubt(Doubt::TwoLinks)));
-    Ok(())
-}
-
-/// Shuts before a step.
-#[derive(Drop)]
-struct ShutBefore {
-    step: usize,
-}
-
-impl Gate for ShutBefore {
-    ghost use Rattle.std.specs.Prelude.{true};
-
-    ghost may_shut = { true };
-
-    fn pass(&self, _rt: &impl Wait, _node: usize, _port: u8, _probe: Option<Probe>) -> bool {
-        true
-    }
-
-    fn before(&self, _rt: &impl Wait, step: usize) -> bool {
-        step != self.step
-    }
-}
-
-/// Why a scenario has no run under a gate that shuts before a step.
-fn fault_before<R: Threads + Wait + Sync>(
-    rt: &R,
-    alloc: Global,
-    scenario: &Scenario,
-    step: usize,
-) -> Option<RunFault> {
-    let gate = ShutBefore { step };
-    run_threads::<512, _, _>(rt, alloc, scenario, &gate).err()
-}
-
-#[test]
-fn shut_before_a_step(rt: HostRuntime) -> Result<(), Fail> {
-    let mut refused = round_a_ring(&rt)?;
-    refused.steps.push(Order::Step(Step::Age { node: 3 }))?;
-    for step in 0..3usize {
-        assert!(rt; fault_before(&rt, rt.alloc(), &refused, step) == Some(RunFault::GateShut));
-    }
-    let no_node = RunFault::Step {
-        step: 2,
-        fault: WorldFault::NoSuchNode,
-    };
-    assert!(rt; fault_before(&rt, rt.alloc(), &refused, 3) == Some(no_node));
+    let told = run(&rt, rt.alloc(), &scenario, &gate);
+    assert!(rt; told.is_ok_and(|told| told.lost[0] >= 1 && told.lost[2] >= 1));
     Ok(())
 }

@@ -4,6 +4,7 @@ use clap::error::ErrorKind;
 use clap::{Arg, ArgAction, ArgMatches, Command, Error};
 use hsr_picture::Span;
 use hsr_text::decimal;
+use hsr_version::VERSION;
 use hsr_viewing::What;
 use std::alloc::{AllocError, Global};
 
@@ -76,13 +77,13 @@ fn usage(alloc: Global, text: &str) -> WordFault {
     }
 }
 
-/// The text of a refusal.
+/// The text of a refusal, without the end of its last line: whoever prints it ends the line.
 fn refused(alloc: Global, error: &Error) -> WordFault {
     if error.kind() == ErrorKind::OutOfMemory {
         return WordFault::Memory;
     }
     match format!(in alloc; "{error}") {
-        Ok(text) => WordFault::Usage { text },
+        Ok(text) => usage(alloc, text.trim_end()),
         Err(_) => WordFault::Memory,
     }
 }
@@ -144,6 +145,7 @@ fn devices_command<'a>(alloc: Global) -> Result<Command<'a>, AllocError> {
 fn view_command<'a>(alloc: Global) -> Result<Command<'a>, AllocError> {
     Command::new(alloc, "hsr_view")
         .about("Shows finished runs of hsr_bench")
+        .version(VERSION)
         .no_binary_name(true)
         .subcommand_required(true)
         .subcommand(capture_command(alloc)?)?

@@ -77,7 +77,7 @@ abbrev pub audit_app : Listed → App
 audit_app tables = with_asked (with_rule (new_app (codes "audit")) (table_rule tables))
 
 abbrev pub top_app : App
-top_app = record { top = record (new_app (codes "hsr_bench")).top { no_binary_name = true; subcommand_required = true }; subs = [] }
+top_app = record { top = record (new_app (codes "hsr_bench")).top { no_binary_name = true; subcommand_required = true; has_version = true }; subs = [] }
 
 abbrev pub bench_app : Listed → Listed → Listed → App
 bench_app modes tables units =

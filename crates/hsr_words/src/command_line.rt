@@ -16,6 +16,7 @@ use clap::{Arg, ArgAction, ArgMatches, Command, Error};
 use hsr_frame::{Mac, Mode};
 use hsr_options::{Asked, Form, NodeOptions, Options, Scope, Showing, Table};
 use hsr_text::TimeUnit;
+use hsr_version::VERSION;
 use std::alloc::{AllocError, Global};
 
 const NODE_LINES: &str = "\
@@ -263,6 +264,7 @@ fn top_command<'a>(alloc: Global) -> Command<'a>
 {
     Command::new(alloc, "hsr_bench")
         .about("A bench for HSR rings (IEC 62439-3 clause 5). With no words it runs `node`.")
+        .version(VERSION)
         .no_binary_name(true)
         .subcommand_required(true)
 }
@@ -286,7 +288,7 @@ fn bench_command<'a>(
     Ok(four)
 }
 
-/// The text of a refusal.
+/// The text of a refusal, without the end of its last line: whoever prints it ends the line.
 fn refused(alloc: Global, error: &Error) -> OptionFault
     ensures kind { IfUsage result (λ _. kind_of error.now ≢ OutOfMemory) }
     ensures some { IfUsage result (λ t. 0 < length t) }
@@ -295,10 +297,19 @@ fn refused(alloc: Global, error: &Error) -> OptionFault
         return OptionFault::Memory;
     }
     match format!(in alloc; "{error}") {
-        Ok(text) if !text.is_empty() => OptionFault::Usage { text },
-        Ok(_) => usage(alloc, "usage: --help"),
+        Ok(text) => usage_or_help(alloc, text.trim_end()),
         Err(_) => OptionFault::Memory,
     }
+}
+
+/// A refusal by this text, or by one that names the help where it is empty.
+fn usage_or_help(alloc: Global, text: &str) -> OptionFault
+    ensures { IfUsage result (λ t. 0 < length t) }
+{
+    if text.is_empty() {
+        return usage(alloc, "usage: --help");
+    }
+    usage(alloc, text)
 }
 
 fn usage(alloc: Global, text: &str) -> OptionFault

@@ -1,0 +1,67 @@
+//! Copies that are put on a link, by itself and under a lock.
+use crate::fixtures::carried;
+use hsr_link::{Dir, Fate, Link, LinkCell};
+use hsr_node::Carried;
+use std::alloc::Global;
+use std::sync::Wait;
+use std::test::Fail;
+
+/// A link on which one copy may wait in each direction; where room is refused, it is asked for again.
+fn link(alloc: Global) -> Result<Link, Fail> {
+    match Link::new(alloc, 1) {
+        Ok(link) => Ok(link),
+        Err(_refused) => Ok(Link::new(alloc, 1)?),
+    }
+}
+
+/// Whether a link takes a copy. Where room is refused, it has no row more, and takes the copy then.
+fn puts_again(link: &mut Link, carried: Carried) -> bool {
+    match link.put(Dir::Forth, carried) {
+        Ok(fate) => fate == Fate::Queued,
+        Err((carried, _refused)) => {
+            let is_unchanged = link.rows().is_empty();
+            let again = link.put(Dir::Forth, carried);
+            is_unchanged && again.is_ok_and(|fate| fate == Fate::Queued)
+        }
+    }
+}
+
+/// The same of octets that no port sent, the other way, behind one copy.
+fn injects_again(link: &mut Link, carried: Carried) -> bool {
+    match link.inject(Dir::Back, carried) {
+        Ok(fate) => fate == Fate::Queued,
+        Err((carried, _refused)) => {
+            let is_unchanged = link.rows().len() == 1;
+            let again = link.inject(Dir::Back, carried);
+            is_unchanged && again.is_ok_and(|fate| fate == Fate::Queued)
+        }
+    }
+}
+
+#[test]
+fn put_and_inject(rt: HostRuntime) -> Result<(), Fail> {
+    let mut link = link(rt.alloc())?;
+    assert!(rt; puts_again(&mut link, carried(rt.alloc())?));
+    assert!(rt; injects_again(&mut link, carried(rt.alloc())?));
+    assert!(rt; link.rows().len() == 2);
+    Ok(())
+}
+
+/// Whether a link under a lock takes a copy, which comes back where room is refused.
+fn puts_under_a_lock(rt: &impl Wait, cell: &LinkCell, carried: Carried) -> bool {
+    match cell.put(rt, Dir::Forth, carried) {
+        Ok(fate) => fate == Fate::Queued,
+        Err((carried, _refused)) => {
+            let again = cell.put(rt, Dir::Forth, carried);
+            again.is_ok_and(|fate| fate == Fate::Queued)
+        }
+    }
+}
+
+#[test]
+fn put_under_a_lock(rt: HostRuntime) -> Result<(), Fail> {
+    let cell = LinkCell::new(link(rt.alloc())?);
+    assert!(rt; puts_under_a_lock(&rt, &cell, carried(rt.alloc())?));
+    assert!(rt; cell.into_link().rows().len() == 1);
+    Ok(())
+}

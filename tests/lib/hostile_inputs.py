@@ -1,0 +1,49 @@
+"""Inputs that no friend would give. A stream is a shell's words that write it; all others are octets."""
+import random
+
+from lib.scenarios import GROUP, ring, send
+
+LONG_LINE = "head -c 1000000000 /dev/zero | tr '\\0' a"  # 1 GB without an end
+MIB_16 = 16 * 1024 * 1024
+
+
+def random_octets():
+    return random.Random(1).randbytes(10**7)
+
+
+def open_brackets():
+    return b"node = " + b"[" * 100_000 + b"\n"
+
+
+def brackets():
+    return b"node = " + b"[" * 100_000 + b"]" * 100_000 + b"\n"
+
+
+def keys():
+    return "".join(f"k{number} = 0\n" for number in range(1, 500_001)).encode()
+
+
+def keys_of_a_node():
+    return ("node = [{" + "".join(f"k{number} = 0, " for number in range(1, 500_000)) + "k = 0}]\n").encode()
+
+
+def dotted_key():
+    """A key of 100,000 parts, which is deeper than tables may stand in one another."""
+    return b"a" + b".a" * 100_000 + b" = 0\n"
+
+
+def padded(size):
+    """A ring and a send to all, drained, in so many octets: the last line is a comment."""
+    text = ring(3, 64) + "step = [" + send(GROUP) + '{do="drain"}]\n#'
+    return text.encode().ljust(size, b"x")
+
+
+def many_steps():
+    """Steps of the clock and of a node that gives up what is expired, one after the other."""
+    steps = "".join(f'{{do="clock", at={at}}},\n{{do="age", node="n1"}},\n' for at in range(100_000))
+    return (ring(3, 64) + "step = [\n" + steps + "]\n").encode()
+
+
+def lines(size):
+    """So many octets of lines for `node`."""
+    return (b"age 0\n" * (size // 6 + 1))[:size]

@@ -1,0 +1,138 @@
+"""Gives each command what no friend would: random octets, lines, texts and runs that are far too large, and a folder as input. Each has to end
+with its status and its last line, within two minutes and a bounded address space (1 GB; 6 GB for `threads`, each of whose threads takes
+some for its stack), and without a crash."""
+import contextlib
+import os
+import resource
+import subprocess
+import tempfile
+import time
+
+from lib import hostile_inputs as inputs
+from lib.case_files import ROOT
+from lib.running import Job, Tally, wait
+from lib.scenarios import ring, storm
+
+SECONDS = 120
+ROOM, ROOM_OF_THREADS = 1_000_000 * 1024, 6_000_000 * 1024
+NO_LINE, NO_TEXT, NO_TRANSCRIPT = "fault: line 1", "fault: scenario top text", "fault: transcript version"
+NO_ANSWER = "sent 0 life 0 up 0 forwarded 0 duplicate 0 returned 0 dropped 0"
+
+
+# ---- one run
+
+
+@contextlib.contextmanager
+def opened(folder, given):
+    """An input to read from: a stream's words, octets, or a folder."""
+    if isinstance(given, bytes):
+        with tempfile.TemporaryFile(dir=folder) as file:
+            file.write(given)
+            file.seek(0)
+            yield file
+    elif os.path.isdir(given):
+        place = os.open(given, os.O_RDONLY)
+        yield place
+        os.close(place)
+    else:
+        with subprocess.Popen(["/bin/sh", "-c", given], stdout=subprocess.PIPE) as writer:
+            yield writer.stdout
+            writer.stdout.close()
+
+
+def bounded(room):
+    """What a program does before it starts: it takes no more room than that."""
+    resource.setrlimit(resource.RLIMIT_AS, (room, room))
+    resource.setrlimit(resource.RLIMIT_CORE, (0, 0))
+
+
+def last_line(*files):
+    """The last line of the last file in which there is one, its first 100 characters."""
+    said = ""
+    for file in files:
+        file.seek(max(0, file.seek(0, os.SEEK_END) - 4096))
+        said = file.read().decode("latin-1").rstrip("\n").split("\n")[-1] or said
+    return said[:100]
+
+
+def ended(setting, words, given):
+    """The status and last line of a run in its bounds; nothing where it doesn't end."""
+    room = ROOM_OF_THREADS if words[0] == "threads" else ROOM
+    with opened(setting.work, given) as source, tempfile.TemporaryFile(dir=setting.work) as output, tempfile.TemporaryFile(dir=setting.work) as error:
+        command = [setting.programs["hsr_bench"], *words]
+        process = subprocess.Popen(command, stdin=source, stdout=output, stderr=error, cwd=ROOT, preexec_fn=lambda: bounded(room))
+        return (process.returncode, last_line(output, error)) if wait(process, SECONDS) else (None, "")
+
+
+# ---- rows
+
+
+def try_rows(setting, rows, make, *arguments):
+    """Runs commands on one input, each to its status and last line."""
+    tally, given = Tally(), make(*arguments)
+    for name, words, *wanted in rows:
+        began = time.monotonic()
+        status, said = ended(setting, words, given)
+        title = f"{' '.join(words)}, {name}"
+        tally.count(title, "" if [status, said] == wanted else f"status {status}, {said}; {wanted} was to come")
+        tally.told.append(f"{title}: status {status}, {said}, {time.monotonic() - began:.1f} s")
+    return tally
+
+
+def same(given):
+    return given
+
+
+def hurled(name, text=NO_TEXT):
+    """What is no text of any command."""
+    rows = [(name, ["node"], 1, NO_LINE), (name, ["audit"], 1, NO_TRANSCRIPT)]
+    return rows + both(name, 1, text)
+
+
+def both(name, status, last):
+    """A scenario by both commands that play one."""
+    return [(name, [command], status, last) for command in ("run", "threads")]
+
+
+def transcript_of_many(setting):
+    command = [setting.programs["hsr_bench"], "run", "--transcript"]
+    return subprocess.run(command, input=inputs.many_steps(), stdout=subprocess.PIPE, timeout=SECONDS).stdout
+
+
+def try_transcript(setting):
+    rows = [("transcript of 200,000 steps", ["audit"], 0, "certified 0")]
+    return try_rows(setting, rows, transcript_of_many, setting)
+
+
+def jobs_of_no_text():
+    return [
+        Job(try_rows, (hurled("10 MB of random octets"), inputs.random_octets), 3),
+        Job(try_rows, (hurled("a line of 1 GB"), same, inputs.LONG_LINE), 6),
+        Job(try_rows, ([("a line, then one of 1 GB", ["node"], 1, "fault: line 2")], same, "echo age 0; " + inputs.LONG_LINE), 2),
+        Job(try_rows, ([("a version, then a line of 1 GB", ["audit"], 1, "fault: transcript line 2")], same, "echo hsr-bench 2; " + inputs.LONG_LINE), 2),
+        Job(try_rows, (hurled("100,000 open brackets"), inputs.open_brackets), 2),
+        Job(try_rows, (hurled("100,000 brackets that are closed"), inputs.brackets), 2),
+        Job(try_rows, (hurled("500,000 keys", "fault: scenario top unknown"), inputs.keys), 8),
+        Job(try_rows, (hurled("500,000 keys of a node", "fault: scenario node 0 missing role"), inputs.keys_of_a_node), 8),
+        Job(try_rows, (hurled("a key of 100,000 parts"), inputs.dotted_key), 2),
+    ]
+
+
+def jobs_of_large_texts():
+    counts = b"hsr-bench 2\ntable 512\nnodes 18446744073709551615\nquadbox\nquad\n"
+    return [
+        Job(try_rows, (both("16 MiB", 0, "certified 1"), inputs.padded, inputs.MIB_16), 4),
+        Job(try_rows, (both("16 MiB and one octet", 1, NO_TEXT), inputs.padded, inputs.MIB_16 + 1), 2),
+        Job(try_rows, (both("200,000 steps", 0, "certified 0"), inputs.many_steps), 8),
+        Job(try_transcript, (), 4),
+        Job(try_rows, (both("64 nodes, and 4096 copies on each link", 0, "certified 0"), ring(64, 4096).encode), 2),
+        Job(try_rows, (both("capacity 4097", 1, "fault: scenario top bad-value capacity"), ring(64, 4097).encode), 1),
+        Job(try_rows, ([("16 MiB and one octet of lines", ["node"], 0, NO_ANSWER)], inputs.lines, inputs.MIB_16 + 1), 4),
+        Job(try_rows, ([("counts of 2^64 - 1", ["audit"], 1, "fault: transcript line 5")], same, counts), 1),
+        Job(try_rows, ([("a storm", ["run", "--table", "small"], 1, "fault: step 5 unsettled")], storm(5).encode), 20),
+    ]
+
+
+def jobs(setting):
+    folder = [("a folder as input", [command], 1, "fault: read") for command in ("node", "run", "threads", "audit")]
+    return jobs_of_no_text() + jobs_of_large_texts() + [Job(try_rows, (folder, same, str(ROOT)), 1)]

@@ -1,0 +1,31 @@
+"""Plays the scenario of each example of a plan: its report and status are those of the scenario in tests/plans, which another program wrote
+of that plan; and a sweep says of the undisturbed run what the bench's audit of networks says."""
+import re
+
+from lib.case_files import ROOT
+from lib.running import Job, Tally, difference, run
+
+PLANS = ROOT / "examples" / "plans"
+SCENARIOS = ROOT / "tests" / "plans"
+
+
+def last_line(text):
+    return text.decode().rstrip("\n").split("\n")[-1]
+
+
+def try_plan(setting, name):
+    """Compares one plan."""
+    tally, plan = Tally(), (PLANS / f"{name}.toml").read_bytes()
+    status, scenario, _ = run(setting, "hsr_plan", [], plan)
+    ours, theirs = (run(setting, "hsr_bench", ["run", "--budget"], text) for text in (scenario, (SCENARIOS / f"{name}.scenario").read_bytes()))
+    why = [f"status {status}"] * (status != 0) + ["status of the run"] * (ours[0] != theirs[0])
+    tally.count(name, "\n".join(why + difference("the report", ours[1], theirs[1])))
+    verdict = last_line(run(setting, "hsr_bench", ["run", "--network"], scenario)[1])
+    swept = run(setting, "hsr_plan", ["sweep"], plan)[1].decode()
+    is_told = re.search(rf"^undisturbed .* needed [0-9]* {re.escape(verdict)}$", swept, re.MULTILINE)
+    tally.count(f"sweep of {name}", "" if is_told else f"it doesn't say {verdict} of the undisturbed run")
+    return tally
+
+
+def jobs(setting):
+    return [Job(try_plan, (path.stem,), 5) for path in sorted(PLANS.glob("*.toml"))]

@@ -1,0 +1,150 @@
+"""Runs random scenarios by `threads --transcript`, audits each text by `audit`, and compares what no order of threads changes.
+
+    python3 tests/second/by_threads.py PROGRAM [COUNT [SEED]]
+
+COUNT (300) scenarios, from SEED (1) on, by the generator of compare.py, without its puts, takes and judgements. In half of them, and in
+all with small tables, each step is drained before the next one: then the counts of every node and link, the fault and the kind of the
+doubt have to be those of `run`. In the others each node has sent as often as the scenario says. In all of them each copy that was put was
+taken or lost, each arrival was judged by the worker of its port, each node's ager aged it at the last clock, and `audit` of the text has
+the status of `threads`, and prints the report that tells of the text. A run that hasn't ended after a minute is a failure. Each failure is
+shown; the last line says how many scenarios passed, and the status is 0 if all did.
+"""
+import random
+import subprocess
+import sys
+from collections import Counter
+
+import compare
+import model
+
+SECONDS = 60
+PORTS = {"A": 0, "B": 1, "C": 2, "D": 3, "I": 2, "P": 0}  # by their letters
+LIVELY = ("send", "life", "inject")  # steps that bring copies about
+
+
+class Differs(Exception):
+    pass
+
+
+def bench(program, words, given):
+    try:
+        done = subprocess.run([program, *words], input=given, capture_output=True, text=True, timeout=SECONDS)
+    except subprocess.TimeoutExpired:
+        raise Differs(f"{' '.join(words)}: no end after {SECONDS} s") from None
+    return done.returncode, done.stdout, done.stderr
+
+
+def expect(what, got, wanted):
+    if got != wanted:
+        raise Differs(f"{what}: {got!r}, and not {wanted!r}")
+
+
+def drained(steps):
+    """The same steps, each that brings copies about with a drain behind it."""
+    return [one for step in steps for one in ([step, {"do": "drain"}] if step["do"] in LIVELY else [step])]
+
+
+def counts(report):
+    """The report without its last line, and the kind of what was found there."""
+    *lines, found = report.splitlines()
+    return lines, found.split()[:2]
+
+
+def own_sends(made):
+    """How often each node sends and tells of itself."""
+    sent = Counter((step["do"], step["node"]) for step in made["step"] if step["do"] in ("send", "life"))
+    return [(sent["send", node["name"]], sent["life", node["name"]]) for node in made["node"]]
+
+
+def look_at(made, report):
+    """What holds of a report whatever came first."""
+    lines = [line.split() for line in report.splitlines()]
+    said = [dict(zip(line[3::2], map(int, line[4::2]))) for line in lines if line[0] == "node"]
+    expect("sends", [(one["sent"], one["life"]) for one in said], own_sends(made))
+    for _, number, _, put, _, taken, _, lost in (line for line in lines if line[0] == "link"):
+        expect(f"link {number}: copies put", int(put), int(taken) + int(lost))
+
+
+def last_clock(made):
+    """The moment of the last clock step, in microseconds."""
+    moments = [step["at"] for step in made["step"] if step["do"] == "clock"]
+    return (moments or [0])[-1] * model.MICROSECONDS[made.get("unit", "ms")]
+
+
+def look_at_record(made, node, lines):
+    """Each arrival was judged by the worker of its port; the ager aged, at the last clock too; the main worker did the steps."""
+    own, aged = Counter(), []
+    for worker, at, done, *rest in lines:
+        if done == "arrive":
+            expect(f"worker of an arrival at {node} {rest[0]}", int(worker), 1 + 8 * node + PORTS[rest[0]])
+        elif done == "age" and worker != "0":
+            expect(f"ager of {node}", int(worker), 8 + 8 * node)
+            aged.append(int(at))
+        else:
+            expect(f"worker of a step at {node}", worker, "0")
+            own[done] += 1
+    expect(f"last moment at which {node} was aged", (aged or [0])[-1], last_clock(made))
+    told = Counter(step["do"] for step in made["step"] if step.get("node") == made["node"][node]["name"])
+    expect(f"ages of {node} that were steps", own["age"], told["age"])
+
+
+def look_at_workers(made, text):
+    """What each record says of who did it."""
+    records = []
+    for line in text.splitlines():
+        word, *rest = line.split()
+        if word == "record":
+            records.append([])
+        elif word == "carried":
+            break
+        elif records:
+            records[-1].append([word, *rest])
+    for node, lines in enumerate(records):
+        look_at_record(made, node, lines)
+
+
+def try_one(program, seed):
+    """What became of a scenario, in a word or two."""
+    chance = random.Random(seed)
+    capacity = chance.choice([4, 512])
+    table = ["--table", "small" if capacity == 4 else "large"]
+    is_drained = capacity == 4 or chance.random() < 0.5
+    try:
+        made = compare.scenario(chance, capacity, by_hand=False)
+        made["step"] = drained(made["step"]) if is_drained else made["step"]
+        model.run(made, capacity, compare.DRAIN_LIMIT)
+    except model.Unsettled:
+        return "left out"
+    given = compare.document(made)
+    try:
+        status, text, fault = bench(program, ["threads", "--transcript", *table], given)
+        ran_status, ran, ran_fault = bench(program, ["run", *table], given)
+        if status == 1:
+            expect("printed beside a fault", text, "")
+            expect("lines of the fault", fault.count("\n"), 1)
+            if is_drained:
+                expect("fault", fault, ran_fault)
+            return "fault: " + " ".join("step .." if word == "step" else word for word in fault.split()[1:] if not word.isdigit())
+        look_at_workers(made, text)
+        audit_status, report, audit_fault = bench(program, ["audit", *table], text)
+        expect("status of the audit", (audit_status, audit_fault), (status, ""))
+        look_at(made, report)
+        if is_drained:
+            expect("status of the run", ran_status, status)
+            expect("report", counts(report), counts(ran))
+        return " ".join(counts(report)[1][: 1 if status == 0 else 2])
+    except Differs as difference:
+        print(f"seed {seed}: {difference}\n--- input\n{given}", flush=True)
+        return "FAILED"
+
+
+def main():
+    program, count, first = sys.argv[1], *(int(word) for word in (sys.argv[2:] + ["300", "1"][len(sys.argv) - 2 :]))
+    seen = Counter(try_one(program, seed) for seed in range(first, first + count))
+    print(", ".join(f"{how}: {many}" for how, many in sorted(seen.items())))
+    print(f"{count - seen['FAILED']} passed, {seen['FAILED']} failed")
+    sys.exit(seen["FAILED"] > 0)
+
+
+if __name__ == "__main__":
+    main()

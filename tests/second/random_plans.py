@@ -1,0 +1,466 @@
+"""Random plans, by the planner's program: what each scenario says against what docs/USING.md says that the plan means, in another language.
+
+    python3 tests/second/random_plans.py PLANNER [COUNT [SEED [BENCH [SECONDS]]]]
+
+COUNT (1000) plans from SEED (1) on, or as many as SECONDS allow. Of each that is no fault: the steps are those that the plan means, in
+order; model.py refuses none of them; and a RedBox sends supervision about a station just where the model's RedBox knows it then. With BENCH
+the program plays the scenario too, and refuses no step. Each 20th plan is swept, and the lines compared with what model.py counts. About
+half of the plans move copies by hops: there each copy is put in the moment of the entry that passed it, and taken and judged just a hop
+later, before anything else happens at that moment. Of each that is a fault: the status is 1, nothing is written, and the line says why there
+is none: the reason, or one of those, that this script finds by itself.
+
+What is excused:
+- Of a fault's line only the reason is compared, not line and column; where a plan has several reasons, the line may tell any of them.
+- Of a payload of type "goose" or "sv" nothing is compared.
+- In which order copies are put, taken and judged at one moment is compared with no other reading: model.py plays the steps as they stand.
+- A sweep is compared where it ends. Its line on a terminal isn't looked at.
+- With the small tables, which may forget, the bench may end a run as unsettled.
+
+The first difference is shown, with its plan, and ends it. The last line but one says how many plans were told, how many of these by hops,
+how many were swept, and how many were faults, each by its reason; the last how many passed and failed.
+"""
+import random
+import subprocess
+import sys
+import time
+import tomllib
+from collections import Counter
+
+import model
+
+PLANNER = BENCH = None
+EACH = 20  # of so many plans one is swept
+GROUP = "01-0C-CD-01-00-01"
+TYPES = {"goose": 0x88B8, "sv": 0x88BA}
+ENDLESS = 1 << 41
+TABLES = {"small": 4, "large": 512}
+
+
+# ---- a random plan
+
+
+def names_of(chance):
+    """Rings of names; some names are in two rings."""
+    rings = [[f"r{ring}-{place}" for place in range(chance.randint(2, 4))] for ring in range(chance.choice([1, 1, 1, 2, 2, 3]))]
+    for ring in range(1, len(rings)):
+        shared = chance.sample(rings[ring - 1], min(len(rings[ring - 1]), chance.choice([1, 1, 2])))
+        rings[ring] += [name for name in shared if sum(name in other for other in rings) < 2]
+        chance.shuffle(rings[ring])
+    return rings
+
+
+def stream_of(chance, senders, targets):
+    said = {"from": chance.choice([chance.choice(senders), chance.sample(senders, chance.randint(1, min(3, len(senders))))])}
+    said["to"] = chance.choice([GROUP, GROUP, chance.choice(targets)])
+    said["type"] = chance.choice(["goose", "sv", 0x88B5, 0x0800])
+    said["every_us"] = chance.choice([100, 250, 1000, 3000])
+    for key, values in (("size", [0, 4, 46, 120]), ("vlan", [0, 10, 4095]), ("priority", [0, 4, 7]), ("grow", [1, 2, 3]), ("most_us", [50, 1000, 4000])):
+        if chance.random() < 0.3:
+            said[key] = chance.choice(values)
+    if chance.random() < 0.5:
+        said["start_us"] = chance.choice([chance.randint(0, 5000), sorted(chance.randint(0, 9000) for _ in range(chance.randint(1, 3)))])
+    if chance.random() < 0.5:
+        said["count"] = chance.randint(0, 6)
+    return said
+
+
+def event_of(chance, rings, redboxes):
+    ring = chance.choice(rings)
+    place = chance.randrange(len(ring))
+    ends = [ring[place], ring[(place + 1) % len(ring)]]
+    if redboxes and chance.random() < 0.3:
+        box = chance.choice(list(redboxes))
+        ends = [box, f"{box}-sans"]
+    key = chance.choice(["cut", "mend", "off", "on"])
+    return {"at_us": chance.choice([0, 1000, chance.randint(0, 9000)]), key: ends if key in ("cut", "mend") else chance.choice(ends)}
+
+
+def random_plan(chance):
+    rings = names_of(chance)
+    alone = [name for ring in rings for name in ring if sum(name in other for other in rings) == 1]
+    boxes = chance.sample(alone, min(len(alone), chance.choice([0, 1, 1, 2])))
+    redboxes = {box: [f"s-{box}-{k}" for k in range(chance.choice([1, 2, 3, 16]))] for box in boxes}
+    senders = [*alone, *(name for names in redboxes.values() for name in names)]
+    said = {"title": "random", "until_us": chance.randint(1, 10000), "moves": chance.choice(["each send drains", "each moment drains", "hop_us = 1", f"hop_us = {chance.randint(1, 1500)}"])}
+    said |= {"ring": rings[0]} if len(rings) == 1 else {}
+    said["life_ms"] = chance.choice([0, 1, 1, 2, 5])
+    if chance.random() < 0.3:
+        said["capacity"] = chance.choice([1, 2, 5])
+    said["streams"] = [stream_of(chance, senders, senders) for _ in range(chance.randint(0, 3))] if senders else []
+    said["events"] = [event_of(chance, rings, redboxes) for _ in range(chance.choice([0, 0, 1, 3]))]
+    said["tables"] = {"redbox": redboxes} if redboxes else {}
+    if len(rings) > 1:
+        said["tables"]["rings"] = {f"k{ring}": names for ring, names in enumerate(rings)}
+    if senders and chance.random() < 0.2:
+        # (two given addresses that are the same are a fault: plans/faults)
+        given = zip(chance.sample(senders, min(2, len(senders))), chance.sample(range(1, 5), 2))
+        said["tables"]["address"] = {name: f"02-00-00-00-01-{last:02X}" for name, last in given}
+    if chance.random() < 0.2:
+        said["tables"]["mode"] = {name: chance.choice("HNU") for name in chance.sample(alone, min(1, len(alone)))}
+    if chance.random() < 0.1:  # a name that isn't there, or one that can't do this
+        said["streams"].append({"from": chance.choice(["nobody", rings[0][0]]), "to": chance.choice(["nobody", GROUP]), "type": 1, "every_us": 900})
+    return said
+
+
+def value(said):
+    if isinstance(said, list):
+        return "[" + ", ".join(value(item) for item in said) + "]"
+    return f'"{said}"' if isinstance(said, str) else str(said)
+
+
+def text(said):
+    parts = {key: said[key] for key in said if key not in ("streams", "events", "tables")}
+    lines = [f"{key} = {value(item)}" for key, item in parts.items()]
+    for name, table in said["tables"].items():
+        lines += [f"[{name}]"] + [f"{key} = {value(item)}" for key, item in table.items()]
+    for name in ("stream", "event"):
+        for table in said[name + "s"]:
+            lines += [f"[[{name}]]"] + [f"{key} = {value(item)}" for key, item in table.items()]
+    return "\n".join(lines) + "\n"
+
+
+# ---- what a plan means
+
+
+class Meaning:
+    def __init__(self, plan):
+        self.plan = plan
+        self.rings = [plan["ring"]] if "ring" in plan else []
+        self.rings += [plan["rings"][key] for key in sorted(plan.get("rings", {}))]
+        self.names = list(dict.fromkeys(name for ring in self.rings for name in ring))
+        self.redboxes = plan.get("redbox", {})
+        self.boxes = [name for name in self.names if name in self.redboxes]
+        self.first = {name: next(k for k, ring in enumerate(self.rings) if name in ring) for name in self.names}
+        self.couplers = {name for name in self.names if sum(name in ring for ring in self.rings) == 2}
+        self.until = plan.get("until_us")
+
+    def mac(self, name):
+        if name in self.names:
+            ring = self.first[name]
+            usual = f"02-00-00-00-{ring + 1:02X}-{self.rings[ring].index(name) + 1:02X}"
+        else:
+            usual = next(f"02-00-00-01-{k + 1:02X}-{self.redboxes[box].index(name) + 1:02X}" for k, box in enumerate(self.boxes) if name in self.redboxes[box])
+        return self.plan.get("address", {}).get(name, usual)
+
+    def behind(self, name):
+        """The RedBox that a station is behind, or None."""
+        return next((box for box in self.boxes if name in self.redboxes[box]), None)
+
+    def senders(self, stream):
+        return stream["from"] if isinstance(stream["from"], list) else [stream["from"]]
+
+    def reasons(self):
+        """Why the plan may mean nothing, each by words of a fault's line."""
+        known = [name for name in self.names if name not in self.couplers] + [name for box in self.boxes for name in self.redboxes[box]]
+        if any(len({*map(self.mac, names)}) < len(names) for names in self.redboxes.values()):
+            yield "no network"
+        for stream in self.plan.get("stream", []):
+            target = stream["to"]
+            yield from (f"unknown name {name}:" for name in [*self.senders(stream), target] if name not in known and name != GROUP)
+            for name in self.senders(stream):
+                if target in known and name in known and self.mac(target) in map(self.mac, self.redboxes.get(self.behind(name), [name])):
+                    yield f"{name} sends to itself"
+
+    def ends(self):
+        """The links, each by its two ends."""
+        for number, ring in enumerate(self.rings):
+            for name, after in zip(ring, ring[1:] + ring[:1]):
+                yield f"{name}.{'BD'[self.first[name] != number]}", f"{after}.{'AC'[self.first[after] != number]}"
+        yield from ((f"{box}.I", f"{box}-sans.P") for box in self.boxes)
+
+    def moments(self, stream):
+        """Each frame's moment, the number of its start, and its number since."""
+        starts = stream.get("start_us", 0)
+        starts = starts if isinstance(starts, list) else [starts]
+        ends = [end for end in (self.until, stream.get("until_us")) if end is not None]
+        for state, start in enumerate(starts):
+            until = min(ends + starts[state + 1 : state + 2] or [ENDLESS])
+            most = stream.get("most_us", 1 << 40)
+            at, gap, count = start, min(stream["every_us"], most), 0
+            while at < until and count < stream.get("count", ENDLESS):
+                yield at, state, count
+                at, gap, count = at + gap, min(gap * stream.get("grow", 1), most), count + 1
+
+    def send(self, stream, name, count):
+        behind = self.behind(name)
+        kind = TYPES.get(stream["type"], stream["type"])
+        said = {"do": "send", "node": f"{behind}-sans" if behind else name, "to": stream["to"], "type": kind}
+        if behind and self.redboxes[behind].index(name):
+            said["from"] = self.redboxes[behind].index(name)
+        if "vlan" in stream or "priority" in stream:
+            said["vlan"] = stream.get("priority", 0) * 8192 + stream.get("vlan", 0)
+        said["to"] = stream["to"] if "-" in stream["to"] and len(stream["to"]) == 17 and stream["to"][2] == "-" else self.mac(stream["to"])
+        if isinstance(stream["type"], int):
+            said["payload"] = (count.to_bytes(4, "big") + bytes(1500))[: stream.get("size", 46)]
+        return said
+
+    def occasions(self):
+        """What is to happen: a moment and what; those of one moment in their order."""
+        listed = [(event["at_us"], event) for event in self.plan.get("event", [])]
+        life = self.plan.get("life_ms", 2000) * 1000
+        lives = [name for name in self.names if name not in self.couplers]
+        listed += [(at, {"do": "life", "node": name}) for at in (range(0, self.until, life) if life else ()) for name in lives]
+        for stream in self.plan.get("stream", []):
+            listed += [(at, self.send(stream, name, count)) for name in self.senders(stream) for at, _, count in self.moments(stream)]
+        return sorted(listed, key=lambda occasion: occasion[0])
+
+    def steps(self):
+        """The steps that tell it: supervision about stations, and drains, are not among them."""
+        links, now = list(self.ends()), 0
+        off, cut = set(), set()
+        for at, what in self.occasions():
+            if at != now:
+                now = at
+                yield {"do": "clock", "at": at}
+            if what.get("do") in ("life", "send"):
+                if what["node"] not in off:
+                    yield what
+                continue
+            before = [self.is_down(ends, off, cut) for ends in links]
+            self.change(what, links, off, cut)
+            for number, ends in enumerate(links):
+                if self.is_down(ends, off, cut) != before[number]:
+                    yield {"do": "mend" if before[number] else "cut", "link": number}
+
+    def is_down(self, ends, off, cut):
+        return ends in cut or any(end.split(".")[0] in off for end in ends)
+
+    def change(self, what, links, off, cut):
+        for key, one in (("off", off.add), ("on", off.discard)):
+            if key in what:
+                one(what[key])
+        for key, one in (("cut", cut.add), ("mend", cut.discard)):
+            if key in what:
+                pair = set(what[key])
+                one(next(ends for ends in links if {end.split(".")[0] for end in ends} == pair or set(ends) == pair))
+
+
+# ---- the comparison
+
+
+def is_told(said, step):
+    """Whether a step of a scenario is what is meant."""
+    want = {key: item for key, item in said.items() if key != "payload"}
+    got = {key: item for key, item in step.items() if key not in ("payload", "port")}
+    return want == got and ("payload" not in said or bytes.fromhex(step["payload"]) == said["payload"])
+
+
+def known_behind(meaning, world, name):
+    """The addresses of the stations behind a RedBox that it knows now, as supervision tells them."""
+    box, macs = world.nodes[world.numbers[name]], map(meaning.mac, meaning.redboxes[name])
+    return [(name, mac) for mac in macs if model.address(mac) != box.mac and box.knows(model.address(mac), max(box.moment, world.at))]
+
+
+def wanted_deeds(meaning):
+    """The steps that tell a plan, each with its moment."""
+    now = 0
+    for step in meaning.steps():
+        if step["do"] == "clock":
+            now = step["at"]
+        else:
+            yield now, step
+
+
+class Hops:
+    """A scenario that moves copies by hops, played step by step; a step that stands where it may not is what is wrong."""
+
+    def __init__(self, plan, scenario, table):
+        self.meaning, self.hop = Meaning(plan), int(plan["moves"].split()[-1])
+        self.world, self.wanted, self.abouts = model.World(scenario, table), wanted_deeds(self.meaning), []
+
+    def waiting(self):
+        return [row for link in self.world.links for queue in link.queues for row in queue]
+
+    def is_tidy(self):
+        return not any(self.world.outbox.values()) and not any(self.world.hand.values())
+
+    def is_due(self, moment):
+        return any(row.put_at + self.hop <= moment for row in self.waiting())
+
+    def deed(self, step):
+        """What is wrong with a step that is no move, or None."""
+        if not self.is_tidy() or self.is_due(self.world.at):
+            return "a copy comes first"
+        if "about" in step:
+            return None if self.abouts and self.abouts.pop(0) == (step["node"], step["about"]) else "about"
+        at, said = next(self.wanted, (None, {}))
+        return None if not self.abouts and at == self.world.at and is_told(said, step) else f"wanted {at} {said} {self.abouts}"
+
+    def move(self, step):
+        """What is wrong with a move of a copy, or None."""
+        if step["do"] == "take":
+            queue = self.world.links[step["link"]].queues[["forth", "back"].index(step["dir"])]
+            return None if self.is_tidy() and queue and queue[0].put_at + self.hop == self.world.at else "not a hop"
+        return None
+
+    def clock(self, step):
+        if not self.is_tidy() or self.is_due(step["at"] - 1):
+            return "a copy comes first"
+        return None if step["at"] > self.world.at else "no later moment"
+
+    def wrong(self, step):
+        """What is wrong with the next step, or None; then it is done."""
+        why = self.clock(step) if step["do"] == "clock" else self.move(step) if step["do"] in ("put", "take", "judge") else self.deed(step)
+        rows = [len(link.rows) for link in self.world.links]
+        if step["do"] == "drain":
+            return "a drain"
+        try:
+            self.world.step(step, 1 << 30)
+        except model.Refused as refused:
+            return f"refused: {refused}"
+        for link, count in zip(self.world.links, rows):
+            for row in link.rows[count:]:
+                row.put_at = self.world.at
+        if step["do"] == "life" and "about" not in step and step["node"] in self.meaning.redboxes:
+            self.abouts = known_behind(self.meaning, self.world, step["node"])
+        return why
+
+    def end(self):
+        left = next(self.wanted, None)
+        return None if self.is_tidy() and not self.waiting() and not self.abouts and left is None else f"the end: {left}"
+
+
+def check_hops(plan, scenario, table):
+    """What is wrong with a scenario that moves copies by hops, or None."""
+    hops = Hops(plan, scenario, table)
+    for place, step in enumerate(scenario["step"]):
+        if why := hops.wrong(step):
+            return f"step {place}: {step}: {why}"
+    return hops.end()
+
+
+def check(plan, scenario, table):
+    """What is wrong with a scenario, or None."""
+    meaning = Meaning(plan)
+    if [tuple(link["ends"]) for link in scenario["link"]] != list(meaning.ends()):
+        return "links"
+    if plan.get("moves", "").startswith("hop_us"):
+        return check_hops(plan, scenario, table)
+    world, wanted = model.World(scenario, TABLES["large"]), meaning.steps()
+    abouts, last, each_send = [], None, plan.get("moves", "each send drains") == "each send drains"
+    for place, step in enumerate(scenario["step"]):
+        if step["do"] == "drain":
+            if last is None or last not in ("send", "life") or (not each_send and place + 1 < len(scenario["step"]) and scenario["step"][place + 1]["do"] != "clock"):
+                return f"drain at {place}"
+        elif each_send and last in ("send", "life"):
+            return f"no drain before {place}"
+        elif step["do"] == "clock" and last in ("send", "life"):
+            return f"no drain before {place}"
+        elif "about" in step:
+            if not abouts or abouts.pop(0) != (step["node"], step["about"]):
+                return f"about at {place}"
+        else:
+            if abouts:
+                return f"nothing about {abouts[0]} before {place}"
+            if not is_told(next(wanted, {}), step):
+                return f"step {place}: {step}"
+        try:
+            world.step(step, 1 << 30)
+        except model.Refused as refused:
+            return f"step {place} is refused: {refused}"
+        if step["do"] == "life" and "about" not in step and step["node"] in meaning.redboxes:
+            abouts = known_behind(meaning, world, step["node"])
+        last = step["do"]
+    if abouts or last in ("send", "life") or (more := next(wanted, None)):
+        return f"the end: {abouts} {last} {more if not abouts and last not in ('send', 'life') else ''}"
+    return None
+
+
+def counted(said):
+    """What a line of a sweep says of a plan's run, by model.py."""
+    ended = subprocess.run([PLANNER], input=said, capture_output=True, text=True, timeout=60)
+    _, _, fault, world = model.run(tomllib.loads(ended.stdout), 512, 1 << 30)
+    *lines, last = world.deliveries()
+    sends, complete = last.split()[1::2]
+    missed, twice = (sum(f" {word} -" not in line for line in lines) for word in ("missed", "twice"))
+    return f"sends {sends} complete {complete} missed {missed} twice {twice} needed {world.needed().split()[1]} {world.network_verdict()}{fault}"
+
+
+def swept(said, at):
+    """What is wrong with the lines of a sweep, or None."""
+    ended = subprocess.run([PLANNER, "sweep", "--at-us", str(at)], input=said, capture_output=True, text=True, timeout=60)
+    meaning = Meaning(tomllib.loads(said))
+    links, nodes = list(meaning.ends()), meaning.names + [f"{box}-sans" for box in meaning.boxes]
+    event = f"{said}[[event]]\nat_us = {at}\n"
+    wanted = [f"link {k} {a} {b} " + counted(f'{event}cut = ["{a}", "{b}"]\n') for k, (a, b) in enumerate(links)]
+    wanted += [f"node {k} {name} " + counted(f'{event}off = "{name}"\n') for k, name in enumerate(nodes)]
+    wanted += ["undisturbed " + counted(said)]
+    wanted += [f"needed {max(int(line.split(' needed ')[1].split()[0]) for line in wanted)}"]
+    return next((f"{got} and not {want}" for got, want in zip(ended.stdout.splitlines() + [""], wanted + [""]) if got != want), ended.stderr or None)
+
+
+def played(scenario, table):
+    """What the bench says of a refused step, or None. Where a small table forgets what it needs, copies may go round for ever."""
+    ended = subprocess.run([BENCH, "run", "--table", table], input=scenario, capture_output=True, text=True, timeout=120)
+    if ended.returncode in (0, 2) or table == "small" and ended.stderr.endswith(" unsettled\n"):
+        return None
+    return ended.stderr
+
+
+def faulty(plan, table, ended):
+    """The reason that a fault's line tells, and what is wrong with it, or None."""
+    reasons = [*Meaning(plan).reasons()]
+    if table == "small" and plan["moves"].startswith("hop_us"):
+        reasons.append("copies are still on their way after ")
+    line = ended.stderr
+    reason = next((reason for reason in reasons if reason in line), None)
+    if ended.returncode != 1 or ended.stdout or not line.startswith("fault: plan ") or line.count("\n") != 1 or not reason:
+        return reason, f"status {ended.returncode}, {line}, not {reasons}"
+    return " ".join(word for word in reason.split() if "-" not in word and word != "nobody:"), None
+
+
+def told(plan, table, scenario):
+    """What is wrong with the scenario of a plan, or None."""
+    for reason in Meaning(plan).reasons():
+        return f"no fault, although {reason}"
+    return check(plan, tomllib.loads(scenario), TABLES[table]) or (BENCH and played(scenario, table))
+
+
+def one(seed, counts):
+    """Plans one random plan, and counts it. What is wrong, or None."""
+    said, table = text(random_plan(random.Random(seed))), "small" if seed % 4 == 0 else "large"
+    plan = tomllib.loads(said)
+    ended = subprocess.run([PLANNER, "--table", table], input=said, capture_output=True, text=True, timeout=60)
+    if ended.returncode:
+        reason, wrong = faulty(plan, table, ended)
+        counts[f"fault: {reason}"] += 1
+    else:
+        wrong = told(plan, table, ended.stdout)
+        counts["told"] += 1
+        counts["by hops"] += plan["moves"].startswith("hop_us")
+        if not wrong and seed % EACH == 0:
+            wrong = swept(said, seed % 3 * 2000)
+            counts["swept"] += 1
+    return wrong and f"{said}\nseed {seed}: {wrong}"
+
+
+def use(planner, bench):
+    """The programs that are compared; without a bench no scenario is played by it."""
+    global PLANNER, BENCH
+    PLANNER, BENCH = planner, bench
+
+
+def compare(seeds, seconds):
+    """Compares the plans of these seeds, or as many as the seconds allow: how many passed, what came of them, and what is wrong."""
+    counts, passed, began = Counter(), 0, time.monotonic()
+    for seed in seeds:
+        if seconds and time.monotonic() > began + seconds:
+            break
+        if wrong := one(seed, counts):
+            return passed, counts, wrong
+        passed += 1
+    return passed, counts, None
+
+
+def main():
+    planner, count, seed, bench, seconds = (sys.argv[1:] + ["1000", "1", None, 0][len(sys.argv) - 2 :])[:5]
+    use(planner, bench)
+    passed, counts, wrong = compare(range(int(seed), int(seed) + int(count)), float(seconds))
+    print(wrong or "", end="\n" if wrong else "")
+    print(", ".join(f"{count} {what}" for what, count in sorted(counts.items())))
+    print(f"{passed} passed, {1 if wrong else 0} failed")
+    sys.exit(1 if wrong else 0)
+
+
+if __name__ == "__main__":
+    main()
