@@ -1,7 +1,6 @@
 """Refuses each request for memory of single calls in turn: in the tests that were written for it, which the gate builds. A test passes only
 where a call says that room was refused, has changed nothing, handed back what it was given, and answers the same call, made again, as it does
 with room. All tests together have 90 seconds of one processor, or run to the end."""
-import re
 import subprocess
 
 from lib.refusing import Refuser, moment_after, slices
@@ -9,7 +8,7 @@ from lib.running import Job, Tally
 
 PRELOAD = ("refuse",)
 SECONDS = 90
-TESTS = {"hsr_tests": "refused_for_memory", "hsr_cell_tests": "refused_for_memory|^link_tests", "hsr_hostile_tests": "^refused_"}
+CRATE = "hsr_call_tests"
 
 
 def is_passed(run):
@@ -40,21 +39,22 @@ def try_tests(setting, tests, seconds):
     return tally
 
 
-def tests_of(setting, program, pattern):
-    """The tests of a crate whose names match."""
-    path = str(setting.built / f"{program}_tests")
+def all_tests(setting):
+    """The built tests of the crate, each with the path of their program."""
+    path = setting.built / f"{CRATE}_tests"
+    if not path.is_file():
+        return []
     listed = subprocess.run([path, "--list"], stdout=subprocess.PIPE, text=True).stdout
-    names = [line.removesuffix(": test") for line in listed.splitlines() if line.endswith(": test")]
-    return [(path, name) for name in names if re.search(pattern, name)]
+    return [(str(path), line.removesuffix(": test")) for line in listed.splitlines() if line.endswith(": test")]
 
 
-def none_of(setting, program):
-    """Counts that a program has no test to try."""
-    return Tally(0, [f"no test of {program} in {setting.built} speaks of refused room"])
+def tell_none(setting):
+    """Counts that there is no test to try."""
+    return Tally(0, [f"there are no tests of {CRATE} in {setting.built}"])
 
 
 def jobs(setting):
-    found = {program: tests_of(setting, program, pattern) if (setting.built / f"{program}_tests").is_file() else [] for program, pattern in TESTS.items()}
-    tests = [test for tests in found.values() for test in tests]
-    missing = [Job(none_of, (program,)) for program, tests in found.items() if not tests]
-    return missing + [Job(try_tests, part, SECONDS / setting.processors) for part in slices(tests, setting, SECONDS)]
+    tests = all_tests(setting)
+    if not tests:
+        return [Job(tell_none)]
+    return [Job(try_tests, part, SECONDS / setting.processors) for part in slices(tests, setting, SECONDS)]

@@ -1,5 +1,6 @@
-"""Reads of one octet each, and inputs of many reads: the examples and the cases of three groups with a standard input that comes octet by
-octet (by a small preloaded `read`), and `node` over more than a million octets."""
+"""Reads and writes of one octet each, which signals interrupt, and inputs of many reads: the examples and the cases of three groups with a
+standard input that comes octet by octet and a standard output that goes so (by a small preloaded `read` and `write`), and `node` over more
+than a million octets."""
 from lib.running import Job, Tally, run
 from parts import cases, examples
 
