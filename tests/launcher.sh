@@ -25,18 +25,26 @@ lay_clean() {
   done
 }
 
-# A stand-in for the kit: `rt run` links a program that says `built`, and `rt lib` proves nothing.
+# A stand-in for the kit, whose `rt ci` proves nothing and links programs that say `built`. It refuses what the kit's own does: a folder that
+# is no repository of its own, and links.
 lay_kit() {
   mkdir "$work/kit"
   cat >"$work/kit/rt" <<'RT'
 #!/usr/bin/env bash
+kit=$(dirname "$0")
 case $1 in
-  version) cat "$(dirname "$0")/line" ;;
-  lib) [ ! -e "$(dirname "$0")/refuse" ] && mkdir -p out/rlib ;;
-  run)
-    mkdir -p out
-    sed 's/^says=.*/says=built/' "$(dirname "$0")/program" >"out/${PWD##*/}"
-    chmod +x "out/${PWD##*/}"
+  version) cat "$kit/line" ;;
+  ci)
+    [ ! -e "$kit/refuse" ] && [ -d .git ] && [ -z "$(find . -type l)" ] || { echo '0 passed, 1 failed'; exit 1; }
+    for crate in crates/*/; do
+      name=$(basename "$crate")
+      echo "rt: $name proved"
+      [ -f "$crate/src/main.rt" ] || continue
+      mkdir "$crate/out"
+      sed 's/^says=.*/says=built/' "$kit/program" >"$crate/out/$name"
+      chmod +x "$crate/out/$name"
+    done
+    echo '2 passed, 0 failed'
     ;;
 esac
 RT
@@ -207,11 +215,11 @@ try_build() {
   is 'the kit is not asked where the release is right' 'released hsr_bench = 7' "$(call with_kit "$tree/bin/hsr_bench")"
   echo ONE >"$tree/crates/low/src/lib.rt"
   is 'it is built' $'built hsr_bench <a b>\nx' "$(echo x | with_kit "$tree/bin/hsr_bench" 'a b' 2>"$work/err")"
-  is 'it says how far it is' 1 "$(grep -c 'hsr_bench: proved low, 1 of 1 crates' "$work/err")"
+  is 'it says how far it is' 1 "$(grep -c 'hsr_bench: proved low, 2 of 2 crates' "$work/err")"
   is 'it is not built again' 'built hsr_bench = 7' "$(call with_kit "$tree/bin/hsr_bench")"
   is 'without the kit' 'built hsr_bench = 7' "$(call "${bench[@]}")"
   is 'others are not built' "${younger//hsr_bench/hsr_plan}" "$(call clean "$tree/bin/hsr_plan")"
-  is 'no room is left' 0 "$(ls -d "$tree"/out/rooms.* 2>/dev/null | wc -l)"
+  is 'no room is left' 0 "$(ls -d "$tree"/out/build.* 2>/dev/null | wc -l)"
   echo 'kit-2 logic two' >"$work/kit/line"
   is 'another kit' 'built hsr_bench = 7' "$(call with_kit "$tree/bin/hsr_bench")"
   echo 'kit-1 logic one' >"$work/kit/line"
