@@ -15,7 +15,7 @@ fn silent(alloc: Global) -> Option<Vec<Kept<4>>> {
 
 /// Lets the node send.
 fn send_by(kept: &mut Kept<4>, alloc: Global) -> Option<()> {
-    let event = send_event(alloc).ok()?;
+    let event = send_event(alloc)?;
     kept.enter(0, 0, event).ok().map(|_answer| ())
 }
 
@@ -37,7 +37,7 @@ fn plan_once(alloc: Global) -> Option<Vec<Planned>> {
     let send = Planned {
         node: 0,
         at: 0,
-        event: send_event(alloc).ok()?,
+        event: send_event(alloc)?,
     };
     vec![in alloc; send].ok()
 }

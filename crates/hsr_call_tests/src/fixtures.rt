@@ -4,7 +4,6 @@ ghost use Rattle.hsr_node.specs.Place.{HasOwnAddress};
 use hsr_frame::{Mac, Mode};
 use hsr_node::{Carried, Event, Kept, Octets, Place};
 use std::alloc::Global;
-use std::test::Fail;
 
 /// A DANH whose address ends in this octet.
 pub fn danh(octet: u8) -> Place
@@ -17,19 +16,18 @@ pub fn danh(octet: u8) -> Place
 }
 
 /// Two octets.
-pub fn octets(alloc: Global) -> Result<Octets, Fail> {
+pub fn octets(alloc: Global) -> Option<Octets> {
     match Octets::from_slice(alloc, &[0xAA, 0xBB]) {
-        Ok(octets) => Ok(octets),
-        Err(_refused) => Ok(Octets::from_slice(alloc, &[0xAA, 0xBB])?),
+        Ok(octets) => Some(octets),
+        Err(_refused) => Octets::from_slice(alloc, &[0xAA, 0xBB]).ok(),
     }
 }
 
 /// A copy of no send.
-pub fn carried(alloc: Global) -> Result<Carried, Fail> {
-    let octets = octets(alloc)?;
-    Ok(Carried {
+pub fn carried(alloc: Global) -> Option<Carried> {
+    Some(Carried {
         probe: None,
-        octets,
+        octets: octets(alloc)?,
     })
 }
 
@@ -39,21 +37,20 @@ pub fn group() -> Mac {
 }
 
 /// A send to a group.
-pub fn send_event(alloc: Global) -> Result<Event, Fail> {
-    let payload = octets(alloc)?;
-    Ok(Event::Send {
+pub fn send_event(alloc: Global) -> Option<Event> {
+    Some(Event::Send {
         from: 0,
         dst: group(),
         vlan: None,
         kind: 0x0800,
-        payload,
+        payload: octets(alloc)?,
     })
 }
 
 /// A node that did nothing.
-pub fn kept(alloc: Global) -> Result<Kept<4>, Fail> {
+pub fn kept(alloc: Global) -> Option<Kept<4>> {
     match Kept::new(alloc, 0, danh(1)) {
-        Ok(kept) => Ok(kept),
-        Err(_refused) => Ok(Kept::new(alloc, 0, danh(1))?),
+        Ok(kept) => Some(kept),
+        Err(_refused) => Kept::new(alloc, 0, danh(1)).ok(),
     }
 }

@@ -7,10 +7,10 @@ use std::sync::Wait;
 use std::test::Fail;
 
 /// A link on which one copy may wait in each direction; where room is refused, it is asked for again.
-fn link(alloc: Global) -> Result<Link, Fail> {
+fn link(alloc: Global) -> Option<Link> {
     match Link::new(alloc, 1) {
-        Ok(link) => Ok(link),
-        Err(_refused) => Ok(Link::new(alloc, 1)?),
+        Ok(link) => Some(link),
+        Err(_refused) => Link::new(alloc, 1).ok(),
     }
 }
 
@@ -40,9 +40,11 @@ fn injects_again(link: &mut Link, carried: Carried) -> bool {
 
 #[test]
 fn put_and_inject(rt: HostRuntime) -> Result<(), Fail> {
-    let mut link = link(rt.alloc())?;
-    assert!(rt; puts_again(&mut link, carried(rt.alloc())?));
-    assert!(rt; injects_again(&mut link, carried(rt.alloc())?));
+    let mut link = link(rt.alloc()).ok_or("link")?;
+    let first = carried(rt.alloc()).ok_or("copy")?;
+    assert!(rt; puts_again(&mut link, first));
+    let second = carried(rt.alloc()).ok_or("copy")?;
+    assert!(rt; injects_again(&mut link, second));
     assert!(rt; link.rows().len() == 2);
     Ok(())
 }
@@ -60,8 +62,9 @@ fn puts_under_a_lock(rt: &impl Wait, cell: &LinkCell, carried: Carried) -> bool 
 
 #[test]
 fn put_under_a_lock(rt: HostRuntime) -> Result<(), Fail> {
-    let cell = LinkCell::new(link(rt.alloc())?);
-    assert!(rt; puts_under_a_lock(&rt, &cell, carried(rt.alloc())?));
+    let cell = LinkCell::new(link(rt.alloc()).ok_or("link")?);
+    let copy = carried(rt.alloc()).ok_or("copy")?;
+    assert!(rt; puts_under_a_lock(&rt, &cell, copy));
     assert!(rt; cell.into_link().rows().len() == 1);
     Ok(())
 }

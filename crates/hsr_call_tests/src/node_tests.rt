@@ -27,8 +27,8 @@ fn keeps_again(pass: &mut Pass, receipt: Receipt) -> bool {
 
 #[test]
 fn step_and_receipt(rt: HostRuntime) -> Result<(), Fail> {
-    let event = send_event(rt.alloc())?;
-    let mut kept = kept(rt.alloc())?;
+    let event = send_event(rt.alloc()).ok_or("event")?;
+    let mut kept = kept(rt.alloc()).ok_or("node")?;
     let receipt = receipt_again(&mut kept, event)?;
     assert!(rt; kept.entries().len() == 1);
     let mut pass = Pass::new(rt.alloc(), 0);
@@ -52,8 +52,8 @@ fn steps_again(rt: &impl Wait, cell: &NodeCell<4>, pass: &mut Pass, event: Event
 
 #[test]
 fn step_under_a_lock(rt: HostRuntime) -> Result<(), Fail> {
-    let event = send_event(rt.alloc())?;
-    let cell = NodeCell::new(kept(rt.alloc())?);
+    let event = send_event(rt.alloc()).ok_or("event")?;
+    let cell = NodeCell::new(kept(rt.alloc()).ok_or("node")?);
     let mut pass = Pass::new(rt.alloc(), 0);
     assert!(rt; steps_again(&rt, &cell, &mut pass, event));
     assert!(rt; cell.into_kept().entries().len() == 1);

@@ -28,23 +28,22 @@ fn ring_once(alloc: Global) -> Option<World<4>> {
 }
 
 /// Three DANHs in a ring, in which nothing was done; where room is refused, they are asked for again.
-fn ring(alloc: Global) -> Result<World<4>, Fail> {
+fn ring(alloc: Global) -> Option<World<4>> {
     match ring_once(alloc) {
-        Some(world) => Ok(world),
-        None => Ok(ring_once(alloc).ok_or("ring")?),
+        Some(world) => Some(world),
+        None => ring_once(alloc),
     }
 }
 
 /// Node 0 sends to a group.
-fn send(alloc: Global) -> Result<Step, Fail> {
-    let payload = octets(alloc)?;
-    Ok(Step::Send {
+fn send(alloc: Global) -> Option<Step> {
+    Some(Step::Send {
         node: 0,
         from: 0,
         dst: group(),
         vlan: None,
         kind: 0x0800,
-        payload,
+        payload: octets(alloc)?,
     })
 }
 
@@ -104,7 +103,7 @@ fn each_kind(send: Step, injected: Octets) -> [Step; 10] {
 
 /// How many entries and rows a ring has after these steps.
 fn size_after(alloc: Global, steps: &[Step]) -> Result<(usize, usize), Fail> {
-    let mut world = ring(alloc)?;
+    let mut world = ring(alloc).ok_or("ring")?;
     for one in steps {
         step(&mut world, one)?;
     }
@@ -113,8 +112,8 @@ fn size_after(alloc: Global, steps: &[Step]) -> Result<(usize, usize), Fail> {
 
 #[test]
 fn each_step(rt: HostRuntime) -> Result<(), Fail> {
-    let send = send(rt.alloc())?;
-    let injected = octets(rt.alloc())?;
+    let send = send(rt.alloc()).ok_or("send")?;
+    let injected = octets(rt.alloc()).ok_or("octets")?;
     let steps = each_kind(send, injected);
     assert!(rt; size_after(rt.alloc(), &steps)? == (4, 2));
     Ok(())
@@ -130,10 +129,9 @@ fn entries_of(world: &World<4>, node: usize) -> usize {
 }
 
 /// Two sends, and what needs no memory for octets between them.
-fn two_sends(alloc: Global) -> Result<[Step; 3], Fail> {
-    let first = send(alloc)?;
-    let second = send(alloc)?;
-    Ok([first, Step::Age { node: 0 }, second])
+fn two_sends(alloc: Global) -> Option<[Step; 3]> {
+    let (first, second) = (send(alloc)?, send(alloc)?);
+    Some([first, Step::Age { node: 0 }, second])
 }
 
 /// Runs steps, and the rest of them where room was refused: the steps before the refusal stand.
@@ -151,8 +149,8 @@ fn run_on(world: &mut World<4>, steps: &[Step]) -> Result<(), Fail> {
 /// Of a run that stops the steps before the refusal stand, and the rest can be run.
 #[test]
 fn run_of_steps(rt: HostRuntime) -> Result<(), Fail> {
-    let steps = two_sends(rt.alloc())?;
-    let mut world = ring(rt.alloc())?;
+    let steps = two_sends(rt.alloc()).ok_or("sends")?;
+    let mut world = ring(rt.alloc()).ok_or("ring")?;
     run_on(&mut world, &steps)?;
     assert!(rt; entries_of(&world, 0) == 3);
     Ok(())
@@ -174,7 +172,7 @@ fn drained(world: &World<4>) -> usize {
 
 /// Lets a node send to a group.
 fn send_in(world: &mut World<4>, alloc: Global) -> Result<(), Fail> {
-    let send = send(alloc)?;
+    let send = send(alloc).ok_or("send")?;
     step(world, &send)
 }
 
@@ -192,7 +190,7 @@ fn go_round(world: &mut World<4>) -> Result<(), Fail> {
 
 /// A ring in which a frame went round.
 fn settled(alloc: Global) -> Result<World<4>, Fail> {
-    let mut world = ring(alloc)?;
+    let mut world = ring(alloc).ok_or("ring")?;
     send_in(&mut world, alloc)?;
     go_round(&mut world)?;
     Ok(world)
@@ -216,7 +214,7 @@ fn drain_on(world: &mut World<4>) -> Result<(), Fail> {
 /// Of a drain that stops the steps before the refusal stand, and it can be gone on with.
 #[test]
 fn drain(rt: HostRuntime) -> Result<(), Fail> {
-    let mut world = ring(rt.alloc())?;
+    let mut world = ring(rt.alloc()).ok_or("ring")?;
     send_in(&mut world, rt.alloc())?;
     drain_on(&mut world)?;
     assert!(rt; drained(&world) == 18);

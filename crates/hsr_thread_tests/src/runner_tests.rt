@@ -135,6 +135,7 @@ fn run<G: Gate, R: Threads + Wait + Sync>(
 // ---- gates
 
 /// Shuts before a step, or at the first pass.
+#[derive(Drop)]
 struct Shut {
     before: usize,
     passes: bool,
