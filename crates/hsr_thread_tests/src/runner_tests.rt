@@ -111,7 +111,8 @@ fn lost_on(closed: &Closed<4>, link: usize) -> usize {
         .count()
 }
 
-fn told(closed: &Closed<4>) -> Told {
+/// What is compared of a run.
+fn compared(closed: &Closed<4>) -> Told {
     Told {
         up: [up_at(closed, 1), up_at(closed, 2)],
         first: first_port(closed, 1),
@@ -127,7 +128,7 @@ fn run<G: Gate, R: Threads + Wait + Sync>(
     gate: &G,
 ) -> Result<Told, RunFault> {
     match run_threads::<4, _, _>(rt, alloc, scenario, gate) {
-        Ok(closed) => Ok(told(&closed)),
+        Ok(closed) => Ok(compared(&closed)),
         Err(fault) => Err(fault),
     }
 }
