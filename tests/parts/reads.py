@@ -1,6 +1,5 @@
-"""Reads and writes of one octet each, which signals interrupt, and inputs of many reads: the examples and the cases of three groups with a
-standard input that comes octet by octet and a standard output that goes so (by a small preloaded `read` and `write`), and `node` over more
-than a million octets."""
+"""Reads of one octet and writes of five each, which signals interrupt, and inputs of many reads: the examples and the cases of three groups
+by a small preloaded `read` and `write`, and `node` over more than a million octets."""
 from lib.running import Job, Tally, run
 from parts import cases, examples
 

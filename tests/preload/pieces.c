@@ -1,5 +1,6 @@
-// Preloaded, it moves one octet for each read of standard input and each write to standard output, as a slow pipe may do, and lets a
-// signal interrupt each third of these calls before it has moved any.
+// Preloaded, it moves one octet for each read of standard input and at most five for each write to standard output, as a slow pipe may do,
+// and lets a signal interrupt each third of these calls before it has moved any. A write of N octets gives up after N calls, so one
+// octet for each write would not do.
 #include <errno.h>
 #include <sys/syscall.h>
 #include <unistd.h>
@@ -18,5 +19,5 @@ ssize_t read(int file, void *octets, size_t count) {
 
 ssize_t write(int file, const void *octets, size_t count) {
     if (file != 1) return syscall(SYS_write, file, octets, count);
-    return is_interrupted() ? -1 : syscall(SYS_write, file, octets, count > 1 ? 1 : count);
+    return is_interrupted() ? -1 : syscall(SYS_write, file, octets, count > 5 ? 5 : count);
 }
