@@ -1,4 +1,4 @@
-//! What octets and texts are, beside values that come from outside the bench: addresses, tags, supervision payloads and tables.
+//! Tests of addresses, tags, supervision payloads and tables, beside values that come from outside the bench.
 #![tactic(auto)]
 
 #[cfg(test)]
