@@ -1,9 +1,11 @@
 //! Interfaces and packets.
-ghost use Rattle.std.specs.Prelude.{◌≡◌, ◌<◌, ◌≤◌, ◌++◌, length, Some, OnOk};
+ghost use Rattle.std.specs.Prelude.{◌≡◌, ◌<◌, ◌≤◌, ◌++◌, length, Some, IfErr, OnOk};
 ghost use Rattle.hsr_law.specs.Run.{ends_of, from_end, rows_of, to_end};
 ghost use Rattle.hsr_order.specs.Fronts.{lists_of};
 ghost use Rattle.hsr_capture.specs.Capture.{interface_number, interface_of, packet_if, packet_of};
 ghost use Rattle.hsr_capture.specs.Comments.{comment_of};
+ghost use Rattle.hsr_capture.specs.Fits.{DirectionFits, RowFits, ShownFits};
+ghost use Rattle.hsr_pcapng.specs.Faults.{IfTooLong};
 
 use crate::comments::{put_comment, put_interface_description, put_interface_name};
 use hsr_closing::Closed;
@@ -38,7 +40,7 @@ fn to_end<const C: usize>(closed: &Closed<C>, link: usize, dir: Dir) -> End
     }
 }
 
-/// Puts the interface of a link's direction last.
+/// Puts the interface of a link's direction last. `TooLong` exactly where it doesn't fit.
 pub(crate) fn put_direction<const C: usize>(
     alloc: Global,
     text: &mut Vec<u8>,
@@ -48,7 +50,9 @@ pub(crate) fn put_direction<const C: usize>(
     dir: Dir,
 ) -> Result<(), BlockFault>
     requires { link < length closed.now.run.links }
-    ensures { OnOk result (text.new.items ≡ text.old.items ++ interface_of (lists_of names.now) closed.now.run link dir) }
+    ensures bytes { OnOk result (text.new.items ≡ text.old.items ++ interface_of (lists_of names.now) closed.now.run link dir) }
+    ensures fits { OnOk result (DirectionFits (lists_of names.now) closed.now.run link dir) }
+    ensures too_long { IfErr result (IfTooLong (DirectionFits (lists_of names.now) closed.now.run link dir → ⊥)) }
 {
     let mut name = Vec::new(alloc);
     let from = from_end(closed, link, dir);
@@ -71,7 +75,7 @@ fn interface_number(link: usize, dir: Dir) -> u32
     }
 }
 
-/// Puts the packet of a row last.
+/// Puts the packet of a row last. `TooLong` exactly where it doesn't fit.
 fn put_row<const C: usize>(
     alloc: Global,
     text: &mut Vec<u8>,
@@ -82,7 +86,9 @@ fn put_row<const C: usize>(
 ) -> Result<(), BlockFault>
     requires below { shown.now.link < length closed.now.run.links }
     requires few { shown.now.link < 128 }
-    ensures { OnOk result (text.new.items ≡ text.old.items ++ packet_if (lists_of names.now) closed.now.run shown.now (Some row.now)) }
+    ensures bytes { OnOk result (text.new.items ≡ text.old.items ++ packet_if (lists_of names.now) closed.now.run shown.now (Some row.now)) }
+    ensures fits { OnOk result (RowFits (lists_of names.now) closed.now.run shown.now (Some row.now)) }
+    ensures too_long { IfErr result (IfTooLong (RowFits (lists_of names.now) closed.now.run shown.now (Some row.now) → ⊥)) }
 {
     let to = to_end(closed, shown.link, row.dir);
     let mut comment = Vec::new(alloc);
@@ -110,7 +116,7 @@ fn rows_at<const C: usize>(closed: &Closed<C>, link: usize) -> &[Row]
     }
 }
 
-/// Puts the packet of a row last, if there is such a row.
+/// Puts the packet of a row last, if there is such a row. `TooLong` exactly where it doesn't fit.
 pub(crate) fn put_shown<const C: usize>(
     alloc: Global,
     text: &mut Vec<u8>,
@@ -118,7 +124,9 @@ pub(crate) fn put_shown<const C: usize>(
     closed: &Closed<C>,
     shown: &Shown,
 ) -> Result<(), BlockFault>
-    ensures { OnOk result (text.new.items ≡ text.old.items ++ packet_of (lists_of names.now) closed.now.run shown.now) }
+    ensures bytes { OnOk result (text.new.items ≡ text.old.items ++ packet_of (lists_of names.now) closed.now.run shown.now) }
+    ensures fits { OnOk result (ShownFits (lists_of names.now) closed.now.run shown.now) }
+    ensures too_long { IfErr result (IfTooLong (ShownFits (lists_of names.now) closed.now.run shown.now → ⊥)) }
 {
     if shown.link >= closed.topology().links().len() {
         return Ok(());

@@ -1,0 +1,16 @@
+-- Which blocks fit.
+use Rattle.std.proofs.Common.{codes, lit<}
+use Rattle.hsr_pcapng.specs.Blocks.{FitsSection, option_of, section_body}
+use Rattle.hsr_pcapng.specs.Faults.{IfTooLong}
+use Rattle.hsr_pcapng.specs.declared.fault.BlockFault.{BlockFault}
+use Rattle.hsr_pcapng.specs.declared.fault.BlockFault.TheVariants.{TooLong, NoMemory}
+
+-- the header with the program's name fits
+pub header_fits : FitsSection (codes "hsr_view")
+unfolding section_body option_of
+header_fits = record { program_fits = lit< tt; block_fits = lit< tt }
+
+-- it is never too long
+pub no_header : (Q : Type 0) (f : BlockFault) → IfTooLong (FitsSection (codes "hsr_view") → ⊥) f → IfTooLong Q f
+no_header Q TooLong never = absurd (never header_fits)
+no_header Q NoMemory never = tt
