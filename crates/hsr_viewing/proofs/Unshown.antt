@@ -1,5 +1,5 @@
 -- Why nothing is shown of a run, by the parts of which it would be made.
-use Rattle.std.proofs.Common.{◌≡◌, ◌⊎◌, inl, inr, ℕ, List, Option, Result, Ok, Err, refl, sym, subst}
+use Rattle.std.proofs.Common.{◌≡◌, ◌⊎◌, inl, inr, ℕ, List, Option, Result, Ok, Err, sym, subst}
 use Rattle.std.specs.Borrow.{Bor}
 use Rattle.std.specs.Global.{Global}
 use Rattle.std.specs.Prelude.{IfErr, Vec}
@@ -8,16 +8,13 @@ use Rattle.hsr_topology.specs.Topology.{Topology}
 use Rattle.hsr_closing.specs.Finished.{Finished}
 use Rattle.hsr_order.specs.Fronts.{lists_of}
 use Rattle.hsr_picture.specs.declared.span.Span.{Span}
-use Rattle.hsr_viewing.specs.Refusals.{HasStray, IsMisnamed, IsStray, IsUncaptured, IsUndrawn, IsUnshown, IsUnshownBy}
+use Rattle.hsr_viewing.specs.Refusals.{HasStray, IsStray, IsUncaptured, IsUndrawn, IsUnshown, IsUnshownBy}
 use Rattle.hsr_viewing.specs.Viewing.{AreNames, IsSend, send_words}
 use Rattle.hsr_viewing.specs.declared.asked.What.{What}
-use Rattle.hsr_viewing.specs.declared.asked.What.TheVariants.{Capture, Devices, Picture}
+use Rattle.hsr_viewing.specs.declared.asked.What.TheVariants.{Capture, Picture}
 use Rattle.hsr_viewing.specs.declared.fault.Fault.{Fault}
 use Rattle.hsr_viewing.specs.declared.fault.Fault.TheVariants as fault
 use Rattle.hsr_viewing.proofs.Showing.{Names, named_there}
-
-pub misnamed : (f : Finished) (what : What) (scenario : Option (List ℕ)) (why : Fault) → IsMisnamed scenario why → IsUnshown f what scenario why
-misnamed f what scenario why is = inr (inl is)
 
 module _ (f : Finished) (t : Topology) (scenario : Option (List ℕ)) (names : Names) (places : t.places ≡ f.run.places) (links : t.links ≡ f.run.links) (named : AreNames t scenario (lists_of names)) where
   by_names : (what : What) (why : Fault) → IsUnshownBy (lists_of names) f what why → IsUnshown f what scenario why
@@ -29,13 +26,15 @@ module _ (f : Finished) (t : Topology) (scenario : Option (List ℕ)) (names : N
       let S : What → Type 0 = λ w. IsUnshownBy (lists_of names) f w why in
       by_names what why (subst S (sym is) (inl (subst P first stray)))
 
-  pub unshown_capture : (what : What) (one : Names) (link : Option ℕ) (send : Option (Bor (List ℕ) × ℕ)) (probe : Option Probe) (r : Result (Vec ℕ Global) Fault) →
-      what ≡ Capture link send → one ≡ names → IsSend (lists_of one) (send_words send) probe → IfErr r (IsUncaptured f (record { link = link; send = probe })) → IfErr r (IsUnshown f what scenario)
-  unshown_capture what one link send probe (Ok octets) is first sends uncaptured = tt
-  unshown_capture what one link send probe (Err why) is first sends uncaptured =
+  pub unshown_capture : (what : What) (one two : Names) (link : Option ℕ) (send : Option (Bor (List ℕ) × ℕ)) (probe : Option Probe) (r : Result (Vec ℕ Global) Fault) →
+      what ≡ Capture link send → one ≡ names → IsSend (lists_of one) (send_words send) probe → two ≡ names →
+      IfErr r (IsUncaptured (lists_of two) f (record { link = link; send = probe })) → IfErr r (IsUnshown f what scenario)
+  unshown_capture what one two link send probe (Ok octets) is first sends second uncaptured = tt
+  unshown_capture what one two link send probe (Err why) is first sends second uncaptured =
       let P : Names → Type 0 = λ ns. IsSend (lists_of ns) (send_words send) probe in
+      let Q : Names → Type 0 = λ ns. IsUncaptured (lists_of ns) f (record { link = link; send = probe }) why in
       let S : What → Type 0 = λ w. IsUnshownBy (lists_of names) f w why in
-      by_names what why (subst S (sym is) (inr (probe, subst P first sends, uncaptured)))
+      by_names what why (subst S (sym is) (inr (probe, subst P first sends, subst Q second uncaptured)))
 
   pub unshown_picture : (what : What) (one : Names) (sends : Vec (Bor (List ℕ) × ℕ) Global) (list : List (Bor (List ℕ) × ℕ)) (span : Span) (r : Result (Vec ℕ Global) Fault) →
       what ≡ Picture sends span → one ≡ names → list ≡ sends.items →

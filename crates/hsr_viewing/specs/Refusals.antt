@@ -3,15 +3,20 @@
 --     IsUncaptured   there is no capture of what is wanted
 --     IsUnshown      nothing is shown of a run
 --     IsUnshownOf    nothing is shown of a text
-use Rattle.std.specs.Prelude.{ℕ, ◌≡◌, ◌⊎◌, List, Option, Some, None, Ok, Err, slice_get}
+use Rattle.std.specs.Prelude.{ℕ, ◌≡◌, ◌⊎◌, ⊤, List, filter, Option, Some, None, Result, Ok, Err, slice_get}
 use Rattle.std.specs.Borrow.{Bor}
 use Rattle.hsr_node.specs.declared.event.Probe.{Probe}
+use Rattle.hsr_topology.specs.Topology.{Topology}
 use Rattle.hsr_closing.specs.Finished.{Finished}
+use Rattle.hsr_scenario.specs.Names.{NamesMeant, names_meant}
+use Rattle.hsr_scenario.specs.declared.fault.ScenarioFault.{ScenarioFault}
 use Rattle.hsr_names.specs.Names.{node_called}
-use Rattle.hsr_story.specs.Choice.{checked}
-use Rattle.hsr_story.specs.Story.{HasNoStory}
+use Rattle.hsr_story.specs.Choice.{checked, is_wanted}
+use Rattle.hsr_story.specs.Story.{HasNoStory, IsStory}
 use Rattle.hsr_story.specs.declared.choice.Choice.{Choice}
 use Rattle.hsr_story.specs.declared.choice.ChoiceFault.TheVariants as choice
+use Rattle.hsr_story.specs.declared.shown.Shown.{Shown}
+use Rattle.hsr_capture.specs.Fits.{Fits}
 use Rattle.hsr_picture.specs.Pictures.{IsRefused}
 use Rattle.hsr_picture.specs.declared.picturing.PictureFault.{PictureFault}
 use Rattle.hsr_picture.specs.declared.span.Span.{Span}
@@ -24,20 +29,36 @@ use Rattle.hsr_viewing.specs.declared.asked.What.TheVariants as asked
 use Rattle.hsr_viewing.specs.declared.fault.Fault.{Fault}
 use Rattle.hsr_viewing.specs.declared.fault.Fault.TheVariants.{Transcript, Names, Link, Send, Circle, TooLong, Read, Memory}
 
--- a scenario was given
-abbrev pub IsMisnamed : Option (List ℕ) → Fault → Type 0
-IsMisnamed scenario Names = ¬ (scenario ≡ None)
-IsMisnamed scenario Memory = Unit {0}
-IsMisnamed scenario _ = ⊥
+-- a text can't be read for the names of a scenario, or it is one of other nodes or links
+abbrev pub IsOther : Topology → Result NamesMeant ScenarioFault → Type 0
+IsOther topology (Ok meant) = ¬ (meant.topology ≡ topology)
+IsOther topology (Err fault) = ⊤
 
--- the run hasn't the link, or the send, that is wanted; its rows have no order of time; or a name or a frame is too long for a block
-abbrev pub IsUncaptured : Finished → Choice → Fault → Type 0
-IsUncaptured f wanted Link = checked f.run wanted ≡ Err choice.NoLink
-IsUncaptured f wanted Send = checked f.run wanted ≡ Err choice.NoSend
-IsUncaptured f wanted Circle = HasNoStory f.run f.plan
-IsUncaptured f wanted TooLong = Unit {0}
-IsUncaptured f wanted Memory = Unit {0}
-IsUncaptured f wanted _ = ⊥
+-- a scenario was given, and its names aren't taken for this cause
+abbrev pub HasOtherNames : Topology → Option (List ℕ) → Type 0
+HasOtherNames topology None = ⊥
+HasOtherNames topology (Some text) = IsOther topology (names_meant text)
+
+abbrev pub IsMisnamed : Topology → Option (List ℕ) → Fault → Type 0
+IsMisnamed topology scenario Names = HasOtherNames topology scenario
+IsMisnamed topology scenario Memory = Unit {0}
+IsMisnamed topology scenario _ = ⊥
+
+-- the run has what is wanted, and its rows an order of time; but a name, a comment or a frame doesn't fit its block
+pub record IsTooLong (names : List (List ℕ)) (f : Finished) (wanted : Choice) : Type 0 where
+  pub has : checked f.run wanted ≡ Ok tt
+  pub rows : List Shown
+  pub story : IsStory f.run f.plan rows
+  pub unfit : ¬ Fits names f.run (filter (is_wanted f.run wanted) rows)
+
+-- the run hasn't the link, or else the send, that is wanted; or its rows have no order of time; or a block would be too long
+abbrev pub IsUncaptured : List (List ℕ) → Finished → Choice → Fault → Type 0
+IsUncaptured names f wanted Link = checked f.run wanted ≡ Err choice.NoLink
+IsUncaptured names f wanted Send = checked f.run wanted ≡ Err choice.NoSend
+IsUncaptured names f wanted Circle = (checked f.run wanted ≡ Ok tt) × HasNoStory f.run f.plan
+IsUncaptured names f wanted TooLong = IsTooLong names f wanted
+IsUncaptured names f wanted Memory = Unit {0}
+IsUncaptured names f wanted _ = ⊥
 
 -- the sends that are meant can't be pictured
 pub record IsUndrawn (names : List (List ℕ)) (f : Finished) (asked : List (Bor (List ℕ) × ℕ)) (span : Span) (fault : Fault) : Type 0 where
@@ -59,14 +80,14 @@ HasStray names asked = (i : ℕ) × (one : Bor (List ℕ) × ℕ) × (slice_get 
 -- with these names it can't be shown
 abbrev pub IsUnshownBy : List (List ℕ) → Finished → What → Fault → Type 0
 IsUnshownBy names f (asked.Capture link send) fault =
-    ((fault ≡ Send) × IsStray names (send_words send)) ⊎ ((probe : Option Probe) × IsSend names (send_words send) probe × IsUncaptured f (record { link = link; send = probe }) fault)
+    ((fault ≡ Send) × IsStray names (send_words send)) ⊎ ((probe : Option Probe) × IsSend names (send_words send) probe × IsUncaptured names f (record { link = link; send = probe }) fault)
 IsUnshownBy names f (asked.Picture sends span) fault = ((fault ≡ Send) × HasStray names sends.items) ⊎ IsUndrawn names f sends.items span fault
 IsUnshownBy names f asked.Devices fault = ⊥
 
 -- names are asked for and not taken, or what is asked for can't be shown with those that are; or there was no memory
 abbrev pub IsUnshown : Finished → What → Option (List ℕ) → Fault → Type 0
 IsUnshown f what scenario fault =
-    (fault ≡ Memory) ⊎ (IsMisnamed scenario fault ⊎ ((names : List (List ℕ)) × AreNames (topology_of f.run) scenario names × IsUnshownBy names f what fault))
+    (fault ≡ Memory) ⊎ (IsMisnamed (topology_of f.run) scenario fault ⊎ ((names : List (List ℕ)) × AreNames (topology_of f.run) scenario names × IsUnshownBy names f what fault))
 
 -- the text is that of no run, for this cause
 abbrev pub IsUnread : ℕ → List ℕ → Fault → Type 0

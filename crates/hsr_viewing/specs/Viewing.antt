@@ -21,6 +21,7 @@ use Rattle.hsr_story.specs.Story.{IsStory}
 use Rattle.hsr_story.specs.declared.choice.Choice.{Choice}
 use Rattle.hsr_story.specs.declared.shown.Shown.{Shown}
 use Rattle.hsr_capture.specs.Capture.{capture}
+use Rattle.hsr_capture.specs.Fits.{Fits}
 use Rattle.hsr_devices.specs.Listing.{IsListing}
 use Rattle.hsr_law.specs.Run.{Run}
 use Rattle.hsr_transcript.specs.Answers.{IsTextOf}
@@ -57,11 +58,12 @@ AreSends names asked sends = map (probe_of names) asked ≡ map (λ send. Some s
 
 -- ---- captures
 
--- the run has what is wanted, and this is the capture of those of its rows that are wanted, in the order of time
+-- the run has what is wanted, and this is the capture of those of its rows that are wanted, in the order of time; each block fits
 pub record IsCaptureOf (names : List (List ℕ)) (f : Finished) (wanted : Choice) (octets : List ℕ) : Type 0 where
   pub has : checked f.run wanted ≡ Ok tt
   pub rows : List Shown
   pub story : IsStory f.run f.plan rows
+  pub fits : Fits names f.run (filter (is_wanted f.run wanted) rows)
   pub octets_are : octets ≡ capture names f.run (filter (is_wanted f.run wanted) rows)
 
 -- ---- pictures

@@ -40,7 +40,7 @@ fn is_same_place(a: &Place, b: &Place) -> bool
 
 /// Whether kinds of node are the same, one by one.
 fn are_same_places(a: &[Place], b: &[Place]) -> bool
-    ensures { IsTrue result → a.now ≡ b.now }
+    ensures { IsTrue result ↔ (a.now ≡ b.now) }
 {
     let mut left = b;
     for place in a.iter() {
@@ -56,13 +56,13 @@ fn are_same_places(a: &[Place], b: &[Place]) -> bool
 }
 
 fn is_same_end(a: End, b: End) -> bool
-    ensures { IsTrue result → a ≡ b }
+    ensures { IsTrue result ↔ (a ≡ b) }
 {
     a.node == b.node && a.port == b.port
 }
 
 fn is_same_link(a: &[End; 2], b: &[End; 2]) -> bool
-    ensures { IsTrue result → a.now ≡ b.now }
+    ensures { IsTrue result ↔ (a.now ≡ b.now) }
 {
     let [one, other] = *a;
     let [first, second] = *b;
@@ -71,7 +71,7 @@ fn is_same_link(a: &[End; 2], b: &[End; 2]) -> bool
 
 /// Whether links are the same, one by one.
 fn are_same_links(a: &[[End; 2]], b: &[[End; 2]]) -> bool
-    ensures { IsTrue result → a.now ≡ b.now }
+    ensures { IsTrue result ↔ (a.now ≡ b.now) }
 {
     let mut left = b;
     for link in a.iter() {
@@ -86,9 +86,9 @@ fn are_same_links(a: &[[End; 2]], b: &[[End; 2]]) -> bool
     left.is_empty()
 }
 
-/// Whether two topologies are the same: only then it is true.
+/// Whether two topologies are the same.
 pub(crate) fn is_same_topology(a: &Topology, b: &Topology) -> bool
-    ensures { IsTrue result → a.now ≡ b.now }
+    ensures { IsTrue result ↔ (a.now ≡ b.now) }
 {
     are_same_places(a.places(), b.places()) && are_same_links(a.links(), b.links())
 }

@@ -26,15 +26,15 @@ use hsr_topology::Topology;
 use hsr_transcript::{ReadFault, read};
 use std::alloc::Global;
 
-/// The names of the nodes of a run, by the scenario from which it came; none without it. `Names` where that is no scenario, or has
-/// other nodes or links.
+/// The names of the nodes of a run, by the scenario from which it came; none without it. `Names` exactly where its names can't be read,
+/// or it has other nodes or links.
 fn names_of(
     alloc: Global,
     topology: &Topology,
     scenario: Option<&str>,
 ) -> Result<Vec<Vec<u8>>, Fault>
     ensures names { IfOk result (λ names. AreNames topology.now (option_map (λ s. s.now) scenario.entry) (lists_of names.items)) }
-    ensures misnamed { IfErr result (IsMisnamed (option_map (λ s. s.now) scenario.entry)) }
+    ensures misnamed { IfErr result (IsMisnamed topology.now (option_map (λ s. s.now) scenario.entry)) }
 {
     let Some(text) = scenario else {
         return Ok(Vec::new(alloc));
@@ -58,7 +58,7 @@ fn names_of(
 }
 
 /// The capture of those rows of a run that are wanted, in the order of time: `Link` or `Send` where the run hasn't what is wanted,
-/// `Circle` where its rows have no order of time.
+/// `Circle` where its rows have no order of time, `TooLong` where a block would be too long.
 fn capture_of<const C: usize>(
     alloc: Global,
     closed: &Closed<C>,
@@ -66,7 +66,7 @@ fn capture_of<const C: usize>(
     wanted: Choice,
 ) -> Result<Vec<u8>, Fault>
     ensures capture { IfOk result (λ octets. IsCaptureOf (lists_of names.now) closed.now wanted octets.items) }
-    ensures missing { IfErr result (IsUncaptured closed.now wanted) }
+    ensures missing { IfErr result (IsUncaptured (lists_of names.now) closed.now wanted) }
 {
     check_choice(closed, wanted)?;
     let rows = story(alloc, closed)?;

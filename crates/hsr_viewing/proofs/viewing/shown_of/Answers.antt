@@ -24,8 +24,8 @@ returns-clause-shown g c =
 pub returns-in-Capture-clause-unshown : goal.returns-in-Capture-clause-unshown
 returns-in-Capture-clause-unshown g c =
     unshown_capture c.args.closed.now c.topology.result.now (option_map (λ s. s.now) c.args.scenario) c.in_ok-names.names.items c.topology.ensures.places c.topology.ensures.links c.in_ok-names.ensures.names
-    c.args.what.now c.as_slice-in-Capture.result.now c.in-Capture.link c.in-Capture.send c.in_ok-send-in-Capture.send c.capture_of.result
-    c.in-Capture.is c.as_slice-in-Capture.ensures.value c.in_ok-send-in-Capture.ensures.known c.capture_of.ensures.missing
+    c.args.what.now c.as_slice-in-Capture.result.now c.as_slice-in-Capture-2.result.now c.in-Capture.link c.in-Capture.send c.in_ok-send-in-Capture.send c.capture_of.result
+    c.in-Capture.is c.as_slice-in-Capture.ensures.value c.in_ok-send-in-Capture.ensures.known c.as_slice-in-Capture-2.ensures.value c.capture_of.ensures.missing
 
 pub returns-clause-unshown : goal.returns-clause-unshown
 returns-clause-unshown g c =
