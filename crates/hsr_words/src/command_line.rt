@@ -1,5 +1,6 @@
 //! Reads the words of a command line, by clap.
 ghost use Rattle.std.specs.Prelude.{◌≡◌, ◌≢◌, ◌<◌, IfErr, IfNone, IfOk, IfSome, OnOk, Some, Ok, codes, false, length, map};
+ghost use Rattle.std.specs.Str.{trim_end};
 ghost use Rattle.hsr_frame.specs.Address.{IsGroup, address_of};
 ghost use Rattle.hsr_frame.specs.Words.{mode_word};
 ghost use Rattle.hsr_text.specs.Moments.{unit_word};
@@ -8,7 +9,7 @@ ghost use Rattle.clap.specs.Words.{Text, app_of, first_value, found_of, kind_of,
 ghost use Rattle.clap.specs.declared.builder.Command.TheViews.{out-Command as fields_of};
 ghost use Rattle.clap.specs.declared.error.kind.ErrorKind.TheVariants.{OutOfMemory};
 ghost use Rattle.hsr_words.specs.declared.fault.OptionFault.TheVariants.{Memory};
-ghost use Rattle.hsr_words.specs.Options.{Chosen, ChosenIn, IfUsage, IsAsked, IsForm, IsNode, IsRefused, IsScope, IsShowing, IsTaken, Says, SaysNothing, audit_app, bench_app, flag_rule, flag_text, mac_rule, mode_rule, node_app, run_app, table_rule, top_app, unit_rule, with_asked};
+ghost use Rattle.hsr_words.specs.Options.{Chosen, ChosenIn, IfUsage, IsAsked, IsForm, IsNode, IsRefused, IsScope, IsShowing, IsTaken, Says, SaysNothing, audit_app, bench_app, flag_rule, flag_text, mac_rule, mode_rule, node_app, or_help, run_app, table_rule, top_app, unit_rule, with_asked};
 
 use crate::fault::OptionFault;
 use clap::error::ErrorKind;
@@ -18,6 +19,7 @@ use hsr_options::{Asked, Form, NodeOptions, Options, Scope, Showing, Table};
 use hsr_text::TimeUnit;
 use hsr_version::VERSION;
 use std::alloc::{AllocError, Global};
+use std::fmt::Display;
 
 const NODE_LINES: &str = "\
 Each line of standard input, with one space between its words, is one of:
@@ -288,7 +290,7 @@ fn bench_command<'a>(
     Ok(four)
 }
 
-/// The text of a refusal, without the end of its last line: whoever prints it ends the line.
+/// A refusal by clap's error, by the text that it shows.
 fn refused(alloc: Global, error: &Error) -> OptionFault
     ensures kind { IfUsage result (λ _. kind_of error.now ≢ OutOfMemory) }
     ensures some { IfUsage result (λ t. 0 < length t) }
@@ -296,7 +298,16 @@ fn refused(alloc: Global, error: &Error) -> OptionFault
     if error.kind() == ErrorKind::OutOfMemory {
         return OptionFault::Memory;
     }
-    match format!(in alloc; "{error}") {
+    shown(alloc, error)
+}
+
+/// A refusal by the text that an error shows, without the end of its last line: whoever prints it ends the line. Of clap's errors the
+/// kit's clauses don't tell what they show, so there `text` says nothing.
+fn shown<D: Display + Drop>(alloc: Global, error: D) -> OptionFault
+    ensures text { IfUsage result (λ t. IfSome (D.output error) (λ whole. t ≡ or_help (trim_end whole))) }
+    ensures some { IfUsage result (λ t. 0 < length t) }
+{
+    match error.to_string(alloc) {
         Ok(text) => usage_or_help(alloc, text.trim_end()),
         Err(_) => OptionFault::Memory,
     }
@@ -304,7 +315,8 @@ fn refused(alloc: Global, error: &Error) -> OptionFault
 
 /// A refusal by this text, or by one that names the help where it is empty.
 fn usage_or_help(alloc: Global, text: &str) -> OptionFault
-    ensures { IfUsage result (λ t. 0 < length t) }
+    ensures text { IfUsage result (λ t. t ≡ or_help text.now) }
+    ensures some { IfUsage result (λ t. 0 < length t) }
 {
     if text.is_empty() {
         return usage(alloc, "usage: --help");
