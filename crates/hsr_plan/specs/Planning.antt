@@ -55,7 +55,7 @@ pub record IsAnswered (words : List Text) (text : List ℕ) (shown : Bool) (held
 -- the words are refused by a text that isn't empty, and nothing is written
 pub record IsTurnedAway (words : List Text) (held holds told tells : Option (List ℕ)) (code : ℕ) : Type 0 where
   pub why : Text
-  pub refused : IsRefused words
+  pub refused : IsRefused words why
   pub some : 0 < length why
   pub is_code : code ≡ 3
   pub line : Appends told tells (why ++ codes "\n")

@@ -1,7 +1,7 @@
 -- What a parse found, by the walk of its command.
-use Rattle.std.proofs.Common.{◌≡◌, ◌≢◌, inl, inr, ⊎_elim, string_bytes, List, [], Option, Some, None, option_map, IfNone, IfSome, refl, sym, ap, ap₂, subst, ◌∙◌, codes, true}
+use Rattle.std.proofs.Common.{◌≡◌, ◌≢◌, ⊎_elim, string_bytes, List, [], Option, Some, None, option_map, IfNone, IfSome, refl, sym, ap, ap₂, subst, ◌∙◌, codes, true}
 use Rattle.clap.specs.Kinds.{HasKind, IsAmong, Kinds}
-use Rattle.clap.specs.Words.{App, Row, Text, fault_of, first_of, first_value, found_of, is_simple, is_simple_and_free, kind_of, matches_of, rows_of, subcommand_of, subcommand_rows_of}
+use Rattle.clap.specs.Words.{App, Row, Text, first_of, first_value, found_of, is_simple, is_simple_and_free, kind_of, matches_of, rows_of, subcommand_of, subcommand_rows_of}
 use Rattle.clap.specs.declared.error.Error.{Error}
 use Rattle.clap.specs.declared.error.kind.ErrorKind.TheVariants.{OutOfMemory}
 use Rattle.clap.specs.declared.parser.matches.ArgMatches.{ArgMatches}

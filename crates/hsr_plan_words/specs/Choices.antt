@@ -8,6 +8,7 @@ use Rattle.hsr_text.specs.Words.{decimal_of}
 use Rattle.hsr_options.specs.Tables.{table_word}
 use Rattle.hsr_options.specs.declared.chosen.Table.{Table}
 use Rattle.hsr_options.specs.declared.chosen.Table.TheVariants.{Small, Large}
+use Rattle.hsr_plan_words.specs.declared.command_line.TheConstants.{TOGETHER}
 use Rattle.hsr_plan_words.specs.declared.task.Task.{Task}
 use Rattle.hsr_plan_words.specs.declared.task.Task.TheVariants.{Plan, Check, Sweep}
 use Rattle.hsr_plan_words.specs.declared.task.WordsFault.{WordsFault}
@@ -94,9 +95,15 @@ Says words task = (app : App) × IsPlanner app × (fault_of app words ≡ []) ×
 
 -- ---- what is refused
 
--- the command finds a fault in the words, or they choose nothing
-abbrev pub IsRefused : List Text → Type 0
-IsRefused words = (app : App) × IsPlanner app × ((fault_of app words ≢ []) ⊎ ((task : Task) → ¬ Chooses app words task))
+-- words are refused by this text: the command finds a fault in them, or finds none, and they choose nothing
+abbrev pub IsRefused : List Text → Text → Type 0
+IsRefused words text = (app : App) × IsPlanner app × ((fault_of app words ≢ [])
+    ⊎ ((fault_of app words ≡ []) × ((task : Task) → ¬ Chooses app words task) × (text ≡ TOGETHER.now)))
+
+-- a text, or another where it is empty
+abbrev pub or_else : Text → Text → Text
+or_else [] other = other
+or_else (c ∷ cs) other = c ∷ cs
 
 -- P of the text of a refusal; of want of memory nothing
 abbrev pub IfUsage : WordsFault → (Text → Type 0) → Type 0

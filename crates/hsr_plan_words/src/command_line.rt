@@ -1,12 +1,13 @@
 //! Reads the words of a command line, by clap.
 ghost use Rattle.std.specs.Prelude.{◌≡◌, ◌≢◌, ◌<◌, ◌≤◌, ◌^◌, IfErr, IfNone, IfOk, IfSome, IsTrue, Some, None, codes, false, length, map, option_map};
+ghost use Rattle.std.specs.Str.{trim_end};
 ghost use Rattle.hsr_text.specs.Words.{decimal_of};
 ghost use Rattle.clap.specs.Words.{Text, app_of, first_value, found_of, kind_of, new_app, rule_of, subcommand_rows_of, with_rule};
 ghost use Rattle.clap.specs.declared.builder.command.Command.TheViews.{out-Command as fields_of};
 ghost use Rattle.clap.specs.declared.error.kind.ErrorKind.TheVariants.{OutOfMemory};
 ghost use Rattle.hsr_plan_words.specs.declared.task.Task.{Task as TaskOf};
 ghost use Rattle.hsr_plan_words.specs.declared.task.WordsFault.TheVariants.{Memory};
-ghost use Rattle.hsr_plan_words.specs.Choices.{Chosen, ChosenAlone, ChosenBefore, IfUsage, IsMoment, IsRefused, IsTable, Says, at_rule, check_rule, plan_app, sub_values, sweep_app, table_rule, top_app};
+ghost use Rattle.hsr_plan_words.specs.Choices.{Chosen, ChosenAlone, ChosenBefore, IfUsage, IsMoment, IsRefused, IsTable, Says, at_rule, check_rule, or_else, plan_app, sub_values, sweep_app, table_rule, top_app};
 
 use crate::task::{Task, WordsFault};
 use clap::error::ErrorKind;
@@ -15,6 +16,7 @@ use hsr_options::Table;
 use hsr_text::decimal;
 use hsr_version::VERSION;
 use std::alloc::{AllocError, Global};
+use std::fmt::Display;
 
 /// Which words go together.
 const TOGETHER: &str = "\
@@ -126,7 +128,8 @@ fn plan_command<'a>(alloc: Global, tables: &'a [&'a str]) -> Result<Command<'a>,
 
 /// A refusal by this text, or by which words go together where it is empty.
 fn usage_by(alloc: Global, text: &str) -> WordsFault
-    ensures { IfUsage result (λ t. 0 < length t) }
+    ensures text { IfUsage result (λ t. t ≡ or_else text.now TOGETHER.now) }
+    ensures some { IfUsage result (λ t. 0 < length t) }
 {
     let said = if text.is_empty() { TOGETHER } else { text };
     match String::from_str(alloc, said) {
@@ -137,12 +140,13 @@ fn usage_by(alloc: Global, text: &str) -> WordsFault
 
 /// The text that says which words go together.
 fn usage(alloc: Global) -> WordsFault
-    ensures { IfUsage result (λ t. 0 < length t) }
+    ensures text { IfUsage result (λ t. t ≡ TOGETHER.now) }
+    ensures some { IfUsage result (λ t. 0 < length t) }
 {
     usage_by(alloc, TOGETHER)
 }
 
-/// The text of a refusal, without the end of its last line: whoever prints it ends the line.
+/// A refusal by clap's error, by the text that it shows.
 fn refused(alloc: Global, error: &Error) -> WordsFault
     ensures kind { IfUsage result (λ _. kind_of error.now ≢ OutOfMemory) }
     ensures some { IfUsage result (λ t. 0 < length t) }
@@ -150,7 +154,16 @@ fn refused(alloc: Global, error: &Error) -> WordsFault
     if error.kind() == ErrorKind::OutOfMemory {
         return WordsFault::Memory;
     }
-    match format!(in alloc; "{error}") {
+    shown(alloc, error)
+}
+
+/// A refusal by the text that an error shows, without the end of its last line: whoever prints it ends the line. Of clap's errors the
+/// kit's clauses don't tell what they show, so there `text` says nothing.
+fn shown<D: Display + Drop>(alloc: Global, error: D) -> WordsFault
+    ensures text { IfUsage result (λ t. IfSome (D.output error) (λ whole. t ≡ or_else (trim_end whole) TOGETHER.now)) }
+    ensures some { IfUsage result (λ t. 0 < length t) }
+{
+    match error.to_string(alloc) {
         Ok(text) => usage_by(alloc, text.trim_end()),
         Err(_) => WordsFault::Memory,
     }
@@ -222,10 +235,11 @@ fn chosen_in(matches: &ArgMatches<'_>) -> Option<Task>
 }
 
 /// What words choose: `--check` a scenario to check, `sweep` with `--at-us` a sweep, else a plan, with the tables that `--table` names
-/// (`small` or `large`, which is meant without it). Words that go together in none of these are refused by a text that isn't empty.
+/// (`small` or `large`, which is meant without it). Words that go together in none of these are refused by the text that says which do,
+/// and other words by clap's text, which isn't empty; `Memory` where room is refused.
 pub fn task_by<'a>(alloc: Global, words: &'a [&'a str]) -> Result<Task, WordsFault>
     ensures found { IfOk result (Says (map (λ s. s.now) words.entry.now)) }
-    ensures refused { IfErr result (λ f. IfUsage f (λ _. IsRefused (map (λ s. s.now) words.entry.now))) }
+    ensures refused { IfErr result (λ f. IfUsage f (IsRefused (map (λ s. s.now) words.entry.now))) }
     ensures some { IfErr result (λ f. IfUsage f (λ text. 0 < length text)) }
 {
     let tables = [Table::Small.word(), Table::Large.word()];

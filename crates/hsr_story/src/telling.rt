@@ -21,7 +21,7 @@ use std::alloc::Global;
 /// Why the rows of a run have no order of time.
 #[derive(Clone, Copy, Debug, PartialEq, Eq)]
 pub enum StoryFault {
-    /// Entries follow one another in a circle, as in no run that took place.
+    /// Entries follow one another in a circle, so that no order of time has them all.
     Circle,
     /// Room was refused.
     NoMemory,

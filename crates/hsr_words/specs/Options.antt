@@ -158,6 +158,11 @@ IsRefused [] text = ⊥
 IsRefused (w ∷ ws) text = (app : App) × IsBench app × ((fault_of app (w ∷ ws) ≢ [])
     ⊎ ((fault_of app (w ∷ ws) ≡ []) × SaysNothing (subcommand_of app (w ∷ ws)) × (text ≡ codes "usage: --mac")))
 
+-- a text, or how help is asked for where it is empty
+abbrev pub or_help : Text → Text
+or_help [] = codes "usage: --help"
+or_help (c ∷ cs) = c ∷ cs
+
 -- P of the text of a refusal; of want of memory nothing
 abbrev pub IfUsage : OptionFault → (Text → Type 0) → Type 0
 IfUsage (Usage text) P = P (string_bytes text)

@@ -1,5 +1,6 @@
 //! Reads the words of a command line, by clap.
 ghost use Rattle.std.specs.Prelude.{◌≡◌, ◌≢◌, ◌<◌, IfErr, IfNone, IfOk, IfSome, OnOk, Some, Ok, codes, false, length, map};
+ghost use Rattle.std.specs.Str.{trim_end};
 ghost use Rattle.hsr_frame.specs.Address.{IsGroup, address_of};
 ghost use Rattle.hsr_frame.specs.Words.{mode_word};
 ghost use Rattle.hsr_text.specs.Moments.{unit_word};
@@ -8,7 +9,7 @@ ghost use Rattle.clap.specs.Words.{Text, app_of, first_value, found_of, kind_of,
 ghost use Rattle.clap.specs.declared.builder.Command.TheViews.{out-Command as fields_of};
 ghost use Rattle.clap.specs.declared.error.kind.ErrorKind.TheVariants.{OutOfMemory};
 ghost use Rattle.hsr_words.specs.declared.fault.OptionFault.TheVariants.{Memory};
-ghost use Rattle.hsr_words.specs.Options.{Chosen, ChosenIn, IfUsage, IsAsked, IsForm, IsNode, IsRefused, IsScope, IsShowing, IsTaken, Says, SaysNothing, audit_app, bench_app, flag_rule, flag_text, mac_rule, mode_rule, node_app, run_app, table_rule, top_app, unit_rule, with_asked};
+ghost use Rattle.hsr_words.specs.Options.{Chosen, ChosenIn, IfUsage, IsAsked, IsForm, IsNode, IsRefused, IsScope, IsShowing, IsTaken, Says, SaysNothing, audit_app, bench_app, flag_rule, flag_text, mac_rule, mode_rule, node_app, or_help, run_app, table_rule, top_app, unit_rule, with_asked};
 
 use crate::fault::OptionFault;
 use clap::error::ErrorKind;
@@ -18,6 +19,7 @@ use hsr_options::{Asked, Form, NodeOptions, Options, Scope, Showing, Table};
 use hsr_text::TimeUnit;
 use hsr_version::VERSION;
 use std::alloc::{AllocError, Global};
+use std::fmt::Display;
 
 const NODE_LINES: &str = "\
 Each line of standard input, with one space between its words, is one of:
@@ -38,7 +40,7 @@ status 1.
 Example: echo 'send 0 02-00-00-00-00-02 0800 AABB' | hsr_bench node";
 
 const RUN_ABOUT: &str =
-    "Runs the scenario on standard input (< plan.toml), and reports whether it certifies delivery";
+    "Runs the scenario on standard input (< scenario.toml), and reports whether it certifies delivery";
 
 const RUN_ENDS: &str = "\
 A scenario is TOML, read from standard input:
@@ -71,11 +73,11 @@ due at and who missed it (or took it up twice, or strayed), and where copies of 
 sends there are and how many are complete. With --needed a line says how many entries the fullest duplicate
 table needed, and the node and place of the first arrival that needed as many: `needed <n> <node> <place>`.
 
-With --budget a line before the report's last says whether tables of this size remember all that they must,
-in whatever order the copies move: `budget <n>` (yes: each copy comes in less than 400 ms, and at most n
-frames are sent in any 800 ms), `budget late <node> <place>` (this entry of a node is a copy that comes
-later), `budget crowded <moment>` (in the 800 ms from this moment on, in microseconds, more frames are sent
-than a table has entries). None of the three changes a status.
+With --budget a line before the report's last says whether this run was within the budget of its tables:
+`budget <n>` (yes: each copy came in less than 400 ms, and at most n frames were sent in any 800 ms),
+`budget late <node> <place>` (this entry of a node is a copy that came later), `budget crowded <moment>`
+(in the 800 ms from this moment on, in microseconds, more frames were sent than a table has entries). None
+of the three changes a status.
 
 With --network the last line and the status are of the audit of networks, whatever rings, RedBoxes, QuadBoxes and
 stations there are: `certified <n>` where each frame came exactly once to each node that it was for, else its first
@@ -84,9 +86,9 @@ record, `uncovered` with the node and place of a frame of which nothing is certi
 or a supervision frame of one), or `cut-off <node> <place> <receiver>` (no way to this receiver lost no copy of that
 frame).
 
-Examples: hsr_bench run < plan.toml
-          hsr_bench run --table small --deliveries --needed --budget < plan.toml
-          hsr_bench run --transcript < plan.toml | hsr_bench audit";
+Examples: hsr_bench run < scenario.toml
+          hsr_bench run --table small --deliveries --needed --budget < scenario.toml
+          hsr_bench run --transcript < scenario.toml | hsr_bench audit";
 
 const THREADS_ABOUT: &str =
     "Runs the scenario on standard input in threads, and reports whether it certifies delivery";
@@ -99,8 +101,8 @@ runs may differ in what came first; the report and the status are of the run tha
 
 The statuses and flags are as with `run`. `fault: step <i> fine` says that step i is a put, take or judge; then no thread is started. `fault: thread` says that a thread couldn't be started.
 
-Examples: hsr_bench threads < plan.toml
-          hsr_bench threads --transcript < plan.toml | hsr_bench audit";
+Examples: hsr_bench threads < scenario.toml
+          hsr_bench threads --transcript < scenario.toml | hsr_bench audit";
 
 const AUDIT_ENDS: &str = "\
 The transcript is one that `run --transcript` wrote with a table of the same size; it may be of version 1,
@@ -195,7 +197,7 @@ fn asking<'a>(alloc: Global, command: Command<'a>) -> Result<Command<'a>, AllocE
 {
     let deliveries = "Says in lines of the report who missed which frame, and where it was lost";
     let needed = "Says in a line of the report how many table entries the run needed";
-    let budget = "Says in a line of the report whether the tables hold all that is sent";
+    let budget = "Says in a line of the report whether the run was within the budget of its tables";
     let one = with_flag(alloc, command, "deliveries", deliveries)?;
     let two = with_flag(alloc, one, "needed", needed)?;
     let three = with_flag(alloc, two, "budget", budget)?;
@@ -288,7 +290,7 @@ fn bench_command<'a>(
     Ok(four)
 }
 
-/// The text of a refusal, without the end of its last line: whoever prints it ends the line.
+/// A refusal by clap's error, by the text that it shows.
 fn refused(alloc: Global, error: &Error) -> OptionFault
     ensures kind { IfUsage result (λ _. kind_of error.now ≢ OutOfMemory) }
     ensures some { IfUsage result (λ t. 0 < length t) }
@@ -296,7 +298,16 @@ fn refused(alloc: Global, error: &Error) -> OptionFault
     if error.kind() == ErrorKind::OutOfMemory {
         return OptionFault::Memory;
     }
-    match format!(in alloc; "{error}") {
+    shown(alloc, error)
+}
+
+/// A refusal by the text that an error shows, without the end of its last line: whoever prints it ends the line. Of clap's errors the
+/// kit's clauses don't tell what they show, so there `text` says nothing.
+fn shown<D: Display + Drop>(alloc: Global, error: D) -> OptionFault
+    ensures text { IfUsage result (λ t. IfSome (D.output error) (λ whole. t ≡ or_help (trim_end whole))) }
+    ensures some { IfUsage result (λ t. 0 < length t) }
+{
+    match error.to_string(alloc) {
         Ok(text) => usage_or_help(alloc, text.trim_end()),
         Err(_) => OptionFault::Memory,
     }
@@ -304,7 +315,8 @@ fn refused(alloc: Global, error: &Error) -> OptionFault
 
 /// A refusal by this text, or by one that names the help where it is empty.
 fn usage_or_help(alloc: Global, text: &str) -> OptionFault
-    ensures { IfUsage result (λ t. 0 < length t) }
+    ensures text { IfUsage result (λ t. t ≡ or_help text.now) }
+    ensures some { IfUsage result (λ t. 0 < length t) }
 {
     if text.is_empty() {
         return usage(alloc, "usage: --help");

@@ -1,4 +1,4 @@
-use Rattle.std.proofs.Common.{rules, ap, inl, inr, map, List}
+use Rattle.std.proofs.Common.{rules, inl, inr, map, List}
 use Rattle.clap.specs.Words.{Text, app_of}
 use Rattle.hsr_plan_words.specs.Choices.{IsPlanner}
 use Rattle.hsr_plan_words.proofs.Found.{chooses, chosen, fault_found, is_free, is_simple_so, usage_weaker}
@@ -19,7 +19,8 @@ returns-in-Ok-clause-refused c =
     let is : IsPlanner app = (c.as_slice.result, search rules, c.in_ok-command.ensures) in
     let found = c.in-Ok.ensures.matches (is_simple_so app is) in
     usage_weaker c.usage.result _ _
-    (λ text some. (app, is, inr (λ task h. c.in-None.ensures.none task (chosen app words c.in-Ok.matches task found.0 found.1 h)))) c.usage.ensures
+    (λ text said. (app, is, inr (c.in-Ok.ensures.kinds (is_free app is), λ task h. c.in-None.ensures.none task (chosen app words c.in-Ok.matches task found.0 found.1 h), said)))
+    c.usage.ensures.text
 
 pub returns-clause-refused : goal.returns-clause-refused
 returns-clause-refused c =
