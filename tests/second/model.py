@@ -143,6 +143,7 @@ class Node:
         self.frames = {}  # of its own, by place
         self.forgot = self.mistaken = self.numbered_late = None  # the first place of each
         self.needed = (0, None)  # the greatest count of notes that an arrival needed, and its first place
+        self.unknown = set()  # the sends that were handled while the destination wasn't a known station
 
     def spelled(self):
         said = {"station": [printed(mac) for mac in self.macs], "quadbox": []}
@@ -167,6 +168,11 @@ class Node:
     def knows(self, mac, moment):
         return any(other == mac and moment - at < PROXY_FORGET for other, at in self.heard[-PROXIES:])
 
+    def ask(self, frame, send):
+        """Notes a send whose destination isn't known when it is handled."""
+        if not isinstance(frame, int) and not self.knows(frame.dst, self.moment):
+            self.unknown.add(send)
+
     def take_number(self):
         number, self.next = self.next, (self.next + 1) % 65536
         return number
@@ -189,6 +195,7 @@ class Node:
             raise Refused("too-long")
         self.moment, self.sent = max(self.moment, at), self.sent + 1
         frame = self.frames[len(self.record)] = Frame(dst, own, vlan, kind, payload)
+        self.ask(frame, (self.number, len(self.record)))
         if self.role == "station" or self.role == "redbox" and self.knows(dst, self.moment):
             port = PORTS[self.role][-1]
             return Answer(f"sent - {port}", {port: frame.plain()})
@@ -267,6 +274,7 @@ class Node:
         self.moment = max(self.moment, at)
         frame = read(octets)
         wish = self.wish(port, frame)
+        self.ask(frame, send)
         if wish.key:
             self.doubt(wish, send)
             self.measure(wish, send)
@@ -587,25 +595,38 @@ class World:
         return self.doubt_of_nodes(["forgot", "mistaken", "numbered-late"]) or self.doubt_of_sends() or f"certified {len(self.sends())}"
 
     def doubt_of_sends(self):
-        """The first send that isn't covered, else the first that doesn't reach a node that it is for. None where there is none."""
-        for send, frame in self.sends():
-            if not self.is_covered(send, frame):
-                return "doubt uncovered {} {}".format(*send)
+        """The first send that doesn't come to a node that it is for, else the first to a Station that its RedBox didn't know each time,
+        else the first that isn't covered. None where there is none."""
         losses = self.losses()
         for send, frame in self.sends():
-            reached = self.reached(send, frame, [self.links[number].ends[row.dir] for number, row in losses.get(send, [])])
+            lost = [self.links[number].ends[row.dir] for number, row in losses.get(send, [])]
+            reached = self.reached(send, frame, lost)
             for number in self.due(send, frame):
-                if number not in reached:
+                if not self.comes(send, frame, number, reached, lost):
                     return "doubt cut-off {} {} {}".format(*send, number)
+        for what, is_so in ("unknown-station", self.is_known), ("uncovered", self.is_covered):
+            for send, frame in self.sends():
+                if not is_so(send, frame):
+                    return "doubt {} {} {}".format(what, *send)
         return None
 
+    def comes(self, send, frame, number, reached, lost):
+        """Whether a send comes to a node. To a Station with its address it comes over the last way, from the sender or a RedBox."""
+        if is_group(frame.dst) or self.nodes[number].role != "station":
+            return number in reached
+        lasts = [way for way in self.lanes if self.goal(way)[0] == number and way not in lost]
+        return any(way[0] == send[0] or self.nodes[way[0]].role == "redbox" and way[0] in reached for way in lasts)
+
+    def is_known(self, send, frame):
+        """Whether each RedBox at a Station that a send to one address is for knew that address each time that it handled the send."""
+        stations = [number for number in self.due(send, frame) if self.nodes[number].role == "station" and not is_group(frame.dst)]
+        boxes = [self.nodes[way[0]] for way in self.lanes if self.goal(way)[0] in stations and self.nodes[way[0]].role == "redbox"]
+        return not any(send in box.unknown for box in boxes)
+
     def is_covered(self, send, frame):
-        """Whether ways alone say where a send goes. To a Station it goes by what RedBoxes heard, so that isn't covered. A Station takes
-        up supervision that comes from a Station, though it is due at none."""
+        """A Station takes up supervision that comes from a Station, though it is due at none, so that isn't covered."""
         here = (send[0], "P")
-        if frame.is_supervision() and here in self.lanes and self.nodes[self.goal(here)[0]].role == "station":
-            return False
-        return is_group(frame.dst) or not any(frame.dst in node.macs for node in self.nodes)
+        return not (frame.is_supervision() and here in self.lanes and self.nodes[self.goal(here)[0]].role == "station")
 
     def goal(self, start):
         """The end of a way. A way is named by the port at which it starts, as each port has one link."""

@@ -138,6 +138,6 @@ enough_is run nodes closed keeps tells once boxless no_storm held = record {
   keeps = λ first. keeps run closed first held;
   boxless = λ none. keeps run closed (boxless run closed none) held;
   calm = λ first. calm_here run (no_storm run nodes closed first) (keeps run closed first held);
-  tells = λ macs ring few. tells run macs closed ring few held;
-  once = λ macs ring losses few. once run macs closed ring losses few held;
+  tells = λ macs ring. tells run macs closed ring held;
+  once = λ macs ring losses. once run macs closed ring losses held;
 }

@@ -104,7 +104,7 @@ linked_at (suc (suc zero)) (suc (suc p)) h = inr (nothing_else (1 == suc (suc p)
 linked_at (suc (suc (suc k))) p h = absurd (omega arith)
 
 pub is_closed : IsClosed cut
-is_closed = record { records = refl; rows = refl; legal = legal_at; put = put_at; taken = taken_at; settled = settled_at; linked = linked_at }
+is_closed = record { tables = (omega arith, omega arith); records = refl; rows = refl; legal = legal_at; put = put_at; taken = taken_at; settled = settled_at; linked = linked_at }
 
 -- ---- it is a ring, and loses a copy on one link alone
 
@@ -228,7 +228,7 @@ nothing_came (suc (suc zero)) port h = refl
 nothing_came (suc (suc (suc k))) port h = absurd (omega arith)
 
 pub is_closed_too : IsClosed lost_twice
-is_closed_too = record { records = refl; rows = refl; legal = legal_twice; put = put_twice; taken = taken_twice; settled = settled_twice; linked = λ k port h. inr (nothing_came k port h) }
+is_closed_too = record { tables = (omega arith, omega arith); records = refl; rows = refl; legal = legal_twice; put = put_twice; taken = taken_twice; settled = settled_twice; linked = λ k port h. inr (nothing_came k port h) }
 
 pub two_lossy : OneLossyLink lost_twice → ⊥
 two_lossy one = let same = one 0 2 (omega arith) (omega arith) refl refl in omega arith

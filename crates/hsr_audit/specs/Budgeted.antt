@@ -76,5 +76,5 @@ pub record IsEnough (run : Run) : Type 0 where
   pub keeps : NumberedFirst run → NothingForgotten run
   pub boxless : HasNoRedBox run → NothingForgotten run
   pub calm : NumberedFirst run → CarriesOnce run
-  pub tells : (macs : List (List ℕ)) → IsRing run macs → run.capacity < 65536 → NothingMistaken run
-  pub once : (macs : List (List ℕ)) → IsRing run macs → OneLossyLink run → run.capacity < 65536 → IsExactlyOnce run macs
+  pub tells : (macs : List (List ℕ)) → IsRing run macs → NothingMistaken run
+  pub once : (macs : List (List ℕ)) → IsRing run macs → OneLossyLink run → IsExactlyOnce run macs

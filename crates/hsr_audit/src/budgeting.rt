@@ -38,8 +38,9 @@ fn budget_of<const C: usize>(alloc: Global, closed: &Closed<C>) -> Result<Budget
 ///
 /// Within budget no table forgot an entry that was needed, in whatever order threads or drains moved the copies
 /// (IEC 62439-3 clause 5), and no direction of a link carried a frame twice. That holds where there are no RedBoxes, and
-/// where each RedBox numbers a frame of its Station before it hears of it. With fewer than 65536 entries a ring of DANHs
-/// also mistook nothing, and where it lost copies on one link at most it delivered each frame exactly once.
+/// where each RedBox numbers a frame of its Station before it hears of it. A ring of DANHs also mistook nothing, since a
+/// closed run's tables have at most 65535 entries, fewer than there are sequence numbers; and where it lost copies on one
+/// link at most it delivered each frame exactly once.
 ///
 /// Not promised: the converse; a run may forget nothing without being in budget. Nor anything of another run of the same
 /// sends: its copies may come later.

@@ -1,7 +1,7 @@
 -- The first doubt, and the certificate.
 use Rattle.std.proofs.Common.{◌≡◌, ℕ, ◌<◌, ◌==◌, ◌&&◌, ◌||◌, not, Bool, true, false, if◌then◌else◌, List, [], ◌∷◌, length, slice_index_or, Some, refl, sym, ap, ◌∙◌, subst, arith, zero, suc, ◌⊎◌, inl, inr, ⊎_elim, eqb-true}
 use Rattle.std.specs.List.{AllByRecursion, list_any}
-use Rattle.std.proofs.lemmas.Bool.{and_parts, cases_Bool, false≢true, or_cases, or_left, or_right}
+use Rattle.std.proofs.lemmas.Bool.{and_parts, cases_Bool, false≢true, not-true, or_cases, or_left, or_right}
 use Rattle.hsr_frame.specs.Address.{is_group, is_same_address}
 use Rattle.hsr_frame.specs.declared.node.Mode as modes
 use Rattle.hsr_node.specs.Station.{is_among}
@@ -10,9 +10,8 @@ use Rattle.hsr_node.specs.declared.event.Probe.{Probe}
 use Rattle.hsr_node.specs.declared.place.Place.{Place}
 use Rattle.hsr_node.specs.declared.place.Place.TheVariants.{Danh, RedBox, QuadBox, Station}
 use Rattle.hsr_node.specs.declared.sending.Sending.{Sending}
-use Rattle.hsr_node.specs.Flow.{send_at}
 use Rattle.hsr_frame.specs.Egress.{is_supervision}
-use Rattle.hsr_law.specs.Premises.{IsRing, NothingForgotten, NothingMistaken, OneLossyLink}
+use Rattle.hsr_law.specs.Premises.{IsRing, NothingForgotten, NothingMistaken, OneLossyLink, is_redbox}
 use Rattle.hsr_deliveries.specs.Delivered.{Delivery, IsComplete, deliveries, is_due, is_for, times}
 use Rattle.hsr_deliveries.proofs.Completing.{IsAsDue, all_complete}
 use Rattle.hsr_law.specs.Closed.{IsClosed, IsSend}
@@ -25,36 +24,26 @@ use Rattle.hsr_network_law.specs.Delivered.{IsOnceInNetwork, OnceInNetwork, is_c
 use Rattle.hsr_network_law.specs.Late.{LateDecides}
 use Rattle.hsr_network_law.specs.Lives.{LivesStay, is_joined_with_station, is_station_at, joins_stations}
 use Rattle.hsr_network_law.specs.Rings.{IsCrossed, RingIsCrossed}
-use Rattle.hsr_network_law.specs.Network.{IsNetwork, is_station, is_station_with}
+use Rattle.hsr_network_law.specs.Network.{HasAddress, IsNetwork, is_station, is_station_with, start_of}
+use Rattle.hsr_network_law.specs.Stations.{IsReachedBelow, OnceToStation}
+use Rattle.hsr_network_law.proofs.Wants.{among_at}
 use Rattle.hsr_premises.specs.declared.flaw.Flaw.{Flaw}
 use Rattle.hsr_premises.specs.declared.flaw.Flaw.TheVariants.{Forgot, Late, Mistaken}
 use Rattle.hsr_ways.specs.Networks.{IsFirstReason}
 use Rattle.hsr_ways.specs.declared.no_network.NoNetwork.{NoNetwork}
 use Rattle.hsr_ways.specs.declared.no_network.NoNetwork.TheVariants.{Mode, SameAddress, Side}
 use Rattle.hsr_network_audit.specs.Certificate.{IsCertified, TakenUpOnce}
+use Rattle.hsr_network_audit.specs.Coming.{Comes, is_to_station}
 use Rattle.hsr_network_audit.specs.Doubts.{ArePromised, AreServed, IsCoveredAt, IsCutDoubt, IsFirstDoubt, IsFirstFault, IsNoRing, IsPremised, IsRefused, IsServedAt, IsSound, doubt_at, doubt_of, probe_at}
 use Rattle.hsr_network_audit.specs.Placed.{HoldsIn}
+use Rattle.hsr_network_audit.proofs.Coming.{both, box_below}
+use Rattle.hsr_network_audit.proofs.Sending.{in_record}
 use Rattle.hsr_network_audit.specs.declared.doubt.NetworkFault.{NetworkFault}
 use Rattle.hsr_network_audit.specs.declared.doubt.NetworkFault.TheVariants.{Doubt, NoMemory}
 use Rattle.hsr_network_audit.specs.declared.doubt.Doubt as doubts
 use Rattle.hsr_network_audit.specs.declared.doubt.Doubt.TheVariants as doubt
 
 -- ---- all sends
-
--- a send stands at a place of its node's record
-within : (place : Place) (n : ℕ) (s : Sending) (h : List Rattle.hsr_node.specs.declared.entry.Entry.Entry) → send_at place n h ≡ Some s → n < length h
-within place n s [] e = absurd cc
-within place n s (x ∷ past) e = by_test (n == length past) refl e (within place n s past)
-  where
-    by_test : (b : Bool) → (n == length past) ≡ b → (if b then Rattle.hsr_node.specs.Flow.sent_by place x.event x.outcome else send_at place n past) ≡ Some s → (send_at place n past ≡ Some s → n < length past) → n < length (x ∷ past)
-    by_test true same h rest = let at = Rattle.std.proofs.Common.eqb-true n (length past) same in omega (arith, at)
-    by_test false same h rest = let low = rest h in omega (arith, low)
-
-in_record : (run : Run) (send : Probe) (sending : Sending) → IsSend run send sending → send.place < length (record_of run send.node)
-in_record run send sending is =
-    let low = within (place_of run send.node) send.place sending (past_of run send.node) is.1 in
-    let same = Rattle.std.proofs.lemmas.List.length-reverse (record_of run send.node) in
-    omega (arith, low, same)
 
 pub all_covered : (run : Run) → HoldsIn run (IsCoveredAt run) (length run.places) → ArePromised run
 all_covered run all send sending is = all send.node is.0 send.place (in_record run send sending is) sending is
@@ -74,15 +63,16 @@ flaw_is run (Forgot k i) network first = (network, first)
 flaw_is run (Mistaken k i) network first = (network, first.0, first.1)
 flaw_is run (Late k i) network first = (network, first.0, first.1, first.2)
 
-pub cut_is : (run : Run) (d : doubts.Doubt) → IsSound run → ArePromised run → IsCutDoubt run (Some d) → IsFirstDoubt run d
-cut_is run doubt.Mode sound covered is = absurd is
-cut_is run doubt.SameAddress sound covered is = absurd is
-cut_is run (doubt.Side l) sound covered is = absurd is
-cut_is run (doubt.Forgot k i) sound covered is = absurd is
-cut_is run (doubt.Mistaken k i) sound covered is = absurd is
-cut_is run (doubt.NumberedLate k i) sound covered is = absurd is
-cut_is run (doubt.Uncovered k i) sound covered is = absurd is
-cut_is run (doubt.CutOff k i n) sound covered is = (sound, covered, is.0, is.1)
+pub cut_is : (run : Run) (d : doubts.Doubt) → IsSound run → IsCutDoubt run (Some d) → IsFirstDoubt run d
+cut_is run doubt.Mode sound is = absurd is
+cut_is run doubt.SameAddress sound is = absurd is
+cut_is run (doubt.Side l) sound is = absurd is
+cut_is run (doubt.Forgot k i) sound is = absurd is
+cut_is run (doubt.Mistaken k i) sound is = absurd is
+cut_is run (doubt.NumberedLate k i) sound is = absurd is
+cut_is run (doubt.CutOff k i n) sound is = (sound, is.0, is.1)
+cut_is run (doubt.UnknownStation k i) sound is = absurd is
+cut_is run (doubt.Uncovered k i) sound is = absurd is
 
 refuses : (run : Run) (d : doubts.Doubt) → IsFirstDoubt run d → IsPremised run → ⊥
 refuses run doubt.Mode first all = first all.sound.network.modes
@@ -92,19 +82,59 @@ refuses run (doubt.Side l) first all =
 refuses run (doubt.Forgot k i) first all = first.1.fails (λ d. Rattle.hsr_needed.proofs.Places.from_each (λ x past. Rattle.hsr_law.specs.Premises.Remembers run.capacity (Rattle.hsr_law.specs.Run.owner_of run k) past (Rattle.hsr_node.specs.Record.now (x ∷ past)) x.event) (record_of run k) (all.sound.forgotten k first.1.node) i first.1.place d)
 refuses run (doubt.Mistaken k i) first all = first.2.fails (λ d. Rattle.hsr_needed.proofs.Places.from_each (λ x past. Rattle.hsr_law.specs.Premises.KnowsOwn run.capacity (Rattle.hsr_law.specs.Run.owner_of run k) past (Rattle.hsr_node.specs.Record.now (x ∷ past)) x.event) (record_of run k) (all.sound.mistaken k first.2.node) i first.2.place d)
 refuses run (doubt.NumberedLate k i) first all = first.3.fails (λ d. Rattle.hsr_needed.proofs.Places.from_each (λ x past. Rattle.hsr_network_law.specs.Late.is_numbered_late (Rattle.hsr_law.specs.Run.owner_of run k) past x.event x.outcome ≡ false) (record_of run k) (all.sound.in_time k first.3.node) i first.3.place d)
-refuses run (doubt.Uncovered k i) first all = first.1.fails (λ sending is. all.covered (probe_at k i) sending is)
-refuses run (doubt.CutOff k i n) first all = first.2.fails (λ sending is. all.served (probe_at k i) sending is)
+refuses run (doubt.CutOff k i n) first all = first.1.fails (λ sending is. all.served (probe_at k i) sending is)
+refuses run (doubt.UnknownStation k i) first all = first.2.fails (λ sending is. all.known (probe_at k i) sending is)
+refuses run (doubt.Uncovered k i) first all = first.3.fails (λ sending is. all.covered (probe_at k i) sending is)
 
 pub fault_refuses : (run : Run) (fault : NetworkFault) → IsFirstFault run fault → IsRefused run fault
 fault_refuses run (Doubt d) first = refuses run d first
 fault_refuses run NoMemory first = tt
 
--- ---- whom a covered send is due at
+-- ---- whom a send is due at
+
+-- a list of nodes has one of which a test holds
+some_here : (p : Place → Bool) (places : List Place) → list_any p places ≡ true → (k : ℕ) × (k < length places) × (p (slice_index_or places k QuadBox) ≡ true)
+some_here p [] any = absurd (false≢true any)
+some_here p (x ∷ xs) any =
+    ⊎_elim (λ here. (0, omega arith, here))
+    (λ later. let rest = some_here p xs later in let low = rest.1 in (suc rest.0, omega (arith, low), rest.2))
+    (or_cases (p x) (list_any p xs) any)
 
 any_here : (p : Place → Bool) (places : List Place) (k : ℕ) → k < length places → p (slice_index_or places k QuadBox) ≡ true → list_any p places ≡ true
 any_here p [] k low is = absurd (omega (arith, low))
 any_here p (x ∷ xs) zero low is = or_left (p x) (list_any p xs) is
 any_here p (x ∷ xs) (suc k) low is = or_right (p x) (list_any p xs) (any_here p xs k (omega (arith, low)) is)
+
+-- a node's own address, of what is no Station
+own_address : (place : Place) (frame : Fields) → is_station place ≡ false → is_group frame.dst ≡ false → is_for place frame.dst frame.kind ≡ true → HasAddress place frame.dst
+own_address (Danh mac mode) frame other single for_it = sym (same_address mac frame.dst (sym (ap (λ b. if b then true else is_same_address mac frame.dst) single) ∙ for_it))
+own_address (RedBox mac mode) frame other single for_it = sym (same_address mac frame.dst (sym (ap (λ b. if b then true else is_same_address mac frame.dst) single) ∙ for_it))
+own_address QuadBox frame other single for_it = absurd (false≢true (sym (ap (λ b. if b then false else false) single) ∙ for_it))
+own_address (Station macs) frame other single for_it = absurd (false≢true (sym other))
+
+-- a Station's own address
+station_address : (place : Place) (address : List ℕ) → is_station_with address place ≡ true → HasAddress place address × (is_station place ≡ true)
+station_address (Danh mac mode) address own = absurd (false≢true own)
+station_address (RedBox mac mode) address own = absurd (false≢true own)
+station_address QuadBox address own = absurd (false≢true own)
+station_address (Station macs) address own = (among_at macs.items address own, refl)
+
+-- what is due at a node is covered, unless it is a frame to one address and the node a Station
+covered_due : (run : Run) → IsNetwork run → (frame : Fields) (k : ℕ) → k < length run.places → is_to_station frame (place_of run k) ≡ false → is_for (place_of run k) frame.dst frame.kind ≡ true → is_covered run.places frame ≡ true
+covered_due run net frame k below other for_it =
+    ⊎_elim (λ group. or_left (is_group frame.dst) (not (list_any (is_station_with frame.dst) run.places)) group)
+    (λ single. or_right (is_group frame.dst) (not (list_any (is_station_with frame.dst) run.places)) (⊎_elim (λ any. absurd (clash single (some_here (is_station_with frame.dst) run.places any))) (λ none. ap not none) (cases_Bool (list_any (is_station_with frame.dst) run.places))))
+    (cases_Bool (is_group frame.dst))
+  where
+    no_station : is_group frame.dst ≡ false → is_station (place_of run k) ≡ false
+    no_station single = sym (ap (λ b. not b && is_station (place_of run k)) single) ∙ other
+
+    clash : is_group frame.dst ≡ false → (j : ℕ) × (j < length run.places) × (is_station_with frame.dst (place_of run j) ≡ true) → ⊥
+    clash single some =
+        let own = station_address (place_of run some.0) frame.dst some.2 in
+        let same : some.0 ≡ k = net.differ some.0 k frame.dst some.1 below own.0 (own_address (place_of run k) frame (no_station single) single for_it) in
+        let S : ℕ → Type 0 = λ n. is_station (place_of run n) ≡ true in
+        false≢true (sym (no_station single) ∙ subst S same own.1)
 
 -- a single frame that is covered is to no Station
 not_station : (run : Run) (frame : Fields) (k : ℕ) → is_covered run.places frame ≡ true → is_group frame.dst ≡ false → k < length run.places → is_station_with frame.dst (place_of run k) ≡ true → ⊥
@@ -116,9 +146,6 @@ not_station run frame k covered single below own =
     clash : (b : Bool) → b ≡ true → not b ≡ true → ⊥
     clash true on h = false≢true h
     clash false on h = false≢true on
-
-both : (a b : Bool) → a ≡ true → b ≡ true → (a && b) ≡ true
-both a b x y = ap (λ z. z && b) x ∙ y
 
 due_at : (place : Place) (sender : ℕ) (frame : Fields) (k : ℕ) (group : Bool) → is_group frame.dst ≡ group → (group ≡ false → is_station_with frame.dst place ≡ true → ⊥) → not (k == sender) ≡ true →
     is_for place frame.dst frame.kind ≡ true → is_meant sender frame k place ≡ true
@@ -143,6 +170,16 @@ due_is_meant : (run : Run) (send : Probe) (frame : Fields) (k : ℕ) → is_cove
 due_is_meant run send frame k covered below due =
     let parts = and_parts (not (k == send.node)) (is_for (place_of run k) frame.dst frame.kind) due in
     due_at (place_of run k) send.node frame k (is_group frame.dst) refl (λ single own. not_station run frame k covered single below own) parts.0 parts.1
+
+-- a frame to one address that is due at a Station is meant for it
+station_meant : (place : Place) (sender : ℕ) (frame : Fields) (k : ℕ) → is_station place ≡ true → is_group frame.dst ≡ false → (not (k == sender) && is_for place frame.dst frame.kind) ≡ true → is_meant sender frame k place ≡ true
+station_meant (Danh mac mode) sender frame k station single due = absurd (false≢true station)
+station_meant (RedBox mac mode) sender frame k station single due = absurd (false≢true station)
+station_meant QuadBox sender frame k station single due = absurd (false≢true station)
+station_meant (Station macs) sender frame k station single due =
+    let parts = and_parts (not (k == sender)) (is_for (Station macs) frame.dst frame.kind) due in
+    both (not (k == sender)) (is_group frame.dst || is_among macs.items frame.dst) parts.0
+    (or_right (is_group frame.dst) (is_among macs.items frame.dst) (sym (ap (λ b. if b then not (is_supervision frame.dst frame.kind) else is_among macs.items frame.dst) single) ∙ parts.1))
 
 -- ---- whom it isn't due at
 
@@ -180,29 +217,61 @@ undue_at (Station macs) sender frame k never none =
 
 -- ---- the certificate
 
-promised_parts : (run : Run) (send : Probe) (sending : Sending) → IsPremised run → IsSend run send sending →
-    (is_covered run.places sending.frame ≡ true) × (not (is_supervision sending.frame.dst sending.frame.kind && is_joined_with_station run.places run.links send.node) ≡ true)
-promised_parts run send sending all is =
-    and_parts (is_covered run.places sending.frame) (not (is_supervision sending.frame.dst sending.frame.kind && is_joined_with_station run.places run.links send.node)) (all.covered send sending is)
-
-covered_part : (run : Run) (send : Probe) (sending : Sending) → IsPremised run → IsSend run send sending → is_covered run.places sending.frame ≡ true
-covered_part run send sending all is = (promised_parts run send sending all is).0
-
 -- no supervision frame is of a Station that is joined with a Station
 sends_alone : (run : Run) (send : Probe) (sending : Sending) → IsPremised run → IsSend run send sending → is_supervision sending.frame.dst sending.frame.kind ≡ true → is_joined_with_station run.places run.links send.node ≡ false
 sends_alone run send sending all is life =
-    by_test (is_supervision sending.frame.dst sending.frame.kind) (is_joined_with_station run.places run.links send.node) life (promised_parts run send sending all is).1
+    by_test (is_supervision sending.frame.dst sending.frame.kind) (is_joined_with_station run.places run.links send.node) life (all.covered send sending is)
   where
     by_test : (life joined : Bool) → life ≡ true → not (life && joined) ≡ true → joined ≡ false
     by_test true true l h = absurd (false≢true h)
     by_test true false l h = refl
     by_test false joined l h = absurd (false≢true l)
 
-module _ (run : Run) (closed : IsClosed run) (once : IsOnceInNetwork run) (stay : LivesStay) (all : IsPremised run) where
+-- each Station took a single frame to it up once if it came to it
+abbrev pub IsOnceToStation : Run → Type 0
+IsOnceToStation run = (send : Probe) (sending : Sending) (k : ℕ) → IsSend run send sending → is_group sending.frame.dst ≡ false → k < length run.places → is_station (place_of run k) ≡ true →
+    is_meant send.node sending.frame k (place_of run k) ≡ true → IsReachedBelow run send sending.frame k → times run send k ≡ 1
+
+module _ (run : Run) (closed : IsClosed run) (once : IsOnceInNetwork run) (to_station : IsOnceToStation run) (stay : LivesStay) (all : IsPremised run) where
   taken_up : TakenUpOnce run
-  taken_up send sending k is below due =
-      once.once send sending k is (covered_part run send sending all is) below
-      (due_is_meant run send sending.frame k (covered_part run send sending all is) below due) (all.served send sending is k below due)
+  taken_up send sending k is below due = by_kind (cases_Bool (is_to_station sending.frame (place_of run k)))
+    where
+      here : Comes run send sending.frame k
+      here = all.served send sending is k below due
+
+      for_it : is_for (place_of run k) sending.frame.dst sending.frame.kind ≡ true
+      for_it = (and_parts (not (k == send.node)) (is_for (place_of run k) sending.frame.dst sending.frame.kind) due).1
+
+      below_it : is_to_station sending.frame (place_of run k) ≡ true → times run send k ≡ 1
+      below_it station =
+          let parts = and_parts (not (is_group sending.frame.dst)) (is_station (place_of run k)) station in
+          let single = not-true (is_group sending.frame.dst) parts.0 in
+          let last = here.below station in
+          let S : ℕ → Type 0 = λ n. is_to_station sending.frame (place_of run n) ≡ true in
+          let D : ℕ → Type 0 = λ n. is_due run send.node sending.frame.dst sending.frame.kind n ≡ true in
+          to_station send sending k is single below parts.1 (station_meant (place_of run k) send.node sending.frame k parts.1 single due)
+          (record {
+            last = last.0;
+            carries = last.1.carries;
+            here = last.1.here;
+            comes = last.1.comes;
+            found = λ box. all.known send sending is (start_of run last.0).node
+                (record {
+                  node = box_below run.places (start_of run last.0).node box;
+                  box = box;
+                  way = last.0;
+                  below = last.1.carries.below;
+                  starts = refl;
+                  station = subst S (sym last.1.here) station;
+                  due = subst D (sym last.1.here) due;
+                });
+          })
+
+      by_kind : (is_to_station sending.frame (place_of run k) ≡ true) ⊎ (is_to_station sending.frame (place_of run k) ≡ false) → times run send k ≡ 1
+      by_kind (inl station) = below_it station
+      by_kind (inr other) =
+          let covered = covered_due run all.sound.network sending.frame k below other for_it in
+          once.once send sending k is covered below (due_is_meant run send sending.frame k covered below due) (here.ring other)
 
   none_else : (send : Probe) (sending : Sending) (k : ℕ) → IsSend run send sending → k < length run.places → is_due run send.node sending.frame.dst sending.frame.kind k ≡ false → times run send k ≡ 0
   none_else send sending k is below other =
@@ -231,6 +300,9 @@ module _ (run : Run) (closed : IsClosed run) (once : IsOnceInNetwork run) (stay 
 pub once_of : (run : Run) → IsClosed run → OnceInNetwork → LateDecides → IsPremised run → IsOnceInNetwork run
 once_of run closed law decides all = law run closed all.sound.network ((decides run closed all.sound.network).first all.sound.in_time) all.sound.forgotten all.sound.mistaken
 
+pub station_of : (run : Run) → IsClosed run → OnceToStation → LateDecides → IsPremised run → IsOnceToStation run
+station_of run closed law decides all = law run closed all.sound.network ((decides run closed all.sound.network).first all.sound.in_time) all.sound.forgotten all.sound.mistaken
+
 -- ---- a ring
 
 -- what is no Station is joined with none as one
@@ -258,28 +330,30 @@ no_station_joined places k other (ends ∷ links) = ap (λ b. b || is_joined_wit
 ring_premised : (run : Run) (macs : List (List ℕ)) → IsClosed run → RingIsCrossed → IsRing run macs → OneLossyLink run → NothingForgotten run → NothingMistaken run → IsPremised run
 ring_premised run macs closed crosses ring losses remembers own = record {
   sound = record { network = crossed.network; forgotten = remembers; mistaken = own; in_time = crossed.in_time };
-  covered = promised;
-  served = λ send sending is k below due. crossed.reached send sending k is below (due_is_meant run send sending.frame k (crossed.covered send sending is) below due);
+  served = λ send sending is k below due. record {
+    ring = λ other. crossed.reached send sending k is below (due_is_meant run send sending.frame k (crossed.covered send sending is) below due);
+    below = λ station. absurd (false≢true (sym (no_station k below) ∙ (and_parts (not (is_group sending.frame.dst)) (is_station (place_of run k)) station).1));
+  };
+  known = λ send sending is k box. absurd (false≢true (sym (no_box k box.node) ∙ box.box));
+  covered = λ send sending is. alone (is_supervision sending.frame.dst sending.frame.kind) (is_joined_with_station run.places run.links send.node) (no_station_joined run.places send.node (no_station send.node is.0) run.links);
 }
   where
     crossed : IsCrossed run
     crossed = crosses run macs closed ring losses
 
-    no_station : (k : ℕ) → k < length macs → is_station (place_of run k) ≡ false
-    no_station k low = ⊎_elim (λ h. ap is_station h) (λ u. ap is_station u) (ring.nodes k low)
+    is_node : (k : ℕ) → k < length run.places → k < length macs
+    is_node k low = let many = ring.places in omega (arith, low, many)
 
-    promised : ArePromised run
-    promised send sending is =
-        let many = ring.places in
-        let low = is.0 in
-        let alone = no_station_joined run.places send.node (no_station send.node (omega (arith, low, many))) run.links in
-        both (is_covered run.places sending.frame) (not (is_supervision sending.frame.dst sending.frame.kind && is_joined_with_station run.places run.links send.node)) (crossed.covered send sending is)
-        (not_both (is_supervision sending.frame.dst sending.frame.kind) (is_joined_with_station run.places run.links send.node) alone)
-      where
-        not_both : (life joined : Bool) → joined ≡ false → not (life && joined) ≡ true
-        not_both true true j = absurd (false≢true (sym j))
-        not_both true false j = refl
-        not_both false joined j = refl
+    no_station : (k : ℕ) → k < length run.places → is_station (place_of run k) ≡ false
+    no_station k low = ⊎_elim (λ h. ap is_station h) (λ u. ap is_station u) (ring.nodes k (is_node k low))
+
+    no_box : (k : ℕ) → k < length run.places → is_redbox (place_of run k) ≡ false
+    no_box k low = ⊎_elim (λ h. ap is_redbox h) (λ u. ap is_redbox u) (ring.nodes k (is_node k low))
+
+    alone : (life joined : Bool) → joined ≡ false → not (life && joined) ≡ true
+    alone true true j = absurd (false≢true (sym j))
+    alone true false j = refl
+    alone false joined j = refl
 
 pub no_ring : (run : Run) (fault : NetworkFault) → IsClosed run → RingIsCrossed → IsFirstFault run fault → IsNoRing run fault
 no_ring run (Doubt d) closed crosses first = λ macs ring losses remembers own. refuses run d first (ring_premised run macs closed crosses ring losses remembers own)

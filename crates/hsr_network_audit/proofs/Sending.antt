@@ -1,8 +1,10 @@
 -- The entry at a place of a record, and the send that it is.
-use Rattle.std.proofs.Common.{◌≡◌, ℕ, ◌<◌, length, reverse, slice_index_or, Some, None, sym, ap, ◌∙◌, subst, arith, true}
+use Rattle.std.proofs.Common.{◌≡◌, ℕ, ◌<◌, ◌==◌, Bool, true, false, if◌then◌else◌, List, [], ◌∷◌, length, reverse, slice_index_or, Some, None, refl, sym, ap, ◌∙◌, subst, arith, eqb-true}
+use Rattle.std.proofs.lemmas.List.{length-reverse}
 use Rattle.std.proofs.lemmas.Option.{none-some}
 use Rattle.hsr_node.specs.Flow.{send_at, sent_by}
 use Rattle.hsr_node.specs.declared.entry.Entry.{Entry}
+use Rattle.hsr_node.specs.declared.event.Probe.{Probe}
 use Rattle.hsr_node.specs.declared.place.Place.{Place}
 use Rattle.hsr_node.specs.declared.sending.Sending.{Sending}
 use Rattle.hsr_law.specs.Closed.{IsSend}
@@ -44,3 +46,18 @@ covered_so run k i s some is sending send =
 
 pub so_covered : (run : Run) (k i : ℕ) (s : Sending) → k < length run.places → send_at (place_of run k) i (past_of run k) ≡ Some s → IsCoveredAt run k i → is_promised run k s.frame ≡ true
 so_covered run k i s node some all = all s (node, some)
+
+-- a send stands at a place of its node's record
+within : (place : Place) (n : ℕ) (s : Sending) (h : List Entry) → send_at place n h ≡ Some s → n < length h
+within place n s [] e = absurd cc
+within place n s (x ∷ past) e = by_test (n == length past) refl e (within place n s past)
+  where
+    by_test : (b : Bool) → (n == length past) ≡ b → (if b then sent_by place x.event x.outcome else send_at place n past) ≡ Some s → (send_at place n past ≡ Some s → n < length past) → n < length (x ∷ past)
+    by_test true same h rest = let at = eqb-true n (length past) same in omega (arith, at)
+    by_test false same h rest = let low = rest h in omega (arith, low)
+
+pub in_record : (run : Run) (send : Probe) (sending : Sending) → IsSend run send sending → send.place < length (record_of run send.node)
+in_record run send sending is =
+    let low = within (place_of run send.node) send.place sending (past_of run send.node) is.1 in
+    let same = length-reverse (record_of run send.node) in
+    omega (arith, low, same)

@@ -1,7 +1,7 @@
 -- Why a network can't be certified: the doubts in their order, and which is the first.
---     is_promised     the law of networks promises of a send whom it comes to
---     IsCoveredAt     so it does of the send at a place of a record
---     IsServedAt      it reaches each node that it is due at
+--     IsServedAt      the send at a place of a record comes to each node that it is due at
+--     IsKnownAt       the RedBox of a Station that it is to knew that each time
+--     IsCoveredAt     the law of networks promises whom it comes to
 --     IsPremised      a network, and all that is certified of it rests on
 --     IsFirstDoubt    the doubt holds, and none before it
 use Rattle.std.specs.Prelude.{ℕ, ◌<◌, ◌≡◌, ◌&&◌, not, Bool, true, List, length, Option, Some, None}
@@ -16,14 +16,13 @@ use Rattle.hsr_law.specs.Run.{Run}
 use Rattle.hsr_network_law.specs.Late.{NothingLate}
 use Rattle.hsr_network_law.specs.Lives.{is_joined_with_station}
 use Rattle.hsr_network_law.specs.Network.{IsNetwork}
-use Rattle.hsr_network_law.specs.Ways.{IsReached}
 use Rattle.hsr_premises.specs.Flaws.{IsFirstNot, IsInTimeAt, KnowsOwnAt, RemembersAt}
 use Rattle.hsr_ways.specs.Networks.{AreGoingRound, HaveOwnAddresses, IsFirstUnlike}
 use Rattle.hsr_premises.specs.declared.flaw.Flaw.{Flaw}
 use Rattle.hsr_premises.specs.declared.flaw.Flaw.TheVariants.{Forgot, Late, Mistaken}
 use Rattle.hsr_ways.specs.declared.no_network.NoNetwork.{NoNetwork}
 use Rattle.hsr_ways.specs.declared.no_network.NoNetwork.TheVariants.{Mode, SameAddress, Side}
-use Rattle.hsr_network_law.specs.Delivered.{is_covered}
+use Rattle.hsr_network_audit.specs.Coming.{Comes, IsKnown}
 use Rattle.hsr_network_audit.specs.declared.doubt.NetworkFault.{NetworkFault}
 use Rattle.hsr_network_audit.specs.declared.doubt.NetworkFault.TheVariants.{Doubt, NoMemory}
 use Rattle.hsr_network_audit.specs.declared.doubt.Doubt as doubts
@@ -34,30 +33,34 @@ use Rattle.hsr_network_audit.specs.declared.doubt.Doubt.TheVariants as doubt
 abbrev pub probe_at : ℕ → ℕ → Probe
 probe_at k i = record { node = k; place = i }
 
--- a send is covered, and isn't supervision of a Station that is joined with a Station
+-- a frame isn't supervision of a Station that is joined with a Station
 abbrev pub is_promised : Run → ℕ → Fields → Bool
-is_promised run sender frame = is_covered run.places frame && not (is_supervision frame.dst frame.kind && is_joined_with_station run.places run.links sender)
+is_promised run sender frame = not (is_supervision frame.dst frame.kind && is_joined_with_station run.places run.links sender)
 
--- the entry at a place of a node's record is no send, or one of which this is promised
+-- a send is due at a node, and comes to it
+abbrev pub ComesDue : Run → Probe → Sending → ℕ → Type 0
+ComesDue run send sending n = is_due run send.node sending.frame.dst sending.frame.kind n ≡ true → Comes run send sending.frame n
+
+-- the entry at a place of a node's record is no send, or one that comes to each node that it is due at
+abbrev pub IsServedAt : Run → ℕ → ℕ → Type 0
+IsServedAt run k i = (sending : Sending) → IsSend run (probe_at k i) sending → (n : ℕ) → n < length run.places → ComesDue run (probe_at k i) sending n
+
+-- it is no send, or one whose destination each RedBox that is to pass it down knew each time
+abbrev pub IsKnownAt : Run → ℕ → ℕ → Type 0
+IsKnownAt run k i = (sending : Sending) → IsSend run (probe_at k i) sending → IsKnown run (probe_at k i) sending
+
+-- it is no send, or one of which the law promises whom it comes to
 abbrev pub IsCoveredAt : Run → ℕ → ℕ → Type 0
 IsCoveredAt run k i = (sending : Sending) → IsSend run (probe_at k i) sending → is_promised run k sending.frame ≡ true
 
--- a send is due at a node, and reaches it
-abbrev pub ReachesDue : Run → Probe → Sending → ℕ → Type 0
-ReachesDue run send sending n = is_due run send.node sending.frame.dst sending.frame.kind n ≡ true → IsReached run send sending.frame n
-
--- it is no send, or one that reaches each node that it is due at
-abbrev pub IsServedAt : Run → ℕ → ℕ → Type 0
-IsServedAt run k i = (sending : Sending) → IsSend run (probe_at k i) sending → (n : ℕ) → n < length run.places → ReachesDue run (probe_at k i) sending n
-
--- of the nodes that a send is due at the lowest that it doesn't reach
+-- of the nodes that a send is due at the lowest that it doesn't come to
 pub record IsCutOff (run : Run) (k i n : ℕ) : Type 0 where
   pub sending : Sending
   pub is_send : IsSend run (probe_at k i) sending
   pub node : n < length run.places
   pub due : is_due run k sending.frame.dst sending.frame.kind n ≡ true
-  pub unreached : ¬ IsReached run (probe_at k i) sending.frame n
-  pub before : (m : ℕ) → m < n → ReachesDue run (probe_at k i) sending m
+  pub unreached : ¬ Comes run (probe_at k i) sending.frame n
+  pub before : (m : ℕ) → m < n → ComesDue run (probe_at k i) sending m
 
 -- ---- doubts
 
@@ -68,17 +71,22 @@ pub record IsSound (run : Run) : Type 0 where
   pub mistaken : NothingMistaken run
   pub in_time : NothingLate run
 
+abbrev pub AreServed : Run → Type 0
+AreServed run = (send : Probe) (sending : Sending) → IsSend run send sending → (n : ℕ) → n < length run.places → ComesDue run send sending n
+
+abbrev pub AreKnown : Run → Type 0
+AreKnown run = (send : Probe) (sending : Sending) → IsSend run send sending → IsKnown run send sending
+
 abbrev pub ArePromised : Run → Type 0
 ArePromised run = (send : Probe) (sending : Sending) → IsSend run send sending → is_promised run send.node sending.frame ≡ true
 
-abbrev pub AreServed : Run → Type 0
-AreServed run = (send : Probe) (sending : Sending) → IsSend run send sending → (n : ℕ) → n < length run.places → ReachesDue run send sending n
-
--- so it is, and each send is covered, and reaches each node that it is due at
+-- so it is; and each send comes to each node that it is due at, is known each time by the RedBox of a Station that it is to, and is
+-- covered
 pub record IsPremised (run : Run) : Type 0 where
   pub sound : IsSound run
-  pub covered : ArePromised run
   pub served : AreServed run
+  pub known : AreKnown run
+  pub covered : ArePromised run
 
 -- the doubt holds, and none of those before it
 abbrev pub IsFirstDoubt : Run → doubts.Doubt → Type 0
@@ -88,8 +96,9 @@ IsFirstDoubt run (doubt.Side l) = AreGoingRound run × HaveOwnAddresses run × I
 IsFirstDoubt run (doubt.Forgot k i) = IsNetwork run × IsFirstNot run (RemembersAt run) k i
 IsFirstDoubt run (doubt.Mistaken k i) = IsNetwork run × NothingForgotten run × IsFirstNot run (KnowsOwnAt run) k i
 IsFirstDoubt run (doubt.NumberedLate k i) = IsNetwork run × NothingForgotten run × NothingMistaken run × IsFirstNot run (IsInTimeAt run) k i
-IsFirstDoubt run (doubt.Uncovered k i) = IsSound run × IsFirstNot run (IsCoveredAt run) k i
-IsFirstDoubt run (doubt.CutOff k i n) = IsSound run × ArePromised run × IsFirstNot run (IsServedAt run) k i × IsCutOff run k i n
+IsFirstDoubt run (doubt.CutOff k i n) = IsSound run × IsFirstNot run (IsServedAt run) k i × IsCutOff run k i n
+IsFirstDoubt run (doubt.UnknownStation k i) = IsSound run × AreServed run × IsFirstNot run (IsKnownAt run) k i
+IsFirstDoubt run (doubt.Uncovered k i) = IsSound run × AreServed run × AreKnown run × IsFirstNot run (IsCoveredAt run) k i
 
 -- ---- answers
 
@@ -121,7 +130,7 @@ doubt_at (Forgot k i) = doubt.Forgot k i
 doubt_at (Mistaken k i) = doubt.Mistaken k i
 doubt_at (Late k i) = doubt.NumberedLate k i
 
--- each send reaches each node that it is due at, or this is the first doubt of that kind
+-- each send comes to each node that it is due at, or this is the first doubt of that kind
 abbrev pub IsCutDoubt : Run → Option doubts.Doubt → Type 0
 IsCutDoubt run None = AreServed run
 IsCutDoubt run (Some (doubt.CutOff k i n)) = IsFirstNot run (IsServedAt run) k i × IsCutOff run k i n

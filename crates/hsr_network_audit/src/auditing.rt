@@ -6,10 +6,14 @@ ghost use Rattle.hsr_network_audit.specs.declared.doubt.NetworkFault.TheVariants
 
 use crate::cutoff::Reach;
 use crate::doubt::{Doubt, NetworkFault};
+use crate::missed::first_missed;
 use crate::sends::first_uncovered;
 use hsr_closing::Closed;
 use hsr_deliveries::{Deliveries, deliveries};
-use hsr_network_law::{late_decides, lives_stay, once_in_network, ring_is_crossed};
+use hsr_network_law::{
+    late_decides, lives_stay, once_in_network, once_to_station, ring_is_crossed,
+};
+use hsr_node::Probe;
 use hsr_premises::{Flaw, first_flaw};
 use hsr_ways::{NoNetwork, check_network};
 use std::alloc::Global;
@@ -57,8 +61,7 @@ fn check_sound<const C: usize>(alloc: Global, closed: &Closed<C>) -> Result<(), 
     }
 }
 
-/// The first send that doesn't reach a node that it is due at, as a doubt.
-#[tactic(auto, using(crate::proofs::Certifying::all_served))]
+/// The first send that doesn't come to a node that it is due at, as a doubt.
 fn first_cut_off<const C: usize>(
     alloc: Global,
     closed: &Closed<C>,
@@ -86,11 +89,14 @@ fn check_premises<const C: usize>(alloc: Global, closed: &Closed<C>) -> Result<(
     ensures fault { IfErr result (IsFirstFault closed.now.run) }
 {
     check_sound(alloc, closed)?;
-    if let Some((node, place)) = first_uncovered(closed) {
-        return Err(NetworkFault::Doubt(Doubt::Uncovered { node, place }));
+    if let Some(doubt) = first_cut_off(alloc, closed)? {
+        return Err(NetworkFault::Doubt(doubt));
     }
-    match first_cut_off(alloc, closed)? {
-        Some(doubt) => Err(NetworkFault::Doubt(doubt)),
+    if let Some(Probe { node, place }) = first_missed(closed) {
+        return Err(NetworkFault::Doubt(Doubt::UnknownStation { node, place }));
+    }
+    match first_uncovered(closed) {
+        Some((node, place)) => Err(NetworkFault::Doubt(Doubt::Uncovered { node, place })),
         None => Ok(()),
     }
 }
@@ -105,6 +111,7 @@ fn certify<const C: usize>(
 {
     check_premises(alloc, closed)?;
     once_in_network();
+    once_to_station();
     late_decides();
     lives_stay();
     let _ = closed.topology();
@@ -119,9 +126,10 @@ fn certify<const C: usize>(
 ///
 /// There is one exactly where nodes are DANHs and RedBoxes in modes H and U, QuadBoxes and Stations, with addresses that are
 /// theirs alone, each link joins two ports on rings or two edges, nothing was forgotten that was needed, nothing mistaken, and
-/// nothing numbered late, and each send is covered and reaches each node that it is due at; else the first doubt is named. All
-/// is covered but a single frame to a Station and a supervision frame of a Station that is joined with a Station. Each run that
-/// `audit` of hsr_audit certifies is certified. `NoMemory` where room is refused.
+/// nothing numbered late; each send comes to each node that it is due at; the RedBox of each Station that a frame to one address is
+/// due at knew that address each time that it handled the frame; and no send is a supervision frame of a Station that is joined
+/// with a Station. Else the first doubt is named. Each run that `audit` of hsr_audit certifies is certified. `NoMemory` where room
+/// is refused.
 pub fn audit_network<const C: usize>(
     alloc: Global,
     closed: &Closed<C>,

@@ -1,29 +1,42 @@
-//! The first send that doesn't reach a node that it is due at.
-ghost use Rattle.std.specs.Prelude.{◌≡◌, ◌<◌, [], length, IfOk, OnOk};
+//! The first send that doesn't come to a node that it is due at.
+ghost use Rattle.std.specs.Prelude.{◌≡◌, ◌↔◌, ◌<◌, [], length, IfOk, IsTrue, OnOk};
 ghost use Rattle.hsr_deliveries.specs.Delivered.{lost};
-ghost use Rattle.hsr_law.specs.Run.{record_of};
-ghost use Rattle.hsr_network_audit.specs.Reaching.{AreReached, IsCutAt, IsCutIn, IsFirstCut, IsFirstUnreached};
+ghost use Rattle.hsr_law.specs.Premises.{is_redbox};
+ghost use Rattle.hsr_law.specs.Run.{place_of, record_of};
+ghost use Rattle.hsr_network_audit.specs.Coming.{Comes};
+ghost use Rattle.hsr_network_audit.specs.Reaching.{AreReached, IsCutAt, IsCutIn, IsFirstCut, IsFirstUnserved, IsSpreadOf, is_last_in};
 ghost use Rattle.hsr_network_audit.specs.Shared.{AreFound};
+ghost use Rattle.hsr_network_law.specs.Network.{start_of};
+ghost use Rattle.hsr_ways.specs.Numbered.{IsLossOf};
 
+use crate::covered::{is_redbox, is_to_station};
 use crate::lossy::ways_of;
 use crate::shared::{Found, found_of, keep};
 use hsr_closing::Closed;
 use hsr_deliveries::{ByProbe, Loss, is_due, losses_by_send, losses_of};
 use hsr_frame::NoMemory;
-use hsr_node::{Probe, sent_view};
+use hsr_link::Dir;
+use hsr_node::{Place, Probe, sent_view};
 use hsr_numbers::Numbers;
 use hsr_tag::FrameView;
-use hsr_ways::Ways;
+use hsr_ways::{Way, Ways};
 use indexmap::IndexMap;
 use std::alloc::Global;
 use std::marker::Model;
 
-/// A send, by its node and place, and the lowest node that it is due at and doesn't reach.
+/// A send, by its node and place, and the lowest node that it is due at and doesn't come to.
 #[derive(Clone, Copy)]
 pub(crate) struct Cut {
     pub(crate) node: usize,
     pub(crate) place: usize,
     pub(crate) receiver: usize,
+}
+
+/// The nodes that a send reaches, and the ways on which copies of it were lost, by their numbers.
+#[derive(Clone, Copy)]
+struct Spread {
+    nodes: Numbers,
+    lossy: Numbers,
 }
 
 /// A finished run, the ways that start at each of its nodes, and the losses of each of its sends.
@@ -60,14 +73,30 @@ impl<'a, const C: usize> Reach<'a, C> {
         })
     }
 
-    /// The nodes that a send reaches where these are all its losses.
-    fn search(&self, send: Probe, frame: &FrameView<'_>, losses: &[Loss]) -> Numbers
-        requires node { send.node < length self.now.places }
-        requires losses { losses.now ≡ lost self.now send }
-        ensures { AreReached self.now send frame.now result }
+    /// The kind of a node.
+    fn place(&self, node: usize) -> &Place
+        requires { node < length self.now.places }
+        ensures { result.now ≡ place_of self.now node }
+    {
+        &self.closed.topology().places()[node]
+    }
+
+    /// The ways on which copies of a send were lost, where these are all its losses.
+    fn lossy(&self, send: Probe, losses: &[Loss]) -> Numbers
+        requires { losses.now ≡ lost self.now send }
+        ensures { IsLossOf self.now send result }
     {
         let _ = self.closed.topology();
-        self.ways.reached(send, frame, &ways_of(losses))
+        ways_of(losses)
+    }
+
+    /// The nodes that a send reaches, where it lost copies on these ways.
+    fn search(&self, send: Probe, frame: &FrameView<'_>, lossy: &Numbers) -> Numbers
+        requires node { send.node < length self.now.places }
+        requires lossy { IsLossOf self.now send lossy.now }
+        ensures { AreReached self.now send frame.now result }
+    {
+        self.ways.reached(send, frame, lossy)
     }
 
     /// The nodes that a send reaches that lost nothing: those of an earlier one to its destination, of its type, if there was one.
@@ -76,9 +105,11 @@ impl<'a, const C: usize> Reach<'a, C> {
         found: &mut Found,
         send: Probe,
         frame: &FrameView<'_>,
+        lossy: &Numbers,
     ) -> Result<Numbers, NoMemory>
         requires node { send.node < length self.now.places }
         requires whole { lost self.now send ≡ [] }
+        requires lossy { IsLossOf self.now send lossy.now }
         requires found { AreFound self.now send.node found.old }
         ensures reached { IfOk result (λ nodes. AreReached self.now send frame.now nodes) }
         ensures found { OnOk result (AreFound self.now send.node found.new) }
@@ -86,50 +117,107 @@ impl<'a, const C: usize> Reach<'a, C> {
         if let Some(nodes) = found_of(found, frame) {
             return Ok(nodes);
         }
-        let nodes = self.search(send, frame, &[]);
+        let nodes = self.search(send, frame, lossy);
         keep(found, frame, nodes)?;
         Ok(nodes)
     }
 
-    /// The nodes that a send reaches, where these were found of earlier sends of its node.
-    fn reached(
+    /// The nodes that a send reaches, and the ways on which copies of it were lost, where these nodes were found of earlier sends of
+    /// its node.
+    fn spread(
         &self,
         alloc: Global,
         found: &mut Found,
         send: Probe,
         frame: &FrameView<'_>,
-    ) -> Result<Numbers, NoMemory>
+    ) -> Result<Spread, NoMemory>
         requires node { send.node < length self.now.places }
         requires found { AreFound self.now send.node found.old }
-        ensures reached { IfOk result (λ nodes. AreReached self.now send frame.now nodes) }
+        ensures spread { IfOk result (IsSpreadOf self.now send frame.now) }
         ensures found { OnOk result (AreFound self.now send.node found.new) }
     {
         let losses = losses_of(alloc, &self.losses, send)?;
-        if losses.is_empty() {
-            self.shared(found, send, frame)
+        let lossy = self.lossy(send, losses.as_slice());
+        let nodes = if losses.is_empty() {
+            self.shared(found, send, frame, &lossy)?
         } else {
-            Ok(self.search(send, frame, losses.as_slice()))
+            self.search(send, frame, &lossy)
+        };
+        Ok(Spread { nodes, lossy })
+    }
+
+    /// The node where a way starts.
+    fn start(&self, way: Way) -> usize
+        requires { way.link < length self.now.links }
+        ensures { result ≡ (start_of self.now way).node }
+    {
+        let [a, b] = self.closed.topology().links()[way.link];
+        match way.dir {
+            Dir::Forth => a.node,
+            Dir::Back => b.node,
         }
     }
 
-    /// The lowest node that a send to this destination, of this type, is due at and that isn't among those reached.
-    fn first_unreached(
-        &self,
-        sender: usize,
-        frame: &FrameView<'_>,
-        reached: &Numbers,
-    ) -> Option<usize>
-        ensures { IsFirstUnreached self.now sender frame.now reached.now result }
+    /// Whether a node is a RedBox.
+    fn is_redbox(&self, node: usize) -> bool
+        ensures { result ≡ is_redbox (place_of self.now node) }
+    {
+        match self.closed.topology().places().get(node) {
+            Some(place) => is_redbox(place),
+            None => false,
+        }
+    }
+
+    /// Whether a way ends at a node and lost no copy of a send, and starts at its sender or at a RedBox that it reaches.
+    fn is_last(&self, sender: usize, spread: &Spread, node: usize, way: Way) -> bool
+        requires { way.link < length self.now.links }
+        ensures { result ≡ is_last_in self.now sender spread.now node way }
+    {
+        let _ = self.closed.topology();
+        let start = self.start(way);
+        self.ways.stop(way).node == node
+            && !spread.lossy.has(way.number())
+            && (start == sender || self.is_redbox(start) && spread.nodes.has(start))
+    }
+
+    /// Whether a send comes to a node: whether it reaches it; but a frame to one address comes to a Station by the node that the
+    /// Station is joined with.
+    fn comes(&self, send: Probe, frame: &FrameView<'_>, spread: &Spread, node: usize) -> bool
+        requires node { node < length self.now.places }
+        requires spread { IsSpreadOf self.now send frame.now spread.now }
+        ensures { IsTrue result ↔ Comes self.now send frame.now node }
+    {
+        let topology = self.closed.topology();
+        if !is_to_station(frame, self.place(node)) {
+            return spread.nodes.has(node);
+        }
+        for link in 0..topology.links().len() {
+            let (forth, back) = (Dir::Forth, Dir::Back);
+            if self.is_last(send.node, spread, node, Way { link, dir: forth })
+                || self.is_last(send.node, spread, node, Way { link, dir: back })
+            {
+                return true;
+            }
+        }
+        false
+    }
+
+    /// The lowest node that a send is due at and doesn't come to.
+    fn first_unserved(&self, send: Probe, frame: &FrameView<'_>, spread: &Spread) -> Option<usize>
+        requires { IsSpreadOf self.now send frame.now spread.now }
+        ensures { IsFirstUnserved self.now send frame.now result }
     {
         for (node, place) in self.closed.topology().places().iter().enumerate() {
-            if is_due(place, sender, node, frame.dst, frame.kind) && !reached.has(node) {
+            if is_due(place, send.node, node, frame.dst, frame.kind)
+                && !self.comes(send, frame, spread, node)
+            {
                 return Some(node);
             }
         }
         None
     }
 
-    /// The lowest node that the entry at a place of a node's record, if it is a send, is due at and doesn't reach.
+    /// The lowest node that the entry at a place of a node's record, if it is a send, is due at and doesn't come to.
     fn cut_at(
         &self,
         alloc: Global,
@@ -148,11 +236,12 @@ impl<'a, const C: usize> Reach<'a, C> {
         else {
             return Ok(None);
         };
-        let reached = self.reached(alloc, found, Probe { node, place }, &sending.frame)?;
-        Ok(self.first_unreached(node, &sending.frame, &reached))
+        let send = Probe { node, place };
+        let spread = self.spread(alloc, found, send, &sending.frame)?;
+        Ok(self.first_unserved(send, &sending.frame, &spread))
     }
 
-    /// The first send of a node that doesn't reach a node that it is due at, by its place, and that node.
+    /// The first send of a node that doesn't come to a node that it is due at, by its place, and that node.
     #[tactic(auto, using(crate::proofs::Reached::cut_fails))]
     fn cut_in(&self, alloc: Global, node: usize) -> Result<Option<(usize, usize)>, NoMemory>
         requires { node < length self.now.places }
@@ -167,7 +256,7 @@ impl<'a, const C: usize> Reach<'a, C> {
         Ok(None)
     }
 
-    /// The first send that doesn't reach a node that it is due at.
+    /// The first send that doesn't come to a node that it is due at.
     pub(crate) fn first_cut(&self, alloc: Global) -> Result<Option<Cut>, NoMemory>
         ensures { IfOk result (IsFirstCut self.now) }
     {

@@ -27,16 +27,21 @@ pub enum Doubt {
         node: usize,
         place: usize,
     },
-    /// A send isn't covered: a single frame to a Station, or a supervision frame of a Station that is joined with a Station.
-    Uncovered {
-        node: usize,
-        place: usize,
-    },
     /// A send is due at a node to which no way lost no copy of it; the lowest such node.
     CutOff {
         node: usize,
         place: usize,
         receiver: usize,
+    },
+    /// A send to one address is due at a Station whose RedBox didn't know that address each time that it handled the send.
+    UnknownStation {
+        node: usize,
+        place: usize,
+    },
+    /// A send isn't covered: a supervision frame of a Station that is joined with a Station.
+    Uncovered {
+        node: usize,
+        place: usize,
     },
 }
 

@@ -3,11 +3,12 @@
 //!
 //! Its modules, in the order in which to read them:
 //! - `doubt`: why a run isn't certified
-//! - `covered`: which sends the law of networks covers, and so a certificate
+//! - `covered`: which sends the law of networks covers, and which are to Stations
 //! - `lossy`: the ways on which a send lost copies
-//! - `sends`: the first send that isn't covered
 //! - `shared`: what was found of sends that lost nothing, for those that are like them
-//! - `cutoff`: the first send that doesn't reach a node
+//! - `cutoff`: the first send that doesn't come to a node
+//! - `missed`: the lowest send to a Station that its RedBox didn't know each time
+//! - `sends`: the first send that isn't covered
 //! - `auditing`: the audit, its call
 #![tactic(auto)]
 
@@ -16,6 +17,7 @@ mod covered;
 mod cutoff;
 mod doubt;
 mod lossy;
+mod missed;
 mod sends;
 mod shared;
 

@@ -1,3 +1,4 @@
 mod Listing
+mod OnWay
 mod Standing
 mod Told

@@ -1,6 +1,5 @@
 -- What is told and done, one order after another.
-use Rattle.std.proofs.Common.{◌≡◌, ℕ, ◌+◌, ◌<◌, inl, inr, ◌∷◌, [], length, get_or, drop, List, refl, sym, subst, true}
-use Rattle.std.proofs.lemmas.List.{drop_more}
+use Rattle.std.proofs.Common.{◌≡◌, ℕ, inl, inr, ◌∷◌, [], List, refl, sym, subst, slice_get, true}
 use Rattle.hsr_topology.specs.declared.end.End.{End}
 use Rattle.hsr_scenario.specs.declared.steps.Order.{Order}
 use Rattle.hsr_scenario.specs.declared.steps.Order.TheVariants.{Step, Drain}
@@ -10,10 +9,12 @@ use Rattle.hsr_playing.specs.Playing.{Plays}
 use Rattle.hsr_plan_meaning.specs.Meaning.{Meaning}
 use Rattle.hsr_world.specs.Lawful.{IsEnded, finished_of}
 use Rattle.hsr_world.specs.World.{World}
+use Rattle.hsr_plan_hops.specs.Flights.{AreOnTime, on_way, flights_behind, is_on_time}
 use Rattle.hsr_plan_hops.specs.Hops.{are_in_time}
 use Rattle.hsr_plan_hops.specs.Moving.{IsRunByHops, world_of}
 use Rattle.hsr_plan_hops.specs.Telling.{IsDone, IsUnknown, LeavesOut, Tells}
-use Rattle.hsr_plan_hops.specs.Turns.{due_behind}
+use Rattle.hsr_plan_hops.specs.Turns.{due_behind, moment_behind}
+use Rattle.hsr_plan_hops.specs.declared.flights.Flight.{Flight}
 use Rattle.hsr_plan_hops.specs.declared.turns.Due.{Due}
 use Rattle.hsr_plan_hops.specs.declared.turns.Due.TheVariants.{Nothing}
 
@@ -54,6 +55,23 @@ pub tells_all : (capacity : ℕ) (links : List (List End)) (left : List Order) (
 tells_all capacity links left due w rest told old orders is out h =
     h.on w (subst (λ os. Tells capacity links left due w os w) (sym is) (out, refl))
 
+-- if the orders that are left are on time, all are
+pub record OnTimeOn (capacity us : ℕ) (links : List (List End)) (now : ℕ) (flights : List Flight) (w : World) (rest : List Order) (first : List Flight) (old : World) (orders : List Order) : Type 0 where
+  pub on : AreOnTime capacity us links now flights w rest → AreOnTime capacity us links 0 first old orders
+
+pub on_time_more : (capacity us : ℕ) (links : List (List End)) (now : ℕ) (flights behind : List Flight) (told more : List Order) (due : Due) (w between : World) (rest left : List Order) (first : List Flight) (old : World) (orders : List Order) (step : steps.Step)
+    → rest ≡ Step step ∷ left → IsDone capacity told due w step more between → is_on_time us now (slice_get (on_way w flights) 0) step ≡ true → behind ≡ flights_behind links now w step flights
+    → OnTimeOn capacity us links now flights w rest first old orders → OnTimeOn capacity us links (moment_behind now step) behind between left first old orders
+on_time_more capacity us links now flights behind told more due w between rest left first old orders step is done on_time are h =
+    record {
+      on = λ r. h.on (subst (λ os. AreOnTime capacity us links now flights w os) (sym is)
+          (between, done.done, on_time, subst (λ fs. AreOnTime capacity us links (moment_behind now step) fs between left) are r));
+    }
+
+pub on_time_all : (capacity us : ℕ) (links : List (List End)) (now : ℕ) (flights : List Flight) (w : World) (rest : List Order) (first : List Flight) (old : World) (orders : List Order)
+    → rest ≡ [] → OnTimeOn capacity us links now flights w rest first old orders → AreOnTime capacity us links 0 first old orders
+on_time_all capacity us links now flights w rest first old orders is h = h.on (subst (λ os. AreOnTime capacity us links now flights w os) (sym is) tt)
+
 -- ---- the run
 
 -- orders that do what is told are played
@@ -65,9 +83,9 @@ plays capacity links told due w (Step step ∷ orders) after (more, between, don
     (between, done.done, plays capacity links more (due_behind links step) between orders after rest)
 
 pub by_hops : (capacity us : ℕ) (told : Meaning) (orders : List Order) (w : World) (run : Finished)
-    → Tells capacity told.topology.links told.orders Nothing (world_of told) orders w → IsEnded w → run ≡ finished_of capacity w → are_in_time us run.run ≡ true
-    → IsRunByHops capacity us told orders
-by_hops capacity us told orders w run tells ended is in_time = record {
+    → Tells capacity told.topology.links told.orders Nothing (world_of told) orders w → AreOnTime capacity us told.topology.links 0 [] (world_of told) orders → IsEnded w → run ≡ finished_of capacity w
+    → are_in_time us run.run ≡ true → IsRunByHops capacity us told orders
+by_hops capacity us told orders w run tells on_time ended is in_time = record {
   run = run;
   finished = record {
     world = w;
@@ -76,5 +94,6 @@ by_hops capacity us told orders w run tells ended is in_time = record {
     is = is;
   };
   tells = tells;
+  on_time = on_time;
   in_time = in_time;
 }

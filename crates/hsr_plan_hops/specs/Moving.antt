@@ -1,5 +1,5 @@
 -- What a plan means, with the moves of its copies.
-use Rattle.std.specs.Prelude.{ℕ, ◌≡◌, true, false, List}
+use Rattle.std.specs.Prelude.{ℕ, ◌≡◌, true, false, List, []}
 use Rattle.hsr_closing.specs.Finished.{Finished}
 use Rattle.hsr_playing.specs.Finishing.{IsFinishedBy}
 use Rattle.hsr_scenario.specs.declared.steps.Order.{Order}
@@ -8,6 +8,7 @@ use Rattle.hsr_plan_text.specs.declared.plan.Moves.{Moves}
 use Rattle.hsr_plan_text.specs.declared.plan.Moves.TheVariants.{EachSendDrains, EachMomentDrains, Hop}
 use Rattle.hsr_plan_meaning.specs.Meaning.{Meaning, Means}
 use Rattle.hsr_world.specs.World.{World, new_world}
+use Rattle.hsr_plan_hops.specs.Flights.{AreOnTime}
 use Rattle.hsr_plan_hops.specs.Hops.{are_in_time}
 use Rattle.hsr_plan_hops.specs.Telling.{Tells}
 use Rattle.hsr_plan_hops.specs.Turns.{are_in_turn}
@@ -18,11 +19,14 @@ abbrev pub world_of : Meaning → World
 world_of told = new_world told.capacity told.topology.places told.topology.links
 
 -- Orders lead to a finished run with tables of so many entries: none is refused, and at the end nothing is on its way. They do what is
--- told, and put at once what a node passed. Each copy that isn't lost is judged just so many microseconds after it was passed.
+-- told, and put at once what a node passed. Each copy that isn't lost as it is put is taken just so many microseconds later, in the order in
+-- which they were put and before anything that is told is done then, unless its link was cut before. Each copy that isn't lost is judged just
+-- so many microseconds after it was passed.
 pub record IsRunByHops (capacity us : ℕ) (told : Meaning) (orders : List Order) : Type 0 where
   pub run : Finished
   pub finished : IsFinishedBy capacity told.topology told.capacity orders run
   pub tells : Tells capacity told.topology.links told.orders Nothing (world_of told) orders finished.world
+  pub on_time : AreOnTime capacity us told.topology.links 0 [] (world_of told) orders
   pub in_time : are_in_time us run.run ≡ true
 
 -- and each copy is judged as soon as it is taken, and taken before what is told is done at that moment

@@ -1,7 +1,8 @@
 //! What a plan means once its copies move.
-ghost use Rattle.std.specs.Prelude.{◌≡◌, ◌≤◌, IfOk, OnOk};
+ghost use Rattle.std.specs.Prelude.{◌≡◌, ◌≤◌, [], IfOk, OnOk};
 ghost use Rattle.hsr_world.specs.Lawful.{IsEnded, finished_of};
 ghost use Rattle.hsr_plan_text.specs.declared.plan.Moves.TheVariants.{Hop};
+ghost use Rattle.hsr_plan_hops.specs.Flights.{AreOnTime};
 ghost use Rattle.hsr_plan_hops.specs.Telling.{Tells};
 ghost use Rattle.hsr_plan_hops.specs.declared.turns.Due.TheVariants.{Nothing};
 ghost use Rattle.hsr_plan_hops.specs.Moving.{IsRunByHops, MeansMoved, Moved, MovesByHops, world_of};
@@ -17,6 +18,7 @@ use hsr_plan_text::{Moves, Plan, PlanFault};
 use hsr_ring::World;
 use hsr_scenario::Order;
 use std::alloc::{AllocError, AllocFailed, Global};
+use std::collections::VecDeque;
 
 /// How many copies may wait in each direction of a link.
 const CAPACITY_LIMIT: usize = 4096;
@@ -77,18 +79,27 @@ pub(crate) fn world_of<const C: usize>(alloc: Global, told: &Meaning) -> Result<
     Ok(World::<C>::new(alloc, topology, told.capacity)?)
 }
 
-/// The world that orders lead to which do what is told.
+/// The world that orders lead to which do what is told, and take each copy on time.
 fn told_world<const C: usize>(
     alloc: Global,
     told: &Meaning,
+    us: u64,
     orders: &[Order],
 ) -> Result<World<C>, Unmoved>
     requires { (1 ≤ C) × (C ≤ 65535) }
-    ensures { IfOk result (λ world. Tells C told.now.topology.links told.now.orders Nothing (world_of told.now) orders.now world) }
+    ensures tells { IfOk result (λ world. Tells C told.now.topology.links told.now.orders Nothing (world_of told.now) orders.now world) }
+    ensures on_time { OnOk result (AreOnTime C us told.now.topology.links 0 [] (world_of told.now) orders.now) }
 {
     let mut world = world_of::<C>(alloc, told)?;
-    let links = told.topology.links();
-    tell(&mut world, links, told.orders.as_slice(), orders)?;
+    let mut flights = VecDeque::new(alloc);
+    tell(
+        &mut world,
+        &told.topology,
+        us,
+        told.orders.as_slice(),
+        orders,
+        &mut flights,
+    )?;
     Ok(world)
 }
 
@@ -103,7 +114,7 @@ fn closed<const C: usize>(world: World<C>) -> Result<Closed<C>, Unmoved>
     }
 }
 
-/// Plays orders, and refuses those that don't do what is told, or whose copies aren't in time.
+/// Plays orders, and refuses those that don't do what is told, or whose copies aren't taken or judged in time.
 #[tactic(auto, using(crate::proofs::Told::by_hops))]
 fn check_run<const C: usize>(
     alloc: Global,
@@ -114,7 +125,7 @@ fn check_run<const C: usize>(
     requires { (1 ≤ C) × (C ≤ 65535) }
     ensures { OnOk result (IsRunByHops C us told.now orders.now) }
 {
-    let world = told_world::<C>(alloc, told, orders)?;
+    let world = told_world::<C>(alloc, told, us, orders)?;
     let run = closed(world)?;
     if are_in_time(alloc, &run, us)? {
         Ok(())

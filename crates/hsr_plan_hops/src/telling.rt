@@ -1,18 +1,21 @@
 //! Whether orders do what is told.
 ghost use Rattle.std.specs.Prelude.{◌≡◌, [], ◌∷◌, Ok, Err, IfOk, IfSome, IsTrue, OnOk};
 ghost use Rattle.hsr_scenario.specs.declared.steps.Order.TheVariants as orders;
+ghost use Rattle.hsr_plan_hops.specs.Flights.{AreOnTime};
 ghost use Rattle.hsr_plan_hops.specs.Telling.{Does, HasPut, IsDone, IsMoment, IsUnknown, LeavesOut, PutsFirst, Tells};
 ghost use Rattle.hsr_plan_hops.specs.declared.turns.Due.TheVariants.{Nothing};
 ghost use Rattle.hsr_world.specs.World.{tried};
 
+use crate::flights::{Flight, depart};
 use crate::moving::Unmoved;
-use crate::turns::{Due, due_behind, is_put};
+use crate::turns::{Due, due_behind, is_put, moment_behind};
 use hsr_frame::About;
 use hsr_node::StepFault;
 use hsr_ring::World;
 use hsr_scenario::Order;
 use hsr_step::{Step, WorldFault};
-use hsr_topology::End;
+use hsr_topology::Topology;
+use std::collections::VecDeque;
 
 /// As many ports as a node may have.
 pub(crate) const PORT_LIMIT: u8 = 4;
@@ -243,24 +246,31 @@ fn check_left_out<const C: usize>(world: &mut World<C>, told: &[Order]) -> Resul
     }
 }
 
-/// Does orders, and refuses those that don't do what is told.
-#[tactic(auto, using(crate::proofs::Told::tells_more, crate::proofs::Told::tells_all))]
+/// Does orders, where these copies are on their way, and refuses orders that don't do what is told, or don't take a copy on time.
+#[tactic(auto, using(crate::proofs::Told::tells_all, crate::proofs::Told::on_time_all))]
 pub(crate) fn tell<const C: usize>(
     world: &mut World<C>,
-    links: &[[End; 2]],
+    topology: &Topology,
+    us: u64,
     told: &[Order],
     orders: &[Order],
+    flights: &mut VecDeque<Flight>,
 ) -> Result<(), Unmoved>
-    ensures { OnOk result (Tells C links.now told.now Nothing world.old orders.now world.new) }
+    ensures tells { OnOk result (Tells C topology.now.links told.now Nothing world.old orders.now world.new) }
+    ensures on_time { OnOk result (AreOnTime C us topology.now.links 0 flights.old.items world.old orders.now) }
 {
+    let links = topology.links();
     let mut left = told;
     let mut due = Due::Nothing;
+    let mut now = 0;
     for order in orders.iter() {
         let Order::Step(step) = order else {
             return Err(Unmoved::Differs);
         };
+        depart(world, topology, us, now, step, flights)?;
         left = take_turn(world, left, due, step)?;
         due = due_behind(links, step);
+        now = moment_behind(now, step);
     }
     check_left_out(world, left)
 }

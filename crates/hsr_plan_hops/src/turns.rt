@@ -108,7 +108,7 @@ fn is_first(now: u64, begun: bool, step: &Step) -> bool
 }
 
 /// The moment behind a step.
-fn moment_behind(now: u64, step: &Step) -> u64
+pub(crate) fn moment_behind(now: u64, step: &Step) -> u64
     ensures { result ≡ moment_behind now step.now }
 {
     match step {

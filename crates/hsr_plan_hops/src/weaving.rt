@@ -1,74 +1,32 @@
 //! The run of what a plan tells, played while its orders are written, with its copies on their way.
 ghost use Rattle.std.specs.Prelude.{◌≤◌};
 
+use crate::flights::{Flight, forget_landed, leaving, next};
 use crate::moving::{Unmoved, world_of};
 use crate::telling::PORT_LIMIT;
 use crate::turns::receiver;
 use hsr_frame::About;
-use hsr_link::{Dir, Fate};
 use hsr_plan_meaning::Meaning;
 use hsr_ring::World;
 use hsr_scenario::Order;
 use hsr_step::{Step, WorldFault};
-use hsr_topology::End;
+use hsr_topology::{End, Topology};
 use std::alloc::Global;
+use std::collections::VecDeque;
 
 /// The most orders.
 const ORDER_LIMIT: usize = 1 << 20;
 
-/// A copy that was put: when it comes to the end of its link, in microseconds, its link and direction, and its row there.
-#[derive(Clone, Copy, Debug, PartialEq, Eq)]
-struct Flight {
-    at: u64,
-    link: usize,
-    dir: Dir,
-    row: usize,
-}
-
-/// What is played so far: the world, its links, how long a copy is on its way, the moment, the copies in the order in which they were
-/// put, how many of these have come to their ends or were lost, and the orders.
+/// What is played so far: the world, its topology, how long a copy is on its way, the moment, the copies that are on their way, in the
+/// order in which they were put, and the orders.
 #[derive(Drop)]
 struct Weaving<'a, const C: usize> {
     world: World<C>,
-    links: &'a [[End; 2]],
+    topology: &'a Topology,
     hop: u64,
     now: u64,
-    flights: Vec<Flight>,
-    landed: usize,
+    flights: VecDeque<Flight>,
     orders: Vec<Order>,
-}
-
-/// The link that a port puts copies on, and the direction in which they go there.
-fn way_from(links: &[[End; 2]], end: End) -> Option<(usize, Dir)> {
-    for (number, link) in links.iter().enumerate() {
-        let [one, other] = *link;
-        if one == end {
-            return Some((number, Dir::Forth));
-        }
-        if other == end {
-            return Some((number, Dir::Back));
-        }
-    }
-    None
-}
-
-/// The row of the copy that was put last on a link.
-fn last_row<const C: usize>(world: &World<C>, link: usize) -> Option<usize> {
-    if link >= world.link_count() {
-        return None;
-    }
-    world.rows(link).len().checked_sub(1)
-}
-
-/// Whether the copy of a row still waits on its link.
-fn waits<const C: usize>(world: &World<C>, link: usize, row: usize) -> bool {
-    if link >= world.link_count() {
-        return false;
-    }
-    match world.rows(link).get(row) {
-        Some(row) => matches!(row.fate, Fate::Queued),
-        None => false,
-    }
 }
 
 impl<'a, const C: usize> Weaving<'a, C> {
@@ -105,45 +63,48 @@ impl<'a, const C: usize> Weaving<'a, C> {
         Ok(())
     }
 
-    /// Sends the copy that a port has just put on its way.
-    fn launch(&mut self, end: End) -> Result<(), Unmoved> {
-        let Some((link, dir)) = way_from(self.links, end) else {
-            return Err(Unmoved::Differs);
-        };
-        let Some(row) = last_row(&self.world, link) else {
-            return Err(Unmoved::Differs);
-        };
-        let at = self.now.saturating_add(self.hop);
-        self.flights.push(Flight { at, link, dir, row })?;
+    /// Puts what a port has to put, if it has something.
+    fn put(&mut self, node: usize, port: u8) -> Result<(), Unmoved> {
+        let copy = leaving(&self.world, self.topology, self.now, End { node, port });
+        if self.tries(Step::Put { node, port })? {
+            let Some(copy) = copy else {
+                return Err(Unmoved::Differs);
+            };
+            self.flights.push_back(copy)?;
+        }
         Ok(())
     }
 
     /// Puts what a node has just passed.
     fn put_all(&mut self, node: usize) -> Result<(), Unmoved> {
         for port in 0..PORT_LIMIT {
-            if self.tries(Step::Put { node, port })? {
-                self.launch(End { node, port })?;
-            }
+            self.put(node, port)?;
         }
         Ok(())
     }
 
     /// Takes and judges a copy that has come to the end of its link, and puts what is passed of it.
-    fn land(&mut self, flight: Flight) -> Result<(), Unmoved> {
-        let Flight { at, link, dir, .. } = flight;
-        let Some(End { node, port }) = receiver(self.links, link, dir) else {
+    fn land(&mut self, copy: Flight) -> Result<(), Unmoved> {
+        let Flight { link, dir, .. } = copy;
+        let Some(End { node, port }) = receiver(self.topology.links(), link, dir) else {
             return Err(Unmoved::Differs);
         };
-        self.clock(at)?;
+        self.clock(self.end_of(copy))?;
         self.does(Step::Take { link, dir })?;
         self.does(Step::Judge { node, port })?;
         self.put_all(node)
     }
 
-    /// The next copy that comes to its end or was lost, up to a moment.
-    fn next_until(&self, at: u64) -> Option<Flight> {
-        match self.flights.get(self.landed) {
-            Some(flight) if flight.at <= at => Some(*flight),
+    /// When a copy comes to its end.
+    fn end_of(&self, copy: Flight) -> u64 {
+        copy.moment.saturating_add(self.hop)
+    }
+
+    /// The next copy that comes to its end, up to a moment.
+    fn next_until(&mut self, at: u64) -> Option<Flight> {
+        forget_landed(&self.world, &mut self.flights);
+        match next(&self.flights) {
+            Some(copy) if self.end_of(copy) <= at => Some(copy),
             _ => None,
         }
     }
@@ -151,13 +112,10 @@ impl<'a, const C: usize> Weaving<'a, C> {
     /// Brings all copies to their ends that come there up to a moment.
     fn land_until(&mut self, at: u64) -> Result<(), Unmoved> {
         for _ in 0..ORDER_LIMIT {
-            let Some(flight) = self.next_until(at) else {
+            let Some(copy) = self.next_until(at) else {
                 return Ok(());
             };
-            self.landed = self.landed.saturating_add(1);
-            if waits(&self.world, flight.link, flight.row) {
-                self.land(flight)?;
-            }
+            self.land(copy)?;
         }
         Err(Unmoved::Endless(ORDER_LIMIT))
     }
@@ -213,11 +171,10 @@ pub(crate) fn woven<const C: usize>(
 {
     let mut weaving = Weaving {
         world: world_of::<C>(alloc, told)?,
-        links: told.topology.links(),
+        topology: &told.topology,
         hop,
         now: 0,
-        flights: Vec::new(alloc),
-        landed: 0,
+        flights: VecDeque::new(alloc),
         orders: Vec::new(alloc),
     };
     weaving.obey_all(told.orders.as_slice())?;

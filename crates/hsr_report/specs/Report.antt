@@ -68,8 +68,9 @@ network_doubt_text (network.Side link) = codes "side " ++ decimal link
 network_doubt_text (network.Forgot k place) = at_text (codes "forgot ") k place
 network_doubt_text (network.Mistaken k place) = at_text (codes "mistaken ") k place
 network_doubt_text (network.NumberedLate k place) = at_text (codes "numbered-late ") k place
-network_doubt_text (network.Uncovered k place) = at_text (codes "uncovered ") k place
 network_doubt_text (network.CutOff k place receiver) = at_text (codes "cut-off ") k place ++ codes " " ++ decimal receiver
+network_doubt_text (network.UnknownStation k place) = at_text (codes "unknown-station ") k place
+network_doubt_text (network.Uncovered k place) = at_text (codes "uncovered ") k place
 
 abbrev pub finding_line : Finding → List ℕ
 finding_line (finding.Certified sends) = codes "certified " ++ decimal sends ++ codes "\n"

@@ -87,7 +87,6 @@ fn put_network_doubt(text: &mut Vec<u8>, doubt: NetworkDoubt) -> Result<(), Allo
         NetworkDoubt::Forgot { node, place } => put_at(text, b"forgot ", node, place),
         NetworkDoubt::Mistaken { node, place } => put_at(text, b"mistaken ", node, place),
         NetworkDoubt::NumberedLate { node, place } => put_at(text, b"numbered-late ", node, place),
-        NetworkDoubt::Uncovered { node, place } => put_at(text, b"uncovered ", node, place),
         NetworkDoubt::CutOff {
             node,
             place,
@@ -96,6 +95,10 @@ fn put_network_doubt(text: &mut Vec<u8>, doubt: NetworkDoubt) -> Result<(), Allo
             put_at(text, b"cut-off ", node, place)?;
             put_count(text, b" ", receiver as u64)
         }
+        NetworkDoubt::UnknownStation { node, place } => {
+            put_at(text, b"unknown-station ", node, place)
+        }
+        NetworkDoubt::Uncovered { node, place } => put_at(text, b"uncovered ", node, place),
     }
 }
 

@@ -15,7 +15,7 @@ use Rattle.hsr_node.specs.declared.place.Place.{Place}
 use Rattle.hsr_link.specs.declared.row.Row.{Row}
 use Rattle.hsr_topology.proofs.Ends.{end_is, end_same}
 use Rattle.hsr_closing.specs.Checked.{Agrees, IfDisagree, IsFirst, IsOpen}
-use Rattle.hsr_law.specs.Closed.{IsClosed}
+use Rattle.hsr_law.specs.Closed.{IsClosed, IsTableSize}
 use Rattle.hsr_closing.specs.Finished.{Finished, IsPlanned, planned_by}
 use Rattle.hsr_closing.specs.Finished as finished
 use Rattle.hsr_closing.specs.InOrder.{came}
@@ -101,7 +101,7 @@ none_came port entries h = sym (reverse-reverse (came port entries)) ∙ ap reve
 -- ---- a world that was reached
 
 module _ (capacity : ℕ) (topology : Topology) (moment : ℕ) (kept : List Record) (spans : List Span) (plan : List Planned)
-    (wired : IsWired topology.places topology.links) (numbered : AreNumbered kept) (r : IsReached capacity topology.places topology.links (world_of moment kept spans plan)) where
+    (tables : IsTableSize capacity) (wired : IsWired topology.places topology.links) (numbered : AreNumbered kept) (r : IsReached capacity topology.places topology.links (world_of moment kept spans plan)) where
   abbrev world : World
   world = world_of moment kept spans plan
 
@@ -160,7 +160,7 @@ module _ (capacity : ℕ) (topology : Topology) (moment : ℕ) (kept : List Reco
     agrees : IsEnded world → Agrees capacity topology kept rows passes plan
     agrees end = record {
       shaped = shaped;
-      closed = subst (λ (run : Run). IsClosed run) run_same (always_closes capacity topology.places topology.links world (own end) end.quiet);
+      closed = subst (λ (run : Run). IsClosed run) run_same (always_closes capacity topology.places topology.links world tables (own end) end.quiet);
       receipts = receipts;
     }
 
@@ -173,7 +173,7 @@ module _ (capacity : ℕ) (topology : Topology) (moment : ℕ) (kept : List Reco
 
     open_as : (d : Disagree) → IsFirst capacity topology kept rows passes plan d → IsOpen (finished.run_of capacity topology kept rows) d
     unfolding HasReceipts
-    open_as Shape first = absurd (first shaped)
+    open_as Shape first = absurd (first (tables, shaped))
     open_as (LinkPut link dir) first = first.1
     open_as (LinkTaken link dir) first = first.1
     open_as (Stranger link row) first = first.1
@@ -217,20 +217,20 @@ if_map (fault.Disagree d) P Q f h = f d h
 if_map fault.NoMemory P Q f h = h
 
 module _ (capacity : ℕ) (topology : Topology) (moment : ℕ) (kept : List Record) (spans : List Span) (plan : List Planned) (w : World) (is : world_of moment kept spans plan ≡ w)
-    (wired : IsWired topology.places topology.links) (numbered : AreNumbered kept) (r : IsReached capacity topology.places topology.links w) where
+    (tables : IsTableSize capacity) (wired : IsWired topology.places topology.links) (numbered : AreNumbered kept) (r : IsReached capacity topology.places topology.links w) where
   reached : IsReached capacity topology.places topology.links (world_of moment kept spans plan)
   reached = subst (IsReached capacity topology.places topology.links) (sym is) r
 
   pub closes : (closed : Finished) → IsToldClosed capacity topology kept plan spans closed → Closes capacity w closed
   closes closed c = subst (λ (v : World). Closes capacity v closed) is (record {
-    is = closed_is capacity topology moment kept spans plan wired numbered reached closed c;
-    ended = closed_ended capacity topology moment kept spans plan wired numbered reached closed c;
-    numbered = closed_numbered capacity topology moment kept spans plan wired numbered reached closed c;
-    calm = closed_calm capacity topology moment kept spans plan wired numbered reached closed c;
+    is = closed_is capacity topology moment kept spans plan tables wired numbered reached closed c;
+    ended = closed_ended capacity topology moment kept spans plan tables wired numbered reached closed c;
+    numbered = closed_numbered capacity topology moment kept spans plan tables wired numbered reached closed c;
+    calm = closed_calm capacity topology moment kept spans plan tables wired numbered reached closed c;
   })
 
   pub stays_open : (fault : CheckFault) → IfDisagree fault (IsToldOpen capacity topology kept plan spans) → StaysOpen capacity w fault
   stays_open fault o = subst (λ (v : World). StaysOpen capacity v fault) is (record {
-    refused = if_map fault (IsToldOpen capacity topology kept plan spans) (λ d. ¬ IsEnded (world_of moment kept spans plan)) (open_refused capacity topology moment kept spans plan wired numbered reached) o;
-    first = if_map fault (IsToldOpen capacity topology kept plan spans) (λ d. IsOpen (finished_of capacity (world_of moment kept spans plan)).run d) (open_first capacity topology moment kept spans plan wired numbered reached) o;
+    refused = if_map fault (IsToldOpen capacity topology kept plan spans) (λ d. ¬ IsEnded (world_of moment kept spans plan)) (open_refused capacity topology moment kept spans plan tables wired numbered reached) o;
+    first = if_map fault (IsToldOpen capacity topology kept plan spans) (λ d. IsOpen (finished_of capacity (world_of moment kept spans plan)).run d) (open_first capacity topology moment kept spans plan tables wired numbered reached) o;
   })

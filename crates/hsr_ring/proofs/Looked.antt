@@ -32,6 +32,7 @@ use Rattle.hsr_step.specs.declared.step.Step.{Step}
 use Rattle.hsr_step.specs.declared.step.Step.TheVariants.{Clock, Send, Supervise, Age, Put, Take, Judge, Cut, Mend, Inject}
 use Rattle.hsr_step.specs.declared.step.WorldFault.{WorldFault}
 use Rattle.hsr_step.specs.declared.step.WorldFault.TheVariants.{NoSuchLink, NoSuchNode, NoSuchPort, TooLong}
+use Rattle.hsr_law.specs.Closed.{IsTableSize}
 use Rattle.hsr_law.specs.Run.{no_end}
 use Rattle.hsr_world.specs.Reached.{IsReached}
 use Rattle.hsr_world.proofs.Reached.{reached-step}
@@ -375,6 +376,7 @@ looked_at capacity w after list step old new done told p look = record {
 pub kept_done : (capacity : ℕ) (places : List Place) (links : List (List End)) (list : List Port) (touching : List (List ℕ)) (w after : World) (step : Step) (old new : Pending) → tried capacity w step ≡ Ok after →
     FitsStep step → AreLooked list after.spans step old new → IsKept capacity places links list touching old w → IsKept capacity places links list touching new after
 kept_done capacity places links list touching w after step old new done fit look k = record {
+  tables = k.tables;
   reached = reached-step capacity places links w after step done fit k.reached;
   few = subst (λ (n : ℕ). n ≤ 128) (sym long) k.few;
   told = told_same after w list same k.told;
@@ -441,10 +443,11 @@ first_pending room links list left p = record {
     nothing Forth = refl
     nothing Back = refl
 
-pub kept_new : (capacity room : ℕ) (places : List Place) (links : List (List End)) (list : List Port) (touching : List (List ℕ)) (left : Pending) → IsReached capacity places links (new_world room places links) →
+pub kept_new : (capacity room : ℕ) (places : List Place) (links : List (List End)) (list : List Port) (touching : List (List ℕ)) (left : Pending) → IsTableSize capacity → IsReached capacity places links (new_world room places links) →
     length places ≤ 64 → length links ≤ 128 → list ≡ ports_in places (map (new_span room) links) →
     AreTouching places (map (new_span room) links) touching → ArePending [] [] left → IsKept capacity places links list touching left (new_world room places links)
-kept_new capacity room places links list touching left reached few_places few_links told by p = record {
+kept_new capacity room places links list touching left tables reached few_places few_links told by p = record {
+  tables = tables;
   reached = reached;
   few = let long = length-map links (new_span room) in omega (arith, long, few_links);
   told = record { few = few_places; is = told };

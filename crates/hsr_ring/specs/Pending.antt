@@ -5,6 +5,7 @@ use Rattle.hsr_topology.specs.Links.{is_same_end}
 use Rattle.hsr_topology.specs.declared.end.End.{End}
 use Rattle.hsr_link.specs.declared.row.Dir.{Dir}
 use Rattle.hsr_node.specs.declared.place.Place.{Place}
+use Rattle.hsr_law.specs.Closed.{IsTableSize}
 use Rattle.hsr_world.specs.Spans.{Span, Spot, lane_of}
 use Rattle.hsr_world.specs.Reached.{IsReached}
 use Rattle.hsr_world.specs.World.{World, span_in}
@@ -122,8 +123,9 @@ pub record IsNext (pending : Pending) (step : Option Step) : Type 0 where
   pub lowest : IsLowest 512 pending.held held
   pub is : IsJudgeOr pending held step
 
--- a world that was reached, with its ports and what is left to do
+-- a world that was reached, with tables of a size that is allowed, its ports and what is left to do
 pub record IsKept (capacity : ℕ) (places : List Place) (links : List (List End)) (ports : List Port) (touching : List (List ℕ)) (left : Pending) (w : World) : Type 0 where
+  pub tables : IsTableSize capacity
   pub reached : IsReached capacity places links w
   pub few : length w.spans ≤ 128
   pub told : AreTold w.places w.spans ports

@@ -474,6 +474,7 @@ impl<const C: usize> Running<C> {
 
 impl<const C: usize> Running<C> {
     ghost use Rattle.hsr_closing.specs.Checked.{IfDisagree, IsOpen};
+    ghost use Rattle.hsr_law.specs.Closed.{IsTableSize};
     ghost use Rattle.hsr_law.specs.Once.{IsCalm};
     ghost use Rattle.hsr_law.specs.Premises.{NumberedFirst};
     ghost use Rattle.hsr_world.specs.Lawful.{IsEnded, finished_of};
@@ -484,7 +485,8 @@ impl<const C: usize> Running<C> {
         self,
         topology: Topology,
     ) -> Result<Closed<C>, (Topology, Running<C>, CheckFault)>
-        requires { IsReached C topology.places topology.links self }
+        requires tables { IsTableSize C }
+        requires reached { IsReached C topology.places topology.links self }
         ensures closed { IfOk result (λ closed. closed ≡ finished_of C self.entry) }
         ensures ended { IfOk result (λ closed. IsEnded self.entry) }
         ensures numbered { IfOk result (λ closed. NumberedFirst closed.run) }

@@ -73,7 +73,7 @@ form_fault view capacity (Some text) Read h = tt
 form_fault view capacity (Some text) NoMemory h = tt
 
 -- of the text of a closed run
-abbrev ReadAgain : ℕ → Option (List ℕ) → Result Finished ReadFault → Type 0
+abbrev pub ReadAgain : ℕ → Option (List ℕ) → Result Finished ReadFault → Type 0
 ReadAgain capacity old result = IfSome old (λ text. (f : Finished) → IsFinished f → Fits f → IsTextOf capacity f text → IsReadAs f result)
 
 pub form_again : {X : Type 0} (view : X → Said) (capacity : ℕ) (old : Option (List ℕ)) (fault : ReadFault) → capacity < 2 ^ 64 → IfSome old (λ text. ToldWhole view (Err fault) (form_of capacity text))

@@ -13,3 +13,5 @@ pub mod OfFinished
 pub mod Finishing
 pub mod Answered
 pub mod Moved
+pub mod InFinerUnit
+pub mod EarlierTexts

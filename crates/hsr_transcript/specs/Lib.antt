@@ -2,3 +2,4 @@ pub mod Order
 pub mod Replay
 pub mod Judged
 pub mod Answers
+pub mod Earlier

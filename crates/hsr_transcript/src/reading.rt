@@ -3,10 +3,12 @@ ghost use Rattle.std.specs.Prelude.{◌≡◌, ◌≤◌, IfSome};
 ghost use Rattle.hsr_closing.specs.Finished.{Finished, IsFinished};
 ghost use Rattle.hsr_transcript.specs.Answers.{Answers, Closes, IsReadAs, IsTextOf};
 ghost use Rattle.hsr_transcript_text.specs.Fits.{Fits};
+ghost use Rattle.hsr_transcript.specs.Earlier.{IsEarlierText, in_microseconds};
 ghost use Rattle.hsr_transcript.specs.Judged.{standing_of};
 ghost use Rattle.hsr_transcript_text.specs.CodeReads.{seen};
 
 use crate::judge::judge;
+use crate::law::earlier_is_read;
 use hsr_closing::{CheckFault, Closed, Records};
 use hsr_transcript_text::{ReadFault, read_plain};
 use std::alloc::Global;
@@ -31,11 +33,15 @@ fn close<const C: usize>(alloc: Global, records: Records<C>) -> Result<Closed<C>
 /// the links where the topology is refused, of the line `main` where the order doesn't fit, or of the first entry whose event
 /// is refused or whose outcome is another one; `End` where the text ends early; `Disagrees` with the first cause where all of
 /// this stands, but is no closed run; `Read` where the reader fails or takes over 2^40 reads; `NoMemory` where room is refused.
+/// The text that an earlier release wrote of a run, with moments in milliseconds, is read as that run with each moment times 1000.
 pub fn read<const C: usize, R: Read>(alloc: Global, reader: &mut R) -> Result<Closed<C>, ReadFault>
     requires entries { (1 ≤ C) × (C ≤ 65535) }
     ensures exact { IfSome (R.remaining reader.old) (Answers C (seen (λ c. c) result)) }
     ensures again { IfSome (R.remaining reader.old) (λ text. (f : Finished) → IsFinished f → Fits f → IsTextOf C f text → IsReadAs f (seen (λ c. c) result)) }
+    ensures earlier { IfSome (R.remaining reader.old) (λ text. (f : Finished) → IsEarlierText C f text → IsReadAs (in_microseconds f) (seen (λ c. c) result)) }
 {
+    // Its clause says that a run of an earlier release is a finished run.
+    earlier_is_read();
     let plain = match read_plain(C, alloc, reader) {
         Ok(plain) => plain,
         Err(fault) => return Err(fault),

@@ -24,7 +24,7 @@ scenario can't be read, or has other nodes or links than the run), `fault: link`
 or send), or `fault: order` (the text is of no run that can have taken place: its entries follow one another in a
 circle).
 
-Examples: hsr_bench run --transcript < plan.toml | hsr_view capture --names plan.toml > run.pcapng
+Examples: hsr_bench run --transcript < scenario.toml | hsr_view capture --names scenario.toml > run.pcapng
           hsr_view capture --link 2 --send n0:3 < run.transcript > run.pcapng";
 
 const PICTURE_ENDS: &str = "\
@@ -42,7 +42,7 @@ scenario can't be read, or has other nodes or links than the run), `fault: send`
 `fault: moments` (--until is before --from), `fault: copies N, ..` (there are over 400), or `fault: order` (the text is
 of no run that can have taken place: its entries follow one another in a circle).
 
-Examples: hsr_bench run --transcript < plan.toml | hsr_view picture --names plan.toml > run.svg
+Examples: hsr_bench run --transcript < scenario.toml | hsr_view picture --names scenario.toml > run.svg
           hsr_view picture --send n0:3 --send n1:0 --from 5000 --until 9000 < run.transcript > run.svg";
 
 const DEVICES_ENDS: &str = "\
@@ -54,7 +54,7 @@ the moments when it heard them last, in microseconds.
 Status 1: nothing is written, and one line on standard error says why: as with `hsr_bench audit`, or `fault: names`
 (the scenario can't be read, or has other nodes or links than the run).
 
-Example: hsr_bench run --transcript < plan.toml | hsr_view devices --names plan.toml";
+Example: hsr_bench run --transcript < scenario.toml | hsr_view devices --names scenario.toml";
 
 /// Why words say nothing.
 #[derive(Drop)]

@@ -40,7 +40,7 @@ status 1.
 Example: echo 'send 0 02-00-00-00-00-02 0800 AABB' | hsr_bench node";
 
 const RUN_ABOUT: &str =
-    "Runs the scenario on standard input (< plan.toml), and reports whether it certifies delivery";
+    "Runs the scenario on standard input (< scenario.toml), and reports whether it certifies delivery";
 
 const RUN_ENDS: &str = "\
 A scenario is TOML, read from standard input:
@@ -73,22 +73,22 @@ due at and who missed it (or took it up twice, or strayed), and where copies of 
 sends there are and how many are complete. With --needed a line says how many entries the fullest duplicate
 table needed, and the node and place of the first arrival that needed as many: `needed <n> <node> <place>`.
 
-With --budget a line before the report's last says whether tables of this size remember all that they must,
-in whatever order the copies move: `budget <n>` (yes: each copy comes in less than 400 ms, and at most n
-frames are sent in any 800 ms), `budget late <node> <place>` (this entry of a node is a copy that comes
-later), `budget crowded <moment>` (in the 800 ms from this moment on, in microseconds, more frames are sent
-than a table has entries). None of the three changes a status.
+With --budget a line before the report's last says whether this run was within the budget of its tables:
+`budget <n>` (yes: each copy came in less than 400 ms, and at most n frames were sent in any 800 ms),
+`budget late <node> <place>` (this entry of a node is a copy that came later), `budget crowded <moment>`
+(in the 800 ms from this moment on, in microseconds, more frames were sent than a table has entries). None
+of the three changes a status.
 
 With --network the last line and the status are of the audit of networks, whatever rings, RedBoxes, QuadBoxes and
 stations there are: `certified <n>` where each frame came exactly once to each node that it was for, else its first
 doubt: `mode`, `same-address`, `side <link>`, `forgot`, `mistaken` or `numbered-late` with a node and the place in its
-record, `uncovered` with the node and place of a frame of which nothing is certified yet (a single frame to a Station,
-or a supervision frame of one), or `cut-off <node> <place> <receiver>` (no way to this receiver lost no copy of that
-frame).
+record, `cut-off <node> <place> <receiver>` (no way to this receiver lost no copy of that frame), `unknown-station` with
+the node and place of a frame to a Station that its RedBox did not know, or `uncovered` with those of a frame of which
+nothing is certified (a supervision frame of a Station that is joined with a Station).
 
-Examples: hsr_bench run < plan.toml
-          hsr_bench run --table small --deliveries --needed --budget < plan.toml
-          hsr_bench run --transcript < plan.toml | hsr_bench audit";
+Examples: hsr_bench run < scenario.toml
+          hsr_bench run --table small --deliveries --needed --budget < scenario.toml
+          hsr_bench run --transcript < scenario.toml | hsr_bench audit";
 
 const THREADS_ABOUT: &str =
     "Runs the scenario on standard input in threads, and reports whether it certifies delivery";
@@ -101,8 +101,8 @@ runs may differ in what came first; the report and the status are of the run tha
 
 The statuses and flags are as with `run`. `fault: step <i> fine` says that step i is a put, take or judge; then no thread is started. `fault: thread` says that a thread couldn't be started.
 
-Examples: hsr_bench threads < plan.toml
-          hsr_bench threads --transcript < plan.toml | hsr_bench audit";
+Examples: hsr_bench threads < scenario.toml
+          hsr_bench threads --transcript < scenario.toml | hsr_bench audit";
 
 const AUDIT_ENDS: &str = "\
 The transcript is one that `run --transcript` wrote with a table of the same size; it may be of version 1,
@@ -197,7 +197,7 @@ fn asking<'a>(alloc: Global, command: Command<'a>) -> Result<Command<'a>, AllocE
 {
     let deliveries = "Says in lines of the report who missed which frame, and where it was lost";
     let needed = "Says in a line of the report how many table entries the run needed";
-    let budget = "Says in a line of the report whether the tables hold all that is sent";
+    let budget = "Says in a line of the report whether the run was within the budget of its tables";
     let one = with_flag(alloc, command, "deliveries", deliveries)?;
     let two = with_flag(alloc, one, "needed", needed)?;
     let three = with_flag(alloc, two, "budget", budget)?;

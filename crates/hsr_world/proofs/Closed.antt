@@ -339,7 +339,8 @@ module _ (capacity : ℕ) (places : List Place) (links : List (List End)) (w : W
 -- ---- a quiet world closes
 
 pub always_closes : AlwaysCloses
-always_closes capacity places links w o quiet = record {
+always_closes capacity places links w tables o quiet = record {
+  tables = tables;
   records = length-map w.records reverse ∙ all.counted;
   rows = length-map w.spans (λ (span : Span). span.link.rows) ∙ spans_counted capacity places links w o.wired o.reached;
   legal = λ k below. subst (IsLegal capacity (owner_in w.places k)) (sym (past_is capacity links w k)) (all.legal k);
@@ -449,9 +450,9 @@ only_quiet_closes capacity places links w wired r closed = (
 -- ---- with its plan
 
 pub always_finishes : AlwaysFinishes
-always_finishes capacity places links w o quiet = record {
+always_finishes capacity places links w tables o quiet = record {
   wired = subst (λ some. IsWired some links) (sym same) o.wired;
-  closed = always_closes capacity places links w o quiet;
+  closed = always_closes capacity places links w tables o quiet;
   planned = always_planned capacity places links w o.reached;
 }
   where

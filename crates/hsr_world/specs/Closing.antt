@@ -8,7 +8,7 @@
 --     AlwaysPlaced          nodes and links stay
 use Rattle.std.specs.Prelude.{ℕ, ◌≡◌, ◌||◌, not, Bool, false, List, length, map, reverse, is_some, Some, Ok}
 use Rattle.std.specs.List.{list_any}
-use Rattle.hsr_law.specs.Closed.{IsClosed, IsOfSend}
+use Rattle.hsr_law.specs.Closed.{IsClosed, IsOfSend, IsTableSize}
 use Rattle.hsr_closing.specs.Finished.{IsFinished, IsPlanned}
 use Rattle.hsr_law.specs.Premises.{NumberedFirst}
 use Rattle.hsr_law.specs.Run.{Run, owner_in, record_in}
@@ -63,9 +63,9 @@ AlwaysOfSend = (capacity : ℕ) (places : List Place) (links : List (List End)) 
 abbrev pub AlwaysNumberedFirst : Type 0
 AlwaysNumberedFirst = (capacity : ℕ) (places : List Place) (links : List (List End)) (w : World) → IsOwn capacity places links w → NumberedFirst (run_of capacity links w)
 
--- Where nothing is under way a world is a closed run.
+-- Where nothing is under way a world is a closed run, with tables of a size that is allowed.
 abbrev pub AlwaysCloses : Type 0
-AlwaysCloses = (capacity : ℕ) (places : List Place) (links : List (List End)) (w : World) → IsOwn capacity places links w → IsQuiet w → IsClosed (run_of capacity links w)
+AlwaysCloses = (capacity : ℕ) (places : List Place) (links : List (List End)) (w : World) → IsTableSize capacity → IsOwn capacity places links w → IsQuiet w → IsClosed (run_of capacity links w)
 
 -- And it is one nowhere else.
 abbrev pub OnlyQuietCloses : Type 0
@@ -90,5 +90,5 @@ AlwaysPlanned = (capacity : ℕ) (places : List Place) (links : List (List End))
 
 -- So a quiet world with its plan is a finished run.
 abbrev pub AlwaysFinishes : Type 0
-AlwaysFinishes = (capacity : ℕ) (places : List Place) (links : List (List End)) (w : World) → IsOwn capacity places links w → IsQuiet w
-    → IsFinished (record { run = run_of capacity links w; plan = w.plan })
+AlwaysFinishes = (capacity : ℕ) (places : List Place) (links : List (List End)) (w : World) → IsTableSize capacity → IsOwn capacity places links w
+    → IsQuiet w → IsFinished (record { run = run_of capacity links w; plan = w.plan })

@@ -44,8 +44,8 @@ pub fn always_numbered_first()
     ensures { AlwaysNumberedFirst }
 {}
 
-/// Such a world in which nothing is under way, so that each outbox and each hand is empty and no copy waits on a link, is a
-/// closed run: its nodes' records, its links' rows and its sends agree.
+/// Such a world in which nothing is under way, so that each outbox and each hand is empty and no copy waits on a link, and whose
+/// tables have 1 to 65535 entries, is a closed run: its nodes' records, its links' rows and its sends agree.
 pub fn always_closes()
     ensures { AlwaysCloses }
 {}
@@ -61,7 +61,8 @@ pub fn always_planned()
     ensures { AlwaysPlanned }
 {}
 
-/// So a world of a topology, without injected octets and with nothing under way, is a finished run with its plan.
+/// So a world of a topology, with such tables, without injected octets and with nothing under way, is a finished run with its
+/// plan.
 pub fn always_finishes()
     ensures { AlwaysFinishes }
 {}

@@ -31,4 +31,4 @@ returns-clause-cut g c =
     let p_is : p ≡ slice_index_or run.places k p = search rules in
     let some : send_at (place_of run k) i (past_of run k) ≡ Some s =
     sent_is run k i p x c.requires.node c.requires.place p_is x_is ∙ (sym c.in-Some.ensures ∙ ap (λ (t : Sending). Some t) (sym c.sending.view_is)) in
-    cut_at run k i s c.requires.node some c.in_ok-reached.reached c.in_ok-reached.ensures.reached c.first_unreached.result c.first_unreached.ensures
+    cut_at run k i s c.requires.node some c.first_unserved.result c.first_unserved.ensures

@@ -17,5 +17,5 @@ invariant_of-result g c =
     let told = c.in_ok-ports.ensures ∙ ap (λ (w : World). ports_in w.places w.spans) c.in_ok-running.ensures in
     let touching = c.in_ok-touching.ensures ∙ ap (λ (w : World). touching_in (length w.places) w.spans) c.in_ok-running.ensures in
     subst (λ (w : World). IsKept g.row.C t.places t.links c.in_ok-ports.ports.items (map (λ links. links.items) c.in_ok-touching.touching.items) c.new-2.result w) (sym c.in_ok-running.ensures)
-    (kept_new g.row.C c.args.capacity t.places t.links c.in_ok-ports.ports.items (map (λ links. links.items) c.in_ok-touching.touching.items) c.new-2.result (reached-new g.row.C c.args.capacity t.places t.links fit)
+    (kept_new g.row.C c.args.capacity t.places t.links c.in_ok-ports.ports.items (map (λ links. links.items) c.in_ok-touching.touching.items) c.new-2.result c.requires.entries (reached-new g.row.C c.args.capacity t.places t.links fit)
     c.places.ensures.wired.few_places c.places.ensures.wired.few_links told touching c.new-2.ensures)

@@ -10,7 +10,7 @@ use Rattle.hsr_options.specs.declared.chosen.Options.{Options}
 use Rattle.hsr_words.specs.Options.{IsRefused, Says}
 use Rattle.hsr_words.specs.declared.fault.OptionFault.{OptionFault}
 use Rattle.hsr_words.specs.declared.fault.OptionFault.TheVariants.{Usage, Memory as NoRoom}
-use Rattle.hsr_command.specs.Performing.{Performs}
+use Rattle.hsr_bench.specs.Performing.{Performs}
 
 -- the line of a fault, of no other end
 abbrev pub line_of : Status → List ℕ

@@ -1,6 +1,6 @@
 //! What the words choose, done over a reader and a writer.
 ghost use Rattle.std.specs.Prelude.{IfSome};
-ghost use Rattle.hsr_command.specs.Performing.{Performs};
+ghost use Rattle.hsr_bench.specs.Performing.{Performs};
 
 use hsr_engines::{Status, audit_run, node_run, scenario_run, threads_run};
 use hsr_options::Options;

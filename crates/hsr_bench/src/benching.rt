@@ -1,7 +1,7 @@
 //! The whole program.
 ghost use Rattle.std.specs.Prelude.{◌≡◌, ◌++◌, IfOk, IfSome, OnOk, codes, map, string_bytes};
 ghost use Rattle.std.specs.Io.KnownBytes.{Appends};
-ghost use Rattle.hsr_command.specs.Benching.{Answers, Benches, IsDone, Tells};
+ghost use Rattle.hsr_bench.specs.Benching.{Answers, Benches, IsDone, Tells};
 
 use crate::performing::perform;
 use hsr_engines::{Fault, Status};

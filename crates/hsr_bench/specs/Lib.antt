@@ -1,0 +1,9 @@
+pub mod Performing
+pub mod Benching
+pub use Rattle.hsr_engines.specs.Fault
+pub use Rattle.hsr_engines.specs.Output
+pub use Rattle.hsr_engines.specs.ScenarioRun
+pub use Rattle.hsr_engines.specs.ThreadsRun
+pub use Rattle.hsr_engines.specs.AuditRun
+pub use Rattle.hsr_options.specs.Tables
+pub use Rattle.hsr_words.specs.Options

@@ -1,2 +1,0 @@
-pub mod Performing
-pub mod Benching

@@ -1,0 +1,57 @@
+use Rattle.std.proofs.Common.{rules, ◌≡◌, ◌+◌, ◌<◌, ◌≤◌, ◌∙◌, ℕ, List, Option, length, max, slice_index_or, reverse, take, ap, subst, arith}
+use Rattle.hsr_node.specs.declared.entry.Entry.{Entry}
+use Rattle.hsr_node.specs.declared.event.Probe.{Probe}
+use Rattle.hsr_node.specs.declared.place.Place.{Place}
+use Rattle.hsr_law.specs.Run.{Run, place_of, record_of}
+use Rattle.hsr_needed.specs.Read.{heard_in}
+use Rattle.hsr_needed.proofs.Walking.{place_at}
+use Rattle.hsr_tables.specs.Proxies.{is_known}
+use Rattle.hsr_network_audit.specs.Missed.{IsLowest, IsUnknownOf}
+use Rattle.hsr_network_audit.proofs.Missing.{heard_up_to, missed_more, moment_more, stations_more}
+use Rattle.hsr_network_audit.proofs.missed.missed_by.Goals as goal
+
+pub hear-requires : goal.hear-requires
+hear-requires g c =
+    let run : Run = c.args.closed.now.run in
+    let past : List Entry = reverse (take c.loop-place.place (record_of run c.args.node)) in
+    let up : c.loop-place.stations.last ≤ c.loop-place.moment = heard_up_to run c.args.node past c.loop-place.stations c.loop-place.moment c.loop-place.invariant.stations c.loop-place.invariant.moment in
+    let later : c.max-moment.result ≡ max c.loop-place.moment c.x-item.result.at = search rules in
+    omega (arith, up, later)
+
+pub unknown_of-requires : goal.unknown_of-requires
+unknown_of-requires g c =
+    let run : Run = c.args.closed.now.run in
+    let k : ℕ = c.args.node in
+    let i : ℕ = c.loop-place.place in
+    let x : Entry = c.x-item.result in
+    let p : Place = c.index-places-node.result in
+    let below : i < length (record_of run k) = search rules in
+    let x_is : x ≡ slice_index_or (record_of run k) i x = search rules in
+    let p_is : p ≡ slice_index_or run.places k p = search rules in
+    let at : p ≡ place_of run k = place_at run.places k p c.requires p_is in
+    let later : c.max-moment.result ≡ max c.loop-place.moment x.at = search rules in
+    let moment = moment_more run k i x below x_is c.loop-place.moment c.max-moment.result later c.loop-place.invariant.moment in
+    let stations = stations_more run k i x below x_is c.loop-place.stations c.hear.new.stations c.max-moment.result moment (c.hear.ensures ∙ ap (λ (q : Place). heard_in q c.max-moment.result x.event c.loop-place.stations) at) c.loop-place.invariant.stations in
+    (omega arith, (c.requires, heard_up_to run k (reverse (take (i + 1) (record_of run k))) c.hear.new.stations c.max-moment.result stations moment))
+
+pub loop-place-preserved : goal.loop-place-preserved
+loop-place-preserved g c =
+    let run : Run = c.args.closed.now.run in
+    let k : ℕ = c.args.node in
+    let i : ℕ = c.loop-place.place in
+    let x : Entry = c.x-item.result in
+    let p : Place = c.index-places-node.result in
+    let below : i < length (record_of run k) = search rules in
+    let x_is : x ≡ slice_index_or (record_of run k) i x = search rules in
+    let p_is : p ≡ slice_index_or run.places k p = search rules in
+    let at : p ≡ place_of run k = place_at run.places k p c.requires p_is in
+    let later : c.max-moment.result ≡ max c.loop-place.moment x.at = search rules in
+    let moment = moment_more run k i x below x_is c.loop-place.moment c.max-moment.result later c.loop-place.invariant.moment in
+    let stations = stations_more run k i x below x_is c.loop-place.stations c.hear.new.stations c.max-moment.result moment (c.hear.ensures ∙ ap (λ (q : Place). heard_in q c.max-moment.result x.event c.loop-place.stations) at) c.loop-place.invariant.stations in
+    let F : Option Probe → Type 0 = λ o. IsLowest (IsUnknownOf run k (is_known c.max-moment.result c.hear.new.stations.heard) o) c.unknown_of.result in
+    record {
+      moment = moment;
+      stations = stations;
+      lowest = missed_more run k i x below x_is c.hear.new.stations c.max-moment.result c.loop-place.lowest c.unknown_of.result c.lower_of-lowest.result moment stations c.loop-place.invariant.lowest
+          (subst F c.handled-send.ensures c.unknown_of.ensures) c.lower_of-lowest.ensures;
+    }
