@@ -1,0 +1,9 @@
+pub mod Frame
+pub mod Arrows
+pub mod Marks
+pub mod Moments
+pub mod Items
+pub mod Listing
+pub mod Legend
+pub mod Telling
+pub mod Drawing

@@ -1,72 +1,110 @@
 //! Lines of nodes and the lanes between them, side by side.
+ghost use Rattle.std.specs.Prelude.{◌≡◌, ◌++◌, ◌∷◌, [], map, IfOk, OnOk};
+ghost use Rattle.std.specs.List.{flat_map};
+ghost use Rattle.hsr_panels.specs.Panels.{lanes_in};
+ghost use Rattle.hsr_drawing.specs.Frame.{nodes_in, nodes_of};
+
 use hsr_frame::NoMemory;
 use hsr_panels::{Lane, Panel};
 use std::alloc::Global;
 
-/// The line of a node. A node has several, where it stands in several panels, or at both ends of one.
-#[derive(Clone, Copy)]
-pub(crate) struct Line {
-    pub x: u64,
-    pub node: usize,
-    pub is_again: bool,
-}
-
-/// A lane, and where it stands.
+/// Where a lane stands, and the node at its left.
 #[derive(Clone, Copy)]
 pub(crate) struct Strip {
-    pub lane: Lane,
+    pub node: usize,
     pub left: u64,
     pub right: u64,
 }
 
-/// All of them; how wide a lane is; and where the next line stands.
+/// The nodes of all lines from left to right, and where these stand; all lanes, and where these stand; how wide a lane is; and where the
+/// next line stands. A node has several lines, where it stands in several panels, or at both ends of one.
 #[derive(Drop)]
 pub(crate) struct Columns {
-    pub lines: Vec<Line>,
-    pub strips: Vec<Strip>,
+    pub nodes: Vec<usize>,
+    pub lanes: Vec<Lane>,
+    lines: Vec<u64>,
+    strips: Vec<Strip>,
     pub width: u64,
     pub next: u64,
 }
 
 impl Columns {
-    fn add_line(&mut self, node: usize) -> Result<(), NoMemory> {
-        let is_again = self.lines.as_slice().iter().any(|line| line.node == node);
-        self.lines.push(Line {
-            x: self.next,
-            node,
-            is_again,
-        })?;
+    fn add_line(&mut self, node: usize) -> Result<(), NoMemory>
+        ensures nodes { OnOk result (self.new.nodes.items ≡ self.old.nodes.items ++ node ∷ []) }
+        ensures lanes { OnOk result (self.new.lanes.items ≡ self.old.lanes.items) }
+    {
+        self.lines.push(self.next)?;
+        self.nodes.push(node)?;
         Ok(())
     }
 
-    fn add_lane(&mut self, lane: Lane) -> Result<(), NoMemory> {
+    fn add_lane(&mut self, lane: Lane) -> Result<(), NoMemory>
+        ensures nodes { OnOk result (self.new.nodes.items ≡ self.old.nodes.items ++ lane.right.node ∷ []) }
+        ensures lanes { OnOk result (self.new.lanes.items ≡ self.old.lanes.items ++ lane ∷ []) }
+    {
         let left = self.next;
         self.next = left.saturating_add(self.width);
         self.strips.push(Strip {
-            lane,
+            node: lane.left.node,
             left,
             right: self.next,
         })?;
+        self.lanes.push(lane)?;
         self.add_line(lane.right.node)
     }
 
-    fn add_panel(&mut self, panel: &Panel) -> Result<(), NoMemory> {
-        self.add_line(panel.first)?;
-        for lane in panel.lanes.as_slice() {
+    fn add_lanes(&mut self, lanes: &[Lane]) -> Result<(), NoMemory>
+        ensures nodes { OnOk result (self.new.nodes.items ≡ self.old.nodes.items ++ map (λ lane. lane.right.node) lanes.now) }
+        ensures lanes { OnOk result (self.new.lanes.items ≡ self.old.lanes.items ++ lanes.now) }
+    {
+        for lane in lanes {
             self.add_lane(*lane)?;
         }
+        Ok(())
+    }
+
+    fn add_panel(&mut self, panel: &Panel) -> Result<(), NoMemory>
+        ensures nodes { OnOk result (self.new.nodes.items ≡ self.old.nodes.items ++ nodes_in panel.now) }
+        ensures lanes { OnOk result (self.new.lanes.items ≡ self.old.lanes.items ++ panel.now.lanes) }
+    {
+        self.add_line(panel.first)?;
+        self.add_lanes(panel.lanes.as_slice())?;
         self.next = self.next.saturating_add(self.width);
         Ok(())
     }
 
-    /// The place of a link.
-    pub(crate) fn strip_of(&self, link: usize) -> Option<Strip> {
-        let strip = self
-            .strips
+    /// The place of the line that has a number.
+    pub(crate) fn line_at(&self, number: usize) -> u64 {
+        match self.lines.as_slice().get(number) {
+            Some(x) => *x,
+            None => self.next,
+        }
+    }
+
+    /// The place of the lane that has a number.
+    pub(crate) fn strip_at(&self, number: usize) -> Strip {
+        match self.strips.as_slice().get(number) {
+            Some(strip) => *strip,
+            None => Strip {
+                node: 0,
+                left: self.next,
+                right: self.next,
+            },
+        }
+    }
+
+    /// The place of a link. Each link of a topology is a lane; one that isn't would stand behind all, so that its arrows are drawn all
+    /// the same.
+    pub(crate) fn strip_of(&self, link: usize) -> Strip {
+        let lane = self
+            .lanes
             .as_slice()
             .iter()
-            .find(|strip| strip.lane.link == link)?;
-        Some(*strip)
+            .position(|lane| lane.link == link);
+        match lane {
+            Some(number) => self.strip_at(number),
+            None => self.strip_at(self.strips.len()),
+        }
     }
 }
 
@@ -76,8 +114,13 @@ pub(crate) fn columns_of(
     panels: &[Panel],
     left: u64,
     width: u64,
-) -> Result<Columns, NoMemory> {
+) -> Result<Columns, NoMemory>
+    ensures nodes { IfOk result (λ columns. columns.nodes.items ≡ nodes_of panels.now) }
+    ensures lanes { IfOk result (λ columns. columns.lanes.items ≡ lanes_in panels.now) }
+{
     let mut columns = Columns {
+        nodes: Vec::new(alloc),
+        lanes: Vec::new(alloc),
         lines: Vec::new(alloc),
         strips: Vec::new(alloc),
         width,

@@ -1,221 +1,253 @@
 //! Node lines, their names, and moments.
-use crate::columns::{Line, Strip};
-use crate::parts::{Label, Part, Stroke, put, put_label, put_stroke};
-use crate::rows::{Row, TOP};
+ghost use Rattle.std.specs.Prelude.{◌≡◌, ◌<◌, ◌++◌, ◌∷◌, [], length, slice_get, OnOk};
+ghost use Rattle.std.specs.List.{flat_map};
+ghost use Rattle.hsr_order.specs.Fronts.{lists_of};
+ghost use Rattle.hsr_svg.specs.Elements.{shapes, line as line_shape};
+ghost use Rattle.hsr_svg.specs.declared.elements.Line.TheVariants as lines;
+ghost use Rattle.hsr_drawing.specs.Frame.{frame_shapes, head_shapes, heads_below, is_again, kind_if, link_shapes, moment_shapes, strokes_below};
+
+use crate::columns::Strip;
+use crate::rows::TOP;
 use crate::sheet::Sheet;
 use hsr_frame::NoMemory;
-use hsr_names::put_name;
 use hsr_node::Place;
+use hsr_panels::Lane;
+use hsr_picture_text::{kind_word, letter_at, link_words, moment_words, name_words};
+use hsr_svg::{Anchor, Element, Label, Line, Spot, Way, add_line, add_text, add_words};
 use std::alloc::Global;
 
-/// Puts the line of a node last; a line of a node that had one before is dashed.
-fn put_line(text: &mut Vec<u8>, line: &Line, bottom: u64) -> Result<(), NoMemory> {
-    let (colour, dashes) = if line.is_again {
-        ("#bdbdbd", "3 3")
-    } else {
-        ("#8f8f8f", "none")
-    };
-    put_stroke(
-        text,
-        Stroke {
-            x1: line.x,
-            y1: TOP - 8,
-            x2: line.x,
-            y2: bottom,
-            colour,
-            width: "1.2",
-            dashes,
-        },
-    )
+// ---- node lines
+
+/// Whether the node of a line has one before it.
+fn is_again(nodes: &[usize], number: usize) -> bool
+    requires { number < length nodes.now }
+    ensures { result ≡ is_again nodes.now number }
+{
+    let node = nodes[number];
+    nodes[..number].iter().any(|before| *before == node)
 }
 
-/// What kind of node it is, in a word.
-fn kind_word(place: &Place) -> &'static str {
-    match place {
-        Place::Danh { .. } => "",
-        Place::RedBox { .. } => "redbox",
-        Place::QuadBox => "quadbox",
-        Place::Station { .. } => "station",
+/// Adds the line of a node.
+fn add_stroke(
+    elements: &mut Vec<Element>,
+    sheet: &Sheet,
+    number: usize,
+    is_again: bool,
+) -> Result<(), NoMemory>
+    ensures { OnOk result (shapes elements.new.items ≡ shapes elements.old.items ++ line_shape (lines.Node is_again) ∷ []) }
+{
+    let x = sheet.columns.line_at(number);
+    let way = Way {
+        x1: x,
+        y1: TOP - 8,
+        x2: x,
+        y2: sheet.rows.bottom.saturating_add(16),
+    };
+    add_line(elements, Line::Node { is_again }, way)
+}
+
+/// Adds the lines of nodes.
+fn add_strokes(elements: &mut Vec<Element>, sheet: &Sheet, nodes: &[usize]) -> Result<(), NoMemory>
+    ensures { OnOk result (shapes elements.new.items ≡ shapes elements.old.items ++ strokes_below nodes.now (length nodes.now)) }
+{
+    for number in 0..nodes.len() {
+        add_stroke(elements, sheet, number, is_again(nodes, number))?;
     }
+    Ok(())
 }
 
-/// Puts the name of a node last, and what kind it is.
-fn put_head(
+// ---- names
+
+/// Adds what kind of node it is, if there is such a node.
+fn add_kind(
     alloc: Global,
-    text: &mut Vec<u8>,
-    names: &[Vec<u8>],
+    elements: &mut Vec<Element>,
     places: &[Place],
-    line: &Line,
-) -> Result<(), NoMemory> {
-    let mut name = Vec::new(alloc);
-    put_name(&mut name, names, line.node)?;
-    let label = Label {
-        x: line.x,
-        y: TOP - 44,
-        size: "11",
-        colour: if line.is_again { "#777" } else { "#111" },
-        anchor: "middle",
-        weight: "bold",
-    };
-    put_label(text, label, name.as_slice())?;
-    match places.get(line.node) {
-        Some(place) => put_label(
-            text,
-            Label {
-                y: TOP - 33,
-                size: "7.5",
-                colour: "#555",
-                weight: "normal",
-                ..label
-            },
+    node: usize,
+    spot: Spot,
+) -> Result<(), NoMemory>
+    ensures { OnOk result (shapes elements.new.items ≡ shapes elements.old.items ++ kind_if (slice_get places.now node)) }
+{
+    match places.get(node) {
+        Some(place) => add_words(
+            alloc,
+            elements,
+            Label::Kind,
             kind_word(place).as_bytes(),
+            spot,
         ),
         None => Ok(()),
     }
 }
 
-/// The letter of a port.
-fn letter_of(places: &[Place], node: usize, port: u8) -> u8 {
-    match places.get(node) {
-        Some(place) => place.letter(port),
-        None => b' ',
-    }
+/// Adds the name of the node of a line, and what kind of node it is.
+#[tactic(auto, unfolding(crate::specs::Frame::head_shapes))]
+fn add_head(
+    alloc: Global,
+    elements: &mut Vec<Element>,
+    names: &[Vec<u8>],
+    places: &[Place],
+    nodes: &[usize],
+    number: usize,
+    x: u64,
+) -> Result<(), NoMemory>
+    requires { number < length nodes.now }
+    ensures { OnOk result (shapes elements.new.items ≡ shapes elements.old.items ++ head_shapes (lists_of names.now) places.now nodes.now number) }
+{
+    let name = Spot {
+        x,
+        y: TOP - 44,
+        anchor: Anchor::Middle,
+    };
+    let kind = Spot {
+        y: TOP - 33,
+        ..name
+    };
+    let node = nodes[number];
+    let label = Label::Name {
+        is_again: is_again(nodes, number),
+    };
+    let words = name_words(alloc, names, node)?;
+    add_text(elements, label, words, name)?;
+    add_kind(alloc, elements, places, node, kind)
 }
 
-/// Puts the number of a link last, with the letters of its ports.
-fn put_link(
+/// Adds the names of nodes, each over its line.
+fn add_heads(
     alloc: Global,
-    text: &mut Vec<u8>,
+    elements: &mut Vec<Element>,
+    names: &[Vec<u8>],
     places: &[Place],
-    strip: &Strip,
-) -> Result<(), NoMemory> {
-    let small = Label {
+    sheet: &Sheet,
+    nodes: &[usize],
+) -> Result<(), NoMemory>
+    ensures { OnOk result (shapes elements.new.items ≡ shapes elements.old.items ++ heads_below (lists_of names.now) places.now nodes.now (length nodes.now)) }
+{
+    for number in 0..nodes.len() {
+        let x = sheet.columns.line_at(number);
+        add_head(alloc, elements, names, places, nodes, number, x)?;
+    }
+    Ok(())
+}
+
+// ---- links
+
+/// Adds the letters of the ports of a link, and its number.
+#[tactic(auto, unfolding(crate::specs::Frame::link_shapes))]
+fn add_link(
+    alloc: Global,
+    elements: &mut Vec<Element>,
+    places: &[Place],
+    lane: Lane,
+    strip: Strip,
+) -> Result<(), NoMemory>
+    ensures { OnOk result (shapes elements.new.items ≡ shapes elements.old.items ++ link_shapes places.now lane) }
+{
+    let left = Spot {
         x: strip.left.saturating_add(4),
         y: TOP - 12,
-        size: "7.5",
-        colour: "#666",
-        anchor: "start",
-        weight: "normal",
+        anchor: Anchor::Start,
     };
-    let (left, right) = (strip.lane.left, strip.lane.right);
-    put_label(
-        text,
-        small,
-        [letter_of(places, left.node, left.port)].as_slice(),
-    )?;
-    let other = Label {
+    let right = Spot {
         x: strip.right.saturating_sub(4),
-        anchor: "end",
-        ..small
+        anchor: Anchor::End,
+        ..left
     };
-    put_label(
-        text,
-        other,
-        [letter_of(places, right.node, right.port)].as_slice(),
-    )?;
-    let mut words = Vec::new(alloc);
-    put(
-        &mut words,
-        &[Part::Words("link "), Part::Number(strip.lane.link as u64)],
-    )?;
-    let middle = Label {
+    let middle = Spot {
         x: strip.left / 2 + strip.right / 2,
         y: TOP - 22,
-        anchor: "middle",
-        ..small
+        anchor: Anchor::Middle,
     };
-    put_label(text, middle, words.as_slice())
+    let letter = [letter_at(places, lane.left.node, lane.left.port)];
+    add_words(alloc, elements, Label::Link, letter.as_slice(), left)?;
+    let letter = [letter_at(places, lane.right.node, lane.right.port)];
+    add_words(alloc, elements, Label::Link, letter.as_slice(), right)?;
+    let words = link_words(alloc, lane.link)?;
+    add_text(elements, Label::Link, words, middle)
 }
 
-/// Puts the lines of all nodes last.
-fn put_lines(text: &mut Vec<u8>, sheet: &Sheet) -> Result<(), NoMemory> {
-    let bottom = sheet.rows.bottom.saturating_add(16);
-    for line in sheet.columns.lines.as_slice() {
-        put_line(text, line, bottom)?;
+/// Adds the letters and the numbers of all links.
+#[tactic(auto, using(hsr_svg::proofs::Growing::grown))]
+fn add_links(
+    alloc: Global,
+    elements: &mut Vec<Element>,
+    places: &[Place],
+    sheet: &Sheet,
+    lanes: &[Lane],
+) -> Result<(), NoMemory>
+    ensures { OnOk result (shapes elements.new.items ≡ shapes elements.old.items ++ flat_map (link_shapes places.now) lanes.now) }
+{
+    for (number, lane) in lanes.iter().enumerate() {
+        let strip = sheet.columns.strip_at(number);
+        add_link(alloc, elements, places, *lane, strip)?;
     }
     Ok(())
 }
 
-/// Puts the names of all nodes last.
-fn put_heads(
+// ---- moments
+
+/// Adds a moment where its first row stands, and a line above it.
+#[tactic(auto, unfolding(crate::specs::Frame::moment_shapes))]
+fn add_moment(
     alloc: Global,
-    text: &mut Vec<u8>,
+    elements: &mut Vec<Element>,
+    sheet: &Sheet,
+    moment: u64,
+) -> Result<(), NoMemory>
+    ensures { OnOk result (shapes elements.new.items ≡ shapes elements.old.items ++ moment_shapes moment) }
+{
+    let y = sheet.rows.first_of(moment);
+    let above = y.saturating_sub(sheet.rows.space);
+    let x = sheet.left.saturating_sub(sheet.side);
+    let way = Way {
+        x1: x,
+        y1: above,
+        x2: sheet.columns.next.saturating_sub(sheet.columns.width),
+        y2: above,
+    };
+    let spot = Spot {
+        x,
+        y: y.saturating_add(3),
+        anchor: Anchor::End,
+    };
+    add_line(elements, Line::Moment, way)?;
+    let words = moment_words(alloc, moment)?;
+    add_text(elements, Label::Moment, words, spot)
+}
+
+/// Adds moments.
+#[tactic(auto, using(hsr_svg::proofs::Growing::grown))]
+fn add_moments(
+    alloc: Global,
+    elements: &mut Vec<Element>,
+    sheet: &Sheet,
+    moments: &[u64],
+) -> Result<(), NoMemory>
+    ensures { OnOk result (shapes elements.new.items ≡ shapes elements.old.items ++ flat_map moment_shapes moments.now) }
+{
+    for moment in moments {
+        add_moment(alloc, elements, sheet, *moment)?;
+    }
+    Ok(())
+}
+
+// ---- all
+
+/// Adds moments, node lines, their names, and links.
+#[tactic(auto, unfolding(crate::specs::Frame::frame_shapes))]
+pub(crate) fn add_frame(
+    alloc: Global,
+    elements: &mut Vec<Element>,
     names: &[Vec<u8>],
     places: &[Place],
     sheet: &Sheet,
-) -> Result<(), NoMemory> {
-    for line in sheet.columns.lines.as_slice() {
-        put_head(alloc, text, names, places, line)?;
-    }
-    Ok(())
-}
-
-/// Puts the numbers of all links last.
-fn put_links(
-    alloc: Global,
-    text: &mut Vec<u8>,
-    places: &[Place],
-    sheet: &Sheet,
-) -> Result<(), NoMemory> {
-    for strip in sheet.columns.strips.as_slice() {
-        put_link(alloc, text, places, strip)?;
-    }
-    Ok(())
-}
-
-/// Puts a moment last, and a line above it.
-fn put_moment(alloc: Global, text: &mut Vec<u8>, sheet: &Sheet, row: &Row) -> Result<(), NoMemory> {
-    let above = row.y.saturating_sub(sheet.rows.space);
-    put_stroke(
-        text,
-        Stroke {
-            x1: sheet.left.saturating_sub(sheet.side),
-            y1: above,
-            x2: sheet.columns.next.saturating_sub(sheet.columns.width),
-            y2: above,
-            colour: "#e2e2e2",
-            width: "0.8",
-            dashes: "none",
-        },
-    )?;
-    let mut words = Vec::new(alloc);
-    put(&mut words, &[Part::Number(row.moment), Part::Words(" us")])?;
-    put_label(
-        text,
-        Label {
-            x: sheet.left.saturating_sub(sheet.side),
-            y: row.y.saturating_add(3),
-            size: "9",
-            colour: "#333",
-            anchor: "end",
-            weight: "normal",
-        },
-        words.as_slice(),
-    )
-}
-
-/// Puts each moment last, where its first row stands.
-fn put_moments(alloc: Global, text: &mut Vec<u8>, sheet: &Sheet) -> Result<(), NoMemory> {
-    let mut before = None;
-    for row in sheet.rows.rows.as_slice() {
-        if before != Some(row.moment) {
-            put_moment(alloc, text, sheet, row)?;
-        }
-        before = Some(row.moment);
-    }
-    Ok(())
-}
-
-/// Puts node lines, their names, and moments last.
-pub(crate) fn put_frame(
-    alloc: Global,
-    text: &mut Vec<u8>,
-    names: &[Vec<u8>],
-    places: &[Place],
-    sheet: &Sheet,
-) -> Result<(), NoMemory> {
-    put_moments(alloc, text, sheet)?;
-    put_lines(text, sheet)?;
-    put_heads(alloc, text, names, places, sheet)?;
-    put_links(alloc, text, places, sheet)
+) -> Result<(), NoMemory>
+    ensures { OnOk result (shapes elements.new.items ≡ shapes elements.old.items ++ frame_shapes (lists_of names.now) places.now sheet.now.columns.nodes.items sheet.now.columns.lanes.items sheet.now.moments.items) }
+{
+    let nodes = sheet.columns.nodes.as_slice();
+    let lanes = sheet.columns.lanes.as_slice();
+    add_moments(alloc, elements, sheet, sheet.moments.as_slice())?;
+    add_strokes(elements, sheet, nodes)?;
+    add_heads(alloc, elements, names, places, sheet, nodes)?;
+    add_links(alloc, elements, places, sheet, lanes)
 }

@@ -12,36 +12,55 @@ const GAP: u64 = 12;
 
 /// A row: a moment and a step, and its place on the paper.
 #[derive(Clone, Copy)]
-pub(crate) struct Row {
-    pub moment: u64,
-    pub step: u64,
-    pub y: u64,
+struct Row {
+    moment: u64,
+    step: u64,
+    y: u64,
 }
 
 /// All rows, downwards; the space between two steps; and where the last stands.
 #[derive(Drop)]
 pub(crate) struct Rows {
-    pub rows: Vec<Row>,
+    rows: Vec<Row>,
     pub space: u64,
     pub bottom: u64,
 }
 
 impl Rows {
-    /// The place of a time.
-    pub(crate) fn at(&self, time: Time) -> Option<u64> {
+    /// The place of a time. Each time of a picture has a row; what hasn't one would stand in the first, so that it is drawn all the same.
+    pub(crate) fn at(&self, time: Time) -> u64 {
         let row = self
             .rows
             .as_slice()
             .iter()
-            .find(|row| row.moment == time.moment && row.step == time.step)?;
-        Some(row.y)
+            .find(|row| row.moment == time.moment && row.step == time.step);
+        match row {
+            Some(row) => row.y,
+            None => TOP,
+        }
     }
 
-    /// The place of a time, if there is one.
-    pub(crate) fn at_some(&self, time: Option<Time>) -> Option<u64> {
+    /// The place of a time; that of the first row, where there is none.
+    pub(crate) fn at_some(&self, time: Option<Time>) -> u64 {
         match time {
             Some(time) => self.at(time),
-            None => None,
+            None => TOP,
+        }
+    }
+
+    /// The place of the first row of a moment.
+    pub(crate) fn first_of(&self, moment: u64) -> u64 {
+        match self.rows.as_slice().iter().find(|row| row.moment == moment) {
+            Some(row) => row.y,
+            None => TOP,
+        }
+    }
+
+    /// The last moment.
+    pub(crate) fn last_moment(&self) -> u64 {
+        match self.rows.as_slice().last() {
+            Some(row) => row.moment,
+            None => 0,
         }
     }
 }

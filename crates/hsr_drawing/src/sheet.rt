@@ -1,10 +1,21 @@
-//! The places of a picture, and where its arrows run.
+//! What stands beside the arrows of a picture, all places, and where its arrows run. No contract speaks of places: what is drawn
+//! doesn't depend on them.
+ghost use Rattle.std.specs.Prelude.{◌≡◌, IfOk};
+ghost use Rattle.hsr_panels.specs.Panels.{lanes_in};
+ghost use Rattle.hsr_drawing.specs.Frame.{nodes_of};
+ghost use Rattle.hsr_drawing.specs.Items.{AreListed};
+ghost use Rattle.hsr_drawing.specs.Moments.{AreMoments, all_moments};
+
 use crate::columns::{Columns, columns_of};
+use crate::items::{Item, listed};
+use crate::moments::moments_of;
 use crate::rows::{Rows, rows_of};
 use hsr_closing::Closed;
 use hsr_frame::NoMemory;
 use hsr_names::put_name;
+use hsr_order::{Spot, Time};
 use hsr_picture::{Arrow, Look, Picture};
+use hsr_svg::Way;
 use std::alloc::Global;
 
 /// The least width of a lane.
@@ -13,26 +24,27 @@ const LANE: u64 = 72;
 /// The least width between the moments and the first line.
 const SIDE: u64 = 36;
 
-/// The places of a picture.
+/// What stands in a picture beside its arrows: moments, lines and lanes, and the list of sends; and where.
 #[derive(Drop)]
 pub(crate) struct Sheet {
+    pub moments: Vec<u64>,
     pub rows: Rows,
     pub columns: Columns,
+    pub items: Vec<Item>,
     pub left: u64,
     pub side: u64,
 }
 
-/// Where an arrow runs.
+/// How wide lanes are; where the first line stands; and how far the moments stand from it.
 #[derive(Clone, Copy)]
-pub(crate) struct Way {
-    pub x1: u64,
-    pub y1: u64,
-    pub x2: u64,
-    pub y2: u64,
+struct Spaces {
+    width: u64,
+    left: u64,
+    side: u64,
 }
 
 /// How many digits a number has.
-pub(crate) fn digits(n: u64) -> u64 {
+fn digits(n: u64) -> u64 {
     match n.checked_ilog10() {
         Some(more) => u64::from(more).saturating_add(1),
         None => 1,
@@ -75,66 +87,98 @@ fn side_width(label: u64) -> u64 {
     SIDE.max(label.saturating_mul(5).saturating_add(12))
 }
 
-/// The last moment of rows.
-fn last_moment(rows: &Rows) -> u64 {
-    match rows.rows.as_slice().last() {
-        Some(row) => row.moment,
-        None => 0,
-    }
+/// How wide the lanes of a picture are, where the first line stands, and how far the moments stand from it.
+fn spaces_of<const C: usize>(
+    alloc: Global,
+    closed: &Closed<C>,
+    names: &[Vec<u8>],
+    last: u64,
+) -> Result<Spaces, NoMemory> {
+    let name = longest_name(alloc, closed, names)?;
+    let label = name
+        .saturating_add(digits(longest_record(closed)))
+        .saturating_add(1);
+    let side = side_width(label);
+    let moment = digits(last).saturating_mul(6);
+    Ok(Spaces {
+        width: lane_width(name, label),
+        left: moment.saturating_add(44).saturating_add(side),
+        side,
+    })
 }
 
-/// The places of a picture.
+/// The sheet of a picture.
 pub(crate) fn sheet_of<const C: usize>(
     alloc: Global,
     closed: &Closed<C>,
     names: &[Vec<u8>],
     picture: &Picture,
-) -> Result<Sheet, NoMemory> {
+) -> Result<Sheet, NoMemory>
+    ensures nodes { IfOk result (λ sheet. sheet.columns.nodes.items ≡ nodes_of picture.now.panels) }
+    ensures lanes { IfOk result (λ sheet. sheet.columns.lanes.items ≡ lanes_in picture.now.panels) }
+    ensures moments { IfOk result (λ sheet. AreMoments (all_moments picture.now.arrows picture.now.sends) sheet.moments.items) }
+    ensures listed { IfOk result (λ sheet. AreListed picture.now.sends sheet.items.items) }
+{
     let rows = rows_of(alloc, picture)?;
-    let name = longest_name(alloc, closed, names)?;
-    let label = name
-        .saturating_add(digits(longest_record(closed)))
-        .saturating_add(1);
-    let width = lane_width(name, label);
-    let side = side_width(label);
-    let moment = digits(last_moment(&rows)).saturating_mul(6);
-    let left = moment.saturating_add(44).saturating_add(side);
+    let Spaces { width, left, side } = spaces_of(alloc, closed, names, rows.last_moment())?;
     let columns = columns_of(alloc, picture.panels.as_slice(), left, width)?;
+    let moments = moments_of(alloc, picture)?;
+    let items = listed(alloc, picture.sends.as_slice())?;
     Ok(Sheet {
+        moments,
         rows,
         columns,
+        items,
         left,
         side,
     })
 }
 
+/// Whether an entry is of a node.
+fn is_of(spot: Option<Spot>, node: usize) -> bool {
+    match spot {
+        Some(spot) => spot.node == node,
+        None => false,
+    }
+}
+
 impl Sheet {
     /// Where an arrow runs: from the line and the row of the entry that passed the copy to those of the entry that judged it. The
     /// arrow of a copy that was lost ends on its way.
-    pub(crate) fn way_of(&self, arrow: &Arrow) -> Option<Way> {
-        let strip = self.columns.strip_of(arrow.row.link)?;
-        let y1 = self.rows.at_some(arrow.start)?;
-        let passed = arrow.passed?;
-        let (x1, x2) = if passed.node == strip.lane.left.node {
+    pub(crate) fn way_of(&self, arrow: &Arrow) -> Way {
+        let strip = self.columns.strip_of(arrow.row.link);
+        let y1 = self.rows.at_some(arrow.start);
+        let (x1, x2) = if is_of(arrow.passed, strip.node) {
             (strip.left, strip.right)
         } else {
             (strip.right, strip.left)
         };
         if arrow.look == Look::Lost {
-            let part = self.columns.width / 5;
-            let x2 = if x1 < x2 {
-                x1.saturating_add(part)
-            } else {
-                x1.saturating_sub(part)
+            self.lost_way(x1, y1, x2)
+        } else {
+            let time = Time {
+                moment: arrow.row.moment,
+                step: arrow.row.step,
             };
-            // below the label of its own row, and above that of the next
-            let y2 = y1.saturating_add(self.rows.space / 3);
-            return Some(Way { x1, y1, x2, y2 });
+            Way {
+                x1,
+                y1,
+                x2,
+                y2: self.rows.at(time),
+            }
         }
-        let y2 = self.rows.at(hsr_order::Time {
-            moment: arrow.row.moment,
-            step: arrow.row.step,
-        })?;
-        Some(Way { x1, y1, x2, y2 })
+    }
+
+    /// Where the arrow of a lost copy runs, towards a line.
+    fn lost_way(&self, x1: u64, y1: u64, towards: u64) -> Way {
+        let part = self.columns.width / 5;
+        let x2 = if x1 < towards {
+            x1.saturating_add(part)
+        } else {
+            x1.saturating_sub(part)
+        };
+        // below the label of its own row, and above that of the next
+        let y2 = y1.saturating_add(self.rows.space / 3);
+        Way { x1, y1, x2, y2 }
     }
 }

@@ -1,163 +1,157 @@
 //! The whole picture.
-use crate::arrows::{put_arrow_labels, put_arrows, put_marks};
-use crate::frame::put_frame;
-use crate::legend::{put_foot, put_incomplete, put_legend};
-use crate::listing::{Ends, put_list};
-use crate::parts::{Label, Part, put, put_label};
+ghost use Rattle.std.specs.Prelude.{◌≡◌, ◌++◌, ◌∷◌, [], IfOk, OnOk};
+ghost use Rattle.hsr_order.specs.Fronts.{lists_of};
+ghost use Rattle.hsr_drawing.specs.Drawing.{IsDrawing, IsScene, above_shapes, below_shapes, picture_shapes};
+ghost use Rattle.hsr_svg.specs.Elements.{shapes, text as text_shape};
+ghost use Rattle.hsr_svg.specs.declared.elements.Label.TheVariants as labels;
+ghost use Rattle.hsr_picture_text.specs.Title.{title_words};
+
+use crate::arrows::{add_arrows, add_labels};
+use crate::frame::add_frame;
+use crate::legend::{add_foot, add_legend};
+use crate::listing::{Ends, add_list};
+use crate::marks::add_marks;
 use crate::sheet::{Sheet, sheet_of};
-use crate::style::put_points;
+use crate::telling::add_incomplete;
 use hsr_closing::Closed;
 use hsr_frame::NoMemory;
-use hsr_picture::{Picture, Sent};
+use hsr_picture::Picture;
+use hsr_picture_text::title_words;
+use hsr_svg::{Anchor, Element, Label, Spot, add_text, begin_labels, end_labels, put_svg};
 use std::alloc::Global;
 
 /// The least width of a picture.
 const WIDTH: u64 = 720;
 
-/// Where a group begins whose labels stand on a white ground, so that what runs behind them can't be taken for a part of them.
-const LABELS: &str =
-    "<g stroke=\"#fff\" stroke-width=\"2.6\" stroke-linejoin=\"round\" paint-order=\"stroke\">\n";
-
-/// Whether a send that is listed is complete.
-fn is_complete(picture: &Picture, sent: &Sent) -> bool {
-    match picture.deliveries.sends.as_slice().get(sent.number) {
-        Some(delivery) => delivery.is_complete(),
-        None => false,
-    }
+/// How wide and how high a picture is.
+#[derive(Clone, Copy)]
+struct Size {
+    width: u64,
+    height: u64,
 }
 
-/// How many of the sends that are listed are complete.
-fn complete(picture: &Picture) -> usize {
-    picture
-        .sends
-        .as_slice()
-        .iter()
-        .filter(|sent| is_complete(picture, sent))
-        .count()
-}
-
-/// Puts the title last: how large the run is, and what of it is shown.
-fn put_title<const C: usize>(
+/// Adds the title: how large the run is, and how much of it is shown.
+fn add_title<const C: usize>(
     alloc: Global,
-    text: &mut Vec<u8>,
+    elements: &mut Vec<Element>,
     closed: &Closed<C>,
     picture: &Picture,
-) -> Result<(), NoMemory> {
-    let topology = closed.topology();
-    let mut words = Vec::new(alloc);
-    put(
-        &mut words,
-        &[
-            Part::Words("HSR run: "),
-            Part::Number(topology.places().len() as u64),
-            Part::Words(" nodes, "),
-            Part::Number(topology.links().len() as u64),
-            Part::Words(" links, tables of "),
-            Part::Number(C as u64),
-            Part::Words("; shown: sends "),
-            Part::Number(picture.sends.len() as u64),
-            Part::Words(", complete "),
-            Part::Number(complete(picture) as u64),
-            Part::Words(", copies "),
-            Part::Number(picture.arrows.len() as u64),
-        ],
-    )?;
-    put_label(
-        text,
-        Label {
-            x: 14,
-            y: 20,
-            size: "12",
-            colour: "#111",
-            anchor: "start",
-            weight: "bold",
-        },
-        words.as_slice(),
-    )
+) -> Result<(), NoMemory>
+    ensures { OnOk result (shapes elements.new.items ≡ shapes elements.old.items ++ text_shape labels.Title (title_words closed.now.run picture.now) ∷ []) }
+{
+    let words = title_words(alloc, closed, picture)?;
+    let spot = Spot {
+        x: 14,
+        y: 20,
+        anchor: Anchor::Start,
+    };
+    add_text(elements, Label::Title, words, spot)
 }
 
-/// Puts arrows, and then all that stands above them.
-fn put_middle<const C: usize>(
+/// Adds arrows, what stands above them, and the list of sends. Where that ends.
+#[tactic(auto, unfolding(crate::specs::Drawing::above_shapes))]
+fn add_above<const C: usize>(
     alloc: Global,
-    text: &mut Vec<u8>,
+    elements: &mut Vec<Element>,
     names: &[Vec<u8>],
     closed: &Closed<C>,
     picture: &Picture,
     sheet: &Sheet,
-) -> Result<Ends, NoMemory> {
-    put_arrows(alloc, text, names, closed, picture, sheet)?;
-    put(text, &[Part::Words(LABELS)])?;
-    put_arrow_labels(alloc, text, names, closed, picture, sheet)?;
-    put_marks(alloc, text, names, picture, sheet)?;
-    put(text, &[Part::Words("</g>\n")])?;
-    put_list(alloc, text, names, closed, picture, sheet)
+) -> Result<Ends, NoMemory>
+    ensures { OnOk result (shapes elements.new.items ≡ shapes elements.old.items ++ above_shapes (lists_of names.now) closed.now.run picture.now sheet.now.columns.nodes.items sheet.now.items.items) }
+{
+    let arrows = picture.arrows.as_slice();
+    let sends = picture.sends.as_slice();
+    let deliveries = picture.deliveries.sends.as_slice();
+    let has_one = sends.len() == 1;
+    add_arrows(alloc, elements, names, closed, sheet, arrows)?;
+    begin_labels(elements)?;
+    add_labels(alloc, elements, names, closed, sheet, has_one, arrows)?;
+    add_marks(alloc, elements, names, sheet, deliveries, sends)?;
+    end_labels(elements)?;
+    let items = sheet.items.as_slice();
+    add_list(alloc, elements, names, closed, sheet, deliveries, items)
 }
 
-/// Puts what stands below last. Where it ends.
-fn put_below(
+/// Adds what stands below, from a place on. Where it ends.
+#[tactic(auto, unfolding(crate::specs::Drawing::below_shapes))]
+fn add_below(
     alloc: Global,
-    text: &mut Vec<u8>,
+    elements: &mut Vec<Element>,
     names: &[Vec<u8>],
     picture: &Picture,
     y: u64,
-) -> Result<u64, NoMemory> {
-    let y = put_legend(text, picture, y)?;
-    let y = put_incomplete(alloc, text, names, picture, y)?;
-    put_foot(text, y)?;
+) -> Result<u64, NoMemory>
+    ensures { OnOk result (shapes elements.new.items ≡ shapes elements.old.items ++ below_shapes (lists_of names.now) picture.now) }
+{
+    let deliveries = picture.deliveries.sends.as_slice();
+    let y = add_legend(alloc, elements, picture.arrows.as_slice(), y)?;
+    let y = add_incomplete(
+        alloc,
+        elements,
+        names,
+        deliveries,
+        picture.sends.as_slice(),
+        y,
+    )?;
+    add_foot(alloc, elements, y)?;
     Ok(y.saturating_add(12))
 }
 
-/// Puts the body of a picture last. Its width and its height.
-fn put_body<const C: usize>(
+/// Adds all elements of a picture that has this sheet.
+#[tactic(auto, unfolding(crate::specs::Drawing::picture_shapes))]
+fn add_all<const C: usize>(
     alloc: Global,
-    text: &mut Vec<u8>,
+    elements: &mut Vec<Element>,
     names: &[Vec<u8>],
     closed: &Closed<C>,
     picture: &Picture,
-) -> Result<(u64, u64), NoMemory> {
-    let sheet = sheet_of(alloc, closed, names, picture)?;
-    put_title(alloc, text, closed, picture)?;
-    put_frame(alloc, text, names, closed.topology().places(), &sheet)?;
-    let ends = put_middle(alloc, text, names, closed, picture, &sheet)?;
+    sheet: &Sheet,
+) -> Result<Size, NoMemory>
+    ensures { OnOk result (shapes elements.new.items ≡ shapes elements.old.items ++ picture_shapes (lists_of names.now) closed.now.run picture.now sheet.now.columns.nodes.items sheet.now.columns.lanes.items sheet.now.moments.items sheet.now.items.items) }
+{
+    let places = closed.topology().places();
+    add_title(alloc, elements, closed, picture)?;
+    add_frame(alloc, elements, names, places, sheet)?;
+    let ends = add_above(alloc, elements, names, closed, picture, sheet)?;
     let below = sheet.rows.bottom.max(ends.bottom).saturating_add(44);
-    let height = put_below(alloc, text, names, picture, below)?;
-    Ok((WIDTH.max(ends.right.saturating_add(10)), height))
+    let height = add_below(alloc, elements, names, picture, below)?;
+    Ok(Size {
+        width: WIDTH.max(ends.right.saturating_add(10)),
+        height,
+    })
 }
 
-/// Puts the head of a picture last.
-fn put_head(text: &mut Vec<u8>, width: u64, height: u64) -> Result<(), NoMemory> {
-    put(
-        text,
-        &[
-            Part::Words("<svg xmlns=\"http://www.w3.org/2000/svg\" width=\""),
-            Part::Number(width),
-            Part::Words("\" height=\""),
-            Part::Number(height),
-            Part::Words("\" viewBox=\"0 0 "),
-            Part::Number(width),
-            Part::Words(" "),
-            Part::Number(height),
-            Part::Words("\" font-family=\"DejaVu Sans, Arial, sans-serif\">\n"),
-            Part::Words("<rect width=\"100%\" height=\"100%\" fill=\"#fff\"/>\n"),
-        ],
-    )
+/// Adds all elements of a picture.
+fn add_scene<const C: usize>(
+    alloc: Global,
+    elements: &mut Vec<Element>,
+    names: &[Vec<u8>],
+    closed: &Closed<C>,
+    picture: &Picture,
+) -> Result<Size, NoMemory>
+    requires { elements.old.items ≡ [] }
+    ensures { OnOk result (IsScene (lists_of names.now) closed.now.run picture.now elements.new.items) }
+{
+    let sheet = sheet_of(alloc, closed, names, picture)?;
+    add_all(alloc, elements, names, closed, picture, &sheet)
 }
 
 /// A picture as SVG: panels side by side, moments and steps downwards, an arrow for each copy with a hover text, the sends at the
-/// right, a legend and the sends that aren't complete below. A node without a name is `n` and its number. Where things stand and
-/// which colours they have is no part of a contract. `NoMemory` where room is refused.
+/// right, a legend and the sends that aren't complete below. A node without a name is `n` and its number. Each arrow of the picture is
+/// drawn once, in order, and so is all else that is shown; where it stands on the paper is no part of the contract. `NoMemory` where
+/// room is refused.
 pub fn drawing<const C: usize>(
     alloc: Global,
     closed: &Closed<C>,
     names: &[Vec<u8>],
     picture: &Picture,
-) -> Result<Vec<u8>, NoMemory> {
-    let mut body = Vec::new(alloc);
-    let (width, height) = put_body(alloc, &mut body, names, closed, picture)?;
+) -> Result<Vec<u8>, NoMemory>
+    ensures { IfOk result (λ text. IsDrawing (lists_of names.now) closed.now.run picture.now text.items) }
+{
+    let mut elements = Vec::new(alloc);
+    let size = add_scene(alloc, &mut elements, names, closed, picture)?;
     let mut text = Vec::new(alloc);
-    put_head(&mut text, width, height)?;
-    put_points(&mut text)?;
-    text.extend_from_slice(body.as_slice())?;
-    put(&mut text, &[Part::Words("</svg>\n")])?;
+    put_svg(&mut text, size.width, size.height, elements.as_slice())?;
     Ok(text)
 }

@@ -31,11 +31,11 @@ module _ (f : Finished) (t : Topology) (scenario : Option (List ℕ)) (names : N
       record { names = lists_of names; named = named_there f t scenario names places links named; shows = subst S (sym is) (subst P same listing) }
 
   pub shown_picture : (what : What) (one : Names) (sends : Vec (Bor (List ℕ) × ℕ) Global) (list : List (Bor (List ℕ) × ℕ)) (span : Span) (r : Result (Vec ℕ Global) Fault) →
-      what ≡ Picture sends span → one ≡ names → list ≡ sends.items → IfOk r (λ _. IsPictured (lists_of one) f list span) → IfOk r (λ octets. IsShown f what scenario octets.items)
+      what ≡ Picture sends span → one ≡ names → list ≡ sends.items → IfOk r (λ octets. IsPictured (lists_of one) f list span octets.items) → IfOk r (λ octets. IsShown f what scenario octets.items)
   shown_picture what one sends list span (Err fault) is first second picture = tt
   shown_picture what one sends list span (Ok octets) is first second picture =
-      let P : Names → Type 0 = λ ns. IsPictured (lists_of ns) f list span in
-      let Q : List (Bor (List ℕ) × ℕ) → Type 0 = λ xs. IsPictured (lists_of names) f xs span in
+      let P : Names → Type 0 = λ ns. IsPictured (lists_of ns) f list span octets.items in
+      let Q : List (Bor (List ℕ) × ℕ) → Type 0 = λ xs. IsPictured (lists_of names) f xs span octets.items in
       let S : What → Type 0 = λ w. Shows (lists_of names) f w octets.items in
       record { names = lists_of names; named = named_there f t scenario names places links named; shows = subst S (sym is) (subst Q second (subst P first picture)) }
 

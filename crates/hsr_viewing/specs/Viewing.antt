@@ -3,7 +3,7 @@
 --     AreNames      the names of a scenario with this topology
 --     IsSend        the send that words mean
 --     AreSends      the sends that words mean
---     IsPictured    there is a picture of what is wanted
+--     IsPictured    the drawing of a picture of what is wanted
 --     table_of      the size of the tables, by a text's second line
 --     IsShownOf     what is shown of the text of a run
 use Rattle.std.specs.Prelude.{ℕ, ◌≡◌, List, map, filter, Ok, [], Option, Some, None, option_map, codes, if◌then◌else◌}
@@ -23,6 +23,7 @@ use Rattle.hsr_story.specs.declared.shown.Shown.{Shown}
 use Rattle.hsr_capture.specs.Capture.{capture}
 use Rattle.hsr_capture.specs.Fits.{Fits}
 use Rattle.hsr_devices.specs.Listing.{IsListing}
+use Rattle.hsr_drawing.specs.Drawing.{IsDrawing}
 use Rattle.hsr_law.specs.Run.{Run}
 use Rattle.hsr_transcript.specs.Answers.{IsTextOf}
 use Rattle.std.specs.Borrow.{Bor}
@@ -68,12 +69,13 @@ pub record IsCaptureOf (names : List (List ℕ)) (f : Finished) (wanted : Choice
 
 -- ---- pictures
 
--- what is asked for is there, and a picture shows it; no clause says how it is drawn
-pub record IsPictured (names : List (List ℕ)) (f : Finished) (asked : List (Bor (List ℕ) × ℕ)) (span : Span) : Type 0 where
+-- what is asked for is there, a picture shows it, and this is its drawing
+pub record IsPictured (names : List (List ℕ)) (f : Finished) (asked : List (Bor (List ℕ) × ℕ)) (span : Span) (octets : List ℕ) : Type 0 where
   pub sends : List Probe
   pub meant : AreSends names asked sends
   pub picture : Picture
   pub shows : IsPicture f.run f.plan sends span picture
+  pub drawn : IsDrawing names f.run picture octets
 
 -- ---- all that can be asked for
 
@@ -83,10 +85,10 @@ topology_of run = record { places = run.places; links = run.links }
 abbrev pub send_words : Option (Bor (List ℕ) × ℕ) → Option (List ℕ × ℕ)
 send_words send = option_map (λ s. (s.0.now, s.1)) send
 
--- with these names this is the capture that is wanted, or the list of devices
+-- with these names this is the capture that is wanted, the drawing of the picture, or the list of devices
 abbrev pub Shows : List (List ℕ) → Finished → What → List ℕ → Type 0
 Shows names f (asked.Capture link send) octets = (probe : Option Probe) × IsSend names (send_words send) probe × IsCaptureOf names f (record { link = link; send = probe }) octets
-Shows names f (asked.Picture sends span) octets = IsPictured names f sends.items span
+Shows names f (asked.Picture sends span) octets = IsPictured names f sends.items span octets
 Shows names f asked.Devices octets = IsListing names f.run octets
 
 pub record IsShown (f : Finished) (what : What) (scenario : Option (List ℕ)) (octets : List ℕ) : Type 0 where

@@ -108,7 +108,7 @@ fn add(probes: &mut Vec<Probe>, probe: Probe) -> Result<(), NoMemory>
     Ok(())
 }
 
-/// The picture of those rows of a run that are wanted: `Send` where the run hasn't one of the sends, `Moments` where the span ends
+/// The picture of those rows of a run that are wanted, drawn: `Send` where the run hasn't one of the sends, `Moments` where the span ends
 /// before it begins, `Copies` where too many are wanted, `Circle` where its rows have no order of time.
 fn picture_of<const C: usize>(
     alloc: Global,
@@ -117,7 +117,7 @@ fn picture_of<const C: usize>(
     sends: &[(&str, usize)],
     span: Span,
 ) -> Result<Vec<u8>, Fault>
-    ensures picture { IfOk result (λ _. IsPictured (lists_of names.now) closed.now sends.now span) }
+    ensures picture { IfOk result (λ octets. IsPictured (lists_of names.now) closed.now sends.now span octets.items) }
     ensures undrawn { IfErr result (λ fault. (fault ≡ Memory) ⊎ (((fault ≡ Send) × HasStray (lists_of names.now) sends.now) ⊎ IsUndrawn (lists_of names.now) closed.now sends.now span fault)) }
 {
     let probes = probes_of(alloc, names, sends)?;

@@ -1,0 +1,115 @@
+//! The marks of sends, on the lines of their nodes.
+ghost use Rattle.std.specs.Prelude.{◌≡◌, ◌++◌, OnOk};
+ghost use Rattle.std.specs.List.{flat_map};
+ghost use Rattle.hsr_order.specs.Fronts.{lists_of};
+ghost use Rattle.hsr_svg.specs.Elements.{shapes};
+ghost use Rattle.hsr_drawing.specs.Marks.{mark_if, mark_shapes, marks_of, sent_marks};
+
+use crate::sheet::Sheet;
+use hsr_deliveries::Delivery;
+use hsr_frame::NoMemory;
+use hsr_node::Probe;
+use hsr_picture::Sent;
+use hsr_picture_text::send_words;
+use hsr_svg::{Anchor, Element, Label, Spot, add_square, add_text};
+use std::alloc::Global;
+
+/// Adds the mark of a send, with its words.
+#[tactic(auto, unfolding(crate::specs::Marks::mark_shapes))]
+fn add_mark(
+    alloc: Global,
+    elements: &mut Vec<Element>,
+    names: &[Vec<u8>],
+    send: Probe,
+    x: u64,
+    y: u64,
+) -> Result<(), NoMemory>
+    ensures { OnOk result (shapes elements.new.items ≡ shapes elements.old.items ++ mark_shapes (lists_of names.now) send) }
+{
+    add_square(elements, x, y)?;
+    let words = send_words(alloc, names, send)?;
+    let spot = Spot {
+        x: x.saturating_add(7),
+        y: y.saturating_sub(2),
+        anchor: Anchor::Start,
+    };
+    add_text(elements, Label::Mark, words, spot)
+}
+
+/// Adds the mark of a send, if a line is of its node.
+fn add_mark_if(
+    alloc: Global,
+    elements: &mut Vec<Element>,
+    names: &[Vec<u8>],
+    send: Probe,
+    node: usize,
+    x: u64,
+    y: u64,
+) -> Result<(), NoMemory>
+    ensures { OnOk result (shapes elements.new.items ≡ shapes elements.old.items ++ mark_if (lists_of names.now) send node) }
+{
+    if node == send.node {
+        add_mark(alloc, elements, names, send, x, y)
+    } else {
+        Ok(())
+    }
+}
+
+/// Adds the marks of a send, one on each line of its node.
+#[tactic(auto, using(hsr_svg::proofs::Growing::grown))]
+fn add_marks_of(
+    alloc: Global,
+    elements: &mut Vec<Element>,
+    names: &[Vec<u8>],
+    sheet: &Sheet,
+    nodes: &[usize],
+    send: Probe,
+    y: u64,
+) -> Result<(), NoMemory>
+    ensures { OnOk result (shapes elements.new.items ≡ shapes elements.old.items ++ marks_of (lists_of names.now) nodes.now send) }
+{
+    for (number, node) in nodes.iter().enumerate() {
+        let x = sheet.columns.line_at(number);
+        add_mark_if(alloc, elements, names, send, *node, x, y)?;
+    }
+    Ok(())
+}
+
+/// Adds the marks of a send that is listed.
+fn add_sent(
+    alloc: Global,
+    elements: &mut Vec<Element>,
+    names: &[Vec<u8>],
+    sheet: &Sheet,
+    deliveries: &[Delivery],
+    sent: &Sent,
+) -> Result<(), NoMemory>
+    ensures { OnOk result (shapes elements.new.items ≡ shapes elements.old.items ++ sent_marks (lists_of names.now) sheet.now.columns.nodes.items deliveries.now sent.now) }
+{
+    match deliveries.get(sent.number) {
+        Some(delivery) => {
+            let nodes = sheet.columns.nodes.as_slice();
+            let y = sheet.rows.at_some(sent.start);
+            add_marks_of(alloc, elements, names, sheet, nodes, delivery.send, y)
+        }
+        None => Ok(()),
+    }
+}
+
+/// Adds the marks of all sends that are listed.
+#[tactic(auto, using(hsr_svg::proofs::Growing::grown))]
+pub(crate) fn add_marks(
+    alloc: Global,
+    elements: &mut Vec<Element>,
+    names: &[Vec<u8>],
+    sheet: &Sheet,
+    deliveries: &[Delivery],
+    sends: &[Sent],
+) -> Result<(), NoMemory>
+    ensures { OnOk result (shapes elements.new.items ≡ shapes elements.old.items ++ flat_map (sent_marks (lists_of names.now) sheet.now.columns.nodes.items deliveries.now) sends.now) }
+{
+    for sent in sends {
+        add_sent(alloc, elements, names, sheet, deliveries, sent)?;
+    }
+    Ok(())
+}

@@ -1,0 +1,5 @@
+pub mod Sends
+pub mod Labels
+pub mod Title
+pub mod Sent
+pub mod Told

@@ -1,0 +1,62 @@
+//! Nodes, ports, links and moments.
+ghost use Rattle.std.specs.Prelude.{◌≡◌, slice_get, IfOk};
+ghost use Rattle.hsr_names.specs.Names.{name_of};
+ghost use Rattle.hsr_order.specs.Fronts.{lists_of};
+ghost use Rattle.hsr_picture_text.specs.Labels.{kind_word, letter_at, link_words, moment_words};
+
+use crate::sends::{put, put_number};
+use hsr_frame::NoMemory;
+use hsr_names::put_name;
+use hsr_node::Place;
+use std::alloc::Global;
+
+/// The name of a node. `NoMemory` where room is refused.
+pub fn name_words(alloc: Global, names: &[Vec<u8>], node: usize) -> Result<Vec<u8>, NoMemory>
+    ensures { IfOk result (λ words. words.items ≡ name_of (lists_of names.now) node) }
+{
+    let mut words = Vec::new(alloc);
+    put_name(&mut words, names, node)?;
+    Ok(words)
+}
+
+/// What kind of node it is, in a word.
+pub fn kind_word(place: &Place) -> &'static str
+    ensures { result.now ≡ kind_word place.now }
+{
+    match place {
+        Place::Danh { .. } => "",
+        Place::RedBox { .. } => "redbox",
+        Place::QuadBox => "quadbox",
+        Place::Station { .. } => "station",
+    }
+}
+
+/// The letter of a port, if there is such a node; else a space.
+pub fn letter_at(places: &[Place], node: usize, port: u8) -> u8
+    ensures { result ≡ letter_at (slice_get places.now node) port }
+{
+    match places.get(node) {
+        Some(place) => place.letter(port),
+        None => b' ',
+    }
+}
+
+/// A link, by its number. `NoMemory` where room is refused.
+pub fn link_words(alloc: Global, link: usize) -> Result<Vec<u8>, NoMemory>
+    ensures { IfOk result (λ words. words.items ≡ link_words link) }
+{
+    let mut words = Vec::new(alloc);
+    put(&mut words, "link ")?;
+    put_number(&mut words, link as u64)?;
+    Ok(words)
+}
+
+/// A moment in microseconds. `NoMemory` where room is refused.
+pub fn moment_words(alloc: Global, moment: u64) -> Result<Vec<u8>, NoMemory>
+    ensures { IfOk result (λ words. words.items ≡ moment_words moment) }
+{
+    let mut words = Vec::new(alloc);
+    put_number(&mut words, moment)?;
+    put(&mut words, " us")?;
+    Ok(words)
+}

@@ -1,0 +1,21 @@
+//! The words of a picture.
+//!
+//! Its modules, in the order in which to read them:
+//! - `sends`: sends, and names of nodes
+//! - `labels`: nodes, ports, links and moments
+//! - `title`: the title
+//! - `sent`: sends as they are listed
+//! - `told`: sends that aren't complete
+#![tactic(auto)]
+
+mod labels;
+mod sends;
+mod sent;
+mod title;
+mod told;
+
+pub use labels::{kind_word, letter_at, link_words, moment_words, name_words};
+pub use sends::send_words;
+pub use sent::sent_words;
+pub use title::title_words;
+pub use told::{more_words, told_words};

@@ -1,0 +1,4 @@
+pub mod Parts
+pub mod Style
+pub mod Elements
+pub mod Spelling
