@@ -1,2 +1,4 @@
+mod Growing
 mod Names
+pub mod Troubles
 pub mod Whole

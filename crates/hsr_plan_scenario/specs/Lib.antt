@@ -1,3 +1,5 @@
+pub mod Spelled
 pub mod Says
+pub mod Refusals
 pub mod Input
 pub mod Ends

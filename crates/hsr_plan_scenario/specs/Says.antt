@@ -1,5 +1,6 @@
 -- What it is for a text to be the scenario that a plan means.
 use Rattle.std.specs.Prelude.{◌≡◌, ⊤, ℕ, List, ◌++◌, codes, map, Option, Some, None, Result, Ok, Err}
+use Rattle.std.specs.Str.{IsUtf8}
 use Rattle.hsr_scenario.specs.Meaning.{Meant, meaning}
 use Rattle.hsr_scenario.specs.Names.{NamesMeant, names_meant}
 use Rattle.hsr_plan_text.specs.Plan.{Plan}
@@ -7,6 +8,7 @@ use Rattle.hsr_plan_text.specs.Meaning.{plan_of}
 use Rattle.hsr_plan_text.specs.declared.fault.PlanFault.{PlanFault}
 use Rattle.hsr_plan_meaning.specs.Meaning.{Meaning}
 use Rattle.hsr_plan_hops.specs.Moving.{MeansMoved}
+use Rattle.hsr_plan_scenario.specs.Spelled.{scenario_text}
 
 -- the scenario that is meant
 abbrev pub scenario_meant : Meaning → Meant
@@ -21,24 +23,25 @@ abbrev pub IsTitled : Option (List ℕ) → List ℕ → Type 0
 IsTitled None text = ⊤
 IsTitled (Some title) text = (rest : List ℕ) × (text ≡ codes "# " ++ title ++ codes "\n" ++ rest)
 
--- a text is read as the scenario that is meant, its nodes have the names that are meant, and it begins with a title
+-- octets are a text that is read as the scenario that is meant, its nodes have the names that are meant, and it begins with a title
 pub record Tells (title : Option (List ℕ)) (m : Meaning) (text : List ℕ) : Type 0 where
+  pub is_text : IsUtf8 text
   pub means : meaning text ≡ Ok (scenario_meant m)
   pub named : names_meant text ≡ Ok (names_meant_by m)
   pub titled : IsTitled title text
 
--- a text tells what a plan means in a world with tables of so many entries, and the plan's title
+-- a text is spelled as what a plan means in a world with tables of so many entries, and is read as that, with the plan's title
 abbrev pub Says : ℕ → Plan → List ℕ → Type 0
-Says capacity plan text = (m : Meaning) × MeansMoved capacity plan m × Tells plan.outline.title m text
+Says capacity plan text = (m : Meaning) × MeansMoved capacity plan m × (text ≡ scenario_text plan.outline.title m) × Tells plan.outline.title m text
 
 abbrev pub SaysIf : ℕ → Result Plan PlanFault → List ℕ → Type 0
 SaysIf capacity (Ok plan) text = Says capacity plan text
 SaysIf capacity (Err fault) text = ⊥
 
--- a text is read as the scenario of what another text means as a plan
+-- octets are a text, and another text is the scenario of what it means as a plan
 abbrev pub SaysPlan : ℕ → List ℕ → List ℕ → Type 0
-SaysPlan capacity plan text = SaysIf capacity (plan_of plan) text
+SaysPlan capacity plan text = IsUtf8 plan × SaysIf capacity (plan_of plan) text
 
--- a text is a scenario
+-- octets are a text, and that is a scenario
 abbrev pub IsScenario : List ℕ → Type 0
-IsScenario text = (m : Meant) × (meaning text ≡ Ok m)
+IsScenario text = IsUtf8 text × ((m : Meant) × (meaning text ≡ Ok m))

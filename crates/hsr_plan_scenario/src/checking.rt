@@ -1,14 +1,20 @@
 //! The text of a plan's scenario, checked against what the plan means.
-ghost use Rattle.std.specs.Prelude.{◌≡◌, ◌≤◌, IfOk, OnOk, Ok, option_map, string_bytes};
+ghost use Rattle.std.specs.Prelude.{◌≡◌, ◌≢◌, ◌≤◌, IfErr, IfOk, OnOk, Ok, option_map, string_bytes};
 ghost use Rattle.hsr_scenario.specs.Meaning.{meaning};
 ghost use Rattle.hsr_scenario.specs.Names.{names_meant};
-ghost use Rattle.hsr_plan_scenario.specs.Says.{Says, SaysPlan, Tells, names_meant_by, scenario_meant};
+ghost use Rattle.hsr_plan_text.specs.Meaning.{plan_of};
+ghost use Rattle.hsr_plan_text.specs.Plan.{Plan as PlanOf};
+ghost use Rattle.hsr_plan_meaning.specs.Meaning.{Means};
+ghost use Rattle.hsr_plan_hops.specs.Moving.{MeansMoved};
+ghost use Rattle.hsr_plan_scenario.specs.Refusals.{IfDiffers, IsByHops, IsMisread, IsTroubleIn, IsTroubleOf, IsUnmoved, IsUntold, no_room, unread};
+ghost use Rattle.hsr_plan_scenario.specs.Says.{Says, SaysIf, Tells, names_meant_by, scenario_meant};
+ghost use Rattle.hsr_plan_scenario.specs.Spelled.{scenario_text};
 
-use crate::same::{is_meant, is_named, is_titled};
+use crate::same::{is_meant, is_named};
 use crate::spelling::{measured, spelled};
 use hsr_plan_hops::{Unmoved, moved_meaning_of};
-use hsr_plan_meaning::Meaning;
-use hsr_plan_text::{Plan, PlanFault, Spot, What};
+use hsr_plan_meaning::{Meaning, meaning_of};
+use hsr_plan_text::{Moves, Plan, PlanFault, Spot, What};
 use hsr_scenario::{ScenarioFault, TEXT_LIMIT, What as ScenarioWhat, read, read_names};
 use std::alloc::Global;
 
@@ -26,15 +32,19 @@ pub enum Trouble {
 }
 
 /// The trouble where room is refused.
-fn no_memory() -> Trouble {
+fn no_memory() -> Trouble
+    ensures { result ≡ no_room }
+{
     Trouble::Plan(PlanFault {
         spot: Spot::Top,
         what: What::NoMemory,
     })
 }
 
-/// The trouble where copies don't move as the plan says.
-pub fn trouble_of(unmoved: Unmoved) -> Trouble {
+/// The trouble where copies don't move by hops.
+fn trouble_of(unmoved: Unmoved) -> Trouble
+    ensures { (plan : PlanOf) → IsByHops plan → IsUnmoved plan result }
+{
     match unmoved {
         Unmoved::Plan(fault) => Trouble::Plan(fault),
         Unmoved::Endless(steps) => Trouble::Endless(steps),
@@ -43,8 +53,47 @@ pub fn trouble_of(unmoved: Unmoved) -> Trouble {
     }
 }
 
+/// What a plan means whose copies move by hops.
+fn moved_by_hops<const C: usize>(alloc: Global, plan: &Plan) -> Result<Meaning, Trouble>
+    requires entries { (1 ≤ C) × (C ≤ 65535) }
+    requires hops { IsByHops plan.now }
+    ensures means { IfOk result (MeansMoved C plan.now) }
+    ensures unmoved { IfErr result (IsUnmoved plan.now) }
+{
+    match moved_meaning_of::<C>(alloc, plan) {
+        Ok(meaning) => Ok(meaning),
+        Err(unmoved) => Err(trouble_of(unmoved)),
+    }
+}
+
+/// What a plan means whose orders tell how its copies move.
+fn told(alloc: Global, plan: &Plan) -> Result<Meaning, Trouble>
+    ensures means { IfOk result (Means plan.now) }
+    ensures unmoved { IfErr result (IsUnmoved plan.now) }
+{
+    match meaning_of(alloc, plan) {
+        Ok(meaning) => Ok(meaning),
+        Err(fault) => Err(Trouble::Plan(fault)),
+    }
+}
+
+/// What a plan means in a world with tables of `C` entries, once its copies move. `Plan` has the first fault of the plan, and `Endless` and
+/// `Differs` come only where its copies move by hops.
+pub fn moved<const C: usize>(alloc: Global, plan: &Plan) -> Result<Meaning, Trouble>
+    requires { (1 ≤ C) × (C ≤ 65535) }
+    ensures means { IfOk result (MeansMoved C plan.now) }
+    ensures unmoved { IfErr result (IsUnmoved plan.now) }
+{
+    match plan.outline.moves {
+        Moves::Hop(_) => moved_by_hops::<C>(alloc, plan),
+        Moves::EachSendDrains | Moves::EachMomentDrains => told(alloc, plan),
+    }
+}
+
 /// The trouble where a text isn't read.
-fn unread(fault: &ScenarioFault) -> Trouble {
+fn unread(fault: &ScenarioFault) -> Trouble
+    ensures { result ≡ unread fault.now.what }
+{
     match fault.what {
         ScenarioWhat::NoMemory => no_memory(),
         _ => Trouble::Differs,
@@ -53,7 +102,8 @@ fn unread(fault: &ScenarioFault) -> Trouble {
 
 /// Refuses a text that isn't read as what a plan means.
 fn check_meaning(alloc: Global, text: &str, meant: &Meaning) -> Result<(), Trouble>
-    ensures { OnOk result (meaning text.now ≡ Ok (scenario_meant meant.now)) }
+    ensures means { OnOk result (meaning text.now ≡ Ok (scenario_meant meant.now)) }
+    ensures differs { IfErr result (IfDiffers (meaning text.now ≢ Ok (scenario_meant meant.now))) }
 {
     match read(alloc, text) {
         Ok(scenario) if is_meant(&scenario, meant) => Ok(()),
@@ -64,7 +114,8 @@ fn check_meaning(alloc: Global, text: &str, meant: &Meaning) -> Result<(), Troub
 
 /// Refuses a text of which the nodes haven't the names that a plan means.
 fn check_names(alloc: Global, text: &str, meant: &Meaning) -> Result<(), Trouble>
-    ensures { OnOk result (names_meant text.now ≡ Ok (names_meant_by meant.now)) }
+    ensures named { OnOk result (names_meant text.now ≡ Ok (names_meant_by meant.now)) }
+    ensures differs { IfErr result (IfDiffers (names_meant text.now ≢ Ok (names_meant_by meant.now))) }
 {
     match read_names(alloc, text) {
         Ok(names) if is_named(&names, meant) => Ok(()),
@@ -73,32 +124,36 @@ fn check_names(alloc: Global, text: &str, meant: &Meaning) -> Result<(), Trouble
     }
 }
 
-/// Refuses a text that doesn't tell a title and what a plan means.
+/// Refuses a text that isn't read as what a plan means.
 fn check(alloc: Global, text: &[u8], title: &Option<String>, meant: &Meaning) -> Result<(), Trouble>
-    ensures { OnOk result (Tells (option_map string_bytes title.now) meant.now text.now) }
+    requires spelled { text.now ≡ scenario_text (option_map string_bytes title.now) meant.now }
+    ensures tells { OnOk result (Tells (option_map string_bytes title.now) meant.now text.now) }
+    ensures differs { IfErr result (IfDiffers (IsMisread (option_map string_bytes title.now) meant.now)) }
 {
     let Ok(words) = str::from_utf8(text) else {
         return Err(Trouble::Differs);
     };
     check_meaning(alloc, words, meant)?;
-    check_names(alloc, words, meant)?;
-    if is_titled(text, title) {
-        Ok(())
-    } else {
-        Err(Trouble::Differs)
+    check_names(alloc, words, meant)
+}
+
+/// Refuses what is meant where its text has over 16 MiB. The text isn't formed for it.
+fn check_length(alloc: Global, title: &Option<String>, meant: &Meaning) -> Result<(), Trouble>
+    ensures { IfErr result (IsUntold (option_map string_bytes title.now) meant.now) }
+{
+    match measured(alloc, title, meant) {
+        Ok(octets) if octets > TEXT_LIMIT => Err(Trouble::TooLong(octets)),
+        Ok(_) => Ok(()),
+        Err(_) => Err(no_memory()),
     }
 }
 
-/// The text of what a plan means, checked. It is measured before it is formed.
-fn checked(alloc: Global, plan: &Plan, meant: &Meaning) -> Result<Vec<u8>, Trouble>
-    ensures { IfOk result (λ text. Tells plan.now.outline.title meant.now text.items) }
+/// The text of what is meant, with a title, checked.
+fn formed(alloc: Global, title: &Option<String>, meant: &Meaning) -> Result<Vec<u8>, Trouble>
+    ensures spelled { IfOk result (λ text. text.items ≡ scenario_text (option_map string_bytes title.now) meant.now) }
+    ensures tells { IfOk result (λ text. Tells (option_map string_bytes title.now) meant.now text.items) }
+    ensures differs { IfErr result (IfDiffers (IsMisread (option_map string_bytes title.now) meant.now)) }
 {
-    let title = &plan.outline.title;
-    match measured(alloc, title, meant) {
-        Ok(octets) if octets > TEXT_LIMIT => return Err(Trouble::TooLong(octets)),
-        Ok(_) => {},
-        Err(_) => return Err(no_memory()),
-    }
     let Ok(text) = spelled(alloc, title, meant) else {
         return Err(no_memory());
     };
@@ -108,23 +163,42 @@ fn checked(alloc: Global, plan: &Plan, meant: &Meaning) -> Result<Vec<u8>, Troub
     }
 }
 
-/// The text of the scenario that a plan means in a world with tables of `C` entries, with the plan's names, and its title as the first
-/// comment. Before it is answered it is read back and compared with what the plan means: a text that differs is `Differs`. One of over
-/// 16 MiB is `TooLong`, and isn't formed. All other troubles are those of `moved_meaning_of`.
-pub fn scenario_of_meaning<const C: usize>(alloc: Global, plan: &Plan) -> Result<Vec<u8>, Trouble>
-    requires { (1 ≤ C) × (C ≤ 65535) }
-    ensures { IfOk result (λ text. Says C plan.now text.items) }
+/// The text of what a plan means, checked. It is measured before it is formed.
+fn checked(alloc: Global, plan: &Plan, meant: &Meaning) -> Result<Vec<u8>, Trouble>
+    ensures spelled { IfOk result (λ text. text.items ≡ scenario_text plan.now.outline.title meant.now) }
+    ensures tells { IfOk result (λ text. Tells plan.now.outline.title meant.now text.items) }
+    ensures untold { IfErr result (IsUntold plan.now.outline.title meant.now) }
 {
-    match moved_meaning_of::<C>(alloc, plan) {
-        Ok(meaning) => checked(alloc, plan, &meaning),
-        Err(unmoved) => Err(trouble_of(unmoved)),
+    let title = &plan.outline.title;
+    match check_length(alloc, title, meant) {
+        Ok(()) => match formed(alloc, title, meant) {
+            Ok(text) => Ok(text),
+            Err(trouble) => Err(trouble),
+        },
+        Err(trouble) => Err(trouble),
     }
 }
 
-/// The text of the scenario that a text means as a plan, in a world with tables of `C` entries.
+/// The text of the scenario that a plan means in a world with tables of `C` entries, with the plan's names, and its title as the first
+/// comment. Before it is answered it is read back and compared with what the plan means: a text that differs is `Differs`. One of over
+/// 16 MiB is `TooLong`, and isn't formed. All other troubles are those of `moved`.
+pub fn scenario_of_meaning<const C: usize>(alloc: Global, plan: &Plan) -> Result<Vec<u8>, Trouble>
+    requires { (1 ≤ C) × (C ≤ 65535) }
+    ensures says { IfOk result (λ text. Says C plan.now text.items) }
+    ensures trouble { IfErr result (IsTroubleOf C plan.now) }
+{
+    match moved::<C>(alloc, plan) {
+        Ok(meaning) => checked(alloc, plan, &meaning),
+        Err(trouble) => Err(trouble),
+    }
+}
+
+/// The text of the scenario that a text means as a plan, in a world with tables of `C` entries. `Plan` has the first fault of the text or
+/// of the plan that it is.
 pub fn scenario_of_plan<const C: usize>(alloc: Global, text: &str) -> Result<Vec<u8>, Trouble>
     requires { (1 ≤ C) × (C ≤ 65535) }
-    ensures { IfOk result (λ scenario. SaysPlan C text.now scenario.items) }
+    ensures says { IfOk result (λ scenario. SaysIf C (plan_of text.now) scenario.items) }
+    ensures trouble { IfErr result (IsTroubleIn C (plan_of text.now)) }
 {
     match hsr_plan_text::read(alloc, text) {
         Ok(plan) => scenario_of_meaning::<C>(alloc, &plan),

@@ -1,6 +1,6 @@
 //! A text that is read whole, up to a length, with a bound on the number of reads.
 ghost use Rattle.std.specs.Prelude.{◌≡◌, ◌^◌, IfOk, IfSome, None};
-ghost use Rattle.hsr_plan_scenario.specs.Input.{IsWhole, ReadsPiece};
+ghost use Rattle.hsr_plan_scenario.specs.Input.{IsWhole, ReadsPiece, input_line};
 
 use hsr_text::READ_LIMIT;
 use std::alloc::Global;
@@ -16,6 +16,18 @@ pub enum InputFault {
     Read,
     /// Room was refused.
     Memory,
+}
+
+impl InputFault {
+    /// The line that tells it.
+    pub(crate) fn line(self) -> &'static [u8]
+        ensures { result.now ≡ input_line self }
+    {
+        match self {
+            InputFault::Read => b"fault: read\n",
+            InputFault::Memory => b"fault: memory\n",
+        }
+    }
 }
 
 /// Reads a piece of a text, puts it behind what was read, and tells whether more may follow.

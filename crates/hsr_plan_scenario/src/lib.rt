@@ -10,7 +10,7 @@ mod planning;
 mod same;
 mod spelling;
 
-pub use checking::{Trouble, scenario_of_meaning, scenario_of_plan, trouble_of};
+pub use checking::{Trouble, moved, scenario_of_meaning, scenario_of_plan};
 pub use input::{InputFault, read_text};
 pub use judging::check_run;
-pub use planning::{Ending, Line, complain, deliver, line_of, plan_run, words};
+pub use planning::{Ending, Line, complain, deliver, fail, line_of, plan_run, words};

@@ -1,10 +1,12 @@
 //! The whole way from a plan's text to its scenario's, over a reader and two writers.
-ghost use Rattle.std.specs.Prelude.{◌≡◌, ◌≤◌, ◌&&◌, ◌==◌, ◌++◌, IfOk, IfSome, OnOk, codes, nat_le, not, true};
+ghost use Rattle.std.specs.Prelude.{◌≡◌, ◌≢◌, ◌≤◌, ◌&&◌, ◌==◌, ◌++◌, IfErr, IfOk, IfSome, IsOk, OnOk, codes, nat_le, not, true};
 ghost use Rattle.std.specs.Io.KnownBytes.{Appends};
 ghost use Rattle.hsr_plan_text.specs.Words.{is_title};
-ghost use Rattle.hsr_plan_scenario.specs.Ends.{Ends, IsDelivered, TellsFault, code_of};
+ghost use Rattle.hsr_plan_text.specs.declared.fault.What.TheVariants.{NoMemory as NoRoom};
+ghost use Rattle.hsr_plan_scenario.specs.Ends.{Ends, IsDelivered, TellsFault, TellsInput, TellsWhy, code_of};
+ghost use Rattle.hsr_plan_scenario.specs.Refusals.{IsKnown, IsUnplanned};
 ghost use Rattle.hsr_plan_scenario.specs.Says.{SaysPlan};
-ghost use Rattle.hsr_plan_scenario.specs.declared.planning.Ending.TheVariants.{Refused};
+ghost use Rattle.hsr_plan_scenario.specs.declared.planning.Ending.TheVariants.{Failed, Refused};
 
 use crate::checking::{Trouble, scenario_of_plan};
 use crate::input::{InputFault, read_text};
@@ -22,6 +24,8 @@ pub enum Ending {
     Planned,
     /// There is none; a line on the second writer says why, and nothing else was written.
     Refused,
+    /// The reader failed, or memory ran out; a line on the second writer says so, and nothing else was written.
+    Failed,
     /// The first writer failed.
     Unwritten,
 }
@@ -33,7 +37,7 @@ impl Ending {
     {
         match self {
             Ending::Planned => 0,
-            Ending::Refused | Ending::Unwritten => 1,
+            Ending::Refused | Ending::Failed | Ending::Unwritten => 1,
         }
     }
 }
@@ -69,16 +73,22 @@ fn endless(alloc: Global, steps: usize) -> Line {
     Ok(line)
 }
 
-/// The line of a trouble.
-pub fn line_of(alloc: Global, text: &str, trouble: &Trouble) -> Line {
+/// The line of a fault of a plan.
+fn line_of_fault(alloc: Global, text: &str, fault: &PlanFault) -> Line
+    ensures { IsOk result → fault.now.what ≢ NoRoom }
+{
+    if matches!(fault.what, What::NoMemory) {
+        return Err(NoMemory);
+    }
+    told(alloc, text, fault)
+}
+
+/// The line of a trouble; there is none for refused room.
+pub fn line_of(alloc: Global, text: &str, trouble: &Trouble) -> Line
+    ensures { IsOk result → IsKnown trouble.now }
+{
     match trouble {
-        Trouble::Plan(
-            PlanFault {
-                what: What::NoMemory,
-                ..
-            },
-        ) => Err(NoMemory),
-        Trouble::Plan(fault) => told(alloc, text, fault),
+        Trouble::Plan(fault) => line_of_fault(alloc, text, fault),
         Trouble::TooLong(octets) => too_long(alloc, *octets),
         Trouble::Endless(steps) => endless(alloc, *steps),
         Trouble::Differs => words(
@@ -91,7 +101,8 @@ pub fn line_of(alloc: Global, text: &str, trouble: &Trouble) -> Line {
 /// The scenario that octets mean as a plan, or the line of what is wrong.
 fn scenario_of<const C: usize>(alloc: Global, octets: &[u8]) -> Result<Vec<u8>, Line>
     requires { (1 ≤ C) × (C ≤ 65535) }
-    ensures { IfOk result (λ text. SaysPlan C octets.now text.items) }
+    ensures says { IfOk result (λ text. SaysPlan C octets.now text.items) }
+    ensures unplanned { IfErr result (λ line. IsOk line → IsUnplanned C octets.now) }
 {
     let Ok(text) = str::from_utf8(octets) else {
         return Err(words(alloc, "fault: plan 1:1 no UTF-8"));
@@ -115,7 +126,8 @@ fn shown(octet: u8) -> u8
 
 /// Why something is wrong, without control characters: a name in a plan or in a scenario may have them.
 fn reason(alloc: Global, line: Line) -> Line
-    ensures { IfOk result (λ why. is_title why.items ≡ true) }
+    ensures title { IfOk result (λ why. is_title why.items ≡ true) }
+    ensures some { OnOk result (IsOk line) }
 {
     let line = line?;
     let octets = line.as_slice();
@@ -146,14 +158,24 @@ fn refuse<E: Write>(errors: &mut E, why: &[u8]) -> io::Result<Ending>
     Ok(Ending::Refused)
 }
 
-/// Writes the line of what is wrong. The error of `errors`, where it can't be written there.
+/// Writes the line of a text that isn't read, or of refused room, after which nothing is written. The error of `errors`, where it can't
+/// be written there.
+pub fn fail<E: Write>(errors: &mut E, fault: InputFault) -> io::Result<Ending>
+    ensures is { IfOk result (λ ending. ending ≡ Failed) }
+    ensures told { OnOk result (TellsInput (E.contents errors.old) (E.contents errors.new)) }
+{
+    errors.write_all(fault.line())?;
+    errors.flush()?;
+    Ok(Ending::Failed)
+}
+
+/// Writes the line of what is wrong, or of refused room. The error of `errors`, where it can't be written there.
 pub fn complain<E: Write>(alloc: Global, errors: &mut E, line: Line) -> io::Result<Ending>
-    ensures is { IfOk result (λ ending. ending ≡ Refused) }
-    ensures told { OnOk result (TellsFault (E.contents errors.old) (E.contents errors.new)) }
+    ensures { IfOk result (TellsWhy (IsOk line) (E.contents errors.old) (E.contents errors.new)) }
 {
     match reason(alloc, line) {
         Ok(why) => refuse(errors, why.as_slice()),
-        Err(_) => refuse(errors, b"memory"),
+        Err(_) => fail(errors, InputFault::Memory),
     }
 }
 
@@ -186,8 +208,8 @@ fn answer<W: Write, E: Write, const C: usize>(
 /// Reads a plan, and writes the scenario that it means: a text that `hsr_scenario::read` reads as the topology, the capacity and the
 /// orders that the definition of the plan's meaning lists, for a run with tables of `C` entries, with the plan's names and its title as
 /// its first comment. Where there is none, nothing is written but one line on `errors`: `fault: plan <line>:<column>` and what is wrong,
-/// `fault: read`, or `fault: memory`. The plan and the scenario have at most 16 MiB. The error of `errors`, where that line can't be
-/// written there.
+/// where the octets are no UTF-8, no plan, or a plan without a scenario; `fault: read`, or `fault: memory`. The plan and the scenario have
+/// at most 16 MiB. The error of `errors`, where that line can't be written there.
 #[tactic(auto, using(crate::proofs::Whole::ends_whole))]
 pub fn plan_run<R: Read, W: Write, E: Write, const C: usize>(
     alloc: Global,
@@ -201,7 +223,6 @@ pub fn plan_run<R: Read, W: Write, E: Write, const C: usize>(
 {
     match read_text(alloc, reader, TEXT_LIMIT) {
         Ok(octets) => answer::<W, E, C>(alloc, octets.as_slice(), writer, errors),
-        Err(InputFault::Read) => complain(alloc, errors, words(alloc, "fault: read")),
-        Err(InputFault::Memory) => complain(alloc, errors, Err(NoMemory)),
+        Err(fault) => fail(errors, fault),
     }
 }

@@ -1,8 +1,8 @@
 //! Whether a scenario is what a plan means.
-ghost use Rattle.std.specs.Prelude.{◌≡◌, ◌↔◌, ◌++◌, IfSome, IsTrue, codes, map, option_map, string_bytes};
+ghost use Rattle.std.specs.Prelude.{◌≡◌, ◌↔◌, IsTrue, map};
 ghost use Rattle.hsr_scenario.specs.Meaning.{scenario_view};
 ghost use Rattle.hsr_scenario.specs.Names.{names_view};
-ghost use Rattle.hsr_plan_scenario.specs.Says.{IsTitled, names_meant_by, scenario_meant};
+ghost use Rattle.hsr_plan_scenario.specs.Says.{names_meant_by, scenario_meant};
 
 use hsr_frame::Mac;
 use hsr_node::Place;
@@ -46,7 +46,7 @@ fn is_same_place(a: &Place, b: &Place) -> bool
 
 /// Whether kinds of node are the same, one by one.
 fn are_same_places(a: &[Place], b: &[Place]) -> bool
-    ensures { IsTrue result → a.now ≡ b.now }
+    ensures { IsTrue result ↔ (a.now ≡ b.now) }
 {
     let mut left = b;
     for place in a.iter() {
@@ -62,13 +62,13 @@ fn are_same_places(a: &[Place], b: &[Place]) -> bool
 }
 
 fn is_same_end(a: End, b: End) -> bool
-    ensures { IsTrue result → a ≡ b }
+    ensures { IsTrue result ↔ (a ≡ b) }
 {
     a.node == b.node && a.port == b.port
 }
 
 fn is_same_link(a: &[End; 2], b: &[End; 2]) -> bool
-    ensures { IsTrue result → a.now ≡ b.now }
+    ensures { IsTrue result ↔ (a.now ≡ b.now) }
 {
     let [one, other] = *a;
     let [first, second] = *b;
@@ -77,7 +77,7 @@ fn is_same_link(a: &[End; 2], b: &[End; 2]) -> bool
 
 /// Whether links are the same, one by one.
 fn are_same_links(a: &[[End; 2]], b: &[[End; 2]]) -> bool
-    ensures { IsTrue result → a.now ≡ b.now }
+    ensures { IsTrue result ↔ (a.now ≡ b.now) }
 {
     let mut left = b;
     for link in a.iter() {
@@ -93,20 +93,20 @@ fn are_same_links(a: &[[End; 2]], b: &[[End; 2]]) -> bool
 }
 
 fn is_same_topology(a: &Topology, b: &Topology) -> bool
-    ensures { IsTrue result → a.now ≡ b.now }
+    ensures { IsTrue result ↔ (a.now ≡ b.now) }
 {
     are_same_places(a.places(), b.places()) && are_same_links(a.links(), b.links())
 }
 
 fn is_same_order(a: &Order, b: &Order) -> bool
-    ensures { IsTrue result → a.now ≡ b.now }
+    ensures { IsTrue result ↔ (a.now ≡ b.now) }
 {
     a == b
 }
 
 /// Whether orders are the same, one by one.
 fn are_same_orders(a: &[Order], b: &[Order]) -> bool
-    ensures { IsTrue result → a.now ≡ b.now }
+    ensures { IsTrue result ↔ (a.now ≡ b.now) }
 {
     let mut left = b;
     for order in a.iter() {
@@ -123,7 +123,7 @@ fn are_same_orders(a: &[Order], b: &[Order]) -> bool
 
 /// Whether a scenario is what a plan means.
 pub(crate) fn is_meant(scenario: &Scenario, meaning: &Meaning) -> bool
-    ensures { IsTrue result → scenario_view scenario.now ≡ scenario_meant meaning.now }
+    ensures { IsTrue result ↔ (scenario_view scenario.now ≡ scenario_meant meaning.now) }
 {
     scenario.capacity == meaning.capacity
         && is_same_topology(&scenario.topology, &meaning.topology)
@@ -133,7 +133,7 @@ pub(crate) fn is_meant(scenario: &Scenario, meaning: &Meaning) -> bool
 /// Whether names are those of nodes, one by one.
 #[tactic(auto, using(crate::proofs::Names::names_step))]
 fn are_same_names(names: &[Vec<u8>], nodes: &[Node]) -> bool
-    ensures { IsTrue result → map (λ name. name.items) names.now ≡ map (λ node. node.name) nodes.now }
+    ensures { IsTrue result ↔ (map (λ name. name.items) names.now ≡ map (λ node. node.name) nodes.now) }
 {
     let mut left = nodes;
     for name in names.iter() {
@@ -150,34 +150,8 @@ fn are_same_names(names: &[Vec<u8>], nodes: &[Node]) -> bool
 
 /// Whether the nodes have the names that a plan means.
 pub(crate) fn is_named(names: &Names, meaning: &Meaning) -> bool
-    ensures { IsTrue result → names_view names.now ≡ names_meant_by meaning.now }
+    ensures { IsTrue result ↔ (names_view names.now ≡ names_meant_by meaning.now) }
 {
     is_same_topology(&names.topology, &meaning.topology)
         && are_same_names(names.names.as_slice(), meaning.nodes.as_slice())
-}
-
-/// What stands behind a front.
-fn behind<'a>(text: &'a [u8], front: &[u8]) -> Option<&'a [u8]>
-    ensures { IfSome result (λ rest. text.entry.now ≡ front.now ++ rest.now) }
-{
-    text.strip_prefix(front)
-}
-
-/// What stands behind a first comment that is a title.
-fn behind_title<'a>(text: &'a [u8], title: &str) -> Option<&'a [u8]>
-    ensures { IfSome result (λ rest. text.entry.now ≡ codes "# " ++ title.now ++ codes "\n" ++ rest.now) }
-{
-    let words = behind(text, b"# ")?;
-    let end = behind(words, title.as_bytes())?;
-    behind(end, b"\n")
-}
-
-/// Whether a text begins with a title as a comment, if there is one.
-pub(crate) fn is_titled(text: &[u8], title: &Option<String>) -> bool
-    ensures { IsTrue result → IsTitled (option_map string_bytes title.now) text.now }
-{
-    match title {
-        Some(title) => behind_title(text, title.as_str()).is_some(),
-        None => true,
-    }
 }

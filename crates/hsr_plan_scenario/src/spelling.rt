@@ -1,41 +1,88 @@
 //! How a scenario is spelled in TOML.
+ghost use Rattle.std.specs.Prelude.{◌≡◌, ◌++◌, IfOk, OnOk, codes, length, min, option_map, slice_get, string_bytes};
+ghost use Rattle.std.specs.Fmt.{decimal};
+ghost use Rattle.std.specs.List.{flat_map};
+ghost use Rattle.hex.specs.Hex.{encode_upper};
+ghost use Rattle.hsr_frame.specs.Grammar.{pair};
+ghost use Rattle.hsr_plan_scenario.specs.Spelled.{about_text, at_link, at_node, at_port, clock_text, comma, digits_text, dir_text, does_text, frame_text, from_text, front_text, letter_or, link_line, link_lines, links_text, listed, mac_text, mode_text, name_of, name_text, node_line, nodes_text, octets_text, order_line, order_text, place_text, port_text, ring_place_text, role_text, scenario_text, station_text, stations_text, step_text, title_text, vlan_text};
+
 use hsr_frame::{About, Mac, Mode, NoMemory};
 use hsr_link::Dir;
 use hsr_node::Place;
 use hsr_plan_meaning::Meaning;
 use hsr_plan_network::Node;
+use hsr_plan_text::Word;
 use hsr_scenario::Order;
 use hsr_step::Step;
 use hsr_text::{put_decimal, put_hex};
 use hsr_topology::End;
 use std::alloc::Global;
+use std::io::Write;
 
 /// Puts words last.
-fn put(text: &mut Vec<u8>, words: &str) -> Result<(), NoMemory> {
+fn put(text: &mut Vec<u8>, words: &str) -> Result<(), NoMemory>
+    ensures { OnOk result (text.new.items ≡ text.old.items ++ words.now) }
+{
     text.extend_from_slice(words.as_bytes())?;
     Ok(())
 }
 
-/// Puts a number last.
-fn put_number(text: &mut Vec<u8>, number: usize) -> Result<(), NoMemory> {
-    put_decimal(text, number as u64)?;
+/// Puts octets last.
+fn put_octets(text: &mut Vec<u8>, octets: &[u8]) -> Result<(), NoMemory>
+    ensures { OnOk result (text.new.items ≡ text.old.items ++ octets.now) }
+{
+    text.extend_from_slice(octets)?;
     Ok(())
 }
 
-/// Puts an address in quotes last.
-fn put_mac(text: &mut Vec<u8>, mac: Mac) -> Result<(), NoMemory> {
-    put(text, "\"")?;
-    for (i, octet) in mac.octets().iter().enumerate() {
-        if i > 0 {
-            put(text, "-")?;
-        }
-        put_hex(text, &[*octet])?;
+/// Puts a number last.
+fn put_number(text: &mut Vec<u8>, number: u64) -> Result<(), NoMemory>
+    ensures { OnOk result (text.new.items ≡ text.old.items ++ decimal number) }
+{
+    put_decimal(text, number)?;
+    Ok(())
+}
+
+/// Puts octets in hexadecimal last.
+fn put_digits(text: &mut Vec<u8>, octets: &[u8]) -> Result<(), NoMemory>
+    ensures { OnOk result (text.new.items ≡ text.old.items ++ encode_upper octets.now) }
+{
+    put_hex(text, octets)?;
+    Ok(())
+}
+
+/// Puts a number of 16 bits in four hexadecimal digits last.
+fn put_pair(text: &mut Vec<u8>, number: u16) -> Result<(), NoMemory>
+    ensures { OnOk result (text.new.items ≡ text.old.items ++ encode_upper (pair number)) }
+{
+    put_digits(text, number.to_be_bytes().as_slice())
+}
+
+/// Puts an address last.
+#[tactic(auto, unfolding(crate::specs::Spelled::digits_text))]
+fn put_address(text: &mut Vec<u8>, mac: Mac) -> Result<(), NoMemory>
+    ensures { OnOk result (text.new.items ≡ text.old.items ++ digits_text mac) }
+{
+    match write!(text, "{mac}") {
+        Ok(()) => Ok(()),
+        Err(_) => Err(NoMemory),
     }
+}
+
+/// Puts an address in quotes last.
+#[tactic(auto, unfolding(crate::specs::Spelled::mac_text))]
+fn put_mac(text: &mut Vec<u8>, mac: Mac) -> Result<(), NoMemory>
+    ensures { OnOk result (text.new.items ≡ text.old.items ++ mac_text mac) }
+{
+    put(text, "\"")?;
+    put_address(text, mac)?;
     put(text, "\"")
 }
 
 /// The name of the node of that number.
-fn name_of(nodes: &[Node], number: usize) -> &[u8] {
+fn name_of(nodes: &[Node], number: usize) -> &[u8]
+    ensures { result.now ≡ name_of nodes.now number }
+{
     match nodes.get(number) {
         Some(node) => node.name.as_bytes(),
         None => b"-",
@@ -43,20 +90,53 @@ fn name_of(nodes: &[Node], number: usize) -> &[u8] {
 }
 
 /// Puts the name of a node in quotes last.
-fn put_name(text: &mut Vec<u8>, nodes: &[Node], number: usize) -> Result<(), NoMemory> {
+#[tactic(auto, unfolding(crate::specs::Spelled::name_text))]
+fn put_name(text: &mut Vec<u8>, nodes: &[Node], number: usize) -> Result<(), NoMemory>
+    ensures { OnOk result (text.new.items ≡ text.old.items ++ name_text nodes.now number) }
+{
     put(text, "\"")?;
-    text.extend_from_slice(name_of(nodes, number))?;
+    put_octets(text, name_of(nodes, number))?;
+    put(text, "\"")
+}
+
+/// The letter of a port.
+fn letter_of(nodes: &[Node], number: usize, port: u8) -> u8
+    ensures { result ≡ letter_or (slice_get nodes.now number) port }
+{
+    match nodes.get(number) {
+        Some(node) => node.place.letter(port),
+        None => b'?',
+    }
+}
+
+/// Puts a port of a node in quotes last.
+#[tactic(auto, unfolding(crate::specs::Spelled::port_text))]
+fn put_port(text: &mut Vec<u8>, nodes: &[Node], number: usize, port: u8) -> Result<(), NoMemory>
+    ensures { OnOk result (text.new.items ≡ text.old.items ++ port_text nodes.now number port) }
+{
+    put(text, "\"")?;
+    put_octets(text, name_of(nodes, number))?;
+    put(text, ".")?;
+    text.push(letter_of(nodes, number, port))?;
     put(text, "\"")
 }
 
 // ---- nodes and links
 
-/// Puts the address and the mode of a node on a ring last.
-fn put_ring_place(text: &mut Vec<u8>, role: &str, mac: Mac, mode: Mode) -> Result<(), NoMemory> {
+/// Puts a role last.
+#[tactic(auto, unfolding(crate::specs::Spelled::role_text))]
+fn put_role(text: &mut Vec<u8>, role: &str) -> Result<(), NoMemory>
+    ensures { OnOk result (text.new.items ≡ text.old.items ++ role_text role.now) }
+{
     put(text, ", role=\"")?;
     put(text, role)?;
-    put(text, "\", mac=")?;
-    put_mac(text, mac)?;
+    put(text, "\"")
+}
+
+/// Puts the mode of a node on a ring last, if it isn't H.
+fn put_mode(text: &mut Vec<u8>, mode: Mode) -> Result<(), NoMemory>
+    ensures { OnOk result (text.new.items ≡ text.old.items ++ mode_text mode) }
+{
     match mode {
         Mode::H => Ok(()),
         Mode::N => put(text, ", mode=\"N\""),
@@ -64,195 +144,251 @@ fn put_ring_place(text: &mut Vec<u8>, role: &str, mac: Mac, mode: Mode) -> Resul
     }
 }
 
-/// Puts the addresses of a Station last.
-fn put_macs(text: &mut Vec<u8>, macs: &[Mac]) -> Result<(), NoMemory> {
-    put(text, ", role=\"station\", macs=[")?;
-    for (i, mac) in macs.iter().enumerate() {
-        if i > 0 {
-            put(text, ", ")?;
-        }
-        put_mac(text, *mac)?;
-    }
-    put(text, "]")
+/// Puts the address and the mode of a node on a ring last.
+#[tactic(auto, unfolding(crate::specs::Spelled::ring_place_text))]
+fn put_ring_place(text: &mut Vec<u8>, role: &str, mac: Mac, mode: Mode) -> Result<(), NoMemory>
+    ensures { OnOk result (text.new.items ≡ text.old.items ++ ring_place_text role.now mac mode) }
+{
+    put_role(text, role)?;
+    put(text, ", mac=")?;
+    put_mac(text, mac)?;
+    put_mode(text, mode)
 }
 
-/// Puts the names of a Station's stations behind a line, as a comment.
-fn put_stations(text: &mut Vec<u8>, node: &Node) -> Result<(), NoMemory> {
-    for (i, name) in node.stations.iter().enumerate() {
-        put(text, if i == 0 { "  # " } else { ", " })?;
-        text.extend_from_slice(name.as_bytes())?;
+/// Puts a comma before each word but the first last.
+fn put_comma(text: &mut Vec<u8>, number: usize) -> Result<(), NoMemory>
+    ensures { OnOk result (text.new.items ≡ text.old.items ++ comma number) }
+{
+    put(text, if number == 0 { "" } else { ", " })
+}
+
+/// Puts addresses last, with a comma between two.
+#[tactic(auto, using(crate::proofs::Growing::listed_more))]
+fn put_listed_macs(text: &mut Vec<u8>, macs: &[Mac]) -> Result<(), NoMemory>
+    ensures { OnOk result (text.new.items ≡ text.old.items ++ listed mac_text macs.now) }
+{
+    for (i, mac) in macs.iter().enumerate() {
+        put_comma(text, i)?;
+        put_mac(text, *mac)?;
     }
     Ok(())
 }
 
-/// Puts the line of a node last.
-fn put_node(text: &mut Vec<u8>, node: &Node) -> Result<(), NoMemory> {
-    put(text, "  {name=\"")?;
-    text.extend_from_slice(node.name.as_bytes())?;
-    put(text, "\"")?;
-    match &node.place {
-        Place::Danh { mac, mode } => put_ring_place(text, "danh", *mac, *mode)?,
-        Place::RedBox { mac, mode } => put_ring_place(text, "redbox", *mac, *mode)?,
-        Place::QuadBox => put(text, ", role=\"quadbox\"")?,
-        Place::Station { macs } => put_macs(text, macs.as_slice())?,
+/// Puts the addresses of a Station last.
+#[tactic(auto, unfolding(crate::specs::Spelled::station_text))]
+fn put_station(text: &mut Vec<u8>, macs: &[Mac]) -> Result<(), NoMemory>
+    ensures { OnOk result (text.new.items ≡ text.old.items ++ station_text macs.now) }
+{
+    put_role(text, "station")?;
+    put(text, ", macs=[")?;
+    put_listed_macs(text, macs)?;
+    put(text, "]")
+}
+
+/// Puts what kind of node it is last.
+fn put_place(text: &mut Vec<u8>, place: &Place) -> Result<(), NoMemory>
+    ensures { OnOk result (text.new.items ≡ text.old.items ++ place_text place.now) }
+{
+    match place {
+        Place::Danh { mac, mode } => put_ring_place(text, "danh", *mac, *mode),
+        Place::RedBox { mac, mode } => put_ring_place(text, "redbox", *mac, *mode),
+        Place::QuadBox => put_role(text, "quadbox"),
+        Place::Station { macs } => put_station(text, macs.as_slice()),
     }
+}
+
+/// Puts names last, with a comma between two.
+#[tactic(auto, using(crate::proofs::Growing::listed_more))]
+fn put_listed(text: &mut Vec<u8>, names: &[Word]) -> Result<(), NoMemory>
+    ensures { OnOk result (text.new.items ≡ text.old.items ++ listed (λ n. n) names.now) }
+{
+    for (i, name) in names.iter().enumerate() {
+        put_comma(text, i)?;
+        put_octets(text, name.as_bytes())?;
+    }
+    Ok(())
+}
+
+/// Puts the names of a Station's stations behind a line, as a comment.
+fn put_stations(text: &mut Vec<u8>, names: &[Word]) -> Result<(), NoMemory>
+    ensures { OnOk result (text.new.items ≡ text.old.items ++ stations_text names.now) }
+{
+    if names.is_empty() {
+        return Ok(());
+    }
+    put(text, "  # ")?;
+    put_listed(text, names)
+}
+
+/// Puts the line of a node last.
+#[tactic(auto, unfolding(crate::specs::Spelled::node_line))]
+fn put_node(text: &mut Vec<u8>, node: &Node) -> Result<(), NoMemory>
+    ensures { OnOk result (text.new.items ≡ text.old.items ++ node_line node.now) }
+{
+    put(text, "  {name=\"")?;
+    put_octets(text, node.name.as_bytes())?;
+    put(text, "\"")?;
+    put_place(text, &node.place)?;
     put(text, "},")?;
-    put_stations(text, node)?;
+    put_stations(text, node.stations.as_slice())?;
     put(text, "\n")
 }
 
-/// Puts an end in quotes last.
-fn put_end(text: &mut Vec<u8>, nodes: &[Node], end: End) -> Result<(), NoMemory> {
-    put(text, "\"")?;
-    text.extend_from_slice(name_of(nodes, end.node))?;
-    put(text, ".")?;
-    match nodes.get(end.node) {
-        Some(node) => text.push(node.place.letter(end.port))?,
-        None => text.push(b'?')?,
-    }
-    put(text, "\"")
-}
-
 /// Puts the line of the link of that number last.
+#[tactic(auto, unfolding(crate::specs::Spelled::ends_line))]
 fn put_link(
     text: &mut Vec<u8>,
     nodes: &[Node],
     number: usize,
     link: &[End; 2],
-) -> Result<(), NoMemory> {
+) -> Result<(), NoMemory>
+    ensures { OnOk result (text.new.items ≡ text.old.items ++ link_line nodes.now number link.now) }
+{
     let [one, other] = *link;
     put(text, "  {ends=[")?;
-    put_end(text, nodes, one)?;
+    put_port(text, nodes, one.node, one.port)?;
     put(text, ", ")?;
-    put_end(text, nodes, other)?;
+    put_port(text, nodes, other.node, other.port)?;
     put(text, "]},  # ")?;
-    put_number(text, number)?;
+    put_number(text, number as u64)?;
     put(text, "\n")
 }
 
-// ---- steps
+// ---- orders
 
-/// Puts a send last.
-fn put_send(
-    text: &mut Vec<u8>,
-    nodes: &[Node],
-    node: usize,
-    from: u8,
-    dst: Mac,
-    kind: u16,
-    payload: &[u8],
-) -> Result<(), NoMemory> {
-    put(text, "do=\"send\", node=")?;
-    put_name(text, nodes, node)?;
-    if from > 0 {
-        put(text, ", from=")?;
-        put_number(text, from as usize)?;
-    }
-    put(text, ", to=")?;
-    put_mac(text, dst)?;
-    put(text, ", type=0x")?;
-    put_hex(text, &kind.to_be_bytes())?;
-    put(text, ", payload=\"")?;
-    put_hex(text, payload)?;
+/// Puts what is done last.
+#[tactic(auto, unfolding(crate::specs::Spelled::does_text))]
+fn put_does(text: &mut Vec<u8>, does: &str) -> Result<(), NoMemory>
+    ensures { OnOk result (text.new.items ≡ text.old.items ++ does_text does.now) }
+{
+    put(text, "do=\"")?;
+    put(text, does)?;
     put(text, "\"")
 }
 
-/// Puts a VLAN tag last, if there is one.
-fn put_vlan(text: &mut Vec<u8>, vlan: Option<u16>) -> Result<(), NoMemory> {
-    if let Some(vlan) = vlan {
-        put(text, ", vlan=0x")?;
-        put_hex(text, &vlan.to_be_bytes())?;
-    }
-    Ok(())
+/// Puts what is done at a node last.
+#[tactic(auto, unfolding(crate::specs::Spelled::at_node))]
+fn put_at_node(text: &mut Vec<u8>, does: &str, nodes: &[Node], node: usize) -> Result<(), NoMemory>
+    ensures { OnOk result (text.new.items ≡ text.old.items ++ at_node does.now nodes.now node) }
+{
+    put_does(text, does)?;
+    put(text, ", node=")?;
+    put_name(text, nodes, node)
 }
 
-/// Puts what is done at a node, an end or a link last.
-fn put_at_link(text: &mut Vec<u8>, does: &str, link: usize) -> Result<(), NoMemory> {
-    put(text, "do=\"")?;
-    put(text, does)?;
-    put(text, "\", link=")?;
-    put_number(text, link)
-}
-
-fn put_at_node(
+/// Puts what is done at a port of a node last.
+#[tactic(auto, unfolding(crate::specs::Spelled::at_port))]
+fn put_at_port(
     text: &mut Vec<u8>,
     does: &str,
     nodes: &[Node],
     node: usize,
-) -> Result<(), NoMemory> {
-    put(text, "do=\"")?;
-    put(text, does)?;
-    put(text, "\", node=")?;
-    put_name(text, nodes, node)
+    port: u8,
+) -> Result<(), NoMemory>
+    ensures { OnOk result (text.new.items ≡ text.old.items ++ at_port does.now nodes.now node port) }
+{
+    put_does(text, does)?;
+    put(text, ", port=")?;
+    put_port(text, nodes, node, port)
 }
 
-fn put_at_port(text: &mut Vec<u8>, does: &str, nodes: &[Node], end: End) -> Result<(), NoMemory> {
-    put(text, "do=\"")?;
-    put(text, does)?;
-    put(text, "\", port=")?;
-    put_end(text, nodes, end)
+/// Puts what is done at a link last.
+#[tactic(auto, unfolding(crate::specs::Spelled::at_link))]
+fn put_at_link(text: &mut Vec<u8>, does: &str, link: usize) -> Result<(), NoMemory>
+    ensures { OnOk result (text.new.items ≡ text.old.items ++ at_link does.now link) }
+{
+    put_does(text, does)?;
+    put(text, ", link=")?;
+    put_number(text, link as u64)
+}
+
+/// Puts the moment that is set last.
+#[tactic(auto, unfolding(crate::specs::Spelled::clock_text))]
+fn put_clock(text: &mut Vec<u8>, at: u64) -> Result<(), NoMemory>
+    ensures { OnOk result (text.new.items ≡ text.old.items ++ clock_text at) }
+{
+    put_does(text, "clock")?;
+    put(text, ", at=")?;
+    put_number(text, at)
+}
+
+/// Puts octets in hexadecimal last, under a key.
+#[tactic(auto, unfolding(crate::specs::Spelled::octets_text))]
+fn put_octets_at(text: &mut Vec<u8>, key: &str, octets: &[u8]) -> Result<(), NoMemory>
+    ensures { OnOk result (text.new.items ≡ text.old.items ++ octets_text key.now octets.now) }
+{
+    put(text, ", ")?;
+    put(text, key)?;
+    put(text, "=\"")?;
+    put_digits(text, octets)?;
+    put(text, "\"")
+}
+
+/// Puts the place of a sender's address last, if it isn't the first.
+fn put_from(text: &mut Vec<u8>, from: u8) -> Result<(), NoMemory>
+    ensures { OnOk result (text.new.items ≡ text.old.items ++ from_text from) }
+{
+    if from > 0 {
+        put(text, ", from=")?;
+        put_number(text, u64::from(from))?;
+    }
+    Ok(())
+}
+
+/// Puts to whom what is sent last.
+#[tactic(auto, unfolding(crate::specs::Spelled::frame_text))]
+fn put_frame(text: &mut Vec<u8>, dst: Mac, kind: u16, payload: &[u8]) -> Result<(), NoMemory>
+    ensures { OnOk result (text.new.items ≡ text.old.items ++ frame_text dst kind payload.now) }
+{
+    put(text, ", to=")?;
+    put_mac(text, dst)?;
+    put(text, ", type=0x")?;
+    put_pair(text, kind)?;
+    put_octets_at(text, "payload", payload)
+}
+
+/// Puts a VLAN tag last, if there is one.
+fn put_vlan(text: &mut Vec<u8>, vlan: Option<u16>) -> Result<(), NoMemory>
+    ensures { OnOk result (text.new.items ≡ text.old.items ++ vlan_text vlan) }
+{
+    match vlan {
+        Some(vlan) => {
+            put(text, ", vlan=0x")?;
+            put_pair(text, vlan)
+        }
+        None => Ok(()),
+    }
+}
+
+/// Puts whom supervision is about last, if it isn't the node itself.
+fn put_about(text: &mut Vec<u8>, about: About) -> Result<(), NoMemory>
+    ensures { OnOk result (text.new.items ≡ text.old.items ++ about_text about) }
+{
+    match about {
+        About::Own => Ok(()),
+        About::Proxied(mac) => {
+            put(text, ", about=")?;
+            put_mac(text, mac)
+        }
+    }
 }
 
 /// Puts a direction last.
-fn put_dir(text: &mut Vec<u8>, dir: Dir) -> Result<(), NoMemory> {
+#[tactic(auto, unfolding(crate::specs::Spelled::dir_text))]
+fn put_dir(text: &mut Vec<u8>, dir: Dir) -> Result<(), NoMemory>
+    ensures { OnOk result (text.new.items ≡ text.old.items ++ dir_text dir) }
+{
     put(text, ", dir=\"")?;
     put(text, dir.word())?;
     put(text, "\"")
 }
 
-/// Puts whom supervision is about last, if it isn't the node itself.
-fn put_about(text: &mut Vec<u8>, about: About) -> Result<(), NoMemory> {
-    if let About::Proxied(mac) = about {
-        put(text, ", about=")?;
-        put_mac(text, mac)?;
-    }
-    Ok(())
-}
-
-/// Puts a step that is of one copy last.
-fn put_fine(text: &mut Vec<u8>, nodes: &[Node], step: &Step) -> Result<(), NoMemory> {
-    match step {
-        Step::Put { node, port } => put_at_port(
-            text,
-            "put",
-            nodes,
-            End {
-                node: *node,
-                port: *port,
-            },
-        ),
-        Step::Judge { node, port } => put_at_port(
-            text,
-            "judge",
-            nodes,
-            End {
-                node: *node,
-                port: *port,
-            },
-        ),
-        Step::Take { link, dir } => {
-            put_at_link(text, "take", *link)?;
-            put_dir(text, *dir)
-        }
-        Step::Inject { link, dir, octets } => {
-            put_at_link(text, "inject", *link)?;
-            put_dir(text, *dir)?;
-            put(text, ", octets=\"")?;
-            put_hex(text, octets.as_slice())?;
-            put(text, "\"")
-        }
-        _ => Ok(()),
-    }
-}
-
 /// Puts a step last.
-fn put_step(text: &mut Vec<u8>, nodes: &[Node], step: &Step) -> Result<(), NoMemory> {
+fn put_step(text: &mut Vec<u8>, nodes: &[Node], step: &Step) -> Result<(), NoMemory>
+    ensures { OnOk result (text.new.items ≡ text.old.items ++ step_text nodes.now step.now) }
+{
     match step {
-        Step::Clock { at } => {
-            put(text, "do=\"clock\", at=")?;
-            put_decimal(text, *at)?;
-            Ok(())
-        }
+        Step::Clock { at } => put_clock(text, *at),
         Step::Send {
             node,
             from,
@@ -261,7 +397,9 @@ fn put_step(text: &mut Vec<u8>, nodes: &[Node], step: &Step) -> Result<(), NoMem
             kind,
             payload,
         } => {
-            put_send(text, nodes, *node, *from, *dst, *kind, payload.as_slice())?;
+            put_at_node(text, "send", nodes, *node)?;
+            put_from(text, *from)?;
+            put_frame(text, *dst, *kind, payload.as_slice())?;
             put_vlan(text, *vlan)
         }
         Step::Supervise { node, about } => {
@@ -269,82 +407,151 @@ fn put_step(text: &mut Vec<u8>, nodes: &[Node], step: &Step) -> Result<(), NoMem
             put_about(text, *about)
         }
         Step::Age { node } => put_at_node(text, "age", nodes, *node),
+        Step::Put { node, port } => put_at_port(text, "put", nodes, *node, *port),
+        Step::Take { link, dir } => {
+            put_at_link(text, "take", *link)?;
+            put_dir(text, *dir)
+        }
+        Step::Judge { node, port } => put_at_port(text, "judge", nodes, *node, *port),
         Step::Cut { link } => put_at_link(text, "cut", *link),
         Step::Mend { link } => put_at_link(text, "mend", *link),
-        step => put_fine(text, nodes, step),
+        Step::Inject { link, dir, octets } => {
+            put_at_link(text, "inject", *link)?;
+            put_dir(text, *dir)?;
+            put_octets_at(text, "octets", octets.as_slice())
+        }
+    }
+}
+
+/// Puts an order last.
+fn put_order_words(text: &mut Vec<u8>, nodes: &[Node], order: &Order) -> Result<(), NoMemory>
+    ensures { OnOk result (text.new.items ≡ text.old.items ++ order_text nodes.now order.now) }
+{
+    match order {
+        Order::Step(step) => put_step(text, nodes, step),
+        Order::Drain => put_does(text, "drain"),
     }
 }
 
 /// Puts the line of an order last.
-fn put_order(text: &mut Vec<u8>, nodes: &[Node], order: &Order) -> Result<(), NoMemory> {
+#[tactic(auto, unfolding(crate::specs::Spelled::order_line))]
+fn put_order(text: &mut Vec<u8>, nodes: &[Node], order: &Order) -> Result<(), NoMemory>
+    ensures { OnOk result (text.new.items ≡ text.old.items ++ order_line nodes.now order.now) }
+{
     put(text, "  {")?;
-    match order {
-        Order::Step(step) => put_step(text, nodes, step)?,
-        Order::Drain => put(text, "do=\"drain\"")?,
-    }
+    put_order_words(text, nodes, order)?;
     put(text, "},\n")
 }
 
 // ---- all
 
-/// Puts the lines of all nodes last.
-fn put_nodes(text: &mut Vec<u8>, nodes: &[Node]) -> Result<(), NoMemory> {
-    put(text, "node = [\n")?;
+/// Puts the lines of nodes last.
+#[tactic(auto, using(crate::proofs::Growing::grown))]
+fn put_node_lines(text: &mut Vec<u8>, nodes: &[Node]) -> Result<(), NoMemory>
+    ensures { OnOk result (text.new.items ≡ text.old.items ++ flat_map node_line nodes.now) }
+{
     for node in nodes.iter() {
         put_node(text, node)?;
     }
+    Ok(())
+}
+
+/// Puts the list of nodes last.
+#[tactic(auto, unfolding(crate::specs::Spelled::nodes_text))]
+fn put_nodes(text: &mut Vec<u8>, nodes: &[Node]) -> Result<(), NoMemory>
+    ensures { OnOk result (text.new.items ≡ text.old.items ++ nodes_text nodes.now) }
+{
+    put(text, "node = [\n")?;
+    put_node_lines(text, nodes)?;
     put(text, "]\n")
 }
 
-/// Puts the lines of all links last.
-fn put_links(text: &mut Vec<u8>, nodes: &[Node], links: &[[End; 2]]) -> Result<(), NoMemory> {
-    put(text, "link = [\n")?;
+/// Puts the lines of links last.
+fn put_link_lines(text: &mut Vec<u8>, nodes: &[Node], links: &[[End; 2]]) -> Result<(), NoMemory>
+    ensures { OnOk result (text.new.items ≡ text.old.items ++ link_lines nodes.now links.now) }
+{
     for (number, link) in links.iter().enumerate() {
         put_link(text, nodes, number, link)?;
     }
+    Ok(())
+}
+
+/// Puts the list of links last.
+#[tactic(auto, unfolding(crate::specs::Spelled::links_text))]
+fn put_links(text: &mut Vec<u8>, nodes: &[Node], links: &[[End; 2]]) -> Result<(), NoMemory>
+    ensures { OnOk result (text.new.items ≡ text.old.items ++ links_text nodes.now links.now) }
+{
+    put(text, "link = [\n")?;
+    put_link_lines(text, nodes, links)?;
     put(text, "]\n")
 }
 
-/// Puts the lines of all orders last.
-fn put_orders(text: &mut Vec<u8>, nodes: &[Node], orders: &[Order]) -> Result<(), NoMemory> {
+/// Puts the lines of orders last.
+#[tactic(auto, using(crate::proofs::Growing::grown))]
+fn put_orders(text: &mut Vec<u8>, nodes: &[Node], orders: &[Order]) -> Result<(), NoMemory>
+    ensures { OnOk result (text.new.items ≡ text.old.items ++ flat_map (order_line nodes.now) orders.now) }
+{
     for order in orders.iter() {
         put_order(text, nodes, order)?;
     }
     Ok(())
 }
 
-/// How many octets the lines of all orders have. One of them is kept at a time.
-fn measured_orders(alloc: Global, nodes: &[Node], orders: &[Order]) -> Result<usize, NoMemory> {
+/// How many octets the line of an order has. It is formed for it, in a buffer that may be used again.
+fn measured_order(line: &mut Vec<u8>, nodes: &[Node], order: &Order) -> Result<usize, NoMemory>
+    ensures { IfOk result (λ octets. octets ≡ length (order_line nodes.now order.now)) }
+{
+    line.clear();
+    put_order(line, nodes, order)?;
+    Ok(line.len())
+}
+
+/// How many octets the lines of orders have, or `usize::MAX` where they have more. One of them is kept at a time.
+fn measured_orders(alloc: Global, nodes: &[Node], orders: &[Order]) -> Result<usize, NoMemory>
+    ensures { IfOk result (λ octets. octets ≡ min (length (flat_map (order_line nodes.now) orders.now)) usize.MAX) }
+{
     let mut octets = 0usize;
     let mut line = Vec::new(alloc);
     for order in orders.iter() {
-        line.clear();
-        put_order(&mut line, nodes, order)?;
-        octets = octets.saturating_add(line.len());
+        octets = octets.saturating_add(measured_order(&mut line, nodes, order)?);
     }
     Ok(octets)
 }
 
+/// How many octets the lines of a scenario's orders have, or `usize::MAX` where they have more.
+fn measured_steps(alloc: Global, meaning: &Meaning) -> Result<usize, NoMemory>
+    ensures { IfOk result (λ octets. octets ≡ min (length (flat_map (order_line meaning.now.nodes) meaning.now.orders)) usize.MAX) }
+{
+    measured_orders(alloc, meaning.nodes.as_slice(), meaning.orders.as_slice())
+}
+
 /// Puts the title as a comment last, if there is one.
-fn put_title(text: &mut Vec<u8>, title: &Option<String>) -> Result<(), NoMemory> {
-    if let Some(title) = title {
-        put(text, "# ")?;
-        put(text, title.as_str())?;
-        put(text, "\n")?;
+fn put_title(text: &mut Vec<u8>, title: &Option<String>) -> Result<(), NoMemory>
+    ensures { OnOk result (text.new.items ≡ text.old.items ++ title_text (option_map string_bytes title.now)) }
+{
+    match title {
+        Some(title) => {
+            put(text, "# ")?;
+            put(text, title.as_str())?;
+            put(text, "\n")
+        }
+        None => Ok(()),
     }
-    Ok(())
 }
 
 /// What ends the list of steps.
 const END: &str = "]\n";
 
 /// What stands before the lines of steps: the title, the unit of moments, the capacity, then nodes and links, one a line.
-fn begun(alloc: Global, title: &Option<String>, meaning: &Meaning) -> Result<Vec<u8>, NoMemory> {
+#[tactic(auto, unfolding(crate::specs::Spelled::front_text))]
+fn begun(alloc: Global, title: &Option<String>, meaning: &Meaning) -> Result<Vec<u8>, NoMemory>
+    ensures { IfOk result (λ text. text.items ≡ front_text (option_map string_bytes title.now) meaning.now) }
+{
     let nodes = meaning.nodes.as_slice();
     let mut text = Vec::new(alloc);
     put_title(&mut text, title)?;
     put(&mut text, "unit = \"us\"\ncapacity = ")?;
-    put_number(&mut text, meaning.capacity)?;
+    put_number(&mut text, meaning.capacity as u64)?;
     put(&mut text, "\n")?;
     put_nodes(&mut text, nodes)?;
     put_links(&mut text, nodes, meaning.topology.links())?;
@@ -352,31 +559,33 @@ fn begun(alloc: Global, title: &Option<String>, meaning: &Meaning) -> Result<Vec
     Ok(text)
 }
 
-/// How many octets the scenario's text has. The text isn't formed for it.
+/// How many octets the scenario's text has, or `usize::MAX` where it has more. The text isn't formed for it.
 pub(crate) fn measured(
     alloc: Global,
     title: &Option<String>,
     meaning: &Meaning,
-) -> Result<usize, NoMemory> {
+) -> Result<usize, NoMemory>
+    ensures { IfOk result (λ octets. octets ≡ min (length (scenario_text (option_map string_bytes title.now) meaning.now)) usize.MAX) }
+{
     let front = begun(alloc, title, meaning)?
         .len()
         .saturating_add(END.len());
-    let steps = measured_orders(alloc, meaning.nodes.as_slice(), meaning.orders.as_slice())?;
+    let steps = measured_steps(alloc, meaning)?;
     Ok(front.saturating_add(steps))
 }
 
 /// The scenario's text: what stands before its steps, and the steps, one a line.
+#[tactic(auto, unfolding(crate::specs::Spelled::scenario_text))]
 pub(crate) fn spelled(
     alloc: Global,
     title: &Option<String>,
     meaning: &Meaning,
-) -> Result<Vec<u8>, NoMemory> {
+) -> Result<Vec<u8>, NoMemory>
+    ensures { IfOk result (λ text. text.items ≡ scenario_text (option_map string_bytes title.now) meaning.now) }
+{
     let mut text = begun(alloc, title, meaning)?;
-    put_orders(
-        &mut text,
-        meaning.nodes.as_slice(),
-        meaning.orders.as_slice(),
-    )?;
+    let nodes = meaning.nodes.as_slice();
+    put_orders(&mut text, nodes, meaning.orders.as_slice())?;
     put(&mut text, END)?;
     Ok(text)
 }

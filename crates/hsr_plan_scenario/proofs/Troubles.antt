@@ -1,0 +1,143 @@
+-- Why there is no scenario, by what its parts tell.
+use Rattle.std.proofs.Common.{◌≡◌, ◌≢◌, ℕ, ◌++◌, inl, inr, List, Option, Some, None, Result, Ok, Err, IfErr, OnOk, codes, refl, sym, subst, ap, ◌∙◌, append_assoc}
+use Rattle.std.specs.Fmt.{decimal}
+use Rattle.std.specs.List.{flat_map}
+use Rattle.std.specs.Str.{IsUtf8}
+use Rattle.hsr_scenario.specs.Fallible.{FailsAt as ScenarioFails}
+use Rattle.hsr_scenario.specs.Meaning.{meaning}
+use Rattle.hsr_scenario.specs.Names.{names_meant}
+use Rattle.hsr_scenario.specs.declared.fault.ScenarioFault.{ScenarioFault}
+use Rattle.hsr_scenario.specs.declared.fault.What as scenario
+use Rattle.hsr_scenario.specs.declared.fault.What.TheVariants as read
+use Rattle.hsr_plan_text.specs.Fallible.{FailsAt}
+use Rattle.hsr_plan_text.specs.Plan.{Plan}
+use Rattle.hsr_plan_text.specs.declared.fault.PlanFault.{PlanFault}
+use Rattle.hsr_plan_text.specs.declared.fault.What.{What}
+use Rattle.hsr_plan_text.specs.declared.fault.What.TheVariants.{Text, Missing, Unknown, WrongKind, BadValue, Refused, NoMemory}
+use Rattle.hsr_plan_meaning.specs.Meaning.{Meaning, listed}
+use Rattle.hsr_plan_scenario.specs.Refusals.{HasNoScenario, HasNoneIf, IfDiffers, IsKnown, IsMisread, IsTroubleIn, IsTroubleOf, IsUnmoved, IsUntold, unread}
+use Rattle.hsr_plan_scenario.specs.Says.{IsTitled, Tells, names_meant_by, scenario_meant}
+use Rattle.hsr_plan_scenario.specs.Spelled.{front_text, links_text, nodes_text, order_line, scenario_text}
+use Rattle.hsr_plan_scenario.specs.declared.checking.Trouble.{Trouble}
+use Rattle.hsr_plan_scenario.specs.declared.checking.Trouble.TheVariants.{Plan as Faulty, TooLong, Endless, Differs}
+use Rattle.hsr_plan_scenario.proofs.Whole.{no_scenario}
+
+-- ---- faults
+
+-- a fault that isn't refused room is what is said
+pub plan_fault : {A : Type 0} (fault : PlanFault) (what : What) (said : Result A PlanFault) → what ≢ NoMemory → FailsAt fault what said → said ≡ Err fault
+plan_fault fault Text said known is = is
+plan_fault fault (Missing key) said known is = is
+plan_fault fault (Unknown word) said known is = is
+plan_fault fault (WrongKind key) said known is = is
+plan_fault fault (BadValue key) said known is = is
+plan_fault fault (Refused refusal) said known is = is
+plan_fault fault NoMemory said known is = absurd (known refl)
+
+pub scenario_fault : {A : Type 0} (fault : ScenarioFault) (what : scenario.What) (said : Result A ScenarioFault) → what ≢ read.NoMemory → ScenarioFails fault what said → said ≡ Err fault
+scenario_fault fault read.Text said known is = is
+scenario_fault fault (read.Missing key) said known is = is
+scenario_fault fault read.Unknown said known is = is
+scenario_fault fault (read.WrongKind key) said known is = is
+scenario_fault fault (read.BadValue key) said known is = is
+scenario_fault fault read.NameTwice said known is = is
+scenario_fault fault read.NoSuchName said known is = is
+scenario_fault fault (read.Topology why) said known is = is
+scenario_fault fault read.NoMemory said known is = absurd (known refl)
+
+-- what isn't read says nothing that was meant
+pub unread_so : {A : Type 0} (fault : ScenarioFault) (what : scenario.What) (said : Result A ScenarioFault) (x : A) → ScenarioFails fault what said → IfDiffers (said ≢ Ok x) (unread what)
+unread_so fault read.Text said x is = λ e. absurd cc
+unread_so fault (read.Missing key) said x is = λ e. absurd cc
+unread_so fault read.Unknown said x is = λ e. absurd cc
+unread_so fault (read.WrongKind key) said x is = λ e. absurd cc
+unread_so fault (read.BadValue key) said x is = λ e. absurd cc
+unread_so fault read.NameTwice said x is = λ e. absurd cc
+unread_so fault read.NoSuchName said x is = λ e. absurd cc
+unread_so fault (read.Topology why) said x is = λ e. absurd cc
+unread_so fault read.NoMemory said x is = refl
+
+pub differs_weaker : (P Q : Type 0) (trouble : Trouble) → (P → Q) → IfDiffers P trouble → IfDiffers Q trouble
+differs_weaker P Q Differs so h = so h
+differs_weaker P Q (Faulty fault) so h = h
+differs_weaker P Q (TooLong octets) so h = h
+differs_weaker P Q (Endless steps) so h = h
+
+pub differs_untold : (title : Option (List ℕ)) (m : Meaning) (trouble : Trouble) → IfDiffers (IsMisread title m) trouble → IsUntold title m trouble
+differs_untold title m Differs h = h
+differs_untold title m (Faulty fault) h = h
+differs_untold title m (TooLong octets) h = absurd cc
+differs_untold title m (Endless steps) h = h
+
+-- ---- texts
+
+joined : (a b c d e f g h i : List ℕ) → (((((((a ++ b) ++ c) ++ d) ++ e) ++ f) ++ g) ++ h) ++ i ≡ a ++ (b ++ (c ++ (d ++ (e ++ (f ++ (g ++ (h ++ i)))))))
+joined a b c d e f g h i = simp append_assoc
+
+-- a scenario's text begins with its title
+pub titled : (title : Option (List ℕ)) (m : Meaning) → IsTitled title (scenario_text title m)
+unfolding scenario_text front_text
+titled None m = tt
+titled (Some title) m = (
+  _,
+  joined (codes "# " ++ title ++ codes "\n") (codes "unit = \"us\"\ncapacity = ") (decimal m.capacity) (codes "\n") (nodes_text m.nodes) (links_text m.nodes m.topology.links)
+      (codes "step = [\n") (flat_map (order_line m.nodes) m.orders) (codes "]\n"),
+)
+
+-- one over 16 MiB isn't read
+misread : (title : Option (List ℕ)) (m : Meaning) (trouble : Trouble) → IsKnown trouble → IsUntold title m trouble → IsMisread title m
+misread title m (TooLong octets) known long = unread_long
+  where
+    unread_long : IsMisread title m
+    unread_long tells =
+        let means = tells.means in
+        let none = no_scenario (scenario_text title m) long in
+        absurd cc
+misread title m Differs known h = h
+misread title m (Faulty fault) known h = let same : fault.what ≡ NoMemory = cc in absurd (known same)
+misread title m (Endless steps) known h = absurd cc
+
+-- ---- plans
+
+unmoved_so : (capacity : ℕ) (plan : Plan) (trouble : Trouble) → IsKnown trouble → IsUnmoved plan trouble → HasNoScenario capacity plan
+unmoved_so capacity plan (Faulty fault) known (inl is) = inl (fault, plan_fault fault fault.what (listed plan) known is)
+unmoved_so capacity plan (Faulty fault) known (inr hops) = inr (inl hops)
+unmoved_so capacity plan (Endless steps) known hops = inr (inl hops)
+unmoved_so capacity plan Differs known hops = inr (inl hops)
+unmoved_so capacity plan (TooLong octets) known none = absurd none
+
+-- a trouble that isn't refused room says that there is no scenario
+pub none_so : (capacity : ℕ) (said : Result Plan PlanFault) (trouble : Trouble) → IsKnown trouble → IsTroubleIn capacity said trouble → HasNoneIf capacity said
+none_so capacity (Err fault) trouble known is = tt
+none_so capacity (Ok plan) trouble known (inl unmoved) = unmoved_so capacity plan trouble known unmoved
+none_so capacity (Ok plan) trouble known (inr (m, means, untold)) = inr (inr (m, means, misread plan.outline.title m trouble known untold))
+
+-- ---- one by one
+
+-- the first fault of a text is its trouble
+pub read_so : (capacity : ℕ) (said : Result Plan PlanFault) (fault : PlanFault) (what : What) → fault.what ≡ what → FailsAt fault what said → IsTroubleIn capacity said (Faulty fault)
+read_so capacity (Err first) fault what e is = subst (λ w. FailsAt {Y = Plan} fault w (Err first)) (sym e) is
+read_so capacity (Ok plan) fault NoMemory e is = let P : What → Type 0 = λ w. FailsAt fault w (listed plan) in inl (inl (subst P (sym e) tt))
+read_so capacity (Ok plan) fault Text e is = absurd cc
+read_so capacity (Ok plan) fault (Missing key) e is = absurd cc
+read_so capacity (Ok plan) fault (Unknown word) e is = absurd cc
+read_so capacity (Ok plan) fault (WrongKind key) e is = absurd cc
+read_so capacity (Ok plan) fault (BadValue key) e is = absurd cc
+read_so capacity (Ok plan) fault (Refused refusal) e is = absurd cc
+
+pub trouble_so : {X : Type 0} (capacity : ℕ) (said : Result Plan PlanFault) (plan : Plan) (r : Result X Trouble) → said ≡ Ok plan → IfErr r (IsTroubleOf capacity plan) →
+    IfErr r (IsTroubleIn capacity said)
+trouble_so capacity said plan (Ok x) e is = tt
+trouble_so capacity said plan (Err trouble) e is = let P : Result Plan PlanFault → Type 0 = λ r. IsTroubleIn capacity r trouble in subst P (sym e) is
+
+-- ---- a text that is checked
+
+pub tells : {E : Type 0} (title : Option (List ℕ)) (m : Meaning) (text words : List ℕ) (r : Result (Unit {0}) E) → words ≡ text → IsUtf8 text → text ≡ scenario_text title m →
+    meaning words ≡ Ok (scenario_meant m) → OnOk r (names_meant words ≡ Ok (names_meant_by m)) → OnOk r (Tells title m text)
+tells title m text words (Ok done) same is spelled means named = record {
+  is_text = is;
+  means = ap meaning (sym same) ∙ means;
+  named = ap names_meant (sym same) ∙ named;
+  titled = let P : List ℕ → Type 0 = IsTitled title in subst P (sym spelled) (titled title m);
+}
+tells title m text words (Err e) same is spelled means named = tt
