@@ -10,7 +10,7 @@ use Rattle.hsr_plan_words.specs.declared.task.WordsFault.{WordsFault}
 use Rattle.hsr_plan_words.specs.declared.task.WordsFault.TheVariants.{Usage, Memory}
 use Rattle.hsr_plan_scenario.specs.Ends.{Checks, Ends, code_of}
 use Rattle.hsr_plan_scenario.specs.declared.planning.Ending.{Ending}
-use Rattle.hsr_plan_scenario.specs.declared.planning.Ending.TheVariants.{Planned, Refused, Unwritten}
+use Rattle.hsr_plan_scenario.specs.declared.planning.Ending.TheVariants.{Planned, Refused, Failed, Unwritten}
 use Rattle.hsr_plan_sweep.specs.Swept.{SweepEnds}
 
 -- a text is handled as was chosen: as a plan, for tables of some size; as a scenario, and nothing is written; or as a plan that is swept
@@ -23,6 +23,7 @@ Does (Sweep at) text shown held holds told tells ending = SweepEnds text at show
 abbrev pub TellsWrite : Ending → Option (List ℕ) → Option (List ℕ) → Type 0
 TellsWrite Planned told tells = Keeps told tells
 TellsWrite Refused told tells = Keeps told tells
+TellsWrite Failed told tells = Keeps told tells
 TellsWrite Unwritten told tells = Appends told tells (codes "fault: write\n")
 
 -- what was chosen is done, a failed write is told, and the code is that of the end
