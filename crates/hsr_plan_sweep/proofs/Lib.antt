@@ -1,3 +1,4 @@
 pub mod Counts
 mod Listing
+mod Uncounted
 mod Whole

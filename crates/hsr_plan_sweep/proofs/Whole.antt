@@ -1,26 +1,32 @@
--- A plan that is read whole, or up to a front that is too long.
-use Rattle.std.proofs.Common.{◌≡◌, ℕ, Bool, ◌^◌, ◌<◌, false, nat_le, length, List, Option, Some, None, inl, inr, refl, sym, subst, arith}
+-- A plan that is read whole, or up to a front that is too long, and what is told where nothing shows how far it is.
+use Rattle.std.proofs.Common.{◌≡◌, ℕ, Bool, ◌^◌, false, List, Option, Some, None, Result, Ok, Err, IfOk, IfSome, inl, inr, refl, sym, subst}
 use Rattle.std.specs.Io.KnownBytes.{Keeps}
-use Rattle.std.proofs.lemmas.Bool.Decides.{nat_tests}
-use Rattle.hsr_plan_scenario.specs.Ends.{TellsFault}
+use Rattle.hsr_plan_text.specs.Meaning.{plan_of}
+use Rattle.hsr_plan_text.specs.Plan.{Plan}
+use Rattle.hsr_plan_text.specs.declared.fault.PlanFault.{PlanFault}
+use Rattle.hsr_plan_scenario.specs.Ends.{TellsFault, TellsInput, TellsWhy}
 use Rattle.hsr_plan_scenario.specs.Input.{IsWhole}
 use Rattle.hsr_plan_scenario.specs.declared.planning.Ending.{Ending}
-use Rattle.hsr_plan_scenario.specs.declared.planning.Ending.TheVariants.{Planned, Refused, Unwritten}
+use Rattle.hsr_plan_scenario.specs.declared.planning.Ending.TheVariants.{Planned, Refused, Failed, Unwritten}
+use Rattle.hsr_plan_scenario.proofs.Whole.{longer, no_plan}
+use Rattle.hsr_plan_sweep.specs.Refusals.{IsUnsweepable, IsUnsweptIf}
 use Rattle.hsr_plan_sweep.specs.Swept.{IfHidden, IsSwept, SweepEnds}
 
 -- a text over 16 MiB is no plan
-too_long : (front : List ℕ) (moment : ℕ) (text : List ℕ) → 2 ^ 24 < length front → IsSwept front moment text → ⊥
-too_long front moment text h (plan, is, told) =
-    let e : nat_le (length front) (2 ^ 24) ≡ false = grind (arith, nat_tests) in
-    let clash = rw e at is in
-    absurd cc
+none_said : (said : Result Plan PlanFault) (fault : PlanFault) (plan : Plan) → said ≡ Err fault → said ≡ Ok plan → ⊥
+none_said said fault plan e is = absurd cc
 
 -- what is told of what was read is told of all
-pub swept_whole : (all front : List ℕ) (moment : ℕ) (shown : Bool) (held holds told tells : Option (List ℕ)) (ending : Ending) → IsWhole (2 ^ 24) all front
+swept_whole : (all front : List ℕ) (moment : ℕ) (shown : Bool) (held holds told tells : Option (List ℕ)) (ending : Ending) → IsWhole (2 ^ 24) all front
     → SweepEnds front moment shown held holds told tells ending → SweepEnds all moment shown held holds told tells ending
 swept_whole all front moment shown held holds told tells Planned (inl same) (text, swept, written, hidden) = (text, subst (λ t. IsSwept t moment text) (sym same) swept, written, hidden)
-swept_whole all front moment shown held holds told tells Planned (inr long) (text, swept, written, hidden) = absurd (too_long front moment text long.0 swept)
-swept_whole all front moment shown held holds told tells Refused whole ends = ends
+swept_whole all front moment shown held holds told tells Planned (inr long) (text, swept, written, hidden) =
+    absurd (none_said (plan_of front) _ swept.1.0 (no_plan front long.0) swept.1.1)
+swept_whole all front moment shown held holds told tells Refused (inl same) (none, kept, hidden) = (subst (λ t. IsUnsweepable t moment) (sym same) none, kept, hidden)
+swept_whole all front moment shown held holds told tells Refused (inr long) (none, kept, hidden) =
+    let P : Result Plan PlanFault → Type 0 = λ r. IsUnsweptIf r moment in
+    (inr (subst P (sym (no_plan all (longer front long.1.0 all long.0 long.1.1))) tt), kept, hidden)
+swept_whole all front moment shown held holds told tells Failed whole ends = ends
 swept_whole all front moment shown held holds told tells Unwritten whole ends = ends
 
 -- what wasn't touched is kept, and what was told since is all that was told
@@ -31,5 +37,20 @@ kept_if_hidden shown told tells same hidden = subst (Keeps told) (sym (same hidd
     keeps None = tt
     keeps (Some held) = refl
 
-pub told_if_hidden : (shown : Bool) (told middle tells : Option (List ℕ)) → (shown ≡ false → middle ≡ told) → TellsFault middle tells → IfHidden shown (TellsFault told tells)
-told_if_hidden shown told middle tells same fault hidden = subst (λ t. TellsFault t tells) (same hidden) fault
+pub why_if_hidden : (octets : List ℕ) (moment : ℕ) (shown : Bool) (held holds told middle tells : Option (List ℕ)) (why : Type 0) (ending : Ending) → (why → IsUnsweepable octets moment)
+    → Keeps held holds → (shown ≡ false → middle ≡ told) → TellsWhy why middle tells ending → SweepEnds octets moment shown held holds told tells ending
+why_if_hidden octets moment shown held holds told middle tells why Planned so kept same none = absurd none
+why_if_hidden octets moment shown held holds told middle tells why Refused so kept same (this, fault) = (so this, kept, λ hidden. subst (λ t. TellsFault t tells) (same hidden) fault)
+why_if_hidden octets moment shown held holds told middle tells why Failed so kept same fault = (kept, λ hidden. subst (λ t. TellsInput t tells) (same hidden) fault)
+why_if_hidden octets moment shown held holds told middle tells why Unwritten so kept same none = absurd none
+
+-- so it is with what a reader gives, where that is known
+pub run_whole : {E : Type 0} (remaining : Option (List ℕ)) (front text : List ℕ) (moment : ℕ) (shown : Bool) (held holds told tells : Option (List ℕ)) (r : Result Ending E)
+    → IfSome remaining (λ all. IsWhole (2 ^ 24) all front) → text ≡ front → IfOk r (SweepEnds text moment shown held holds told tells)
+    → IfOk r (λ ending. IfSome remaining (λ octets. SweepEnds octets moment shown held holds told tells ending))
+run_whole None front text moment shown held holds told tells (Ok ending) whole same ends = tt
+run_whole (Some all) front text moment shown held holds told tells (Ok ending) whole same ends =
+    let P : List ℕ → Type 0 = λ t. SweepEnds t moment shown held holds told tells ending in
+    swept_whole all front moment shown held holds told tells ending whole (subst P same ends)
+run_whole None front text moment shown held holds told tells (Err e) whole same ends = tt
+run_whole (Some all) front text moment shown held holds told tells (Err e) whole same ends = tt

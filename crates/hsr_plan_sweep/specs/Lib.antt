@@ -1,4 +1,5 @@
 pub mod Counting
 pub mod Sweep
 pub mod Lines
+pub mod Refusals
 pub mod Swept

@@ -1,11 +1,12 @@
 //! A plan's run, counted.
-ghost use Rattle.std.specs.Prelude.{◌≡◌, IfOk, OnOk};
+ghost use Rattle.std.specs.Prelude.{◌≡◌, IfErr, IfOk, OnOk};
+ghost use Rattle.hsr_plan_sweep.specs.Refusals.{HasNoRun, IsKnown, IsKnownRun, IsUncounted};
 ghost use Rattle.hsr_plan_sweep.specs.Sweep.{IsCountOf, IsCountOfMeaning, with_deed};
 
 use crate::counting::{Count, counted};
 use hsr_closing::CheckFault;
-use hsr_plan_hops::{Unmoved, moved_meaning_of};
 use hsr_plan_meaning::Meaning;
+use hsr_plan_scenario::{Trouble as PlanTrouble, moved};
 use hsr_plan_text::{Deed, Event, Plan};
 use hsr_playing::{Unfinished, finished};
 use hsr_step::{DrainFault, WorldFault};
@@ -21,42 +22,42 @@ const CAPACITY_LIMIT: usize = 4096;
 #[derive(Debug, Drop)]
 pub enum Trouble {
     /// The plan means nothing.
-    Plan(Unmoved),
+    Plan(PlanTrouble),
     /// What it means leads to no finished run.
     Run(Unfinished),
-}
-
-/// The trouble where room is refused.
-pub(crate) fn no_memory() -> Trouble {
-    Trouble::Run(Unfinished::Memory)
+    /// Room was refused.
+    Memory,
 }
 
 /// The trouble where orders lead to no finished run.
-fn trouble_of(fault: Unfinished) -> Trouble {
+fn trouble_of(fault: Unfinished) -> Trouble
+    ensures { IsKnown result → IsKnownRun fault }
+{
     match fault {
         Unfinished::Memory
         | Unfinished::Check(CheckFault::NoMemory)
-        | Unfinished::Step(_, DrainFault::World(WorldFault::NoMemory)) => no_memory(),
+        | Unfinished::Step(_, DrainFault::World(WorldFault::NoMemory)) => Trouble::Memory,
         Unfinished::Check(_) | Unfinished::Step(_, _) => Trouble::Run(fault),
     }
 }
 
 /// The count of a run of what is meant.
 fn count_of_meaning(alloc: Global, meaning: &Meaning) -> Result<Count, Trouble>
-    ensures { IfOk result (λ count. IsCountOfMeaning meaning.now count) }
+    ensures count { IfOk result (λ count. IsCountOfMeaning meaning.now count) }
+    ensures none { IfErr result (λ trouble. IsKnown trouble → HasNoRun meaning.now) }
 {
     // no plan that is read has another capacity
     if meaning.capacity < 1 || meaning.capacity > CAPACITY_LIMIT {
-        return Err(no_memory());
+        return Err(Trouble::Memory);
     }
     let Ok(topology) = meaning.topology.copy() else {
-        return Err(no_memory());
+        return Err(Trouble::Memory);
     };
     let orders = meaning.orders.as_slice();
     match finished::<TABLE>(alloc, topology, meaning.capacity, orders) {
         Ok(closed) => match counted(alloc, &closed) {
             Ok(count) => Ok(count),
-            Err(_) => Err(no_memory()),
+            Err(_) => Err(Trouble::Memory),
         },
         Err(fault) => Err(trouble_of(fault)),
     }
@@ -64,9 +65,10 @@ fn count_of_meaning(alloc: Global, meaning: &Meaning) -> Result<Count, Trouble>
 
 /// The count of a plan's run.
 pub(crate) fn count_of(alloc: Global, plan: &Plan) -> Result<Count, Trouble>
-    ensures { IfOk result (λ count. IsCountOf plan.now count) }
+    ensures count { IfOk result (λ count. IsCountOf plan.now count) }
+    ensures none { IfErr result (λ trouble. IsKnown trouble → IsUncounted plan.now) }
 {
-    match moved_meaning_of::<TABLE>(alloc, plan) {
+    match moved::<TABLE>(alloc, plan) {
         Ok(meaning) => count_of_meaning(alloc, &meaning),
         Err(fault) => Err(Trouble::Plan(fault)),
     }
@@ -80,10 +82,11 @@ pub(crate) fn count_with(
     deed: Deed,
 ) -> Result<Count, Trouble>
     ensures count { IfOk result (λ count. IsCountOf (with_deed plan.old at deed) count) }
+    ensures none { IfErr result (λ trouble. IsKnown trouble → IsUncounted (with_deed plan.old at deed)) }
     ensures same { OnOk result (plan.new ≡ plan.old) }
 {
     if plan.events.push(Event { at, deed }).is_err() {
-        return Err(no_memory());
+        return Err(Trouble::Memory);
     }
     let count = count_of(alloc, plan);
     let _event = plan.events.pop();

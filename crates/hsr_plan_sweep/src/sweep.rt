@@ -1,10 +1,11 @@
 //! The sweep of a plan.
-ghost use Rattle.std.specs.Prelude.{◌≡◌, false, length, IfOk, OnOk};
+ghost use Rattle.std.specs.Prelude.{◌≡◌, false, length, IfErr, IfOk, OnOk};
+ghost use Rattle.hsr_plan_sweep.specs.Refusals.{IsKnown, IsUncounted, IsUncountedWithoutLink, IsUncountedWithoutNode, IsUnswept};
 ghost use Rattle.hsr_plan_sweep.specs.Sweep.{AreCountsOf, IsCountOf, IsSweep, cut_of, off_of, with_deed, without_link, without_node};
 
 use crate::counting::Count;
 use crate::progress::Progress;
-use crate::running::{Trouble, count_of, count_with, no_memory};
+use crate::running::{Trouble, count_of, count_with};
 use crate::variants::{cut_of, off_of};
 use hsr_plan_network::{Node, Wired, wire};
 use hsr_plan_text::Plan;
@@ -40,11 +41,12 @@ fn without_link(
     link: &[End; 2],
 ) -> Result<Count, Trouble>
     ensures count { IfOk result (λ count. IsCountOf (with_deed plan.old at (cut_of nodes.now link.now)) count) }
+    ensures none { IfErr result (λ trouble. IsKnown trouble → IsUncounted (with_deed plan.old at (cut_of nodes.now link.now))) }
     ensures same { OnOk result (plan.new ≡ plan.old) }
 {
     match cut_of(alloc, nodes, link) {
         Ok(deed) => count_with(alloc, plan, at, deed),
-        Err(_) => Err(no_memory()),
+        Err(_) => Err(Trouble::Memory),
     }
 }
 
@@ -60,6 +62,7 @@ fn without_links<E: Write>(
     errors: &mut E,
 ) -> Result<Vec<Count>, Trouble>
     ensures each { IfOk result (λ v. AreCountsOf (without_link plan.old at nodes.now links.now) v.items) }
+    ensures none { IfErr result (λ trouble. IsKnown trouble → IsUncountedWithoutLink plan.old at nodes.now links.now) }
     ensures all { IfOk result (λ v. length v.items ≡ length links.now) }
     ensures same { OnOk result (plan.new ≡ plan.old) }
     ensures hidden { progress.is_shown ≡ false → E.contents errors.new ≡ E.contents errors.old }
@@ -69,7 +72,7 @@ fn without_links<E: Write>(
         progress.show(alloc, errors, counts.len());
         let count = without_link(alloc, plan, at, nodes, link)?;
         if counts.push(count).is_err() {
-            return Err(no_memory());
+            return Err(Trouble::Memory);
         }
     }
     Ok(counts)
@@ -78,11 +81,12 @@ fn without_links<E: Write>(
 /// The count where one node is off.
 fn without_node(alloc: Global, plan: &mut Plan, at: u64, node: &Node) -> Result<Count, Trouble>
     ensures count { IfOk result (λ count. IsCountOf (with_deed plan.old at (off_of node.now)) count) }
+    ensures none { IfErr result (λ trouble. IsKnown trouble → IsUncounted (with_deed plan.old at (off_of node.now))) }
     ensures same { OnOk result (plan.new ≡ plan.old) }
 {
     match off_of(alloc, node) {
         Ok(deed) => count_with(alloc, plan, at, deed),
-        Err(_) => Err(no_memory()),
+        Err(_) => Err(Trouble::Memory),
     }
 }
 
@@ -97,6 +101,7 @@ fn without_nodes<E: Write>(
     errors: &mut E,
 ) -> Result<Vec<Count>, Trouble>
     ensures each { IfOk result (λ v. (d : _) → AreCountsOf (without_node plan.old at nodes.now d) v.items) }
+    ensures none { IfErr result (λ trouble. IsKnown trouble → IsUncountedWithoutNode plan.old at nodes.now) }
     ensures all { IfOk result (λ v. length v.items ≡ length nodes.now) }
     ensures same { OnOk result (plan.new ≡ plan.old) }
     ensures hidden { progress.is_shown ≡ false → E.contents errors.new ≡ E.contents errors.old }
@@ -107,7 +112,7 @@ fn without_nodes<E: Write>(
         progress.show(alloc, errors, progress.runs.saturating_sub(left));
         let count = without_node(alloc, plan, at, node)?;
         if counts.push(count).is_err() {
-            return Err(no_memory());
+            return Err(Trouble::Memory);
         }
     }
     Ok(counts)
@@ -115,7 +120,8 @@ fn without_nodes<E: Write>(
 
 /// What is counted of a plan, where each link of its topology is cut, and each of its nodes goes off, one by one, by one more event at
 /// the end of its own. The plan's own events may still mend such a link, or set such a node on again. The plan stays as it is. Where
-/// that is asked for, `errors` is told how far it is, in one line that is written again and again.
+/// that is asked for, `errors` is told how far it is, in one line that is written again and again. `Plan` and `Run` come only where
+/// nothing is counted of the plan itself, or of one of these: it means nothing, or what it means leads to no finished run.
 pub fn sweep_plan<E: Write>(
     alloc: Global,
     plan: &mut Plan,
@@ -124,11 +130,12 @@ pub fn sweep_plan<E: Write>(
     errors: &mut E,
 ) -> Result<Sweep, Trouble>
     ensures swept { IfOk result (λ s. IsSweep plan.old at s) }
+    ensures none { IfErr result (λ trouble. IsKnown trouble → IsUnswept plan.old at) }
     ensures hidden { is_shown ≡ false → E.contents errors.new ≡ E.contents errors.old }
 {
     let undisturbed = count_of(alloc, plan)?;
     let Ok(wired) = wire(alloc, &plan.outline.network) else {
-        return Err(no_memory());
+        return Err(Trouble::Memory);
     };
     let nodes = wired.nodes.as_slice();
     let links = wired.topology.links();

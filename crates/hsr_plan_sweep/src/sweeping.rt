@@ -1,6 +1,7 @@
 //! The sweep of a plan, over a reader and two writers.
-ghost use Rattle.std.specs.Prelude.{◌≡◌, false, IfOk, IfSome};
+ghost use Rattle.std.specs.Prelude.{◌≡◌, false, IfErr, IfOk, IfSome, IsOk};
 ghost use Rattle.hsr_plan_sweep.specs.Lines.{sweep_text};
+ghost use Rattle.hsr_plan_sweep.specs.Refusals.{IsKnown, IsUnsweepable, IsUnswept};
 ghost use Rattle.hsr_plan_sweep.specs.Swept.{IsSwept, SweepEnds, TellsSweep};
 
 use crate::lines::lines;
@@ -9,19 +10,19 @@ use crate::running::Trouble;
 use crate::sweep::{Sweep, sweep_plan};
 use hsr_frame::NoMemory;
 use hsr_plan_scenario::{
-    Ending, InputFault, Line, Trouble as PlanTrouble, complain, deliver, line_of, read_text,
-    trouble_of, words,
+    Ending, Line, Trouble as PlanTrouble, complain, deliver, fail, line_of, read_text, words,
 };
 use hsr_plan_text::{Plan, TEXT_LIMIT, read};
-use hsr_playing::Unfinished;
 use std::alloc::Global;
 use std::io::{self, Read, Write};
 
-/// The line of what is wrong.
-fn line_of_trouble(alloc: Global, text: &str, trouble: Trouble) -> Line {
+/// The line of what is wrong; there is none for refused room.
+fn line_of_trouble(alloc: Global, text: &str, trouble: &Trouble) -> Line
+    ensures { IsOk result → IsKnown trouble.now }
+{
     match trouble {
-        Trouble::Plan(unmoved) => line_of(alloc, text, &trouble_of(unmoved)),
-        Trouble::Run(Unfinished::Memory) => Err(NoMemory),
+        Trouble::Plan(trouble) => line_of(alloc, text, trouble),
+        Trouble::Memory => Err(NoMemory),
         Trouble::Run(_) => words(
             alloc,
             "fault: plan 1:1 a run of the plan doesn't end, or refuses a step: run its scenario",
@@ -31,7 +32,8 @@ fn line_of_trouble(alloc: Global, text: &str, trouble: Trouble) -> Line {
 
 /// The lines of a sweep.
 fn lines_of(alloc: Global, sweep: &Sweep) -> Result<Vec<u8>, Line>
-    ensures { IfOk result (λ text. text.items ≡ sweep_text sweep.now) }
+    ensures text { IfOk result (λ text. text.items ≡ sweep_text sweep.now) }
+    ensures none { IfErr result (λ line. IsOk line → ⊥) }
 {
     match lines(alloc, sweep) {
         Ok(text) => Ok(text),
@@ -49,6 +51,7 @@ fn swept_plan<E: Write>(
     errors: &mut E,
 ) -> Result<Vec<u8>, Line>
     ensures told { IfOk result (λ lines. TellsSweep plan at lines.items) }
+    ensures none { IfErr result (λ line. IsOk line → IsUnswept plan at) }
     ensures hidden { is_shown ≡ false → E.contents errors.new ≡ E.contents errors.old }
 {
     let mut plan = plan;
@@ -56,7 +59,7 @@ fn swept_plan<E: Write>(
     clear(is_shown, errors);
     match swept {
         Ok(sweep) => lines_of(alloc, &sweep),
-        Err(trouble) => Err(line_of_trouble(alloc, text, trouble)),
+        Err(trouble) => Err(line_of_trouble(alloc, text, &trouble)),
     }
 }
 
@@ -69,6 +72,7 @@ fn swept<E: Write>(
     errors: &mut E,
 ) -> Result<Vec<u8>, Line>
     ensures swept { IfOk result (λ lines. IsSwept octets.now at lines.items) }
+    ensures none { IfErr result (λ line. IsOk line → IsUnsweepable octets.now at) }
     ensures hidden { is_shown ≡ false → E.contents errors.new ≡ E.contents errors.old }
 {
     let Ok(text) = str::from_utf8(octets) else {
@@ -81,7 +85,7 @@ fn swept<E: Write>(
 }
 
 /// Writes the lines of a sweep, or the line of what is wrong.
-#[tactic(auto, using(crate::proofs::Whole::kept_if_hidden, crate::proofs::Whole::told_if_hidden))]
+#[tactic(auto, using(crate::proofs::Whole::kept_if_hidden, crate::proofs::Whole::why_if_hidden))]
 fn answer<W: Write, E: Write>(
     alloc: Global,
     octets: &[u8],
@@ -100,9 +104,8 @@ fn answer<W: Write, E: Write>(
 
 /// Reads a plan, and writes a line for each link and each node that is off from a moment on, in microseconds, then of the undisturbed
 /// run, then how many table entries are enough for all: how many sends each run had, how many of these are complete, missed and taken
-/// up twice, how many entries its tables needed, and what the audit of networks found, in the words of a report. Where the plan means
-/// nothing, nothing is written but one line on `errors`, as by `plan_run`. Where that is asked for, `errors` is told how far it is.
-#[tactic(auto, using(crate::proofs::Whole::swept_whole))]
+/// up twice, how many entries its tables needed, and what the audit of networks found, in the words of a report. Where nothing can be
+/// counted of one of these, nothing is written but one line on `errors`, as by `plan_run`. Where that is asked for, `errors` is told how far it is.
 pub fn sweep_run<R: Read, W: Write, E: Write>(
     alloc: Global,
     reader: &mut R,
@@ -116,7 +119,6 @@ pub fn sweep_run<R: Read, W: Write, E: Write>(
 {
     match read_text(alloc, reader, TEXT_LIMIT) {
         Ok(octets) => answer(alloc, octets.as_slice(), at, is_shown, writer, errors),
-        Err(InputFault::Read) => complain(alloc, errors, words(alloc, "fault: read")),
-        Err(InputFault::Memory) => complain(alloc, errors, Err(NoMemory)),
+        Err(fault) => fail(errors, fault),
     }
 }
