@@ -69,8 +69,8 @@ lay_tree() {
   rm -rf "$tree"
   mkdir -p "$tree/crates/low/src/deep" "$tree/crates/low/proofs" "$tree/crates/low/must-fail" "$tree/crates/low_tests/src" "$tree/release"
   cp -R "$top/bin" "$top/tools" "$top/install" "$tree"
-  for name in "${names[@]}"; do mkdir -p "$tree/crates/$name/src"; echo main >"$tree/crates/$name/src/main.rt"; done
-  printf 'low:\nhsr_bench: low\nhsr_plan: low\nhsr_view: low\nlow_tests: low\n' >"$tree/crates.txt"
+  for name in hsr_bench_main hsr_plan hsr_view; do mkdir -p "$tree/crates/$name/src"; echo main >"$tree/crates/$name/src/main.rt"; done
+  printf 'low:\nhsr_bench_main: low\nhsr_plan: low\nhsr_view: low\nlow_tests: low\n' >"$tree/crates.txt"
   echo 'Handles allowed: none.' >"$tree/HANDLES"
   echo 1.0.0 >"$tree/VERSION"
   echo one >"$tree/crates/low/src/lib.rt"; echo two >"$tree/crates/low/src/deep/a.rt"; echo three >"$tree/crates/low/src/deep.rt"
