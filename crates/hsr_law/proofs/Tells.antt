@@ -38,7 +38,7 @@ use Rattle.hsr_law.proofs.Views.{Came, came}
 use Rattle.hsr_law.proofs.Noting.{CameNumbered, IsNoteOf}
 use Rattle.hsr_law.proofs.Wanted.{source_of}
 
-module _ (run : Run) (macs : List (List ℕ)) (closed : IsClosed run) (ring : IsRing run macs) (small : run.capacity < 65536) (budget : IsBudgetHeld run) where
+module _ (run : Run) (macs : List (List ℕ)) (closed : IsClosed run) (ring : IsRing run macs) (budget : IsBudgetHeld run) where
   -- a send has this source and number
   pub record IsKey (send : Probe) (key : Key) : Type 0 where
     pub below : send.node < length macs
@@ -79,7 +79,7 @@ module _ (run : Run) (macs : List (List ℕ)) (closed : IsClosed run) (ring : Is
       (λ s h. (and_parts (is_of (record { node = k; place = lo }) (Some s.send)) (s.moment == moment_at lo (past_of run k)) h).1)
       (is_listed run (record { node = k; place = lo }) in_range first) in
       let most = budget.not_crowded (moment_at lo (past_of run k)) at_start in
-      omega (arith, small, same, more, some, all, most)
+      omega (arith, closed.tables.1, same, more, some, all, most)
 
   one_send : (p q : Probe) (key : Key) → IsKey p key → IsKey q key → moment_of run q < moment_of run p + 800000 → moment_of run p < moment_of run q + 800000 → p ≡ q
   one_send p q key first second near close =
@@ -221,9 +221,9 @@ module _ (run : Run) (macs : List (List ℕ)) (closed : IsClosed run) (ring : Is
           false≢true (sym (not-true (is_note_of copy.probe found.0) parts.1) ∙ same copy o t key is found.0 found.1 parts.0))
 
 pub budget_tells : BudgetTells
-budget_tells run macs closed ring small budget k below =
+budget_tells run macs closed ring budget k below =
     let inside : k < length macs = omega (arith, places run macs closed ring) in
     let P : Owner → Type 0 = λ o. Each (λ x past. KnowsOwn run.capacity o past (now (x ∷ past)) x.event) (past_of run k) in
     subst P (sym (owner_is run macs closed ring k inside))
-    (knows_own run macs closed ring small budget k inside (past_of run k) (legal run macs closed ring k inside) (all_stand (past_of run k))
+    (knows_own run macs closed ring budget k inside (past_of run k) (legal run macs closed ring k inside) (all_stand (past_of run k))
     (each_counted (past_of run k) (past_of run k) (λ n h. refl)) (each_of_send run closed k below) (budget.in_time k below))

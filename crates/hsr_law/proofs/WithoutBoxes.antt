@@ -69,8 +69,8 @@ pub boxless : BoxlessNumbersFirst
 boxless run closed none k below = record_numbers_none run (owner_of run k) (past_of run k) (none k below) (legal_each run.capacity (owner_of run k) (past_of run k) (closed.legal k below))
 
 pub once_in_budget : OnceInBudget
-once_in_budget run macs closed ring one small budget =
-    exactly_once run macs closed ring one (budget_keeps run closed (boxless run closed no_box) budget) (budget_tells run macs closed ring small budget)
+once_in_budget run macs closed ring one budget =
+    exactly_once run macs closed ring one (budget_keeps run closed (boxless run closed no_box) budget) (budget_tells run macs closed ring budget)
   where
     no_box : (k : ℕ) → k < length run.places → is_redbox (place_of run k) ≡ false
     no_box k below =

@@ -163,7 +163,7 @@ linked_at (suc zero) (suc (suc p)) h = inr (nothing_far (1 == suc (suc p)) (0 ==
 linked_at (suc (suc k)) p h = absurd (omega arith)
 
 pub is_closed : IsClosed ring2
-is_closed = record { records = refl; rows = refl; legal = legal_at; put = put_at; taken = taken_at; settled = settled_at; linked = linked_at }
+is_closed = record { tables = (omega arith, omega arith); records = refl; rows = refl; legal = legal_at; put = put_at; taken = taken_at; settled = settled_at; linked = linked_at }
 
 -- ---- it is a ring, and loses nothing
 
@@ -235,4 +235,4 @@ within = record { in_time = in_time_at; not_crowded = not_crowded_at }
 
 -- so the second node took it up once, and nobody else did
 pub delivered_once : IsExactlyOnce ring2 macs
-delivered_once = once_in_budget ring2 macs is_closed is_ring lossless (omega arith) within
+delivered_once = once_in_budget ring2 macs is_closed is_ring lossless within

@@ -111,7 +111,7 @@ linked_at (suc zero) (suc (suc p)) h = inr (nothing_far (0 == suc (suc p)) (1 ==
 linked_at (suc (suc k)) p h = absurd (omega arith)
 
 pub is_closed : IsClosed lossy
-is_closed = record { records = refl; rows = refl; legal = legal_at; put = put_at; taken = taken_at; settled = settled_at; linked = linked_at }
+is_closed = record { tables = (omega arith, omega arith); records = refl; rows = refl; legal = legal_at; put = put_at; taken = taken_at; settled = settled_at; linked = linked_at }
 
 -- ---- it is a ring
 

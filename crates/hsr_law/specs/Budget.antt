@@ -73,8 +73,8 @@ BudgetKeeps = (run : Run) → IsClosed run → NumberedFirst run → IsBudgetHel
 
 -- Within budget no number is mistaken in a ring, since a table has fewer entries than there are numbers.
 abbrev pub BudgetTells : Type 0
-BudgetTells = (run : Run) (macs : List (List ℕ)) → IsClosed run → IsRing run macs → run.capacity < 65536 → IsBudgetHeld run → NothingMistaken run
+BudgetTells = (run : Run) (macs : List (List ℕ)) → IsClosed run → IsRing run macs → IsBudgetHeld run → NothingMistaken run
 
 -- So within budget, with losses on at most one link, a ring delivers each frame exactly once.
 abbrev pub OnceInBudget : Type 0
-OnceInBudget = (run : Run) (macs : List (List ℕ)) → IsClosed run → IsRing run macs → OneLossyLink run → run.capacity < 65536 → IsBudgetHeld run → IsExactlyOnce run macs
+OnceInBudget = (run : Run) (macs : List (List ℕ)) → IsClosed run → IsRing run macs → OneLossyLink run → IsBudgetHeld run → IsExactlyOnce run macs

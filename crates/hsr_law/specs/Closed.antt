@@ -1,8 +1,9 @@
 -- A run is closed: nothing is under way, and what the nodes did, what went over the links and what was sent agree.
 --     PutAgrees, TakenAgrees   agreement of a link with the records of the nodes at its ends
 --     IsOfSend                 origin of a copy
+--     IsTableSize              size of the duplicate tables
 --     IsClosed                 a closed run
-use Rattle.std.specs.Prelude.{ℕ, ◌<◌, ◌≡◌, ◌⊎◌, false, [], length, Option, Some, Ok, IsPermutation}
+use Rattle.std.specs.Prelude.{ℕ, ◌<◌, ◌≤◌, ◌≡◌, ◌⊎◌, false, [], length, Option, Some, Ok, IsPermutation}
 use Rattle.std.specs.List.{AllByRecursion}
 use Rattle.std.specs.Option.{option_or}
 use Rattle.hsr_tag.specs.Seen.{classified}
@@ -54,6 +55,10 @@ pub record IsOfSend (run : Run) (copy : Carried) : Type 0 where
 
 -- ---- closed
 
+-- a duplicate table has 1 to 65535 entries, fewer than there are sequence numbers (IEC 62439-3 clause 5)
+abbrev pub IsTableSize : ℕ → Type 0
+IsTableSize entries = (1 ≤ entries) × (entries ≤ 65535)
+
 -- a row is finished: a node put its copy, which is of a send, and the copy waits no more
 pub record IsSettled (run : Run) (row : Row) : Type 0 where
   pub put : row.injected ≡ false
@@ -67,9 +72,11 @@ pub record HasLink (run : Run) (node port : ℕ) : Type 0 where
   pub below : link < length run.links
   pub ends : to_end dir (ends_of run link) ≡ record { node = node; port = port }
 
--- Each node has a record and each link its rows; each outcome is what the past of its node answers; links and records
--- agree; each copy is of a send; nothing was injected, and nothing waits on a link; nothing came by a port without one.
+-- Duplicate tables have a size that is allowed; each node has a record and each link its rows; each outcome is what the past
+-- of its node answers; links and records agree; each copy is of a send; nothing was injected, and nothing waits on a link;
+-- nothing came by a port without one.
 pub record IsClosed (run : Run) : Type 0 where
+  pub tables : IsTableSize run.capacity
   pub records : length run.records ≡ length run.places
   pub rows : length run.rows ≡ length run.links
   pub legal : (k : ℕ) → k < length run.places → IsLegal run.capacity (owner_of run k) (past_of run k)

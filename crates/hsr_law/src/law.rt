@@ -23,7 +23,8 @@ pub fn budget_keeps()
     ensures { BudgetKeeps }
 {}
 
-/// In a ring nothing is mistaken under that budget: the numbers of frames begin anew only after more sends.
+/// In a ring nothing is mistaken under that budget: a table has at most 65535 entries, and the numbers of frames begin anew
+/// only after more sends.
 pub fn budget_tells()
     ensures { BudgetTells }
 {}
