@@ -10,7 +10,7 @@ use Rattle.hsr_closing.specs.Checked.{Agrees, AreLegal, HasNoStorm, HasNoStrange
 use Rattle.hsr_closing.specs.Finished.{IsFinished, run_of}
 use Rattle.hsr_closing.specs.Receipts.{HasReceipts, IsFirstWrong}
 use Rattle.hsr_law.specs.Run.{rows_of}
-use Rattle.hsr_closing.specs.Shape.{IsShaped}
+use Rattle.hsr_closing.specs.Shape.{HasShape}
 use Rattle.hsr_topology.specs.Topology.{Topology}
 use Rattle.hsr_topology.specs.Wired.{IsWired}
 use Rattle.hsr_closing.specs.declared.disagree.Disagree.{Disagree}
@@ -26,14 +26,14 @@ use Rattle.hsr_law.proofs.WithoutBoxes.{boxless}
 any_row : Row
 any_row = record { dir = Forth; carried = record { probe = None; octets = [] }; injected = false; fate = Queued }
 
-pub settled : (capacity : ℕ) (topology : Topology) (kept : List Record) (rows : List (Vec Row Global)) → IsWired topology.places topology.links → IsShaped topology kept rows →
+pub settled : (capacity : ℕ) (topology : Topology) (kept : List Record) (rows : List (Vec Row Global)) → IsWired topology.places topology.links → HasShape capacity topology kept rows →
     AreLegal capacity kept (length kept) →
     PutsAgree (run_of capacity topology kept rows) (length topology.links) → TakensAgree (run_of capacity topology kept rows) (length topology.links) →
     HasNoStranger (run_of capacity topology kept rows) (length topology.links) → IsQuiet (run_of capacity topology kept rows) (length topology.links) →
     IsSettledRun capacity topology kept rows
 settled capacity topology kept rows wired shaped legal puts takens known quiet = record {
-  shaped = shaped;
-  closed = closed capacity topology kept rows shaped wired legal puts takens known quiet;
+  shaped = shaped.1;
+  closed = closed capacity topology kept rows shaped.1 shaped.0 wired legal puts takens known quiet;
   puts = puts;
   takens = takens;
   known = known;
@@ -45,7 +45,7 @@ module _ (capacity : ℕ) (topology : Topology) (kept : List Record) (rows : Lis
   agrees is receipts = record { shaped = is.shaped; closed = is.closed; receipts = receipts }
 
   pub receipts_first : IsSettledRun capacity topology kept rows → (worker : ℕ) → IsFirstWrong kept passes plan worker → IsFirst capacity topology kept rows passes plan (cause.Receipts worker)
-  receipts_first is worker wrong = (is.shaped, (is.puts, is.takens, is.known, is.quiet, wrong))
+  receipts_first is worker wrong = ((is.closed.tables, is.shaped), (is.puts, is.takens, is.known, is.quiet, wrong))
 
   pub any_first : (d : Disagree) → IsFirstOfAll capacity topology kept rows d → IsFirst capacity topology kept rows passes plan d
   unfolding IsFirstOfAll
@@ -53,7 +53,7 @@ module _ (capacity : ℕ) (topology : Topology) (kept : List Record) (rows : Lis
 
   pub refused : (d : Disagree) → IsFirst capacity topology kept rows passes plan d → ¬ Agrees capacity topology kept rows passes plan
   unfolding HasReceipts
-  refused Shape first all = first all.shaped
+  refused Shape first all = first (all.closed.tables, all.shaped)
   refused (LinkPut link dir) first all = first.1.here (all.closed.put link dir first.1.below)
   refused (LinkTaken link dir) first all = first.1.1.here (all.closed.taken link dir first.1.1.below)
   refused (Stranger link row) first all =

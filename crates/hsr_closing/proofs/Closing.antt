@@ -11,7 +11,7 @@ use Rattle.hsr_node.specs.declared.place.Place.TheVariants.{QuadBox}
 use Rattle.hsr_link.specs.Rows.{is_queued}
 use Rattle.hsr_link.specs.declared.row.Row.{Row}
 use Rattle.hsr_closing.specs.Checked.{AllAgree, AreKnown, AreLegal, HasNoStranger, IsQuiet, PutsAgree, TakensAgree, is_noisy}
-use Rattle.hsr_law.specs.Closed.{IsClosed, IsSettled}
+use Rattle.hsr_law.specs.Closed.{IsClosed, IsSettled, IsTableSize}
 use Rattle.hsr_closing.specs.Finished.{items_of, run_of}
 use Rattle.hsr_law.specs.Run as run
 use Rattle.hsr_law.specs.Run.{Run, rows_of}
@@ -56,11 +56,12 @@ module _ (capacity : ℕ) (topology : Topology) (kept : List Record) (rows : Lis
       let Q : List Entry → Type 0 = λ past. IsLegal capacity (owner_of (slice_index_or kept k d)) past in
       subst P (sym is.owner) (subst Q (sym is.past) (legal k d inside))
 
-  pub closed : IsWired topology.places topology.links → AreLegal capacity kept (length kept) →
+  pub closed : IsTableSize capacity → IsWired topology.places topology.links → AreLegal capacity kept (length kept) →
       PutsAgree whole (length topology.links) → TakensAgree whole (length topology.links) →
       HasNoStranger whole (length topology.links) → IsQuiet whole (length topology.links) → IsClosed whole
   unfolding AllAgree HasNoStranger IsQuiet
-  closed wired legal puts takens known quiet = record {
+  closed tables wired legal puts takens known quiet = record {
+    tables = tables;
     records = length-map kept (λ (r : Record). r.entries) ∙ many capacity topology kept rows shaped;
     rows = length-map rows items_of ∙ shaped.of_links;
     legal = legal_at legal;

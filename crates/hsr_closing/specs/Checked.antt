@@ -18,7 +18,7 @@ use Rattle.hsr_law.specs.Once.{IsCalm}
 use Rattle.hsr_law.specs.Premises.{HasNoRedBox}
 use Rattle.hsr_closing.specs.Receipts.{HasReceipts, IsFirstWrong}
 use Rattle.hsr_law.specs.Run.{Run, rows_of}
-use Rattle.hsr_closing.specs.Shape.{IsShaped}
+use Rattle.hsr_closing.specs.Shape.{HasShape, IsShaped}
 use Rattle.hsr_topology.specs.Topology.{Topology}
 use Rattle.hsr_index.specs.declared.agreement.Passage.{Passage}
 use Rattle.hsr_index.specs.declared.agreement.Passage.TheVariants.{Put, Taken}
@@ -108,7 +108,7 @@ pub record IsFirstNoisy (run : Run) (l : ℕ) : Type 0 where
 
 -- ---- all
 
--- records and rows are the topology's, and the run is closed
+-- records and rows are the topology's, and the run is closed, so that its tables have a size that is allowed
 pub record IsSettledRun (capacity : ℕ) (topology : Topology) (kept : List Record) (rows : List (Vec Row Global)) : Type 0 where
   pub shaped : IsShaped topology kept rows
   pub closed : IsClosed (run_of capacity topology kept rows)
@@ -123,8 +123,8 @@ pub record Agrees (capacity : ℕ) (topology : Topology) (kept : List Record) (r
   pub closed : IsClosed (run_of capacity topology kept rows)
   pub receipts : HasReceipts kept passes plan
 
--- Why a run isn't closed: the first cause in the order in which a run is checked, where records and rows are the topology's and
--- the receipts are right.
+-- Why a run isn't closed: the first cause in the order in which a run is checked, where tables have a size that is allowed, records
+-- and rows are the topology's and the receipts are right.
 abbrev pub IsOpen : Run → Disagree → Type 0
 IsOpen run Shape = ⊥
 IsOpen run (LinkPut link dir) = IsFirstPut run link dir
@@ -134,7 +134,7 @@ IsOpen run (NotQuiet link) =
     PutsAgree run (length run.links) × TakensAgree run (length run.links) × HasNoStranger run (length run.links) × IsFirstNoisy run link
 IsOpen run (cause.Receipts worker) = ⊥
 
--- of records and rows that are the topology's: the cause is there, and none before it
+-- where tables have a size that is allowed, and records and rows are the topology's: the cause is there, and none before it
 abbrev pub IsFirstIn : Run → List Record → List Receipts → List Planned → Disagree → Type 0
 IsFirstIn run kept passes plan (cause.Receipts worker) =
     PutsAgree run (length run.links) × TakensAgree run (length run.links) × HasNoStranger run (length run.links) × IsQuiet run (length run.links)
@@ -143,8 +143,8 @@ IsFirstIn run kept passes plan d = IsOpen run d
 
 -- the cause is there, and none before it
 abbrev pub IsFirst : (capacity : ℕ) → Topology → List Record → List (Vec Row Global) → List Receipts → List Planned → Disagree → Type 0
-IsFirst capacity topology kept rows passes plan Shape = ¬ IsShaped topology kept rows
-IsFirst capacity topology kept rows passes plan d = IsShaped topology kept rows × IsFirstIn (run_of capacity topology kept rows) kept passes plan d
+IsFirst capacity topology kept rows passes plan Shape = ¬ HasShape capacity topology kept rows
+IsFirst capacity topology kept rows passes plan d = HasShape capacity topology kept rows × IsFirstIn (run_of capacity topology kept rows) kept passes plan d
 
 -- whatever the receipts are
 unfoldable pub IsFirstOfAll : (capacity : ℕ) → Topology → List Record → List (Vec Row Global) → Disagree → Type 0

@@ -1,4 +1,6 @@
 -- Records and rows that are a topology's.
+--     IsShaped   they are
+--     HasShape   and the duplicate tables have a size that is allowed
 use Rattle.std.specs.Prelude.{ℕ, ◌<◌, ◌≡◌, Bool, true, List, length, map, slice_index_or, Vec}
 use Rattle.std.specs.Global.{Global}
 use Rattle.hsr_node.specs.Kept.{Record}
@@ -6,6 +8,7 @@ use Rattle.hsr_node.specs.declared.entry.Entry.{Entry}
 use Rattle.hsr_node.specs.declared.event.Event.{Event}
 use Rattle.hsr_node.specs.declared.event.Event.TheVariants.{Arrive}
 use Rattle.hsr_link.specs.declared.row.Row.{Row}
+use Rattle.hsr_law.specs.Closed.{IsTableSize}
 use Rattle.hsr_topology.specs.Links.{is_used}
 use Rattle.hsr_topology.specs.Topology.{Topology}
 use Rattle.hsr_topology.specs.declared.end.End.{End}
@@ -31,3 +34,7 @@ pub record IsShaped (topology : Topology) (kept : List Record) (rows : List (Vec
   pub places : map (λ (r : Record). r.place) kept ≡ topology.places
   pub of_links : length rows ≡ length topology.links
   pub fit : NodesFit topology.links kept (length kept)
+
+-- the duplicate tables have 1 to 65535 entries each, and records and rows are the topology's
+abbrev pub HasShape : ℕ → Topology → List Record → List (Vec Row Global) → Type 0
+HasShape capacity topology kept rows = IsTableSize capacity × IsShaped topology kept rows

@@ -3,7 +3,7 @@ ghost use Rattle.std.specs.Prelude.{◌≡◌, length, map, IfNone, IfOk, IfSome
 ghost use Rattle.hsr_node.specs.Kept.{Record};
 ghost use Rattle.hsr_closing.specs.Checked.{Agrees, HasNoStorm, HasNoStranger, IfDisagree, IsFirst, IsFirstOfAll, IsFirstStranger, IsSettledRun};
 ghost use Rattle.hsr_closing.specs.Finished.{IsFinished, run_of};
-ghost use Rattle.hsr_closing.specs.Shape.{IsShaped};
+ghost use Rattle.hsr_closing.specs.Shape.{HasShape, IsShaped};
 ghost use Rattle.hsr_topology.specs.Wired.{IsWired};
 ghost use Rattle.hsr_closing.specs.OfRecords.{AllAgreeOf, IsClosedOf, IsFirstOf, IsOpenOf};
 
@@ -38,7 +38,7 @@ fn first_unknown<const C: usize>(
     Ok(first_stranger(topology, ends, &numbers, rows))
 }
 
-/// The same of records and rows that are the topology's, by the ends of its links.
+/// The same of tables, records and rows that have their shape, by the ends of the topology's links.
 #[tactic(auto, using(crate::proofs::Agreed::settled), unfolding(crate::specs::Checked::IsFirstOfAll))]
 fn unsettled_in<const C: usize>(
     alloc: Global,
@@ -49,7 +49,7 @@ fn unsettled_in<const C: usize>(
 ) -> Result<Option<Disagree>, NoMemory>
     requires links { ends.now ≡ topology.now.links }
     requires wired { IsWired topology.now.places topology.now.links }
-    requires shaped { IsShaped topology.now kept.now rows.now }
+    requires shaped { HasShape C topology.now kept.now rows.now }
     ensures { IfOk result (λ r. MatchOption r (IsSettledRun C topology.now kept.now rows.now) (λ d. IsFirstOfAll C topology.now kept.now rows.now d)) }
 {
     are_legal(kept);

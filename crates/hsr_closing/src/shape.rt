@@ -3,8 +3,9 @@ ghost use Rattle.std.specs.Prelude.{◌≡◌, ◌↔◌, ◌<◌, length, map, 
 ghost use Rattle.std.specs.Global.{Global};
 ghost use Rattle.hsr_node.specs.Kept.{Record};
 ghost use Rattle.hsr_link.specs.declared.row.Row.{Row};
+ghost use Rattle.hsr_law.specs.Closed.{IsTableSize};
 ghost use Rattle.hsr_closing.specs.Checked.{AreLegal};
-ghost use Rattle.hsr_closing.specs.Shape.{AreLinked, IsShaped, NodesFit, is_linked};
+ghost use Rattle.hsr_closing.specs.Shape.{AreLinked, HasShape, NodesFit, is_linked};
 ghost use Rattle.hsr_topology.specs.Wired.{IsWired};
 
 use hsr_frame::Mac;
@@ -12,6 +13,16 @@ use hsr_index::Ends;
 use hsr_link::Row;
 use hsr_node::{Entry, Event, Kept, Place};
 use hsr_topology::{End, Topology};
+
+/// The most entries that a duplicate table has.
+const TABLE_LIMIT: usize = 65535;
+
+/// Whether a duplicate table may have so many entries.
+fn is_table_size(entries: usize) -> bool
+    ensures { IsTrue result ↔ IsTableSize entries }
+{
+    1 <= entries && entries <= TABLE_LIMIT
+}
 
 /// Whether nothing came by a port without a link with this entry.
 fn is_linked(ends: &Ends<'_>, node: usize, entry: &Entry) -> bool
@@ -96,8 +107,8 @@ fn are_at<const C: usize>(places: &[Place], kept: &[Kept<C>]) -> bool
     left.is_empty()
 }
 
-/// Whether there is a record for each node, at its place, and a list of rows for each link, and nothing came by a port
-/// without one.
+/// Whether tables have 1 to 65535 entries, there is a record for each node, at its place, and a list of rows for each link,
+/// and nothing came by a port without one.
 pub(crate) fn is_shaped<const C: usize>(
     topology: &Topology,
     ends: &Ends<'_>,
@@ -105,10 +116,14 @@ pub(crate) fn is_shaped<const C: usize>(
     rows: &[Vec<Row>],
 ) -> bool
     requires { ends.now ≡ topology.now.links }
-    ensures shaped { IsTrue result ↔ IsShaped topology.now kept.now rows.now }
+    ensures shaped { IsTrue result ↔ HasShape C topology.now kept.now rows.now }
     ensures wired { IsWired topology.now.places topology.now.links }
 {
-    are_at(topology.places(), kept) && rows.len() == topology.links().len() && nodes_fit(ends, kept)
+    let places = topology.places();
+    is_table_size(C)
+        && are_at(places, kept)
+        && rows.len() == topology.links().len()
+        && nodes_fit(ends, kept)
 }
 
 /// Records are legal: each outcome is what the past of its node answers.

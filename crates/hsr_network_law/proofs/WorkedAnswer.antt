@@ -147,7 +147,7 @@ linked_at (suc (suc zero)) (suc p) h = inr (nothing_else (0 == suc p) plain_repl
 linked_at (suc (suc (suc k))) p h = absurd (omega arith)
 
 pub is_closed : IsClosed answered
-is_closed = record { records = refl; rows = refl; legal = legal_at; put = put_at; taken = taken_at; settled = settled_at; linked = linked_at }
+is_closed = record { tables = (omega arith, omega arith); records = refl; rows = refl; legal = legal_at; put = put_at; taken = taken_at; settled = settled_at; linked = linked_at }
 
 pub is_network : IsNetwork answered
 is_network = record {

@@ -114,7 +114,7 @@ linked_at (suc (suc zero)) p h = inr refl
 linked_at (suc (suc (suc k))) p h = absurd (omega arith)
 
 pub is_closed : IsClosed late
-is_closed = record { records = refl; rows = refl; legal = legal_at; put = put_at; taken = taken_at; settled = settled_at; linked = linked_at }
+is_closed = record { tables = (omega arith, omega arith); records = refl; rows = refl; legal = legal_at; put = put_at; taken = taken_at; settled = settled_at; linked = linked_at }
 
 -- ---- it is a network, with nothing forgotten and nothing mistaken
 

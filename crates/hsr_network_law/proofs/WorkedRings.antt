@@ -105,7 +105,7 @@ linked_at (suc (suc zero)) (suc (suc p)) h = inr (nothing_else (1 == suc (suc p)
 linked_at (suc (suc (suc k))) p h = absurd (omega arith)
 
 pub is_closed : IsClosed rings
-is_closed = record { records = refl; rows = refl; legal = legal_at; put = put_at; taken = taken_at; settled = settled_at; linked = linked_at }
+is_closed = record { tables = (omega arith, omega arith); records = refl; rows = refl; legal = legal_at; put = put_at; taken = taken_at; settled = settled_at; linked = linked_at }
 
 -- ---- nothing forgotten, nothing mistaken
 
