@@ -128,16 +128,24 @@ pub enum Options {
     Run {
         table: Table,
         showing: Showing,
+        /// Whether a run that can't be closed is shown as it stands.
+        shows_open: bool,
+        /// Whether standard error says more of how the run ended.
+        explains: bool,
     },
     /// Run a scenario in threads, and write its transcript or its report.
     Threads {
         table: Table,
         showing: Showing,
+        /// Whether standard error says more of how the run ended.
+        explains: bool,
     },
     /// Audit a transcript, and write its report, with the parts that are asked for.
     Audit {
         table: Table,
         scope: Scope,
         asked: Asked,
+        /// Whether standard error says more of how the audit ended.
+        explains: bool,
     },
 }

@@ -38,9 +38,11 @@ showing_same f g showing e h = (sym (e (codes "network")) ∙ h.0, form_same f g
 pub chosen_same : (name : Text) (f g : Text → Option Text) (o : Options) → ((id : Text) → f id ≡ g id) → Chosen name f o → Chosen name g o
 chosen_same name f g (Node node) e h =
     (h.0, ((h.1.0.0, sym (e (codes "mac")) ∙ h.1.0.1, h.1.0.2), sym (e (codes "mode")) ∙ h.1.1, sym (e (codes "table")) ∙ h.1.2, sym (e (codes "unit")) ∙ h.1.3))
-chosen_same name f g (Run table showing) e h = (h.0, sym (e (codes "table")) ∙ h.1, showing_same f g showing e h.2)
-chosen_same name f g (Threads table showing) e h = (h.0, sym (e (codes "table")) ∙ h.1, showing_same f g showing e h.2)
-chosen_same name f g (Audit table scope asked) e h = (h.0, sym (e (codes "table")) ∙ h.1, sym (e (codes "network")) ∙ h.2, asked_same f g asked e h.3)
+chosen_same name f g (Run table showing opens explains) e h =
+    (h.0, sym (e (codes "table")) ∙ h.1, showing_same f g showing e h.2, sym (e (codes "open")) ∙ h.3, sym (e (codes "explain")) ∙ h.4)
+chosen_same name f g (Threads table showing explains) e h = (h.0, sym (e (codes "table")) ∙ h.1, showing_same f g showing e h.2, sym (e (codes "explain")) ∙ h.3)
+chosen_same name f g (Audit table scope asked explains) e h =
+    (h.0, sym (e (codes "table")) ∙ h.1, sym (e (codes "network")) ∙ h.2, asked_same f g asked e h.3, sym (e (codes "explain")) ∙ h.4)
 
 -- without a flag for the transcript nothing is to be written
 pub no_form : (found : Text → Option Text) → ((b : Bool) → found (codes "transcript") ≢ Some (flag_text b)) → (form : Form) → ¬ IsForm found form

@@ -10,6 +10,7 @@ use Rattle.hsr_frame.specs.declared.node.Mode.TheVariants.{H, N, U}
 use Rattle.hsr_text.specs.Moments.{unit_word}
 use Rattle.hsr_text.specs.declared.time_unit.TimeUnit.TheVariants.{Milliseconds, Microseconds}
 use Rattle.hsr_options.specs.Tables.{table_word}
+use Rattle.hsr_options.specs.declared.chosen.Table.{Table}
 use Rattle.hsr_options.specs.declared.chosen.Table.TheVariants.{Small, Large}
 use Rattle.hsr_options.specs.declared.chosen.NodeOptions.{NodeOptions}
 use Rattle.hsr_options.specs.declared.chosen.Showing.{Showing}
@@ -59,30 +60,36 @@ unit_rule units = record (new_rule (codes "unit")) { long = Some (codes "unit");
 abbrev pub flag_rule : Text → Rule
 flag_rule name = record (new_rule name) { long = Some name; action = Some SetTrue }
 
--- with the flags for the parts of a report, and for the audit of its last line
+-- with the flags for the parts of a report
 abbrev pub with_asked : App → App
-with_asked app =
-    with_rule (with_rule (with_rule (with_rule app (flag_rule (codes "deliveries"))) (flag_rule (codes "needed"))) (flag_rule (codes "budget")))
-    (flag_rule (codes "network"))
+with_asked app = with_rule (with_rule (with_rule app (flag_rule (codes "deliveries"))) (flag_rule (codes "needed"))) (flag_rule (codes "budget"))
+
+-- and those for the audit of its last line, and for more about how the run ended
+abbrev pub with_told : App → App
+with_told app = with_rule (with_rule (with_asked app) (flag_rule (codes "network"))) (flag_rule (codes "explain"))
 
 abbrev pub node_app : Listed → Listed → Listed → App
 node_app modes tables units =
     with_rule (with_rule (with_rule (with_rule (new_app (codes "node")) mac_rule) (mode_rule modes)) (table_rule tables)) (unit_rule units)
 
--- a command that runs a scenario
-abbrev pub run_app : Text → Listed → App
-run_app name tables = with_asked (with_rule (with_rule (new_app name) (table_rule tables)) (flag_rule (codes "transcript")))
+-- a command that plays a scenario
+abbrev pub playing_app : Text → Listed → App
+playing_app name tables = with_told (with_rule (with_rule (new_app name) (table_rule tables)) (flag_rule (codes "transcript")))
+
+-- that by which a run may be shown that can't be closed
+abbrev pub run_app : Listed → App
+run_app tables = with_rule (playing_app (codes "run") tables) (flag_rule (codes "open"))
 
 abbrev pub audit_app : Listed → App
-audit_app tables = with_asked (with_rule (new_app (codes "audit")) (table_rule tables))
+audit_app tables = with_told (with_rule (new_app (codes "audit")) (table_rule tables))
 
 abbrev pub top_app : App
 top_app = record { top = record (new_app (codes "hsr_bench")).top { no_binary_name = true; subcommand_required = true; has_version = true }; subs = [] }
 
 abbrev pub bench_app : Listed → Listed → Listed → App
 bench_app modes tables units =
-    with_subcommand (with_subcommand (with_subcommand (with_subcommand top_app (node_app modes tables units).top) (run_app (codes "run") tables).top)
-    (run_app (codes "threads") tables).top)
+    with_subcommand (with_subcommand (with_subcommand (with_subcommand top_app (node_app modes tables units).top) (run_app tables).top)
+    (playing_app (codes "threads") tables).top)
     (audit_app tables).top
 
 -- ---- what is chosen
@@ -91,16 +98,23 @@ abbrev pub flag_text : Bool → Text
 flag_text true = codes "true"
 flag_text false = codes "false"
 
+-- a flag is set, or not
+abbrev pub IsSet : (Text → Option Text) → Text → Bool → Type 0
+IsSet found name b = found name ≡ Some (flag_text b)
+
+-- the size of tables is told by its name
+abbrev pub IsTable : (Text → Option Text) → Table → Type 0
+IsTable found table = found (codes "table") ≡ Some (table_word table)
+
 -- a node's options are the values that were found: the address that a text spells, and three names
 abbrev pub IsNode : (Text → Option Text) → NodeOptions → Type 0
 IsNode found node = ((t : Text) × (found (codes "mac") ≡ Some t) × (address_of t ≡ Ok node.mac))
-    × (found (codes "mode") ≡ Some (mode_word node.mode)) × (found (codes "table") ≡ Some (table_word node.table))
+    × (found (codes "mode") ≡ Some (mode_word node.mode)) × IsTable found node.table
     × (found (codes "unit") ≡ Some (unit_word node.unit))
 
 -- which parts of a report are asked for is told by flags
 abbrev pub IsAsked : (Text → Option Text) → Asked → Type 0
-IsAsked found asked = (found (codes "deliveries") ≡ Some (flag_text asked.deliveries)) × (found (codes "needed") ≡ Some (flag_text asked.needed))
-    × (found (codes "budget") ≡ Some (flag_text asked.budget))
+IsAsked found asked = IsSet found (codes "deliveries") asked.deliveries × IsSet found (codes "needed") asked.needed × IsSet found (codes "budget") asked.budget
 
 -- and which audit the last line is of
 abbrev pub is_network : Scope → Bool
@@ -108,12 +122,12 @@ is_network Ring = false
 is_network Network = true
 
 abbrev pub IsScope : (Text → Option Text) → Scope → Type 0
-IsScope found scope = found (codes "network") ≡ Some (flag_text (is_network scope))
+IsScope found scope = IsSet found (codes "network") (is_network scope)
 
 -- what is to be written, too; for a transcript the parts don't matter
 abbrev pub IsForm : (Text → Option Text) → Form → Type 0
-IsForm found Transcript = found (codes "transcript") ≡ Some (flag_text true)
-IsForm found (Report asked) = (found (codes "transcript") ≡ Some (flag_text false)) × IsAsked found asked
+IsForm found Transcript = IsSet found (codes "transcript") true
+IsForm found (Report asked) = IsSet found (codes "transcript") false × IsAsked found asked
 
 abbrev pub IsShowing : (Text → Option Text) → Showing → Type 0
 IsShowing found showing = IsScope found showing.scope × IsForm found showing.form
@@ -121,9 +135,11 @@ IsShowing found showing = IsScope found showing.scope × IsForm found showing.fo
 -- the options are the values of a subcommand, by its name and what it found
 abbrev pub Chosen : Text → (Text → Option Text) → Options → Type 0
 Chosen name found (Node node) = (name ≡ codes "node") × IsNode found node
-Chosen name found (Run table showing) = (name ≡ codes "run") × (found (codes "table") ≡ Some (table_word table)) × IsShowing found showing
-Chosen name found (Threads table showing) = (name ≡ codes "threads") × (found (codes "table") ≡ Some (table_word table)) × IsShowing found showing
-Chosen name found (Audit table scope asked) = (name ≡ codes "audit") × (found (codes "table") ≡ Some (table_word table)) × IsScope found scope × IsAsked found asked
+Chosen name found (Run table showing opens explains) =
+    (name ≡ codes "run") × IsTable found table × IsShowing found showing × IsSet found (codes "open") opens × IsSet found (codes "explain") explains
+Chosen name found (Threads table showing explains) = (name ≡ codes "threads") × IsTable found table × IsShowing found showing × IsSet found (codes "explain") explains
+Chosen name found (Audit table scope asked explains) =
+    (name ≡ codes "audit") × IsTable found table × IsScope found scope × IsAsked found asked × IsSet found (codes "explain") explains
 
 abbrev pub ChosenIn : Option (Text × List Row) → Options → Type 0
 ChosenIn None o = ⊥

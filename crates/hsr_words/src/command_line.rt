@@ -9,7 +9,7 @@ ghost use Rattle.clap.specs.Words.{Text, app_of, first_value, found_of, kind_of,
 ghost use Rattle.clap.specs.declared.builder.Command.TheViews.{out-Command as fields_of};
 ghost use Rattle.clap.specs.declared.error.kind.ErrorKind.TheVariants.{OutOfMemory};
 ghost use Rattle.hsr_words.specs.declared.fault.OptionFault.TheVariants.{Memory};
-ghost use Rattle.hsr_words.specs.Options.{Chosen, ChosenIn, IfUsage, IsAsked, IsForm, IsNode, IsRefused, IsScope, IsShowing, IsTaken, Says, SaysNothing, audit_app, bench_app, flag_rule, flag_text, mac_rule, mode_rule, node_app, or_help, run_app, table_rule, top_app, unit_rule, with_asked};
+ghost use Rattle.hsr_words.specs.Options.{Chosen, ChosenIn, IfUsage, IsAsked, IsForm, IsNode, IsRefused, IsScope, IsShowing, IsTaken, Says, SaysNothing, audit_app, bench_app, flag_rule, flag_text, mac_rule, mode_rule, node_app, or_help, run_app, table_rule, playing_app, top_app, unit_rule, with_asked, with_told};
 
 use crate::fault::OptionFault;
 use clap::error::ErrorKind;
@@ -189,7 +189,7 @@ fn with_flag<'a>(
     command.arg(flag_arg(alloc, name, help))
 }
 
-/// A command, with the flags for the parts of a report, and for the audit of its last line.
+/// A command, with the flags for the parts of a report.
 fn asking<'a>(alloc: Global, command: Command<'a>) -> Result<Command<'a>, AllocError>
     requires own { (fields_of command).has_globals ≡ false }
     ensures app { IfOk result (λ c. app_of c ≡ with_asked (app_of command.entry)) }
@@ -200,9 +200,20 @@ fn asking<'a>(alloc: Global, command: Command<'a>) -> Result<Command<'a>, AllocE
     let budget = "Says in a line of the report whether the run was within the budget of its tables";
     let one = with_flag(alloc, command, "deliveries", deliveries)?;
     let two = with_flag(alloc, one, "needed", needed)?;
-    let three = with_flag(alloc, two, "budget", budget)?;
+    with_flag(alloc, two, "budget", budget)
+}
+
+/// A command, with these flags, and those for the audit of a report's last line and for more about how the run ended.
+fn telling<'a>(alloc: Global, command: Command<'a>) -> Result<Command<'a>, AllocError>
+    requires own { (fields_of command).has_globals ≡ false }
+    ensures app { IfOk result (λ c. app_of c ≡ with_told (app_of command.entry)) }
+    ensures own { IfOk result (λ c. (fields_of c).has_globals ≡ false) }
+{
     let network = "Certifies any network, not just one ring of DANHs";
-    with_flag(alloc, three, "network", network)
+    let explain = "Says on standard error what a fault or a doubt means, where it is, and what to do";
+    let one = asking(alloc, command)?;
+    let two = with_flag(alloc, one, "network", network)?;
+    with_flag(alloc, two, "explain", explain)
 }
 
 /// The command `node` with the options for the node's address and mode.
@@ -231,15 +242,15 @@ fn node_command<'a>(
         .arg(unit_arg(alloc, units))
 }
 
-/// A command that runs a scenario.
-fn run_command<'a>(
+/// A command that plays a scenario.
+fn playing_command<'a>(
     alloc: Global,
     name: &'a str,
     about: &'a str,
     ends: &'a str,
     tables: &'a [&'a str],
 ) -> Result<Command<'a>, AllocError>
-    ensures app { IfOk result (λ c. app_of c ≡ run_app name.entry.now tables.entry) }
+    ensures app { IfOk result (λ c. app_of c ≡ playing_app name.entry.now tables.entry) }
     ensures own { IfOk result (λ c. (fields_of c).has_globals ≡ false) }
 {
     let transcript = "Writes the run's transcript in place of its report";
@@ -247,7 +258,17 @@ fn run_command<'a>(
         .about(about)
         .after_help(ends)
         .arg(table_arg(alloc, tables))?;
-    asking(alloc, with_flag(alloc, command, "transcript", transcript)?)
+    telling(alloc, with_flag(alloc, command, "transcript", transcript)?)
+}
+
+/// The command `run`, which may show a run that can't be closed.
+fn run_command<'a>(alloc: Global, tables: &'a [&'a str]) -> Result<Command<'a>, AllocError>
+    ensures app { IfOk result (λ c. app_of c ≡ run_app tables.entry) }
+    ensures own { IfOk result (λ c. (fields_of c).has_globals ≡ false) }
+{
+    let open = "Shows a run that can't be closed as it stands, with the last line `open`";
+    let command = playing_command(alloc, "run", RUN_ABOUT, RUN_ENDS, tables)?;
+    with_flag(alloc, command, "open", open)
 }
 
 fn audit_command<'a>(alloc: Global, tables: &'a [&'a str]) -> Result<Command<'a>, AllocError>
@@ -258,17 +279,19 @@ fn audit_command<'a>(alloc: Global, tables: &'a [&'a str]) -> Result<Command<'a>
         .about("Audits the transcript on standard input, and reports whether it certifies delivery")
         .after_help(AUDIT_ENDS)
         .arg(table_arg(alloc, tables))?;
-    asking(alloc, command)
+    telling(alloc, command)
 }
 
-fn top_command<'a>(alloc: Global) -> Command<'a>
-    ensures { app_of result ≡ top_app }
+fn top_command<'a>(alloc: Global) -> Result<Command<'a>, AllocError>
+    ensures { IfOk result (λ c. app_of c ≡ top_app) }
 {
+    // the words have no program's name, so that usage lines are told it
     Command::new(alloc, "hsr_bench")
         .about("A bench for HSR rings (IEC 62439-3 clause 5). With no words it runs `node`.")
         .version(VERSION)
         .no_binary_name(true)
         .subcommand_required(true)
+        .bin_name("hsr_bench")
 }
 
 fn bench_command<'a>(
@@ -280,10 +303,11 @@ fn bench_command<'a>(
     ensures { IfOk result (λ c. app_of c ≡ bench_app modes.entry tables.entry units.entry) }
 {
     let node = node_command(alloc, modes, tables, units)?;
-    let run = run_command(alloc, "run", RUN_ABOUT, RUN_ENDS, tables)?;
-    let threads = run_command(alloc, "threads", THREADS_ABOUT, THREADS_ENDS, tables)?;
+    let run = run_command(alloc, tables)?;
+    let threads = playing_command(alloc, "threads", THREADS_ABOUT, THREADS_ENDS, tables)?;
     let audit = audit_command(alloc, tables)?;
-    let one = top_command(alloc).subcommand(node)?;
+    let top = top_command(alloc)?;
+    let one = top.subcommand(node)?;
     let two = one.subcommand(run)?;
     let three = two.subcommand(threads)?;
     let four = three.subcommand(audit)?;
@@ -458,21 +482,35 @@ fn options_of(name: &str, matches: &ArgMatches<'_>) -> Option<Options>
         "run" => {
             let table = table_of(matches)?;
             let showing = showing_of(matches)?;
-            Some(Options::Run { table, showing })
+            let shows_open = flag_of(matches, "open")?;
+            let explains = flag_of(matches, "explain")?;
+            Some(Options::Run {
+                table,
+                showing,
+                shows_open,
+                explains,
+            })
         }
         "threads" => {
             let table = table_of(matches)?;
             let showing = showing_of(matches)?;
-            Some(Options::Threads { table, showing })
+            let explains = flag_of(matches, "explain")?;
+            Some(Options::Threads {
+                table,
+                showing,
+                explains,
+            })
         }
         "audit" => {
             let table = table_of(matches)?;
             let scope = scope_of(matches)?;
             let asked = asked_of(matches)?;
+            let explains = flag_of(matches, "explain")?;
             Some(Options::Audit {
                 table,
                 scope,
                 asked,
+                explains,
             })
         }
         _ => None,

@@ -6,5 +6,4 @@ use Rattle.hsr_words.proofs.command_line.asking.Goals as goal
 pub returns-clause-app : goal.returns-clause-app
 returns-clause-app c =
     let two = c.in_ok-two.ensures.app ∙ ap (λ (a : App). with_rule a (flag_rule (codes "needed"))) c.in_ok-one.ensures.app in
-    let three = c.in_ok-three.ensures.app ∙ ap (λ (a : App). with_rule a (flag_rule (codes "budget"))) two in
-    subst (λ (a : App). IfOk c.with_flag-4.result (λ c'. app_of c' ≡ with_rule a (flag_rule (codes "network")))) three c.with_flag-4.ensures.app
+    subst (λ (a : App). IfOk c.with_flag-3.result (λ c'. app_of c' ≡ with_rule a (flag_rule (codes "budget")))) two c.with_flag-3.ensures.app
