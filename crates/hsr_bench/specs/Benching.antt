@@ -1,12 +1,14 @@
 -- What the program does, over words, a text that is read, and two writers: standard output and standard error.
-use Rattle.std.specs.Prelude.{ℕ, ◌<◌, ◌≡◌, ◌⊎◌, List, [], ◌++◌, length, codes, string_bytes, Option, Result, Ok, Err}
+use Rattle.std.specs.Prelude.{ℕ, ◌<◌, ◌≡◌, ◌⊎◌, Bool, false, List, [], ◌++◌, length, codes, string_bytes, Option, Result, Ok, Err}
 use Rattle.std.specs.Io.KnownBytes.{Appends, Keeps}
 use Rattle.clap.specs.Words.{Text}
 use Rattle.hsr_engines.specs.Fault.{code_of, fault_line}
 use Rattle.hsr_engines.specs.declared.fault.Fault.TheVariants.{Memory, Write}
 use Rattle.hsr_engines.specs.declared.fault.Status.{Status}
 use Rattle.hsr_engines.specs.declared.fault.Status.TheVariants.{Certified, Fault as Stopped, Doubt}
+use Rattle.hsr_explanation.specs.Lines.{lines_of}
 use Rattle.hsr_options.specs.declared.chosen.Options.{Options}
+use Rattle.hsr_options.specs.declared.chosen.Options.TheVariants.{Node, Run, Threads, Audit}
 use Rattle.hsr_words.specs.Options.{IsRefused, Says}
 use Rattle.hsr_words.specs.declared.fault.OptionFault.{OptionFault}
 use Rattle.hsr_words.specs.declared.fault.OptionFault.TheVariants.{Usage, Memory as NoRoom}
@@ -18,10 +20,24 @@ line_of Certified = []
 line_of (Stopped fault) = fault_line fault ++ codes "\n"
 line_of Doubt = []
 
--- A run ends in a status: standard error has the line of a fault, and the code of the process is that of the status.
-pub record Tells (told tells : Option (List ℕ)) (status : Status) (code : ℕ) : Type 0 where
+-- more is said of how a run ends, where that is asked for
+abbrev pub explains : Options → Bool
+explains (Node node) = false
+explains (Run table showing opens b) = b
+explains (Threads table showing b) = b
+explains (Audit table scope asked b) = b
+
+-- lines of an explanation are written
+abbrev pub AppendsLines : Option (List ℕ) → Option (List ℕ) → Type 0
+AppendsLines told tells = (lines : List (List ℕ)) × Appends told tells (lines_of lines)
+
+-- A run ends in a status: standard error has the line of a fault, and behind it, where that is asked for, what is explained. The code of
+-- the process is that of the status.
+pub record Tells (explains : Bool) (told tells : Option (List ℕ)) (status : Status) (code : ℕ) : Type 0 where
   pub is_code : code ≡ code_of status
-  pub line : Appends told tells (line_of status)
+  pub explained : List (List ℕ)
+  pub silent : explains ≡ false → explained ≡ []
+  pub line : Appends told tells (line_of status ++ lines_of explained)
 
 -- The text is handled as was chosen. Then what was written leaves, or the writer fails at that, and this is told.
 pub record IsDone (chosen : Options) (text : List ℕ) (held holds : Option (List ℕ)) (status : Status) : Type 0 where
@@ -33,13 +49,13 @@ pub record IsDone (chosen : Options) (text : List ℕ) (held holds : Option (Lis
 
 -- there was no memory to read the words
 pub record IsShort (held holds told tells : Option (List ℕ)) (code : ℕ) : Type 0 where
-  pub ends : Tells told tells (Stopped Memory) code
+  pub ends : Tells false told tells (Stopped Memory) code
   pub kept : Keeps held holds
 
 -- What the words choose is done and told; or the text by which they are refused is, and nothing is written; or there was no memory
 -- to read them.
 abbrev pub Answers : Result Options OptionFault → List ℕ → Option (List ℕ) → Option (List ℕ) → Option (List ℕ) → Option (List ℕ) → ℕ → Type 0
-Answers (Ok chosen) text held holds told tells code = (status : Status) × IsDone chosen text held holds status × Tells told tells status code
+Answers (Ok chosen) text held holds told tells code = (status : Status) × IsDone chosen text held holds status × Tells (explains chosen) told tells status code
 Answers (Err (Usage why)) text held holds told tells code = (code ≡ 3) × Appends told tells (string_bytes why ++ codes "\n") × Keeps held holds
 Answers (Err NoRoom) text held holds told tells code = IsShort held holds told tells code
 
@@ -49,7 +65,7 @@ pub record IsAnswered (words : List Text) (text : List ℕ) (held holds told tel
   pub status : Status
   pub says : Says words chosen
   pub done : IsDone chosen text held holds status
-  pub ends : Tells told tells status code
+  pub ends : Tells (explains chosen) told tells status code
 
 -- the words are refused by a text that isn't empty, and nothing is written
 pub record IsTurnedAway (words : List Text) (held holds told tells : Option (List ℕ)) (code : ℕ) : Type 0 where

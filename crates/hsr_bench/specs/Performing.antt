@@ -17,6 +17,6 @@ use Rattle.hsr_engines.specs.declared.fault.Status.{Status}
 abbrev pub Performs : Options → List ℕ → Option (List ℕ) → Option (List ℕ) → Status → Type 0
 Performs (Node node) text held holds status =
     Ended held holds (output node.unit (capacity_of node.table) (new_machine node.mac node.mode) 1 (lines_of text)) status
-Performs (Run table showing) text held holds status = ScenarioEnds (capacity_of table) showing (scenario_of text) held holds status
-Performs (Threads table showing) text held holds status = ThreadsEnds (capacity_of table) showing (scenario_of text) held holds status
-Performs (Audit table scope asked) text held holds status = AuditEnds (capacity_of table) scope asked text held holds status
+Performs (Run table showing opens explains) text held holds status = ScenarioEnds (capacity_of table) showing (scenario_of text) held holds status
+Performs (Threads table showing explains) text held holds status = ThreadsEnds (capacity_of table) showing (scenario_of text) held holds status
+Performs (Audit table scope asked explains) text held holds status = AuditEnds (capacity_of table) scope asked text held holds status

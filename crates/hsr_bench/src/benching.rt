@@ -1,10 +1,10 @@
 //! The whole program.
 ghost use Rattle.std.specs.Prelude.{◌≡◌, ◌++◌, IfOk, IfSome, OnOk, codes, map, string_bytes};
 ghost use Rattle.std.specs.Io.KnownBytes.{Appends};
-ghost use Rattle.hsr_bench.specs.Benching.{Answers, Benches, IsDone, Tells};
+ghost use Rattle.hsr_bench.specs.Benching.{Answers, AppendsLines, Benches, IsDone, Tells, explains};
 
 use crate::performing::perform;
-use hsr_engines::{Fault, Status};
+use hsr_engines::{Explanation, Fault, Notes, Status, put_explanation};
 use hsr_options::Options;
 use hsr_words::{OptionFault, options};
 use std::alloc::Global;
@@ -21,14 +21,46 @@ fn put_line<E: Write>(errors: &mut E, text: &str) -> io::Result<()>
     errors.write_all(b"\n")
 }
 
-/// Tells how a run ended: a fault's line on standard error, and the status of the process.
-fn tell<E: Write>(errors: &mut E, status: Status) -> io::Result<u8>
-    ensures { IfOk result (λ code. Tells (E.contents errors.old) (E.contents errors.new) status code) }
+/// Writes what is explained. What there is no room for isn't written.
+fn explain<E: Write>(alloc: Global, errors: &mut E, lines: &[Vec<u8>]) -> io::Result<()>
+    ensures { OnOk result (AppendsLines (E.contents errors.old) (E.contents errors.new)) }
+{
+    let mut text = Vec::new(alloc);
+    if put_explanation(&mut text, lines).is_err() {
+        return Ok(());
+    }
+    errors.write_all(text.as_slice())
+}
+
+/// Tells how a run ended: a fault's line on standard error, what is explained behind it, and the status of the process.
+fn tell<E: Write>(
+    alloc: Global,
+    errors: &mut E,
+    status: Status,
+    explains: bool,
+    explanation: &Explanation,
+) -> io::Result<u8>
+    ensures { IfOk result (λ code. Tells explains (E.contents errors.old) (E.contents errors.new) status code) }
 {
     if let Status::Fault(fault) = status {
         writeln!(errors, "{fault}")?;
     }
+    if explains {
+        explain(alloc, errors, explanation.lines.as_slice())?;
+    }
     Ok(status.code())
+}
+
+/// Whether more is to be said of how a run ends.
+fn explains(chosen: &Options) -> bool
+    ensures { result ≡ explains chosen.now }
+{
+    match chosen {
+        Options::Node(_) => false,
+        Options::Run { explains, .. }
+        | Options::Threads { explains, .. }
+        | Options::Audit { explains, .. } => *explains,
+    }
 }
 
 /// Does what is chosen, and flushes what was written.
@@ -38,10 +70,11 @@ fn done<H: Threads + Wait + Sync, R: Read, W: Write>(
     reader: &mut R,
     writer: &mut W,
     chosen: &Options,
+    notes: &mut Notes,
 ) -> Status
     ensures { IfSome (R.remaining reader.old) (λ text. IsDone chosen.now text (W.contents writer.old) (W.contents writer.new) result) }
 {
-    let status = perform(rt, alloc, reader, writer, chosen);
+    let status = perform(rt, alloc, reader, writer, chosen, notes);
     match writer.flush() {
         Ok(()) => status,
         Err(_) => Status::Fault(Fault::Write),
@@ -61,19 +94,26 @@ fn answer<H: Threads + Wait + Sync, R: Read, W: Write, E: Write>(
         Answers chosen.now text (W.contents writer.old) (W.contents writer.new) (E.contents errors.old) (E.contents errors.new) code)) }
 {
     match chosen {
-        Ok(chosen) => tell(errors, done(rt, alloc, reader, writer, chosen)),
+        Ok(chosen) => {
+            let mut notes = Notes::new(alloc, explains(chosen));
+            let status = done(rt, alloc, reader, writer, chosen, &mut notes);
+            tell(alloc, errors, status, explains(chosen), &notes.explanation)
+        }
         Err(OptionFault::Usage { text }) => {
             put_line(errors, text.as_str())?;
             Ok(3)
         }
-        Err(OptionFault::Memory) => tell(errors, Status::Fault(Fault::Memory)),
+        Err(OptionFault::Memory) => {
+            let short = Status::Fault(Fault::Memory);
+            tell(alloc, errors, short, false, &Explanation::new(alloc))
+        }
     }
 }
 
 /// Does what the words after the program's name say, over a text that is read, standard output and standard error, and gives the
 /// status of the process: 0 where all lines were answered or the run is certified; 1 after a fault, whose line is then on standard
-/// error; 2 where the run is doubted; 3 where the words are refused, by a text on standard error. The error of `errors`, where a line
-/// can't be written there.
+/// error; 2 where the run is doubted; 3 where the words are refused, by a text on standard error. Where it is asked for, lines on standard
+/// error say what a fault or a doubt means. The error of `errors`, where a line can't be written there.
 pub fn bench<'a, H: Threads + Wait + Sync, R: Read, W: Write, E: Write>(
     rt: &H,
     alloc: Global,

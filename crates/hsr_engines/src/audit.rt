@@ -5,6 +5,7 @@ ghost use Rattle.hsr_engines.specs.AuditRun.{AuditEnds, IsAudited, IsUnread, tra
 ghost use Rattle.hsr_options.specs.Tables.{capacity_of};
 
 use crate::fault::{Fault, Status, TranscriptFault};
+use crate::notes::Notes;
 use crate::shown::{deliver, finding_of, report_of};
 use hsr_closing::Closed;
 use hsr_options::{Asked, Scope, Table};
@@ -46,6 +47,7 @@ fn audited<R: Read, const C: usize>(
     reader: &mut R,
     scope: Scope,
     asked: Asked,
+    notes: &mut Notes,
 ) -> Result<(Finding, Vec<u8>), Fault>
     requires entries { (1 ≤ C) × (C ≤ 65535) }
     ensures ok { IfOk result (λ r. IfSome (R.remaining reader.old) (λ text. IsAudited C scope asked text r.0 r.1.items)) }
@@ -60,7 +62,11 @@ fn audited<R: Read, const C: usize>(
         Err(fault) => return Err(fault),
     };
     match report_of(alloc, &closed, finding, asked) {
-        Ok(text) => Ok((finding, text)),
+        Ok(text) => {
+            // a transcript has no names
+            notes.of_finding(alloc, &[], &closed, finding);
+            Ok((finding, text))
+        }
         Err(fault) => Err(fault),
     }
 }
@@ -72,13 +78,14 @@ fn audited_with<R: Read>(
     table: Table,
     scope: Scope,
     asked: Asked,
+    notes: &mut Notes,
 ) -> Result<(Finding, Vec<u8>), Fault>
     ensures ok { IfOk result (λ r. IfSome (R.remaining reader.old) (λ text. IsAudited (capacity_of table) scope asked text r.0 r.1.items)) }
     ensures err { IfErr result (λ f. IfSome (R.remaining reader.old) (λ text. IsUnread (capacity_of table) text f)) }
 {
     match table {
-        Table::Small => audited::<R, 4>(alloc, reader, scope, asked),
-        Table::Large => audited::<R, 512>(alloc, reader, scope, asked),
+        Table::Small => audited::<R, 4>(alloc, reader, scope, asked, notes),
+        Table::Large => audited::<R, 512>(alloc, reader, scope, asked, notes),
     }
 }
 
@@ -86,7 +93,7 @@ fn audited_with<R: Read>(
 /// counters, the links with what became of their copies, the parts that are asked for, and what the chosen audit found, which the
 /// status tells too. The report is formed whole before it is written. `Fault::Transcript` where the text is no run's, and `Fault::Check` where links and
 /// records of its run disagree; `Fault::Read` where the reader fails or takes over 2^40 reads, `Fault::Memory` where room is
-/// refused: then nothing is written.
+/// refused: then nothing is written. Where it is asked for, `notes` then has what a fault or a doubt means.
 pub fn audit_run<R: Read, W: Write>(
     alloc: Global,
     reader: &mut R,
@@ -94,12 +101,16 @@ pub fn audit_run<R: Read, W: Write>(
     table: Table,
     scope: Scope,
     asked: Asked,
+    notes: &mut Notes,
 ) -> Status
     ensures { IfSome (R.remaining reader.old) (λ text.
         AuditEnds (capacity_of table) scope asked text (W.contents writer.old) (W.contents writer.new) result) }
 {
-    match audited_with(alloc, reader, table, scope, asked) {
+    match audited_with(alloc, reader, table, scope, asked, notes) {
         Ok((finding, text)) => deliver(writer, finding, text.as_slice()),
-        Err(fault) => Status::Fault(fault),
+        Err(fault) => {
+            notes.of_fault(alloc, &[], &fault);
+            Status::Fault(fault)
+        }
     }
 }

@@ -1,12 +1,13 @@
 //! What the program does: `node`, `run`, `threads` and `audit`, each over a reader and a writer.
 //!
-//! Its modules, in the order to read them: `fault`, `engine`, `text`, `reading`, `shown`, `scenario`, `threads`,
-//! `audit`.
+//! Its modules, in the order to read them: `fault`, `engine`, `text`, `reading`, `notes`, `shown`, `scenario`,
+//! `threads`, `audit`.
 #![tactic(auto)]
 
 mod audit;
 mod engine;
 mod fault;
+mod notes;
 mod reading;
 mod scenario;
 mod shown;
@@ -16,6 +17,8 @@ mod threads;
 pub use audit::audit_run;
 pub use engine::node_run;
 pub use fault::{Fault, Status, TranscriptFault};
+pub use hsr_explanation::{Explanation, put_explanation};
 pub use hsr_options::{Asked, Form, NodeOptions, Scope, Showing, Table, TimeUnit};
+pub use notes::Notes;
 pub use scenario::scenario_run;
 pub use threads::threads_run;

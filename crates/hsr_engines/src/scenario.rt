@@ -8,6 +8,7 @@ ghost use Rattle.hsr_engines.specs.declared.fault.Fault.TheVariants.{Read as Rea
 ghost use Rattle.hsr_engines.specs.declared.fault.Status.TheVariants.{Fault as Stopped};
 
 use crate::fault::{Fault, Status};
+use crate::notes::Notes;
 use crate::reading::scenario_of;
 use crate::shown::{deliver, told};
 use crate::text::read_text;
@@ -21,7 +22,11 @@ use std::alloc::Global;
 use std::io::{Read, Write};
 
 /// The world to which the scenario of a text leads.
-fn played<const C: usize>(alloc: Global, octets: &[u8]) -> Result<World<C>, Fault>
+fn played<const C: usize>(
+    alloc: Global,
+    octets: &[u8],
+    notes: &mut Notes,
+) -> Result<World<C>, Fault>
     requires entries { (1 ≤ C) × (C ≤ 65535) }
     ensures ok { IfOk result (λ w. IsPlayed C (scenario_of octets.now) w) }
     ensures err { IfErr result (λ f. IsUnplayed C (scenario_of octets.now) f) }
@@ -35,7 +40,10 @@ fn played<const C: usize>(alloc: Global, octets: &[u8]) -> Result<World<C>, Faul
     };
     match play(&mut world, scenario.steps.as_slice()) {
         Ok(()) => Ok(world),
-        Err((step, fault)) => Err(Fault::of_step(step, fault)),
+        Err((step, fault)) => {
+            notes.of_order(alloc, octets, step, &fault, &world);
+            Err(Fault::of_step(step, fault))
+        }
     }
 }
 
@@ -55,12 +63,13 @@ fn reported<const C: usize>(
     alloc: Global,
     octets: &[u8],
     showing: Showing,
+    notes: &mut Notes,
 ) -> Result<(Finding, Vec<u8>), Fault>
     requires entries { (1 ≤ C) × (C ≤ 65535) }
     ensures ok { IfOk result (λ r. IsReported C showing (scenario_of octets.now) r.0 r.1.items) }
     ensures err { IfErr result (λ f. IsUnreported C (scenario_of octets.now) f) }
 {
-    let world = match played::<C>(alloc, octets) {
+    let world = match played::<C>(alloc, octets, notes) {
         Ok(world) => world,
         Err(fault) => return Err(fault),
     };
@@ -68,7 +77,13 @@ fn reported<const C: usize>(
         Ok(closed) => closed,
         Err(fault) => return Err(fault),
     };
-    told(alloc, &closed, showing)
+    match told(alloc, &closed, showing) {
+        Ok((finding, text)) => {
+            notes.of_finding(alloc, octets, &closed, finding);
+            Ok((finding, text))
+        }
+        Err(fault) => Err(fault),
+    }
 }
 
 /// What is shown of the scenario that octets mean, with tables of the chosen size.
@@ -77,13 +92,14 @@ fn reported_with(
     octets: &[u8],
     table: Table,
     showing: Showing,
+    notes: &mut Notes,
 ) -> Result<(Finding, Vec<u8>), Fault>
     ensures ok { IfOk result (λ r. IsReported (capacity_of table) showing (scenario_of octets.now) r.0 r.1.items) }
     ensures err { IfErr result (λ f. IsUnreported (capacity_of table) (scenario_of octets.now) f) }
 {
     match table {
-        Table::Small => reported::<4>(alloc, octets, showing),
-        Table::Large => reported::<512>(alloc, octets, showing),
+        Table::Small => reported::<4>(alloc, octets, showing, notes),
+        Table::Large => reported::<512>(alloc, octets, showing, notes),
     }
 }
 
@@ -95,13 +111,17 @@ fn tell<W: Write>(
     writer: &mut W,
     table: Table,
     showing: Showing,
+    notes: &mut Notes,
 ) -> Status
     ensures shown { ScenarioEnds (capacity_of table) showing (scenario_of octets.now) (W.contents writer.old) (W.contents writer.new) result }
     ensures told { result ≢ Stopped ReadFailed }
 {
-    match reported_with(alloc, octets, table, showing) {
+    match reported_with(alloc, octets, table, showing, notes) {
         Ok((finding, text)) => deliver(writer, finding, text.as_slice()),
-        Err(fault) => Status::Fault(fault),
+        Err(fault) => {
+            notes.of_fault(alloc, octets, &fault);
+            Status::Fault(fault)
+        }
     }
 }
 
@@ -109,19 +129,20 @@ fn tell<W: Write>(
 /// or its report: the nodes with their counters, the links with what became of their copies, and what the audit found, which
 /// the status tells in both cases. The scenario has at most 16 MiB, and a drain takes at most 1,000,000 steps. The text is formed
 /// whole before it is written, so that after a fault nothing is, but for `Fault::Write`. `Fault::Read` where the reader fails or
-/// takes over 2^40 reads, `Fault::Memory` where room is refused.
+/// takes over 2^40 reads, `Fault::Memory` where room is refused. Where it is asked for, `notes` then has what a fault or a doubt means.
 pub fn scenario_run<R: Read, W: Write>(
     alloc: Global,
     reader: &mut R,
     writer: &mut W,
     table: Table,
     showing: Showing,
+    notes: &mut Notes,
 ) -> Status
     ensures { IfSome (R.remaining reader.old) (λ octets.
         ScenarioEnds (capacity_of table) showing (scenario_of octets) (W.contents writer.old) (W.contents writer.new) result) }
 {
     match read_text(alloc, reader, TEXT_LIMIT) {
-        Ok(octets) => tell(alloc, octets.as_slice(), writer, table, showing),
+        Ok(octets) => tell(alloc, octets.as_slice(), writer, table, showing, notes),
         Err(fault) => Status::Fault(fault),
     }
 }

@@ -7,6 +7,7 @@ ghost use Rattle.hsr_engines.specs.declared.fault.Fault.TheVariants.{Read as Rea
 ghost use Rattle.hsr_engines.specs.declared.fault.Status.TheVariants.{Fault as Stopped};
 
 use crate::fault::{Fault, Status};
+use crate::notes::Notes;
 use crate::reading::scenario_of;
 use crate::shown::{deliver, told};
 use crate::text::read_text;
@@ -62,13 +63,21 @@ fn run_shown<H: Threads + Wait + Sync, const C: usize>(
     alloc: Global,
     octets: &[u8],
     showing: Showing,
+    notes: &mut Notes,
 ) -> Result<(Finding, Vec<u8>), Fault>
     requires entries { (1 ≤ C) × (C ≤ 65535) }
     ensures ok { IfOk result (λ r. IsRunShown C showing (scenario_of octets.now) r.0 r.1.items) }
     ensures err { IfErr result (λ f. IsUnrun C (scenario_of octets.now) f) }
 {
-    match ran::<H, C>(rt, alloc, octets) {
-        Ok(closed) => told(alloc, &closed, showing),
+    let closed = match ran::<H, C>(rt, alloc, octets) {
+        Ok(closed) => closed,
+        Err(fault) => return Err(fault),
+    };
+    match told(alloc, &closed, showing) {
+        Ok((finding, text)) => {
+            notes.of_finding(alloc, octets, &closed, finding);
+            Ok((finding, text))
+        }
         Err(fault) => Err(fault),
     }
 }
@@ -80,13 +89,14 @@ fn run_shown_with<H: Threads + Wait + Sync>(
     octets: &[u8],
     table: Table,
     showing: Showing,
+    notes: &mut Notes,
 ) -> Result<(Finding, Vec<u8>), Fault>
     ensures ok { IfOk result (λ r. IsRunShown (capacity_of table) showing (scenario_of octets.now) r.0 r.1.items) }
     ensures err { IfErr result (λ f. IsUnrun (capacity_of table) (scenario_of octets.now) f) }
 {
     match table {
-        Table::Small => run_shown::<H, 4>(rt, alloc, octets, showing),
-        Table::Large => run_shown::<H, 512>(rt, alloc, octets, showing),
+        Table::Small => run_shown::<H, 4>(rt, alloc, octets, showing, notes),
+        Table::Large => run_shown::<H, 512>(rt, alloc, octets, showing, notes),
     }
 }
 
@@ -99,13 +109,17 @@ fn tell<H: Threads + Wait + Sync, W: Write>(
     writer: &mut W,
     table: Table,
     showing: Showing,
+    notes: &mut Notes,
 ) -> Status
     ensures shown { ThreadsEnds (capacity_of table) showing (scenario_of octets.now) (W.contents writer.old) (W.contents writer.new) result }
     ensures told { result ≢ Stopped ReadFailed }
 {
-    match run_shown_with(rt, alloc, octets, table, showing) {
+    match run_shown_with(rt, alloc, octets, table, showing, notes) {
         Ok((finding, text)) => deliver(writer, finding, text.as_slice()),
-        Err(fault) => Status::Fault(fault),
+        Err(fault) => {
+            notes.of_fault(alloc, octets, &fault);
+            Status::Fault(fault)
+        }
     }
 }
 
@@ -116,7 +130,8 @@ fn tell<H: Threads + Wait + Sync, W: Write>(
 /// The scenario has at most 16 MiB. The text is formed whole before it is written, so that after a fault nothing is, but for
 /// `Fault::Write`. `Fault::Fine` where the scenario has a step `put`, `take` or `judge`, of which the first is named; nothing is started
 /// then. `Fault::Thread` where a thread can't be started, `Fault::Read` where the reader fails or takes over 2^40 reads,
-/// `Fault::Memory` where room is refused. No gate shuts, so `Fault::Gate` doesn't come. It waits for its threads.
+/// `Fault::Memory` where room is refused. No gate shuts, so `Fault::Gate` doesn't come. It waits for its threads. Where it is
+/// asked for, `notes` then has what a fault or a doubt means.
 pub fn threads_run<H: Threads + Wait + Sync, R: Read, W: Write>(
     rt: &H,
     alloc: Global,
@@ -124,12 +139,13 @@ pub fn threads_run<H: Threads + Wait + Sync, R: Read, W: Write>(
     writer: &mut W,
     table: Table,
     showing: Showing,
+    notes: &mut Notes,
 ) -> Status
     ensures { IfSome (R.remaining reader.old) (λ octets.
         ThreadsEnds (capacity_of table) showing (scenario_of octets) (W.contents writer.old) (W.contents writer.new) result) }
 {
     match read_text(alloc, reader, TEXT_LIMIT) {
-        Ok(octets) => tell(rt, alloc, octets.as_slice(), writer, table, showing),
+        Ok(octets) => tell(rt, alloc, octets.as_slice(), writer, table, showing, notes),
         Err(fault) => Status::Fault(fault),
     }
 }

@@ -16,7 +16,7 @@ mod wiring;
 pub use header::{table_header, whole_word};
 pub use keys::{Source, key_in, member_at, name_again, name_in, table_at, top_key};
 pub use lexing::{Lexing, bare};
-pub use line::fault_line;
+pub use line::{fault_line, put_shown};
 pub use position::{Position, position_of};
 pub use telling::told;
 pub use text::{put, put_no_toml, put_place};

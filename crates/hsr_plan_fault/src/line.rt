@@ -12,8 +12,8 @@ fn shown(b: u8) -> u8
     if b < 32 || b == 127 { b'?' } else { b }
 }
 
-/// Puts words last, without control octets.
-fn add_shown(line: &mut Vec<u8>, words: &[u8]) -> Result<(), NoMemory>
+/// Puts words last, each control octet of which is a question mark.
+pub fn put_shown(line: &mut Vec<u8>, words: &[u8]) -> Result<(), NoMemory>
     ensures { OnOk result (line.new.items ≡ line.old.items ++ map shown words.now) }
 {
     for b in words.iter() {
@@ -28,7 +28,7 @@ fn spelled(alloc: Global, words: &[u8]) -> Result<Vec<u8>, NoMemory>
 {
     let mut line = Vec::new(alloc);
     line.extend_from_slice(b"fault: ")?;
-    add_shown(&mut line, words)?;
+    put_shown(&mut line, words)?;
     Ok(line)
 }
 

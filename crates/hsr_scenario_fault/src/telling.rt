@@ -25,7 +25,7 @@ fn spot_in(document: &Table, fault: &ScenarioFault) -> Spot {
 }
 
 /// Where the table at a place begins.
-fn start_of(source: Source<'_>, spot: Spot) -> usize {
+pub(crate) fn start_of(source: Source<'_>, spot: Spot) -> usize {
     match spot {
         Spot::Top => 0,
         Spot::Node(number) => table_at(source, b"node", number).unwrap_or(0),
@@ -97,7 +97,7 @@ fn put_spot(line: &mut Vec<u8>, name: &str, number: usize) -> Result<(), NoMemor
 }
 
 /// Puts where a fault is last, as a scenario counts it.
-fn put_spots(line: &mut Vec<u8>, spot: Spot) -> Result<(), NoMemory> {
+pub(crate) fn put_spots(line: &mut Vec<u8>, spot: Spot) -> Result<(), NoMemory> {
     match spot {
         Spot::Top => Ok(()),
         Spot::Node(number) => put_spot(line, "node ", number),

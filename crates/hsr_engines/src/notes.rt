@@ -1,0 +1,97 @@
+//! What is said of how a run ended, beyond its agreed lines.
+use crate::fault::{Fault, TranscriptFault};
+use hsr_closing::Closed;
+use hsr_explanation::{
+    Explanation, explain_check, explain_finding, explain_fine, explain_scenario, explain_step,
+    explain_transcript, explain_unsettled, names_in,
+};
+use hsr_frame::NoMemory;
+use hsr_report::Finding;
+use hsr_ring::World;
+use hsr_step::DrainFault;
+use std::alloc::Global;
+
+/// Whether more is to be said of how a run ended, and what is. It changes neither what is written of the run nor its status.
+#[derive(Debug, Drop)]
+pub struct Notes {
+    pub explains: bool,
+    pub explanation: Explanation,
+}
+
+/// What it means that a text isn't read as a transcript.
+fn words_of(fault: TranscriptFault) -> &'static str {
+    match fault {
+        TranscriptFault::Version =>
+            "the first line is neither hsr-bench 2 nor hsr-bench 1: a transcript is what hsr_bench run --transcript writes; a scenario goes to run, a plan to hsr_plan",
+        TranscriptFault::Line(2) =>
+            "the second line has another size of tables: give the --table with which the transcript was written",
+        TranscriptFault::Line(_) =>
+            "the line is out of form, or isn't what the node answers: the text was changed",
+        TranscriptFault::End => "the text breaks off: fetch the whole",
+    }
+}
+
+/// What a fault means; nothing more where its line says all.
+fn explained(alloc: Global, octets: &[u8], fault: &Fault) -> Result<Explanation, NoMemory> {
+    match fault {
+        Fault::Scenario(fault) => explain_scenario(alloc, octets, fault),
+        Fault::Step { step, fault } => explain_step(alloc, octets, *step, fault),
+        Fault::Fine { step } => explain_fine(alloc, octets, *step),
+        Fault::Check(disagree) => explain_check(alloc, *disagree),
+        Fault::Transcript(fault) => explain_transcript(alloc, words_of(*fault)),
+        Fault::Line(_) | Fault::Read | Fault::Write | Fault::Memory | Fault::Thread | Fault::Gate =>
+            Ok(Explanation::new(alloc)),
+    }
+}
+
+impl Notes {
+    /// Nothing is said yet.
+    pub fn new(alloc: Global, explains: bool) -> Notes {
+        Notes {
+            explains,
+            explanation: Explanation::new(alloc),
+        }
+    }
+
+    /// Notes what is explained. What can't be for want of room isn't: that is no reason to stop.
+    fn note(&mut self, explained: Result<Explanation, NoMemory>) {
+        if let Ok(explanation) = explained {
+            self.explanation = explanation;
+        }
+    }
+
+    /// Notes why a text led to no finished run, unless that is noted.
+    pub(crate) fn of_fault(&mut self, alloc: Global, octets: &[u8], fault: &Fault) {
+        if self.explains && self.explanation.lines.is_empty() {
+            self.note(explained(alloc, octets, fault));
+        }
+    }
+
+    /// Notes where copies circle, if that is why an order wasn't done.
+    pub(crate) fn of_order<const C: usize>(
+        &mut self,
+        alloc: Global,
+        octets: &[u8],
+        number: usize,
+        fault: &DrainFault,
+        world: &World<C>,
+    ) {
+        if self.explains && matches!(fault, DrainFault::Unsettled) {
+            self.note(explain_unsettled(alloc, octets, number, world));
+        }
+    }
+
+    /// Notes what was found of a run, with the names of a scenario's text.
+    pub(crate) fn of_finding<const C: usize>(
+        &mut self,
+        alloc: Global,
+        octets: &[u8],
+        closed: &Closed<C>,
+        finding: Finding,
+    ) {
+        if self.explains {
+            let names = names_in(alloc, octets);
+            self.note(explain_finding(alloc, closed, names.as_slice(), finding));
+        }
+    }
+}

@@ -1,0 +1,253 @@
+//! Why a run isn't certified.
+use crate::lines::Explanation;
+use crate::losing::put_lossy;
+use crate::naming::{put_entry, put_link, put_node};
+use hsr_audit::Doubt;
+use hsr_closing::Closed;
+use hsr_frame::{Mac, Mode, NoMemory};
+use hsr_network_audit::Doubt as NetworkDoubt;
+use hsr_node::Place;
+use hsr_plan_fault::put;
+use hsr_report::Finding;
+use std::alloc::Global;
+
+// ---- nodes
+
+/// Whether a node is in mode N.
+fn is_silent(place: &Place) -> bool {
+    match place {
+        Place::Danh { mode, .. } | Place::RedBox { mode, .. } => matches!(mode, Mode::N),
+        Place::QuadBox | Place::Station { .. } => false,
+    }
+}
+
+/// Puts each node in mode N last.
+fn put_silent(line: &mut Vec<u8>, places: &[Place], names: &[Vec<u8>]) -> Result<(), NoMemory> {
+    for (node, place) in places.iter().enumerate() {
+        if is_silent(place) {
+            put(line, "; ")?;
+            put_node(line, names, node)?;
+        }
+    }
+    Ok(())
+}
+
+/// Whether a node has an address.
+fn has_address(place: &Place, address: Mac) -> bool {
+    match place {
+        Place::Danh { mac, .. } | Place::RedBox { mac, .. } => *mac == address,
+        Place::QuadBox => false,
+        Place::Station { macs } => macs.iter().any(|mac| *mac == address),
+    }
+}
+
+/// Whether two nodes have an address in common.
+fn share_address(one: &Place, other: &Place) -> bool {
+    match one {
+        Place::Danh { mac, .. } | Place::RedBox { mac, .. } => has_address(other, *mac),
+        Place::QuadBox => false,
+        Place::Station { macs } => macs.iter().any(|mac| has_address(other, *mac)),
+    }
+}
+
+/// Puts each node that has an address of an earlier one last.
+fn put_same(line: &mut Vec<u8>, places: &[Place], names: &[Vec<u8>]) -> Result<(), NoMemory> {
+    for (node, place) in places.iter().enumerate() {
+        let earlier = places.get(..node).unwrap_or(places);
+        if let Some(first) = earlier.iter().position(|other| share_address(other, place)) {
+            put(line, "; ")?;
+            put_node(line, names, first)?;
+            put(line, " and ")?;
+            put_node(line, names, node)?;
+        }
+    }
+    Ok(())
+}
+
+// ---- doubts
+
+/// A line of an entry, between words.
+fn of_entry<const C: usize>(
+    alloc: Global,
+    closed: &Closed<C>,
+    names: &[Vec<u8>],
+    at: (usize, usize),
+    words: &str,
+) -> Result<Vec<u8>, NoMemory> {
+    let mut line = Vec::new(alloc);
+    let (node, place) = at;
+    put_entry(&mut line, closed, names, node, place)?;
+    put(&mut line, words)?;
+    Ok(line)
+}
+
+/// A line of these words.
+fn of_words(alloc: Global, words: &str) -> Result<Vec<u8>, NoMemory> {
+    let mut line = Vec::new(alloc);
+    put(&mut line, words)?;
+    Ok(line)
+}
+
+/// Which nodes are in mode N.
+fn of_mode<const C: usize>(
+    alloc: Global,
+    closed: &Closed<C>,
+    names: &[Vec<u8>],
+) -> Result<Vec<u8>, NoMemory> {
+    let words =
+        "in mode N a node sends nothing on: set it to mode H or U, or expect no second way round";
+    let mut line = of_words(alloc, words)?;
+    put_silent(&mut line, closed.topology().places(), names)?;
+    Ok(line)
+}
+
+/// Which nodes have one address.
+fn of_same_address<const C: usize>(
+    alloc: Global,
+    closed: &Closed<C>,
+    names: &[Vec<u8>],
+) -> Result<Vec<u8>, NoMemory> {
+    let mut line = of_words(alloc, "give each node an address of its own")?;
+    put_same(&mut line, closed.topology().places(), names)?;
+    Ok(line)
+}
+
+/// Which links lost copies.
+fn of_two_links<const C: usize>(
+    alloc: Global,
+    closed: &Closed<C>,
+    names: &[Vec<u8>],
+) -> Result<Vec<u8>, NoMemory> {
+    let words =
+        "a ring is sure to bear losses on one link: find the second break, or for a full queue drain earlier or raise capacity";
+    let mut line = of_words(alloc, words)?;
+    put_lossy(&mut line, closed, names)?;
+    Ok(line)
+}
+
+/// Which link has wrong ends.
+fn of_side<const C: usize>(
+    alloc: Global,
+    closed: &Closed<C>,
+    names: &[Vec<u8>],
+    link: usize,
+) -> Result<Vec<u8>, NoMemory> {
+    let topology = closed.topology();
+    let mut line = Vec::new(alloc);
+    put_link(&mut line, names, topology.places(), topology.links(), link)?;
+    put(
+        &mut line,
+        " joins a ring's port with a Station's: join a Station with the interlink of a RedBox",
+    )?;
+    Ok(line)
+}
+
+/// Which receiver was cut off from a send.
+fn of_cut_off<const C: usize>(
+    alloc: Global,
+    closed: &Closed<C>,
+    names: &[Vec<u8>],
+    at: (usize, usize),
+    receiver: usize,
+) -> Result<Vec<u8>, NoMemory> {
+    let mut line = of_entry(alloc, closed, names, at, " is a send that is due at ")?;
+    put_node(&mut line, names, receiver)?;
+    put(
+        &mut line,
+        ", and each way there lost a copy of it: mend a link there, or add one; --deliveries says where",
+    )?;
+    put_lossy(&mut line, closed, names)?;
+    Ok(line)
+}
+
+const FORGOT: &str =
+    " is a copy whose frame was no longer remembered, so it may go round or up twice: where it came 400 ms or more after it was noted there, find what held it up; else take a larger table, or send less in 800 ms";
+
+const MISTAKEN: &str =
+    " is a copy that met the number of another frame, and may have been dropped for it: a number came round too soon: send less in 400 ms";
+
+const NUMBERED_LATE: &str =
+    " is where the RedBox numbered a frame that it had noted before: look at the order of that record in the transcript";
+
+const UNKNOWN: &str =
+    " is a send to a Station whose RedBox didn't know it then: let the Station send something first, and again within 60 s";
+
+const UNCOVERED: &str =
+    " is a supervision frame of a Station that is joined with a Station, of which nothing is certified: look at it by --deliveries";
+
+/// What a doubt of a ring's audit means.
+fn of_doubt<const C: usize>(
+    alloc: Global,
+    closed: &Closed<C>,
+    names: &[Vec<u8>],
+    doubt: Doubt,
+) -> Result<Vec<u8>, NoMemory> {
+    match doubt {
+        Doubt::NotRing => of_words(
+            alloc,
+            "the network isn't one ring of DANHs, link i from B of node i to A of the next: --network certifies any network",
+        ),
+        Doubt::Mode => of_mode(alloc, closed, names),
+        Doubt::SameAddress => of_same_address(alloc, closed, names),
+        Doubt::TwoLinks => of_two_links(alloc, closed, names),
+        Doubt::Forgot { node, place } => of_entry(alloc, closed, names, (node, place), FORGOT),
+        Doubt::Mistaken { node, place } => of_entry(alloc, closed, names, (node, place), MISTAKEN),
+    }
+}
+
+/// What a doubt of a network's audit means.
+fn of_network_doubt<const C: usize>(
+    alloc: Global,
+    closed: &Closed<C>,
+    names: &[Vec<u8>],
+    doubt: NetworkDoubt,
+) -> Result<Vec<u8>, NoMemory> {
+    match doubt {
+        NetworkDoubt::Mode => of_mode(alloc, closed, names),
+        NetworkDoubt::SameAddress => of_same_address(alloc, closed, names),
+        NetworkDoubt::Side { link } => of_side(alloc, closed, names, link),
+        NetworkDoubt::CutOff {
+            node,
+            place,
+            receiver,
+        } => of_cut_off(alloc, closed, names, (node, place), receiver),
+        NetworkDoubt::Forgot { node, place } => of_entry(
+            alloc,
+            closed,
+            names,
+            (node, place),
+            FORGOT,
+        ),
+        NetworkDoubt::Mistaken { node, place } => {
+            of_entry(alloc, closed, names, (node, place), MISTAKEN)
+        }
+        NetworkDoubt::NumberedLate { node, place } => {
+            of_entry(alloc, closed, names, (node, place), NUMBERED_LATE)
+        }
+        NetworkDoubt::UnknownStation { node, place } => {
+            of_entry(alloc, closed, names, (node, place), UNKNOWN)
+        }
+        NetworkDoubt::Uncovered { node, place } => {
+            of_entry(alloc, closed, names, (node, place), UNCOVERED)
+        }
+    }
+}
+
+/// What was found of a run: nothing more where it is certified; of a doubt what it means, whom it is about, by these names, and what to
+/// do. `NoMemory` where room is refused.
+pub fn explain_finding<const C: usize>(
+    alloc: Global,
+    closed: &Closed<C>,
+    names: &[Vec<u8>],
+    finding: Finding,
+) -> Result<Explanation, NoMemory> {
+    let mut explanation = Explanation::new(alloc);
+    match finding {
+        Finding::Certified(_) => {}
+        Finding::Doubt(doubt) => explanation.add(of_doubt(alloc, closed, names, doubt)?)?,
+        Finding::NetworkDoubt(doubt) => {
+            explanation.add(of_network_doubt(alloc, closed, names, doubt)?)?
+        }
+    }
+    Ok(explanation)
+}

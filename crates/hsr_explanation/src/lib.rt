@@ -1,0 +1,27 @@
+//! More about how a run ended, in plain words: what a fault or a doubt means, where it is, and what to do.
+//!
+//! Its modules, in the order to read them:
+//! - `lines`: an explanation, line by line
+//! - `given`: what a text is that isn't what was asked for
+//! - `naming`: nodes, entries and links by their names
+//! - `losing`: which links lost copies
+//! - `circling`: on which links copies circle
+//! - `faults`: why there is no run
+//! - `doubts`: why a run isn't certified
+#![tactic(auto)]
+
+mod circling;
+mod doubts;
+mod faults;
+mod given;
+mod lines;
+mod losing;
+mod naming;
+
+pub use doubts::explain_finding;
+pub use faults::{
+    explain_check, explain_fine, explain_scenario, explain_step, explain_transcript,
+    explain_unsettled,
+};
+pub use lines::{Explanation, put_explanation};
+pub use naming::names_in;
