@@ -48,7 +48,6 @@ fn put_circling(
 ) -> Result<(), NoMemory> {
     let names = named.names.as_slice();
     let topology = &named.topology;
-    put(line, "; ")?;
     put_link(line, names, topology.places(), topology.links(), link)?;
     put_number(line, ": ", rows.len())?;
     put_send(line, names, rows)
@@ -62,12 +61,15 @@ pub(crate) fn circling_of<const C: usize>(
 ) -> Result<Vec<u8>, NoMemory> {
     let most = most_of(world);
     let mut line = Vec::new(alloc);
-    put(&mut line, "most copies were put here")?;
+    put(&mut line, "most copies were put on ")?;
+    let mut parted = "";
     for link in 0..world.link_count() {
         let rows = rows_of(world, link);
         // a link of a circle has about as many copies as its fullest
         if rows.len() >= most / 2 {
+            put(&mut line, parted)?;
             put_circling(&mut line, named, link, rows)?;
+            parted = "; ";
         }
     }
     Ok(line)

@@ -23,10 +23,12 @@ fn is_silent(place: &Place) -> bool {
 
 /// Puts each node in mode N last.
 fn put_silent(line: &mut Vec<u8>, places: &[Place], names: &[Vec<u8>]) -> Result<(), NoMemory> {
+    let mut parted = "";
     for (node, place) in places.iter().enumerate() {
         if is_silent(place) {
-            put(line, "; ")?;
+            put(line, parted)?;
             put_node(line, names, node)?;
+            parted = ", ";
         }
     }
     Ok(())
@@ -52,13 +54,15 @@ fn share_address(one: &Place, other: &Place) -> bool {
 
 /// Puts each node that has an address of an earlier one last.
 fn put_same(line: &mut Vec<u8>, places: &[Place], names: &[Vec<u8>]) -> Result<(), NoMemory> {
+    let mut parted = "";
     for (node, place) in places.iter().enumerate() {
         let earlier = places.get(..node).unwrap_or(places);
         if let Some(first) = earlier.iter().position(|other| share_address(other, place)) {
-            put(line, "; ")?;
+            put(line, parted)?;
             put_node(line, names, first)?;
             put(line, " and ")?;
             put_node(line, names, node)?;
+            parted = ", ";
         }
     }
     Ok(())
@@ -107,8 +111,9 @@ fn of_same_address<const C: usize>(
     closed: &Closed<C>,
     names: &[Vec<u8>],
 ) -> Result<Vec<u8>, NoMemory> {
-    let mut line = of_words(alloc, "give each node an address of its own")?;
+    let mut line = of_words(alloc, "one address is that of ")?;
     put_same(&mut line, closed.topology().places(), names)?;
+    put(&mut line, ": give each its own")?;
     Ok(line)
 }
 
@@ -154,9 +159,13 @@ fn of_cut_off<const C: usize>(
     put_node(&mut line, names, receiver)?;
     put(
         &mut line,
-        ", and each way there lost a copy of it: mend a link there, or add one; --deliveries says where",
+        ", and each way there lost a copy of it; copies were lost on ",
     )?;
     put_lossy(&mut line, closed, names)?;
+    put(
+        &mut line,
+        ": --deliveries says where; mend a link there, or add one",
+    )?;
     Ok(line)
 }
 

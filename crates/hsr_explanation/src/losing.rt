@@ -20,22 +20,15 @@ fn put_count_of(line: &mut Vec<u8>, rows: &[Row], fate: Fate, words: &str) -> Re
     put(line, words)
 }
 
-/// Puts a link and how it lost copies last, if it lost any.
+/// Puts a link and how it lost copies last.
 fn put_losses<const C: usize>(
     line: &mut Vec<u8>,
     closed: &Closed<C>,
     names: &[Vec<u8>],
     link: usize,
+    rows: &[Row],
 ) -> Result<(), NoMemory> {
-    if link >= closed.topology().links().len() {
-        return Ok(());
-    }
-    let rows = closed.rows(link);
-    if !rows.iter().any(|row| row.fate.is_lost()) {
-        return Ok(());
-    }
     let topology = closed.topology();
-    put(line, "; ")?;
     put_link(line, names, topology.places(), topology.links(), link)?;
     put_count_of(line, rows, Fate::LostDown, " put while it was down")?;
     put_count_of(line, rows, Fate::LostCut, " on it as it was cut")?;
@@ -53,8 +46,14 @@ pub(crate) fn put_lossy<const C: usize>(
     closed: &Closed<C>,
     names: &[Vec<u8>],
 ) -> Result<(), NoMemory> {
+    let mut parted = "";
     for link in 0..closed.topology().links().len() {
-        put_losses(line, closed, names, link)?;
+        let rows = closed.rows(link);
+        if rows.iter().any(|row| row.fate.is_lost()) {
+            put(line, parted)?;
+            put_losses(line, closed, names, link, rows)?;
+            parted = ", ";
+        }
     }
     Ok(())
 }

@@ -77,7 +77,7 @@ pub(crate) fn put_entry<const C: usize>(
     let Some(at) = moment_of(closed, node, place) else {
         return Ok(());
     };
-    put(line, ", at ")?;
+    put(line, " at ")?;
     put_decimal(line, at)?;
     put(line, " us")
 }
