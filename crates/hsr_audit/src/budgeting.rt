@@ -7,8 +7,9 @@ ghost use Rattle.hsr_audit.specs.Budgeted.{IsEnough, IsFirstBreach, IsMost, IsOv
 use crate::breach::{Budget, BudgetFault};
 use crate::late::first_late;
 use crate::moments::moments_of;
-use crate::windows::most_crowded;
+use crate::windows::{most_crowded, most_of};
 use hsr_closing::Closed;
+use hsr_frame::NoMemory;
 use hsr_law::{boxless, budget_keeps, budget_tells, no_storm, once_in_budget};
 use std::alloc::Global;
 
@@ -57,4 +58,13 @@ pub fn budget<const C: usize>(alloc: Global, closed: &Closed<C>) -> Result<Budge
     boxless();
     no_storm();
     budget_of(alloc, closed)
+}
+
+/// The greatest number of sends of all nodes and of every kind in the 800000 microseconds that begin at the effective moment of a send; 0
+/// where nothing was sent. A table with so many entries isn't crowded by this run. `NoMemory` where room is refused.
+pub fn most_sends<const C: usize>(alloc: Global, closed: &Closed<C>) -> Result<usize, NoMemory>
+    ensures { IfOk result (IsMost closed.now.run) }
+{
+    let moments = moments_of(alloc, closed)?;
+    Ok(most_of(&moments.sends))
 }

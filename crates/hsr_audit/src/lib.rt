@@ -26,7 +26,7 @@ mod windows;
 
 pub use auditing::audit;
 pub use breach::{Budget, BudgetFault};
-pub use budgeting::budget;
+pub use budgeting::{budget, most_sends};
 pub use certificate::{Certificate, Certified};
 pub use doubt::{AuditFault, Doubt};
 pub use hsr_closing::{CheckFault, Closed, Disagree, Parts, Planned, Records, passes_of};

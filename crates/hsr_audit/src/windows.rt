@@ -52,3 +52,15 @@ pub(crate) fn most_crowded(room: usize, moments: &[u64]) -> Result<usize, u64>
     }
     Ok(most)
 }
+
+/// The most of these moments that lie in the window from one of them on.
+pub(crate) fn most_of(moments: &[u64]) -> usize
+    requires { IsNonDecreasing moments.now }
+    ensures { IsMostBelow moments.now (length moments.now) result }
+{
+    let mut most = 0;
+    for start in moments {
+        most = most.max(crowd_in(moments, *start));
+    }
+    most
+}

@@ -64,7 +64,7 @@ fn audited<R: Read, const C: usize>(
     match report_of(alloc, &closed, finding, asked) {
         Ok(text) => {
             // a transcript has no names
-            notes.of_finding(alloc, &[], &closed, finding);
+            notes.of_run(alloc, &[], &closed, finding, asked.budget);
             Ok((finding, text))
         }
         Err(fault) => Err(fault),

@@ -2,8 +2,8 @@
 use crate::fault::{Fault, TranscriptFault};
 use hsr_closing::Closed;
 use hsr_explanation::{
-    Explanation, explain_check, explain_finding, explain_fine, explain_scenario, explain_step,
-    explain_transcript, explain_unsettled, names_in,
+    Explanation, explain_budget, explain_check, explain_finding, explain_fine, explain_scenario,
+    explain_step, explain_transcript, explain_unsettled, names_in,
 };
 use hsr_frame::NoMemory;
 use hsr_report::Finding;
@@ -29,6 +29,22 @@ fn words_of(fault: TranscriptFault) -> &'static str {
             "the line is out of form, or isn't what the node answers: the text was changed",
         TranscriptFault::End => "the text breaks off: fetch the whole",
     }
+}
+
+/// What was found of a run, and where its budget is asked for, why the run isn't within that.
+fn explained_run<const C: usize>(
+    alloc: Global,
+    octets: &[u8],
+    closed: &Closed<C>,
+    finding: Finding,
+    budget: bool,
+) -> Result<Explanation, NoMemory> {
+    let names = names_in(alloc, octets);
+    let mut explanation = explain_finding(alloc, closed, names.as_slice(), finding)?;
+    if budget {
+        explanation.join(explain_budget(alloc, closed, names.as_slice())?)?;
+    }
+    Ok(explanation)
 }
 
 /// What a fault means; nothing more where its line says all.
@@ -81,17 +97,17 @@ impl Notes {
         }
     }
 
-    /// Notes what was found of a run, with the names of a scenario's text.
-    pub(crate) fn of_finding<const C: usize>(
+    /// Notes what was found of a run, with the names of a scenario's text, and of its budget, where that is asked for.
+    pub(crate) fn of_run<const C: usize>(
         &mut self,
         alloc: Global,
         octets: &[u8],
         closed: &Closed<C>,
         finding: Finding,
+        budget: bool,
     ) {
         if self.explains {
-            let names = names_in(alloc, octets);
-            self.note(explain_finding(alloc, closed, names.as_slice(), finding));
+            self.note(explained_run(alloc, octets, closed, finding, budget));
         }
     }
 }

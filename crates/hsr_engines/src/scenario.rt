@@ -10,7 +10,7 @@ ghost use Rattle.hsr_engines.specs.declared.fault.Status.TheVariants.{Fault as S
 use crate::fault::{Fault, Status};
 use crate::notes::Notes;
 use crate::reading::scenario_of;
-use crate::shown::{deliver, told};
+use crate::shown::{asks_budget, deliver, told};
 use crate::text::read_text;
 use hsr_closing::Closed;
 use hsr_options::{Showing, Table};
@@ -79,7 +79,7 @@ fn reported<const C: usize>(
     };
     match told(alloc, &closed, showing) {
         Ok((finding, text)) => {
-            notes.of_finding(alloc, octets, &closed, finding);
+            notes.of_run(alloc, octets, &closed, finding, asks_budget(showing));
             Ok((finding, text))
         }
         Err(fault) => Err(fault),

@@ -85,6 +85,14 @@ fn shown<const C: usize>(
     }
 }
 
+/// Whether the budget of a run is asked for.
+pub fn asks_budget(showing: Showing) -> bool {
+    match showing.form {
+        Form::Transcript => false,
+        Form::Report(asked) => asked.budget,
+    }
+}
+
 /// Audits a finished run, and forms what is shown of it.
 pub fn told<const C: usize>(
     alloc: Global,

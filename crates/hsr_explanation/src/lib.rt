@@ -8,8 +8,10 @@
 //! - `circling`: on which links copies circle
 //! - `faults`: why there is no run
 //! - `doubts`: why a run isn't certified
+//! - `budgets`: why a run isn't within the budget of its tables
 #![tactic(auto)]
 
+mod budgets;
 mod circling;
 mod doubts;
 mod faults;
@@ -18,6 +20,7 @@ mod lines;
 mod losing;
 mod naming;
 
+pub use budgets::explain_budget;
 pub use doubts::explain_finding;
 pub use faults::{
     explain_check, explain_fine, explain_scenario, explain_step, explain_transcript,

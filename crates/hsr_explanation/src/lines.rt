@@ -21,6 +21,14 @@ impl Explanation {
         }
     }
 
+    /// Puts the lines of another last.
+    pub fn join(&mut self, other: Explanation) -> Result<(), NoMemory> {
+        for words in other.lines {
+            self.lines.push(words)?;
+        }
+        Ok(())
+    }
+
     /// Puts a line last.
     pub(crate) fn add(&mut self, words: Vec<u8>) -> Result<(), NoMemory> {
         self.lines.push(words)?;
