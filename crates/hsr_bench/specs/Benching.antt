@@ -5,7 +5,7 @@ use Rattle.clap.specs.Words.{Text}
 use Rattle.hsr_engines.specs.Fault.{code_of, fault_line}
 use Rattle.hsr_engines.specs.declared.fault.Fault.TheVariants.{Memory, Write}
 use Rattle.hsr_engines.specs.declared.fault.Status.{Status}
-use Rattle.hsr_engines.specs.declared.fault.Status.TheVariants.{Certified, Fault as Stopped, Doubt}
+use Rattle.hsr_engines.specs.declared.fault.Status.TheVariants.{Certified, Fault as Stopped, Doubt, Open}
 use Rattle.hsr_explanation.specs.Lines.{lines_of}
 use Rattle.hsr_options.specs.declared.chosen.Options.{Options}
 use Rattle.hsr_options.specs.declared.chosen.Options.TheVariants.{Node, Run, Threads, Audit}
@@ -19,6 +19,7 @@ abbrev pub line_of : Status → List ℕ
 line_of Certified = []
 line_of (Stopped fault) = fault_line fault ++ codes "\n"
 line_of Doubt = []
+line_of Open = []
 
 -- more is said of how a run ends, where that is asked for
 abbrev pub explains : Options → Bool

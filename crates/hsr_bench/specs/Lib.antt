@@ -3,6 +3,7 @@ pub mod Benching
 pub use Rattle.hsr_engines.specs.Fault
 pub use Rattle.hsr_engines.specs.Output
 pub use Rattle.hsr_engines.specs.ScenarioRun
+pub use Rattle.hsr_engines.specs.OpenRun
 pub use Rattle.hsr_engines.specs.ThreadsRun
 pub use Rattle.hsr_engines.specs.AuditRun
 pub use Rattle.hsr_options.specs.Tables

@@ -6,7 +6,7 @@ use Rattle.hsr_engines.specs.AuditRun.{AuditEnds}
 use Rattle.hsr_engines.specs.Output.{Ended, output}
 use Rattle.hsr_options.specs.Tables.{capacity_of}
 use Rattle.hsr_engines.specs.Reading.{scenario_of}
-use Rattle.hsr_engines.specs.ScenarioRun.{ScenarioEnds}
+use Rattle.hsr_engines.specs.OpenRun.{RunEnds}
 use Rattle.hsr_engines.specs.ThreadsRun.{ThreadsEnds}
 use Rattle.hsr_options.specs.declared.chosen.Options.{Options}
 use Rattle.hsr_options.specs.declared.chosen.Options.TheVariants.{Node, Run, Threads, Audit}
@@ -17,6 +17,6 @@ use Rattle.hsr_engines.specs.declared.fault.Status.{Status}
 abbrev pub Performs : Options → List ℕ → Option (List ℕ) → Option (List ℕ) → Status → Type 0
 Performs (Node node) text held holds status =
     Ended held holds (output node.unit (capacity_of node.table) (new_machine node.mac node.mode) 1 (lines_of text)) status
-Performs (Run table showing opens explains) text held holds status = ScenarioEnds (capacity_of table) showing (scenario_of text) held holds status
+Performs (Run table showing shows_open explains) text held holds status = RunEnds (capacity_of table) shows_open showing (scenario_of text) held holds status
 Performs (Threads table showing explains) text held holds status = ThreadsEnds (capacity_of table) showing (scenario_of text) held holds status
 Performs (Audit table scope asked explains) text held holds status = AuditEnds (capacity_of table) scope asked text held holds status

@@ -25,9 +25,12 @@ pub fn perform<H: Threads + Wait + Sync, R: Read, W: Write>(
 {
     match chosen {
         Options::Node(node) => node_run(alloc, reader, writer, node),
-        Options::Run { table, showing, .. } => {
-            scenario_run(alloc, reader, writer, *table, *showing, notes)
-        }
+        Options::Run {
+            table,
+            showing,
+            shows_open,
+            ..
+        } => scenario_run(alloc, reader, writer, *table, *showing, *shows_open, notes),
         Options::Threads { table, showing, .. } => {
             threads_run(rt, alloc, reader, writer, *table, *showing, notes)
         }

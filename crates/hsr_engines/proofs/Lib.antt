@@ -1,4 +1,5 @@
 pub mod Turns
 mod Said
 mod Telling
+mod Opening
 mod Runs

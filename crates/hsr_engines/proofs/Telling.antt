@@ -19,7 +19,7 @@ use Rattle.hsr_options.specs.declared.chosen.Showing.{Showing}
 use Rattle.hsr_engines.specs.declared.fault.Fault.{Fault}
 use Rattle.hsr_engines.specs.declared.fault.Fault.TheVariants.{Line, Scenario, Step, Fine, Transcript, Check, Read, Write, Memory, Thread, Gate}
 use Rattle.hsr_engines.specs.declared.fault.Status.{Status}
-use Rattle.hsr_engines.specs.declared.fault.Status.TheVariants.{Certified, Fault as Stopped, Doubt}
+use Rattle.hsr_engines.specs.declared.fault.Status.TheVariants.{Certified, Fault as Stopped, Doubt, Open}
 use Rattle.hsr_report.specs.declared.finding.Finding.{Finding}
 use Rattle.hsr_engines.proofs.Said.{as_read}
 
@@ -28,6 +28,7 @@ told : (IsShown : Finding → List ℕ → Type 0) (IsStopped : Fault → Type 0
     → IsShown found text → IsDelivered held holds found text status → Ends IsShown IsStopped held holds status
 told IsShown IsStopped held holds found text Certified r d = (found, text, r, d.0, d.1)
 told IsShown IsStopped held holds found text Doubt r d = (found, text, r, d.0, d.1)
+told IsShown IsStopped held holds found text Open r d = absurd d
 told IsShown IsStopped held holds found text (Stopped Write) r d = (found, text, r)
 told IsShown IsStopped held holds found text (Stopped Read) r d = absurd d
 told IsShown IsStopped held holds found text (Stopped Memory) r d = absurd d
@@ -62,16 +63,6 @@ told_report capacity showing said held holds found text status r d = told (IsRep
 pub told_fault : (capacity : ℕ) (showing : Showing) (said : Said) (held holds : Option (List ℕ)) (fault : Fault) → IsUnreported capacity said fault → Keeps held holds
     → ScenarioEnds capacity showing said held holds (Stopped fault)
 told_fault capacity showing said held holds fault u k = stopped (IsReported capacity showing said) (IsUnreported capacity said) held holds fault (λ h. h) u k
-
--- what is told of what was read is told of the text
-pub told_text : (capacity : ℕ) (showing : Showing) (all : Option (List ℕ)) (read : List ℕ) (held holds : Option (List ℕ)) (status : Status) → IfSome all (λ text. IsWhole (2 ^ 24) text read)
-    → ScenarioEnds capacity showing (scenario_of read) held holds status → IfSome all (λ text. ScenarioEnds capacity showing (scenario_of text) held holds status)
-told_text capacity showing None read held holds status whole told = tt
-told_text capacity showing (Some text) read held holds status whole told = subst (λ (said : Said). ScenarioEnds capacity showing said held holds status) (as_read text read whole) told
-
--- what is told of octets is no fault of a reader
-pub unreported_told : (capacity : ℕ) (said : Said) (fault : Fault) → IsUnreported capacity said fault → Stopped fault ≢ Stopped Read
-unreported_told capacity said fault u is = let same : fault ≡ Read = cc in subst (λ f. IsUnreported capacity said f) same u
 
 pub delivered_told : (held holds : Option (List ℕ)) (found : Finding) (text : List ℕ) (status : Status) → IsDelivered held holds found text status → status ≢ Stopped Read
 delivered_told held holds found text status d is = subst (λ s. IsDelivered held holds found text s) is d

@@ -5,7 +5,7 @@ use Rattle.hsr_engines.specs.Shown.{status_of}
 use Rattle.hsr_engines.specs.declared.fault.Fault.{Fault}
 use Rattle.hsr_engines.specs.declared.fault.Fault.TheVariants.{Read, Write}
 use Rattle.hsr_engines.specs.declared.fault.Status.{Status}
-use Rattle.hsr_engines.specs.declared.fault.Status.TheVariants.{Certified, Fault as Stopped, Doubt}
+use Rattle.hsr_engines.specs.declared.fault.Status.TheVariants.{Certified, Fault as Stopped, Doubt, Open}
 use Rattle.hsr_report.specs.declared.finding.Finding.{Finding}
 
 -- what was found is told by the status, and what is to be shown of it was written
@@ -17,6 +17,7 @@ IsWritten IsShown held holds status = (found : Finding) × (text : List ℕ) × 
 abbrev pub Ends : (Finding → List ℕ → Type 0) → (Fault → Type 0) → Option (List ℕ) → Option (List ℕ) → Status → Type 0
 Ends IsShown IsStopped held holds Certified = IsWritten IsShown held holds Certified
 Ends IsShown IsStopped held holds Doubt = IsWritten IsShown held holds Doubt
+Ends IsShown IsStopped held holds Open = ⊥
 Ends IsShown IsStopped held holds (Stopped Read) = Keeps held holds
 Ends IsShown IsStopped held holds (Stopped Write) = (found : Finding) × (text : List ℕ) × IsShown found text
 Ends IsShown IsStopped held holds (Stopped fault) = IsStopped fault × Keeps held holds

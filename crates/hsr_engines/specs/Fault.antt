@@ -12,7 +12,7 @@ use Rattle.hsr_step.specs.declared.step.DrainFault.TheVariants as drain
 use Rattle.hsr_step.specs.declared.step.WorldFault.TheVariants as world
 use Rattle.hsr_engines.specs.declared.fault.Fault.TheVariants.{Line, Scenario, Step, Fine, Transcript, Check, Read, Write, Memory, Thread, Gate}
 use Rattle.hsr_engines.specs.declared.fault.Status.{Status}
-use Rattle.hsr_engines.specs.declared.fault.Status.TheVariants.{Certified, Fault as Stopped, Doubt}
+use Rattle.hsr_engines.specs.declared.fault.Status.TheVariants.{Certified, Fault as Stopped, Doubt, Open}
 use Rattle.hsr_engines.specs.declared.fault.TranscriptFault.{TranscriptFault}
 use Rattle.hsr_engines.specs.declared.fault.TranscriptFault.TheVariants as transcript
 
@@ -20,6 +20,7 @@ abbrev pub code_of : Status → ℕ
 code_of Certified = 0
 code_of (Stopped fault) = 1
 code_of Doubt = 2
+code_of Open = 2
 
 -- why a text isn't read as a transcript
 abbrev pub transcript_text : TranscriptFault → List ℕ

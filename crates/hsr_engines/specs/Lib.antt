@@ -8,3 +8,4 @@ pub mod Ending
 pub mod ScenarioRun
 pub mod ThreadsRun
 pub mod AuditRun
+pub mod OpenRun

@@ -7,7 +7,7 @@ use Rattle.hsr_node_text.specs.Request.{Asked, request_of}
 use Rattle.hsr_node_text.specs.Reply.{after, counter_line, reply}
 use Rattle.hsr_engines.specs.declared.fault.Fault.TheVariants.{Line, Read, Write, Memory}
 use Rattle.hsr_engines.specs.declared.fault.Status.{Status}
-use Rattle.hsr_engines.specs.declared.fault.Status.TheVariants.{Certified, Fault as Stopped, Doubt}
+use Rattle.hsr_engines.specs.declared.fault.Status.TheVariants.{Certified, Fault as Stopped, Doubt, Open}
 
 -- what is written, and the number of the bad line at which it ends
 pub record Output : Type 0 where
@@ -45,3 +45,4 @@ Ended held holds output (Stopped Read) = IsFront held holds output.text
 Ended held holds output (Stopped Memory) = IsFront held holds output.text
 Ended held holds output (Stopped _) = ⊥
 Ended held holds output Doubt = ⊥
+Ended held holds output Open = ⊥

@@ -13,7 +13,7 @@ use Rattle.hsr_options.specs.declared.chosen.Form.{Form}
 use Rattle.hsr_options.specs.declared.chosen.Form.TheVariants.{Transcript, Report}
 use Rattle.hsr_engines.specs.declared.fault.Fault.TheVariants.{Write}
 use Rattle.hsr_engines.specs.declared.fault.Status.{Status}
-use Rattle.hsr_engines.specs.declared.fault.Status.TheVariants.{Certified, Fault as Stopped, Doubt}
+use Rattle.hsr_engines.specs.declared.fault.Status.TheVariants.{Certified, Fault as Stopped, Doubt, Open}
 
 -- the transcript, or the report with the parts that are asked for
 abbrev pub IsShown : Form → Finished → Finding → List ℕ → Type 0
@@ -29,5 +29,6 @@ status_of (finding.NetworkDoubt doubt) = Doubt
 abbrev pub IsDelivered : Option (List ℕ) → Option (List ℕ) → Finding → List ℕ → Status → Type 0
 IsDelivered held holds found text Certified = (Certified ≡ status_of found) × Appends held holds text
 IsDelivered held holds found text Doubt = (Doubt ≡ status_of found) × Appends held holds text
+IsDelivered held holds found text Open = ⊥
 IsDelivered held holds found text (Stopped Write) = Unit {0}
 IsDelivered held holds found text (Stopped fault) = ⊥

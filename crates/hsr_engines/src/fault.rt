@@ -19,6 +19,8 @@ pub enum Status {
     Fault(Fault),
     /// The run is no proof of delivery.
     Doubt,
+    /// The run can't be closed, and is shown as it stands.
+    Open,
 }
 
 /// Why a run stopped.
@@ -67,7 +69,7 @@ impl Status {
         match self {
             Status::Certified => 0,
             Status::Fault(_) => 1,
-            Status::Doubt => 2,
+            Status::Doubt | Status::Open => 2,
         }
     }
 }

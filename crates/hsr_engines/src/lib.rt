@@ -1,13 +1,14 @@
 //! What the program does: `node`, `run`, `threads` and `audit`, each over a reader and a writer.
 //!
-//! Its modules, in the order to read them: `fault`, `engine`, `text`, `reading`, `notes`, `shown`, `scenario`,
-//! `threads`, `audit`.
+//! Its modules, in the order to read them: `fault`, `engine`, `text`, `reading`, `notes`, `shown`, `open`,
+//! `scenario`, `threads`, `audit`.
 #![tactic(auto)]
 
 mod audit;
 mod engine;
 mod fault;
 mod notes;
+mod open;
 mod reading;
 mod scenario;
 mod shown;

@@ -1,45 +1,65 @@
 //! Scenarios that are run, and shown by transcript or report.
 ghost use Rattle.std.specs.Prelude.{◌≡◌, ◌≢◌, ◌≤◌, IfErr, IfOk, IfSome};
-ghost use Rattle.hsr_world.specs.Lawful.{IsEnded, finished_of};
 ghost use Rattle.hsr_engines.specs.Reading.{scenario_of};
-ghost use Rattle.hsr_engines.specs.ScenarioRun.{IsPlayed, IsReported, IsUnclosed, IsUnplayed, IsUnreported, ScenarioEnds};
+ghost use Rattle.hsr_engines.specs.OpenRun.{IsDeliveredOpen, IsLeftBy, IsOpenOf, IsPlayedOn, IsShownBy, IsShownOfRun, IsUnshown, RunEnds};
+ghost use Rattle.hsr_engines.specs.ScenarioRun.{IsUnplayed};
 ghost use Rattle.hsr_options.specs.Tables.{capacity_of};
-ghost use Rattle.hsr_engines.specs.declared.fault.Fault.TheVariants.{Read as ReadFailed};
+ghost use Rattle.hsr_engines.specs.declared.fault.Fault.TheVariants.{Memory, Read as ReadFailed};
 ghost use Rattle.hsr_engines.specs.declared.fault.Status.TheVariants.{Fault as Stopped};
 
 use crate::fault::{Fault, Status};
 use crate::notes::Notes;
+use crate::open::open_text;
 use crate::reading::scenario_of;
 use crate::shown::{asks_budget, deliver, told};
 use crate::text::read_text;
-use hsr_closing::Closed;
+use hsr_closing::{CheckFault, Closed};
+use hsr_node::Place;
 use hsr_options::{Showing, Table};
 use hsr_playing::play;
 use hsr_report::Finding;
 use hsr_ring::World;
 use hsr_scenario::TEXT_LIMIT;
+use hsr_topology::Topology;
 use std::alloc::Global;
 use std::io::{Read, Write};
+
+/// A scenario that was played: the world to which it leads, and its nodes and links.
+#[derive(Drop)]
+struct Played<const C: usize> {
+    world: World<C>,
+    topology: Topology,
+}
+
+/// What there is of a run: what was found of it, and its text; or the text of one that can't be closed.
+#[derive(Debug, Drop)]
+enum Shown {
+    Closed { finding: Finding, text: Vec<u8> },
+    Open { text: Vec<u8> },
+}
 
 /// The world to which the scenario of a text leads.
 fn played<const C: usize>(
     alloc: Global,
     octets: &[u8],
     notes: &mut Notes,
-) -> Result<World<C>, Fault>
+) -> Result<Played<C>, Fault>
     requires entries { (1 ≤ C) × (C ≤ 65535) }
-    ensures ok { IfOk result (λ w. IsPlayed C (scenario_of octets.now) w) }
+    ensures ok { IfOk result (λ p. IsPlayedOn C (scenario_of octets.now) p.topology.places p.world) }
     ensures err { IfErr result (λ f. IsUnplayed C (scenario_of octets.now) f) }
 {
     let scenario = match scenario_of(alloc, octets) {
         Ok(scenario) => scenario,
         Err(fault) => return Err(fault),
     };
+    let Ok(topology) = scenario.topology.copy() else {
+        return Err(Fault::Memory);
+    };
     let Ok(mut world) = World::<C>::new(alloc, scenario.topology, scenario.capacity) else {
         return Err(Fault::Memory);
     };
     match play(&mut world, scenario.steps.as_slice()) {
-        Ok(()) => Ok(world),
+        Ok(()) => Ok(Played { world, topology }),
         Err((step, fault)) => {
             notes.of_order(alloc, octets, step, &fault, &world);
             Err(Fault::of_step(step, fault))
@@ -47,42 +67,69 @@ fn played<const C: usize>(
     }
 }
 
-/// The finished run that a world is.
-fn closed<const C: usize>(world: World<C>) -> Result<Closed<C>, Fault>
-    ensures ok { IfOk result (λ c. (c ≡ finished_of C world.entry) × IsEnded world.entry) }
-    ensures err { IfErr result (λ f. IsUnclosed C world.entry f) }
+/// Audits a finished run, and forms what is shown of it.
+fn finished<const C: usize>(
+    alloc: Global,
+    octets: &[u8],
+    closed: &Closed<C>,
+    showing: Showing,
+    notes: &mut Notes,
+) -> Result<Shown, Fault>
+    ensures ok { IfOk result (IsShownOfRun showing closed.now) }
+    ensures err { IfErr result (λ f. f ≡ Memory) }
 {
-    match world.close() {
-        Ok(closed) => Ok(closed),
-        Err((_world, fault)) => Err(Fault::of_check(fault)),
+    match told(alloc, closed, showing) {
+        Ok((finding, text)) => {
+            notes.of_run(alloc, octets, closed, finding, asks_budget(showing));
+            Ok(Shown::Closed { finding, text })
+        }
+        Err(fault) => Err(fault),
+    }
+}
+
+/// What there is of a world of these nodes that can't be closed for this reason, where that is to be shown.
+fn left_open<const C: usize>(
+    alloc: Global,
+    world: &World<C>,
+    places: &[Place],
+    shows_open: bool,
+    fault: CheckFault,
+) -> Result<Shown, Fault>
+    ensures ok { IfOk result (λ shown. (shows_open ≡ true) × IsOpenOf C places.now world.now fault shown) }
+    ensures err { IfErr result (IsLeftBy shows_open fault) }
+{
+    match fault {
+        CheckFault::Disagree(_) if shows_open => match open_text(alloc, world, places) {
+            Ok(text) => Ok(Shown::Open { text }),
+            Err(_) => Err(Fault::Memory),
+        },
+        fault => Err(Fault::of_check(fault)),
     }
 }
 
 /// Plays the scenario that octets mean, closes and audits its world, and forms what is shown of it.
+#[tactic(auto, using(crate::proofs::Opening::shown_closed, crate::proofs::Opening::shown_open, crate::proofs::Opening::unshown_unplayed, crate::proofs::Opening::unshown_short, crate::proofs::Opening::unshown_left))]
 fn reported<const C: usize>(
     alloc: Global,
     octets: &[u8],
     showing: Showing,
+    shows_open: bool,
     notes: &mut Notes,
-) -> Result<(Finding, Vec<u8>), Fault>
+) -> Result<Shown, Fault>
     requires entries { (1 ≤ C) × (C ≤ 65535) }
-    ensures ok { IfOk result (λ r. IsReported C showing (scenario_of octets.now) r.0 r.1.items) }
-    ensures err { IfErr result (λ f. IsUnreported C (scenario_of octets.now) f) }
+    ensures ok { IfOk result (IsShownBy C shows_open showing (scenario_of octets.now)) }
+    ensures err { IfErr result (IsUnshown C shows_open (scenario_of octets.now)) }
 {
-    let world = match played::<C>(alloc, octets, notes) {
-        Ok(world) => world,
+    let played = match played::<C>(alloc, octets, notes) {
+        Ok(played) => played,
         Err(fault) => return Err(fault),
     };
-    let closed = match closed(world) {
-        Ok(closed) => closed,
-        Err(fault) => return Err(fault),
-    };
-    match told(alloc, &closed, showing) {
-        Ok((finding, text)) => {
-            notes.of_run(alloc, octets, &closed, finding, asks_budget(showing));
-            Ok((finding, text))
+    match played.world.close() {
+        Ok(closed) => finished(alloc, octets, &closed, showing, notes),
+        Err((world, fault)) => {
+            let places = played.topology.places();
+            left_open(alloc, &world, places, shows_open, fault)
         }
-        Err(fault) => Err(fault),
     }
 }
 
@@ -92,32 +139,45 @@ fn reported_with(
     octets: &[u8],
     table: Table,
     showing: Showing,
+    shows_open: bool,
     notes: &mut Notes,
-) -> Result<(Finding, Vec<u8>), Fault>
-    ensures ok { IfOk result (λ r. IsReported (capacity_of table) showing (scenario_of octets.now) r.0 r.1.items) }
-    ensures err { IfErr result (λ f. IsUnreported (capacity_of table) (scenario_of octets.now) f) }
+) -> Result<Shown, Fault>
+    ensures ok { IfOk result (IsShownBy (capacity_of table) shows_open showing (scenario_of octets.now)) }
+    ensures err { IfErr result (IsUnshown (capacity_of table) shows_open (scenario_of octets.now)) }
 {
     match table {
-        Table::Small => reported::<4>(alloc, octets, showing, notes),
-        Table::Large => reported::<512>(alloc, octets, showing, notes),
+        Table::Small => reported::<4>(alloc, octets, showing, shows_open, notes),
+        Table::Large => reported::<512>(alloc, octets, showing, shows_open, notes),
+    }
+}
+
+/// Writes what there is of a run that can't be closed. It doesn't flush.
+fn deliver_open<W: Write>(writer: &mut W, text: &[u8]) -> Status
+    ensures { IsDeliveredOpen (W.contents writer.old) (W.contents writer.new) text.now result }
+{
+    match writer.write_all(text) {
+        Ok(()) => Status::Open,
+        Err(_) => Status::Fault(Fault::Write),
     }
 }
 
 /// Runs the scenario that octets mean, and writes what is shown of it.
-#[tactic(auto, using(crate::proofs::Telling::unreported_told, crate::proofs::Telling::delivered_told))]
+#[tactic(auto, using(crate::proofs::Opening::closed_told, crate::proofs::Opening::open_told, crate::proofs::Opening::unshown_told, crate::proofs::Opening::unshown_known, crate::proofs::Opening::open_known, crate::proofs::Telling::delivered_told))]
 fn tell<W: Write>(
     alloc: Global,
     octets: &[u8],
     writer: &mut W,
     table: Table,
     showing: Showing,
+    shows_open: bool,
     notes: &mut Notes,
 ) -> Status
-    ensures shown { ScenarioEnds (capacity_of table) showing (scenario_of octets.now) (W.contents writer.old) (W.contents writer.new) result }
+    ensures shown { RunEnds (capacity_of table) shows_open showing (scenario_of octets.now) (W.contents writer.old) (W.contents writer.new) result }
     ensures told { result ≢ Stopped ReadFailed }
 {
-    match reported_with(alloc, octets, table, showing, notes) {
-        Ok((finding, text)) => deliver(writer, finding, text.as_slice()),
+    match reported_with(alloc, octets, table, showing, shows_open, notes) {
+        Ok(Shown::Closed { finding, text }) => deliver(writer, finding, text.as_slice()),
+        Ok(Shown::Open { text }) => deliver_open(writer, text.as_slice()),
         Err(fault) => {
             notes.of_fault(alloc, octets, &fault);
             Status::Fault(fault)
@@ -129,20 +189,31 @@ fn tell<W: Write>(
 /// or its report: the nodes with their counters, the links with what became of their copies, and what the audit found, which
 /// the status tells in both cases. The scenario has at most 16 MiB, and a drain takes at most 1,000,000 steps. The text is formed
 /// whole before it is written, so that after a fault nothing is, but for `Fault::Write`. `Fault::Read` where the reader fails or
-/// takes over 2^40 reads, `Fault::Memory` where room is refused. Where it is asked for, `notes` then has what a fault or a doubt means.
+/// takes over 2^40 reads, `Fault::Memory` where room is refused. A run that can't be closed is `Fault::Check`, or, where `shows_open` asks
+/// for it, `Status::Open`: then the lines of its nodes and links are written as they stand. Where it is asked for, `notes` then has what a
+/// fault or a doubt means.
 pub fn scenario_run<R: Read, W: Write>(
     alloc: Global,
     reader: &mut R,
     writer: &mut W,
     table: Table,
     showing: Showing,
+    shows_open: bool,
     notes: &mut Notes,
 ) -> Status
     ensures { IfSome (R.remaining reader.old) (λ octets.
-        ScenarioEnds (capacity_of table) showing (scenario_of octets) (W.contents writer.old) (W.contents writer.new) result) }
+        RunEnds (capacity_of table) shows_open showing (scenario_of octets) (W.contents writer.old) (W.contents writer.new) result) }
 {
     match read_text(alloc, reader, TEXT_LIMIT) {
-        Ok(octets) => tell(alloc, octets.as_slice(), writer, table, showing, notes),
+        Ok(octets) => tell(
+            alloc,
+            octets.as_slice(),
+            writer,
+            table,
+            showing,
+            shows_open,
+            notes,
+        ),
         Err(fault) => Status::Fault(fault),
     }
 }

@@ -2,7 +2,9 @@
 use Rattle.std.specs.Prelude.{ℕ, zero, suc, Bool, List, [], ◌++◌, length, count_by, codes, Option, Some, None}
 use Rattle.std.specs.Fmt.{decimal}
 use Rattle.hsr_node.specs.Counts.{counters}
+use Rattle.hsr_frame.specs.declared.counters.Counters.{Counters}
 use Rattle.hsr_node.specs.Words.{role_in, role_word}
+use Rattle.hsr_node.specs.declared.role.Role.{Role}
 use Rattle.hsr_link.specs.Rows.{is_lost, is_taken}
 use Rattle.hsr_link.specs.declared.row.Row.{Row}
 use Rattle.hsr_law.specs.Run.{Run, past_of, place_of, rows_of}
@@ -18,8 +20,11 @@ use Rattle.hsr_report.specs.declared.spending.Spending.{Spending}
 use Rattle.hsr_report.specs.declared.spending.Spending.TheVariants.{Within, Late, Crowded}
 
 -- a node: its number, its role, and how often each thing happened there
-unfoldable pub node_line : Run → ℕ → List ℕ
-node_line run k = codes "node " ++ decimal k ++ codes " " ++ role_word (role_in (place_of run k)) ++ codes " " ++ counter_line (counters (place_of run k) (past_of run k))
+unfoldable pub node_text : ℕ → Role → Counters → List ℕ
+node_text k role counted = codes "node " ++ decimal k ++ codes " " ++ role_word role ++ codes " " ++ counter_line counted
+
+abbrev pub node_line : Run → ℕ → List ℕ
+node_line run k = node_text k (role_in (place_of run k)) (counters (place_of run k) (past_of run k))
 
 abbrev pub is_row_taken : Row → Bool
 is_row_taken row = is_taken row.fate
@@ -42,10 +47,12 @@ abbrev pub link_lines : Run → ℕ → List ℕ
 link_lines run zero = []
 link_lines run (suc n) = link_lines run n ++ link_line n (rows_of run n)
 
-unfoldable pub head_line : Run → List ℕ
-head_line run =
-    codes "bench 1 table " ++ decimal run.capacity ++ codes " nodes " ++ decimal (length run.places)
-    ++ codes " links " ++ decimal (length run.links) ++ codes "\n"
+-- the bench: how many entries a table has, and how many nodes and links there are
+unfoldable pub head_text : ℕ → ℕ → ℕ → List ℕ
+head_text capacity nodes links = codes "bench 1 table " ++ decimal capacity ++ codes " nodes " ++ decimal nodes ++ codes " links " ++ decimal links ++ codes "\n"
+
+abbrev pub head_line : Run → List ℕ
+head_line run = head_text run.capacity (length run.places) (length run.links)
 
 -- ---- what was found
 

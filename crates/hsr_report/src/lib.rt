@@ -16,4 +16,4 @@ mod reporting;
 mod spending;
 
 pub use finding::{Finding, found, put_finding};
-pub use reporting::report;
+pub use reporting::{put_head, put_link, put_node, report};

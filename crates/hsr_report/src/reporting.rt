@@ -3,14 +3,14 @@ ghost use Rattle.std.specs.Prelude.{◌≡◌, ◌<◌, ◌++◌, count_by, leng
 ghost use Rattle.hsr_closing.specs.Finished.{IsFinished};
 ghost use Rattle.hsr_law.specs.Run.{place_of};
 ghost use Rattle.hsr_report.specs.Found.{IsReportOf};
-ghost use Rattle.hsr_report.specs.Report.{head_line, is_row_lost, is_row_taken, link_line, link_lines, node_line, node_lines, report};
+ghost use Rattle.hsr_report.specs.Report.{head_line, head_text, is_row_lost, is_row_taken, link_line, link_lines, node_lines, node_text, report};
 
 use crate::finding::{Finding, put_finding};
 use crate::parts::parts;
 use hsr_closing::Closed;
-use hsr_frame::NoMemory;
+use hsr_frame::{Counters, NoMemory};
 use hsr_link::{Fate, Row};
-use hsr_node::Place;
+use hsr_node::Role;
 use hsr_node_text::{put_count, put_counters};
 use hsr_options::Asked;
 use std::alloc::{AllocError, Global};
@@ -35,9 +35,9 @@ fn lost_of(rows: &[Row]) -> usize
     rows.iter().filter(|row| row.fate.is_lost()).count()
 }
 
-/// Puts the line of a link.
+/// Puts the line of a link: its number, and how many copies were put on it, taken and lost.
 #[tactic(auto, unfolding(crate::specs::Report::link_line))]
-fn put_link(text: &mut Vec<u8>, link: usize, rows: &[Row]) -> Result<(), AllocError>
+pub fn put_link(text: &mut Vec<u8>, link: usize, rows: &[Row]) -> Result<(), AllocError>
     ensures { OnOk result (text.new.items ≡ text.old.items ++ link_line link rows.now) }
 {
     put_count(text, b"link ", link as u64)?;
@@ -47,36 +47,46 @@ fn put_link(text: &mut Vec<u8>, link: usize, rows: &[Row]) -> Result<(), AllocEr
     text.extend_from_slice(b"\n")
 }
 
-/// Puts the line of a node.
-#[tactic(auto, unfolding(crate::specs::Report::node_line))]
-fn put_node<const C: usize>(
+/// Puts the line of a node: its number, its role, and how often each thing happened there.
+#[tactic(auto, unfolding(crate::specs::Report::node_text))]
+pub fn put_node(
     text: &mut Vec<u8>,
-    closed: &Closed<C>,
     node: usize,
-    place: &Place,
+    role: Role,
+    counters: &Counters,
 ) -> Result<(), AllocError>
-    requires below { node < length closed.now.run.places }
-    requires place { place.now ≡ place_of closed.now.run node }
-    ensures { OnOk result (text.new.items ≡ text.old.items ++ node_line closed.now.run node) }
+    ensures { OnOk result (text.new.items ≡ text.old.items ++ node_text node role counters.now) }
 {
     put_count(text, b"node ", node as u64)?;
     text.extend_from_slice(b" ")?;
-    text.extend_from_slice(place.role().word().as_bytes())?;
+    text.extend_from_slice(role.word().as_bytes())?;
     text.extend_from_slice(b" ")?;
-    put_counters(text, &closed.counters(node))
+    put_counters(text, counters)
 }
 
-/// Puts the line of the bench.
-#[tactic(auto, unfolding(crate::specs::Report::head_line))]
-fn put_head<const C: usize>(text: &mut Vec<u8>, closed: &Closed<C>) -> Result<(), AllocError>
+/// Puts the line of the bench: how many entries a table has, and how many nodes and links there are.
+#[tactic(auto, unfolding(crate::specs::Report::head_text))]
+pub fn put_head(
+    text: &mut Vec<u8>,
+    capacity: usize,
+    nodes: usize,
+    links: usize,
+) -> Result<(), AllocError>
+    ensures { OnOk result (text.new.items ≡ text.old.items ++ head_text capacity nodes links) }
+{
+    put_count(text, b"bench 1 table ", capacity as u64)?;
+    put_count(text, b" nodes ", nodes as u64)?;
+    put_count(text, b" links ", links as u64)?;
+    text.extend_from_slice(b"\n")
+}
+
+/// Puts the line of the bench of a finished run.
+fn put_first<const C: usize>(text: &mut Vec<u8>, closed: &Closed<C>) -> Result<(), AllocError>
     ensures line { OnOk result (text.new.items ≡ text.old.items ++ head_line closed.now.run) }
     ensures finished { IsFinished closed.now }
 {
     let topology = closed.topology();
-    put_count(text, b"bench 1 table ", C as u64)?;
-    put_count(text, b" nodes ", topology.places().len() as u64)?;
-    put_count(text, b" links ", topology.links().len() as u64)?;
-    text.extend_from_slice(b"\n")
+    put_head(text, C, topology.places().len(), topology.links().len())
 }
 
 /// Puts the line of each node.
@@ -84,7 +94,7 @@ fn put_nodes<const C: usize>(text: &mut Vec<u8>, closed: &Closed<C>) -> Result<(
     ensures { OnOk result (text.new.items ≡ text.old.items ++ node_lines closed.now.run (length closed.now.run.places)) }
 {
     for (node, place) in closed.topology().places().iter().enumerate() {
-        put_node(text, closed, node, place)?;
+        put_node(text, node, place.role(), &closed.counters(node))?;
     }
     Ok(())
 }
@@ -111,7 +121,7 @@ fn report_with<const C: usize>(
     ensures finished { IsFinished closed.now }
 {
     let mut text = Vec::new(alloc);
-    put_head(&mut text, closed)?;
+    put_first(&mut text, closed)?;
     put_nodes(&mut text, closed)?;
     put_links(&mut text, closed)?;
     text.extend_from_slice(parts)?;

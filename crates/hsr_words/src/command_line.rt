@@ -86,8 +86,16 @@ record, `cut-off <node> <place> <receiver>` (no way to this receiver lost no cop
 the node and place of a frame to a Station that its RedBox did not know, or `uncovered` with those of a frame of which
 nothing is certified (a supervision frame of a Station that is joined with a Station).
 
+With --explain, lines on standard error say what a fault or a doubt means, where it is (line and column of the text,
+nodes and ports by their names, moments) and what to do; with --budget also how many entries would be enough. Each begins
+with `explain: `. Neither the report nor the status changes.
+
+With --open a run that cannot be closed (octets were injected, or a copy is still on its way) is shown as it stands: the
+lines of its nodes and links, and `open` as the last line, with status 2. Nothing is audited of it.
+
 Examples: hsr_bench run < scenario.toml
           hsr_bench run --table small --deliveries --needed --budget < scenario.toml
+          hsr_bench run --network --explain < scenario.toml
           hsr_bench run --transcript < scenario.toml | hsr_bench audit";
 
 const THREADS_ABOUT: &str =
@@ -99,7 +107,7 @@ takes a copy, judges it and puts what leaves, and after a step clock each node i
 main thread does the steps, and at a drain and at the end it waits until nothing is on its way. So two
 runs may differ in what came first; the report and the status are of the run that was.
 
-The statuses and flags are as with `run`. `fault: step <i> fine` says that step i is a put, take or judge; then no thread is started. `fault: thread` says that a thread couldn't be started.
+The statuses and flags are as with `run`, without --open. `fault: step <i> fine` says that step i is a put, take or judge; then no thread is started. `fault: thread` says that a thread couldn't be started.
 
 Examples: hsr_bench threads < scenario.toml
           hsr_bench threads --transcript < scenario.toml | hsr_bench audit";
@@ -107,7 +115,7 @@ Examples: hsr_bench threads < scenario.toml
 const AUDIT_ENDS: &str = "\
 The transcript is one that `run --transcript` wrote with a table of the same size; it may be of version 1,
 which tells moments in milliseconds. Each entry is done anew and compared, links and records are checked
-against each other, and the report is that of `run`, with --deliveries, --needed, --budget and --network too.
+against each other, and the report is that of `run`, with --deliveries, --needed, --budget, --network and --explain too.
 
 Status 0: every frame came exactly once to each node that it was for. Status 2: the run gives reason to
 doubt that, named in the last line. Status 1: there is no report, and one line on standard error says
