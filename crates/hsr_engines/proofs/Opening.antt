@@ -42,17 +42,20 @@ shown_closed capacity shows_open showing said places w f (Left text) played ende
 pub shown_open : (capacity : ℕ) (shows_open : Bool) (showing : Showing) (said : Said) (places : List Place) (w : World) (fault : CheckFault) (shown : Shown)
     → IsPlayedOn capacity said places w → IfDisagree fault (λ cause. ¬ IsEnded w) → shows_open ≡ true → IsOpenOf capacity places w fault shown
     → IsShownBy capacity shows_open showing said shown
-shown_open capacity shows_open showing said places w (check.Disagree cause) (Left text) played open asked is = (asked, record {
-  meant = played.meant;
-  means = played.means;
-  world = w;
-  plays = played.plays;
-  open = open;
-  is_text = subst (λ (ps : List Place). IsOpenOf capacity ps w (check.Disagree cause) (Left text)) played.places_are is;
-})
-shown_open capacity shows_open showing said places w (check.Disagree cause) (Closed found text) played open asked is = absurd is
-shown_open capacity shows_open showing said places w check.NoMemory (Closed found text) played open asked is = absurd is
-shown_open capacity shows_open showing said places w check.NoMemory (Left text) played open asked is = absurd is
+shown_open capacity shows_open showing said places w (check.Disagree cause) (Left text) played stays asked is = (
+  asked,
+  record {
+    meant = played.meant;
+    means = played.means;
+    world = w;
+    plays = played.plays;
+    stays_open = stays;
+    is_text = subst (λ (ps : List Place). IsOpenOf capacity ps w (check.Disagree cause) (Left text)) played.places_are is;
+  },
+)
+shown_open capacity shows_open showing said places w (check.Disagree cause) (Closed found text) played stays asked is = absurd is
+shown_open capacity shows_open showing said places w check.NoMemory (Closed found text) played stays asked is = absurd is
+shown_open capacity shows_open showing said places w check.NoMemory (Left text) played stays asked is = absurd is
 
 pub unshown_unplayed : (capacity : ℕ) (shows_open : Bool) (said : Said) (fault : Fault) → IsUnplayed capacity said fault → IsUnshown capacity shows_open said fault
 unshown_unplayed capacity shows_open said (Line n) u = u
@@ -73,19 +76,19 @@ unshown_short capacity shows_open said fault is = subst (IsUnshown capacity show
 pub unshown_left : (capacity : ℕ) (shows_open : Bool) (said : Said) (places : List Place) (w : World) (fault : CheckFault) (left : Fault)
     → IsPlayedOn capacity said places w → IfDisagree fault (λ cause. ¬ IsEnded w) → IfDisagree fault (λ cause. IsOpen (finished_of capacity w).run cause)
     → IsLeftBy shows_open fault left → IsUnshown capacity shows_open said left
-unshown_left capacity shows_open said places w (check.Disagree cause) (Check other) played open first (hidden, same) =
-    (hidden, (w, record { meant = played.meant; means = played.means; plays = played.plays }, open, subst (λ c. IsOpen (finished_of capacity w).run c) (sym same) first))
-unshown_left capacity shows_open said places w fault Memory played open first by = tt
-unshown_left capacity shows_open said places w fault (Line n) played open first by = absurd by
-unshown_left capacity shows_open said places w fault (Scenario f) played open first by = absurd by
-unshown_left capacity shows_open said places w fault (Step n f) played open first by = absurd by
-unshown_left capacity shows_open said places w fault (Fine n) played open first by = absurd by
-unshown_left capacity shows_open said places w fault (Transcript f) played open first by = absurd by
-unshown_left capacity shows_open said places w check.NoMemory (Check other) played open first by = absurd by
-unshown_left capacity shows_open said places w fault Read played open first by = absurd by
-unshown_left capacity shows_open said places w fault Write played open first by = absurd by
-unshown_left capacity shows_open said places w fault Thread played open first by = absurd by
-unshown_left capacity shows_open said places w fault Gate played open first by = absurd by
+unshown_left capacity shows_open said places w (check.Disagree cause) (Check other) played stays first (hidden, same) =
+    (hidden, (w, record { meant = played.meant; means = played.means; plays = played.plays }, stays, subst (λ c. IsOpen (finished_of capacity w).run c) (sym same) first))
+unshown_left capacity shows_open said places w fault Memory played stays first by = tt
+unshown_left capacity shows_open said places w fault (Line n) played stays first by = absurd by
+unshown_left capacity shows_open said places w fault (Scenario f) played stays first by = absurd by
+unshown_left capacity shows_open said places w fault (Step n f) played stays first by = absurd by
+unshown_left capacity shows_open said places w fault (Fine n) played stays first by = absurd by
+unshown_left capacity shows_open said places w fault (Transcript f) played stays first by = absurd by
+unshown_left capacity shows_open said places w check.NoMemory (Check other) played stays first by = absurd by
+unshown_left capacity shows_open said places w fault Read played stays first by = absurd by
+unshown_left capacity shows_open said places w fault Write played stays first by = absurd by
+unshown_left capacity shows_open said places w fault Thread played stays first by = absurd by
+unshown_left capacity shows_open said places w fault Gate played stays first by = absurd by
 
 -- ---- how `run` ends
 

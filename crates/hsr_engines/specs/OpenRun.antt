@@ -56,7 +56,7 @@ pub record IsLeftOpen (capacity : ℕ) (said : Said) (text : List ℕ) : Type 0 
   pub means : said ≡ Ok meant
   pub world : World
   pub plays : Plays capacity meant.steps (first_of meant) world
-  pub open : ¬ IsEnded world
+  pub stays_open : ¬ IsEnded world
   pub is_text : text ≡ open_text capacity meant.topology.places world
 
 -- the scenario is played, and leads to this world, of these nodes

@@ -1,14 +1,14 @@
 //! What the program does: `node`, `run`, `threads` and `audit`, each over a reader and a writer.
 //!
-//! Its modules, in the order to read them: `fault`, `engine`, `text`, `reading`, `notes`, `shown`, `open`,
+//! Its modules, in the order to read them: `fault`, `engine`, `text`, `reading`, `notes`, `shown`, `left`,
 //! `scenario`, `threads`, `audit`.
 #![tactic(auto)]
 
 mod audit;
 mod engine;
 mod fault;
+mod left;
 mod notes;
-mod open;
 mod reading;
 mod scenario;
 mod shown;

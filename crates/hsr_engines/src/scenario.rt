@@ -8,8 +8,8 @@ ghost use Rattle.hsr_engines.specs.declared.fault.Fault.TheVariants.{Memory, Rea
 ghost use Rattle.hsr_engines.specs.declared.fault.Status.TheVariants.{Fault as Stopped};
 
 use crate::fault::{Fault, Status};
+use crate::left::open_text;
 use crate::notes::Notes;
-use crate::open::open_text;
 use crate::reading::scenario_of;
 use crate::shown::{asks_budget, deliver, told};
 use crate::text::read_text;
