@@ -4,6 +4,7 @@
 //! `hearing`, `orders`, `meaning`.
 #![tactic(auto)]
 
+mod changes;
 mod events;
 mod hearing;
 mod lives;

@@ -1,13 +1,15 @@
 //! When the frames of streams are sent.
 ghost use Rattle.std.specs.Prelude.{◌≡◌, ◌++◌, ◌+◌, ◌≤◌, ◌<◌, ◌^◌, min, slice_get, IfOk, OnOk};
 ghost use Rattle.hsr_plan_text.specs.Fallible.{Gives};
-ghost use Rattle.hsr_plan_meaning.specs.Moments.{earlier, end_of, most_sent, next_end, run, runs, sends, sent_by};
+ghost use Rattle.hsr_plan_meaning.specs.Moments.{earlier, end_of, fits, most_sent, next_end, run, runs, sends, sent_by, shortest, starts_in_time};
+ghost use Rattle.hsr_plan_network.specs.Checks.{each_passes};
 
 use crate::occasion::{Happening, Occasion, Sender, Sent};
 use crate::senders::{sources, target};
 use hsr_frame::{Mac, NoMemory};
 use hsr_plan_network::Node;
-use hsr_plan_text::{Key, Refusal, Stream, Timing, What};
+use hsr_plan_payload::payload;
+use hsr_plan_text::{Framing, Key, Kind, Refusal, Stream, Timing, What, Word};
 use std::alloc::Global;
 
 /// The most occasions of a plan.
@@ -146,6 +148,52 @@ fn sent_by(
     Ok(occasions)
 }
 
+/// How many octets the shortest payload of a kind has, in the first frame of a name.
+fn shortest(alloc: Global, kind: Kind, name: &[u8]) -> Result<usize, NoMemory>
+    ensures { IfOk result (λ n. n ≡ shortest kind name.now) }
+{
+    let payload = payload(alloc, kind, 0, name, 0, 0)?;
+    Ok(payload.len())
+}
+
+/// Refuses a size that is below the shortest payload of a name.
+#[tactic(auto, unfolding(crate::specs::Moments::fits))]
+fn check_size(alloc: Global, framing: &Framing, name: &Word) -> Result<(), What>
+    ensures { Gives (λ u. u) result (fits framing.now name.now) }
+{
+    let least = shortest(alloc, framing.kind, name.as_bytes())?;
+    if framing.size == 0 || least <= framing.size {
+        Ok(())
+    } else {
+        Err(What::Refused(Refusal::TooSmall(least)))
+    }
+}
+
+/// Refuses a size that is below the shortest payload of one of these names.
+#[tactic(auto, using(crate::proofs::Lists::fits_step, crate::proofs::Lists::fits_fails))]
+fn check_sizes(alloc: Global, framing: &Framing, names: &[Word]) -> Result<(), What>
+    ensures { Gives (λ u. u) result (each_passes (fits framing.now) names.now) }
+{
+    for name in names.iter() {
+        match check_size(alloc, framing, name) {
+            Ok(()) => {}
+            Err(what) => return Err(what),
+        }
+    }
+    Ok(())
+}
+
+/// Refuses starts of which one doesn't come before the end.
+fn starts_in_time(until: u64, starts: &[u64]) -> Result<(), What>
+    ensures { Gives (λ u. u) result (starts_in_time until starts.now) }
+{
+    if starts.iter().all(|start| *start < until) {
+        Ok(())
+    } else {
+        Err(What::Refused(Refusal::TooLate(Key::Start)))
+    }
+}
+
 /// All frames of the stream with this number.
 pub(crate) fn sends(
     alloc: Global,
@@ -158,7 +206,9 @@ pub(crate) fn sends(
 {
     let dst = target(alloc, nodes, &stream.framing.target)?;
     let senders = sources(alloc, nodes, dst, stream.from.as_slice())?;
+    check_sizes(alloc, &stream.framing, stream.from.as_slice())?;
     let until = end_of(until, &stream.timing)?;
+    starts_in_time(until, stream.timing.starts.as_slice())?;
     let occasions = sent_by(
         alloc,
         number,
