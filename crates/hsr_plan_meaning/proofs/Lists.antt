@@ -20,7 +20,7 @@ use Rattle.hsr_plan_meaning.specs.declared.occasion.Happening.{Happening}
 use Rattle.hsr_plan_meaning.specs.Senders.{source, sources}
 use Rattle.hsr_plan_meaning.specs.Events.{event}
 use Rattle.hsr_plan_meaning.specs.Moments.{fits, sends}
-use Rattle.hsr_plan_meaning.specs.Occasions.{events_from, sends_from}
+use Rattle.hsr_plan_meaning.specs.Occasions.{events_from, room_behind, sends_from}
 use Rattle.hsr_plan_meaning.specs.declared.occasion.Occasion.{Occasion}
 use Rattle.hsr_plan_meaning.specs.declared.occasion.Sender.{Sender}
 
@@ -83,13 +83,13 @@ fits_fails framing = passes_fails (fits framing)
 -- ---- streams
 
 pub sends_step : (nodes : List Node) (until : Option ℕ) (seen : List Occasion) (ss : List Stream) (i : ℕ) (d : Stream) (os : List Occasion) → i < length ss
-    → at_spot (spot.Stream i) (sends nodes until i (get_or ss i d)) ≡ Ok os
+    → at_spot (spot.Stream i) (sends nodes until (room_behind seen) i (get_or ss i d)) ≡ Ok os
     → sends_from nodes until seen i (drop i ss) ≡ sends_from nodes until (seen ++ os) (i + 1) (drop (i + 1) ss)
 sends_step nodes until seen ss i d os h e =
     ap (sends_from nodes until seen i) (drop_more ss i d h) ∙ ap (λ r. r >>= λ os. sends_from nodes until (seen ++ os) (i + 1) (drop (i + 1) ss)) e
 
 pub sends_fail : (nodes : List Node) (until : Option ℕ) (seen : List Occasion) (ss : List Stream) (i : ℕ) (d : Stream) (e : PlanFault) (whole : Result (List Occasion) PlanFault) → i < length ss
-    → sends_from nodes until seen i (drop i ss) ≡ whole → FailsAt e e.what (at_spot (spot.Stream i) (sends nodes until i (get_or ss i d))) → FailsAt e e.what whole
+    → sends_from nodes until seen i (drop i ss) ≡ whole → FailsAt e e.what (at_spot (spot.Stream i) (sends nodes until (room_behind seen) i (get_or ss i d))) → FailsAt e e.what whole
 sends_fail nodes until seen ss i d e whole h same f =
     subst (FailsAt e e.what) (sym (ap (sends_from nodes until seen i) (drop_more ss i d h)) ∙ same)
-    (stays_at e e.what (at_spot (spot.Stream i) (sends nodes until i (get_or ss i d))) (λ os. sends_from nodes until (seen ++ os) (i + 1) (drop (i + 1) ss)) f)
+    (stays_at e e.what (at_spot (spot.Stream i) (sends nodes until (room_behind seen) i (get_or ss i d))) (λ os. sends_from nodes until (seen ++ os) (i + 1) (drop (i + 1) ss)) f)

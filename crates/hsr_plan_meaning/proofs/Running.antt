@@ -31,6 +31,12 @@ bounded n k x gap timing until most sent h =
 shorter : (p bound most : ℕ) → most ≤ bound → min (min p bound) most ≡ min p most
 shorter p bound most h = omega arith
 
+-- where one is left, there is one before the end
+pub run_some : (most k at gap : ℕ) (timing : Timing) (until : ℕ) (sent : Sent) → k < most → at < until → 1 ≤ length (run (most - k) k at gap timing until sent)
+run_some most k at gap timing until sent h now =
+    let n : most - k ≡ suc (most - (k + 1)) = omega arith in
+    rw n (rw (next (most - (k + 1)) k at gap timing until sent now) (omega arith))
+
 -- a frame joins those before it
 pub run_step : (seen : List Occasion) (most k at gap : ℕ) (timing : Timing) (until : ℕ) (sent : Sent) (later longer bound : ℕ) → k < most → at < until → until ≤ bound → timing.most ≤ bound
     → later ≡ min (at + gap) bound → longer ≡ min (min (gap * timing.grow) bound) timing.most

@@ -1,5 +1,5 @@
 -- All that happens in a plan, moment by moment.
-use Rattle.std.specs.Prelude.{ℕ, ◌+◌, ◌^◌, nat_le, ⊤, List, [], ◌∷◌, ◌++◌, length, Option, Result, Ok, Err, if◌then◌else◌}
+use Rattle.std.specs.Prelude.{ℕ, ◌+◌, ◌-◌, ◌^◌, nat_le, ⊤, List, [], ◌∷◌, ◌++◌, length, Option, Result, Ok, Err, if◌then◌else◌}
 use Rattle.hsr_plan_text.specs.Fallible.{◌>>=◌, at_spot}
 use Rattle.hsr_plan_text.specs.Plan.{Plan, Stream}
 use Rattle.hsr_plan_text.specs.declared.fault.Key.TheVariants as key
@@ -32,10 +32,14 @@ events_in plan nodes links =
     at_spot spot.Top (few_events plan.events) >>= λ _. events_from plan.outline.until nodes links [] plan.events
     >>= λ events. each_felt events 0 events >>= λ _. Ok events
 
--- the frames of streams that follow i others
+-- how many more occasions there may be
+abbrev pub room_behind : List Occasion → ℕ
+room_behind seen = 2 ^ 20 - length seen
+
+-- the frames of streams that follow i others, as many as there may be
 abbrev pub sends_from : List Node → Option ℕ → List Occasion → ℕ → List Stream → Result (List Occasion) PlanFault
 sends_from nodes until seen i [] = Ok seen
-sends_from nodes until seen i (s ∷ ss) = at_spot (spot.Stream i) (sends nodes until i s) >>= λ os. sends_from nodes until (seen ++ os) (i + 1) ss
+sends_from nodes until seen i (s ∷ ss) = at_spot (spot.Stream i) (sends nodes until (room_behind seen) i s) >>= λ os. sends_from nodes until (seen ++ os) (i + 1) ss
 
 abbrev pub events_and_lives : Plan → List Node → List (List End) → Result (List Occasion) PlanFault
 events_and_lives plan nodes links =
@@ -47,4 +51,4 @@ not_too_many all = if nat_le (length all) (2 ^ 20) then Ok all else Err (record 
 -- events, supervision, streams: in this order they come at one moment; at most 2^20 of all
 abbrev pub occasions : Plan → List Node → List (List End) → Result (List Occasion) PlanFault
 occasions plan nodes links =
-    events_and_lives plan nodes links >>= λ first. sends_from nodes plan.outline.until first 0 plan.streams >>= not_too_many
+    events_and_lives plan nodes links >>= not_too_many >>= λ first. sends_from nodes plan.outline.until first 0 plan.streams

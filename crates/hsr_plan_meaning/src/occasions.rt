@@ -5,7 +5,7 @@ ghost use Rattle.hsr_plan_text.specs.declared.fault.Spot.TheVariants as spot;
 ghost use Rattle.hsr_plan_text.specs.declared.fault.What.TheVariants.{NoMemory as NoRoom};
 ghost use Rattle.hsr_plan_meaning.specs.Events.{event};
 ghost use Rattle.hsr_plan_meaning.specs.Moments.{lives, sends};
-ghost use Rattle.hsr_plan_meaning.specs.Occasions.{events_and_lives, events_from, events_in, few_events, not_too_many, occasions, sends_from};
+ghost use Rattle.hsr_plan_meaning.specs.Occasions.{events_and_lives, events_from, events_in, few_events, not_too_many, occasions, room_behind, sends_from};
 
 use crate::changes::each_felt;
 use crate::events::event;
@@ -82,21 +82,29 @@ fn events(
     Ok(occasions)
 }
 
-/// All frames of the stream with this number.
+/// All frames of the stream with this number, if there is room for them.
 #[tactic(auto, using(hsr_plan_text::proofs::Lists::spotted))]
 fn sends_at(
     alloc: Global,
     nodes: &[Node],
     until: Option<u64>,
+    room: usize,
     number: usize,
     stream: &Stream,
 ) -> Result<Vec<Occasion>, PlanFault>
-    ensures { GivesAt (λ v. v.items) result (at_spot (spot.Stream number) (sends nodes.now until number stream.now)) }
+    ensures { GivesAt (λ v. v.items) result (at_spot (spot.Stream number) (sends nodes.now until room number stream.now)) }
 {
     at_spot(
         Spot::Stream(number),
-        sends(alloc, nodes, until, number, stream),
+        sends(alloc, nodes, until, room, number, stream),
     )
+}
+
+/// How many more occasions there may be.
+fn room_behind(occasions: &[Occasion]) -> usize
+    ensures { result ≡ room_behind occasions.now }
+{
+    MOST.saturating_sub(occasions.len())
 }
 
 /// The frames of all streams, behind other occasions.
@@ -112,7 +120,8 @@ fn add_sends(
 {
     let mut occasions = first;
     for (number, stream) in streams.iter().enumerate() {
-        match sends_at(alloc, nodes, until, number, stream) {
+        let room = room_behind(occasions.as_slice());
+        match sends_at(alloc, nodes, until, room, number, stream) {
             Ok(mut more) => {
                 let spot = Spot::Stream(number);
                 occasions.append(&mut more).or(Err(no_memory_at(spot)))?;
@@ -192,8 +201,7 @@ pub(crate) fn occasions(
 ) -> Result<Vec<Occasion>, PlanFault>
     ensures { GivesAt (λ v. v.items) result (occasions plan.now nodes.now links.now) }
 {
-    let first = events_and_lives(alloc, plan, nodes, links)?;
+    let first = not_too_many(events_and_lives(alloc, plan, nodes, links)?)?;
     let until = plan.outline.until;
-    let all = add_sends(alloc, first, nodes, until, plan.streams.as_slice())?;
-    not_too_many(all)
+    add_sends(alloc, first, nodes, until, plan.streams.as_slice())
 }

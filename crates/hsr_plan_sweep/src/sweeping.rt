@@ -1,7 +1,7 @@
 //! The sweep of a plan, over a reader and two writers.
 ghost use Rattle.std.specs.Prelude.{◌≡◌, false, IfErr, IfOk, IfSome, IsOk};
 ghost use Rattle.hsr_plan_sweep.specs.Lines.{sweep_text};
-ghost use Rattle.hsr_plan_sweep.specs.Refusals.{IsKnown, IsUnsweepable, IsUnswept};
+ghost use Rattle.hsr_plan_sweep.specs.Refusals.{IsKnown, IsUnsweepable, IsUnswept, IsUnsweptFrom};
 ghost use Rattle.hsr_plan_sweep.specs.Swept.{IsSwept, SweepEnds, TellsSweep};
 
 use crate::lines::lines;
@@ -81,12 +81,16 @@ fn swept_in_time<E: Write>(
     errors: &mut E,
 ) -> Result<Vec<u8>, Line>
     ensures told { IfOk result (λ lines. TellsSweep plan at lines.items) }
+    ensures none { IfErr result (λ line. IsOk line → IsUnsweptFrom plan at) }
     ensures hidden { is_shown ≡ false → E.contents errors.new ≡ E.contents errors.old }
 {
-    if at > plan.outline.until.unwrap_or(u64::MAX) {
-        return Err(line_of(alloc, text, &PlanTrouble::Plan(behind_the_end())));
+    match plan.outline.until {
+        Some(until) if until < at => {
+            let trouble = PlanTrouble::Plan(behind_the_end());
+            Err(line_of(alloc, text, &trouble))
+        }
+        _ => swept_plan(alloc, text, plan, at, is_shown, errors),
     }
-    swept_plan(alloc, text, plan, at, is_shown, errors)
 }
 
 /// The lines of the sweep of what octets say as a plan, or the line of what is wrong.
