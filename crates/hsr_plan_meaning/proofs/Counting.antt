@@ -32,11 +32,11 @@ one_more k n = omega arith
 
 -- ---- frames from one start on
 
-pub run_step : (most k at gap : ℕ) (timing : Timing) (until : ℕ) (sent : Sent) (later longer bound : ℕ) → k < most → at < until → until ≤ bound → timing.most ≤ bound
-    → later ≡ min (at + gap) bound → longer ≡ min (min (gap * timing.grow) bound) timing.most
+pub run_step : (most k at gap : ℕ) (timing : Timing) (until : ℕ) (sent : Sent) (later longer bound : ℕ) → k < most → at < until → until ≤ bound
+    → later ≡ min (at + gap) bound → longer ≡ min (gap * timing.grow) timing.most
     → k + length (run (most - k) k at gap timing until sent) ≡ (k + 1) + length (run (most - (k + 1)) (k + 1) later longer timing until sent)
-run_step most k at gap timing until sent later longer bound h now within short e f =
-    ap (λ xs. k + length xs) (listed.run_step [] most k at gap timing until sent later longer bound h now within short e f)
+run_step most k at gap timing until sent later longer bound h now within e f =
+    ap (λ xs. k + length xs) (listed.run_step [] most k at gap timing until sent later longer bound h now within e f)
     ∙ one_more k (length (run (most - (k + 1)) (k + 1) later longer timing until sent))
 
 pub run_stop : (n k at gap : ℕ) (timing : Timing) (until : ℕ) (sent : Sent) → until ≤ at → k + length (run n k at gap timing until sent) ≡ k

@@ -1,5 +1,5 @@
 //! When the frames of streams are sent.
-ghost use Rattle.std.specs.Prelude.{◌≡◌, ◌++◌, ◌+◌, ◌≤◌, ◌<◌, ◌^◌, min, nat_le, length, slice_get, IfOk, OnOk};
+ghost use Rattle.std.specs.Prelude.{◌≡◌, ◌++◌, ◌+◌, ◌*◌, ◌≤◌, ◌<◌, ◌^◌, min, nat_le, length, slice_get, IfOk, OnOk};
 ghost use Rattle.hsr_plan_text.specs.Fallible.{Gives};
 ghost use Rattle.hsr_plan_meaning.specs.Moments.{earlier, end_of, fits, left, most_sent, next_end, run, runs, sends, sent_by, shortest, starts_in_time};
 ghost use Rattle.hsr_plan_network.specs.Checks.{each_passes, unless_held};
@@ -67,6 +67,13 @@ fn first(stream: usize, place: usize, sender: Sender, dst: Mac) -> Sent
     }
 }
 
+/// The gap behind this one.
+fn next_gap(gap: u64, timing: &Timing) -> u64
+    ensures { result ≡ min (gap * timing.now.grow) timing.now.most }
+{
+    gap.saturating_mul(timing.grow).min(timing.most)
+}
+
 // ---- how many there are
 
 /// How much room is left behind so many, if there is as much.
@@ -102,7 +109,7 @@ fn left_by_run(
             return None;
         }
         at = at.saturating_add(gap);
-        gap = gap.saturating_mul(timing.grow).min(timing.most);
+        gap = next_gap(gap, timing);
     }
     left(room, most)
 }
@@ -203,7 +210,7 @@ fn add_run(
         let what = Happening::Send(sent.with_count(count));
         occasions.push(Occasion { at, what })?;
         at = at.saturating_add(gap);
-        gap = gap.saturating_mul(timing.grow).min(timing.most);
+        gap = next_gap(gap, timing);
     }
     Ok(())
 }
