@@ -48,7 +48,7 @@ fn in_list(spot: Spot, word: &[u8], at: usize) -> Option<Misplaced> {
 
 /// The key of the top that a fault at a place is about, and that stands below a header: a word that a stream or an event doesn't have, or
 /// what is no ring, no stations, no address and no mode.
-pub(crate) fn misplaced(source: Source<'_>, fault: &PlanFault, at: usize) -> Option<Misplaced> {
+pub(crate) fn out_of_place(source: Source<'_>, fault: &PlanFault, at: usize) -> Option<Misplaced> {
     match &fault.what {
         What::Unknown(word) => in_list(fault.spot, word.as_bytes(), at),
         What::WrongKind(key) | What::BadValue(key) | What::BadName(key, _) => match key {

@@ -5,7 +5,7 @@ ghost use Rattle.hsr_plan_fault.specs.Line.{IsLine};
 use crate::keys::{Source, key_in, member_at, name_again, name_in, name_under, table_at, top_key};
 use crate::lexing::bare;
 use crate::line::fault_line;
-use crate::misplaced::{Misplaced, misplaced};
+use crate::misplaced::{Misplaced, out_of_place};
 use crate::refusals::{put_refusal, put_word};
 use crate::text::{put, put_no_toml, put_place};
 use crate::wiring::reason_of;
@@ -259,7 +259,7 @@ fn put_fault(
         bare: bare.as_slice(),
     };
     let place = place_of(source, fault);
-    if let Some(found) = misplaced(source, fault, place) {
+    if let Some(found) = out_of_place(source, fault, place) {
         return put_misplaced(line, source.text, found);
     }
     put_place(line, source.text, place)?;
