@@ -16,6 +16,7 @@ use Rattle.hsr_plan_text.specs.declared.plan.Framing.{Framing}
 use Rattle.hsr_plan_network.proofs.Passing.{passes_fails, passes_step}
 use Rattle.hsr_plan_network.specs.Checks.{each_passes, unless_held}
 use Rattle.hsr_plan_meaning.specs.Changes.{each_felt, idle_key, is_felt, last_before, last_of, later}
+use Rattle.hsr_plan_meaning.specs.declared.changes.Last.{Last}
 use Rattle.hsr_plan_meaning.specs.declared.occasion.Happening.{Happening}
 use Rattle.hsr_plan_meaning.specs.Senders.{source, sources}
 use Rattle.hsr_plan_meaning.specs.Events.{event}
@@ -52,7 +53,7 @@ events_fail until nodes links seen es i d e whole h same f =
 
 -- ---- events that change something
 
-pub last_step : (now : ℕ) (too : Bool) (w : Happening) (last : Option Occasion) (os : List Occasion) (i : ℕ) (d : Occasion) → i < length os
+pub last_step : (now : ℕ) (too : Bool) (w : Happening) (last : Option Last) (os : List Occasion) (i : ℕ) (d : Occasion) → i < length os
     → last_of now too w last (drop i os) ≡ last_of now too w (later now too w last (get_or os i d)) (drop (i + 1) os)
 last_step now too w last os i d h = ap (last_of now too w last) (drop_more os i d h)
 
