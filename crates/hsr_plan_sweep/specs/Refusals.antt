@@ -4,7 +4,7 @@
 --     IsUnswept      nothing is counted of a plan, or of one in which a link or a node is off
 --     IsUnsweptFrom  a moment is behind the end of a plan, or nothing is counted so
 --     IsUnsweepable  nothing is counted of what octets say as a plan
-use Rattle.std.specs.Prelude.{ℕ, ◌≡◌, ◌⊎◌, ◌<◌, ⊤, List, length, Option, Some, None, Result, Ok, Err}
+use Rattle.std.specs.Prelude.{ℕ, ◌≡◌, ◌⊎◌, ◌<◌, nat_lt, Bool, true, false, ⊤, List, length, Option, Some, None, Result, Ok, Err}
 use Rattle.std.specs.Str.{IsUtf8}
 use Rattle.hsr_step.specs.declared.step.DrainFault.TheVariants.{World}
 use Rattle.hsr_step.specs.declared.step.WorldFault.TheVariants as world
@@ -67,12 +67,12 @@ abbrev pub IsUnswept : Plan → ℕ → Type 0
 IsUnswept plan at = IsUncounted plan ⊎ IsUncountedOff plan at
 
 -- a moment is behind the end, where there is one
-abbrev pub IsBehind : Option ℕ → ℕ → Type 0
-IsBehind None at = ⊥
-IsBehind (Some until) at = until < at
+abbrev pub is_behind : Option ℕ → ℕ → Bool
+is_behind None at = false
+is_behind (Some until) at = nat_lt until at
 
 abbrev pub IsUnsweptFrom : Plan → ℕ → Type 0
-IsUnsweptFrom plan at = IsBehind plan.outline.until at ⊎ IsUnswept plan at
+IsUnsweptFrom plan at = (is_behind plan.outline.until at ≡ true) ⊎ IsUnswept plan at
 
 -- ---- texts
 

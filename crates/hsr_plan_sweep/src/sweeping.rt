@@ -1,7 +1,7 @@
 //! The sweep of a plan, over a reader and two writers.
 ghost use Rattle.std.specs.Prelude.{◌≡◌, false, IfErr, IfOk, IfSome, IsOk};
 ghost use Rattle.hsr_plan_sweep.specs.Lines.{sweep_text};
-ghost use Rattle.hsr_plan_sweep.specs.Refusals.{IsKnown, IsUnsweepable, IsUnswept, IsUnsweptFrom};
+ghost use Rattle.hsr_plan_sweep.specs.Refusals.{IsKnown, IsUnsweepable, IsUnswept, IsUnsweptFrom, is_behind};
 ghost use Rattle.hsr_plan_sweep.specs.Swept.{IsSwept, SweepEnds, TellsSweep};
 
 use crate::lines::lines;
@@ -27,6 +27,16 @@ fn line_of_trouble(alloc: Global, text: &str, trouble: &Trouble) -> Line
             alloc,
             "fault: plan 1:1 a run of the plan doesn't end, or refuses a step: run its scenario",
         ),
+    }
+}
+
+/// Whether a moment is behind the end, where there is one.
+fn is_behind(until: Option<u64>, at: u64) -> bool
+    ensures { result ≡ is_behind until at }
+{
+    match until {
+        None => false,
+        Some(until) => until < at,
     }
 }
 
@@ -84,13 +94,11 @@ fn swept_in_time<E: Write>(
     ensures none { IfErr result (λ line. IsOk line → IsUnsweptFrom plan at) }
     ensures hidden { is_shown ≡ false → E.contents errors.new ≡ E.contents errors.old }
 {
-    match plan.outline.until {
-        Some(until) if until < at => {
-            let trouble = PlanTrouble::Plan(behind_the_end());
-            Err(line_of(alloc, text, &trouble))
-        }
-        _ => swept_plan(alloc, text, plan, at, is_shown, errors),
+    if is_behind(plan.outline.until, at) {
+        let trouble = PlanTrouble::Plan(behind_the_end());
+        return Err(line_of(alloc, text, &trouble));
     }
+    swept_plan(alloc, text, plan, at, is_shown, errors)
 }
 
 /// The lines of the sweep of what octets say as a plan, or the line of what is wrong.
