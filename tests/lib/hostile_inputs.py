@@ -47,3 +47,28 @@ def many_steps():
 def lines(size):
     """So many octets of lines for `node`."""
     return (b"age 0\n" * (size // 6 + 1))[:size]
+
+
+# ---- plans
+
+
+def large_ring():
+    return ("ring = [" + ", ".join(f'"n{number}"' for number in range(50_000)) + "]\n").encode()
+
+
+def many_rings():
+    return ("[rings]\n" + "".join(f'r{number} = ["a{number}", "b{number}"]\n' for number in range(100_000))).encode()
+
+
+def plan_of(streams):
+    """A plan of two nodes that ends late, and its streams from the fourth line on, each of as many frames as there is time for."""
+    return ('ring = ["a", "b"]\nuntil_us = 1099511627776\nlife_ms = 0\n' + "".join(f'[[stream]]\n{stream}to = "01-0C-CD-01-00-01"\ntype = 1\n' for stream in streams)).encode()
+
+
+def many_senders(count):
+    return plan_of(["from = [" + ", ".join(['"a"'] * count) + "]\nevery_us = 1\n"])
+
+
+def many_streams():
+    """Each but the first sends too much by itself; the first sends once."""
+    return plan_of(['from = "a"\nevery_us = 1\ncount = 1\n'] + ['from = "a"\nevery_us = 1\n'] * 2000)

@@ -55,11 +55,17 @@ def last_line(*files):
     return said[:100]
 
 
+def command_of(setting, words):
+    """A command line of the bench, or of the program by whose name the words begin."""
+    name, rest = (words[0], words[1:]) if words[0] in setting.programs else ("hsr_bench", words)
+    return [setting.programs[name], *rest]
+
+
 def ended(setting, words, given):
     """The status and last line of a run in its bounds; nothing where it doesn't end."""
     room = ROOM_OF_THREADS if words[0] == "threads" else ROOM
     with opened(setting.work, given) as source, tempfile.TemporaryFile(dir=setting.work) as output, tempfile.TemporaryFile(dir=setting.work) as error:
-        command = [setting.programs["hsr_bench"], *words]
+        command = command_of(setting, words)
         process = subprocess.Popen(command, stdin=source, stdout=output, stderr=error, cwd=ROOT, preexec_fn=lambda: bounded(room))
         return (process.returncode, last_line(output, error)) if wait(process, SECONDS) else (None, "")
 
@@ -92,6 +98,11 @@ def hurled(name, text=NO_TEXT):
 def both(name, status, last):
     """A scenario by both commands that play one."""
     return [(name, [command], status, last) for command in ("run", "threads")]
+
+
+def planned(name, said):
+    """What is no plan, with and without a sweep."""
+    return [(name, ["hsr_plan", *words], 1, f"fault: plan {said}"[:100]) for words in ([], ["sweep"])]
 
 
 def transcript_of_many(setting):
@@ -133,6 +144,19 @@ def jobs_of_large_texts():
     ]
 
 
+def jobs_of_plans():
+    large = "no network: over 64 nodes, each RedBox with its Station two of them"
+    senders = "bad value of from: a name, or a list of 1 to 4096 names"
+    sends = "more than 1048576 sends, supervision frames and events: an earlier until_us, or fewer streams"
+    return [
+        Job(try_rows, (planned("a ring of 50,000 names", f"1:1 {large}"), inputs.large_ring), 2),
+        Job(try_rows, (planned("100,000 rings", f"1:2 {large}"), inputs.many_rings), 2),
+        Job(try_rows, (planned("a million senders", f"5:1 {senders}"), inputs.many_senders, 1_000_000), 4),
+        Job(try_rows, (planned("4096 senders of a million frames", f"4:3 {sends}"), inputs.many_senders, 4096), 2),
+        Job(try_rows, (planned("2000 streams of a million frames", f"10:3 {sends}"), inputs.many_streams), 2),
+    ]
+
+
 def jobs(setting):
     folder = [("a folder as input", [command], 1, "fault: read") for command in ("node", "run", "threads", "audit")]
-    return jobs_of_no_text() + jobs_of_large_texts() + [Job(try_rows, (folder, same, str(ROOT)), 1)]
+    return jobs_of_no_text() + jobs_of_large_texts() + jobs_of_plans() + [Job(try_rows, (folder, same, str(ROOT)), 1)]

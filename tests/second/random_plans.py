@@ -32,6 +32,7 @@ PLANNER = BENCH = None
 EACH = 20  # of so many plans one is swept
 GROUP = "01-0C-CD-01-00-01"
 TYPES = {"goose": 0x88B8, "sv": 0x88BA}
+SHORTEST = {"goose": lambda name: 75 + 3 * len(name), "sv": lambda name: 98 + len(name)}  # octets of a sender's first frame, for names to 20 octets
 ENDLESS = 1 << 41
 TABLES = {"small": 4, "large": 512}
 
@@ -54,13 +55,15 @@ def stream_of(chance, senders, targets):
     said["to"] = chance.choice([GROUP, GROUP, chance.choice(targets)])
     said["type"] = chance.choice(["goose", "sv", 0x88B5, 0x0800])
     said["every_us"] = chance.choice([100, 250, 1000, 3000])
-    for key, values in (("size", [0, 4, 46, 120]), ("vlan", [0, 10, 4095]), ("priority", [0, 4, 7]), ("grow", [1, 2, 3]), ("most_us", [50, 1000, 4000])):
+    for key, values in (("size", [0, 4, 46, 120, 140]), ("vlan", [0, 10, 4095]), ("priority", [0, 4, 7]), ("grow", [1, 2, 3]), ("most_us", [50, 1000, 4000])):
         if chance.random() < 0.3:
             said[key] = chance.choice(values)
     if chance.random() < 0.5:
         said["start_us"] = chance.choice([chance.randint(0, 5000), sorted(chance.randint(0, 9000) for _ in range(chance.randint(1, 3)))])
     if chance.random() < 0.5:
-        said["count"] = chance.randint(0, 6)
+        said["count"] = chance.randint(1, 6)
+    if chance.random() < 0.03:
+        said |= chance.choice([{"start_us": []}, {"start_us": [3, 2]}, {"count": 0}, {"from": []}])
     return said
 
 
@@ -71,8 +74,21 @@ def event_of(chance, rings, redboxes):
     if redboxes and chance.random() < 0.3:
         box = chance.choice(list(redboxes))
         ends = [box, f"{box}-sans"]
-    key = chance.choice(["cut", "mend", "off", "on"])
-    return {"at_us": chance.choice([0, 1000, chance.randint(0, 9000)]), key: ends if key in ("cut", "mend") else chance.choice(ends)}
+    key = chance.choice(["cut", "off"])
+    return {"at_us": chance.choice([0, 1000, chance.randint(0, 9000)]), key: ends if key == "cut" else chance.choice(ends)}
+
+
+def events_of(chance, rings, redboxes, until):
+    """Events, most of them in time; some cuts are mended, and some nodes that are off set on, mostly later."""
+    events = []
+    for _ in range(chance.choice([0, 0, 1, 3])):
+        event = event_of(chance, rings, redboxes)
+        event["at_us"] = min(event["at_us"], chance.choice([until] * 9 + [9000]))
+        back = {"at_us": chance.choice([event["at_us"], until, chance.randint(event["at_us"], max(until, event["at_us"]))])}
+        back |= {"mend": event["cut"]} if "cut" in event else {"on": event["off"]}
+        events += chance.choice([[event], [event], [event, back], [event, back], [event, back], [back, event]])
+    chance.random() < 0.5 and chance.shuffle(events)
+    return events
 
 
 def random_plan(chance):
@@ -87,14 +103,20 @@ def random_plan(chance):
     if chance.random() < 0.3:
         said["capacity"] = chance.choice([1, 2, 5])
     said["streams"] = [stream_of(chance, senders, senders) for _ in range(chance.randint(0, 3))] if senders else []
-    said["events"] = [event_of(chance, rings, redboxes) for _ in range(chance.choice([0, 0, 1, 3]))]
+    said["events"] = events_of(chance, rings, redboxes, said["until_us"])
+    for stream in said["streams"]:
+        if chance.random() < 0.95:  # most starts come in time
+            starts = stream.get("start_us", 0)
+            stream["start_us"] = [at for at in dict.fromkeys(starts) if at < said["until_us"]] or 0 if isinstance(starts, list) else min(starts, said["until_us"] - 1)
+        if stream["type"] in SHORTEST and stream.get("size", 1500) < 120 and chance.random() < 0.95:  # most sizes are enough
+            del stream["size"]
     said["tables"] = {"redbox": redboxes} if redboxes else {}
     if len(rings) > 1:
         said["tables"]["rings"] = {f"k{ring}": names for ring, names in enumerate(rings)}
     if senders and chance.random() < 0.2:
         # (two given addresses that are the same are a fault: plans/faults)
         given = zip(chance.sample(senders, min(2, len(senders))), chance.sample(range(1, 5), 2))
-        said["tables"]["address"] = {name: f"02-00-00-00-01-{last:02X}" for name, last in given}
+        said["tables"]["address"] = {name: f"02-00-00-00-{chance.choice([1, 9, 9, 9]):02X}-{last:02X}" for name, last in given}
     if chance.random() < 0.2:
         said["tables"]["mode"] = {name: chance.choice("HNU") for name in chance.sample(alone, min(1, len(alone)))}
     if chance.random() < 0.1:  # a name that isn't there, or one that can't do this
@@ -154,12 +176,46 @@ class Meaning:
         known = [name for name in self.names if name not in self.couplers] + [name for box in self.boxes for name in self.redboxes[box]]
         if any(len({*map(self.mac, names)}) < len(names) for names in self.redboxes.values()):
             yield "no network"
+        given = self.plan.get("address", {})
+        yield from (f"the address of {name} is another's:" for name in given if any(other != name and self.mac(other) == given[name] for other in known))
+        yield from self.reasons_of_events()
         for stream in self.plan.get("stream", []):
             target = stream["to"]
-            yield from (f"unknown name {name}:" for name in [*self.senders(stream), target] if name not in known and name != GROUP)
+            yield from (f"unknown name {name}:" for name in [*self.senders(stream), target] if name not in [*known, *self.couplers, GROUP])
+            yield from (f"{name} has no address:" for name in [*self.senders(stream), target] if name in self.couplers)
+            yield from self.reasons_of_stream(stream)
             for name in self.senders(stream):
                 if target in known and name in known and self.mac(target) in map(self.mac, self.redboxes.get(self.behind(name), [name])):
                     yield f"{name} sends to itself"
+
+    def reasons_of_stream(self, stream):
+        """Why a stream may send less than it seems to say."""
+        starts = self.starts(stream)
+        if not starts or any(later <= earlier for earlier, later in zip(starts, starts[1:])):
+            yield "bad value of start_us:"
+        yield from (f"bad value of {key}:" for key in ("count", "from") if stream.get(key) in (0, []))
+        end = min(end for end in (self.until, stream.get("until_us"), ENDLESS) if end is not None)
+        if any(start >= end for start in starts):
+            yield "a start at or behind the end:"
+        if stream["type"] in SHORTEST and stream.get("size", 1500) == 0:
+            yield "bad value of size:"
+        elif stream["type"] in SHORTEST and any(SHORTEST[stream["type"]](name) > stream.get("size", 1500) for name in self.senders(stream)):
+            yield "a size below the shortest payload of this type:"
+
+    def reasons_of_events(self):
+        """Why an event may change nothing: what comes last before it, of those about its link or node, doesn't cut it or put it off."""
+        down = set()
+        for event in sorted(self.plan.get("event", []), key=lambda event: event["at_us"]):
+            if self.until is not None and event["at_us"] > self.until:
+                yield "an event behind the end of the plan:"
+            what = next((tuple(sorted(event[key])) for key in ("cut", "mend") if key in event), None) or event.get("off") or event.get("on")
+            if ("mend" in event or "on" in event) and what not in down:
+                yield "this changes nothing:"
+            (down.add if "cut" in event or "off" in event else down.discard)(what)
+
+    def starts(self, stream):
+        starts = stream.get("start_us", 0)
+        return starts if isinstance(starts, list) else [starts]
 
     def ends(self):
         """The links, each by its two ends."""
@@ -170,8 +226,7 @@ class Meaning:
 
     def moments(self, stream):
         """Each frame's moment, the number of its start, and its number since."""
-        starts = stream.get("start_us", 0)
-        starts = starts if isinstance(starts, list) else [starts]
+        starts = self.starts(stream)
         ends = [end for end in (self.until, stream.get("until_us")) if end is not None]
         for state, start in enumerate(starts):
             until = min(ends + starts[state + 1 : state + 2] or [ENDLESS])

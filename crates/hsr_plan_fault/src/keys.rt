@@ -279,6 +279,47 @@ pub fn name_in(source: Source<'_>, key: &[u8], name: &[u8], table: usize) -> Opt
     None
 }
 
+/// Whether a list stands behind a word and a sign.
+fn has_list(source: Source<'_>, word: &[u8], place: usize) -> Option<usize> {
+    let sign = behind_octet(source.bare, behind(source, word, place), b'=')?;
+    behind_octet(source.bare, sign, b'[')
+}
+
+/// Whether the value of a key that stands at a place is a list.
+pub(crate) fn is_list(source: Source<'_>, word: &[u8], place: usize) -> bool {
+    has_list(source, word, place).is_some()
+}
+
+/// Where a name stands as a string in what is said under a key of the document.
+fn string_under(source: Source<'_>, key: &[u8], name: &[u8]) -> Option<usize>
+    ensures { IfSome result (λ at. stands source.entry.text.now source.entry.bare.now name.now at ≡ true) }
+{
+    let mut walk = Walk::start();
+    let mut is_here = false;
+    for at in 0..source.bare.len() {
+        if walk.is_top_key() {
+            is_here = word_at(source, key, at).is_some();
+        }
+        if is_here {
+            if let Some(place) = named_at(source, name, at) {
+                return Some(place);
+            }
+        }
+        walk = walk.behind(source.bare[at]);
+    }
+    None
+}
+
+/// Where a name stands under a key of the document: as a key of its table, or else as a string.
+pub fn name_under(source: Source<'_>, key: &[u8], name: &[u8]) -> Option<usize>
+    ensures { IfSome result (λ at. stands source.entry.text.now source.entry.bare.now name.now at ≡ true) }
+{
+    match member_at(source, key, name) {
+        Some(at) => Some(at),
+        None => string_under(source, key, name),
+    }
+}
+
 /// Whether what a key of the document says is of its nodes.
 fn is_of_nodes(source: Source<'_>, at: usize) -> bool {
     word_at(source, b"ring", at).is_some()

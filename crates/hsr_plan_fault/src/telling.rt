@@ -2,9 +2,11 @@
 ghost use Rattle.std.specs.Prelude.{IfOk};
 ghost use Rattle.hsr_plan_fault.specs.Line.{IsLine};
 
-use crate::keys::{Source, key_in, member_at, name_again, name_in, table_at, top_key};
+use crate::keys::{Source, key_in, member_at, name_again, name_in, name_under, table_at, top_key};
 use crate::lexing::bare;
 use crate::line::fault_line;
+use crate::misplaced::{Misplaced, out_of_place};
+use crate::refusals::{put_refusal, put_word};
 use crate::text::{put, put_no_toml, put_place};
 use crate::wiring::reason_of;
 use hsr_frame::NoMemory;
@@ -63,17 +65,51 @@ fn unknown_name(source: Source<'_>, spot: Spot, start: usize, name: &[u8]) -> Op
     }
 }
 
+/// Where the rings stand.
+fn rings_at(source: Source<'_>) -> Option<usize> {
+    match top_key(source, b"ring") {
+        Some(at) => Some(at),
+        None => top_key(source, b"rings"),
+    }
+}
+
 /// Where what is refused stands.
 fn refused_at(source: Source<'_>, spot: Spot, start: usize, refusal: &Refusal) -> Option<usize> {
     match refusal {
         Refusal::NameTwice(word) => name_again(source, word.as_bytes()),
-        Refusal::NoSuchName(word) => unknown_name(source, spot, start, word.as_bytes()),
+        Refusal::NoSuchName(word) | Refusal::NoAddress(word) | Refusal::OfStation(word) =>
+            unknown_name(source, spot, start, word.as_bytes()),
+        Refusal::AddressTaken(word) => member_at(source, b"address", word.as_bytes()),
         Refusal::ToItself(word) => name_of(source, &[Key::From], word.as_bytes(), start),
+        Refusal::TooMany(Key::Ring) => rings_at(source),
+        Refusal::TooSmall(_) => key_of(source, spot, start, b"size"),
         Refusal::Nobody(key)
         | Refusal::NoLink(key)
         | Refusal::Endless(key)
+        | Refusal::TooLate(key)
+        | Refusal::Idle(key)
+        | Refusal::Together(key)
         | Refusal::TooMany(key) => key_of(source, spot, start, key.text().as_bytes()),
         Refusal::Topology => None,
+    }
+}
+
+/// Where a word stands that is no name, in the value of a key or as a key in it.
+fn bad_name_at(
+    source: Source<'_>,
+    spot: Spot,
+    start: usize,
+    key: Key,
+    word: &Word,
+) -> Option<usize> {
+    let key = key.text().as_bytes();
+    let found = match spot {
+        Spot::Top => name_under(source, key, word.as_bytes()),
+        Spot::Stream(_) | Spot::Event(_) => name_in(source, key, word.as_bytes(), start),
+    };
+    match found {
+        Some(at) => Some(at),
+        None => key_of(source, spot, start, key),
     }
 }
 
@@ -81,6 +117,7 @@ fn refused_at(source: Source<'_>, spot: Spot, start: usize, refusal: &Refusal) -
 fn word_in(source: Source<'_>, spot: Spot, start: usize, what: &What) -> Option<usize> {
     match what {
         What::Unknown(word) => key_of(source, spot, start, word.as_bytes()),
+        What::BadName(key, word) => bad_name_at(source, spot, start, *key, word),
         What::WrongKind(key) | What::BadValue(key) => {
             key_of(source, spot, start, key.text().as_bytes())
         }
@@ -128,16 +165,18 @@ fn values_of(key: Key) -> &'static str {
         Key::Moves => {
             "\"each send drains\", \"each moment drains\", or \"hop_us = 10\" with 1 to 1000000 microseconds"
         }
-        Key::Stream | Key::Event => "tables, each under its own header",
-        Key::From => "a name or a list of names",
+        Key::Stream | Key::Event =>
+            "tables, each below a header of its own in two brackets, as [[stream]] or [[event]]",
+        Key::From => "a name, or a list of 1 to 4096 names",
         Key::To => "a name, or an address as 01-0C-CD-01-00-01",
         Key::Kind => "\"goose\", \"sv\" or a number to 65535, but neither 0x892F nor 0x8100",
-        Key::Size => "0 to 1500 octets",
+        Key::Size => "0 to 1500 octets, but not 0 of goose and sv",
         Key::Vlan => "0 to 4095",
         Key::Priority => "0 to 7",
-        Key::Start => "a moment to 1099511627776 microseconds, or a list of them",
+        Key::Start =>
+            "a moment to 1099511627776 microseconds, or a list of them, each later than the one before",
         Key::Every | Key::Most => "1 to 1099511627776 microseconds",
-        Key::Count => "0 to 1099511627776",
+        Key::Count => "1 to 1099511627776",
         Key::Grow => "1 to 1000",
         Key::Cut | Key::Mend => "two names, or two ends as ied1.B",
         Key::Off | Key::On => "a name",
@@ -152,60 +191,35 @@ fn put_values(line: &mut Vec<u8>, before: &str, key: Key) -> Result<(), NoMemory
     put(line, values_of(key))
 }
 
-/// Puts a word behind others.
-fn put_word(line: &mut Vec<u8>, before: &str, word: &Word, behind: &str) -> Result<(), NoMemory> {
-    put(line, before)?;
-    line.extend_from_slice(word.as_bytes())?;
-    put(line, behind)
+/// Puts a word that is no name in the value of a key last.
+fn put_bad_name(line: &mut Vec<u8>, key: Key, word: &Word) -> Result<(), NoMemory> {
+    put(line, "bad value of ")?;
+    put(line, key.text())?;
+    put_word(
+        line,
+        ": \"",
+        word,
+        "\" is no name; a name has 1 to 32 small letters, digits and hyphens",
+    )
 }
 
-/// What more there may not be of.
-fn most_of(key: Key) -> &'static str {
-    match key {
-        Key::RedBox => "a RedBox has 1 to 16 stations",
-        Key::Life =>
-            "more than 16384 rounds of supervision: a longer life_ms, 0 for none, or an earlier until_us",
-        _ =>
-            "more than 1048576 sends, supervision frames and events: an earlier until_us, or fewer streams",
-    }
+/// Whether a word stands at the top of a scenario, and not of a plan.
+fn is_of_scenario(spot: Spot, word: &Word) -> bool {
+    let word = word.as_bytes();
+    matches!(spot, Spot::Top)
+        && (word == b"node".as_slice() || word == b"link".as_slice() || word == b"step".as_slice())
 }
 
-/// Puts why a plan means nothing last.
-fn put_refusal(line: &mut Vec<u8>, refusal: &Refusal) -> Result<(), NoMemory> {
-    match refusal {
-        Refusal::NameTwice(word) => put_word(
+/// Puts a word that a table doesn't have last, and what it has.
+fn put_unknown(line: &mut Vec<u8>, spot: Spot, word: &Word) -> Result<(), NoMemory> {
+    if is_of_scenario(spot, word) {
+        return put(
             line,
-            "name twice ",
-            word,
-            ": a name stands once in a ring, in two rings at most, and a station's once in all",
-        ),
-        Refusal::NoSuchName(word) => put_word(
-            line,
-            "unknown name ",
-            word,
-            ": a DANH, a RedBox or a station of the plan, or here a node that can't do this",
-        ),
-        Refusal::ToItself(word) => {
-            put_word(
-                line,
-                "",
-                word,
-                " sends to itself: another sender or another target",
-            )
-        }
-        Refusal::Nobody(_) => put(line, "address of nobody: a group's, or one that a node has"),
-        Refusal::NoLink(_) => put(
-            line,
-            "no link between these: neighbours in a ring, or a RedBox and its Station",
-        ),
-        Refusal::Endless(Key::Until) => put(
-            line,
-            "supervision without end: give until_us, or life_ms = 0",
-        ),
-        Refusal::Endless(_) => put(line, "a stream without end: give count or until_us"),
-        Refusal::TooMany(key) => put(line, most_of(*key)),
-        Refusal::Topology => put(line, "no network"),
+            "this is a scenario, and no plan: hsr_bench run plays it, and hsr_plan --check looks it over",
+        );
     }
+    put_word(line, "unknown word ", word, ": ")?;
+    put(line, keys_at(spot))
 }
 
 /// Puts what a fault is last.
@@ -213,15 +227,23 @@ fn put_what(line: &mut Vec<u8>, spot: Spot, what: &What) -> Result<(), NoMemory>
     match what {
         What::Text => put(line, "no TOML"),
         What::Missing(key) => put_values(line, "missing word ", *key),
-        What::Unknown(word) => {
-            put_word(line, "unknown word ", word, ": ")?;
-            put(line, keys_at(spot))
-        }
+        What::Unknown(word) => put_unknown(line, spot, word),
+        What::BadName(key, word) => put_bad_name(line, *key, word),
         What::WrongKind(key) => put_values(line, "another kind of value for ", *key),
         What::BadValue(key) => put_values(line, "bad value of ", *key),
         What::Refused(refusal) => put_refusal(line, refusal),
         What::NoMemory => put(line, "memory"),
     }
+}
+
+/// Puts where a word of the top stands below a header last, and where it belongs.
+fn put_misplaced(line: &mut Vec<u8>, text: &[u8], found: Misplaced) -> Result<(), NoMemory> {
+    put_place(line, text, found.at)?;
+    put(line, found.key.text())?;
+    put(
+        line,
+        " stands below a header: it belongs at the top, before the first table",
+    )
 }
 
 /// Puts where a fault is and what it is last.
@@ -236,7 +258,11 @@ fn put_fault(
         text: text.as_bytes(),
         bare: bare.as_slice(),
     };
-    put_place(line, source.text, place_of(source, fault))?;
+    let place = place_of(source, fault);
+    if let Some(found) = out_of_place(source, fault, place) {
+        return put_misplaced(line, source.text, found);
+    }
+    put_place(line, source.text, place)?;
     put_what(line, fault.spot, &fault.what)
 }
 

@@ -5,8 +5,11 @@ use Rattle.hsr_topology.specs.declared.fault.TopologyFault.{TopologyFault}
 use Rattle.hsr_frame.specs.Cases.{unless}
 use Rattle.hsr_plan_text.specs.Fallible.{◌>>=◌}
 use Rattle.hsr_plan_text.specs.Plan.{Network}
+use Rattle.hsr_plan_text.specs.declared.fault.Key.TheVariants as key
+use Rattle.hsr_plan_text.specs.declared.fault.Refusal.TheVariants.{TooMany}
 use Rattle.hsr_plan_text.specs.declared.fault.What.{What}
-use Rattle.hsr_plan_network.specs.Checks.{each_once, each_passes, passes, ring_passes}
+use Rattle.hsr_plan_network.specs.Addresses.{is_own}
+use Rattle.hsr_plan_network.specs.Checks.{each_once, each_passes, may_be_64, passes, ring_passes, unless_held}
 use Rattle.hsr_plan_network.specs.Links.{links_of}
 use Rattle.hsr_plan_network.specs.Nodes.{nodes_of}
 use Rattle.hsr_plan_network.specs.Wiring.{Wired, topology_in, wired}
@@ -37,7 +40,8 @@ meant network w h =
     let places = map (λ node. node.place) (nodes_of network) in
     let links = links_of network in
     let first = step (passes network) _ w h in
-    let second = step (topology_in (unless (topology_fault places links) (record { places = places; links = links }))) _ w first.2 in
+    let owned = step (each_passes (is_own (nodes_of network)) network.addresses) _ w first.2 in
+    let second = step (topology_in (unless (topology_fault places links) (record { places = places; links = links }))) _ w owned.2 in
     let is = topology_is (topology_fault places links) (record { places = places; links = links }) second.0 second.1 in
     let same : record { nodes = nodes_of network; topology = second.0 } ≡ w = ap (value w) second.2 in
     let t : second.0 ≡ w.topology = ap (λ (x : Wired). x.topology) same in
@@ -52,7 +56,8 @@ meant network w h =
 pub ring_once : (network : Network) (ring : List (List ℕ)) → network.rings ≡ ring ∷ [] → passes network ≡ Ok tt → AreOnce ring
 unfolding passes ring_passes
 ring_once network ring one h =
-    let all = step (each_passes (ring_passes network.rings) network.rings) _ tt h in
+    let few = step (unless_held (may_be_64 network.rings) (TooMany key.Ring)) _ tt h in
+    let all = step (each_passes (ring_passes network.rings) network.rings) _ tt few.2 in
     let these : each_passes (ring_passes (ring ∷ [])) (ring ∷ []) ≡ Ok tt = ap (λ rs. each_passes (ring_passes rs) rs) (sym one) ∙ all.1 in
     let this = step (ring_passes (ring ∷ []) ring) _ tt these in
     once ring (step (each_once ring) _ tt this.1).1

@@ -1,3 +1,4 @@
+pub mod Counting
 pub mod Lists
 pub mod Moments
 pub mod Running

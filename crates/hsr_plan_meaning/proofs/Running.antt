@@ -28,19 +28,21 @@ bounded : (n k x gap : ℕ) (timing : Timing) (until most : ℕ) (sent : Sent) �
 bounded n k x gap timing until most sent h =
     grind (arith, run_past n k x gap timing until sent, run_past n k (min x most) gap timing until sent)
 
-shorter : (p bound most : ℕ) → most ≤ bound → min (min p bound) most ≡ min p most
-shorter p bound most h = omega arith
+-- where one is left, there is one before the end
+pub run_some : (most k at gap : ℕ) (timing : Timing) (until : ℕ) (sent : Sent) → k < most → at < until → 1 ≤ length (run (most - k) k at gap timing until sent)
+run_some most k at gap timing until sent h now =
+    let n : most - k ≡ suc (most - (k + 1)) = omega arith in
+    rw n (rw (next (most - (k + 1)) k at gap timing until sent now) (omega arith))
 
 -- a frame joins those before it
-pub run_step : (seen : List Occasion) (most k at gap : ℕ) (timing : Timing) (until : ℕ) (sent : Sent) (later longer bound : ℕ) → k < most → at < until → until ≤ bound → timing.most ≤ bound
-    → later ≡ min (at + gap) bound → longer ≡ min (min (gap * timing.grow) bound) timing.most
+pub run_step : (seen : List Occasion) (most k at gap : ℕ) (timing : Timing) (until : ℕ) (sent : Sent) (later longer bound : ℕ) → k < most → at < until → until ≤ bound
+    → later ≡ min (at + gap) bound → longer ≡ min (gap * timing.grow) timing.most
     → seen ++ run (most - k) k at gap timing until sent ≡ (seen ++ frame at sent k ∷ []) ++ run (most - (k + 1)) (k + 1) later longer timing until sent
-run_step seen most k at gap timing until sent later longer bound h now fits short e f =
+run_step seen most k at gap timing until sent later longer bound h now fits e f =
     let n : most - k ≡ suc (most - (k + 1)) = omega arith in
-    let g : longer ≡ min (gap * timing.grow) timing.most = f ∙ shorter (gap * timing.grow) bound timing.most short in
     let same : run (most - (k + 1)) (k + 1) later longer timing until sent ≡ run (most - (k + 1)) (k + 1) (at + gap) (min (gap * timing.grow) timing.most) timing until sent =
     ap (λ x. run (most - (k + 1)) (k + 1) x longer timing until sent) e
-    ∙ ap (λ y. run (most - (k + 1)) (k + 1) (min (at + gap) bound) y timing until sent) g
+    ∙ ap (λ y. run (most - (k + 1)) (k + 1) (min (at + gap) bound) y timing until sent) f
     ∙ bounded (most - (k + 1)) (k + 1) (at + gap) (min (gap * timing.grow) timing.most) timing until bound sent fits in
     ap (λ m. seen ++ run m k at gap timing until sent) n
     ∙ ap (λ xs. seen ++ xs) (next (most - (k + 1)) k at gap timing until sent now)

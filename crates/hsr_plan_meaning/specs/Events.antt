@@ -1,17 +1,19 @@
 -- The events of a plan as occasions.
-use Rattle.std.specs.Prelude.{ℕ, ◌==◌, ◌&&◌, ◌||◌, Bool, true, false, List, [], ◌∷◌, slice_get, position, Option, Some, None, option_map, Result, Ok, ok_or}
+use Rattle.std.specs.Prelude.{ℕ, ◌==◌, ◌&&◌, ◌||◌, nat_le, Bool, true, false, List, [], ◌∷◌, slice_get, position, Option, Some, None, option_map, Result, Ok, ok_or}
 use Rattle.hsr_node.specs.Words.{port_of}
 use Rattle.hsr_topology.specs.declared.end.End.{End}
-use Rattle.hsr_plan_text.specs.Fallible.{◌>>=◌}
+use Rattle.hsr_plan_text.specs.Fallible.{◌>>=◌, guard}
 use Rattle.hsr_plan_text.specs.declared.fault.Key.{Key}
 use Rattle.hsr_plan_text.specs.declared.fault.Key.TheVariants as key
 use Rattle.hsr_plan_text.specs.declared.fault.What.{What}
 use Rattle.hsr_plan_text.specs.declared.fault.What.TheVariants.{Refused}
-use Rattle.hsr_plan_text.specs.declared.fault.Refusal.TheVariants.{NoLink, NoSuchName}
+use Rattle.hsr_plan_text.specs.declared.fault.Refusal.{Refusal}
+use Rattle.hsr_plan_text.specs.declared.fault.Refusal.TheVariants.{NoLink, NoSuchName, OfStation, TooLate}
 use Rattle.hsr_plan_text.specs.declared.plan.Deed.{Deed}
 use Rattle.hsr_plan_text.specs.declared.plan.Deed.TheVariants.{Cut, Mend, Off, On}
 use Rattle.hsr_plan_text.specs.declared.plan.Event.{Event}
 use Rattle.hsr_plan_text.specs.declared.plan.LinkEnd.{LinkEnd}
+use Rattle.hsr_plan_network.specs.Names.{is_in}
 use Rattle.hsr_plan_network.specs.Nodes.{Node}
 use Rattle.hsr_plan_meaning.specs.Senders.{named}
 use Rattle.hsr_plan_meaning.specs.declared.events.Asked.{Asked}
@@ -21,9 +23,17 @@ use Rattle.hsr_plan_meaning.specs.declared.occasion.Occasion.{Occasion}
 
 -- ---- which link
 
+-- nobody has the name, or a station behind a RedBox has it
+abbrev pub no_node_if : Option ℕ → List ℕ → Refusal
+no_node_if None n = NoSuchName n
+no_node_if (Some k) n = OfStation n
+
+abbrev pub no_node : List Node → List ℕ → Refusal
+no_node nodes n = no_node_if (position (λ node. is_in n node.stations) nodes) n
+
 -- the number of the node that has the name
 abbrev pub node : List Node → List ℕ → Result ℕ What
-node nodes n = ok_or (named nodes n) (Refused (NoSuchName n))
+node nodes n = ok_or (named nodes n) (Refused (no_node nodes n))
 
 abbrev pub port_at : Option Node → ℕ → Option ℕ
 port_at None letter = None
@@ -61,5 +71,10 @@ happening_of nodes links (Mend a b) = link_between key.Mend nodes links a b >>= 
 happening_of nodes links (Off n) = node nodes n >>= λ k. Ok (happening.Off k)
 happening_of nodes links (On n) = node nodes n >>= λ k. Ok (happening.On k)
 
-abbrev pub event : List Node → List (List End) → Event → Result Occasion What
-event nodes links e = happening_of nodes links e.deed >>= λ w. Ok (record { at = e.at; what = w })
+-- not behind the end of the plan
+abbrev pub in_time : Option ℕ → ℕ → Bool
+in_time None at = true
+in_time (Some until) at = nat_le at until
+
+abbrev pub event : Option ℕ → List Node → List (List End) → Event → Result Occasion What
+event until nodes links e = happening_of nodes links e.deed >>= λ w. guard (in_time until e.at) (Refused (TooLate key.At)) >>= λ _. Ok (record { at = e.at; what = w })

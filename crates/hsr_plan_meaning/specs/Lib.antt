@@ -1,5 +1,6 @@
 pub mod Senders
 pub mod Events
+pub mod Changes
 pub mod Moments
 pub mod Occasions
 pub mod Setting

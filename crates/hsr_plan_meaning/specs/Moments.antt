@@ -1,5 +1,6 @@
 -- When supervision and the frames of streams are sent.
-use Rattle.std.specs.Prelude.{ℕ, zero, suc, ◌+◌, ◌*◌, ◌^◌, min, nat_lt, nat_le, ◌==◌, Bool, true, false, List, [], ◌∷◌, ◌++◌, slice_get, Option, Some, None, Result, Ok, Err, if◌then◌else◌}
+use Rattle.std.specs.Prelude.{ℕ, zero, suc, ◌+◌, ◌-◌, ◌*◌, ◌^◌, min, nat_lt, nat_le, ◌==◌, ◌||◌, Bool, true, false, ⊤, List, [], ◌∷◌, ◌++◌, length, slice_get, Option, Some, None, Result, Ok, Err, if◌then◌else◌}
+use Rattle.std.specs.List.{list_all}
 use Rattle.hsr_node.specs.declared.place.Place.{Place}
 use Rattle.hsr_node.specs.declared.place.Place.TheVariants.{Danh, RedBox, QuadBox, Station}
 use Rattle.hsr_plan_text.specs.Fallible.{◌>>=◌, guard}
@@ -7,8 +8,12 @@ use Rattle.hsr_plan_text.specs.Plan.{Outline, Stream, Timing}
 use Rattle.hsr_plan_text.specs.declared.fault.Key.TheVariants as key
 use Rattle.hsr_plan_text.specs.declared.fault.What.{What}
 use Rattle.hsr_plan_text.specs.declared.fault.What.TheVariants.{Refused}
-use Rattle.hsr_plan_text.specs.declared.fault.Refusal.TheVariants.{Endless, TooMany}
+use Rattle.hsr_plan_text.specs.declared.fault.Refusal.TheVariants.{Endless, TooLate, TooMany, TooSmall}
+use Rattle.hsr_plan_text.specs.declared.plan.Framing.{Framing}
+use Rattle.hsr_plan_text.specs.declared.plan.Kind.{Kind}
+use Rattle.hsr_plan_network.specs.Checks.{each_passes, unless_held}
 use Rattle.hsr_plan_network.specs.Nodes.{Node}
+use Rattle.hsr_plan_payload.specs.Payload.{payload}
 use Rattle.hsr_plan_meaning.specs.Senders.{sources, target}
 use Rattle.hsr_plan_meaning.specs.declared.occasion.Happening.TheVariants.{Life, Send}
 use Rattle.hsr_plan_meaning.specs.declared.occasion.Occasion.{Occasion}
@@ -92,7 +97,31 @@ sent_by i j (s ∷ more) timing until dst =
     runs 0 timing.starts timing until (record { stream = i; place = j; sender = s; dst = dst; state = 0; count = 0 })
     ++ sent_by i (j + 1) more timing until dst
 
--- all frames of a stream
-abbrev pub sends : List Node → Option ℕ → ℕ → Stream → Result (List Occasion) What
-sends nodes until i stream = target nodes stream.framing.target >>= λ dst. sources nodes dst [] stream.from
-    >>= λ senders. end_of until stream.timing >>= λ until. Ok (sent_by i 0 senders stream.timing until dst)
+-- how many octets the shortest payload of a kind has, in the first frame of a name
+abbrev pub shortest : Kind → List ℕ → ℕ
+shortest kind name = length (payload kind 0 name 0 0)
+
+-- no size is said, or one of as many octets
+abbrev pub is_enough : Framing → ℕ → Bool
+is_enough framing least = framing.size == 0 || nat_le least framing.size
+
+unfoldable pub fits : Framing → List ℕ → Result ⊤ What
+fits framing name = unless_held (is_enough framing (shortest framing.kind name)) (TooSmall (shortest framing.kind name))
+
+-- how much room is left behind so many, if there is as much
+abbrev pub left : ℕ → ℕ → Option ℕ
+left room n = if nat_le n room then Some (room - n) else None
+
+-- all these, if there is room for them
+abbrev pub in_room : ℕ → List Occasion → Result (List Occasion) What
+in_room room os = unless_held (nat_le (length os) room) (TooMany key.Stream) >>= λ _. Ok os
+
+-- each start comes before the end
+abbrev pub starts_in_time : ℕ → List ℕ → Result ⊤ What
+starts_in_time until starts = unless_held (list_all (λ start. nat_lt start until) starts) (TooLate key.Start)
+
+-- all frames of a stream, if there is room for them
+abbrev pub sends : List Node → Option ℕ → ℕ → ℕ → Stream → Result (List Occasion) What
+sends nodes until room i stream = target nodes stream.framing.target >>= λ dst. sources nodes dst [] stream.from
+    >>= λ senders. each_passes (fits stream.framing) stream.from >>= λ _. end_of until stream.timing
+    >>= λ until. starts_in_time until stream.timing.starts >>= λ _. in_room room (sent_by i 0 senders stream.timing until dst)

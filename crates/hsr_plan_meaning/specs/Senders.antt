@@ -3,17 +3,18 @@ use Rattle.std.specs.Prelude.{ℕ, nat_lt, ◌||◌, not, Bool, false, List, [],
 use Rattle.std.specs.List.{list_any}
 use Rattle.std.specs.Option.{option_or}
 use Rattle.std.specs.Str.{bytes_eq}
-use Rattle.hsr_frame.specs.Address.{is_group, is_same_address}
-use Rattle.hsr_node.specs.Station.{is_among}
+use Rattle.hsr_frame.specs.Address.{is_group}
 use Rattle.hsr_node.specs.declared.place.Place.{Place}
 use Rattle.hsr_node.specs.declared.place.Place.TheVariants.{Danh, RedBox, QuadBox, Station}
 use Rattle.hsr_plan_text.specs.Fallible.{◌>>=◌, guard}
 use Rattle.hsr_plan_text.specs.declared.fault.Key.TheVariants as key
 use Rattle.hsr_plan_text.specs.declared.fault.What.{What}
 use Rattle.hsr_plan_text.specs.declared.fault.What.TheVariants.{Refused}
-use Rattle.hsr_plan_text.specs.declared.fault.Refusal.TheVariants.{NoSuchName, Nobody, ToItself}
+use Rattle.hsr_plan_text.specs.declared.fault.Refusal.{Refusal}
+use Rattle.hsr_plan_text.specs.declared.fault.Refusal.TheVariants.{NoAddress, NoSuchName, Nobody, ToItself}
 use Rattle.hsr_plan_text.specs.declared.plan.Target.{Target}
 use Rattle.hsr_plan_text.specs.declared.plan.Target.TheVariants.{Named, Address}
+use Rattle.hsr_plan_network.specs.Addresses.{has_address}
 use Rattle.hsr_plan_network.specs.Names.{is_in, number}
 use Rattle.hsr_plan_network.specs.Nodes.{Node}
 use Rattle.hsr_plan_meaning.specs.declared.occasion.Sender.{Sender}
@@ -59,32 +60,34 @@ as_station nodes (Some k) n = station_sender k (slice_get nodes k) n
 abbrev pub sender : List Node → List ℕ → Option Sender
 sender nodes n = option_or (as_node nodes (named nodes n)) (as_station nodes (position (λ node. is_in n node.stations) nodes) n)
 
+-- nobody has the name, or a node has it that has no address: a QuadBox or a Station
+abbrev pub nobody_if : Option ℕ → List ℕ → Refusal
+nobody_if None n = NoSuchName n
+nobody_if (Some k) n = NoAddress n
+
+abbrev pub nobody : List Node → List ℕ → Refusal
+nobody nodes n = nobody_if (named nodes n) n
+
 -- ---- destinations
 
-abbrev pub has_mac : Place → List ℕ → Bool
-has_mac (Danh own mode) mac = is_same_address own mac
-has_mac (RedBox own mode) mac = is_same_address own mac
-has_mac QuadBox mac = false
-has_mac (Station macs) mac = is_among macs.items mac
-
 abbrev pub some_has : List Node → List ℕ → Bool
-some_has nodes mac = list_any (λ node. has_mac node.place mac) nodes
+some_has nodes mac = list_any (λ node. has_address node.place mac) nodes
 
 -- a group's address, or one that some node has
 abbrev pub is_somebody : List Node → List ℕ → Bool
 is_somebody nodes mac = is_group mac || some_has nodes mac
 
 abbrev pub target : List Node → Target → Result (List ℕ) What
-target nodes (Named n) = ok_or (option_map (λ s. s.mac) (sender nodes n)) (Refused (NoSuchName n))
+target nodes (Named n) = ok_or (option_map (λ s. s.mac) (sender nodes n)) (Refused (nobody nodes n))
 target nodes (Address mac) = if is_somebody nodes mac then Ok mac else Err (Refused (Nobody key.To))
 
 abbrev pub is_own : Option Node → List ℕ → Bool
 is_own None mac = false
-is_own (Some node) mac = has_mac node.place mac
+is_own (Some node) mac = has_address node.place mac
 
 -- a sender of a name, which isn't itself the destination
 abbrev pub source : List Node → List ℕ → List ℕ → Result Sender What
-source nodes dst n = ok_or (sender nodes n) (Refused (NoSuchName n))
+source nodes dst n = ok_or (sender nodes n) (Refused (nobody nodes n))
     >>= λ s. guard (not (is_own (slice_get nodes s.node) dst)) (Refused (ToItself n)) >>= λ _. Ok s
 
 abbrev pub sources : List Node → List ℕ → List Sender → List (List ℕ) → Result (List Sender) What

@@ -1,12 +1,13 @@
 //! The events of a plan as occasions.
-ghost use Rattle.std.specs.Prelude.{◌≡◌, position, slice_get};
+ghost use Rattle.std.specs.Prelude.{◌≡◌, Err, position, slice_get};
 ghost use Rattle.hsr_plan_text.specs.Fallible.{Gives};
-ghost use Rattle.hsr_plan_meaning.specs.Events.{asked, event, fits, happening_of, joins, link_between, node, port, port_at, port_fits};
+ghost use Rattle.hsr_plan_text.specs.declared.fault.What.TheVariants.{Refused};
+ghost use Rattle.hsr_plan_meaning.specs.Events.{asked, event, fits, happening_of, in_time, joins, link_between, no_node, node, port, port_at, port_fits};
 
 use crate::occasion::{Happening, Occasion};
-use crate::senders::{named, no_such_name};
+use crate::senders::{named, no_such_name, station_of};
 use hsr_plan_network::Node;
-use hsr_plan_text::{Deed, Event, Key, LinkEnd, Refusal, What};
+use hsr_plan_text::{Deed, Event, Key, LinkEnd, Refusal, What, Word};
 use hsr_topology::End;
 use std::alloc::Global;
 
@@ -17,13 +18,24 @@ struct Asked {
     port: Option<u8>,
 }
 
+/// The fault of a name that no node has.
+fn no_node(alloc: Global, nodes: &[Node], name: &[u8]) -> Result<usize, What>
+    ensures { Gives (λ k. k) result (Err (Refused (no_node nodes.now name.now))) }
+{
+    let word = Word::of(alloc, name)?;
+    match station_of(nodes, name) {
+        Some(_) => Err(What::Refused(Refusal::OfStation(word))),
+        None => Err(What::Refused(Refusal::NoSuchName(word))),
+    }
+}
+
 /// The number of the node that has the name.
 fn node(alloc: Global, nodes: &[Node], name: &[u8]) -> Result<usize, What>
     ensures { Gives (λ k. k) result (node nodes.now name.now) }
 {
     match named(nodes, name) {
         Some(number) => Ok(number),
-        None => no_such_name(alloc, name),
+        None => no_node(alloc, nodes, name),
     }
 }
 
@@ -139,15 +151,29 @@ fn happening_of(
     }
 }
 
+/// Whether a moment isn't behind the end of the plan.
+fn in_time(until: Option<u64>, at: u64) -> bool
+    ensures { result ≡ in_time until at }
+{
+    match until {
+        None => true,
+        Some(until) => at <= until,
+    }
+}
+
 /// An event as an occasion.
 pub(crate) fn event(
     alloc: Global,
+    until: Option<u64>,
     nodes: &[Node],
     links: &[[End; 2]],
     one: &Event,
 ) -> Result<Occasion, What>
-    ensures { Gives (λ o. o) result (event nodes.now links.now one.now) }
+    ensures { Gives (λ o. o) result (event until nodes.now links.now one.now) }
 {
     let what = happening_of(alloc, nodes, links, &one.deed)?;
+    if !in_time(until, one.at) {
+        return Err(What::Refused(Refusal::TooLate(Key::At)));
+    }
     Ok(Occasion { at: one.at, what })
 }

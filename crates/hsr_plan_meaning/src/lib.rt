@@ -1,9 +1,10 @@
 //! What a plan means: a topology, a capacity, and orders.
 //!
-//! Its modules, in the order to read them: `occasion`, `senders`, `events`, `lives`, `sends`, `occasions`, `setting`,
+//! Its modules, in the order to read them: `occasion`, `senders`, `events`, `changes`, `lives`, `sends`, `occasions`, `setting`,
 //! `hearing`, `orders`, `meaning`.
 #![tactic(auto)]
 
+mod changes;
 mod events;
 mod hearing;
 mod lives;

@@ -123,9 +123,9 @@ fn no_memory() -> PlanFault
 
 /// What a plan means. At one moment come events as they are listed, then the supervision of all DANHs and RedBoxes in their order, each
 /// RedBox also about the stations behind it that it knows then, then the frames of streams as they are listed. What is off sends
-/// nothing, and its links are down. Where copies move by hops, the orders have no moves of copies yet, and supervision about all stations. A fault is the first in this order: the
-/// nodes and links, the events, the supervision, the streams, and over 2^20 occasions. `NoMemory` comes where a growth was refused, in
-/// place of any other answer.
+/// nothing, and its links are down. Where copies move by hops, the orders have no moves of copies yet, and supervision about all
+/// stations. A fault is the first in this order: the nodes and links, the events, the supervision, over 2^20 of these, the streams, and
+/// over 2^20 of all. `NoMemory` comes where a growth was refused, in place of any other answer.
 pub fn meaning_of(alloc: Global, plan: &Plan) -> Result<Meaning, PlanFault>
     ensures ok { IfOk result (λ m. Means plan.now m) }
     ensures err { IfErr result (λ e. FailsAt e e.what (listed plan.now)) }

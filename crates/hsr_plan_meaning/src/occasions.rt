@@ -1,12 +1,13 @@
 //! All that happens in a plan.
 ghost use Rattle.std.specs.Prelude.{◌≡◌, []};
-ghost use Rattle.hsr_plan_text.specs.Fallible.{GivesAt, at_spot};
+ghost use Rattle.hsr_plan_text.specs.Fallible.{Gives, GivesAt, at_spot};
 ghost use Rattle.hsr_plan_text.specs.declared.fault.Spot.TheVariants as spot;
 ghost use Rattle.hsr_plan_text.specs.declared.fault.What.TheVariants.{NoMemory as NoRoom};
 ghost use Rattle.hsr_plan_meaning.specs.Events.{event};
 ghost use Rattle.hsr_plan_meaning.specs.Moments.{lives, sends};
-ghost use Rattle.hsr_plan_meaning.specs.Occasions.{events_and_lives, events_from, not_too_many, occasions, sends_from};
+ghost use Rattle.hsr_plan_meaning.specs.Occasions.{events_and_lives, events_from, events_in, few_events, not_too_many, occasions, room_behind, sends_from};
 
+use crate::changes::each_felt;
 use crate::events::event;
 use crate::lives::lives;
 use crate::occasion::Occasion;
@@ -18,6 +19,9 @@ use std::alloc::Global;
 
 /// The most occasions of a plan.
 const MOST: usize = 1 << 20;
+
+/// The most events of a plan.
+const EVENT_LIMIT: usize = 16384;
 
 /// A fault with its place.
 pub(crate) fn at_spot<T>(spot: Spot, told: Result<T, What>) -> Result<T, PlanFault>
@@ -43,29 +47,31 @@ fn no_memory_at(spot: Spot) -> PlanFault
 #[tactic(auto, using(hsr_plan_text::proofs::Lists::spotted))]
 fn event_at(
     alloc: Global,
+    until: Option<u64>,
     nodes: &[Node],
     links: &[[End; 2]],
     number: usize,
     one: &Event,
 ) -> Result<Occasion, PlanFault>
-    ensures { GivesAt (λ o. o) result (at_spot (spot.Event number) (event nodes.now links.now one.now)) }
+    ensures { GivesAt (λ o. o) result (at_spot (spot.Event number) (event until nodes.now links.now one.now)) }
 {
-    at_spot(Spot::Event(number), event(alloc, nodes, links, one))
+    at_spot(Spot::Event(number), event(alloc, until, nodes, links, one))
 }
 
-/// The events of a plan, as they are listed.
+/// Events, as they are listed.
 #[tactic(auto, using(crate::proofs::Lists::events_step, crate::proofs::Lists::events_fail))]
 fn events(
     alloc: Global,
+    until: Option<u64>,
     nodes: &[Node],
     links: &[[End; 2]],
     events: &[Event],
 ) -> Result<Vec<Occasion>, PlanFault>
-    ensures { GivesAt (λ v. v.items) result (events_from nodes.now links.now [] events.now) }
+    ensures { GivesAt (λ v. v.items) result (events_from until nodes.now links.now [] events.now) }
 {
     let mut occasions = Vec::new(alloc);
     for event in events.iter() {
-        match event_at(alloc, nodes, links, occasions.len(), event) {
+        match event_at(alloc, until, nodes, links, occasions.len(), event) {
             Ok(occasion) => {
                 let spot = Spot::Event(occasions.len());
                 occasions.push(occasion).or(Err(no_memory_at(spot)))?;
@@ -76,21 +82,29 @@ fn events(
     Ok(occasions)
 }
 
-/// All frames of the stream with this number.
+/// All frames of the stream with this number, if there is room for them.
 #[tactic(auto, using(hsr_plan_text::proofs::Lists::spotted))]
 fn sends_at(
     alloc: Global,
     nodes: &[Node],
     until: Option<u64>,
+    room: usize,
     number: usize,
     stream: &Stream,
 ) -> Result<Vec<Occasion>, PlanFault>
-    ensures { GivesAt (λ v. v.items) result (at_spot (spot.Stream number) (sends nodes.now until number stream.now)) }
+    ensures { GivesAt (λ v. v.items) result (at_spot (spot.Stream number) (sends nodes.now until room number stream.now)) }
 {
     at_spot(
         Spot::Stream(number),
-        sends(alloc, nodes, until, number, stream),
+        sends(alloc, nodes, until, room, number, stream),
     )
+}
+
+/// How many more occasions there may be.
+fn room_behind(occasions: &[Occasion]) -> usize
+    ensures { result ≡ room_behind occasions.now }
+{
+    MOST.saturating_sub(occasions.len())
 }
 
 /// The frames of all streams, behind other occasions.
@@ -106,7 +120,8 @@ fn add_sends(
 {
     let mut occasions = first;
     for (number, stream) in streams.iter().enumerate() {
-        match sends_at(alloc, nodes, until, number, stream) {
+        let room = room_behind(occasions.as_slice());
+        match sends_at(alloc, nodes, until, room, number, stream) {
             Ok(mut more) => {
                 let spot = Spot::Stream(number);
                 occasions.append(&mut more).or(Err(no_memory_at(spot)))?;
@@ -114,6 +129,34 @@ fn add_sends(
             Err(fault) => return Err(fault),
         }
     }
+    Ok(occasions)
+}
+
+/// Refuses more events than each can be compared with.
+fn few_events(events: &[Event]) -> Result<(), What>
+    ensures { Gives (λ u. u) result (few_events events.now) }
+{
+    if events.len() <= EVENT_LIMIT {
+        Ok(())
+    } else {
+        Err(What::Refused(Refusal::TooMany(Key::Event)))
+    }
+}
+
+/// The events of a plan, as they are listed, each of which changes something.
+#[tactic(auto, using(hsr_plan_text::proofs::Lists::spotted))]
+fn events_in(
+    alloc: Global,
+    plan: &Plan,
+    nodes: &[Node],
+    links: &[[End; 2]],
+) -> Result<Vec<Occasion>, PlanFault>
+    ensures { GivesAt (λ v. v.items) result (events_in plan.now nodes.now links.now) }
+{
+    at_spot(Spot::Top, few_events(plan.events.as_slice()))?;
+    let until = plan.outline.until;
+    let occasions = events(alloc, until, nodes, links, plan.events.as_slice())?;
+    each_felt(occasions.as_slice())?;
     Ok(occasions)
 }
 
@@ -127,7 +170,7 @@ fn events_and_lives(
 ) -> Result<Vec<Occasion>, PlanFault>
     ensures { GivesAt (λ v. v.items) result (events_and_lives plan.now nodes.now links.now) }
 {
-    let mut occasions = events(alloc, nodes, links, plan.events.as_slice())?;
+    let mut occasions = events_in(alloc, plan, nodes, links)?;
     let mut lives = at_spot(Spot::Top, lives(alloc, &plan.outline, nodes))?;
     occasions
         .append(&mut lives)
@@ -158,8 +201,7 @@ pub(crate) fn occasions(
 ) -> Result<Vec<Occasion>, PlanFault>
     ensures { GivesAt (λ v. v.items) result (occasions plan.now nodes.now links.now) }
 {
-    let first = events_and_lives(alloc, plan, nodes, links)?;
+    let first = not_too_many(events_and_lives(alloc, plan, nodes, links)?)?;
     let until = plan.outline.until;
-    let all = add_sends(alloc, first, nodes, until, plan.streams.as_slice())?;
-    not_too_many(all)
+    add_sends(alloc, first, nodes, until, plan.streams.as_slice())
 }

@@ -3,14 +3,13 @@ ghost use Rattle.std.specs.Prelude.{◌≡◌, [], Err, position, slice_get};
 ghost use Rattle.hsr_plan_text.specs.Fallible.{Gives};
 ghost use Rattle.hsr_plan_text.specs.declared.fault.What.TheVariants.{Refused};
 ghost use Rattle.hsr_plan_text.specs.declared.fault.Refusal.TheVariants.{NoSuchName};
-ghost use Rattle.hsr_node.specs.Station.{is_among};
 ghost use Rattle.hsr_plan_network.specs.Names.{is_in};
-ghost use Rattle.hsr_plan_meaning.specs.Senders.{as_node, as_station, has_mac, is_own, is_somebody, named, own_mac, own_sender, sender, some_has, source, sources, station_mac, station_sender, target};
+ghost use Rattle.hsr_plan_meaning.specs.Senders.{as_node, as_station, is_own, is_somebody, named, nobody, own_mac, own_sender, sender, some_has, source, sources, station_mac, station_sender, target};
 
 use crate::occasion::Sender;
 use hsr_frame::Mac;
 use hsr_node::Place;
-use hsr_plan_network::{Node, is_in, number};
+use hsr_plan_network::{Node, has_address, is_in, number};
 use hsr_plan_text::{Key, Refusal, Target, What, Word};
 use std::alloc::Global;
 
@@ -87,7 +86,7 @@ fn as_station(nodes: &[Node], at: usize, name: &[u8]) -> Option<Sender>
 }
 
 /// The number of the Station that is a station of that name.
-fn station_of(nodes: &[Node], name: &[u8]) -> Option<usize>
+pub(crate) fn station_of(nodes: &[Node], name: &[u8]) -> Option<usize>
     ensures { result ≡ position (λ node. is_in name.now node.stations) nodes.now }
 {
     nodes
@@ -133,31 +132,24 @@ pub(crate) fn no_such_name<T>(alloc: Global, name: &[u8]) -> Result<T, What>
     Err(What::Refused(Refusal::NoSuchName(name)))
 }
 
-// ---- destinations
-
-/// Whether an address is among addresses.
-fn is_among(macs: &[Mac], mac: Mac) -> bool
-    ensures { result ≡ is_among macs.now mac }
+/// The fault of a name that nobody has who could send: no node has it, or one without an address.
+fn no_sender<T>(alloc: Global, nodes: &[Node], name: &[u8]) -> Result<T, What>
+    ensures { Gives (λ x. x) result (Err (Refused (nobody nodes.now name.now))) }
 {
-    macs.iter().any(|own| *own == mac)
-}
-
-/// Whether a kind of node has an address.
-fn has_mac(place: &Place, mac: Mac) -> bool
-    ensures { result ≡ has_mac place.now mac }
-{
-    match place {
-        Place::Danh { mac: own, .. } | Place::RedBox { mac: own, .. } => *own == mac,
-        Place::QuadBox => false,
-        Place::Station { macs } => is_among(macs.as_slice(), mac),
+    let word = Word::of(alloc, name)?;
+    match named(nodes, name) {
+        Some(_) => Err(What::Refused(Refusal::NoAddress(word))),
+        None => Err(What::Refused(Refusal::NoSuchName(word))),
     }
 }
+
+// ---- destinations
 
 /// Whether some node has an address.
 fn some_has(nodes: &[Node], mac: Mac) -> bool
     ensures { result ≡ some_has nodes.now mac }
 {
-    nodes.iter().any(|node| has_mac(&node.place, mac))
+    nodes.iter().any(|node| has_address(&node.place, mac))
 }
 
 /// Whether an address is a group's, or some node has it.
@@ -174,7 +166,7 @@ pub(crate) fn target(alloc: Global, nodes: &[Node], whom: &Target) -> Result<Mac
     match whom {
         Target::Named(name) => match sender(nodes, name.as_bytes()) {
             Some(sender) => Ok(sender.mac),
-            None => no_such_name(alloc, name.as_bytes()),
+            None => no_sender(alloc, nodes, name.as_bytes()),
         },
         Target::Address(mac) => {
             if is_somebody(nodes, *mac) {
@@ -191,7 +183,7 @@ pub(crate) fn is_own(nodes: &[Node], number: usize, mac: Mac) -> bool
     ensures { result ≡ is_own (slice_get nodes.now number) mac }
 {
     match nodes.get(number) {
-        Some(node) => has_mac(&node.place, mac),
+        Some(node) => has_address(&node.place, mac),
         None => false,
     }
 }
@@ -201,7 +193,7 @@ fn source(alloc: Global, nodes: &[Node], dst: Mac, name: &Word) -> Result<Sender
     ensures { Gives (λ s. s) result (source nodes.now dst name.now) }
 {
     let Some(sender) = sender(nodes, name.as_bytes()) else {
-        return no_such_name(alloc, name.as_bytes());
+        return no_sender(alloc, nodes, name.as_bytes());
     };
     if is_own(nodes, sender.node, dst) {
         let name = name.copy(alloc)?;

@@ -1,13 +1,17 @@
 //! When the frames of streams are sent.
-ghost use Rattle.std.specs.Prelude.{◌≡◌, ◌++◌, ◌+◌, ◌≤◌, ◌<◌, ◌^◌, min, slice_get, IfOk, OnOk};
+ghost use Rattle.std.specs.Prelude.{◌≡◌, ◌++◌, ◌+◌, ◌*◌, ◌≤◌, ◌<◌, ◌^◌, min, nat_le, length, slice_get, IfOk, OnOk};
 ghost use Rattle.hsr_plan_text.specs.Fallible.{Gives};
-ghost use Rattle.hsr_plan_meaning.specs.Moments.{earlier, end_of, most_sent, next_end, run, runs, sends, sent_by};
+ghost use Rattle.hsr_plan_meaning.specs.Moments.{earlier, end_of, fits, left, most_sent, next_end, run, runs, sends, sent_by, shortest, starts_in_time};
+ghost use Rattle.hsr_plan_network.specs.Checks.{each_passes, unless_held};
+ghost use Rattle.hsr_plan_text.specs.declared.fault.Key.TheVariants as key;
+ghost use Rattle.hsr_plan_text.specs.declared.fault.Refusal.TheVariants.{TooMany as IsTooMany};
 
 use crate::occasion::{Happening, Occasion, Sender, Sent};
 use crate::senders::{sources, target};
 use hsr_frame::{Mac, NoMemory};
 use hsr_plan_network::Node;
-use hsr_plan_text::{Key, Refusal, Stream, Timing, What};
+use hsr_plan_payload::payload;
+use hsr_plan_text::{Framing, Key, Kind, Refusal, Stream, Timing, What, Word};
 use std::alloc::Global;
 
 /// The most occasions of a plan.
@@ -49,6 +53,142 @@ fn most_sent(count: Option<u64>) -> u64
     }
 }
 
+/// The first frame of the sender at a place among those of a stream.
+fn first(stream: usize, place: usize, sender: Sender, dst: Mac) -> Sent
+    ensures { result ≡ record { stream = stream; place = place; sender = sender; dst = dst; state = 0; count = 0 } }
+{
+    Sent {
+        stream,
+        place,
+        sender,
+        dst,
+        state: 0,
+        count: 0,
+    }
+}
+
+/// The gap behind this one.
+fn next_gap(gap: u64, timing: &Timing) -> u64
+    ensures { result ≡ min (gap * timing.now.grow) timing.now.most }
+{
+    gap.saturating_mul(timing.grow).min(timing.most)
+}
+
+// ---- how many there are
+
+/// How much room is left behind so many, if there is as much.
+fn left(room: usize, taken: usize) -> Option<usize>
+    ensures { result ≡ left room taken }
+{
+    if taken <= room {
+        Some(room - taken)
+    } else {
+        None
+    }
+}
+
+/// How much room is left behind the frames of one sender from one start on, if there is room for them.
+#[tactic(auto, using(crate::proofs::Counting::run_step, crate::proofs::Counting::run_stop, crate::proofs::Counting::run_over, crate::proofs::Counting::run_full))]
+fn left_by_run(
+    room: usize,
+    most: usize,
+    start: u64,
+    timing: &Timing,
+    until: u64,
+    sent: &Sent,
+) -> Option<usize>
+    ensures { result ≡ left room (length (run most 0 start (min timing.now.every timing.now.most) timing.now until sent.now)) }
+{
+    let mut at = start;
+    let mut gap = timing.every.min(timing.most);
+    for count in 0..most {
+        if at >= until {
+            return left(room, count);
+        }
+        if count >= room {
+            return None;
+        }
+        at = at.saturating_add(gap);
+        gap = next_gap(gap, timing);
+    }
+    left(room, most)
+}
+
+/// How much room is left behind the frames of one sender from the start of that number on, if there is room for them.
+fn left_by_state(
+    room: usize,
+    timing: &Timing,
+    state: usize,
+    start: u64,
+    until: u64,
+    sent: &Sent,
+) -> Option<usize>
+    requires { state < 2 ^ 63 }
+    ensures { result ≡ left room (length
+        (run (most_sent timing.now.count) 0 start (min timing.now.every timing.now.most) timing.now (next_end (slice_get timing.now.starts (state + 1)) until) (record sent.now { state = state }))) }
+{
+    let end = next_end(timing.starts.as_slice(), state + 1, until);
+    let most = most_sent(timing.count) as usize;
+    left_by_run(room, most, start, timing, end, &sent.with_state(state))
+}
+
+/// How much room is left behind the frames of one sender, if there is room for them.
+#[tactic(auto, using(crate::proofs::Counting::runs_step, crate::proofs::Counting::runs_full, crate::proofs::Counting::all_left))]
+fn left_by_runs(room: usize, timing: &Timing, until: u64, sent: &Sent) -> Option<usize>
+    ensures { result ≡ left room (length (runs 0 timing.now.starts timing.now until sent.now)) }
+{
+    let mut rest = room;
+    for (state, start) in timing.starts.iter().enumerate() {
+        match left_by_state(rest, timing, state, *start, until, sent) {
+            Some(less) => rest = less,
+            None => return None,
+        }
+    }
+    Some(rest)
+}
+
+/// How much room is left behind the frames of senders, of the stream with this number, if there is room for them.
+#[tactic(auto, using(crate::proofs::Counting::sent_by_step, crate::proofs::Counting::sent_by_full, crate::proofs::Counting::all_left))]
+fn left_by_all(
+    room: usize,
+    stream: usize,
+    senders: &[Sender],
+    timing: &Timing,
+    until: u64,
+    dst: Mac,
+) -> Option<usize>
+    ensures { result ≡ left room (length (sent_by stream 0 senders.now timing.now until dst)) }
+{
+    let mut rest = room;
+    for (place, sender) in senders.iter().enumerate() {
+        let sent = first(stream, place, *sender, dst);
+        match left_by_runs(rest, timing, until, &sent) {
+            Some(less) => rest = less,
+            None => return None,
+        }
+    }
+    Some(rest)
+}
+
+/// Refuses the frames of senders, of the stream with this number, unless there is room for them.
+fn check_room(
+    room: usize,
+    stream: usize,
+    senders: &[Sender],
+    timing: &Timing,
+    until: u64,
+    dst: Mac,
+) -> Result<(), What>
+    ensures { Gives (λ u. u) result (unless_held (nat_le (length (sent_by stream 0 senders.now timing.now until dst)) room) (IsTooMany key.Stream)) }
+{
+    match left_by_all(room, stream, senders, timing, until, dst) {
+        Some(_) => Ok(()),
+        None => Err(What::Refused(Refusal::TooMany(Key::Stream))),
+    }
+}
+
+// ---- which there are
+
 /// Puts the frames of one sender from one start on behind other occasions.
 #[tactic(auto, using(crate::proofs::Running::run_step, crate::proofs::Running::run_stop, crate::proofs::Running::run_over))]
 fn add_run(
@@ -70,7 +210,7 @@ fn add_run(
         let what = Happening::Send(sent.with_count(count));
         occasions.push(Occasion { at, what })?;
         at = at.saturating_add(gap);
-        gap = gap.saturating_mul(timing.grow).min(timing.most);
+        gap = next_gap(gap, timing);
     }
     Ok(())
 }
@@ -133,39 +273,76 @@ fn sent_by(
 {
     let mut occasions = Vec::new(alloc);
     for (place, sender) in senders.iter().enumerate() {
-        let sent = Sent {
-            stream,
-            place,
-            sender: *sender,
-            dst,
-            state: 0,
-            count: 0,
-        };
+        let sent = first(stream, place, *sender, dst);
         add_runs(&mut occasions, timing, until, &sent)?;
     }
     Ok(occasions)
 }
 
-/// All frames of the stream with this number.
+/// How many octets the shortest payload of a kind has, in the first frame of a name.
+fn shortest(alloc: Global, kind: Kind, name: &[u8]) -> Result<usize, NoMemory>
+    ensures { IfOk result (λ n. n ≡ shortest kind name.now) }
+{
+    let payload = payload(alloc, kind, 0, name, 0, 0)?;
+    Ok(payload.len())
+}
+
+/// Refuses a size that is below the shortest payload of a name.
+#[tactic(auto, unfolding(crate::specs::Moments::fits))]
+fn check_size(alloc: Global, framing: &Framing, name: &Word) -> Result<(), What>
+    ensures { Gives (λ u. u) result (fits framing.now name.now) }
+{
+    let least = shortest(alloc, framing.kind, name.as_bytes())?;
+    if framing.size == 0 || least <= framing.size {
+        Ok(())
+    } else {
+        Err(What::Refused(Refusal::TooSmall(least)))
+    }
+}
+
+/// Refuses a size that is below the shortest payload of one of these names.
+#[tactic(auto, using(crate::proofs::Lists::fits_step, crate::proofs::Lists::fits_fails))]
+fn check_sizes(alloc: Global, framing: &Framing, names: &[Word]) -> Result<(), What>
+    ensures { Gives (λ u. u) result (each_passes (fits framing.now) names.now) }
+{
+    for name in names.iter() {
+        match check_size(alloc, framing, name) {
+            Ok(()) => {}
+            Err(what) => return Err(what),
+        }
+    }
+    Ok(())
+}
+
+/// Refuses starts of which one doesn't come before the end.
+fn starts_in_time(until: u64, starts: &[u64]) -> Result<(), What>
+    ensures { Gives (λ u. u) result (starts_in_time until starts.now) }
+{
+    if starts.iter().all(|start| *start < until) {
+        Ok(())
+    } else {
+        Err(What::Refused(Refusal::TooLate(Key::Start)))
+    }
+}
+
+/// All frames of the stream with this number, if there is room for them. They are counted before they are listed.
 pub(crate) fn sends(
     alloc: Global,
     nodes: &[Node],
     until: Option<u64>,
+    room: usize,
     number: usize,
     stream: &Stream,
 ) -> Result<Vec<Occasion>, What>
-    ensures { Gives (λ v. v.items) result (sends nodes.now until number stream.now) }
+    ensures { Gives (λ v. v.items) result (sends nodes.now until room number stream.now) }
 {
     let dst = target(alloc, nodes, &stream.framing.target)?;
     let senders = sources(alloc, nodes, dst, stream.from.as_slice())?;
+    let senders = senders.as_slice();
+    check_sizes(alloc, &stream.framing, stream.from.as_slice())?;
     let until = end_of(until, &stream.timing)?;
-    let occasions = sent_by(
-        alloc,
-        number,
-        senders.as_slice(),
-        &stream.timing,
-        until,
-        dst,
-    )?;
+    starts_in_time(until, stream.timing.starts.as_slice())?;
+    check_room(room, number, senders, &stream.timing, until, dst)?;
+    let occasions = sent_by(alloc, number, senders, &stream.timing, until, dst)?;
     Ok(occasions)
 }

@@ -1,5 +1,5 @@
 -- Each of a list passes, or the first fault.
-use Rattle.std.proofs.Common.{◌≡◌, ℕ, ◌+◌, ◌<◌, ◌∙◌, ◌++◌, length, get_or, drop, List, [], ◌∷◌, Result, Ok, not, ap, sym, subst, append_assoc}
+use Rattle.std.proofs.Common.{◌≡◌, ℕ, ◌+◌, ◌-◌, ◌<◌, ◌∙◌, ◌&&◌, nat_le, ◌++◌, length, get_or, drop, List, [], ◌∷◌, Result, Ok, not, ap, sym, subst, append_assoc}
 use Rattle.std.specs.Prelude.{⊤}
 use Rattle.std.proofs.lemmas.List.{drop_more}
 use Rattle.hsr_plan_text.proofs.Lists.{stays}
@@ -9,8 +9,10 @@ use Rattle.hsr_plan_text.specs.declared.fault.What.{What}
 use Rattle.hsr_plan_text.specs.declared.fault.Refusal.TheVariants.{NameTwice, Topology as NoTopology}
 use Rattle.hsr_plan_text.specs.declared.plan.Addressed.{Addressed}
 use Rattle.hsr_plan_text.specs.declared.plan.InMode.{InMode}
-use Rattle.hsr_plan_network.specs.Checks.{address_passes, each_once, each_passes, has_mac, in_two, is_new, mode_passes, own_addresses, redbox_passes, ring_passes, stations_of, unless_held}
+use Rattle.hsr_plan_network.specs.Addresses.{is_own}
+use Rattle.hsr_plan_network.specs.Checks.{address_passes, each_once, each_passes, has_mac, in_two, is_new, list_at_most, mode_passes, own_addresses, redbox_passes, ring_passes, stations_of, unless_held}
 use Rattle.hsr_plan_network.specs.Names.{is_in}
+use Rattle.hsr_plan_network.specs.Nodes.{Node}
 
 module _ {A : Type 0} (check : A → Result ⊤ What) where
   step : (xs : List A) (i : ℕ) (d : A) (u : ⊤) → i < length xs → check (get_or xs i d) ≡ Ok u → each_passes check (drop i xs) ≡ each_passes check (drop (i + 1) xs)
@@ -20,6 +22,14 @@ module _ {A : Type 0} (check : A → Result ⊤ What) where
       → each_passes check (drop i xs) ≡ whole → Fails what (check (get_or xs i d)) → Fails what whole
   fails xs i d what whole h same f =
       subst (Fails what) (sym (ap (each_passes check) (drop_more xs i d h)) ∙ same) (stays what (check (get_or xs i d)) (λ _. each_passes check (drop (i + 1) xs)) f)
+
+pub passes_step : {A : Type 0} (check : A → Result ⊤ What) (xs : List A) (i : ℕ) (d : A) (u : ⊤) → i < length xs → check (get_or xs i d) ≡ Ok u
+    → each_passes check (drop i xs) ≡ each_passes check (drop (i + 1) xs)
+passes_step check = step check
+
+pub passes_fails : {A : Type 0} (check : A → Result ⊤ What) (xs : List A) (i : ℕ) (d : A) (what : What) (whole : Result ⊤ What) → i < length xs
+    → each_passes check (drop i xs) ≡ whole → Fails what (check (get_or xs i d)) → Fails what whole
+passes_fails check = fails check
 
 -- ---- names that stand once
 
@@ -31,6 +41,12 @@ pub once_fails : (xs : List (List ℕ)) (i : ℕ) (d : List ℕ) (what : What) (
     → each_once (drop i xs) ≡ whole → Fails what (unless_held (not (is_in (get_or xs i d) (drop (i + 1) xs))) (NameTwice (get_or xs i d))) → Fails what whole
 once_fails xs i d what whole h same f =
     subst (Fails what) (sym (ap each_once (drop_more xs i d h)) ∙ same) (stays what (unless_held (not (is_in (get_or xs i d) (drop (i + 1) xs))) (NameTwice (get_or xs i d))) (λ _. each_once (drop (i + 1) xs)) f)
+
+-- ---- how many
+
+pub list_step : (n : ℕ) (rings : List (List (List ℕ))) (i : ℕ) (d : List (List ℕ)) → i < length rings
+    → list_at_most n (drop i rings) ≡ (nat_le (length (get_or rings i d)) n && list_at_most (n - length (get_or rings i d)) (drop (i + 1) rings))
+list_step n rings i d h = ap (list_at_most n) (drop_more rings i d h)
 
 -- ---- two
 
@@ -81,6 +97,16 @@ addresses_step network = step (address_passes network)
 pub addresses_fails : (network : Network) (xs : List Addressed) (i : ℕ) (d : Addressed) (what : What) (whole : Result ⊤ What) → i < length xs
     → each_passes (address_passes network) (drop i xs) ≡ whole → Fails what (address_passes network (get_or xs i d)) → Fails what whole
 addresses_fails network = fails (address_passes network)
+
+-- ---- addresses that are nobody else's
+
+pub taken_step : (nodes : List Node) (xs : List Addressed) (i : ℕ) (d : Addressed) (u : ⊤) → i < length xs → is_own nodes (get_or xs i d) ≡ Ok u
+    → each_passes (is_own nodes) (drop i xs) ≡ each_passes (is_own nodes) (drop (i + 1) xs)
+taken_step nodes = step (is_own nodes)
+
+pub taken_fails : (nodes : List Node) (xs : List Addressed) (i : ℕ) (d : Addressed) (what : What) (whole : Result ⊤ What) → i < length xs
+    → each_passes (is_own nodes) (drop i xs) ≡ whole → Fails what (is_own nodes (get_or xs i d)) → Fails what whole
+taken_fails nodes = fails (is_own nodes)
 
 -- ---- modes
 

@@ -1,5 +1,5 @@
 -- What names a plan may not have.
-use Rattle.std.specs.Prelude.{ℕ, ◌==◌, ◌&&◌, ◌||◌, not, nat_lt, nat_le, Bool, ⊤, List, [], ◌∷◌, ◌++◌, codes, length, Result, Ok, Err, if◌then◌else◌}
+use Rattle.std.specs.Prelude.{ℕ, ◌-◌, ◌==◌, ◌&&◌, ◌||◌, not, nat_lt, nat_le, Bool, true, ⊤, List, [], ◌∷◌, ◌++◌, codes, length, Result, Ok, Err, if◌then◌else◌}
 use Rattle.std.specs.List.{list_any}
 use Rattle.std.specs.Str.{bytes_eq}
 use Rattle.hsr_plan_text.specs.Fallible.{◌>>=◌, guard}
@@ -28,6 +28,15 @@ each_once [] = Ok tt
 each_once (n ∷ ns) = unless_held (not (is_in n ns)) (NameTwice n) >>= λ _. each_once ns
 
 -- ---- rings
+
+-- rings list so many names at most
+abbrev pub list_at_most : ℕ → List (List (List ℕ)) → Bool
+list_at_most n [] = true
+list_at_most n (ring ∷ rings) = nat_le (length ring) n && list_at_most (n - length ring) rings
+
+-- 64 nodes are in 64 rings at most, each in two: this is counted before names are compared
+abbrev pub may_be_64 : List (List (List ℕ)) → Bool
+may_be_64 rings = nat_le (length rings) 64 && list_at_most 128 rings
 
 unfoldable pub in_two : List (List (List ℕ)) → List ℕ → Result ⊤ What
 in_two rings n = unless_held (nat_le (times_met rings n) 2) (NameTwice n)
@@ -83,6 +92,7 @@ mode_passes rings m = unless_held (in_one rings m.name) (NoSuchName m.name)
 -- all of a network passes
 unfoldable pub passes : Network → Result ⊤ What
 passes network = do
+  _ ← unless_held (may_be_64 network.rings) (TooMany key.Ring)
   _ ← each_passes (ring_passes network.rings) network.rings
   _ ← each_passes (redbox_passes network.rings) network.redboxes
   _ ← each_once (stations_of network.redboxes)

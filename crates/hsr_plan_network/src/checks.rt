@@ -4,7 +4,7 @@ ghost use Rattle.hsr_plan_text.specs.Fallible.{Gives, guard};
 ghost use Rattle.hsr_plan_text.specs.declared.fault.Key.TheVariants as key;
 ghost use Rattle.hsr_plan_text.specs.declared.fault.Refusal.TheVariants as why;
 ghost use Rattle.hsr_plan_text.specs.declared.fault.What.TheVariants.{BadValue};
-ghost use Rattle.hsr_plan_network.specs.Checks.{address_passes, each_once, each_passes, has_mac, in_one, in_two, is_new, is_station, mode_passes, own_addresses, passes, redbox_passes, ring_passes, some_sixteen, stations_of, unless_held};
+ghost use Rattle.hsr_plan_network.specs.Checks.{address_passes, each_once, each_passes, has_mac, in_one, in_two, is_new, is_station, list_at_most, may_be_64, mode_passes, own_addresses, passes, redbox_passes, ring_passes, some_sixteen, stations_of, unless_held};
 
 use crate::names::{is_in, times_met};
 use crate::nodes::station_name;
@@ -14,6 +14,12 @@ use std::alloc::Global;
 
 /// The most octets of a RedBox's name, so that its Station's has 32.
 const BOX_NAME_LIMIT: usize = 27;
+
+/// The most rings of a topology, each of two nodes at least, each of which is in two rings at most.
+const RING_LIMIT: usize = 64;
+
+/// The most names in the rings of a topology.
+const NAME_LIMIT: usize = 128;
 
 /// Refuses a name that stands twice, unless it doesn't.
 fn once(alloc: Global, is_once: bool, name: &[u8]) -> Result<(), What>
@@ -64,6 +70,32 @@ fn each_once(alloc: Global, names: &[Word]) -> Result<(), What>
 }
 
 // ---- rings
+
+/// Whether rings list so many names at most.
+#[tactic(auto, using(crate::proofs::Passing::list_step))]
+fn list_at_most(most: usize, rings: &[Ring]) -> bool
+    ensures { result ≡ list_at_most most rings.now }
+{
+    let mut left = most;
+    for ring in rings.iter() {
+        if ring.nodes.len() > left {
+            return false;
+        }
+        left -= ring.nodes.len();
+    }
+    true
+}
+
+/// Refuses more rings, or more names in them, than 64 nodes have.
+fn few_enough(rings: &[Ring]) -> Result<(), What>
+    ensures { Gives (λ u. u) result (unless_held (may_be_64 rings.now) (why.TooMany key.Ring)) }
+{
+    if rings.len() <= RING_LIMIT && list_at_most(NAME_LIMIT, rings) {
+        Ok(())
+    } else {
+        Err(What::Refused(Refusal::TooMany(Key::Ring)))
+    }
+}
 
 /// Refuses a name in more than two rings.
 #[tactic(auto, unfolding(crate::specs::Checks::in_two))]
@@ -306,12 +338,13 @@ fn check_modes(alloc: Global, rings: &[Ring], modes: &[InMode]) -> Result<(), Wh
     Ok(())
 }
 
-/// Refuses a network of which something is refused: rings, RedBoxes, stations, addresses, then modes.
+/// Refuses a network of which something is refused: how many there are, rings, RedBoxes, stations, addresses, then modes.
 #[tactic(auto, unfolding(crate::specs::Checks::passes))]
 pub(crate) fn check(alloc: Global, network: &Network) -> Result<(), What>
     ensures { Gives (λ u. u) result (passes network.now) }
 {
     let rings = network.rings.as_slice();
+    few_enough(rings)?;
     check_rings(alloc, rings)?;
     check_redboxes(alloc, rings, network.redboxes.as_slice())?;
     stations_once(alloc, network.redboxes.as_slice())?;

@@ -1,8 +1,9 @@
 //! The nodes and links that a plan means.
 //!
-//! Its modules, in the order to read them: `names`, `checks`, `places`, `nodes`, `links`, `wiring`.
+//! Its modules, in the order to read them: `names`, `checks`, `places`, `nodes`, `addresses`, `links`, `wiring`.
 #![tactic(auto)]
 
+mod addresses;
 mod checks;
 mod links;
 mod names;
@@ -10,6 +11,7 @@ mod nodes;
 mod places;
 mod wiring;
 
+pub use addresses::has_address;
 pub use names::{is_in, number};
 pub use nodes::Node;
 pub use wiring::{Wired, wire};

@@ -6,6 +6,7 @@ ghost use Rattle.hsr_plan_network.specs.Links.{interlink, links_of, ring_links};
 ghost use Rattle.hsr_plan_network.specs.Nodes.{nodes_of};
 ghost use Rattle.hsr_plan_network.specs.Wiring.{topology_in, wired};
 
+use crate::addresses::check_owners;
 use crate::checks::check;
 use crate::links::{add_interlinks, ring_links};
 use crate::names::names_of;
@@ -83,14 +84,16 @@ fn topology_of(alloc: Global, nodes: &[Node], links: Vec<[End; 2]>) -> Result<To
 
 /// The nodes and the topology that a network means. Nodes stand ring by ring, each where it is met first, and then the Stations,
 /// one behind each RedBox. Links stand ring by ring, from B of a node to A of the next one (C and D in a QuadBox's other ring), and
-/// then the interlinks. `Refused` where a name is there twice, in more than two rings, or not at all, where a Station would have a name of a
-/// ring, where a RedBox hasn't 1 to 16 stations, where a ring has fewer than two names, where an address is given twice, and where nodes
-/// and links are no topology. `BadValue` where a RedBox's name has over 27 octets. `NoMemory` where room is refused.
+/// then the interlinks. `Refused` where there are more rings or names in rings than 64 nodes have, where a name is there twice, in more
+/// than two rings, or not at all, where a Station would have a name of a ring, where a RedBox hasn't 1 to 16 stations, where a ring has
+/// fewer than two names, where an address is given twice or is another's by default, and where nodes and links are no topology.
+/// `BadValue` where a RedBox's name has over 27 octets. `NoMemory` where room is refused.
 pub fn wire(alloc: Global, network: &Network) -> Result<Wired, What>
     ensures { Gives (λ w. w) result (wired network.now) }
 {
     check(alloc, network)?;
     let (nodes, links) = parts_of(alloc, network)?;
+    check_owners(alloc, nodes.as_slice(), network.addresses.as_slice())?;
     let topology = topology_of(alloc, nodes.as_slice(), links)?;
     Ok(Wired { nodes, topology })
 }

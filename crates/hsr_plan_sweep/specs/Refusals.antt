@@ -2,8 +2,9 @@
 --     HasNoRun       what is meant leads to no finished run
 --     IsUncounted    nothing is counted of a plan
 --     IsUnswept      nothing is counted of a plan, or of one in which a link or a node is off
+--     IsUnsweptFrom  a moment is behind the end of a plan, or nothing is counted so
 --     IsUnsweepable  nothing is counted of what octets say as a plan
-use Rattle.std.specs.Prelude.{ℕ, ◌≡◌, ◌⊎◌, ◌<◌, ⊤, List, length, Result, Ok, Err}
+use Rattle.std.specs.Prelude.{ℕ, ◌≡◌, ◌⊎◌, ◌<◌, nat_lt, Bool, true, false, ⊤, List, length, Option, Some, None, Result, Ok, Err}
 use Rattle.std.specs.Str.{IsUtf8}
 use Rattle.hsr_step.specs.declared.step.DrainFault.TheVariants.{World}
 use Rattle.hsr_step.specs.declared.step.WorldFault.TheVariants as world
@@ -65,10 +66,18 @@ pub record IsUncountedOff (plan : Plan) (at : ℕ) : Type 0 where
 abbrev pub IsUnswept : Plan → ℕ → Type 0
 IsUnswept plan at = IsUncounted plan ⊎ IsUncountedOff plan at
 
+-- a moment is behind the end, where there is one
+abbrev pub is_behind : Option ℕ → ℕ → Bool
+is_behind None at = false
+is_behind (Some until) at = nat_lt until at
+
+abbrev pub IsUnsweptFrom : Plan → ℕ → Type 0
+IsUnsweptFrom plan at = (is_behind plan.outline.until at ≡ true) ⊎ IsUnswept plan at
+
 -- ---- texts
 
 abbrev pub IsUnsweptIf : Result Plan PlanFault → ℕ → Type 0
-IsUnsweptIf (Ok plan) at = IsUnswept plan at
+IsUnsweptIf (Ok plan) at = IsUnsweptFrom plan at
 IsUnsweptIf (Err fault) at = ⊤
 
 -- octets are no text; or one that is no plan, or a plan that isn't swept

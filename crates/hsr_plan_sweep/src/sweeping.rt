@@ -1,7 +1,7 @@
 //! The sweep of a plan, over a reader and two writers.
 ghost use Rattle.std.specs.Prelude.{◌≡◌, false, IfErr, IfOk, IfSome, IsOk};
 ghost use Rattle.hsr_plan_sweep.specs.Lines.{sweep_text};
-ghost use Rattle.hsr_plan_sweep.specs.Refusals.{IsKnown, IsUnsweepable, IsUnswept};
+ghost use Rattle.hsr_plan_sweep.specs.Refusals.{IsKnown, IsUnsweepable, IsUnswept, IsUnsweptFrom, is_behind};
 ghost use Rattle.hsr_plan_sweep.specs.Swept.{IsSwept, SweepEnds, TellsSweep};
 
 use crate::lines::lines;
@@ -12,7 +12,7 @@ use hsr_frame::NoMemory;
 use hsr_plan_scenario::{
     Ending, Line, Trouble as PlanTrouble, complain, deliver, fail, line_of, read_text, words,
 };
-use hsr_plan_text::{Plan, TEXT_LIMIT, read};
+use hsr_plan_text::{Key, Plan, PlanFault, Refusal, Spot, TEXT_LIMIT, What, read};
 use std::alloc::Global;
 use std::io::{self, Read, Write};
 
@@ -27,6 +27,24 @@ fn line_of_trouble(alloc: Global, text: &str, trouble: &Trouble) -> Line
             alloc,
             "fault: plan 1:1 a run of the plan doesn't end, or refuses a step: run its scenario",
         ),
+    }
+}
+
+/// Whether a moment is behind the end, where there is one.
+fn is_behind(until: Option<u64>, at: u64) -> bool
+    ensures { result ≡ is_behind until at }
+{
+    match until {
+        None => false,
+        Some(until) => until < at,
+    }
+}
+
+/// The fault of a sweep from a moment behind the end of the plan.
+fn behind_the_end() -> PlanFault {
+    PlanFault {
+        spot: Spot::Top,
+        what: What::Refused(Refusal::TooLate(Key::Until)),
     }
 }
 
@@ -63,6 +81,26 @@ fn swept_plan<E: Write>(
     }
 }
 
+/// The lines of a plan's sweep from a moment that isn't behind its end, or the line of what is wrong.
+fn swept_in_time<E: Write>(
+    alloc: Global,
+    text: &str,
+    plan: Plan,
+    at: u64,
+    is_shown: bool,
+    errors: &mut E,
+) -> Result<Vec<u8>, Line>
+    ensures told { IfOk result (λ lines. TellsSweep plan at lines.items) }
+    ensures none { IfErr result (λ line. IsOk line → IsUnsweptFrom plan at) }
+    ensures hidden { is_shown ≡ false → E.contents errors.new ≡ E.contents errors.old }
+{
+    if is_behind(plan.outline.until, at) {
+        let trouble = PlanTrouble::Plan(behind_the_end());
+        return Err(line_of(alloc, text, &trouble));
+    }
+    swept_plan(alloc, text, plan, at, is_shown, errors)
+}
+
 /// The lines of the sweep of what octets say as a plan, or the line of what is wrong.
 fn swept<E: Write>(
     alloc: Global,
@@ -79,7 +117,7 @@ fn swept<E: Write>(
         return Err(words(alloc, "fault: plan 1:1 no UTF-8"));
     };
     match read(alloc, text) {
-        Ok(plan) => swept_plan(alloc, text, plan, at, is_shown, errors),
+        Ok(plan) => swept_in_time(alloc, text, plan, at, is_shown, errors),
         Err(fault) => Err(line_of(alloc, text, &PlanTrouble::Plan(fault))),
     }
 }

@@ -16,7 +16,7 @@ use Rattle.hsr_plan_text.specs.declared.fault.PlanFault.{PlanFault}
 use Rattle.hsr_plan_text.specs.declared.fault.Spot.{Spot}
 use Rattle.hsr_plan_text.specs.declared.fault.Spot.TheVariants as spot
 use Rattle.hsr_plan_text.specs.declared.fault.What.{What}
-use Rattle.hsr_plan_text.specs.declared.fault.What.TheVariants.{Text, Missing, Unknown, WrongKind, BadValue, Refused, NoMemory}
+use Rattle.hsr_plan_text.specs.declared.fault.What.TheVariants.{Text, Missing, Unknown, WrongKind, BadName, BadValue, Refused, NoMemory}
 use Rattle.hsr_plan_text.specs.declared.plan.Addressed.{Addressed}
 use Rattle.hsr_plan_text.specs.declared.plan.Event.{Event}
 use Rattle.hsr_plan_text.specs.declared.plan.InMode.{InMode}
@@ -36,6 +36,7 @@ spotted see spot (Err Text) said h = ap (at_spot spot) h
 spotted see spot (Err (Missing k)) said h = ap (at_spot spot) h
 spotted see spot (Err (Unknown w)) said h = ap (at_spot spot) h
 spotted see spot (Err (WrongKind k)) said h = ap (at_spot spot) h
+spotted see spot (Err (BadName k w)) said h = ap (at_spot spot) h
 spotted see spot (Err (BadValue k)) said h = ap (at_spot spot) h
 spotted see spot (Err (Refused w)) said h = ap (at_spot spot) h
 spotted see spot (Err NoMemory) said h = tt
@@ -46,6 +47,7 @@ stays Text r f h = ap (λ x. x >>= f) h
 stays (Missing k) r f h = ap (λ x. x >>= f) h
 stays (Unknown w) r f h = ap (λ x. x >>= f) h
 stays (WrongKind k) r f h = ap (λ x. x >>= f) h
+stays (BadName k w) r f h = ap (λ x. x >>= f) h
 stays (BadValue k) r f h = ap (λ x. x >>= f) h
 stays (Refused w) r f h = ap (λ x. x >>= f) h
 stays NoMemory r f h = tt
@@ -55,6 +57,7 @@ stays_at e Text r f h = ap (λ x. x >>= f) h
 stays_at e (Missing k) r f h = ap (λ x. x >>= f) h
 stays_at e (Unknown w) r f h = ap (λ x. x >>= f) h
 stays_at e (WrongKind k) r f h = ap (λ x. x >>= f) h
+stays_at e (BadName k w) r f h = ap (λ x. x >>= f) h
 stays_at e (BadValue k) r f h = ap (λ x. x >>= f) h
 stays_at e (Refused w) r f h = ap (λ x. x >>= f) h
 stays_at e NoMemory r f h = tt

@@ -1,40 +1,30 @@
 -- What the keys of a plan say of its nodes.
-use Rattle.std.specs.Prelude.{ℕ, List, [], ◌∷◌, ◌++◌, Option, Some, None, Result, Ok, Err, ok_or, if◌then◌else◌}
-use Rattle.toml.specs.Data.{Data, Members, as_str}
+use Rattle.std.specs.Prelude.{ℕ, List, [], ◌∷◌, Option, Some, None, Result, Ok, Err, ok_or}
+use Rattle.toml.specs.Data.{Data, Members}
 use Rattle.hsr_frame.specs.Words.{mode_of}
 use Rattle.hsr_plan_text.specs.Fallible.{◌>>=◌, each_item, each_member}
 use Rattle.hsr_plan_text.specs.Plan.{Behind, Network}
-use Rattle.hsr_plan_text.specs.Tables.{items, members, optional, word}
+use Rattle.hsr_plan_text.specs.Tables.{at_key, items, members, optional, text, word}
 use Rattle.hsr_plan_text.specs.Words.{mac_of, name_of}
 use Rattle.hsr_plan_text.specs.declared.fault.Key.{Key}
 use Rattle.hsr_plan_text.specs.declared.fault.Key.TheVariants as key
 use Rattle.hsr_plan_text.specs.declared.fault.What.{What}
-use Rattle.hsr_plan_text.specs.declared.fault.What.TheVariants.{BadValue, Missing}
+use Rattle.hsr_plan_text.specs.declared.fault.What.TheVariants.{BadName, Missing, Refused}
+use Rattle.hsr_plan_text.specs.declared.fault.Refusal.TheVariants.{Together}
 use Rattle.hsr_plan_text.specs.declared.plan.Addressed.{Addressed}
 use Rattle.hsr_plan_text.specs.declared.plan.InMode.{InMode}
 
 -- ---- names
 
+-- the name that a text is
+abbrev pub named : Key → List ℕ → Result (List ℕ) What
+named key k = ok_or (name_of k) (BadName key k)
+
 abbrev pub name : Key → Data → Result (List ℕ) What
-name key d = word name_of key d
+name key d = text key d >>= named key
 
 abbrev pub names : Key → Data → Result (List (List ℕ)) What
 names key d = items key d >>= each_item (name key) []
-
--- the name that a text is
-abbrev pub named : Key → List ℕ → Result (List ℕ) What
-named key k = ok_or (name_of k) (BadValue key)
-
-abbrev pub only_name : Key → List ℕ → Result (List (List ℕ)) What
-only_name key s = named key s >>= λ n. Ok (n ∷ [])
-
-abbrev pub one_or_names : Option (List ℕ) → Key → Data → Result (List (List ℕ)) What
-one_or_names None key d = names key d
-one_or_names (Some s) key d = only_name key s
-
--- one name, or a list of names
-abbrev pub some_names : Key → Data → Result (List (List ℕ)) What
-some_names key d = one_or_names (as_str d) key d
 
 -- ---- rings
 
@@ -51,12 +41,18 @@ abbrev pub some_rings : List (List (List ℕ)) → Result (List (List (List ℕ)
 some_rings [] = Err (Missing key.Ring)
 some_rings (r ∷ rs) = Ok (r ∷ rs)
 
--- the one ring, and those of the table `rings`, by its keys
-unfoldable pub rings_in : Members → Result (List (List (List ℕ))) What
-rings_in ms = do
-  one ← optional key.Ring [] only_ring ms
-  more ← optional key.Rings [] rings ms
-  some_rings (one ++ more)
+abbrev pub named_rings : Key → Data → Result (List (List (List ℕ))) What
+named_rings key d = rings key d >>= some_rings
+
+-- the one ring, or those of the table `rings`, by its keys, and not both
+abbrev pub rings_at : Option Data → Option Data → Result (List (List (List ℕ))) What
+rings_at None None = Err (Missing key.Ring)
+rings_at (Some d) None = only_ring key.Ring d
+rings_at None (Some d) = named_rings key.Rings d
+rings_at (Some d) (Some e) = Err (Refused (Together key.Rings))
+
+abbrev pub rings_in : Members → Result (List (List (List ℕ))) What
+rings_in ms = rings_at (at_key key.Ring ms) (at_key key.Rings ms)
 
 -- ---- what else is said of nodes
 

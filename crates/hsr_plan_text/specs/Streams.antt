@@ -1,8 +1,8 @@
 -- What the table of a stream says.
-use Rattle.std.specs.Prelude.{ℕ, ℤ, ◌+◌, ◌*◌, ◌^◌, ◌==◌, ◌||◌, List, [], ◌∷◌, Option, Some, None, Result, Ok, Err, ok_or, unwrap_or, if◌then◌else◌}
-use Rattle.toml.specs.Data.{Data, Members, as_integer, as_str}
-use Rattle.hsr_plan_text.specs.Fallible.{◌>>=◌, each_item}
-use Rattle.hsr_plan_text.specs.Network.{some_names}
+use Rattle.std.specs.Prelude.{ℕ, zero, suc, ℤ, ◌+◌, ◌*◌, ◌^◌, ◌==◌, ◌&&◌, ◌||◌, nat_lt, nat_le, Bool, true, List, [], ◌∷◌, length, Option, Some, None, Result, Ok, Err, ok_or, unwrap_or, if◌then◌else◌}
+use Rattle.toml.specs.Data.{Data, Items, no_items, item, Members, as_integer, as_str}
+use Rattle.hsr_plan_text.specs.Fallible.{◌>>=◌, each_item, guard}
+use Rattle.hsr_plan_text.specs.Network.{name, named}
 use Rattle.hsr_plan_text.specs.Plan.{Stream, Timing}
 use Rattle.hsr_plan_text.specs.Tables.{between, gap, items, moment, needed, only, optional, perhaps, word}
 use Rattle.hsr_plan_text.specs.Words.{kind_named, target_of}
@@ -12,7 +12,32 @@ use Rattle.hsr_plan_text.specs.declared.fault.What.{What}
 use Rattle.hsr_plan_text.specs.declared.fault.What.TheVariants.{BadValue}
 use Rattle.hsr_plan_text.specs.declared.plan.Framing.{Framing}
 use Rattle.hsr_plan_text.specs.declared.plan.Kind.{Kind}
-use Rattle.hsr_plan_text.specs.declared.plan.Kind.TheVariants.{Number}
+use Rattle.hsr_plan_text.specs.declared.plan.Kind.TheVariants.{Goose, SampledValues, Number}
+
+-- ---- who sends it
+
+abbrev pub only_name : Key → List ℕ → Result (List (List ℕ)) What
+only_name key s = named key s >>= λ n. Ok (n ∷ [])
+
+abbrev pub how_many : Items → ℕ
+how_many no_items = zero
+how_many (item d ds) = suc (how_many ds)
+
+-- a list has one sender at least, and 4096 at most
+abbrev pub some_few : ℕ → Bool
+some_few n = nat_lt 0 n && nat_le n 4096
+
+-- the names are counted before they are read
+abbrev pub few_names : Key → Data → Result (List (List ℕ)) What
+few_names key d = items key d >>= λ ds. guard (some_few (how_many ds)) (BadValue key) >>= λ _. each_item (name key) [] ds
+
+abbrev pub one_or_few : Option (List ℕ) → Key → Data → Result (List (List ℕ)) What
+one_or_few None key d = few_names key d
+one_or_few (Some s) key d = only_name key s
+
+-- one name, or a list of names
+abbrev pub senders : Key → Data → Result (List (List ℕ)) What
+senders key d = one_or_few (as_str d) key d
 
 -- ---- what its frames have alike
 
@@ -38,11 +63,22 @@ tag_in ms = do
   priority ← optional key.Priority None (perhaps (between 0 7)) ms
   Ok (tag_of vlan priority)
 
+-- where no size is said: 46 octets under a number, and of GOOSE and sampled values the shortest, which is told as 0
+abbrev pub usual_size : Kind → ℕ
+usual_size (Number n) = 46
+usual_size Goose = 0
+usual_size SampledValues = 0
+
+abbrev pub least_size : Kind → ℕ
+least_size (Number n) = 0
+least_size Goose = 1
+least_size SampledValues = 1
+
 unfoldable pub framing_in : Members → Result Framing What
 framing_in ms = do
   target ← needed key.To (word target_of) ms
   kind ← needed key.Kind kind ms
-  size ← optional key.Size 46 (between 0 1500) ms
+  size ← optional key.Size (usual_size kind) (between (least_size kind) 1500) ms
   tag ← tag_in ms
   Ok (record { target = target; kind = kind; size = size; tag = tag })
 
@@ -51,11 +87,25 @@ framing_in ms = do
 abbrev pub moments : Key → Data → Result (List ℕ) What
 moments key d = items key d >>= each_item (moment key) []
 
+-- there is no moment before it, or an earlier one
+abbrev pub comes_after : Option ℕ → ℕ → Bool
+comes_after None at = true
+comes_after (Some last) at = nat_lt last at
+
+-- each is later than the one before it
+abbrev pub rises : Option ℕ → List ℕ → Bool
+rises last [] = true
+rises last (at ∷ more) = comes_after last at && rises (Some at) more
+
+-- one moment at least, and each later than the one before it
+abbrev pub rising : Key → List ℕ → Result (List ℕ) What
+rising key starts = guard (nat_lt 0 (length starts) && rises None starts) (BadValue key) >>= λ _. Ok starts
+
 abbrev pub one_or_moments : Option ℤ → Key → Data → Result (List ℕ) What
-one_or_moments None key d = moments key d
+one_or_moments None key d = moments key d >>= rising key
 one_or_moments (Some z) key d = moment key d >>= λ at. Ok (at ∷ [])
 
--- one moment, or a list of moments
+-- one moment, or a list of moments that rise
 abbrev pub some_moments : Key → Data → Result (List ℕ) What
 some_moments key d = one_or_moments (as_integer d) key d
 
@@ -65,7 +115,7 @@ timing_in ms = do
   every ← needed key.Every gap ms
   grow ← optional key.Grow 1 (between 1 1000) ms
   most ← optional key.Most (2 ^ 40) gap ms
-  count ← optional key.Count None (perhaps (between 0 (2 ^ 40))) ms
+  count ← optional key.Count None (perhaps (between 1 (2 ^ 40))) ms
   until ← optional key.Until None (perhaps moment) ms
   Ok (record { starts = starts; every = every; grow = grow; most = most; count = count; until = until })
 
@@ -77,7 +127,7 @@ stream_keys = key.From ∷ key.To ∷ key.Kind ∷ key.Size ∷ key.Vlan ∷ key
 unfoldable pub stream_in : Members → Result Stream What
 stream_in ms = do
   _ ← only stream_keys ms
-  from ← needed key.From some_names ms
+  from ← needed key.From senders ms
   framing ← framing_in ms
   timing ← timing_in ms
   Ok (record { from = from; framing = framing; timing = timing })

@@ -104,6 +104,12 @@ pub enum Refusal {
     NameTwice(Word),
     /// Nobody has the name, or nobody who can do what is asked of it.
     NoSuchName(Word),
+    /// A node has the name, and no address of its own.
+    NoAddress(Word),
+    /// A station behind a RedBox has the name, where a node is asked for.
+    OfStation(Word),
+    /// The address that is given to the name is another's default.
+    AddressTaken(Word),
     /// Nobody has the address that is the value of a key.
     Nobody(Key),
     /// There is no link between the ends that are the value of a key.
@@ -112,6 +118,14 @@ pub enum Refusal {
     ToItself(Word),
     /// Nothing says where it ends.
     Endless(Key),
+    /// A moment of a key is behind the end, or the moment of a start is the end itself.
+    TooLate(Key),
+    /// A payload of so many octets is the shortest that there is.
+    TooSmall(usize),
+    /// An event changes nothing.
+    Idle(Key),
+    /// The key stands beside another in place of which it may stand.
+    Together(Key),
     /// There is more of what a key tells than is allowed.
     TooMany(Key),
     /// The nodes and links are no topology.
@@ -129,6 +143,8 @@ pub enum What {
     Unknown(Word),
     /// The value of a key has another type.
     WrongKind(Key),
+    /// A word in the value of a key, where a name has to be, is none.
+    BadName(Key, Word),
     /// The value of a key isn't one of those that it may have.
     BadValue(Key),
     /// The document is read, and means nothing.

@@ -1,15 +1,15 @@
 //! What the keys of a plan say of its nodes.
-ghost use Rattle.std.specs.Prelude.{◌≡◌, ◌++◌, [], Ok, ok_or};
-ghost use Rattle.toml.specs.View.{view, table_view};
+ghost use Rattle.std.specs.Prelude.{◌≡◌, [], Err};
+ghost use Rattle.toml.specs.View.{items_view, view, table_view};
 ghost use Rattle.hsr_frame.specs.Words.{mode_of};
-ghost use Rattle.hsr_plan_text.specs.Fallible.{Gives, each_member};
-ghost use Rattle.hsr_plan_text.specs.Network.{address, addresses, mode, modes, name, named, names, network_in, only_name, only_ring, redbox, redboxes, ring, rings, rings_in, some_names, some_rings};
+ghost use Rattle.hsr_plan_text.specs.Fallible.{Gives, each_item, each_member};
+ghost use Rattle.hsr_plan_text.specs.Network.{address, addresses, mode, modes, name, named, named_rings, names, network_in, only_ring, redbox, redboxes, ring, rings, rings_in};
 ghost use Rattle.hsr_plan_text.specs.Tables.{optional, word};
 ghost use Rattle.hsr_plan_text.specs.Words.{name_of};
 ghost use Rattle.hsr_plan_text.specs.declared.fault.Key.TheVariants as key;
-ghost use Rattle.hsr_plan_text.specs.declared.fault.What.TheVariants.{BadValue};
+ghost use Rattle.hsr_plan_text.specs.declared.fault.What.TheVariants.{BadName};
 
-use crate::fault::{Key, What};
+use crate::fault::{Key, Refusal, What};
 use crate::plan::{Addressed, Behind, InMode, Network, Ring};
 use crate::table::{items, members, text, value};
 use crate::word::Word;
@@ -20,12 +20,20 @@ use toml::{Table, Value};
 
 // ---- names
 
+/// Refuses a word that is no name.
+fn no_name(alloc: Global, key: Key, text: &[u8]) -> Result<Word, What>
+    ensures { Gives (λ w. w) result (Err (BadName key text.now)) }
+{
+    let word = Word::of(alloc, text)?;
+    Err(What::BadName(key, word))
+}
+
 /// The name that a text is.
 pub(crate) fn name_in(alloc: Global, key: Key, text: &[u8]) -> Result<Word, What>
     ensures { Gives (λ w. w) result (named key text.now) }
 {
     if !is_name(text) {
-        return Err(What::BadValue(key));
+        return no_name(alloc, key, text);
     }
     let name = Word::of(alloc, text)?;
     Ok(name)
@@ -38,12 +46,11 @@ pub(crate) fn name(alloc: Global, key: Key, value: &Value) -> Result<Word, What>
     name_in(alloc, key, text(key, value)?.as_bytes())
 }
 
-/// The names of an array.
+/// The names that items are.
 #[tactic(auto, using(crate::proofs::Lists::names_step, crate::proofs::Lists::names_fail))]
-fn names(alloc: Global, key: Key, value: &Value) -> Result<Vec<Word>, What>
-    ensures { Gives (λ v. v.items) result (names key (view value.now)) }
+pub(crate) fn names_of(alloc: Global, key: Key, items: &[Value]) -> Result<Vec<Word>, What>
+    ensures { Gives (λ v. v.items) result (each_item (name key) [] (items_view items.now)) }
 {
-    let items = items(key, value)?;
     let mut names = Vec::new(alloc);
     for item in items.iter() {
         match name(alloc, key, item) {
@@ -54,24 +61,11 @@ fn names(alloc: Global, key: Key, value: &Value) -> Result<Vec<Word>, What>
     Ok(names)
 }
 
-/// The name that a text is, as the only one of a list.
-fn only_name(alloc: Global, key: Key, text: &str) -> Result<Vec<Word>, What>
-    ensures { Gives (λ v. v.items) result (only_name key text.now) }
+/// The names of an array.
+fn names(alloc: Global, key: Key, value: &Value) -> Result<Vec<Word>, What>
+    ensures { Gives (λ v. v.items) result (names key (view value.now)) }
 {
-    let name = name_in(alloc, key, text.as_bytes())?;
-    let mut names = Vec::new(alloc);
-    names.push(name)?;
-    Ok(names)
-}
-
-/// One name, or those of an array.
-pub(crate) fn some_names(alloc: Global, key: Key, value: &Value) -> Result<Vec<Word>, What>
-    ensures { Gives (λ v. v.items) result (some_names key (view value.now)) }
-{
-    match value.as_str() {
-        Some(text) => only_name(alloc, key, text),
-        None => names(alloc, key, value),
-    }
+    names_of(alloc, key, items(key, value)?.as_slice())
 }
 
 // ---- rings
@@ -84,15 +78,13 @@ fn ring(alloc: Global, key: Key, value: &Value) -> Result<Ring, What>
     Ok(Ring { nodes })
 }
 
-/// The one ring of a plan, if there is one.
-fn only_ring(alloc: Global, table: &Table) -> Result<Vec<Ring>, What>
-    ensures { Gives (λ v. v.items) result (optional key.Ring [] only_ring (table_view table.now)) }
+/// The only ring of a plan.
+fn only_ring(alloc: Global, value: &Value) -> Result<Vec<Ring>, What>
+    ensures { Gives (λ v. v.items) result (only_ring key.Ring (view value.now)) }
 {
+    let ring = ring(alloc, Key::Ring, value)?;
     let mut rings = Vec::new(alloc);
-    if let Some(value) = value(table, Key::Ring) {
-        let ring = ring(alloc, Key::Ring, value)?;
-        rings.push(ring)?;
-    }
+    rings.push(ring)?;
     Ok(rings)
 }
 
@@ -118,28 +110,27 @@ fn rings(alloc: Global, key: Key, value: &Value) -> Result<Vec<Ring>, What>
     rings_of(alloc, members(key, value)?)
 }
 
-/// The rings that have names, if there are any.
-fn named_rings(alloc: Global, table: &Table) -> Result<Vec<Ring>, What>
-    ensures { Gives (λ v. v.items) result (optional key.Rings [] rings (table_view table.now)) }
+/// The rings that have names, one at least.
+fn named_rings(alloc: Global, value: &Value) -> Result<Vec<Ring>, What>
+    ensures { Gives (λ v. v.items) result (named_rings key.Rings (view value.now)) }
 {
-    match value(table, Key::Rings) {
-        None => Ok(Vec::new(alloc)),
-        Some(value) => rings(alloc, Key::Rings, value),
-    }
-}
-
-/// The rings of a plan.
-#[tactic(auto, unfolding(crate::specs::Network::rings_in))]
-fn rings_in(alloc: Global, table: &Table) -> Result<Vec<Ring>, What>
-    ensures { Gives (λ v. v.items) result (rings_in (table_view table.now)) }
-{
-    let mut rings = only_ring(alloc, table)?;
-    let mut more = named_rings(alloc, table)?;
-    rings.append(&mut more).or(Err(What::NoMemory))?;
+    let rings = rings(alloc, Key::Rings, value)?;
     if rings.is_empty() {
         return Err(What::Missing(Key::Ring));
     }
     Ok(rings)
+}
+
+/// The rings of a plan: the one, or those that have names.
+fn rings_in(alloc: Global, table: &Table) -> Result<Vec<Ring>, What>
+    ensures { Gives (λ v. v.items) result (rings_in (table_view table.now)) }
+{
+    match (value(table, Key::Ring), value(table, Key::Rings)) {
+        (None, None) => Err(What::Missing(Key::Ring)),
+        (Some(ring), None) => only_ring(alloc, ring),
+        (None, Some(rings)) => named_rings(alloc, rings),
+        (Some(_), Some(_)) => Err(What::Refused(Refusal::Together(Key::Rings))),
+    }
 }
 
 // ---- what else is said of nodes

@@ -1,20 +1,20 @@
 //! The streams of a plan.
-ghost use Rattle.std.specs.Prelude.{◌≡◌, ◌≤◌, ◌∷◌, ◌^◌, [], IfOk, IfSome, None, ok_or};
-ghost use Rattle.toml.specs.View.{view, table_view};
-ghost use Rattle.hsr_plan_text.specs.Fallible.{Gives};
-ghost use Rattle.hsr_plan_text.specs.Network.{some_names};
-ghost use Rattle.hsr_plan_text.specs.Streams.{framing_in, kind, moments, numbered, some_moments, stream_in, tag_in, tag_of, timing_in};
+ghost use Rattle.std.specs.Prelude.{◌≡◌, ◌≤◌, ◌∷◌, ◌^◌, [], IfOk, IfSome, None, ok_or, option_map};
+ghost use Rattle.toml.specs.View.{items_view, view, table_view};
+ghost use Rattle.hsr_plan_text.specs.Fallible.{Gives, guard};
+ghost use Rattle.hsr_plan_text.specs.Streams.{comes_after, few_names, framing_in, how_many, kind, least_size, moments, numbered, only_name, rises, rising, senders, some_few, some_moments, stream_in, tag_in, tag_of, timing_in, usual_size};
 ghost use Rattle.hsr_plan_text.specs.Tables.{between, gap, moment, needed, optional, perhaps, word};
-ghost use Rattle.hsr_plan_text.specs.Words.{target_of};
+ghost use Rattle.hsr_plan_text.specs.Words.{name_of, target_of};
+ghost use Rattle.hsr_plan_text.specs.declared.plan.Target.TheVariants.{Named};
 ghost use Rattle.hsr_plan_text.specs.declared.fault.Key.TheVariants as key;
 ghost use Rattle.hsr_plan_text.specs.declared.fault.What.TheVariants.{BadValue};
 
 use crate::fault::{Key, What};
-use crate::network::{name_in, some_names};
+use crate::network::{name_in, names_of};
 use crate::plan::{Framing, Kind, Stream, Target, Timing};
 use crate::table::{between, gap, items, moment, needed, only, text, value};
 use crate::word::Word;
-use crate::words::kind_named;
+use crate::words::{is_name, kind_named};
 use hsr_frame::Mac;
 use std::alloc::Global;
 use toml::{Table, Value};
@@ -22,7 +22,64 @@ use toml::{Table, Value};
 /// The last moment, and the longest gap, in microseconds.
 const LAST: u64 = 1 << 40;
 
+/// The most names in a list of senders.
+const SENDER_LIMIT: usize = 4096;
+
+// ---- who sends it
+
+/// The name that a text is, as the only one of a list.
+fn only_name(alloc: Global, key: Key, text: &str) -> Result<Vec<Word>, What>
+    ensures { Gives (λ v. v.items) result (only_name key text.now) }
+{
+    let name = name_in(alloc, key, text.as_bytes())?;
+    let mut names = Vec::new(alloc);
+    names.push(name)?;
+    Ok(names)
+}
+
+/// Refuses a list with no item, or with more than there may be senders.
+#[tactic(auto, using(crate::proofs::Senders::counted))]
+fn few(key: Key, items: &[Value]) -> Result<(), What>
+    ensures { Gives (λ u. u) result (guard (some_few (how_many (items_view items.now))) (BadValue key)) }
+{
+    if !items.is_empty() && items.len() <= SENDER_LIMIT {
+        Ok(())
+    } else {
+        Err(What::BadValue(key))
+    }
+}
+
+/// The names of an array that has few.
+fn few_names(alloc: Global, key: Key, value: &Value) -> Result<Vec<Word>, What>
+    ensures { Gives (λ v. v.items) result (few_names key (view value.now)) }
+{
+    let items = items(key, value)?;
+    few(key, items.as_slice())?;
+    names_of(alloc, key, items.as_slice())
+}
+
+/// One name, or those of an array that has few.
+fn senders(alloc: Global, key: Key, value: &Value) -> Result<Vec<Word>, What>
+    ensures { Gives (λ v. v.items) result (senders key (view value.now)) }
+{
+    match value.as_str() {
+        Some(text) => only_name(alloc, key, text),
+        None => few_names(alloc, key, value),
+    }
+}
+
 // ---- what its frames have alike
+
+/// The node or the station that a text names.
+fn named_target(alloc: Global, text: &str) -> Result<Target, What>
+    ensures { Gives (λ t. t) result (ok_or (option_map (λ n. Named n) (name_of text.now)) (BadValue key.To)) }
+{
+    if !is_name(text.as_bytes()) {
+        return Err(What::BadValue(Key::To));
+    }
+    let name = Word::of(alloc, text.as_bytes())?;
+    Ok(Target::Named(name))
+}
 
 /// Whom a text names: an address, or else a node or a station.
 fn target_of(alloc: Global, text: &str) -> Result<Target, What>
@@ -30,10 +87,7 @@ fn target_of(alloc: Global, text: &str) -> Result<Target, What>
 {
     match Mac::from_text(text) {
         Ok(mac) => Ok(Target::Address(mac)),
-        Err(_) => {
-            let name = name_in(alloc, Key::To, text.as_bytes())?;
-            Ok(Target::Named(name))
-        }
+        Err(_) => named_target(alloc, text),
     }
 }
 
@@ -77,28 +131,49 @@ fn kind(table: &Table) -> Result<Kind, What>
     kind_of(Key::Kind, needed(table, Key::Kind)?)
 }
 
-/// How many octets of payload a stream's frames have.
-fn size(table: &Table) -> Result<usize, What>
-    ensures { Gives (λ n. n) result (optional key.Size 46 (between 0 1500) (table_view table.now)) }
+/// How many octets of payload frames of a kind have, where that isn't said; 0 for the shortest.
+fn usual_size(kind: Kind) -> usize
+    ensures { result ≡ usual_size kind }
+{
+    match kind {
+        Kind::Number(_) => 46,
+        Kind::Goose | Kind::SampledValues => 0,
+    }
+}
+
+/// The least octets of payload that may be said of frames of a kind.
+fn least_size(kind: Kind) -> u64
+    ensures value { result ≡ least_size kind }
+    ensures most { result ≤ 1 }
+{
+    match kind {
+        Kind::Number(_) => 0,
+        Kind::Goose | Kind::SampledValues => 1,
+    }
+}
+
+/// How many octets of payload a stream's frames of a kind have; 0 for the shortest.
+fn size(kind: Kind, table: &Table) -> Result<usize, What>
+    ensures { Gives (λ n. n) result (optional key.Size (usual_size kind) (between (least_size kind) 1500) (table_view table.now)) }
 {
     match value(table, Key::Size) {
-        None => Ok(46),
+        None => Ok(usual_size(kind)),
         Some(value) => {
-            let size = between(0, 1500, Key::Size, value)?;
+            let size = between(least_size(kind), 1500, Key::Size, value)?;
             Ok(size as usize)
         }
     }
 }
 
 /// A number that may be left out.
-fn perhaps(table: &Table, key: Key, most: u64) -> Result<Option<u64>, What>
-    ensures value { Gives (λ n. n) result (optional key None (perhaps (between 0 most)) (table_view table.now)) }
+fn perhaps(table: &Table, key: Key, least: u64, most: u64) -> Result<Option<u64>, What>
+    ensures value { Gives (λ n. n) result (optional key None (perhaps (between least most)) (table_view table.now)) }
     ensures most { IfOk result (λ n. IfSome n (λ n. n ≤ most)) }
 {
     match value(table, key) {
         None => Ok(None),
         Some(value) => {
-            let number = between(0, most, key, value)?;
+            let number = between(least, most, key, value)?;
             Ok(Some(number))
         }
     }
@@ -124,8 +199,8 @@ fn tag_of(vlan: Option<u64>, priority: Option<u64>) -> Option<u16>
 fn tag(table: &Table) -> Result<Option<u16>, What>
     ensures { Gives (λ t. t) result (tag_in (table_view table.now)) }
 {
-    let vlan = perhaps(table, Key::Vlan, 4095)?;
-    let priority = perhaps(table, Key::Priority, 7)?;
+    let vlan = perhaps(table, Key::Vlan, 0, 4095)?;
+    let priority = perhaps(table, Key::Priority, 0, 7)?;
     Ok(tag_of(vlan, priority))
 }
 
@@ -136,7 +211,7 @@ fn framing(alloc: Global, table: &Table) -> Result<Framing, What>
 {
     let target = target(alloc, table)?;
     let kind = kind(table)?;
-    let size = size(table)?;
+    let size = size(kind, table)?;
     let tag = tag(table)?;
     Ok(Framing {
         target,
@@ -164,6 +239,42 @@ fn moments(alloc: Global, key: Key, value: &Value) -> Result<Vec<u64>, What>
     Ok(moments)
 }
 
+/// Whether a moment is later than the one before it, where there is one.
+fn comes_after(last: Option<u64>, at: u64) -> bool
+    ensures { result ≡ comes_after last at }
+{
+    match last {
+        None => true,
+        Some(last) => last < at,
+    }
+}
+
+/// Whether each of these moments is later than the one before it.
+#[tactic(auto, using(crate::proofs::Senders::rises_step))]
+fn rises(moments: &[u64]) -> bool
+    ensures { result ≡ rises None moments.now }
+{
+    let mut last = None;
+    for at in moments.iter() {
+        if !comes_after(last, *at) {
+            return false;
+        }
+        last = Some(*at);
+    }
+    true
+}
+
+/// Moments, if there are any, and each is later than the one before it.
+fn rising(key: Key, moments: Vec<u64>) -> Result<Vec<u64>, What>
+    ensures { Gives (λ v. v.items) result (rising key moments.items) }
+{
+    if !moments.is_empty() && rises(moments.as_slice()) {
+        Ok(moments)
+    } else {
+        Err(What::BadValue(key))
+    }
+}
+
 /// One moment, or those of an array.
 fn some_moments(alloc: Global, key: Key, value: &Value) -> Result<Vec<u64>, What>
     ensures { Gives (λ v. v.items) result (some_moments key (view value.now)) }
@@ -175,7 +286,7 @@ fn some_moments(alloc: Global, key: Key, value: &Value) -> Result<Vec<u64>, What
             moments.push(at)?;
             Ok(moments)
         }
-        None => moments(alloc, key, value),
+        None => rising(key, moments(alloc, key, value)?),
     }
 }
 
@@ -224,7 +335,7 @@ fn most(table: &Table) -> Result<u64, What>
 pub(crate) fn until(table: &Table) -> Result<Option<u64>, What>
     ensures { Gives (λ n. n) result (optional key.Until None (perhaps moment) (table_view table.now)) }
 {
-    perhaps(table, Key::Until, LAST)
+    perhaps(table, Key::Until, 0, LAST)
 }
 
 /// When a stream's frames are sent.
@@ -236,7 +347,7 @@ fn timing(alloc: Global, table: &Table) -> Result<Timing, What>
     let every = every(table)?;
     let grow = grow(table)?;
     let most = most(table)?;
-    let count = perhaps(table, Key::Count, LAST)?;
+    let count = perhaps(table, Key::Count, 1, LAST)?;
     let until = until(table)?;
     Ok(Timing {
         starts,
@@ -268,9 +379,9 @@ const STREAM_KEYS: [Key; 12] = [
 
 /// Who sends a stream.
 fn from(alloc: Global, table: &Table) -> Result<Vec<Word>, What>
-    ensures { Gives (λ v. v.items) result (needed key.From some_names (table_view table.now)) }
+    ensures { Gives (λ v. v.items) result (needed key.From senders (table_view table.now)) }
 {
-    some_names(alloc, Key::From, needed(table, Key::From)?)
+    senders(alloc, Key::From, needed(table, Key::From)?)
 }
 
 /// The stream of a table.

@@ -141,6 +141,32 @@ fn put_what(
     }
 }
 
+/// The word of a document that is a plan, and no scenario.
+fn plan_word(document: &Table, spot: Spot, what: &What) -> Option<&'static str> {
+    if !matches!((spot, what), (Spot::Top, What::Unknown)) {
+        return None;
+    }
+    if document.get("ring").is_some() {
+        return Some("ring");
+    }
+    if document.get("rings").is_some() {
+        return Some("rings");
+    }
+    if document.get("stream").is_some() {
+        return Some("stream");
+    }
+    None
+}
+
+/// Puts that a document is a plan last, and where that shows.
+fn put_plan(line: &mut Vec<u8>, source: Source<'_>, word: &str) -> Result<(), NoMemory> {
+    put_place(line, source.text, place_of(source, Spot::Top, word))?;
+    put(
+        line,
+        "this is a plan, and no scenario: hsr_plan writes the scenario that it means, and hsr_plan sweep tries it",
+    )
+}
+
 /// Puts where the fault of a document is and what it is last.
 fn put_fault(
     line: &mut Vec<u8>,
@@ -149,6 +175,9 @@ fn put_fault(
     fault: &ScenarioFault,
 ) -> Result<(), NoMemory> {
     let spot = spot_in(document, fault);
+    if let Some(word) = plan_word(document, spot, &fault.what) {
+        return put_plan(line, source, word);
+    }
     let table = table_of(document, spot).unwrap_or(document);
     let word = word_of(table, spot, &fault.what);
     put_place(line, source.text, place_of(source, spot, word))?;

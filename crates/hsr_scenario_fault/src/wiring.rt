@@ -29,15 +29,23 @@ fn is_group(text: &str) -> bool {
     }
 }
 
+/// The address that a value is, whatever the case of its digits.
+fn mac_of(value: &Value) -> Option<Mac> {
+    match Mac::from_text(value.as_str()?) {
+        Ok(mac) => Some(mac),
+        Err(_) => None,
+    }
+}
+
 /// Whether the address at a place among others is a group's, or stands again further on.
 fn is_bad_among(macs: &[Value], at: usize) -> bool {
-    let Some(text) = macs.get(at).and_then(Value::as_str) else {
+    let Some(mac) = macs.get(at).and_then(mac_of) else {
         return false;
     };
     let Some(rest) = at.checked_add(1).and_then(|next| macs.get(next..)) else {
         return false;
     };
-    is_group(text) || rest.iter().any(|other| other.as_str() == Some(text))
+    mac.is_group() || rest.iter().any(|other| mac_of(other) == Some(mac))
 }
 
 /// Whether a Station has no address, a group's, or one twice.

@@ -26,7 +26,7 @@ pub(crate) fn values_of(key: Key) -> &'static str {
         Key::At => "a moment in the scenario's unit, not negative",
         Key::To | Key::About => "an address as \"02-00-00-00-00-01\"",
         Key::Kind => "0 to 65535, as 0x88B8",
-        Key::Payload | Key::Octets => "pairs of hexadecimal digits in upper case, as \"00FF\"",
+        Key::Payload | Key::Octets => "pairs of hexadecimal digits, as \"00FF\"",
         Key::Vlan => "0 to 65535: priority and VLAN, as 0x800A",
         Key::From => "0 to 15: the place of the address among the Station's own",
         Key::Port => "a node's port as \"ied1.A\"",

@@ -27,7 +27,7 @@ read_line read.NoMemory = codes "fault: memory"
 
 abbrev pub fault_line : Fault → List ℕ
 fault_line (Transcript fault) = read_line fault
-fault_line Names = codes "fault: names"
+fault_line Names = codes "fault: names, and --names takes the scenario of the run: hsr_plan writes that of a plan"
 fault_line Link = codes "fault: link"
 fault_line Send = codes "fault: send"
 fault_line Moments = codes "fault: moments"

@@ -123,7 +123,10 @@ impl fmt::Display for Fault {
             }
             Fault::Transcript(ReadFault::Read) => write!(f, "fault: read"),
             Fault::Transcript(ReadFault::NoMemory) => write!(f, "fault: memory"),
-            Fault::Names => write!(f, "fault: names"),
+            Fault::Names => write!(
+                f,
+                "fault: names, and --names takes the scenario of the run: hsr_plan writes that of a plan"
+            ),
             Fault::Link => write!(f, "fault: link"),
             Fault::Send => write!(f, "fault: send"),
             Fault::Moments => write!(f, "fault: moments"),
