@@ -1,5 +1,6 @@
 //! The report of a finished run.
-ghost use Rattle.std.specs.Prelude.{◌≡◌, ◌<◌, ◌++◌, count_by, length, IfOk, OnOk};
+ghost use Rattle.std.specs.Prelude.{◌≡◌, ◌<◌, ◌^◌, ◌++◌, count_by, length, IfOk, OnOk};
+ghost use Rattle.hsr_frame.specs.Counters.{AreWithin};
 ghost use Rattle.hsr_closing.specs.Finished.{IsFinished};
 ghost use Rattle.hsr_law.specs.Run.{place_of};
 ghost use Rattle.hsr_report.specs.Found.{IsReportOf};
@@ -55,6 +56,7 @@ pub fn put_node(
     role: Role,
     counters: &Counters,
 ) -> Result<(), AllocError>
+    requires { AreWithin counters.now (2 ^ 62) }
     ensures { OnOk result (text.new.items ≡ text.old.items ++ node_text node role counters.now) }
 {
     put_count(text, b"node ", node as u64)?;

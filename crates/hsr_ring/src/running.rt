@@ -1,5 +1,5 @@
 //! A world in code, and its steps.
-ghost use Rattle.std.specs.Prelude.{◌≡◌, ◌⊎◌, ◌<◌, ◌≤◌, Ok, Err, OnOk, IfErr, IfNone, IfOk, map, length, option_map, reverse};
+ghost use Rattle.std.specs.Prelude.{◌≡◌, ◌⊎◌, ◌<◌, ◌≤◌, ◌^◌, Ok, Err, OnOk, IfErr, IfNone, IfOk, map, length, option_map, reverse};
 ghost use Rattle.hsr_ring.specs.Views.{in_world};
 ghost use Rattle.hsr_spans.specs.Ports.{port_fault, AreTold};
 ghost use Rattle.hsr_spans.specs.Views.{put_at_spot, spot_view};
@@ -407,6 +407,7 @@ impl<const C: usize> Running<C> {
 }
 
 impl<const C: usize> Running<C> {
+    ghost use Rattle.hsr_frame.specs.Counters.{AreWithin};
     ghost use Rattle.hsr_node.specs.Counts.{counters};
     ghost use Rattle.hsr_spans.specs.Ports.{ports_in};
     ghost use Rattle.hsr_ring.specs.Pending.{AreLooked};
@@ -437,7 +438,8 @@ impl<const C: usize> Running<C> {
     /// How often each thing happened at a node.
     pub(crate) fn counters(&self, node: usize) -> Counters
         requires { node < length self.now.places }
-        ensures { result ≡ counters (owner_at self.now node).place (record_at self.now node) }
+        ensures value { result ≡ counters (owner_at self.now node).place (record_at self.now node) }
+        ensures within { AreWithin result (2 ^ 62) }
     {
         self.nodes[node].counters()
     }

@@ -1,5 +1,5 @@
 //! Nodes and links in one world, and what is done with them, step by step.
-ghost use Rattle.std.specs.Prelude.{◌≡◌, ◌≤◌, ◌<◌, ◌⊎◌, Ok, Err, None, OnOk, IfErr, IfOk, length, reverse};
+ghost use Rattle.std.specs.Prelude.{◌≡◌, ◌≤◌, ◌<◌, ◌⊎◌, ◌^◌, Ok, Err, None, OnOk, IfErr, IfOk, length, reverse};
 ghost use Rattle.hsr_step.specs.declared.step.WorldFault.TheVariants.{NoMemory as NoRoom};
 
 use crate::fit::{places_fit, step_fits};
@@ -45,6 +45,7 @@ impl<const C: usize> World<C> {
     ghost use Rattle.hsr_world.specs.Lawful.{IsEnded, IsLawful, finished_of};
     ghost use Rattle.hsr_ring.specs.Stopping.{IsDrainFault, Runs, Stops};
     ghost use Rattle.hsr_world.specs.World.{Drains, span_at, new_world, next_step, owner_at, record_at, tried};
+    ghost use Rattle.hsr_frame.specs.Counters.{AreWithin};
     ghost use Rattle.hsr_node.specs.Counts.{counters};
 
     /// A world at moment 0 in which nothing was done, with room for `capacity` copies, 1 to 4096, in each direction of a link.
@@ -150,7 +151,8 @@ impl<const C: usize> World<C> {
     /// How often each thing happened at a node that is there, counted over its record.
     pub fn counters(&self, node: usize) -> Counters
         requires { node < length self.now.places }
-        ensures { result ≡ counters (owner_at self.now node).place (record_at self.now node) }
+        ensures value { result ≡ counters (owner_at self.now node).place (record_at self.now node) }
+        ensures within { AreWithin result (2 ^ 62) }
     {
         self.running.counters(node)
     }
