@@ -1,5 +1,6 @@
 -- Frames that are counted before they are listed.
 use Rattle.std.proofs.Common.{◌≡◌, ℕ, suc, ◌+◌, ◌-◌, ◌*◌, ◌<◌, ◌≤◌, ◌∙◌, false, true, min, nat_le, length, get_or, slice_get, drop, List, [], Some, None, refl, ap, sym, ⊎_elim, arith, length-append}
+use Rattle.std.proofs.lemmas.List.{drop_all}
 use Rattle.std.proofs.lemmas.Bool.Decides.{leb_tells, nat_tests}
 use Rattle.hsr_plan_text.specs.Plan.{Timing}
 use Rattle.hsr_plan_meaning.specs.Moments.{left, most_sent, next_end, run, runs, sent_by}
@@ -11,12 +12,14 @@ use Rattle.hsr_plan_meaning.specs.declared.occasion.Sent.{Sent}
 -- ---- room
 
 fits : (room n : ℕ) → n ≤ room → left room n ≡ Some (room - n)
+unfolding left
 fits room n h = let e : nat_le n room ≡ true = grind (arith, nat_tests) in rw e refl
 
-lacks : (room n : ℕ) → room < n → left room n ≡ None
+pub lacks : (room n : ℕ) → room < n → left room n ≡ None
+unfolding left
 lacks room n h = let e : nat_le n room ≡ false = grind (arith, nat_tests) in rw e refl
 
-pub all_left : (room : ℕ) → left room 0 ≡ Some room
+all_left : (room : ℕ) → left room 0 ≡ Some room
 all_left room =
     let some : 0 ≤ room = omega arith in
     let whole : room - 0 ≡ room = omega arith in
@@ -79,12 +82,6 @@ run_stop n k at gap timing until sent h = ap (λ xs. k + length xs) (listed.run_
 pub run_over : (n k at gap : ℕ) (timing : Timing) (until : ℕ) (sent : Sent) → n ≤ k → k + length (run (n - k) k at gap timing until sent) ≡ k
 run_over n k at gap timing until sent h = ap (λ xs. k + length xs) (listed.run_over [] n k at gap timing until sent h) ∙ nothing_more k
 
-pub run_full : (room whole most k at gap : ℕ) (timing : Timing) (until : ℕ) (sent : Sent) → room ≤ k → k < most → at < until
-    → k + length (run (most - k) k at gap timing until sent) ≡ whole → left room whole ≡ None
-run_full room whole most k at gap timing until sent none below now is =
-    let some : 1 ≤ length (run (most - k) k at gap timing until sent) = listed.run_some most k at gap timing until sent below now in
-    lacks room whole (omega (arith, some, is))
-
 -- ---- frames of one sender
 
 pub runs_step : (room r i d : ℕ) (starts : List ℕ) (timing : Timing) (until : ℕ) (sent : Sent) → i < length starts
@@ -103,6 +100,10 @@ runs_full room i d starts timing until sent h e =
     let behind = runs (i + 1) (drop (i + 1) starts) timing until sent in
     ap (λ xs. left room (length xs)) (listed.runs_step [] starts i d timing until sent h) ∙ ap (left room) (length-append here behind) ∙ full room (length here) (length behind) e
 
+-- none is left
+pub runs_over : (room i : ℕ) (starts : List ℕ) (timing : Timing) (until : ℕ) (sent : Sent) → length starts ≤ i → left room (length (runs i (drop i starts) timing until sent)) ≡ Some room
+runs_over room i starts timing until sent h = ap (λ xs. left room (length (runs i xs timing until sent))) (drop_all i starts h) ∙ all_left room
+
 -- ---- frames of a stream
 
 pub sent_by_step : (room r i : ℕ) (senders : List Sender) (j : ℕ) (d : Sender) (timing : Timing) (until : ℕ) (dst : List ℕ) → j < length senders
@@ -120,3 +121,7 @@ sent_by_full room i senders j d timing until dst h e =
     let here = runs 0 timing.starts timing until (first i j (get_or senders j d) dst) in
     let behind = sent_by i (j + 1) (drop (j + 1) senders) timing until dst in
     ap (λ xs. left room (length xs)) (listed.sent_by_step [] i senders j d timing until dst h) ∙ ap (left room) (length-append here behind) ∙ full room (length here) (length behind) e
+
+pub sent_by_over : (room i : ℕ) (senders : List Sender) (j : ℕ) (timing : Timing) (until : ℕ) (dst : List ℕ) → length senders ≤ j
+    → left room (length (sent_by i j (drop j senders) timing until dst)) ≡ Some room
+sent_by_over room i senders j timing until dst h = ap (λ xs. left room (length (sent_by i j xs timing until dst))) (drop_all j senders h) ∙ all_left room

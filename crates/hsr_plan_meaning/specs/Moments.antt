@@ -109,7 +109,7 @@ unfoldable pub fits : Framing → List ℕ → Result ⊤ What
 fits framing name = unless_held (is_enough framing (shortest framing.kind name)) (TooSmall (shortest framing.kind name))
 
 -- how much room is left behind so many, if there is as much
-abbrev pub left : ℕ → ℕ → Option ℕ
+unfoldable pub left : ℕ → ℕ → Option ℕ
 left room n = if nat_le n room then Some (room - n) else None
 
 -- all these, if there is room for them

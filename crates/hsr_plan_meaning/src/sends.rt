@@ -1,5 +1,6 @@
 //! When the frames of streams are sent.
-ghost use Rattle.std.specs.Prelude.{◌≡◌, ◌++◌, ◌+◌, ◌*◌, ◌≤◌, ◌<◌, ◌^◌, min, nat_le, length, slice_get, IfOk, OnOk};
+ghost use Rattle.std.specs.Prelude.{◌≡◌, ◌++◌, ◌+◌, ◌*◌, ◌≤◌, ◌<◌, ◌^◌, min, nat_le, nat_lt, length, slice_get, IfOk, OnOk};
+ghost use Rattle.std.specs.List.{list_all};
 ghost use Rattle.hsr_plan_text.specs.Fallible.{Gives};
 ghost use Rattle.hsr_plan_meaning.specs.Moments.{earlier, end_of, fits, left, most_sent, next_end, run, runs, sends, sent_by, shortest, starts_in_time};
 ghost use Rattle.hsr_plan_network.specs.Checks.{each_passes, unless_held};
@@ -77,6 +78,7 @@ fn next_gap(gap: u64, timing: &Timing) -> u64
 // ---- how many there are
 
 /// How much room is left behind so many, if there is as much.
+#[tactic(auto, unfolding(crate::specs::Moments::left))]
 fn left(room: usize, taken: usize) -> Option<usize>
     ensures { result ≡ left room taken }
 {
@@ -88,7 +90,7 @@ fn left(room: usize, taken: usize) -> Option<usize>
 }
 
 /// How much room is left behind the frames of one sender from one start on, if there is room for them.
-#[tactic(auto, using(crate::proofs::Counting::run_step, crate::proofs::Counting::run_stop, crate::proofs::Counting::run_over, crate::proofs::Counting::run_full))]
+#[tactic(auto, using(crate::proofs::Counting::run_step, crate::proofs::Counting::run_stop, crate::proofs::Counting::run_over, crate::proofs::Running::run_some, crate::proofs::Counting::lacks))]
 fn left_by_run(
     room: usize,
     most: usize,
@@ -133,7 +135,7 @@ fn left_by_state(
 }
 
 /// How much room is left behind the frames of one sender, if there is room for them.
-#[tactic(auto, using(crate::proofs::Counting::runs_step, crate::proofs::Counting::runs_full, crate::proofs::Counting::all_left))]
+#[tactic(auto, using(crate::proofs::Counting::runs_step, crate::proofs::Counting::runs_full, crate::proofs::Counting::runs_over))]
 fn left_by_runs(room: usize, timing: &Timing, until: u64, sent: &Sent) -> Option<usize>
     ensures { result ≡ left room (length (runs 0 timing.now.starts timing.now until sent.now)) }
 {
@@ -148,7 +150,7 @@ fn left_by_runs(room: usize, timing: &Timing, until: u64, sent: &Sent) -> Option
 }
 
 /// How much room is left behind the frames of senders, of the stream with this number, if there is room for them.
-#[tactic(auto, using(crate::proofs::Counting::sent_by_step, crate::proofs::Counting::sent_by_full, crate::proofs::Counting::all_left))]
+#[tactic(auto, using(crate::proofs::Counting::sent_by_step, crate::proofs::Counting::sent_by_full, crate::proofs::Counting::sent_by_over))]
 fn left_by_all(
     room: usize,
     stream: usize,
@@ -171,6 +173,7 @@ fn left_by_all(
 }
 
 /// Refuses the frames of senders, of the stream with this number, unless there is room for them.
+#[tactic(auto, unfolding(crate::specs::Moments::left))]
 fn check_room(
     room: usize,
     stream: usize,
@@ -314,11 +317,18 @@ fn check_sizes(alloc: Global, framing: &Framing, names: &[Word]) -> Result<(), W
     Ok(())
 }
 
+/// Whether each start comes before the end.
+fn are_before(until: u64, starts: &[u64]) -> bool
+    ensures { result ≡ list_all (λ start. nat_lt start until) starts.now }
+{
+    starts.iter().all(|start| *start < until)
+}
+
 /// Refuses starts of which one doesn't come before the end.
 fn starts_in_time(until: u64, starts: &[u64]) -> Result<(), What>
     ensures { Gives (λ u. u) result (starts_in_time until starts.now) }
 {
-    if starts.iter().all(|start| *start < until) {
+    if are_before(until, starts) {
         Ok(())
     } else {
         Err(What::Refused(Refusal::TooLate(Key::Start)))
