@@ -47,7 +47,7 @@ same_dir Back = refl
 at_end : (us now : ℕ) (f : Flight) → now - f.moment ≡ us → is_at_end us now f.link f.dir (Some f) ≡ true
 at_end us now f just = rw (eq-eqb f.link f.link refl, same_dir f.dir, eq-eqb (now - f.moment) us just) refl
 
-pub takes : (capacity us : ℕ) (s : Stage) (f : Flight) → 1 ≤ us → IsInTime us s → IsSettled capacity s.world s.due → next_copy s ≡ Some f → us ≤ elapsed s.now f → IsNext capacity us s (Take f.link f.dir) s.told
+pub takes : (capacity us : ℕ) (s : Stage) (f : Flight) → 1 ≤ us → IsInTime us s → IsSettled capacity s.world s.due → next_copy s ≡ Some f → us ≤ elapsed s.moment f → IsNext capacity us s (Take f.link f.dir) s.told
 takes capacity us s f time are settled next over =
     let ends = just_over us s f time are next over in
     record {
@@ -55,7 +55,7 @@ takes capacity us s f time are settled next over =
       stands = stands_free capacity s.world s.due (Take f.link f.dir) refl settled;
       puts_first = puts_first capacity s.world s.due (Take f.link f.dir) settled;
       first = ends.none;
-      on_time = let P : Option Flight → Type 0 = λ o. is_at_end us s.now f.link f.dir o ≡ true in subst P (sym next) (at_end us s.now f ends.just);
+      on_time = let P : Option Flight → Type 0 = λ o. is_at_end us s.moment f.link f.dir o ≡ true in subst P (sym next) (at_end us s.moment f ends.just);
       called_for = tt;
     }
 
@@ -73,12 +73,12 @@ moment us now at (order ∷ told) f time is first early =
     absurd (omega arith)
 
 pub waits : (capacity us at : ℕ) (s : Stage) (f : Flight) → 1 ≤ us → IsSettled capacity s.world s.due → next_copy s ≡ Some f → at ≡ f.moment + us
-    → comes_first us s.now s.told f ≡ true → elapsed s.now f < us → IsNext capacity us s (Clock at) (behind_moment at s.told)
+    → comes_first us s.moment s.told f ≡ true → elapsed s.moment f < us → IsNext capacity us s (Clock at) (behind_moment at s.told)
 waits capacity us at s f time settled next is first early = record {
-  does = moment us s.now at s.told f time is first early;
+  does = moment us s.moment at s.told f time is first early;
   stands = stands_free capacity s.world s.due (Clock at) refl settled;
   puts_first = puts_first capacity s.world s.due (Clock at) settled;
-  first = let k : s.now < at = omega arith in lt-ltb s.now at k;
+  first = let k : s.moment < at = omega arith in lt-ltb s.moment at k;
   on_time =
       let P : Option Flight → Type 0 = λ o. is_up_to_end us at o ≡ true in
       let k : at - f.moment ≤ us = omega arith in
@@ -141,21 +141,21 @@ comes_at_first now begun (Clock at) may = may
 comes_at_first now begun (Take l dir) may = absurd (false≢true may)
 comes_at_first now begun step may = refl
 
-is_called_for : (capacity us : ℕ) (s : Stage) (step : steps.Step) (more : List Order) → may_be_told s.now (Step step) ≡ true → s.told ≡ Step step ∷ more → IsCalledFor capacity us s step more
+is_called_for : (capacity us : ℕ) (s : Stage) (step : steps.Step) (more : List Order) → may_be_told s.moment (Step step) ≡ true → s.told ≡ Step step ∷ more → IsCalledFor capacity us s step more
 is_called_for capacity us s (Clock at) more may is = inl is
 is_called_for capacity us s (Put n port) more may is = absurd (false≢true may)
 is_called_for capacity us s step more may is = tt
 
-pub follows : (capacity us : ℕ) (s : Stage) (step : steps.Step) (more : List Order) → IsSettled capacity s.world s.due → s.told ≡ Step step ∷ more → may_be_told s.now (Step step) ≡ true
-    → arriving_if us s.now s.told (next_copy s) ≡ None → IsNext capacity us s step more
+pub follows : (capacity us : ℕ) (s : Stage) (step : steps.Step) (more : List Order) → IsSettled capacity s.world s.due → s.told ≡ Step step ∷ more → may_be_told s.moment (Step step) ≡ true
+    → arriving_if us s.moment s.told (next_copy s) ≡ None → IsNext capacity us s step more
 follows capacity us s step more settled is may none =
-    let P : List Order → Type 0 = λ ts. arriving_if us s.now ts (next_copy s) ≡ None in
+    let P : List Order → Type 0 = λ ts. arriving_if us s.moment ts (next_copy s) ≡ None in
     record {
-      does = does s.now step s.told more may is;
-      stands = stands_free capacity s.world s.due step (comes_free s.now step may) settled;
+      does = does s.moment step s.told more may is;
+      stands = stands_free capacity s.world s.due step (comes_free s.moment step may) settled;
       puts_first = puts_first capacity s.world s.due step settled;
-      first = comes_at_first s.now s.begun step may;
-      on_time = on_time us s.now step more (next_copy s) may (subst P is none);
+      first = comes_at_first s.moment s.begun step may;
+      on_time = on_time us s.moment step more (next_copy s) may (subst P is none);
       called_for = is_called_for capacity us s step more may is;
     }
 

@@ -27,13 +27,14 @@ later : (from now more : ℕ) (flights : List Flight) → now ≤ more → AreSi
 later from now more [] h are = tt
 later from now more (f ∷ flights) h (a, b, c) = (a, omega arith, later f.moment now more flights h c)
 
+waiting_by : (w : World) (from now : ℕ) (f : Flight) (flights : List Flight) (b : Bool) → AreSince from now (f ∷ flights) → AreSince f.moment now (on_way w flights)
+    → AreSince from now (cond b (f ∷ flights) (on_way w flights))
+waiting_by w from now f flights true are rest = are
+waiting_by w from now f flights false (a, b, c) rest = lower f.moment from now (on_way w flights) a rest
+
 waiting : (w : World) (from now : ℕ) (flights : List Flight) → AreSince from now flights → AreSince from now (on_way w flights)
 waiting w from now [] are = tt
-waiting w from now (f ∷ flights) (a, b, c) = by_way (is_on_way w f)
-  where
-    by_way : (b : Bool) → AreSince from now (cond b (f ∷ flights) (on_way w flights))
-    by_way true = (a, b, c)
-    by_way false = lower f.moment from now (on_way w flights) a (waiting w f.moment now flights c)
+waiting w from now (f ∷ flights) (a, b, c) = waiting_by w from now f flights (is_on_way w f) (a, b, c) (waiting w f.moment now flights c)
 
 none_more : (from now : ℕ) (flights : List Flight) → AreSince from now flights → AreSince from now (flights ++ [])
 none_more from now flights are = let P : List Flight → Type 0 = AreSince from now in subst P (sym (append-nil flights)) are
@@ -56,7 +57,7 @@ abbrev pub earliest : ℕ → ℕ → Bool → ℕ
 earliest us now begun = cond begun (now + 1) now - us
 
 abbrev pub IsInTime : ℕ → Stage → Type 0
-IsInTime us s = AreSince (earliest us s.now s.begun) s.now s.flights
+IsInTime us s = AreSince (earliest us s.moment s.begun) s.moment s.flights
 
 earliest_low : (us now : ℕ) (begun : Bool) → 1 ≤ us → earliest us now begun ≤ now
 earliest_low us now true h = omega arith
@@ -80,24 +81,24 @@ put_more us now begun w flights None h are = none_more (earliest us now begun) n
 put_more us now begun w flights (Some at) h are = one_more (earliest us now begun) now flights (leaving now w at) are (earliest_low us now begun h) refl
 
 module _ (us : ℕ) (links : List (List End)) (s : Stage) (more : List Order) (after : World) (time : 1 ≤ us) (are : IsInTime us s) where
-  wait : AreSince (earliest us s.now s.begun) s.now (on_way s.world s.flights)
-  wait = waiting s.world (earliest us s.now s.begun) s.now s.flights are
+  wait : AreSince (earliest us s.moment s.begun) s.moment (on_way s.world s.flights)
+  wait = waiting s.world (earliest us s.moment s.begun) s.moment s.flights are
 
-  moved : AreSince (earliest us s.now s.begun) s.now (on_way s.world s.flights ++ [])
-  moved = none_more (earliest us s.now s.begun) s.now (on_way s.world s.flights) wait
+  moved : AreSince (earliest us s.moment s.begun) s.moment (on_way s.world s.flights ++ [])
+  moved = none_more (earliest us s.moment s.begun) s.moment (on_way s.world s.flights) wait
 
-  telling : is_before_end us s.now (next_copy s) ≡ true → AreSince ((s.now + 1) - us) s.now (on_way s.world s.flights ++ [])
-  telling before = none_more ((s.now + 1) - us) s.now (on_way s.world s.flights)
-      (once_told us s.now (earliest us s.now s.begun) (on_way s.world s.flights) wait before)
+  telling : is_before_end us s.moment (next_copy s) ≡ true → AreSince ((s.moment + 1) - us) s.moment (on_way s.world s.flights ++ [])
+  telling before = none_more ((s.moment + 1) - us) s.moment (on_way s.world s.flights)
+      (once_told us s.moment (earliest us s.moment s.begun) (on_way s.world s.flights) wait before)
 
-  pub in_time_behind : (step : steps.Step) → is_on_time us s.now (next_copy s) step ≡ true → is_first s.now s.begun step ≡ true → IsInTime us (behind links s step more after)
+  pub in_time_behind : (step : steps.Step) → is_on_time us s.moment (next_copy s) step ≡ true → is_first s.moment s.begun step ≡ true → IsInTime us (behind links s step more after)
   in_time_behind (Clock at) on_time first = none_more (at - us) at (on_way s.world s.flights)
-      (at_moment us s.now at (earliest us s.now s.begun) (on_way s.world s.flights) wait (le_of_lt (ltb-true s.now at first)) on_time)
+      (at_moment us s.moment at (earliest us s.moment s.begun) (on_way s.world s.flights) wait (le_of_lt (ltb-true s.moment at first)) on_time)
   in_time_behind (Send n from dst vlan kind payload) on_time first = telling on_time
   in_time_behind (Supervise n about) on_time first = telling on_time
   in_time_behind (Age n) on_time first = telling on_time
   in_time_behind (Put n port) on_time first =
-      put_more us s.now s.begun s.world (on_way s.world s.flights) (link_from 0 links (record { node = n; port = port })) time wait
+      put_more us s.moment s.begun s.world (on_way s.world s.flights) (link_from 0 links (record { node = n; port = port })) time wait
   in_time_behind (Take l dir) on_time first = moved
   in_time_behind (Judge n port) on_time first = moved
   in_time_behind (Cut l) on_time first = telling on_time
@@ -115,15 +116,15 @@ in_time capacity us told time orders s (left_out before t step more begins next 
 
 -- a copy of which the hop is over ends it just now, and nothing that is told was done at this moment
 pub record IsJustOver (us : ℕ) (s : Stage) (f : Flight) : Type 0 where
-  pub just : s.now - f.moment ≡ us
+  pub just : s.moment - f.moment ≡ us
   pub none : not s.begun ≡ true
 
 over_by : (us now : ℕ) (begun : Bool) (f : Flight) → 1 ≤ us → earliest us now begun ≤ f.moment → us ≤ now - f.moment → (now - f.moment ≡ us) × (not begun ≡ true)
 over_by us now true f time early over = absurd (omega arith)
 over_by us now false f time early over = (omega arith, refl)
 
-pub just_over : (us : ℕ) (s : Stage) (f : Flight) → 1 ≤ us → IsInTime us s → next_copy s ≡ Some f → us ≤ s.now - f.moment → IsJustOver us s f
+pub just_over : (us : ℕ) (s : Stage) (f : Flight) → 1 ≤ us → IsInTime us s → next_copy s ≡ Some f → us ≤ s.moment - f.moment → IsJustOver us s f
 just_over us s f time are next over =
-    let low = bounds (earliest us s.now s.begun) s.now (on_way s.world s.flights) f (waiting s.world (earliest us s.now s.begun) s.now s.flights are) next in
-    let both = over_by us s.now s.begun f time low.0 over in
+    let low = bounds (earliest us s.moment s.begun) s.moment (on_way s.world s.flights) f (waiting s.world (earliest us s.moment s.begun) s.moment s.flights are) next in
+    let both = over_by us s.moment s.begun f time low.0 over in
     record { just = both.0; none = both.1 }

@@ -17,8 +17,9 @@ use Rattle.hsr_plan_hops.specs.Hops.{are_in_time}
 use Rattle.hsr_plan_hops.specs.Moving.{IsRunByHops, MovesByHops, world_of}
 use Rattle.hsr_plan_hops.specs.Telling.{Does, IsDone, IsUnknownTo, LeavesOut, Tells}
 use Rattle.hsr_plan_hops.specs.Turns.{are_in_turn, due_behind, is_first, may_stand}
-use Rattle.hsr_plan_hops.specs.Weaving.{EndsWell}
+use Rattle.hsr_plan_hops.specs.Weaving.{EndsWell, Woven}
 use Rattle.hsr_plan_hops.specs.declared.turns.Due.{Due}
+use Rattle.hsr_plan_hops.proofs.Begun.{made}
 use Rattle.hsr_plan_hops.specs.declared.turns.Due.TheVariants.{Nothing}
 
 -- ---- one step
@@ -76,7 +77,7 @@ module _ (capacity us : ℕ) (told : Meaning) where
       tells_on first t begins rest after
           (subst P (sym (unknown_first capacity t.world step t.told more next.does unknown)) (tells_first capacity told.topology.links step more t.due t.world rest after unknown h))
 
-  on_time_on : (orders : List Order) (s : Stage) → Begins capacity us told orders s → (rest : List Order) → AreOnTime capacity us told.topology.links s.now s.flights s.world rest
+  on_time_on : (orders : List Order) (s : Stage) → Begins capacity us told orders s → (rest : List Order) → AreOnTime capacity us told.topology.links s.moment s.flights s.world rest
       → AreOnTime capacity us told.topology.links 0 [] (world_of told) (orders ++ rest)
   on_time_on orders s at_first rest h = h
   on_time_on orders s (done first t step more between begins next is) rest h =
@@ -84,7 +85,7 @@ module _ (capacity us : ℕ) (told : Meaning) where
       subst P (sym (append_assoc first (Step step ∷ []) rest)) (on_time_on first t begins (Step step ∷ rest) (between, is, next.on_time, h))
   on_time_on orders s (left_out first t step more begins next unknown) rest h = on_time_on first t begins rest h
 
-  in_turn_on : (orders : List Order) (s : Stage) → Begins capacity us told orders s → (rest : List Order) → are_in_turn told.topology.links s.due s.now s.begun rest ≡ true
+  in_turn_on : (orders : List Order) (s : Stage) → Begins capacity us told orders s → (rest : List Order) → are_in_turn told.topology.links s.due s.moment s.begun rest ≡ true
       → are_in_turn told.topology.links Nothing 0 false (orders ++ rest) ≡ true
   in_turn_on orders s at_first rest h = h
   in_turn_on orders s (done first t step more between begins next is) rest h =
@@ -99,8 +100,8 @@ plays : (capacity : ℕ) (links : List (List End)) (told : List Order) (due : Du
     → Tells capacity links told due w orders after → Plays capacity orders w after
 plays capacity links told due w [] after (out, is) = is
 plays capacity links told due w (Drain ∷ orders) after h = absurd h
-plays capacity links told due w (Step step ∷ orders) after (more, between, done, rest) =
-    (between, done.done, plays capacity links more (due_behind links step) between orders after rest)
+plays capacity links told due w (Step step ∷ orders) after (more, between, is, rest) =
+    (between, is.done, plays capacity links more (due_behind links step) between orders after rest)
 
 pub by_hops : (capacity us : ℕ) (told : Meaning) (orders : List Order) (s : Stage) → DoesAll capacity us told orders s → EndsWell capacity us s.world → MovesByHops capacity us told orders
 by_hops capacity us told orders s all ends =
@@ -124,3 +125,10 @@ by_hops capacity us told orders s all ends =
         in_time = ends.in_time;
       };
     }
+
+pub by_hops_at : (capacity us : ℕ) (told : Meaning) (v : Woven) (s : Stage) (orders : List Order) (w : World) → made s orders ≡ v → s.world ≡ w → DoesAll capacity us told v.orders v.stage
+    → EndsWell capacity us w → MovesByHops capacity us told orders
+by_hops_at capacity us told v s orders w is_made is_world all ends =
+    let P : Woven → Type 0 = λ x. DoesAll capacity us told x.orders x.stage in
+    let W : World → Type 0 = EndsWell capacity us in
+    by_hops capacity us told orders s (subst P (sym is_made) all) (subst W (sym is_world) ends)

@@ -24,14 +24,14 @@ use Rattle.hsr_plan_hops.specs.declared.turns.Due.TheVariants.{Nothing, Judgemen
 pub record Stage : Type 0 where
   pub told : List Order
   pub due : Due
-  pub now : ℕ
+  pub moment : ℕ
   pub begun : Bool
   pub flights : List Flight
   pub world : World
 
 -- nothing of what is told is done
 abbrev pub first_stage : Meaning → Stage
-first_stage told = record { told = told.orders; due = Nothing; now = 0; begun = false; flights = []; world = world_of told }
+first_stage told = record { told = told.orders; due = Nothing; moment = 0; begun = false; flights = []; world = world_of told }
 
 -- the copy that comes to its end next
 abbrev pub next_copy : Stage → Option Flight
@@ -60,8 +60,8 @@ pub record IsNext (capacity us : ℕ) (s : Stage) (step : steps.Step) (more : Li
   pub does : Does step s.told more
   pub stands : may_stand s.due step ≡ true
   pub puts_first : PutsFirst capacity s.world s.due step
-  pub first : is_first s.now s.begun step ≡ true
-  pub on_time : is_on_time us s.now (next_copy s) step ≡ true
+  pub first : is_first s.moment s.begun step ≡ true
+  pub on_time : is_on_time us s.moment (next_copy s) step ≡ true
   pub called_for : IsCalledFor capacity us s step more
 
 -- the stage behind a step that is done
@@ -69,9 +69,9 @@ abbrev pub behind : List (List End) → Stage → steps.Step → List Order → 
 behind links s step more after = record {
   told = more;
   due = due_behind links step;
-  now = moment_behind s.now step;
+  moment = moment_behind s.moment step;
   begun = begun_behind s.begun step;
-  flights = flights_behind links s.now s.world step s.flights;
+  flights = flights_behind links s.moment s.world step s.flights;
   world = after;
 }
 

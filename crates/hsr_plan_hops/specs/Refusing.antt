@@ -76,12 +76,12 @@ comes_first us now (order ∷ told) f = nat_le us (elapsed now f)
 pub record EndsTooLate (us : ℕ) (s : Stage) : Type 0 where
   pub copy : Flight
   pub next : next_copy s ≡ Some copy
-  pub first : comes_first us s.now s.told copy ≡ true
+  pub first : comes_first us s.moment s.told copy ≡ true
   pub late : 2 ^ 64 ≤ copy.moment + us
 
 -- what comes next can't be done, or no port is there to judge what was taken
 abbrev pub IsStuck : ℕ → ℕ → Stage → Type 0
-IsStuck capacity us s = IsRefused capacity us s ⊎ (IsMistold s.now s.told ⊎ (EndsTooLate us s ⊎ (s.due ≡ Judgement None)))
+IsStuck capacity us s = IsRefused capacity us s ⊎ (IsMistold s.moment s.told ⊎ (EndsTooLate us s ⊎ (s.due ≡ Judgement None)))
 
 pub record GetsStuck (capacity us : ℕ) (told : Meaning) : Type 0 where
   pub orders : List Order

@@ -96,7 +96,7 @@ arriving_if us now told None = None
 arriving_if us now told (Some f) = if comes_first us now told f then Some f else None
 
 abbrev pub arriving : ℕ → Stage → Option Flight
-arriving us s = arriving_if us s.now s.told (next_copy s)
+arriving us s = arriving_if us s.moment s.told (next_copy s)
 
 -- what is told behind a moment that comes next
 abbrev pub behind_moment : ℕ → List Order → List Order

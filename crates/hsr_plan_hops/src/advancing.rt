@@ -35,7 +35,7 @@ fn arriving<const C: usize>(us: u64, stage: &Stage<'_, C>) -> Option<Flight>
     ensures { result ≡ arriving us stage.now }
 {
     let copy = stage.next_copy()?;
-    if comes_first(us, stage.now, stage.told, copy) {
+    if comes_first(us, stage.moment, stage.told, copy) {
         Some(copy)
     } else {
         None
@@ -53,7 +53,7 @@ fn takes<const C: usize>(
     requires begun { IsBegun C us told.now weaving.old }
     requires settled { IsSettled C weaving.old.stage.world weaving.old.stage.due }
     requires next { next_copy weaving.old.stage ≡ Some copy }
-    requires over { us ≤ elapsed weaving.old.stage.now copy }
+    requires over { us ≤ elapsed weaving.old.stage.moment copy }
     ensures ok { OnOk result (Advances C us told.now weaving.old weaving.new) }
     ensures err { IfErr result (IsUnmovedByHops C us told.now) }
 {
@@ -83,8 +83,8 @@ fn waits<const C: usize>(
     requires begun { IsBegun C us told.now weaving.old }
     requires settled { IsSettled C weaving.old.stage.world weaving.old.stage.due }
     requires next { next_copy weaving.old.stage ≡ Some copy }
-    requires first { comes_first us weaving.old.stage.now weaving.old.stage.told copy ≡ true }
-    requires early { elapsed weaving.old.stage.now copy < us }
+    requires first { comes_first us weaving.old.stage.moment weaving.old.stage.told copy ≡ true }
+    requires early { elapsed weaving.old.stage.moment copy < us }
     ensures ok { OnOk result (Advances C us told.now weaving.old weaving.new) }
     ensures err { IfErr result (IsUnmovedByHops C us told.now) }
 {
@@ -109,7 +109,7 @@ fn lands<const C: usize>(
     ensures ok { OnOk result (Advances C us told.now weaving.old weaving.new) }
     ensures err { IfErr result (IsUnmovedByHops C us told.now) }
 {
-    if us <= elapsed(weaving.stage.now, copy) {
+    if us <= elapsed(weaving.stage.moment, copy) {
         takes(told, us, copy, weaving)
     } else {
         waits(told, us, copy, weaving)
@@ -144,7 +144,7 @@ fn follows<'a, const C: usize>(
     ensures err { IfErr result (IsUnmovedByHops C us told.now) }
 {
     match order {
-        Order::Step(step) if may_be_told(weaving.stage.now, order) => {
+        Order::Step(step) if may_be_told(weaving.stage.moment, order) => {
             obeys(told, us, step, more, weaving)
         }
         _ => Err(Unmoved::Differs),
@@ -239,7 +239,7 @@ pub(crate) fn woven<const C: usize>(
     let stage = Stage {
         told: told.orders.as_slice(),
         due: Due::Nothing,
-        now: 0,
+        moment: 0,
         begun: false,
         flights: VecDeque::new(alloc),
         world: world_of::<C>(alloc, told)?,

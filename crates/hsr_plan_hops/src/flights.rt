@@ -40,7 +40,7 @@ fn is_on_way<const C: usize>(world: &World<C>, flight: Flight) -> bool
 }
 
 /// How many copies there are before the first that still waits on its link.
-#[tactic(auto, using(crate::proofs::OnWay::first_waits, crate::proofs::OnWay::first_gone, crate::proofs::OnWay::none_left))]
+#[tactic(auto, using(crate::proofs::OnWay::waits_at, crate::proofs::OnWay::gone_at, crate::proofs::OnWay::all_gone))]
 pub(crate) fn landed<const C: usize>(world: &World<C>, flights: &VecDeque<Flight>) -> usize
     ensures { drop result flights.now.items ≡ on_way world.now flights.now.items }
 {
@@ -58,7 +58,7 @@ pub(crate) fn landed<const C: usize>(world: &World<C>, flights: &VecDeque<Flight
 pub(crate) fn forget(flights: &mut VecDeque<Flight>, count: usize)
     ensures { flights.new.items ≡ drop count flights.old.items }
 {
-    for _ in 0..count {
+    for gone in 0..count {
         flights.pop_front();
     }
 }

@@ -19,7 +19,7 @@ use std::marker::Model;
 pub(crate) struct Stage<'a, const C: usize> {
     pub(crate) told: &'a [Order],
     pub(crate) due: Due,
-    pub(crate) now: u64,
+    pub(crate) moment: u64,
     pub(crate) begun: bool,
     pub(crate) flights: VecDeque<Flight>,
     pub(crate) world: World<C>,
@@ -30,7 +30,7 @@ impl<'a, const C: usize> Model for Stage<'a, C> {
 
     ghost Value = { Stage };
 
-    ghost view = { λ s. record { told = s.told.now; due = s.due; now = s.now; begun = s.begun; flights = s.flights.items; world = s.world } };
+    ghost view = { λ s. record { told = s.told.now; due = s.due; moment = s.moment; begun = s.begun; flights = s.flights.items; world = s.world } };
 }
 
 impl<'a, const C: usize> Stage<'a, C> {
@@ -57,7 +57,7 @@ impl<'a, const C: usize> Stage<'a, C> {
     ) -> Result<Option<WorldFault>, NoMemory>
         ensures { IfOk result (IsTried C topology.now.links self.old step.now more.now self.new) }
     {
-        let copy = put_by(&self.world, topology, self.now, step);
+        let copy = put_by(&self.world, topology, self.moment, step);
         let count = landed(&self.world, &self.flights);
         match self.world.step(step) {
             Ok(()) => {}
@@ -70,7 +70,7 @@ impl<'a, const C: usize> Stage<'a, C> {
         }
         self.told = more;
         self.due = due_behind(topology.links(), step);
-        self.now = moment_behind(self.now, step);
+        self.moment = moment_behind(self.moment, step);
         self.begun = begun_behind(self.begun, step);
         Ok(None)
     }

@@ -1,6 +1,6 @@
 //! The orders that do what is told, one after another: what is done is written down, and puts and judgements are done at once.
 ghost use Rattle.std.specs.Prelude.{◌≡◌, ◌++◌, ◌∷◌, [], false, true, IfErr, IfOk, OnOk};
-ghost use Rattle.hsr_scenario.specs.declared.steps.Order.TheVariants as orders;
+ghost use Rattle.hsr_scenario.specs.declared.steps.Order.TheVariants as written;
 ghost use Rattle.hsr_plan_hops.specs.Beginning.{HasPutBelow, IsNext};
 ghost use Rattle.hsr_plan_hops.specs.Turns.{is_put};
 ghost use Rattle.hsr_plan_hops.specs.Refusing.{IsUnmovedByHops};
@@ -41,7 +41,7 @@ impl<'a, const C: usize> Model for Weaving<'a, C> {
 
 /// Writes down a step that was done.
 fn note(orders: &mut Vec<Order>, step: &Step) -> Result<(), NoMemory>
-    ensures { OnOk result (orders.new.items ≡ orders.old.items ++ orders.Step step.now ∷ []) }
+    ensures { OnOk result (orders.new.items ≡ orders.old.items ++ written.Step step.now ∷ []) }
 {
     orders.push(Order::Step(step.clone()?))?;
     Ok(())
