@@ -20,7 +20,7 @@ use Rattle.hsr_plan_hops.specs.declared.turns.Due.TheVariants.{Nothing}
 use Rattle.hsr_plan_hops.specs.Refusing.{GetsStuck, IsEndless, IsRefused, IsStuck, IsUnmovable, order_limit}
 use Rattle.hsr_plan_hops.specs.Telling.{Does, IsMoment, IsUnknownTo}
 use Rattle.hsr_plan_hops.specs.Turns.{is_put}
-use Rattle.hsr_plan_hops.specs.Weaving.{GoesOn, IsBegun, IsObeyed, IsTried, Woven, is_owed, is_unknown, left}
+use Rattle.hsr_plan_hops.specs.Weaving.{GoesOn, GoesOnIf, IsBegun, IsObeyed, IsTried, Woven, is_owed, is_unknown, left}
 
 -- ---- a step that is done
 
@@ -72,14 +72,14 @@ pub goes_on_at : (capacity us : ℕ) (told : Meaning) (v : Woven) (links : List 
     → orders ≡ before ++ Step step ∷ [] → length orders ≤ order_limit → GoesOn capacity us told v step more (made t orders)
 goes_on_at capacity us told v links s t before orders step more o is_made same none begun next is longer few =
     goes_on capacity us told v (made t orders) step more begun next (tried_at capacity told v links s t before step more o is_made same none is)
-        (added_at v s before orders (Step step) is_made longer) few
+    (added_at v s before orders (Step step) is_made longer) few
 
 pub endless_at : (capacity us : ℕ) (told : Meaning) (v : Woven) (links : List (List End)) (s t : Stage) (before orders : List Order) (step : steps.Step) (more : List Order) (o : Option WorldFault)
     → made s before ≡ v → links ≡ told.topology.links → o ≡ None → IsBegun capacity us told v → IsNext capacity us v.stage step more → IsTried capacity links s step more t o
     → orders ≡ before ++ Step step ∷ [] → order_limit < length orders → IsEndless capacity us told
 endless_at capacity us told v links s t before orders step more o is_made same none begun next is longer over =
     endless capacity us told v (made t orders) step more begun next (tried_at capacity told v links s t before step more o is_made same none is)
-        (added_at v s before orders (Step step) is_made longer) over
+    (added_at v s before orders (Step step) is_made longer) over
 
 -- nothing is done yet
 pub begun_first : (capacity us : ℕ) (told : Meaning) (os : List Order) (flights : List Flight) (w : World) (orders : List Order) → os ≡ told.orders → flights ≡ [] → w ≡ world_of told → orders ≡ []
@@ -149,7 +149,15 @@ pub leaves_out_at : (capacity us : ℕ) (told : Meaning) (v x : Woven) (s t : St
 leaves_out_at capacity us told v x s t before step more fault begun next unknown is same is_made is_telling =
     let e : made s before ≡ v = is_made ∙ same in
     leaves_out capacity us told v (made t before) step more begun next (unknown_so capacity v.stage.world step fault unknown is)
-        (is_telling ∙ ap (λ (w : Woven). telling w.stage more) e) (ap (λ (w : Woven). w.orders) e)
+    (is_telling ∙ ap (λ (w : Woven). telling w.stage more) e) (ap (λ (w : Woven). w.orders) e)
+
+pub left_out_at : (capacity us : ℕ) (told : Meaning) (v x : Woven) (s t : Stage) (before : List Order) (step : steps.Step) (more : List Order) (o : Option WorldFault) (fault : WorldFault)
+    → IsBegun capacity us told v → IsNext capacity us v.stage step more → GoesOnIf capacity us told v step more x o → o ≡ Some fault → is_unknown step fault ≡ true → made s before ≡ x
+    → t ≡ telling s more → IsObeyed capacity us told v more (made t before)
+left_out_at capacity us told v x s t before step more o fault begun next is some unknown is_made is_telling =
+    let P : Option WorldFault → Type 0 = GoesOnIf capacity us told v step more x in
+    let refusal = subst P some is in
+    leaves_out_at capacity us told v x s t before step more fault begun next unknown refusal.1 refusal.0 is_made is_telling
 
 -- ---- how much is told behind a step
 

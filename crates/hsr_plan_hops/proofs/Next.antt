@@ -9,8 +9,9 @@ use Rattle.hsr_scenario.specs.declared.steps.Order.{Order}
 use Rattle.hsr_scenario.specs.declared.steps.Order.TheVariants.{Step, Drain}
 use Rattle.hsr_step.specs.declared.step.Step.TheVariants.{Clock, Send, Supervise, Age, Put, Take, Judge, Cut, Mend, Inject}
 use Rattle.hsr_step.specs.declared.step.Step as steps
+use Rattle.hsr_plan_meaning.specs.Meaning.{Meaning}
 use Rattle.hsr_world.specs.World.{World}
-use Rattle.hsr_plan_hops.specs.Beginning.{HasPutBelow, IsCalledFor, IsNext, IsSettled, Stage, ends_at, next_copy}
+use Rattle.hsr_plan_hops.specs.Beginning.{Begins, HasPutBelow, IsCalledFor, IsNext, IsSettled, Stage, ends_at, next_copy}
 use Rattle.hsr_plan_hops.specs.Flights.{elapsed, is_at_end, is_before_end, is_on_time, is_up_to_end}
 use Rattle.hsr_plan_hops.specs.Refusing.{comes_first, may_be_told}
 use Rattle.hsr_plan_hops.specs.Telling.{Does, IsMoment, PutsFirst}
@@ -19,7 +20,7 @@ use Rattle.hsr_plan_hops.specs.Weaving.{arriving_if, behind_moment}
 use Rattle.hsr_plan_hops.specs.declared.flights.Flight.{Flight}
 use Rattle.hsr_plan_hops.specs.declared.turns.Due.{Due}
 use Rattle.hsr_plan_hops.specs.declared.turns.Due.TheVariants.{Nothing, Judgement, Puts}
-use Rattle.hsr_plan_hops.proofs.Since.{IsInTime, IsJustOver, just_over}
+use Rattle.hsr_plan_hops.proofs.Since.{IsInTime, IsJustOver, in_time, just_over}
 
 -- ---- where nothing is left to judge or to put
 
@@ -58,6 +59,12 @@ takes capacity us s f time are settled next over =
       on_time = let P : Option Flight → Type 0 = λ o. is_at_end us s.moment f.link f.dir o ≡ true in subst P (sym next) (at_end us s.moment f ends.just);
       called_for = tt;
     }
+
+pub takes_at : (capacity us : ℕ) (told : Meaning) (orders : List Order) (s : Stage) (f : Flight) (more : List Order) → 1 ≤ us → Begins capacity us told orders s
+    → IsSettled capacity s.world s.due → next_copy s ≡ Some f → us ≤ elapsed s.moment f → more ≡ s.told → IsNext capacity us s (Take f.link f.dir) more
+takes_at capacity us told orders s f more time begins settled next over same =
+    let P : List Order → Type 0 = IsNext capacity us s (Take f.link f.dir) in
+    subst P (sym same) (takes capacity us s f time (in_time capacity us told time orders s begins) settled next over)
 
 moment_by : (at next : ℕ) (told : List Order) (b : Bool) → (next == at) ≡ b → at ≤ next → IsMoment at (Step (Clock next) ∷ told) (cond b told (Step (Clock next) ∷ told))
 moment_by at next told true e h = inl (eqb-true next at e, refl)

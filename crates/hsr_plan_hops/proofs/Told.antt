@@ -71,11 +71,11 @@ module _ (capacity us : ℕ) (told : Meaning) where
   tells_on orders s (done first t step more between begins next is) rest after h =
       let P : List Order → Type 0 = λ os. Tells capacity told.topology.links told.orders Nothing (world_of told) os after in
       subst P (sym (append_assoc first (Step step ∷ []) rest))
-          (tells_on first t begins (Step step ∷ rest) after (more, between, does_next capacity us t step more between next is, h))
+      (tells_on first t begins (Step step ∷ rest) after (more, between, does_next capacity us t step more between next is, h))
   tells_on orders s (left_out first t step more begins next unknown) rest after h =
       let P : List Order → Type 0 = λ ts. Tells capacity told.topology.links ts t.due t.world rest after in
       tells_on first t begins rest after
-          (subst P (sym (unknown_first capacity t.world step t.told more next.does unknown)) (tells_first capacity told.topology.links step more t.due t.world rest after unknown h))
+      (subst P (sym (unknown_first capacity t.world step t.told more next.does unknown)) (tells_first capacity told.topology.links step more t.due t.world rest after unknown h))
 
   on_time_on : (orders : List Order) (s : Stage) → Begins capacity us told orders s → (rest : List Order) → AreOnTime capacity us told.topology.links s.moment s.flights s.world rest
       → AreOnTime capacity us told.topology.links 0 [] (world_of told) (orders ++ rest)

@@ -64,10 +64,7 @@ pub(crate) fn forget(flights: &mut VecDeque<Flight>, count: usize)
 }
 
 /// The copy that comes to its end next.
-pub(crate) fn next<const C: usize>(
-    world: &World<C>,
-    flights: &VecDeque<Flight>,
-) -> Option<Flight>
+pub(crate) fn next<const C: usize>(world: &World<C>, flights: &VecDeque<Flight>) -> Option<Flight>
     ensures { result ≡ slice_get (on_way world.now flights.now.items) 0 }
 {
     let place = landed(world, flights);

@@ -72,4 +72,3 @@ pub(crate) fn begun_behind(begun: bool, step: &Step) -> bool
         | Step::Inject { .. } => true,
     }
 }
-
