@@ -1,4 +1,7 @@
+mod Begun
+mod Ending
 mod Listing
+mod Next
 mod OnWay
-mod Standing
+mod Since
 mod Told

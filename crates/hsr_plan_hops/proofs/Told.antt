@@ -1,99 +1,134 @@
--- What is told and done, one order after another.
-use Rattle.std.proofs.Common.{◌≡◌, ℕ, inl, inr, ◌∷◌, [], List, refl, sym, subst, slice_get, true}
+-- Orders that do all that is told, one after another.
+use Rattle.std.proofs.Common.{◌≡◌, ◌∙◌, ℕ, inl, inr, ◌∷◌, ◌++◌, ◌&&◌, [], List, None, Ok, ap, append_assoc, append-nil, refl, sym, subst, slice_get, Bool, true, false}
+use Rattle.hsr_frame.specs.declared.node.About.TheVariants.{Own, Proxied}
 use Rattle.hsr_topology.specs.declared.end.End.{End}
 use Rattle.hsr_scenario.specs.declared.steps.Order.{Order}
 use Rattle.hsr_scenario.specs.declared.steps.Order.TheVariants.{Step, Drain}
+use Rattle.hsr_step.specs.declared.step.Step.TheVariants.{Clock, Send, Supervise, Age, Put, Take, Judge, Cut, Mend, Inject}
 use Rattle.hsr_step.specs.declared.step.Step as steps
 use Rattle.hsr_closing.specs.Finished.{Finished}
 use Rattle.hsr_playing.specs.Playing.{Plays}
 use Rattle.hsr_plan_meaning.specs.Meaning.{Meaning}
 use Rattle.hsr_world.specs.Lawful.{IsEnded, finished_of}
-use Rattle.hsr_world.specs.World.{World}
-use Rattle.hsr_plan_hops.specs.Flights.{AreOnTime, on_way, flights_behind, is_on_time}
+use Rattle.hsr_world.specs.World.{World, tried}
+use Rattle.hsr_plan_hops.specs.Beginning.{Begins, DoesAll, IsNext, Stage, at_first, behind, done, left_out}
+use Rattle.hsr_plan_hops.specs.Flights.{AreOnTime}
 use Rattle.hsr_plan_hops.specs.Hops.{are_in_time}
-use Rattle.hsr_plan_hops.specs.Moving.{IsRunByHops, world_of}
-use Rattle.hsr_plan_hops.specs.Telling.{IsDone, IsUnknown, LeavesOut, Tells}
-use Rattle.hsr_plan_hops.specs.Turns.{due_behind, moment_behind}
-use Rattle.hsr_plan_hops.specs.declared.flights.Flight.{Flight}
+use Rattle.hsr_plan_hops.specs.Moving.{IsRunByHops, MovesByHops, world_of}
+use Rattle.hsr_plan_hops.specs.Telling.{Does, IsDone, IsUnknownTo, LeavesOut, Tells}
+use Rattle.hsr_plan_hops.specs.Turns.{are_in_turn, due_behind, is_first, may_stand}
+use Rattle.hsr_plan_hops.specs.Weaving.{EndsWell, Woven}
 use Rattle.hsr_plan_hops.specs.declared.turns.Due.{Due}
+use Rattle.hsr_plan_hops.proofs.Begun.{made}
 use Rattle.hsr_plan_hops.specs.declared.turns.Due.TheVariants.{Nothing}
 
--- what can be left out of what is left, can be of all
-pub record LeavesOn (capacity : ℕ) (w : World) (told left : List Order) : Type 0 where
-  pub on : (more : List Order) → LeavesOut capacity w left more → LeavesOut capacity w told more
+-- ---- one step
 
-pub leaves_none : (capacity : ℕ) (w : World) (told : List Order) → LeavesOut capacity w told told
+leaves_none : (capacity : ℕ) (w : World) (told : List Order) → LeavesOut capacity w told told
 leaves_none capacity w [] = refl
 leaves_none capacity w (order ∷ told) = inl refl
 
-pub left_first : (capacity : ℕ) (w : World) (told : List Order) → LeavesOn capacity w told told
-left_first capacity w told = record { on = λ more h. h }
+-- a step that comes next, and is done, does what is told
+does_next : (capacity us : ℕ) (s : Stage) (step : steps.Step) (more : List Order) (after : World) → IsNext capacity us s step more → tried capacity s.world step ≡ Ok after
+    → IsDone capacity s.told s.due s.world step more after
+does_next capacity us s step more after next is = record {
+  left = s.told;
+  left_out = leaves_none capacity s.world s.told;
+  does = next.does;
+  puts_first = next.puts_first;
+  done = is;
+}
 
-pub left_more : (capacity : ℕ) (w : World) (told left more : List Order) (order : Order) → left ≡ order ∷ more → IsUnknown capacity w order
-    → LeavesOn capacity w told left → LeavesOn capacity w told more
-left_more capacity w told left more order is unknown h =
-    record { on = λ rest r. h.on rest (subst (λ ls. LeavesOut capacity w ls rest) (sym is) (inr (unknown, r))) }
+-- what is left out is told next
+unknown_first : (capacity : ℕ) (w : World) (step : steps.Step) (told more : List Order) → Does step told more → IsUnknownTo capacity w step → told ≡ Step step ∷ more
+unknown_first capacity w (Supervise n (Proxied mac)) told more does unknown = does
+unknown_first capacity w (Supervise n Own) told more does unknown = absurd unknown
+unknown_first capacity w (Clock at) told more does unknown = absurd unknown
+unknown_first capacity w (Send n from dst vlan kind payload) told more does unknown = absurd unknown
+unknown_first capacity w (Age n) told more does unknown = absurd unknown
+unknown_first capacity w (Put n port) told more does unknown = absurd unknown
+unknown_first capacity w (Take l dir) told more does unknown = absurd unknown
+unknown_first capacity w (Judge n port) told more does unknown = absurd unknown
+unknown_first capacity w (Cut l) told more does unknown = absurd unknown
+unknown_first capacity w (Mend l) told more does unknown = absurd unknown
+unknown_first capacity w (Inject l dir octets) told more does unknown = absurd unknown
 
-pub left_all : (capacity : ℕ) (w : World) (told left : List Order) → LeavesOn capacity w told left → LeavesOut capacity w told left
-left_all capacity w told left h = h.on left (leaves_none capacity w left)
+-- what does the rest of what is told, once more of it is left out
+tells_first : (capacity : ℕ) (links : List (List End)) (step : steps.Step) (more : List Order) (due : Due) (w : World) (rest : List Order) (after : World) → IsUnknownTo capacity w step
+    → Tells capacity links more due w rest after → Tells capacity links (Step step ∷ more) due w rest after
+tells_first capacity links step more due w [] after unknown (out, same) = (inr (unknown, out), same)
+tells_first capacity links step more due w (Drain ∷ rest) after unknown h = absurd h
+tells_first capacity links step more due w (Step next ∷ rest) after unknown (told, between, is, h) =
+    (told, between, record { left = is.left; left_out = inr (unknown, is.left_out); does = is.does; puts_first = is.puts_first; done = is.done }, h)
 
--- what the orders that are left do of what is left, all do of all
-pub record TellsOn (capacity : ℕ) (links : List (List End)) (left : List Order) (due : Due) (w : World) (rest told : List Order) (old : World) (orders : List Order) : Type 0 where
-  pub on : (after : World) → Tells capacity links left due w rest after → Tells capacity links told Nothing old orders after
+-- ---- all
 
-pub tells_first : (capacity : ℕ) (links : List (List End)) (told : List Order) (old : World) (orders : List Order) → TellsOn capacity links told Nothing old orders told old orders
-tells_first capacity links told old orders = record { on = λ after h. h }
+module _ (capacity us : ℕ) (told : Meaning) where
+  -- what does the rest, does all behind a beginning
+  tells_on : (orders : List Order) (s : Stage) → Begins capacity us told orders s → (rest : List Order) (after : World)
+      → Tells capacity told.topology.links s.told s.due s.world rest after → Tells capacity told.topology.links told.orders Nothing (world_of told) (orders ++ rest) after
+  tells_on orders s at_first rest after h = h
+  tells_on orders s (done first t step more between begins next is) rest after h =
+      let P : List Order → Type 0 = λ os. Tells capacity told.topology.links told.orders Nothing (world_of told) os after in
+      subst P (sym (append_assoc first (Step step ∷ []) rest))
+      (tells_on first t begins (Step step ∷ rest) after (more, between, does_next capacity us t step more between next is, h))
+  tells_on orders s (left_out first t step more begins next unknown) rest after h =
+      let P : List Order → Type 0 = λ ts. Tells capacity told.topology.links ts t.due t.world rest after in
+      tells_on first t begins rest after
+      (subst P (sym (unknown_first capacity t.world step t.told more next.does unknown)) (tells_first capacity told.topology.links step more t.due t.world rest after unknown h))
 
-pub tells_more : (capacity : ℕ) (links : List (List End)) (left more : List Order) (due : Due) (w between : World) (rest behind told : List Order) (old : World) (orders : List Order) (step : steps.Step)
-    → rest ≡ Step step ∷ behind → IsDone capacity left due w step more between
-    → TellsOn capacity links left due w rest told old orders → TellsOn capacity links more (due_behind links step) between behind told old orders
-tells_more capacity links left more due w between rest behind told old orders step is done h =
-    record { on = λ after r. h.on after (subst (λ os. Tells capacity links left due w os after) (sym is) (more, between, done, r)) }
+  on_time_on : (orders : List Order) (s : Stage) → Begins capacity us told orders s → (rest : List Order) → AreOnTime capacity us told.topology.links s.moment s.flights s.world rest
+      → AreOnTime capacity us told.topology.links 0 [] (world_of told) (orders ++ rest)
+  on_time_on orders s at_first rest h = h
+  on_time_on orders s (done first t step more between begins next is) rest h =
+      let P : List Order → Type 0 = AreOnTime capacity us told.topology.links 0 [] (world_of told) in
+      subst P (sym (append_assoc first (Step step ∷ []) rest)) (on_time_on first t begins (Step step ∷ rest) (between, is, next.on_time, h))
+  on_time_on orders s (left_out first t step more begins next unknown) rest h = on_time_on first t begins rest h
 
-pub tells_all : (capacity : ℕ) (links : List (List End)) (left : List Order) (due : Due) (w : World) (rest told : List Order) (old : World) (orders : List Order)
-    → rest ≡ [] → LeavesOut capacity w left [] → TellsOn capacity links left due w rest told old orders → Tells capacity links told Nothing old orders w
-tells_all capacity links left due w rest told old orders is out h =
-    h.on w (subst (λ os. Tells capacity links left due w os w) (sym is) (out, refl))
-
--- if the orders that are left are on time, all are
-pub record OnTimeOn (capacity us : ℕ) (links : List (List End)) (now : ℕ) (flights : List Flight) (w : World) (rest : List Order) (first : List Flight) (old : World) (orders : List Order) : Type 0 where
-  pub on : AreOnTime capacity us links now flights w rest → AreOnTime capacity us links 0 first old orders
-
-pub on_time_more : (capacity us : ℕ) (links : List (List End)) (now : ℕ) (flights behind : List Flight) (told more : List Order) (due : Due) (w between : World) (rest left : List Order) (first : List Flight) (old : World) (orders : List Order) (step : steps.Step)
-    → rest ≡ Step step ∷ left → IsDone capacity told due w step more between → is_on_time us now (slice_get (on_way w flights) 0) step ≡ true → behind ≡ flights_behind links now w step flights
-    → OnTimeOn capacity us links now flights w rest first old orders → OnTimeOn capacity us links (moment_behind now step) behind between left first old orders
-on_time_more capacity us links now flights behind told more due w between rest left first old orders step is done on_time are h =
-    record {
-      on = λ r. h.on (subst (λ os. AreOnTime capacity us links now flights w os) (sym is)
-          (between, done.done, on_time, subst (λ fs. AreOnTime capacity us links (moment_behind now step) fs between left) are r));
-    }
-
-pub on_time_all : (capacity us : ℕ) (links : List (List End)) (now : ℕ) (flights : List Flight) (w : World) (rest : List Order) (first : List Flight) (old : World) (orders : List Order)
-    → rest ≡ [] → OnTimeOn capacity us links now flights w rest first old orders → AreOnTime capacity us links 0 first old orders
-on_time_all capacity us links now flights w rest first old orders is h = h.on (subst (λ os. AreOnTime capacity us links now flights w os) (sym is) tt)
+  in_turn_on : (orders : List Order) (s : Stage) → Begins capacity us told orders s → (rest : List Order) → are_in_turn told.topology.links s.due s.moment s.begun rest ≡ true
+      → are_in_turn told.topology.links Nothing 0 false (orders ++ rest) ≡ true
+  in_turn_on orders s at_first rest h = h
+  in_turn_on orders s (done first t step more between begins next is) rest h =
+      ap (are_in_turn told.topology.links Nothing 0 false) (append_assoc first (Step step ∷ []) rest)
+      ∙ in_turn_on first t begins (Step step ∷ rest) (rw (next.stands, next.first, h) refl)
+  in_turn_on orders s (left_out first t step more begins next unknown) rest h = in_turn_on first t begins rest h
 
 -- ---- the run
 
 -- orders that do what is told are played
-pub plays : (capacity : ℕ) (links : List (List End)) (told : List Order) (due : Due) (w : World) (orders : List Order) (after : World)
+plays : (capacity : ℕ) (links : List (List End)) (told : List Order) (due : Due) (w : World) (orders : List Order) (after : World)
     → Tells capacity links told due w orders after → Plays capacity orders w after
 plays capacity links told due w [] after (out, is) = is
 plays capacity links told due w (Drain ∷ orders) after h = absurd h
-plays capacity links told due w (Step step ∷ orders) after (more, between, done, rest) =
-    (between, done.done, plays capacity links more (due_behind links step) between orders after rest)
+plays capacity links told due w (Step step ∷ orders) after (more, between, is, rest) =
+    (between, is.done, plays capacity links more (due_behind links step) between orders after rest)
 
-pub by_hops : (capacity us : ℕ) (told : Meaning) (orders : List Order) (w : World) (run : Finished)
-    → Tells capacity told.topology.links told.orders Nothing (world_of told) orders w → AreOnTime capacity us told.topology.links 0 [] (world_of told) orders → IsEnded w → run ≡ finished_of capacity w
-    → are_in_time us run.run ≡ true → IsRunByHops capacity us told orders
-by_hops capacity us told orders w run tells on_time ended is in_time = record {
-  run = run;
-  finished = record {
-    world = w;
-    plays = plays capacity told.topology.links told.orders Nothing (world_of told) orders w tells;
-    ended = ended;
-    is = is;
-  };
-  tells = tells;
-  on_time = on_time;
-  in_time = in_time;
-}
+pub by_hops : (capacity us : ℕ) (told : Meaning) (orders : List Order) (s : Stage) → DoesAll capacity us told orders s → EndsWell capacity us s.world → MovesByHops capacity us told orders
+by_hops capacity us told orders s all ends =
+    let same : orders ++ [] ≡ orders = append-nil orders in
+    let T : List Order → Type 0 = λ os. Tells capacity told.topology.links told.orders Nothing (world_of told) os s.world in
+    let A : List Order → Type 0 = AreOnTime capacity us told.topology.links 0 [] (world_of told) in
+    let N : List Order → Type 0 = λ ts. LeavesOut capacity s.world ts [] in
+    let tells : T orders = subst T same (tells_on capacity us told orders s all.begins [] s.world (subst N (sym all.all) refl, refl)) in
+    record {
+      in_turn = ap (are_in_turn told.topology.links Nothing 0 false) (sym same) ∙ in_turn_on capacity us told orders s all.begins [] refl;
+      run = record {
+        run = finished_of capacity s.world;
+        finished = record {
+          world = s.world;
+          plays = plays capacity told.topology.links told.orders Nothing (world_of told) orders s.world tells;
+          ended = ends.ended;
+          is = refl;
+        };
+        tells = tells;
+        on_time = subst A same (on_time_on capacity us told orders s all.begins [] tt);
+        in_time = ends.in_time;
+      };
+    }
+
+pub by_hops_at : (capacity us : ℕ) (told : Meaning) (v : Woven) (s : Stage) (orders : List Order) (w : World) → made s orders ≡ v → s.world ≡ w → DoesAll capacity us told v.orders v.stage
+    → EndsWell capacity us w → MovesByHops capacity us told orders
+by_hops_at capacity us told v s orders w is_made is_world all ends =
+    let P : Woven → Type 0 = λ x. DoesAll capacity us told x.orders x.stage in
+    let W : World → Type 0 = EndsWell capacity us in
+    by_hops capacity us told orders s (subst P (sym is_made) all) (subst W (sym is_world) ends)

@@ -3,3 +3,6 @@ pub mod Telling
 pub mod Flights
 pub mod Hops
 pub mod Moving
+pub mod Beginning
+pub mod Refusing
+pub mod Weaving

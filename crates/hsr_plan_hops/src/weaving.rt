@@ -1,182 +1,225 @@
-//! The run of what a plan tells, played while its orders are written, with its copies on their way.
-ghost use Rattle.std.specs.Prelude.{◌≤◌};
+//! The orders that do what is told, one after another: what is done is written down, and puts and judgements are done at once.
+ghost use Rattle.std.specs.Prelude.{◌≡◌, ◌++◌, ◌∷◌, [], false, true, IfErr, IfOk, OnOk};
+ghost use Rattle.hsr_scenario.specs.declared.steps.Order.TheVariants as written;
+ghost use Rattle.hsr_plan_hops.specs.Beginning.{HasPutBelow, IsNext};
+ghost use Rattle.hsr_plan_hops.specs.Turns.{is_put};
+ghost use Rattle.hsr_plan_hops.specs.Refusing.{IsUnmovedByHops};
+ghost use Rattle.hsr_plan_hops.specs.Weaving.{GoesOn, GoesOnIf, IsBegun, IsJudged, IsObeyed, PutsIf, Settles, is_owed, is_unknown};
+ghost use Rattle.hsr_plan_hops.specs.declared.turns.Due.TheVariants.{Judgement, Puts};
 
-use crate::flights::{Flight, forget_landed, leaving, next};
-use crate::moving::{Unmoved, world_of};
-use crate::telling::PORT_LIMIT;
-use crate::turns::receiver;
-use hsr_frame::About;
+use crate::stage::Stage;
+use crate::turns::Due;
+use crate::unmoved::Unmoved;
+use hsr_frame::{About, NoMemory};
+use hsr_node::StepFault;
 use hsr_plan_meaning::Meaning;
-use hsr_ring::World;
 use hsr_scenario::Order;
 use hsr_step::{Step, WorldFault};
-use hsr_topology::{End, Topology};
-use std::alloc::Global;
-use std::collections::VecDeque;
+use hsr_topology::End;
+use std::marker::Model;
 
 /// The most orders.
-const ORDER_LIMIT: usize = 1 << 20;
+pub(crate) const ORDER_LIMIT: usize = 1 << 20;
 
-/// What is played so far: the world, its topology, how long a copy is on its way, the moment, the copies that are on their way, in the
-/// order in which they were put, and the orders.
+/// As many ports as a node may have.
+const PORT_LIMIT: u8 = 4;
+
+/// The orders so far, and the stage that they lead to.
 #[derive(Drop)]
-struct Weaving<'a, const C: usize> {
-    world: World<C>,
-    topology: &'a Topology,
-    hop: u64,
-    now: u64,
-    flights: VecDeque<Flight>,
-    orders: Vec<Order>,
+pub(crate) struct Weaving<'a, const C: usize> {
+    pub(crate) stage: Stage<'a, C>,
+    pub(crate) orders: Vec<Order>,
 }
 
-impl<'a, const C: usize> Weaving<'a, C> {
-    /// Does a step, if the world doesn't refuse it, and writes it down.
-    fn tries(&mut self, step: Step) -> Result<bool, Unmoved> {
-        if self.orders.len() >= ORDER_LIMIT {
-            return Err(Unmoved::Endless(ORDER_LIMIT));
-        }
-        match self.world.step(&step) {
-            Ok(()) => {
-                self.orders.push(Order::Step(step))?;
-                Ok(true)
-            }
-            Err(WorldFault::NoMemory) => Err(Unmoved::Memory),
-            Err(_) => Ok(false),
-        }
-    }
+impl<'a, const C: usize> Model for Weaving<'a, C> {
+    ghost use Rattle.hsr_plan_hops.specs.Weaving.{Woven};
 
-    /// Does a step that the world may not refuse.
-    fn does(&mut self, step: Step) -> Result<(), Unmoved> {
-        if self.tries(step)? {
-            Ok(())
-        } else {
-            Err(Unmoved::Differs)
-        }
-    }
+    ghost Value = { Woven };
 
-    /// Sets the moment, if it is another.
-    fn clock(&mut self, at: u64) -> Result<(), Unmoved> {
-        if self.now != at {
-            self.does(Step::Clock { at })?;
-            self.now = at;
-        }
-        Ok(())
-    }
-
-    /// Puts what a port has to put, if it has something.
-    fn put(&mut self, node: usize, port: u8) -> Result<(), Unmoved> {
-        let copy = leaving(&self.world, self.topology, self.now, End { node, port });
-        if self.tries(Step::Put { node, port })? {
-            let Some(copy) = copy else {
-                return Err(Unmoved::Differs);
-            };
-            self.flights.push_back(copy)?;
-        }
-        Ok(())
-    }
-
-    /// Puts what a node has just passed.
-    fn put_all(&mut self, node: usize) -> Result<(), Unmoved> {
-        for port in 0..PORT_LIMIT {
-            self.put(node, port)?;
-        }
-        Ok(())
-    }
-
-    /// Takes and judges a copy that has come to the end of its link, and puts what is passed of it.
-    fn land(&mut self, copy: Flight) -> Result<(), Unmoved> {
-        let Flight { link, dir, .. } = copy;
-        let Some(End { node, port }) = receiver(self.topology.links(), link, dir) else {
-            return Err(Unmoved::Differs);
-        };
-        self.clock(self.end_of(copy))?;
-        self.does(Step::Take { link, dir })?;
-        self.does(Step::Judge { node, port })?;
-        self.put_all(node)
-    }
-
-    /// When a copy comes to its end.
-    fn end_of(&self, copy: Flight) -> u64 {
-        copy.moment.saturating_add(self.hop)
-    }
-
-    /// The next copy that comes to its end, up to a moment.
-    fn next_until(&mut self, at: u64) -> Option<Flight> {
-        forget_landed(&self.world, &mut self.flights);
-        match next(&self.flights) {
-            Some(copy) if self.end_of(copy) <= at => Some(copy),
-            _ => None,
-        }
-    }
-
-    /// Brings all copies to their ends that come there up to a moment.
-    fn land_until(&mut self, at: u64) -> Result<(), Unmoved> {
-        for _ in 0..ORDER_LIMIT {
-            let Some(copy) = self.next_until(at) else {
-                return Ok(());
-            };
-            self.land(copy)?;
-        }
-        Err(Unmoved::Endless(ORDER_LIMIT))
-    }
-
-    /// Sends supervision, and puts it. A RedBox that doesn't know a station then sends none about it.
-    fn speak(&mut self, node: usize, about: About) -> Result<(), Unmoved> {
-        let is_own = matches!(about, About::Own);
-        if self.tries(Step::Supervise { node, about })? {
-            return self.put_all(node);
-        }
-        if is_own {
-            return Err(Unmoved::Differs);
-        }
-        Ok(())
-    }
-
-    /// Does what is told.
-    fn obey(&mut self, step: &Step) -> Result<(), Unmoved> {
-        match step {
-            Step::Clock { at } => {
-                self.land_until(*at)?;
-                self.clock(*at)
-            }
-            Step::Supervise { node, about } => self.speak(*node, *about),
-            Step::Send { node, .. } => {
-                self.does(step.clone()?)?;
-                self.put_all(*node)
-            }
-            _ => self.does(step.clone()?),
-        }
-    }
-
-    /// Does all that is told, and brings all copies to their ends.
-    fn obey_all(&mut self, orders: &[Order]) -> Result<(), Unmoved> {
-        for order in orders.iter() {
-            match order {
-                Order::Step(step) => self.obey(step)?,
-                Order::Drain => return Err(Unmoved::Differs),
-            }
-        }
-        self.land_until(u64::MAX)
-    }
+    ghost view = { λ w. record { stage = w.stage; orders = w.orders.items } };
 }
 
-/// The orders of what is told, with the moves of copies among them: each is put at once, and taken and judged so many microseconds
-/// later.
-pub(crate) fn woven<const C: usize>(
-    alloc: Global,
-    told: &Meaning,
-    hop: u64,
-) -> Result<Vec<Order>, Unmoved>
-    requires { (1 ≤ C) × (C ≤ 65535) }
+/// Writes down a step that was done.
+fn note(orders: &mut Vec<Order>, step: &Step) -> Result<(), NoMemory>
+    ensures { OnOk result (orders.new.items ≡ orders.old.items ++ written.Step step.now ∷ []) }
 {
-    let mut weaving = Weaving {
-        world: world_of::<C>(alloc, told)?,
-        topology: &told.topology,
-        hop,
-        now: 0,
-        flights: VecDeque::new(alloc),
-        orders: Vec::new(alloc),
+    orders.push(Order::Step(step.clone()?))?;
+    Ok(())
+}
+
+/// Does a step that comes next, behind which so much is told, or tells why the world refuses it.
+fn tries<'a, const C: usize>(
+    told: &Meaning,
+    us: u64,
+    step: &Step,
+    more: &'a [Order],
+    weaving: &mut Weaving<'a, C>,
+) -> Result<Option<WorldFault>, Unmoved>
+    requires begun { IsBegun C us told.now weaving.old }
+    requires next { IsNext C us weaving.old.stage step.now more.now }
+    ensures ok { IfOk result (GoesOnIf C us told.now weaving.old step.now more.now weaving.new) }
+    ensures err { IfErr result (IsUnmovedByHops C us told.now) }
+{
+    if let Some(fault) = weaving.stage.tries(&told.topology, step, more)? {
+        return Ok(Some(fault));
+    }
+    note(&mut weaving.orders, step)?;
+    if weaving.orders.len() > ORDER_LIMIT {
+        return Err(Unmoved::Endless(ORDER_LIMIT));
+    }
+    Ok(None)
+}
+
+/// Does a step that comes next, and is never left out.
+pub(crate) fn does<'a, const C: usize>(
+    told: &Meaning,
+    us: u64,
+    step: &Step,
+    more: &'a [Order],
+    weaving: &mut Weaving<'a, C>,
+) -> Result<(), Unmoved>
+    requires begun { IsBegun C us told.now weaving.old }
+    requires next { IsNext C us weaving.old.stage step.now more.now }
+    requires owed { is_owed step.now ≡ true }
+    ensures ok { OnOk result (GoesOn C us told.now weaving.old step.now more.now weaving.new) }
+    ensures err { IfErr result (IsUnmovedByHops C us told.now) }
+{
+    match tries(told, us, step, more, weaving)? {
+        None => Ok(()),
+        Some(_) => Err(Unmoved::Differs),
+    }
+}
+
+/// Whether a step is supervision about a station that its RedBox doesn't know, where this is why it's refused.
+fn is_unknown(step: &Step, fault: WorldFault) -> bool
+    ensures { result ≡ is_unknown step.now fault }
+{
+    match step {
+        Step::Supervise {
+            about: About::Proxied(_),
+            ..
+        } => matches!(fault, WorldFault::Node(StepFault::NotProxied)),
+        _ => false,
+    }
+}
+
+/// Does a step that is told next. Supervision is left out where it's about a station that its RedBox doesn't know then.
+pub(crate) fn obeys<'a, const C: usize>(
+    told: &Meaning,
+    us: u64,
+    step: &Step,
+    more: &'a [Order],
+    weaving: &mut Weaving<'a, C>,
+) -> Result<(), Unmoved>
+    requires begun { IsBegun C us told.now weaving.old }
+    requires next { IsNext C us weaving.old.stage step.now more.now }
+    requires no_put { is_put step.now ≡ false }
+    ensures ok { OnOk result (IsObeyed C us told.now weaving.old more.now weaving.new) }
+    ensures err { IfErr result (IsUnmovedByHops C us told.now) }
+{
+    match tries(told, us, step, more, weaving)? {
+        None => Ok(()),
+        Some(fault) if is_unknown(step, fault) => {
+            weaving.stage.tell(more);
+            Ok(())
+        }
+        Some(_) => Err(Unmoved::Differs),
+    }
+}
+
+/// Puts what a port has to put, if it has something, where the ports below it have nothing.
+fn puts<const C: usize>(
+    told: &Meaning,
+    us: u64,
+    node: usize,
+    port: u8,
+    weaving: &mut Weaving<'_, C>,
+) -> Result<bool, Unmoved>
+    requires begun { IsBegun C us told.now weaving.old }
+    requires due { weaving.old.stage.due ≡ Puts node }
+    requires lower { HasPutBelow C weaving.old.stage.world node port }
+    ensures ok { IfOk result (PutsIf C us told.now weaving.old node port weaving.new) }
+    ensures err { IfErr result (IsUnmovedByHops C us told.now) }
+{
+    let more = weaving.stage.told;
+    match tries(told, us, &Step::Put { node, port }, more, weaving)? {
+        None => Ok(true),
+        Some(_) => Ok(false),
+    }
+}
+
+/// Puts what a node has passed.
+fn puts_all<const C: usize>(
+    told: &Meaning,
+    us: u64,
+    node: usize,
+    weaving: &mut Weaving<'_, C>,
+) -> Result<(), Unmoved>
+    requires begun { IsBegun C us told.now weaving.old }
+    requires due { weaving.old.stage.due ≡ Puts node }
+    ensures ok { OnOk result (Settles C us told.now weaving.old weaving.new) }
+    ensures err { IfErr result (IsUnmovedByHops C us told.now) }
+{
+    let mut port = 0;
+    while port < PORT_LIMIT {
+        if puts(told, us, node, port, weaving)? {
+            port = 0;
+        } else {
+            port += 1;
+        }
+    }
+    Ok(())
+}
+
+/// Judges what was taken, at the port where it comes out. The answer is the node that judges.
+fn judges<const C: usize>(
+    told: &Meaning,
+    us: u64,
+    end: Option<End>,
+    weaving: &mut Weaving<'_, C>,
+) -> Result<usize, Unmoved>
+    requires begun { IsBegun C us told.now weaving.old }
+    requires due { weaving.old.stage.due ≡ Judgement end }
+    ensures ok { IfOk result (IsJudged C us told.now weaving.old weaving.new) }
+    ensures err { IfErr result (IsUnmovedByHops C us told.now) }
+{
+    let Some(End { node, port }) = end else {
+        return Err(Unmoved::Differs);
     };
-    weaving.obey_all(told.orders.as_slice())?;
-    Ok(weaving.orders)
+    let more = weaving.stage.told;
+    does(told, us, &Step::Judge { node, port }, more, weaving)?;
+    Ok(node)
+}
+
+/// Judges what was taken, and puts what is passed of it.
+fn judges_and_puts<const C: usize>(
+    told: &Meaning,
+    us: u64,
+    end: Option<End>,
+    weaving: &mut Weaving<'_, C>,
+) -> Result<(), Unmoved>
+    requires begun { IsBegun C us told.now weaving.old }
+    requires due { weaving.old.stage.due ≡ Judgement end }
+    ensures ok { OnOk result (Settles C us told.now weaving.old weaving.new) }
+    ensures err { IfErr result (IsUnmovedByHops C us told.now) }
+{
+    let node = judges(told, us, end, weaving)?;
+    puts_all(told, us, node, weaving)
+}
+
+/// Does what has to be done at once: judges what was taken, and puts what a node has passed.
+pub(crate) fn settles<const C: usize>(
+    told: &Meaning,
+    us: u64,
+    weaving: &mut Weaving<'_, C>,
+) -> Result<(), Unmoved>
+    requires { IsBegun C us told.now weaving.old }
+    ensures ok { OnOk result (Settles C us told.now weaving.old weaving.new) }
+    ensures err { IfErr result (IsUnmovedByHops C us told.now) }
+{
+    match weaving.stage.due {
+        Due::Nothing => Ok(()),
+        Due::Judgement(end) => judges_and_puts(told, us, end, weaving),
+        Due::Puts(node) => puts_all(told, us, node, weaving),
+    }
 }

@@ -1,5 +1,5 @@
 -- Why there is no scenario, by what its parts tell.
-use Rattle.std.proofs.Common.{◌≡◌, ◌≢◌, ℕ, ◌++◌, inl, inr, List, Option, Some, None, Result, Ok, Err, IfErr, OnOk, codes, refl, sym, subst, ap, ◌∙◌, append_assoc}
+use Rattle.std.proofs.Common.{◌≡◌, ◌≢◌, ◌⊎◌, ℕ, ◌++◌, inl, inr, ⊎_elim, List, Option, Some, None, Result, Ok, Err, IfErr, OnOk, codes, refl, sym, subst, ap, ◌∙◌, append_assoc}
 use Rattle.std.specs.Fmt.{decimal}
 use Rattle.std.specs.List.{flat_map}
 use Rattle.std.specs.Str.{IsUtf8}
@@ -15,7 +15,8 @@ use Rattle.hsr_plan_text.specs.declared.fault.PlanFault.{PlanFault}
 use Rattle.hsr_plan_text.specs.declared.fault.What.{What}
 use Rattle.hsr_plan_text.specs.declared.fault.What.TheVariants.{Text, Missing, Unknown, WrongKind, BadValue, Refused, NoMemory}
 use Rattle.hsr_plan_meaning.specs.Meaning.{Meaning, listed}
-use Rattle.hsr_plan_scenario.specs.Refusals.{HasNoScenario, HasNoneIf, IfDiffers, IsKnown, IsMisread, IsTroubleIn, IsTroubleOf, IsUnmoved, IsUntold, unread}
+use Rattle.hsr_plan_scenario.specs.Refusals.{HasNoScenario, HasNoneIf, IfDiffers, IsKnown, IsMisread, IsTroubleIn, IsTroubleOf, IsUnmoved, IsUntold, MeansNothing, unread}
+use Rattle.hsr_plan_hops.specs.Refusing.{IsImmovable}
 use Rattle.hsr_plan_scenario.specs.Says.{IsTitled, Tells, names_meant_by, scenario_meant}
 use Rattle.hsr_plan_scenario.specs.Spelled.{front_text, links_text, nodes_text, order_line, scenario_text}
 use Rattle.hsr_plan_scenario.specs.declared.checking.Trouble.{Trouble}
@@ -99,12 +100,15 @@ misread title m (Endless steps) known h = absurd cc
 
 -- ---- plans
 
-unmoved_so : (capacity : ℕ) (plan : Plan) (trouble : Trouble) → IsKnown trouble → IsUnmoved plan trouble → HasNoScenario capacity plan
-unmoved_so capacity plan (Faulty fault) known (inl is) = inl (fault, plan_fault fault fault.what (listed plan) known is)
-unmoved_so capacity plan (Faulty fault) known (inr hops) = inr (inl hops)
-unmoved_so capacity plan (Endless steps) known hops = inr (inl hops)
-unmoved_so capacity plan Differs known hops = inr (inl hops)
-unmoved_so capacity plan (TooLong octets) known none = absurd none
+-- a plan that isn't moved means nothing, or can't be moved
+pub unmoved_why : (capacity : ℕ) (plan : Plan) (trouble : Trouble) → IsKnown trouble → IsUnmoved capacity plan trouble → MeansNothing plan ⊎ IsImmovable capacity plan
+unmoved_why capacity plan (Faulty fault) known is = inl (fault, plan_fault fault fault.what (listed plan) known is)
+unmoved_why capacity plan (Endless limit) known is = inr (record { us = is.us; by_hops = is.by_hops; told = is.told; means = is.means; why = inl is.unmoved.1 })
+unmoved_why capacity plan Differs known is = inr (record { us = is.us; by_hops = is.by_hops; told = is.told; means = is.means; why = inr is.unmoved })
+unmoved_why capacity plan (TooLong octets) known none = absurd none
+
+unmoved_so : (capacity : ℕ) (plan : Plan) (trouble : Trouble) → IsKnown trouble → IsUnmoved capacity plan trouble → HasNoScenario capacity plan
+unmoved_so capacity plan trouble known is = ⊎_elim (λ nothing. inl nothing) (λ immovable. inr (inl immovable)) (unmoved_why capacity plan trouble known is)
 
 -- a trouble that isn't refused room says that there is no scenario
 pub none_so : (capacity : ℕ) (said : Result Plan PlanFault) (trouble : Trouble) → IsKnown trouble → IsTroubleIn capacity said trouble → HasNoneIf capacity said
@@ -117,7 +121,7 @@ none_so capacity (Ok plan) trouble known (inr (m, means, untold)) = inr (inr (m,
 -- the first fault of a text is its trouble
 pub read_so : (capacity : ℕ) (said : Result Plan PlanFault) (fault : PlanFault) (what : What) → fault.what ≡ what → FailsAt fault what said → IsTroubleIn capacity said (Faulty fault)
 read_so capacity (Err first) fault what e is = subst (λ w. FailsAt {Y = Plan} fault w (Err first)) (sym e) is
-read_so capacity (Ok plan) fault NoMemory e is = let P : What → Type 0 = λ w. FailsAt fault w (listed plan) in inl (inl (subst P (sym e) tt))
+read_so capacity (Ok plan) fault NoMemory e is = let P : What → Type 0 = λ w. FailsAt fault w (listed plan) in inl (subst P (sym e) tt)
 read_so capacity (Ok plan) fault Text e is = absurd cc
 read_so capacity (Ok plan) fault (Missing key) e is = absurd cc
 read_so capacity (Ok plan) fault (Unknown word) e is = absurd cc

@@ -1,4 +1,5 @@
 -- Why a plan gives no scenario, and why octets are none.
+--     MeansNothing   a plan means nothing, as it is told
 --     IsUnmoved      a plan means nothing, once its copies move
 --     IsUntold       what is meant has no text that tells it
 --     IsTroubleOf    there is no scenario of a plan
@@ -16,9 +17,10 @@ use Rattle.hsr_plan_text.specs.Plan.{Plan}
 use Rattle.hsr_plan_text.specs.declared.fault.PlanFault.{PlanFault}
 use Rattle.hsr_plan_text.specs.declared.fault.Spot.TheVariants.{Top}
 use Rattle.hsr_plan_text.specs.declared.fault.What.TheVariants.{NoMemory}
-use Rattle.hsr_plan_text.specs.declared.plan.Moves.TheVariants.{Hop}
 use Rattle.hsr_plan_meaning.specs.Meaning.{Meaning, listed}
 use Rattle.hsr_plan_hops.specs.Moving.{MeansMoved}
+use Rattle.hsr_plan_hops.specs.Refusing.{IsImmovable, MeansUnmoved}
+use Rattle.hsr_plan_hops.specs.declared.unmoved.Unmoved.TheVariants as unmoved
 use Rattle.hsr_plan_scenario.specs.Says.{Tells}
 use Rattle.hsr_plan_scenario.specs.Spelled.{scenario_text}
 use Rattle.hsr_plan_scenario.specs.declared.checking.Trouble.{Trouble}
@@ -30,16 +32,12 @@ use Rattle.hsr_plan_scenario.specs.declared.checking.Trouble.TheVariants.{Plan a
 abbrev pub MeansNothing : Plan → Type 0
 MeansNothing plan = (fault : PlanFault) × (listed plan ≡ Err fault)
 
--- the copies of a plan move by hops
-abbrev pub IsByHops : Plan → Type 0
-IsByHops plan = (us : ℕ) × (plan.outline.moves ≡ Hop us)
-
--- this is the first fault of a plan; or its copies move by hops, and no orders were found by which they do
-abbrev pub IsUnmoved : Plan → Trouble → Type 0
-IsUnmoved plan (Faulty fault) = FailsAt fault fault.what (listed plan) ⊎ IsByHops plan
-IsUnmoved plan (Endless steps) = IsByHops plan
-IsUnmoved plan Differs = IsByHops plan
-IsUnmoved plan (TooLong octets) = ⊥
+-- this is the first fault of a plan; or its copies move by hops, and this is why they don't
+abbrev pub IsUnmoved : ℕ → Plan → Trouble → Type 0
+IsUnmoved capacity plan (Faulty fault) = FailsAt fault fault.what (listed plan)
+IsUnmoved capacity plan (Endless limit) = MeansUnmoved capacity plan (unmoved.Endless limit)
+IsUnmoved capacity plan Differs = MeansUnmoved capacity plan unmoved.Differs
+IsUnmoved capacity plan (TooLong octets) = ⊥
 
 -- ---- the scenario of what is meant
 
@@ -69,7 +67,7 @@ IsUntold title m trouble = IfDiffers (IsMisread title m) trouble
 
 -- what a plan means isn't moved; or it is, and isn't told
 abbrev pub IsTroubleOf : ℕ → Plan → Trouble → Type 0
-IsTroubleOf capacity plan trouble = IsUnmoved plan trouble ⊎ ((m : Meaning) × MeansMoved capacity plan m × IsUntold plan.outline.title m trouble)
+IsTroubleOf capacity plan trouble = IsUnmoved capacity plan trouble ⊎ ((m : Meaning) × MeansMoved capacity plan m × IsUntold plan.outline.title m trouble)
 
 -- ---- the scenario of a text
 
@@ -84,10 +82,10 @@ abbrev pub IsKnown : Trouble → Type 0
 IsKnown (Faulty fault) = fault.what ≢ NoMemory
 IsKnown trouble = ⊤
 
--- a plan has no scenario: it means nothing; or its copies move by hops, and no orders were found by which they do; or the text of what
--- it means isn't read as that, as none of over 16 MiB is
+-- a plan has no scenario: it means nothing; or what it means can't be moved by hops; or the text of what it means isn't read as that, as
+-- none of over 16 MiB is
 abbrev pub HasNoScenario : ℕ → Plan → Type 0
-HasNoScenario capacity plan = MeansNothing plan ⊎ (IsByHops plan ⊎ ((m : Meaning) × MeansMoved capacity plan m × IsMisread plan.outline.title m))
+HasNoScenario capacity plan = MeansNothing plan ⊎ (IsImmovable capacity plan ⊎ ((m : Meaning) × MeansMoved capacity plan m × IsMisread plan.outline.title m))
 
 abbrev pub HasNoneIf : ℕ → Result Plan PlanFault → Type 0
 HasNoneIf capacity (Ok plan) = HasNoScenario capacity plan

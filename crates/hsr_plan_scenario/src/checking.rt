@@ -1,20 +1,20 @@
 //! The text of a plan's scenario, checked against what the plan means.
-ghost use Rattle.std.specs.Prelude.{◌≡◌, ◌≢◌, ◌≤◌, IfErr, IfOk, OnOk, Ok, option_map, string_bytes};
+ghost use Rattle.std.specs.Prelude.{ℕ, ◌≡◌, ◌≢◌, ◌≤◌, IfErr, IfOk, OnOk, Ok, option_map, string_bytes};
 ghost use Rattle.hsr_scenario.specs.Meaning.{meaning};
 ghost use Rattle.hsr_scenario.specs.Names.{names_meant};
 ghost use Rattle.hsr_plan_text.specs.Meaning.{plan_of};
 ghost use Rattle.hsr_plan_text.specs.Plan.{Plan as PlanOf};
-ghost use Rattle.hsr_plan_meaning.specs.Meaning.{Means};
 ghost use Rattle.hsr_plan_hops.specs.Moving.{MeansMoved};
-ghost use Rattle.hsr_plan_scenario.specs.Refusals.{IfDiffers, IsByHops, IsMisread, IsTroubleIn, IsTroubleOf, IsUnmoved, IsUntold, no_room, unread};
+ghost use Rattle.hsr_plan_hops.specs.Refusing.{IsUnmoved as IsUnmovedThere};
+ghost use Rattle.hsr_plan_scenario.specs.Refusals.{IfDiffers, IsMisread, IsTroubleIn, IsTroubleOf, IsUnmoved, IsUntold, no_room, unread};
 ghost use Rattle.hsr_plan_scenario.specs.Says.{Says, SaysIf, Tells, names_meant_by, scenario_meant};
 ghost use Rattle.hsr_plan_scenario.specs.Spelled.{scenario_text};
 
 use crate::same::{is_meant, is_named};
 use crate::spelling::{measured, spelled};
 use hsr_plan_hops::{Unmoved, moved_meaning_of};
-use hsr_plan_meaning::{Meaning, meaning_of};
-use hsr_plan_text::{Moves, Plan, PlanFault, Spot, What};
+use hsr_plan_meaning::Meaning;
+use hsr_plan_text::{Plan, PlanFault, Spot, What};
 use hsr_scenario::{ScenarioFault, TEXT_LIMIT, What as ScenarioWhat, read, read_names};
 use std::alloc::Global;
 
@@ -27,7 +27,7 @@ pub enum Trouble {
     TooLong(usize),
     /// Copies are still on their way after so many steps.
     Endless(usize),
-    /// The steps, or the scenario's text, don't say what the plan means.
+    /// Copies can't be moved by hops, or the scenario's text doesn't say what the plan means.
     Differs,
 }
 
@@ -41,9 +41,9 @@ fn no_memory() -> Trouble
     })
 }
 
-/// The trouble where copies don't move by hops.
+/// The trouble where a plan means nothing, once its copies move.
 fn trouble_of(unmoved: Unmoved) -> Trouble
-    ensures { (plan : PlanOf) → IsByHops plan → IsUnmoved plan result }
+    ensures { (capacity : ℕ) (plan : PlanOf) → IsUnmovedThere capacity plan unmoved → IsUnmoved capacity plan result }
 {
     match unmoved {
         Unmoved::Plan(fault) => Trouble::Plan(fault),
@@ -53,40 +53,16 @@ fn trouble_of(unmoved: Unmoved) -> Trouble
     }
 }
 
-/// What a plan means whose copies move by hops.
-fn moved_by_hops<const C: usize>(alloc: Global, plan: &Plan) -> Result<Meaning, Trouble>
-    requires entries { (1 ≤ C) × (C ≤ 65535) }
-    requires hops { IsByHops plan.now }
+/// What a plan means in a world with tables of `C` entries, once its copies move. `Plan` has the first fault of the plan, and `Endless` and
+/// `Differs` come only where its copies move by hops, as `moved_meaning_of` says.
+pub fn moved<const C: usize>(alloc: Global, plan: &Plan) -> Result<Meaning, Trouble>
+    requires { (1 ≤ C) × (C ≤ 65535) }
     ensures means { IfOk result (MeansMoved C plan.now) }
-    ensures unmoved { IfErr result (IsUnmoved plan.now) }
+    ensures unmoved { IfErr result (IsUnmoved C plan.now) }
 {
     match moved_meaning_of::<C>(alloc, plan) {
         Ok(meaning) => Ok(meaning),
         Err(unmoved) => Err(trouble_of(unmoved)),
-    }
-}
-
-/// What a plan means whose orders tell how its copies move.
-fn told(alloc: Global, plan: &Plan) -> Result<Meaning, Trouble>
-    ensures means { IfOk result (Means plan.now) }
-    ensures unmoved { IfErr result (IsUnmoved plan.now) }
-{
-    match meaning_of(alloc, plan) {
-        Ok(meaning) => Ok(meaning),
-        Err(fault) => Err(Trouble::Plan(fault)),
-    }
-}
-
-/// What a plan means in a world with tables of `C` entries, once its copies move. `Plan` has the first fault of the plan, and `Endless` and
-/// `Differs` come only where its copies move by hops.
-pub fn moved<const C: usize>(alloc: Global, plan: &Plan) -> Result<Meaning, Trouble>
-    requires { (1 ≤ C) × (C ≤ 65535) }
-    ensures means { IfOk result (MeansMoved C plan.now) }
-    ensures unmoved { IfErr result (IsUnmoved plan.now) }
-{
-    match plan.outline.moves {
-        Moves::Hop(_) => moved_by_hops::<C>(alloc, plan),
-        Moves::EachSendDrains | Moves::EachMomentDrains => told(alloc, plan),
     }
 }
 

@@ -20,7 +20,8 @@ use Rattle.hsr_plan_network.specs.Nodes.{Node}
 use Rattle.hsr_plan_network.specs.Wiring.{Wired, wired}
 use Rattle.hsr_plan_meaning.specs.Meaning.{Meaning}
 use Rattle.hsr_plan_hops.specs.Moving.{MeansMoved}
-use Rattle.hsr_plan_scenario.specs.Refusals.{IsByHops, MeansNothing}
+use Rattle.hsr_plan_hops.specs.Refusing.{IsImmovable}
+use Rattle.hsr_plan_scenario.specs.Refusals.{MeansNothing}
 use Rattle.hsr_plan_scenario.specs.Refusals as plans
 use Rattle.hsr_plan_sweep.specs.Sweep.{without_link, without_node}
 use Rattle.hsr_plan_sweep.specs.declared.running.Trouble.{Trouble}
@@ -46,9 +47,9 @@ IsKnown (Unplanned trouble) = plans.IsKnown trouble
 IsKnown (Run fault) = ⊤
 IsKnown Memory = ⊥
 
--- it means nothing; or its copies move by hops, and no orders were found by which they do; or what it means leads to no finished run
+-- it means nothing; or what it means can't be moved by hops; or what it means leads to no finished run
 pub record IsUncounted (plan : Plan) : Type 0 where
-  pub why : MeansNothing plan ⊎ (IsByHops plan ⊎ ((m : Meaning) × MeansMoved 512 plan m × HasNoRun m))
+  pub why : MeansNothing plan ⊎ (IsImmovable 512 plan ⊎ ((m : Meaning) × MeansMoved 512 plan m × HasNoRun m))
 
 -- so it is where one of these links is off from a moment on, or one of these nodes
 abbrev pub IsUncountedWithoutLink : Plan → ℕ → List Node → List (List End) → Type 0

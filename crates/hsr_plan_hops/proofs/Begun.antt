@@ -1,0 +1,175 @@
+-- What a step makes of what was woven, and why it isn't done.
+use Rattle.std.proofs.Common.{◌≡◌, ◌∙◌, ℕ, ◌+◌, ◌<◌, ◌≤◌, ◌∷◌, ◌++◌, [], List, Option, Some, None, Ok, Err, Bool, true, false, ap, arith, inl, inr, length, length-append, refl, subst, sym}
+use Rattle.std.proofs.lemmas.Bool.{false≢true}
+use Rattle.hsr_frame.specs.declared.node.About.TheVariants.{Own, Proxied}
+use Rattle.hsr_node.specs.declared.event.StepFault.TheVariants.{WrongEvent, NotProxied, Spent, NoMemory as NoRoom}
+use Rattle.hsr_node.specs.declared.event.StepFault.TheVariants as refusals
+use Rattle.hsr_topology.specs.declared.end.End.{End}
+use Rattle.hsr_scenario.specs.declared.steps.Order.{Order}
+use Rattle.hsr_scenario.specs.declared.steps.Order.TheVariants.{Step, Drain}
+use Rattle.hsr_step.specs.declared.step.Step.TheVariants.{Clock, Send, Supervise, Age, Put, Take, Judge, Cut, Mend, Inject}
+use Rattle.hsr_step.specs.declared.step.Step as steps
+use Rattle.hsr_step.specs.declared.step.WorldFault.{WorldFault}
+use Rattle.hsr_step.specs.declared.step.WorldFault.TheVariants.{Node}
+use Rattle.hsr_plan_meaning.specs.Meaning.{Meaning}
+use Rattle.hsr_world.specs.World.{World, tried}
+use Rattle.hsr_plan_hops.specs.Beginning.{Begins, IsNext, Stage, at_first, behind, done, first_stage, left_out, telling}
+use Rattle.hsr_plan_hops.specs.Moving.{world_of}
+use Rattle.hsr_plan_hops.specs.declared.flights.Flight.{Flight}
+use Rattle.hsr_plan_hops.specs.declared.turns.Due.TheVariants.{Nothing}
+use Rattle.hsr_plan_hops.specs.Refusing.{GetsStuck, IsEndless, IsRefused, IsStuck, IsUnmovable, order_limit}
+use Rattle.hsr_plan_hops.specs.Telling.{Does, IsMoment, IsUnknownTo}
+use Rattle.hsr_plan_hops.specs.Turns.{is_put}
+use Rattle.hsr_plan_hops.specs.Weaving.{GoesOn, GoesOnIf, IsBegun, IsObeyed, IsTried, Woven, is_owed, is_unknown, left}
+
+-- ---- a step that is done
+
+longer : (capacity us : ℕ) (told : Meaning) (orders : List Order) (s t : Stage) (step : steps.Step) (more : List Order) → Begins capacity us told orders s → IsNext capacity us s step more
+    → IsTried capacity told.topology.links s step more t None → Begins capacity us told (orders ++ Step step ∷ []) t
+longer capacity us told orders s t step more begins next is =
+    let P : Stage → Type 0 = Begins capacity us told (orders ++ Step step ∷ []) in
+    subst P (sym is.1) (done orders s step more t.world begins next is.0)
+
+pub goes_on : (capacity us : ℕ) (told : Meaning) (v x : Woven) (step : steps.Step) (more : List Order) → IsBegun capacity us told v → IsNext capacity us v.stage step more
+    → IsTried capacity told.topology.links v.stage step more x.stage None → x.orders ≡ v.orders ++ Step step ∷ [] → length x.orders ≤ order_limit → GoesOn capacity us told v step more x
+goes_on capacity us told v x step more begun next is same few =
+    let P : List Order → Type 0 = λ os. Begins capacity us told os x.stage in
+    record {
+      begun = record { begins = subst P (sym same) (longer capacity us told v.orders v.stage x.stage step more begun.begins next is); few = few };
+      stage = is.1;
+      one = ap length same ∙ length-append v.orders (Step step ∷ []);
+    }
+
+pub endless : (capacity us : ℕ) (told : Meaning) (v x : Woven) (step : steps.Step) (more : List Order) → IsBegun capacity us told v → IsNext capacity us v.stage step more
+    → IsTried capacity told.topology.links v.stage step more x.stage None → x.orders ≡ v.orders ++ Step step ∷ [] → order_limit < length x.orders → IsEndless capacity us told
+endless capacity us told v x step more begun next is same over =
+    let P : List Order → Type 0 = λ os. Begins capacity us told os x.stage in
+    record {
+      orders = x.orders;
+      stage = x.stage;
+      begins = subst P (sym same) (longer capacity us told v.orders v.stage x.stage step more begun.begins next is);
+      over = over;
+    }
+
+-- ---- the same, of the parts of what was woven
+
+abbrev pub made : Stage → List Order → Woven
+made s orders = record { stage = s; orders = orders }
+
+tried_at : (capacity : ℕ) (told : Meaning) (v : Woven) (links : List (List End)) (s t : Stage) (before : List Order) (step : steps.Step) (more : List Order) (o : Option WorldFault)
+    → made s before ≡ v → links ≡ told.topology.links → o ≡ None → IsTried capacity links s step more t o → IsTried capacity told.topology.links v.stage step more t None
+tried_at capacity told v links s t before step more o is_made same none is =
+    let T : Option WorldFault → Type 0 = λ r. IsTried capacity links s step more t r in
+    let L : List (List End) → Type 0 = λ ls. IsTried capacity ls s step more t None in
+    let V : Woven → Type 0 = λ w. IsTried capacity told.topology.links w.stage step more t None in
+    subst V is_made (subst L same (subst T none is))
+
+added_at : (v : Woven) (s : Stage) (before orders : List Order) (order : Order) → made s before ≡ v → orders ≡ before ++ order ∷ [] → orders ≡ v.orders ++ order ∷ []
+added_at v s before orders order is_made is = is ∙ ap (λ (w : Woven). w.orders ++ order ∷ []) is_made
+
+pub goes_on_at : (capacity us : ℕ) (told : Meaning) (v : Woven) (links : List (List End)) (s t : Stage) (before orders : List Order) (step : steps.Step) (more : List Order) (o : Option WorldFault)
+    → made s before ≡ v → links ≡ told.topology.links → o ≡ None → IsBegun capacity us told v → IsNext capacity us v.stage step more → IsTried capacity links s step more t o
+    → orders ≡ before ++ Step step ∷ [] → length orders ≤ order_limit → GoesOn capacity us told v step more (made t orders)
+goes_on_at capacity us told v links s t before orders step more o is_made same none begun next is longer few =
+    goes_on capacity us told v (made t orders) step more begun next (tried_at capacity told v links s t before step more o is_made same none is)
+    (added_at v s before orders (Step step) is_made longer) few
+
+pub endless_at : (capacity us : ℕ) (told : Meaning) (v : Woven) (links : List (List End)) (s t : Stage) (before orders : List Order) (step : steps.Step) (more : List Order) (o : Option WorldFault)
+    → made s before ≡ v → links ≡ told.topology.links → o ≡ None → IsBegun capacity us told v → IsNext capacity us v.stage step more → IsTried capacity links s step more t o
+    → orders ≡ before ++ Step step ∷ [] → order_limit < length orders → IsEndless capacity us told
+endless_at capacity us told v links s t before orders step more o is_made same none begun next is longer over =
+    endless capacity us told v (made t orders) step more begun next (tried_at capacity told v links s t before step more o is_made same none is)
+    (added_at v s before orders (Step step) is_made longer) over
+
+-- nothing is done yet
+pub begun_first : (capacity us : ℕ) (told : Meaning) (os : List Order) (flights : List Flight) (w : World) (orders : List Order) → os ≡ told.orders → flights ≡ [] → w ≡ world_of told → orders ≡ []
+    → IsBegun capacity us told (made (record { told = os; due = Nothing; moment = 0; begun = false; flights = flights; world = w }) orders)
+begun_first capacity us told os flights w orders is_told is_none is_first is_empty =
+    let v : Woven = made (record { told = os; due = Nothing; moment = 0; begun = false; flights = flights; world = w }) orders in
+    let same : made (first_stage told) [] ≡ v = cc in
+    let P : Woven → Type 0 = IsBegun capacity us told in
+    let none : length {A = Order} [] ≤ order_limit = omega arith in
+    subst P same (record { begins = at_first; few = none })
+
+-- ---- a step that is refused
+
+pub stuck : (capacity us : ℕ) (told : Meaning) (v : Woven) → IsBegun capacity us told v → IsStuck capacity us v.stage → IsUnmovable capacity us told
+stuck capacity us told v begun is = inr (inr (inl (record { orders = v.orders; stage = v.stage; begins = begun.begins; stuck = is })))
+
+owed_no_put : (step : steps.Step) → is_owed step ≡ true → is_put step ≡ false
+owed_no_put (Put n port) owed = absurd (false≢true owed)
+owed_no_put step owed = refl
+
+owed_known : (capacity : ℕ) (w : World) (step : steps.Step) → is_owed step ≡ true → ¬ IsUnknownTo capacity w step
+owed_known capacity w (Supervise n (Proxied mac)) owed = λ u. false≢true owed
+owed_known capacity w step owed = λ u. u
+
+pub refused : (capacity us : ℕ) (told : Meaning) (v : Woven) (step : steps.Step) (more : List Order) (fault : WorldFault) → IsBegun capacity us told v → IsNext capacity us v.stage step more
+    → is_put step ≡ false → (¬ IsUnknownTo capacity v.stage.world step) → tried capacity v.stage.world step ≡ Err fault → IsUnmovable capacity us told
+refused capacity us told v step more fault begun next no_put known is =
+    stuck capacity us told v begun (inl (record { step = step; more = more; fault = fault; next = next; no_put = no_put; refused = is; known = known }))
+
+pub owed_refused : (capacity us : ℕ) (told : Meaning) (v : Woven) (step : steps.Step) (more : List Order) (fault : WorldFault) → IsBegun capacity us told v → IsNext capacity us v.stage step more
+    → is_owed step ≡ true → tried capacity v.stage.world step ≡ Err fault → IsUnmovable capacity us told
+owed_refused capacity us told v step more fault begun next owed is =
+    refused capacity us told v step more fault begun next (owed_no_put step owed) (owed_known capacity v.stage.world step owed) is
+
+-- ---- supervision that is left out
+
+pub unknown_so : (capacity : ℕ) (w : World) (step : steps.Step) (fault : WorldFault) → is_unknown step fault ≡ true → tried capacity w step ≡ Err fault → IsUnknownTo capacity w step
+unknown_so capacity w (Supervise n (Proxied mac)) (Node NotProxied) unknown is = is
+unknown_so capacity w step fault unknown is = absurd (false≢true unknown)
+
+pub known_so : (capacity : ℕ) (w : World) (step : steps.Step) (fault : WorldFault) → is_unknown step fault ≡ false → tried capacity w step ≡ Err fault → ¬ IsUnknownTo capacity w step
+known_so capacity w (Supervise n (Proxied mac)) fault known is = λ u.
+    let same : fault ≡ Node NotProxied = cc in
+    let P : WorldFault → Type 0 = λ f. is_unknown (Supervise n (Proxied mac)) f ≡ false in
+    false≢true (sym (subst P same known))
+known_so capacity w step fault known is = λ u. u
+
+pub leaves_out : (capacity us : ℕ) (told : Meaning) (v x : Woven) (step : steps.Step) (more : List Order) → IsBegun capacity us told v → IsNext capacity us v.stage step more
+    → IsUnknownTo capacity v.stage.world step → x.stage ≡ telling v.stage more → x.orders ≡ v.orders → IsObeyed capacity us told v more x
+leaves_out capacity us told v x step more begun next unknown is same =
+    let P : Stage → Type 0 = Begins capacity us told v.orders in
+    let Q : List Order → Type 0 = λ os. Begins capacity us told os x.stage in
+    let many : length x.orders ≡ length v.orders = ap length same in
+    let room : length v.orders ≤ order_limit = begun.few in
+    record {
+      begun = record {
+        begins = subst Q (sym same) (subst P (sym is) (left_out v.orders v.stage step more begun.begins next unknown));
+        few = omega arith;
+      };
+      told_on = ap (λ (s : Stage). s.told) is;
+      longer = omega arith;
+    }
+
+pub leaves_out_at : (capacity us : ℕ) (told : Meaning) (v x : Woven) (s t : Stage) (before : List Order) (step : steps.Step) (more : List Order) (fault : WorldFault)
+    → IsBegun capacity us told v → IsNext capacity us v.stage step more → is_unknown step fault ≡ true → tried capacity v.stage.world step ≡ Err fault → x ≡ v → made s before ≡ x
+    → t ≡ telling s more → IsObeyed capacity us told v more (made t before)
+leaves_out_at capacity us told v x s t before step more fault begun next unknown is same is_made is_telling =
+    let e : made s before ≡ v = is_made ∙ same in
+    leaves_out capacity us told v (made t before) step more begun next (unknown_so capacity v.stage.world step fault unknown is)
+    (is_telling ∙ ap (λ (w : Woven). telling w.stage more) e) (ap (λ (w : Woven). w.orders) e)
+
+pub left_out_at : (capacity us : ℕ) (told : Meaning) (v x : Woven) (s t : Stage) (before : List Order) (step : steps.Step) (more : List Order) (o : Option WorldFault) (fault : WorldFault)
+    → IsBegun capacity us told v → IsNext capacity us v.stage step more → GoesOnIf capacity us told v step more x o → o ≡ Some fault → is_unknown step fault ≡ true → made s before ≡ x
+    → t ≡ telling s more → IsObeyed capacity us told v more (made t before)
+left_out_at capacity us told v x s t before step more o fault begun next is some unknown is_made is_telling =
+    let P : Option WorldFault → Type 0 = GoesOnIf capacity us told v step more x in
+    let refusal = subst P some is in
+    leaves_out_at capacity us told v x s t before step more fault begun next unknown refusal.1 refusal.0 is_made is_telling
+
+-- ---- how much is told behind a step
+
+moment_no_more : (at : ℕ) (told more : List Order) → IsMoment at told more → length more ≤ length told
+moment_no_more at [] more is = omega (arith, ap length is)
+moment_no_more at (Step (Clock next) ∷ told) more (inl (same, is)) = omega (arith, ap length is)
+moment_no_more at (Step (Clock next) ∷ told) more (inr (early, is)) = omega (arith, ap length is)
+moment_no_more at (order ∷ told) more is = absurd is
+
+pub no_more : (step : steps.Step) (told more : List Order) → Does step told more → length more ≤ length told
+no_more (Put n port) told more is = omega (arith, ap length is)
+no_more (Take l dir) told more is = omega (arith, ap length is)
+no_more (Judge n port) told more is = omega (arith, ap length is)
+no_more (Clock at) told more is = moment_no_more at told more is
+no_more step told more is = omega (arith, ap length is)

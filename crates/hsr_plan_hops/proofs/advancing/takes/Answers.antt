@@ -1,0 +1,18 @@
+use Rattle.std.proofs.Common.{◌≡◌, ◌∙◌, ap, lit<, refl}
+use Rattle.hsr_plan_hops.specs.Weaving.{Woven}
+use Rattle.hsr_plan_hops.specs.declared.weaving.Weaving.TheInside.{Inside}
+use Rattle.hsr_plan_hops.proofs.Next.{takes_at}
+use Rattle.hsr_plan_hops.proofs.advancing.takes.Goals as goal
+
+pub does-requires : goal.does-requires
+does-requires g c = (
+  lit< tt,
+  (
+    c.requires.begun,
+    (
+      takes_at g.row.C c.args.us c.args.told.now c.args.weaving.now.orders c.args.weaving.now.stage c.args.copy _ c.requires.time c.requires.begun.begins c.requires.settled c.requires.next c.requires.over
+          (ap (λ (i : Inside g.row.C). i.stage.told) c.weaving-inside.view_is ∙ ap (λ (w : Woven). w.stage.told) c.weaving.view_is),
+      refl,
+    ),
+  ),
+)

@@ -1,0 +1,153 @@
+-- Why a plan means nothing, once its copies move.
+--     IsEndless      too many orders do what is told
+--     IsStuck        what comes next at a stage can't be done
+--     IsUnmovable    copies can't be moved by hops
+--     IsUnmoved      a plan means nothing, once its copies move
+--     IsImmovable    so it is though it means something as it is told
+use Rattle.std.specs.Prelude.{ℕ, ◌+◌, ◌^◌, ◌≡◌, ◌<◌, ◌≤◌, ◌⊎◌, nat_le, nat_lt, Bool, true, false, List, [], ◌∷◌, length, Some, None, Err, ⊤}
+use Rattle.hsr_scenario.specs.declared.steps.Order.{Order}
+use Rattle.hsr_scenario.specs.declared.steps.Order.TheVariants.{Step, Drain}
+use Rattle.hsr_step.specs.declared.step.Step.TheVariants.{Clock, Send, Supervise, Age, Put, Take, Judge, Cut, Mend, Inject}
+use Rattle.hsr_step.specs.declared.step.Step as steps
+use Rattle.hsr_step.specs.declared.step.WorldFault.{WorldFault}
+use Rattle.hsr_plan_text.specs.Fallible.{FailsAt}
+use Rattle.hsr_plan_text.specs.Plan.{Plan}
+use Rattle.hsr_plan_text.specs.declared.plan.Moves.{Moves}
+use Rattle.hsr_plan_text.specs.declared.plan.Moves.TheVariants.{EachSendDrains, EachMomentDrains, Hop}
+use Rattle.hsr_plan_meaning.specs.Meaning.{Meaning, Means, listed}
+use Rattle.hsr_world.specs.Lawful.{IsEnded, finished_of}
+use Rattle.hsr_world.specs.World.{World, tried}
+use Rattle.hsr_plan_hops.specs.Beginning.{Begins, DoesAll, IsNext, Stage, next_copy}
+use Rattle.hsr_plan_hops.specs.Flights.{elapsed}
+use Rattle.hsr_plan_hops.specs.Hops.{are_in_time}
+use Rattle.hsr_plan_hops.specs.Telling.{IsUnknownTo}
+use Rattle.hsr_plan_hops.specs.Turns.{is_put}
+use Rattle.hsr_plan_hops.specs.declared.flights.Flight.{Flight}
+use Rattle.hsr_plan_hops.specs.declared.turns.Due.TheVariants.{Judgement}
+use Rattle.hsr_plan_hops.specs.declared.unmoved.Unmoved.{Unmoved}
+use Rattle.hsr_plan_hops.specs.declared.unmoved.Unmoved.TheVariants as unmoved
+
+-- ---- it goes on for too long
+
+-- the most orders
+abbrev pub order_limit : ℕ
+order_limit = 2 ^ 20
+
+-- more orders than that do what is told, up to some stage
+pub record IsEndless (capacity us : ℕ) (told : Meaning) : Type 0 where
+  pub orders : List Order
+  pub stage : Stage
+  pub begins : Begins capacity us told orders stage
+  pub over : order_limit < length orders
+
+-- ---- it gets stuck
+
+-- a step comes next that the world refuses: no put, and no supervision that is left out
+pub record IsRefused (capacity us : ℕ) (s : Stage) : Type 0 where
+  pub step : steps.Step
+  pub more : List Order
+  pub fault : WorldFault
+  pub next : IsNext capacity us s step more
+  pub no_put : is_put step ≡ false
+  pub refused : tried capacity s.world step ≡ Err fault
+  pub known : ¬ IsUnknownTo capacity s.world step
+
+-- an order may be told at a moment: no drain, no move of a copy, and no moment that isn't later
+abbrev pub may_be_told : ℕ → Order → Bool
+may_be_told now Drain = false
+may_be_told now (Step (Clock at)) = nat_lt now at
+may_be_told now (Step (Put n port)) = false
+may_be_told now (Step (Take l dir)) = false
+may_be_told now (Step (Judge n port)) = false
+may_be_told now (Step step) = true
+
+-- the first order that is left of what is told may not be told
+abbrev pub IsMistold : ℕ → List Order → Type 0
+IsMistold now [] = ⊥
+IsMistold now (order ∷ told) = may_be_told now order ≡ false
+
+-- a copy comes to its end before what is told next
+abbrev pub comes_first : ℕ → ℕ → List Order → Flight → Bool
+comes_first us now [] f = true
+comes_first us now (Step (Clock at) ∷ told) f = nat_le us (elapsed at f)
+comes_first us now (order ∷ told) f = nat_le us (elapsed now f)
+
+-- the next copy comes to its end before what is told next, but beyond the last moment that there is
+pub record EndsTooLate (us : ℕ) (s : Stage) : Type 0 where
+  pub copy : Flight
+  pub next : next_copy s ≡ Some copy
+  pub first : comes_first us s.moment s.told copy ≡ true
+  pub late : 2 ^ 64 ≤ copy.moment + us
+
+-- what comes next can't be done, or no port is there to judge what was taken
+abbrev pub IsStuck : ℕ → ℕ → Stage → Type 0
+IsStuck capacity us s = IsRefused capacity us s ⊎ (IsMistold s.moment s.told ⊎ (EndsTooLate us s ⊎ (s.due ≡ Judgement None)))
+
+pub record GetsStuck (capacity us : ℕ) (told : Meaning) : Type 0 where
+  pub orders : List Order
+  pub stage : Stage
+  pub begins : Begins capacity us told orders stage
+  pub stuck : IsStuck capacity us stage
+
+-- ---- it ends badly
+
+-- all that is told is done, and no copy is on its way, but the world that this leads to isn't ended
+pub record IsUnended (capacity us : ℕ) (told : Meaning) : Type 0 where
+  pub orders : List Order
+  pub stage : Stage
+  pub all : DoesAll capacity us told orders stage
+  pub open_end : ¬ IsEnded stage.world
+
+-- all that is told is done, and leads to a finished run in which a copy isn't judged a hop after it was passed
+pub record IsLate (capacity us : ℕ) (told : Meaning) : Type 0 where
+  pub orders : List Order
+  pub stage : Stage
+  pub all : DoesAll capacity us told orders stage
+  pub ended : IsEnded stage.world
+  pub late : are_in_time us (finished_of capacity stage.world).run ≡ false
+
+-- ---- why
+
+-- no world has room for so many copies
+abbrev pub HasBadRoom : Meaning → Type 0
+HasBadRoom told = (told.capacity < 1) ⊎ (4096 < told.capacity)
+
+-- a hop takes no time, or no world has such room; or what is told gets stuck, or ends badly
+abbrev pub IsUnmovable : ℕ → ℕ → Meaning → Type 0
+IsUnmovable capacity us told = (us ≡ 0) ⊎ (HasBadRoom told ⊎ (GetsStuck capacity us told ⊎ (IsUnended capacity us told ⊎ IsLate capacity us told)))
+
+-- why what is told isn't moved by hops
+abbrev pub IsUnmovedByHops : ℕ → ℕ → Meaning → Unmoved → Type 0
+IsUnmovedByHops capacity us told (unmoved.Plan fault) = ⊥
+IsUnmovedByHops capacity us told (unmoved.Endless limit) = (limit ≡ order_limit) × IsEndless capacity us told
+IsUnmovedByHops capacity us told unmoved.Differs = IsUnmovable capacity us told
+IsUnmovedByHops capacity us told unmoved.Memory = ⊤
+
+-- so it is where copies move by hops; what is told moves otherwise by itself
+abbrev pub IsUnmovedBy : ℕ → Moves → Meaning → Unmoved → Type 0
+IsUnmovedBy capacity EachSendDrains told why = ⊥
+IsUnmovedBy capacity EachMomentDrains told why = ⊥
+IsUnmovedBy capacity (Hop us) told why = IsUnmovedByHops capacity us told why
+
+-- the copies of a plan move by hops, and this is why what it means isn't moved
+pub record MeansUnmoved (capacity : ℕ) (plan : Plan) (why : Unmoved) : Type 0 where
+  pub us : ℕ
+  pub by_hops : plan.outline.moves ≡ Hop us
+  pub told : Meaning
+  pub means : Means plan told
+  pub unmoved : IsUnmovedByHops capacity us told why
+
+-- this is the first fault of a plan; or its copies move by hops, and this is why they don't
+abbrev pub IsUnmoved : ℕ → Plan → Unmoved → Type 0
+IsUnmoved capacity plan (unmoved.Plan fault) = FailsAt fault fault.what (listed plan)
+IsUnmoved capacity plan (unmoved.Endless limit) = MeansUnmoved capacity plan (unmoved.Endless limit)
+IsUnmoved capacity plan unmoved.Differs = MeansUnmoved capacity plan unmoved.Differs
+IsUnmoved capacity plan unmoved.Memory = ⊤
+
+-- the copies of a plan move by hops, and too many orders do what it means, or what it means can't be moved
+pub record IsImmovable (capacity : ℕ) (plan : Plan) : Type 0 where
+  pub us : ℕ
+  pub by_hops : plan.outline.moves ≡ Hop us
+  pub told : Meaning
+  pub means : Means plan told
+  pub why : IsEndless capacity us told ⊎ IsUnmovable capacity us told

@@ -1,0 +1,253 @@
+//! What comes next, done until nothing is left to do.
+ghost use Rattle.std.specs.Prelude.{◌≡◌, ◌≤◌, ◌<◌, ◌∷◌, true, None, Some, IfErr, IfOk, OnOk};
+ghost use Rattle.hsr_plan_hops.specs.Beginning.{DoesAll, IsSettled, next_copy};
+ghost use Rattle.hsr_plan_hops.specs.Flights.{elapsed};
+ghost use Rattle.hsr_plan_hops.specs.Moving.{world_of};
+ghost use Rattle.hsr_plan_hops.specs.Refusing.{IsUnmovedByHops, comes_first, may_be_told};
+ghost use Rattle.hsr_plan_hops.specs.Weaving.{Advances, AdvancesIf, GoesOnFrom, IsBegun, arriving, behind_moment};
+
+use crate::flights::{Flight, elapsed};
+use crate::stage::Stage;
+use crate::turns::Due;
+use crate::unmoved::Unmoved;
+use crate::weaving::{Weaving, does, obeys, settles};
+use hsr_frame::NoMemory;
+use hsr_plan_meaning::Meaning;
+use hsr_ring::World;
+use hsr_scenario::Order;
+use hsr_step::Step;
+use std::alloc::Global;
+use std::collections::VecDeque;
+
+/// Whether a copy comes to its end before what is told next.
+fn comes_first(us: u64, now: u64, told: &[Order], flight: Flight) -> bool
+    ensures { result ≡ comes_first us now told.now flight }
+{
+    match told.first() {
+        Some(Order::Step(Step::Clock { at })) => us <= elapsed(*at, flight),
+        Some(_) => us <= elapsed(now, flight),
+        None => true,
+    }
+}
+
+/// The next copy, if it comes to its end before what is told next.
+fn arriving<const C: usize>(us: u64, stage: &Stage<'_, C>) -> Option<Flight>
+    ensures { result ≡ arriving us stage.now }
+{
+    let copy = stage.next_copy()?;
+    if comes_first(us, stage.moment, stage.told, copy) {
+        Some(copy)
+    } else {
+        None
+    }
+}
+
+/// Takes a copy that has come to its end.
+fn takes<const C: usize>(
+    told: &Meaning,
+    us: u64,
+    copy: Flight,
+    weaving: &mut Weaving<'_, C>,
+) -> Result<(), Unmoved>
+    requires time { 1 ≤ us }
+    requires begun { IsBegun C us told.now weaving.old }
+    requires settled { IsSettled C weaving.old.stage.world weaving.old.stage.due }
+    requires next { next_copy weaving.old.stage ≡ Some copy }
+    requires over { us ≤ elapsed weaving.old.stage.moment copy }
+    ensures ok { OnOk result (Advances C us told.now weaving.old weaving.new) }
+    ensures err { IfErr result (IsUnmovedByHops C us told.now) }
+{
+    let Flight { link, dir, .. } = copy;
+    let more = weaving.stage.told;
+    does(told, us, &Step::Take { link, dir }, more, weaving)
+}
+
+/// What is told behind a moment that comes next.
+fn behind_moment(at: u64, told: &[Order]) -> &[Order]
+    ensures { result.now ≡ behind_moment at told.now }
+{
+    match told.split_first() {
+        Some((Order::Step(Step::Clock { at: next }), more)) if *next == at => more,
+        _ => told,
+    }
+}
+
+/// Sets the moment at which a copy comes to its end.
+fn waits<const C: usize>(
+    told: &Meaning,
+    us: u64,
+    copy: Flight,
+    weaving: &mut Weaving<'_, C>,
+) -> Result<(), Unmoved>
+    requires time { 1 ≤ us }
+    requires begun { IsBegun C us told.now weaving.old }
+    requires settled { IsSettled C weaving.old.stage.world weaving.old.stage.due }
+    requires next { next_copy weaving.old.stage ≡ Some copy }
+    requires first { comes_first us weaving.old.stage.moment weaving.old.stage.told copy ≡ true }
+    requires early { elapsed weaving.old.stage.moment copy < us }
+    ensures ok { OnOk result (Advances C us told.now weaving.old weaving.new) }
+    ensures err { IfErr result (IsUnmovedByHops C us told.now) }
+{
+    let Some(at) = copy.moment.checked_add(us) else {
+        return Err(Unmoved::Differs);
+    };
+    let more = behind_moment(at, weaving.stage.told);
+    does(told, us, &Step::Clock { at }, more, weaving)
+}
+
+/// Takes a copy that comes to its end before what is told next, or sets the moment at which it does.
+fn lands<const C: usize>(
+    told: &Meaning,
+    us: u64,
+    copy: Flight,
+    weaving: &mut Weaving<'_, C>,
+) -> Result<(), Unmoved>
+    requires time { 1 ≤ us }
+    requires begun { IsBegun C us told.now weaving.old }
+    requires settled { IsSettled C weaving.old.stage.world weaving.old.stage.due }
+    requires arriving { arriving us weaving.old.stage ≡ Some copy }
+    ensures ok { OnOk result (Advances C us told.now weaving.old weaving.new) }
+    ensures err { IfErr result (IsUnmovedByHops C us told.now) }
+{
+    if us <= elapsed(weaving.stage.moment, copy) {
+        takes(told, us, copy, weaving)
+    } else {
+        waits(told, us, copy, weaving)
+    }
+}
+
+/// Whether an order may be told at a moment: no drain, no move of a copy, and no moment that isn't later.
+fn may_be_told(now: u64, order: &Order) -> bool
+    ensures { result ≡ may_be_told now order.now }
+{
+    match order {
+        Order::Drain => false,
+        Order::Step(Step::Clock { at }) => now < *at,
+        Order::Step(Step::Put { .. } | Step::Take { .. } | Step::Judge { .. }) => false,
+        Order::Step(_) => true,
+    }
+}
+
+/// Does what is told next, where no copy comes to its end before.
+fn follows<'a, const C: usize>(
+    told: &Meaning,
+    us: u64,
+    order: &Order,
+    more: &'a [Order],
+    weaving: &mut Weaving<'a, C>,
+) -> Result<(), Unmoved>
+    requires begun { IsBegun C us told.now weaving.old }
+    requires settled { IsSettled C weaving.old.stage.world weaving.old.stage.due }
+    requires first { weaving.old.stage.told ≡ order.now ∷ more.now }
+    requires arriving { arriving us weaving.old.stage ≡ None }
+    ensures ok { OnOk result (Advances C us told.now weaving.old weaving.new) }
+    ensures err { IfErr result (IsUnmovedByHops C us told.now) }
+{
+    match order {
+        Order::Step(step) if may_be_told(weaving.stage.moment, order) => {
+            obeys(told, us, step, more, weaving)
+        }
+        _ => Err(Unmoved::Differs),
+    }
+}
+
+/// Does what comes next. The answer is whether something did.
+fn advances<const C: usize>(
+    told: &Meaning,
+    us: u64,
+    weaving: &mut Weaving<'_, C>,
+) -> Result<bool, Unmoved>
+    requires time { 1 ≤ us }
+    requires begun { IsBegun C us told.now weaving.old }
+    requires settled { IsSettled C weaving.old.stage.world weaving.old.stage.due }
+    ensures ok { IfOk result (AdvancesIf C us told.now weaving.old weaving.new) }
+    ensures err { IfErr result (IsUnmovedByHops C us told.now) }
+{
+    if let Some(copy) = arriving(us, &weaving.stage) {
+        lands(told, us, copy, weaving)?;
+        return Ok(true);
+    }
+    let Some((order, more)) = weaving.stage.told.split_first() else {
+        return Ok(false);
+    };
+    follows(told, us, order, more, weaving)?;
+    Ok(true)
+}
+
+/// Does what comes next, and what has to be done at once behind it. The answer is whether something did.
+fn goes_on<const C: usize>(
+    told: &Meaning,
+    us: u64,
+    weaving: &mut Weaving<'_, C>,
+) -> Result<bool, Unmoved>
+    requires time { 1 ≤ us }
+    requires begun { IsBegun C us told.now weaving.old }
+    requires settled { IsSettled C weaving.old.stage.world weaving.old.stage.due }
+    ensures ok { IfOk result (GoesOnFrom C us told.now weaving.old weaving.new) }
+    ensures err { IfErr result (IsUnmovedByHops C us told.now) }
+{
+    if advances(told, us, weaving)? {
+        settles(told, us, weaving)?;
+        Ok(true)
+    } else {
+        Ok(false)
+    }
+}
+
+/// Does all that is told, and brings all copies to their ends.
+fn does_all<const C: usize>(
+    told: &Meaning,
+    us: u64,
+    weaving: &mut Weaving<'_, C>,
+) -> Result<(), Unmoved>
+    requires time { 1 ≤ us }
+    requires begun { IsBegun C us told.now weaving.old }
+    requires settled { IsSettled C weaving.old.stage.world weaving.old.stage.due }
+    ensures ok { OnOk result (DoesAll C us told.now weaving.new.orders weaving.new.stage) }
+    ensures err { IfErr result (IsUnmovedByHops C us told.now) }
+{
+    'orders: loop {
+        if !goes_on(told, us, weaving)? {
+            return Ok(());
+        }
+    }
+}
+
+/// A world in which nothing of what is told was done.
+fn world_of<const C: usize>(alloc: Global, told: &Meaning) -> Result<World<C>, NoMemory>
+    requires entries { (1 ≤ C) × (C ≤ 65535) }
+    requires room { (1 ≤ told.now.capacity) × (told.now.capacity ≤ 4096) }
+    ensures { IfOk result (λ world. world ≡ world_of told.now) }
+{
+    let topology = told.topology.copy()?;
+    Ok(World::<C>::new(alloc, topology, told.capacity)?)
+}
+
+/// The orders that do what is told, with the moves of copies among them: each is put at once, and taken and judged so many microseconds
+/// later. Beside them stands the stage that they lead to.
+pub(crate) fn woven<const C: usize>(
+    alloc: Global,
+    told: &Meaning,
+    us: u64,
+) -> Result<Weaving<'_, C>, Unmoved>
+    requires entries { (1 ≤ C) × (C ≤ 65535) }
+    requires room { (1 ≤ told.now.capacity) × (told.now.capacity ≤ 4096) }
+    requires time { 1 ≤ us }
+    ensures ok { IfOk result (λ v. DoesAll C us told.now v.orders v.stage) }
+    ensures err { IfErr result (IsUnmovedByHops C us told.now) }
+{
+    let stage = Stage {
+        told: told.orders.as_slice(),
+        due: Due::Nothing,
+        moment: 0,
+        begun: false,
+        flights: VecDeque::new(alloc),
+        world: world_of::<C>(alloc, told)?,
+    };
+    let mut weaving = Weaving {
+        stage,
+        orders: Vec::new(alloc),
+    };
+    does_all(told, us, &mut weaving)?;
+    Ok(weaving)
+}
