@@ -584,6 +584,8 @@ class World:
 
     def network_verdict(self):
         """The first doubt of the audit of networks, else its certificate."""
+        if not self.sends():
+            return "doubt empty"
         if any(node.mode == "N" for node in self.nodes):
             return "doubt mode"
         macs = [mac for node in self.nodes for mac in node.addresses()]

@@ -1,5 +1,5 @@
 -- The first doubt, and the certificate.
-use Rattle.std.proofs.Common.{◌≡◌, ℕ, ◌<◌, ◌==◌, ◌&&◌, ◌||◌, not, Bool, true, false, if◌then◌else◌, List, [], ◌∷◌, length, slice_index_or, Some, refl, sym, ap, ◌∙◌, subst, arith, zero, suc, ◌⊎◌, inl, inr, ⊎_elim, eqb-true}
+use Rattle.std.proofs.Common.{◌≡◌, ℕ, ◌<◌, ◌==◌, ◌&&◌, ◌||◌, ◌↔◌, not, Bool, true, false, if◌then◌else◌, List, [], ◌∷◌, length, slice_index_or, Some, refl, sym, ap, ◌∙◌, subst, arith, zero, suc, ◌⊎◌, inl, inr, ⊎_elim, eqb-true}
 use Rattle.std.specs.List.{AllByRecursion, list_any}
 use Rattle.std.proofs.lemmas.Bool.{and_parts, cases_Bool, false≢true, not-true, or_cases, or_left, or_right}
 use Rattle.hsr_frame.specs.Address.{is_group, is_same_address}
@@ -34,7 +34,7 @@ use Rattle.hsr_ways.specs.declared.no_network.NoNetwork.{NoNetwork}
 use Rattle.hsr_ways.specs.declared.no_network.NoNetwork.TheVariants.{Mode, SameAddress, Side}
 use Rattle.hsr_network_audit.specs.Certificate.{IsCertified, TakenUpOnce}
 use Rattle.hsr_network_audit.specs.Coming.{Comes, is_to_station}
-use Rattle.hsr_network_audit.specs.Doubts.{ArePromised, AreServed, IsCoveredAt, IsCutDoubt, IsFirstDoubt, IsFirstFault, IsNoRing, IsPremised, IsRefused, IsServedAt, IsSound, doubt_at, doubt_of, probe_at}
+use Rattle.hsr_network_audit.specs.Doubts.{ArePromised, AreServed, HasSend, IsCoveredAt, IsCutDoubt, IsFirstDoubt, IsFirstFault, IsNoRing, IsNoSendAt, IsPremised, IsRefused, IsServedAt, IsSound, doubt_at, doubt_of, probe_at}
 use Rattle.hsr_network_audit.specs.Placed.{HoldsIn}
 use Rattle.hsr_network_audit.proofs.Coming.{both, box_below}
 use Rattle.hsr_network_audit.proofs.Sending.{in_record}
@@ -51,19 +51,24 @@ all_covered run all send sending is = all send.node is.0 send.place (in_record r
 pub all_served : (run : Run) → HoldsIn run (IsServedAt run) (length run.places) → AreServed run
 all_served run all send sending is = all send.node is.0 send.place (in_record run send sending is) sending is
 
+-- where no entry of any record is a send nothing was sent
+pub none_sent : (run : Run) → HoldsIn run (IsNoSendAt run) (length run.places) → (false ≡ true) ↔ HasSend run
+none_sent run none = (λ e. absurd (false≢true e), λ h. absurd (none h.send.node h.is_send.0 h.send.place (in_record run h.send h.sending h.is_send) h.sending h.is_send))
+
 -- ---- doubts
 
-pub reason_is : (run : Run) (none : NoNetwork) → IsFirstReason run none → IsFirstDoubt run (doubt_of none)
-reason_is run Mode first = first
-reason_is run SameAddress first = first
-reason_is run (Side l) first = first
+pub reason_is : (run : Run) (none : NoNetwork) → HasSend run → IsFirstReason run none → IsFirstDoubt run (doubt_of none)
+reason_is run Mode some first = (some, first)
+reason_is run SameAddress some first = (some, first.0, first.1)
+reason_is run (Side l) some first = (some, first.0, first.1, first.2)
 
-pub flaw_is : (run : Run) (flaw : Flaw) → IsNetwork run → Rattle.hsr_premises.specs.Flaws.IsFirstFlaw run (Some flaw) → IsFirstDoubt run (doubt_at flaw)
-flaw_is run (Forgot k i) network first = (network, first)
-flaw_is run (Mistaken k i) network first = (network, first.0, first.1)
-flaw_is run (Late k i) network first = (network, first.0, first.1, first.2)
+pub flaw_is : (run : Run) (flaw : Flaw) → HasSend run → IsNetwork run → Rattle.hsr_premises.specs.Flaws.IsFirstFlaw run (Some flaw) → IsFirstDoubt run (doubt_at flaw)
+flaw_is run (Forgot k i) some network first = (some, network, first)
+flaw_is run (Mistaken k i) some network first = (some, network, first.0, first.1)
+flaw_is run (Late k i) some network first = (some, network, first.0, first.1, first.2)
 
 pub cut_is : (run : Run) (d : doubts.Doubt) → IsSound run → IsCutDoubt run (Some d) → IsFirstDoubt run d
+cut_is run doubt.Empty sound is = absurd is
 cut_is run doubt.Mode sound is = absurd is
 cut_is run doubt.SameAddress sound is = absurd is
 cut_is run (doubt.Side l) sound is = absurd is
@@ -75,13 +80,14 @@ cut_is run (doubt.UnknownStation k i) sound is = absurd is
 cut_is run (doubt.Uncovered k i) sound is = absurd is
 
 refuses : (run : Run) (d : doubts.Doubt) → IsFirstDoubt run d → IsPremised run → ⊥
-refuses run doubt.Mode first all = first all.sound.network.modes
-refuses run doubt.SameAddress first all = first.1 all.sound.network.differ
+refuses run doubt.Empty first all = first all.sound.sends
+refuses run doubt.Mode first all = first.1 all.sound.network.modes
+refuses run doubt.SameAddress first all = first.2 all.sound.network.differ
 refuses run (doubt.Side l) first all =
-    first.2.unlike (all.sound.network.sides (record { link = l; dir = Rattle.hsr_link.specs.declared.row.Dir.TheVariants.Forth }) first.2.below)
-refuses run (doubt.Forgot k i) first all = first.1.fails (λ d. Rattle.hsr_needed.proofs.Places.from_each (λ x past. Rattle.hsr_law.specs.Premises.Remembers run.capacity (Rattle.hsr_law.specs.Run.owner_of run k) past (Rattle.hsr_node.specs.Record.now (x ∷ past)) x.event) (record_of run k) (all.sound.forgotten k first.1.node) i first.1.place d)
-refuses run (doubt.Mistaken k i) first all = first.2.fails (λ d. Rattle.hsr_needed.proofs.Places.from_each (λ x past. Rattle.hsr_law.specs.Premises.KnowsOwn run.capacity (Rattle.hsr_law.specs.Run.owner_of run k) past (Rattle.hsr_node.specs.Record.now (x ∷ past)) x.event) (record_of run k) (all.sound.mistaken k first.2.node) i first.2.place d)
-refuses run (doubt.NumberedLate k i) first all = first.3.fails (λ d. Rattle.hsr_needed.proofs.Places.from_each (λ x past. Rattle.hsr_network_law.specs.Late.is_numbered_late (Rattle.hsr_law.specs.Run.owner_of run k) past x.event x.outcome ≡ false) (record_of run k) (all.sound.in_time k first.3.node) i first.3.place d)
+    first.3.unlike (all.sound.network.sides (record { link = l; dir = Rattle.hsr_link.specs.declared.row.Dir.TheVariants.Forth }) first.3.below)
+refuses run (doubt.Forgot k i) first all = first.2.fails (λ d. Rattle.hsr_needed.proofs.Places.from_each (λ x past. Rattle.hsr_law.specs.Premises.Remembers run.capacity (Rattle.hsr_law.specs.Run.owner_of run k) past (Rattle.hsr_node.specs.Record.now (x ∷ past)) x.event) (record_of run k) (all.sound.forgotten k first.2.node) i first.2.place d)
+refuses run (doubt.Mistaken k i) first all = first.3.fails (λ d. Rattle.hsr_needed.proofs.Places.from_each (λ x past. Rattle.hsr_law.specs.Premises.KnowsOwn run.capacity (Rattle.hsr_law.specs.Run.owner_of run k) past (Rattle.hsr_node.specs.Record.now (x ∷ past)) x.event) (record_of run k) (all.sound.mistaken k first.3.node) i first.3.place d)
+refuses run (doubt.NumberedLate k i) first all = first.4.fails (λ d. Rattle.hsr_needed.proofs.Places.from_each (λ x past. Rattle.hsr_network_law.specs.Late.is_numbered_late (Rattle.hsr_law.specs.Run.owner_of run k) past x.event x.outcome ≡ false) (record_of run k) (all.sound.in_time k first.4.node) i first.4.place d)
 refuses run (doubt.CutOff k i n) first all = first.1.fails (λ sending is. all.served (probe_at k i) sending is)
 refuses run (doubt.UnknownStation k i) first all = first.2.fails (λ sending is. all.known (probe_at k i) sending is)
 refuses run (doubt.Uncovered k i) first all = first.3.fails (λ sending is. all.covered (probe_at k i) sending is)
@@ -327,9 +333,9 @@ no_station_joined places k other (ends ∷ links) = ap (λ b. b || is_joined_wit
     apart = ⊎_elim (λ yes. absurd (never yes)) (λ no. no) (cases_Bool (joins_stations places k ends))
 
 -- a ring's run that audit certifies is certified here
-ring_premised : (run : Run) (macs : List (List ℕ)) → IsClosed run → RingIsCrossed → IsRing run macs → OneLossyLink run → NothingForgotten run → NothingMistaken run → IsPremised run
-ring_premised run macs closed crosses ring losses remembers own = record {
-  sound = record { network = crossed.network; forgotten = remembers; mistaken = own; in_time = crossed.in_time };
+ring_premised : (run : Run) (macs : List (List ℕ)) → IsClosed run → RingIsCrossed → IsRing run macs → OneLossyLink run → NothingForgotten run → NothingMistaken run → HasSend run → IsPremised run
+ring_premised run macs closed crosses ring losses remembers own some = record {
+  sound = record { sends = some; network = crossed.network; forgotten = remembers; mistaken = own; in_time = crossed.in_time };
   served = λ send sending is k below due. record {
     ring = λ other. crossed.reached send sending k is below (due_is_meant run send sending.frame k (crossed.covered send sending is) below due);
     below = λ station. absurd (false≢true (sym (no_station k below) ∙ (and_parts (not (is_group sending.frame.dst)) (is_station (place_of run k)) station).1));
@@ -356,5 +362,5 @@ ring_premised run macs closed crosses ring losses remembers own = record {
     alone false joined j = refl
 
 pub no_ring : (run : Run) (fault : NetworkFault) → IsClosed run → RingIsCrossed → IsFirstFault run fault → IsNoRing run fault
-no_ring run (Doubt d) closed crosses first = λ macs ring losses remembers own. refuses run d first (ring_premised run macs closed crosses ring losses remembers own)
+no_ring run (Doubt d) closed crosses first = λ macs ring losses remembers own some. refuses run d first (ring_premised run macs closed crosses ring losses remembers own some)
 no_ring run NoMemory closed crosses first = tt

@@ -1,5 +1,7 @@
 -- The entry at a place of a record, and the send that it is.
-use Rattle.std.proofs.Common.{◌≡◌, ℕ, ◌<◌, ◌==◌, Bool, true, false, if◌then◌else◌, List, [], ◌∷◌, length, reverse, slice_index_or, Some, None, refl, sym, ap, ◌∙◌, subst, arith, eqb-true}
+use Rattle.std.proofs.Common.{◌≡◌, ℕ, ◌<◌, ◌==◌, Bool, true, false, if◌then◌else◌, List, [], ◌∷◌, length, reverse, slice_index_or, Option, Some, None, refl, sym, ap, ◌∙◌, subst, arith, eqb-true}
+use Rattle.std.specs.Prelude.{is_some}
+use Rattle.std.proofs.lemmas.Bool.{false≢true}
 use Rattle.std.proofs.lemmas.List.{length-reverse}
 use Rattle.std.proofs.lemmas.Option.{none-some}
 use Rattle.hsr_node.specs.Flow.{send_at, sent_by}
@@ -12,7 +14,7 @@ use Rattle.hsr_law.specs.Run.{Run, past_of, place_of, record_of}
 use Rattle.hsr_law.proofs.Records.{IsAtPlace, all_at_place}
 use Rattle.hsr_needed.proofs.Places.{from_each, past_length}
 use Rattle.hsr_needed.proofs.Walking.{place_at}
-use Rattle.hsr_network_audit.specs.Doubts.{IsCoveredAt, is_promised, probe_at}
+use Rattle.hsr_network_audit.specs.Doubts.{HasSend, IsCoveredAt, IsNoSendAt, is_promised, probe_at}
 
 pub send_here : (run : Run) (k i : ℕ) (d : Entry) → i < length (record_of run k) →
     send_at (place_of run k) i (past_of run k) ≡ sent_by (place_of run k) (slice_index_or (record_of run k) i d).event (slice_index_or (record_of run k) i d).outcome
@@ -61,3 +63,12 @@ in_record run send sending is =
     let low = within (place_of run send.node) send.place sending (past_of run send.node) is.1 in
     let same = length-reverse (record_of run send.node) in
     omega (arith, low, same)
+
+-- whether an entry is a send
+pub some_send : (run : Run) (k i : ℕ) (o : Option Sending) → k < length run.places → send_at (place_of run k) i (past_of run k) ≡ o → is_some o ≡ true → HasSend run
+some_send run k i None node is some = absurd (false≢true some)
+some_send run k i (Some s) node is some = record { send = probe_at k i; sending = s; is_send = (node, is) }
+
+pub none_send : (run : Run) (k i : ℕ) (o : Option Sending) → send_at (place_of run k) i (past_of run k) ≡ o → is_some o ≡ false → IsNoSendAt run k i
+none_send run k i None is none = λ sending sent. no_send run k i sending is sent
+none_send run k i (Some s) is none = absurd (false≢true (sym none))

@@ -14,9 +14,9 @@ abbrev pub TakenUpOnce : Run → Type 0
 TakenUpOnce run = (send : Probe) (sending : Sending) (k : ℕ) → IsSend run send sending → k < length run.places →
     is_due run send.node sending.frame.dst sending.frame.kind k ≡ true → times run send k ≡ 1
 
--- The run is that of a network, with nothing forgotten, nothing mistaken and nothing numbered late. Each of its sends comes to each
--- node that it is due at, is known each time by the RedBox of a Station that it is to, and is covered. So each node that it is due
--- at took it up just once, nothing else went up anywhere, and each send, all of which are listed, is complete.
+-- The run is that of a network, sends something, and nothing was forgotten, mistaken or numbered late. Each of its sends comes to
+-- each node that it is due at, is known each time by the RedBox of a Station that it is to, and is covered. So each node that it is
+-- due at took it up just once, nothing else went up anywhere, and each send, all of which are listed, is complete.
 pub record IsCertified (run : Run) (sends : List Delivery) : Type 0 where
   pub premised : IsPremised run
   pub listed : sends ≡ deliveries run

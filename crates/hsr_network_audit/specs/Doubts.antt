@@ -1,4 +1,5 @@
 -- Why a network can't be certified: the doubts in their order, and which is the first.
+--     HasSend         something was sent
 --     IsServedAt      the send at a place of a record comes to each node that it is due at
 --     IsKnownAt       the RedBox of a Station that it is to knew that each time
 --     IsCoveredAt     the law of networks promises whom it comes to
@@ -30,6 +31,12 @@ use Rattle.hsr_network_audit.specs.declared.doubt.Doubt.TheVariants as doubt
 
 -- ---- sends
 
+-- something was sent
+pub record HasSend (run : Run) : Type 0 where
+  pub send : Probe
+  pub sending : Sending
+  pub is_send : IsSend run send sending
+
 abbrev pub probe_at : ℕ → ℕ → Probe
 probe_at k i = record { node = k; place = i }
 
@@ -49,6 +56,10 @@ IsServedAt run k i = (sending : Sending) → IsSend run (probe_at k i) sending �
 abbrev pub IsKnownAt : Run → ℕ → ℕ → Type 0
 IsKnownAt run k i = (sending : Sending) → IsSend run (probe_at k i) sending → IsKnown run (probe_at k i) sending
 
+-- it is no send
+abbrev pub IsNoSendAt : Run → ℕ → ℕ → Type 0
+IsNoSendAt run k i = (sending : Sending) → ¬ IsSend run (probe_at k i) sending
+
 -- it is no send, or one of which the law promises whom it comes to
 abbrev pub IsCoveredAt : Run → ℕ → ℕ → Type 0
 IsCoveredAt run k i = (sending : Sending) → IsSend run (probe_at k i) sending → is_promised run k sending.frame ≡ true
@@ -64,8 +75,9 @@ pub record IsCutOff (run : Run) (k i n : ℕ) : Type 0 where
 
 -- ---- doubts
 
--- a network, where nothing was forgotten that was needed, nothing mistaken, and nothing numbered late
+-- something was sent, in a network, where nothing was forgotten that was needed, nothing mistaken, and nothing numbered late
 pub record IsSound (run : Run) : Type 0 where
+  pub sends : HasSend run
   pub network : IsNetwork run
   pub forgotten : NothingForgotten run
   pub mistaken : NothingMistaken run
@@ -90,12 +102,13 @@ pub record IsPremised (run : Run) : Type 0 where
 
 -- the doubt holds, and none of those before it
 abbrev pub IsFirstDoubt : Run → doubts.Doubt → Type 0
-IsFirstDoubt run doubt.Mode = ¬ AreGoingRound run
-IsFirstDoubt run doubt.SameAddress = AreGoingRound run × ¬ HaveOwnAddresses run
-IsFirstDoubt run (doubt.Side l) = AreGoingRound run × HaveOwnAddresses run × IsFirstUnlike run l
-IsFirstDoubt run (doubt.Forgot k i) = IsNetwork run × IsFirstNot run (RemembersAt run) k i
-IsFirstDoubt run (doubt.Mistaken k i) = IsNetwork run × NothingForgotten run × IsFirstNot run (KnowsOwnAt run) k i
-IsFirstDoubt run (doubt.NumberedLate k i) = IsNetwork run × NothingForgotten run × NothingMistaken run × IsFirstNot run (IsInTimeAt run) k i
+IsFirstDoubt run doubt.Empty = ¬ HasSend run
+IsFirstDoubt run doubt.Mode = HasSend run × ¬ AreGoingRound run
+IsFirstDoubt run doubt.SameAddress = HasSend run × AreGoingRound run × ¬ HaveOwnAddresses run
+IsFirstDoubt run (doubt.Side l) = HasSend run × AreGoingRound run × HaveOwnAddresses run × IsFirstUnlike run l
+IsFirstDoubt run (doubt.Forgot k i) = HasSend run × IsNetwork run × IsFirstNot run (RemembersAt run) k i
+IsFirstDoubt run (doubt.Mistaken k i) = HasSend run × IsNetwork run × NothingForgotten run × IsFirstNot run (KnowsOwnAt run) k i
+IsFirstDoubt run (doubt.NumberedLate k i) = HasSend run × IsNetwork run × NothingForgotten run × NothingMistaken run × IsFirstNot run (IsInTimeAt run) k i
 IsFirstDoubt run (doubt.CutOff k i n) = IsSound run × IsFirstNot run (IsServedAt run) k i × IsCutOff run k i n
 IsFirstDoubt run (doubt.UnknownStation k i) = IsSound run × AreServed run × IsFirstNot run (IsKnownAt run) k i
 IsFirstDoubt run (doubt.Uncovered k i) = IsSound run × AreServed run × AreKnown run × IsFirstNot run (IsCoveredAt run) k i
@@ -112,10 +125,10 @@ abbrev pub IsRefused : Run → NetworkFault → Type 0
 IsRefused run (Doubt d) = ¬ IsPremised run
 IsRefused run NoMemory = Unit {0}
 
--- and it isn't the run of a ring of DANHs in modes H and U with losses on at most one link, where nothing was forgotten and
--- nothing mistaken
+-- and it isn't the run of a ring of DANHs in modes H and U with losses on at most one link, where something was sent, nothing
+-- forgotten and nothing mistaken
 abbrev pub IsNoRing : Run → NetworkFault → Type 0
-IsNoRing run (Doubt d) = (macs : List (List ℕ)) → IsRing run macs → OneLossyLink run → NothingForgotten run → NothingMistaken run → ⊥
+IsNoRing run (Doubt d) = (macs : List (List ℕ)) → IsRing run macs → OneLossyLink run → NothingForgotten run → NothingMistaken run → HasSend run → ⊥
 IsNoRing run NoMemory = Unit {0}
 
 -- ---- as the crates below say it

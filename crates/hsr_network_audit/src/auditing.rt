@@ -7,7 +7,7 @@ ghost use Rattle.hsr_network_audit.specs.declared.doubt.NetworkFault.TheVariants
 use crate::cutoff::Reach;
 use crate::doubt::{Doubt, NetworkFault};
 use crate::missed::first_missed;
-use crate::sends::first_uncovered;
+use crate::sends::{first_uncovered, has_send};
 use hsr_closing::Closed;
 use hsr_deliveries::{Deliveries, deliveries};
 use hsr_network_law::{
@@ -46,11 +46,15 @@ fn doubt_at(flaw: Flaw) -> Doubt
     }
 }
 
-/// Whether a run is that of a network, with nothing forgotten, mistaken or numbered late; else the first doubt.
+/// Whether something was sent in a run, it is that of a network, and nothing was forgotten, mistaken or numbered late; else the first
+/// doubt.
 fn check_sound<const C: usize>(alloc: Global, closed: &Closed<C>) -> Result<(), NetworkFault>
     ensures sound { IfOk result (λ _. IsSound closed.now.run) }
     ensures fault { IfErr result (IsFirstFault closed.now.run) }
 {
+    if !has_send(closed) {
+        return Err(NetworkFault::Doubt(Doubt::Empty));
+    }
     if let Err(none) = check_network(closed) {
         return Err(NetworkFault::Doubt(doubt_of(none)));
     }
@@ -124,12 +128,12 @@ fn certify<const C: usize>(
 /// The certificate of a finished run of a network (IEC 62439-3 clause 5): each node that a send of it is due at took its frame
 /// up just once, nothing else went up, and each send is complete, as `deliveries` tells.
 ///
-/// There is one exactly where nodes are DANHs and RedBoxes in modes H and U, QuadBoxes and Stations, with addresses that are
-/// theirs alone, each link joins two ports on rings or two edges, nothing was forgotten that was needed, nothing mistaken, and
-/// nothing numbered late; each send comes to each node that it is due at; the RedBox of each Station that a frame to one address is
-/// due at knew that address each time that it handled the frame; and no send is a supervision frame of a Station that is joined
-/// with a Station. Else the first doubt is named. Each run that `audit` of hsr_audit certifies is certified. `NoMemory` where room
-/// is refused.
+/// There is one exactly where something was sent; nodes are DANHs and RedBoxes in modes H and U, QuadBoxes and Stations, with
+/// addresses that are theirs alone, each link joins two ports on rings or two edges, nothing was forgotten that was needed, nothing
+/// mistaken, and nothing numbered late; each send comes to each node that it is due at; the RedBox of each Station that a frame to
+/// one address is due at knew that address each time that it handled the frame; and no send is a supervision frame of a Station that
+/// is joined with a Station. Else the first doubt is named. Each run that sends anything and that `audit` of hsr_audit certifies is
+/// certified. `NoMemory` where room is refused.
 pub fn audit_network<const C: usize>(
     alloc: Global,
     closed: &Closed<C>,

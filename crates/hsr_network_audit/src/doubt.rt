@@ -4,6 +4,8 @@
 /// record the lowest node is named, and its lowest place.
 #[derive(Clone, Copy, Debug, PartialEq, Eq)]
 pub enum Doubt {
+    /// Nothing was sent.
+    Empty,
     /// A DANH or a RedBox is in mode N.
     Mode,
     /// Two nodes have one address.

@@ -8,7 +8,7 @@
 //! - `shared`: what was found of sends that lost nothing, for those that are like them
 //! - `cutoff`: the first send that doesn't come to a node
 //! - `missed`: the lowest send to a Station that its RedBox didn't know each time
-//! - `sends`: the first send that isn't covered
+//! - `sends`: whether there is a send, and the first that isn't covered
 //! - `auditing`: the audit, its call
 #![tactic(auto)]
 

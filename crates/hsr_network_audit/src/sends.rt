@@ -1,13 +1,50 @@
-//! The first send that isn't covered.
-ghost use Rattle.std.specs.Prelude.{◌↔◌, ◌<◌, length, IsTrue};
+//! Whether there is a send, and the first that isn't covered.
+ghost use Rattle.std.specs.Prelude.{◌≡◌, ◌↔◌, ◌<◌, true, false, length, IsTrue};
 ghost use Rattle.hsr_closing.specs.Finished.{IsFinished};
 ghost use Rattle.hsr_law.specs.Run.{record_of};
-ghost use Rattle.hsr_network_audit.specs.Doubts.{IsCoveredAt};
-ghost use Rattle.hsr_network_audit.specs.Placed.{IsFirstIn, IsFirstPair};
+ghost use Rattle.hsr_network_audit.specs.Doubts.{HasSend, IsCoveredAt, IsNoSendAt};
+ghost use Rattle.hsr_network_audit.specs.Placed.{HoldsBelow, IsFirstIn, IsFirstPair};
 
 use crate::covered::is_promised;
 use hsr_closing::Closed;
 use hsr_node::sent_view;
+
+/// Whether an entry of a node is a send.
+fn is_send_at<const C: usize>(closed: &Closed<C>, node: usize, place: usize) -> bool
+    requires node { node < length closed.now.run.places }
+    requires place { place < length (record_of closed.now.run node) }
+    ensures some { result ≡ true → HasSend closed.now.run }
+    ensures none { result ≡ false → IsNoSendAt closed.now.run node place }
+{
+    let x = &closed.entries(node)[place];
+    sent_view(&closed.topology().places()[node], &x.event, &x.outcome).is_some()
+}
+
+/// Whether a node has a send.
+fn has_send_in<const C: usize>(closed: &Closed<C>, node: usize) -> bool
+    requires { node < length closed.now.run.places }
+    ensures some { result ≡ true → HasSend closed.now.run }
+    ensures none { result ≡ false → HoldsBelow (IsNoSendAt closed.now.run) node (length (record_of closed.now.run node)) }
+{
+    for place in 0..closed.entries(node).len() {
+        if is_send_at(closed, node, place) {
+            return true;
+        }
+    }
+    false
+}
+
+/// Whether a run has a send.
+pub(crate) fn has_send<const C: usize>(closed: &Closed<C>) -> bool
+    ensures { IsTrue result ↔ HasSend closed.now.run }
+{
+    for node in 0..closed.topology().places().len() {
+        if has_send_in(closed, node) {
+            return true;
+        }
+    }
+    false
+}
 
 /// Whether an entry of a node is no send, or one that is covered.
 fn is_covered_at<const C: usize>(closed: &Closed<C>, node: usize, place: usize) -> bool

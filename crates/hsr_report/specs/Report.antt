@@ -69,6 +69,7 @@ doubt_text (Forgot k place) = at_text (codes "forgot ") k place
 doubt_text (Mistaken k place) = at_text (codes "mistaken ") k place
 
 abbrev pub network_doubt_text : NetworkDoubt → List ℕ
+network_doubt_text network.Empty = codes "empty"
 network_doubt_text network.Mode = codes "mode"
 network_doubt_text network.SameAddress = codes "same-address"
 network_doubt_text (network.Side link) = codes "side " ++ decimal link

@@ -81,6 +81,7 @@ fn put_network_doubt(text: &mut Vec<u8>, doubt: NetworkDoubt) -> Result<(), Allo
     ensures { OnOk result (text.new.items ≡ text.old.items ++ network_doubt_text doubt) }
 {
     match doubt {
+        NetworkDoubt::Empty => text.extend_from_slice(b"empty"),
         NetworkDoubt::Mode => text.extend_from_slice(b"mode"),
         NetworkDoubt::SameAddress => text.extend_from_slice(b"same-address"),
         NetworkDoubt::Side { link } => put_count(text, b"side ", link as u64),

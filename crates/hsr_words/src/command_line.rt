@@ -81,10 +81,10 @@ of the three changes a status.
 
 With --network the last line and the status are of the audit of networks, whatever rings, RedBoxes, QuadBoxes and
 stations there are: `certified <n>` where each frame came exactly once to each node that it was for, else its first
-doubt: `mode`, `same-address`, `side <link>`, `forgot`, `mistaken` or `numbered-late` with a node and the place in its
-record, `cut-off <node> <place> <receiver>` (no way to this receiver lost no copy of that frame), `unknown-station` with
-the node and place of a frame to a Station that its RedBox did not know, or `uncovered` with those of a frame of which
-nothing is certified (a supervision frame of a Station that is joined with a Station).
+doubt: `empty` (nothing was sent), `mode`, `same-address`, `side <link>`, `forgot`, `mistaken` or `numbered-late` with a
+node and the place in its record, `cut-off <node> <place> <receiver>` (no way to this receiver lost no copy of that
+frame), `unknown-station` with the node and place of a frame to a Station that its RedBox did not know, or `uncovered`
+with those of a frame of which nothing is certified (a supervision frame of a Station that is joined with a Station).
 
 With --explain, lines on standard error say what a fault or a doubt means, where it is (line and column of the text,
 nodes and ports by their names, moments) and what to do; with --budget also how many entries would be enough. Each begins
