@@ -212,6 +212,10 @@ fn of_network_doubt<const C: usize>(
     doubt: NetworkDoubt,
 ) -> Result<Vec<u8>, NoMemory> {
     match doubt {
+        NetworkDoubt::Empty => of_words(
+            alloc,
+            "nothing was sent, so nothing is certified: look at what came here, a pipe whose first part failed gives an empty text",
+        ),
         NetworkDoubt::Mode => of_mode(alloc, closed, names),
         NetworkDoubt::SameAddress => of_same_address(alloc, closed, names),
         NetworkDoubt::Side { link } => of_side(alloc, closed, names, link),
