@@ -1,12 +1,14 @@
 -- The line of a fault, and refusals as faults.
---     fault_line   what stands on standard error, without its line feed
-use Rattle.std.specs.Prelude.{ℕ, List, ◌++◌, codes}
+--     fault_line      what stands on standard error, without its line feed
+--     nothing_fault   what is told of the rows of a run of which none is asked for
+use Rattle.std.specs.Prelude.{ℕ, ◌-◌, List, ◌++◌, codes, length, slice_get, Option, Some}
 use Rattle.std.specs.Fmt.{decimal}
 use Rattle.hsr_closing.specs.Disagree.{disagree_code}
 use Rattle.hsr_pcapng.specs.declared.fault.BlockFault.{BlockFault}
 use Rattle.hsr_pcapng.specs.declared.fault.BlockFault.TheVariants as block
 use Rattle.hsr_story.specs.declared.choice.ChoiceFault.{ChoiceFault}
 use Rattle.hsr_story.specs.declared.choice.ChoiceFault.TheVariants as choice
+use Rattle.hsr_story.specs.declared.shown.Shown.{Shown}
 use Rattle.hsr_story.specs.declared.telling.StoryFault.{StoryFault}
 use Rattle.hsr_story.specs.declared.telling.StoryFault.TheVariants as story
 use Rattle.hsr_picture.specs.declared.picturing.PictureFault.{PictureFault}
@@ -14,7 +16,7 @@ use Rattle.hsr_picture.specs.declared.picturing.PictureFault.TheVariants as pict
 use Rattle.hsr_transcript_text.specs.declared.fault.ReadFault.{ReadFault}
 use Rattle.hsr_transcript_text.specs.declared.fault.ReadFault.TheVariants as read
 use Rattle.hsr_viewing.specs.declared.fault.Fault.{Fault}
-use Rattle.hsr_viewing.specs.declared.fault.Fault.TheVariants.{Transcript, Names, Link, Send, Moments, Copies, Circle, TooLong, Read, Write, Memory}
+use Rattle.hsr_viewing.specs.declared.fault.Fault.TheVariants.{Transcript, Names, Link, Send, Moments, Copies, NoCopies, NoneAsked, Circle, TooLong, Read, Write, Memory}
 
 -- why a text isn't read
 abbrev pub read_line : ReadFault → List ℕ
@@ -32,6 +34,10 @@ fault_line Link = codes "fault: link"
 fault_line Send = codes "fault: send"
 fault_line Moments = codes "fault: moments"
 fault_line (Copies n) = codes "fault: copies " ++ (decimal n ++ codes ", and a picture shows 400: choose by --send, --from or --until")
+fault_line NoCopies = codes "fault: nothing to show: the run has no copies"
+fault_line (NoneAsked n first last) =
+    codes "fault: nothing to show: none of " ++ (decimal n ++ (codes " copies, of moments " ++ (decimal first ++ (codes " to " ++
+    (decimal last ++ codes ", is asked for: change --link, --send, --from or --until")))))
 fault_line Circle = codes "fault: order"
 fault_line TooLong = codes "fault: length"
 fault_line Read = codes "fault: read"
@@ -58,3 +64,14 @@ picture_fault picture.Reversed = Moments
 picture_fault picture.Circle = Circle
 picture_fault (picture.TooMany copies) = Copies copies
 picture_fault picture.NoMemory = Memory
+
+-- ---- rows of which none is asked for
+
+-- how many they are, by the first and the last
+abbrev pub nothing_between : ℕ → Option Shown → Option Shown → Fault
+nothing_between copies (Some first) (Some last) = NoneAsked copies first.moment last.moment
+nothing_between copies first last = NoCopies
+
+-- how many there are, and from which moment to which, in the order of time
+abbrev pub nothing_fault : List Shown → Fault
+nothing_fault rows = nothing_between (length rows) (slice_get rows 0) (slice_get rows (length rows - 1))

@@ -23,7 +23,17 @@ pub enum Fault {
     /// The moments until which a picture goes are before those from which it does.
     Moments,
     /// A picture of so many copies is asked for, and they are too many.
-    Copies { copies: usize },
+    Copies {
+        copies: usize,
+    },
+    /// The run has no copies.
+    NoCopies,
+    /// The run has so many copies, of moments from the first to the last, and none of them is asked for.
+    NoneAsked {
+        copies: usize,
+        first: u64,
+        last: u64,
+    },
     /// Entries of the run follow one another in a circle.
     Circle,
     /// A name or a frame is too long for a capture.
@@ -130,6 +140,15 @@ impl fmt::Display for Fault {
             Fault::Copies { copies } => write!(
                 f,
                 "fault: copies {copies}, and a picture shows 400: choose by --send, --from or --until"
+            ),
+            Fault::NoCopies => write!(f, "fault: nothing to show: the run has no copies"),
+            Fault::NoneAsked {
+                copies,
+                first,
+                last,
+            } => write!(
+                f,
+                "fault: nothing to show: none of {copies} copies, of moments {first} to {last}, is asked for: change --link, --send, --from or --until"
             ),
             Fault::Circle => write!(f, "fault: order"),
             Fault::TooLong => write!(f, "fault: length"),

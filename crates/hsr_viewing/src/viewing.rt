@@ -3,8 +3,9 @@ ghost use Rattle.std.specs.Prelude.{◌≡◌, ◌≤◌, ◌⊎◌, ◌++◌, �
 ghost use Rattle.hsr_order.specs.Fronts.{lists_of};
 ghost use Rattle.hsr_options.specs.Tables.{capacity_of};
 ghost use Rattle.hsr_transcript.specs.Answers.{Answers, IsTextOf};
-ghost use Rattle.hsr_viewing.specs.Refusals.{HasStray, IsMisnamed, IsStray, IsUncaptured, IsUndrawn, IsUnshown, IsUnshownOf};
-ghost use Rattle.hsr_viewing.specs.Viewing.{AreNames, AreSends, IsCaptureOf, IsPictured, IsSend, IsShown, IsShownOf, probe_of, second_line, table_of};
+ghost use Rattle.hsr_viewing.specs.Fault.{nothing_fault};
+ghost use Rattle.hsr_viewing.specs.Refusals.{HasStray, IsBlank, IsMisnamed, IsStray, IsUncaptured, IsUndrawn, IsUnshown, IsUnshownOf, TellsNothing};
+ghost use Rattle.hsr_viewing.specs.Viewing.{AreNames, AreSends, IsCaptureOf, IsPictured, IsSend, IsShown, IsShownOf, leaves_none, probe_of, second_line, table_of};
 ghost use Rattle.hsr_viewing.specs.declared.fault.Fault.TheVariants.{Memory, Send};
 
 use crate::asked::What;
@@ -20,7 +21,7 @@ use hsr_node::Probe;
 use hsr_options::Table;
 use hsr_picture::{Span, picture_run};
 use hsr_scenario::{What as Refused, read_names};
-use hsr_story::{Choice, check_choice, chosen, story};
+use hsr_story::{Choice, Shown, StoryFault, check_choice, chosen, story};
 use hsr_text::split_at;
 use hsr_topology::Topology;
 use hsr_transcript::{ReadFault, read};
@@ -57,8 +58,30 @@ fn names_of(
     }
 }
 
+/// Why nothing is shown of these rows of a run, in the order of time.
+fn nothing_of(rows: &[Shown]) -> Fault
+    ensures { result ≡ nothing_fault rows.now }
+{
+    match (rows.first(), rows.last()) {
+        (Some(first), Some(last)) => Fault::NoneAsked {
+            copies: rows.len(),
+            first: first.moment,
+            last: last.moment,
+        },
+        _ => Fault::NoCopies,
+    }
+}
+
+/// Whether something is wanted, and no row is left.
+fn leaves_none(wanted: Choice, rows: &[Shown]) -> bool
+    ensures { result ≡ leaves_none wanted rows.now }
+{
+    (wanted.link.is_some() || wanted.send.is_some()) && rows.is_empty()
+}
+
 /// The capture of those rows of a run that are wanted, in the order of time: `Link` or `Send` where the run hasn't what is wanted,
-/// `Circle` where its rows have no order of time, `TooLong` where a block would be too long.
+/// `Circle` where its rows have no order of time, `NoCopies` or `NoneAsked` where something is wanted and no row is left, `TooLong` where
+/// a block would be too long.
 fn capture_of<const C: usize>(
     alloc: Global,
     closed: &Closed<C>,
@@ -70,8 +93,11 @@ fn capture_of<const C: usize>(
 {
     check_choice(closed, wanted)?;
     let rows = story(alloc, closed)?;
-    let rows = chosen(alloc, closed, wanted, rows.as_slice())?;
-    let octets = capture(alloc, closed, names, rows.as_slice())?;
+    let left = chosen(alloc, closed, wanted, rows.as_slice())?;
+    if leaves_none(wanted, left.as_slice()) {
+        return Err(nothing_of(rows.as_slice()));
+    }
+    let octets = capture(alloc, closed, names, left.as_slice())?;
     Ok(octets)
 }
 
@@ -108,8 +134,20 @@ fn add(probes: &mut Vec<Probe>, probe: Probe) -> Result<(), NoMemory>
     Ok(())
 }
 
+/// Why a picture of a run shows nothing.
+fn blank_of<const C: usize>(alloc: Global, closed: &Closed<C>) -> Fault
+    ensures { TellsNothing closed.now result }
+{
+    match story(alloc, closed) {
+        Ok(rows) => nothing_of(rows.as_slice()),
+        Err(StoryFault::Circle) => Fault::Circle,
+        Err(StoryFault::NoMemory) => Fault::Memory,
+    }
+}
+
 /// The picture of those rows of a run that are wanted, drawn: `Send` where the run hasn't one of the sends, `Moments` where the span ends
-/// before it begins, `Copies` where too many are wanted, `Circle` where its rows have no order of time.
+/// before it begins, `Copies` where too many are wanted, `NoCopies` or `NoneAsked` where none is, `Circle` where its rows have no order of
+/// time.
 fn picture_of<const C: usize>(
     alloc: Global,
     closed: &Closed<C>,
@@ -118,10 +156,14 @@ fn picture_of<const C: usize>(
     span: Span,
 ) -> Result<Vec<u8>, Fault>
     ensures picture { IfOk result (λ octets. IsPictured (lists_of names.now) closed.now sends.now span octets.items) }
-    ensures undrawn { IfErr result (λ fault. (fault ≡ Memory) ⊎ (((fault ≡ Send) × HasStray (lists_of names.now) sends.now) ⊎ IsUndrawn (lists_of names.now) closed.now sends.now span fault)) }
+    ensures undrawn { IfErr result (λ fault. (fault ≡ Memory) ⊎ (((fault ≡ Send) × HasStray (lists_of names.now) sends.now) ⊎
+        (IsUndrawn (lists_of names.now) closed.now sends.now span fault ⊎ IsBlank (lists_of names.now) closed.now sends.now span fault))) }
 {
     let probes = probes_of(alloc, names, sends)?;
     let picture = picture_run(alloc, closed, probes.as_slice(), span)?;
+    if picture.arrows.is_empty() {
+        return Err(blank_of(alloc, closed));
+    }
     Ok(drawing(alloc, closed, names, &picture)?)
 }
 
