@@ -24,12 +24,13 @@ use Rattle.hsr_picture.specs.declared.picturing.PictureFault.{PictureFault}
 use Rattle.hsr_picture.specs.declared.span.Span.{Span}
 use Rattle.hsr_transcript.specs.Answers.{Answers, IsTextOf}
 use Rattle.hsr_transcript_text.specs.declared.fault.ReadFault.{ReadFault}
-use Rattle.hsr_viewing.specs.Fault.{nothing_fault, picture_fault}
+use Rattle.hsr_viewing.specs.Fault.{nothing_fault, picture_fault, told}
 use Rattle.hsr_viewing.specs.Viewing.{AreNames, AreSends, IsSend, leaves_none, probe_of, send_words, topology_of}
 use Rattle.hsr_viewing.specs.declared.asked.What.{What}
 use Rattle.hsr_viewing.specs.declared.asked.What.TheVariants as asked
 use Rattle.hsr_viewing.specs.declared.fault.Fault.{Fault}
-use Rattle.hsr_viewing.specs.declared.fault.Fault.TheVariants.{Transcript, Names, Link, Send, NoCopies, NoneAsked, Circle, TooLong, Read, Memory}
+use Rattle.hsr_viewing.specs.declared.given.Given.{Given}
+use Rattle.hsr_viewing.specs.declared.fault.Fault.TheVariants.{Names, Link, Send, NoCopies, NoneAsked, Circle, TooLong, Read, Memory}
 
 -- a text can't be read for the names of a scenario, or it is one of other nodes or links
 abbrev pub IsOther : Topology → Result NamesMeant ScenarioFault → Type 0
@@ -68,7 +69,7 @@ IsUncaptured names f wanted Link = checked f.run wanted ≡ Err choice.NoLink
 IsUncaptured names f wanted Send = checked f.run wanted ≡ Err choice.NoSend
 IsUncaptured names f wanted Circle = (checked f.run wanted ≡ Ok tt) × HasNoStory f.run f.plan
 IsUncaptured names f wanted NoCopies = IsLeftEmpty f wanted NoCopies
-IsUncaptured names f wanted (NoneAsked copies first last) = IsLeftEmpty f wanted (NoneAsked copies first last)
+IsUncaptured names f wanted (NoneAsked extent) = IsLeftEmpty f wanted (NoneAsked extent)
 IsUncaptured names f wanted TooLong = IsTooLong names f wanted
 IsUncaptured names f wanted Memory = Unit {0}
 IsUncaptured names f wanted _ = ⊥
@@ -116,15 +117,15 @@ abbrev pub IsUnshown : Finished → What → Option (List ℕ) → Fault → Typ
 IsUnshown f what scenario fault =
     (fault ≡ Memory) ⊎ (IsMisnamed (topology_of f.run) scenario fault ⊎ ((names : List (List ℕ)) × AreNames (topology_of f.run) scenario names × IsUnshownBy names f what fault))
 
--- the text is that of no run, for this cause
-abbrev pub IsUnread : ℕ → List ℕ → Fault → Type 0
-IsUnread capacity text fault = (read : ReadFault) × (fault ≡ Transcript read) × Answers capacity (Err read) text
+-- the text is that of no run, for this cause; what else it may be is given
+abbrev pub IsUnread : ℕ → Option Given → List ℕ → Fault → Type 0
+IsUnread capacity given text fault = (read : ReadFault) × (fault ≡ told read given) × Answers capacity (Err read) text
 
 -- the text is of a run of which nothing can be shown
 abbrev pub IsUnshowable : ℕ → List ℕ → What → Option (List ℕ) → Fault → Type 0
 IsUnshowable capacity text what scenario fault = (f : Finished) × IsTextOf capacity f text × IsUnshown f what scenario fault
 
 -- one of these; or reading or memory failed
-abbrev pub IsUnshownOf : ℕ → List ℕ → What → Option (List ℕ) → Fault → Type 0
-IsUnshownOf capacity text what scenario fault =
-    ((fault ≡ Read) ⊎ (fault ≡ Memory)) ⊎ (IsUnread capacity text fault ⊎ IsUnshowable capacity text what scenario fault)
+abbrev pub IsUnshownOf : ℕ → Option Given → List ℕ → What → Option (List ℕ) → Fault → Type 0
+IsUnshownOf capacity given text what scenario fault =
+    ((fault ≡ Read) ⊎ (fault ≡ Memory)) ⊎ (IsUnread capacity given text fault ⊎ IsUnshowable capacity text what scenario fault)

@@ -4,11 +4,9 @@
 --     IsSend        the send that words mean
 --     AreSends      the sends that words mean
 --     IsPictured    the drawing of a picture of what is wanted
---     table_of      the size of the tables, by a text's second line
+--     table_of      the size of the tables, by a text's front
 --     IsShownOf     what is shown of the text of a run
 use Rattle.std.specs.Prelude.{ℕ, ◌≡◌, ◌<◌, ◌==◌, ◌&&◌, ◌||◌, Bool, false, List, map, filter, length, Ok, [], Option, Some, None, is_some, option_map, codes, if◌then◌else◌}
-use Rattle.std.specs.Str.{bytes_eq}
-use Rattle.hsr_text.specs.Words.{cut}
 use Rattle.hsr_options.specs.declared.chosen.Table.{Table}
 use Rattle.hsr_options.specs.declared.chosen.Table.TheVariants.{Small, Large}
 use Rattle.hsr_node.specs.declared.event.Probe.{Probe}
@@ -27,6 +25,7 @@ use Rattle.hsr_drawing.specs.Drawing.{IsDrawing}
 use Rattle.hsr_law.specs.Run.{Run}
 use Rattle.hsr_transcript.specs.Answers.{IsTextOf}
 use Rattle.std.specs.Borrow.{Bor}
+use Rattle.hsr_viewing.specs.Given.{begins}
 use Rattle.hsr_viewing.specs.declared.asked.What.{What}
 use Rattle.hsr_viewing.specs.declared.asked.What.TheVariants as asked
 use Rattle.hsr_picture.specs.Pictures.{IsPicture, Picture}
@@ -109,17 +108,11 @@ pub record IsShown (f : Finished) (what : What) (scenario : Option (List ℕ)) (
 
 -- ---- texts
 
--- what stands before the first line feed, if there is a text
-abbrev pub front_line : Option (List ℕ) → List ℕ
-front_line None = []
-front_line (Some text) = (cut 10 text).0
-
-abbrev pub second_line : List ℕ → List ℕ
-second_line text = front_line (cut 10 text).1
-
--- the size of the tables of which a text tells in its second line
+-- The size of the tables of which a text tells in its second line, by its front: 4 entries behind a first line as of a transcript and the
+-- line `table 4`, or else 512.
 abbrev pub table_of : List ℕ → Table
-table_of text = if bytes_eq (second_line text) (codes "table 4") then Small else Large
+table_of front =
+    if begins front (codes "hsr-bench 2\ntable 4\n") || begins front (codes "hsr-bench 1\ntable 4\n") then Small else Large
 
 -- a text of a finished run, and what is shown of it
 pub record IsShownOf (capacity : ℕ) (text : List ℕ) (what : What) (scenario : Option (List ℕ)) (octets : List ℕ) : Type 0 where
