@@ -4,6 +4,8 @@ import random
 from lib.scenarios import GROUP, ring, send
 
 LONG_LINE = "head -c 1000000000 /dev/zero | tr '\\0' a"  # 1 GB without an end
+GB_3 = 3_000_000_000
+ZEROS = f"head -c {GB_3} /dev/zero"
 MIB_16 = 16 * 1024 * 1024
 
 

@@ -55,9 +55,14 @@ def last_line(*files):
     return said[:100]
 
 
+def program_of(words):
+    """The program whose first word it is."""
+    return "hsr_view" if words[0] in ("picture", "capture", "devices") else "hsr_bench"
+
+
 def command_of(setting, words):
-    """A command line of the bench, or of the program by whose name the words begin."""
-    name, rest = (words[0], words[1:]) if words[0] in setting.programs else ("hsr_bench", words)
+    """A command line of the program by whose name the words begin, or whose command the first is."""
+    name, rest = (words[0], words[1:]) if words[0] in setting.programs else (program_of(words), words)
     return [setting.programs[name], *rest]
 
 
@@ -115,6 +120,24 @@ def try_transcript(setting):
     return try_rows(setting, rows, transcript_of_many, setting)
 
 
+def try_large_names(setting):
+    """Names from a file of 3 GB of zeros, of which the disk keeps nothing."""
+    with tempfile.NamedTemporaryFile(dir=setting.work) as file:
+        os.truncate(file.fileno(), inputs.GB_3)
+        rows = [("names of 3 GB", [word, "--names", file.name], 1, "fault: names") for word in ("picture", "capture", "devices")]
+        return try_rows(setting, rows, same, b"hsr-bench 2\n")
+
+
+def jobs_to_show():
+    zeros = [("3 GB of zeros", [word], 1, NO_TRANSCRIPT) for word in ("picture", "capture", "devices")]
+    version = [("a version, then a line of 1 GB", ["picture"], 1, "fault: transcript line 2")]
+    return [
+        Job(try_rows, (zeros, same, inputs.ZEROS), 2),
+        Job(try_rows, (version, same, "echo hsr-bench 2; " + inputs.LONG_LINE), 2),
+        Job(try_large_names, (), 2),
+    ]
+
+
 def jobs_of_no_text():
     return [
         Job(try_rows, (hurled("10 MB of random octets"), inputs.random_octets), 3),
@@ -158,5 +181,5 @@ def jobs_of_plans():
 
 
 def jobs(setting):
-    folder = [("a folder as input", [command], 1, "fault: read") for command in ("node", "run", "threads", "audit")]
-    return jobs_of_no_text() + jobs_of_large_texts() + jobs_of_plans() + [Job(try_rows, (folder, same, str(ROOT)), 1)]
+    folder = [("a folder as input", [command], 1, "fault: read") for command in ("node", "run", "threads", "audit", "picture")]
+    return jobs_of_no_text() + jobs_of_large_texts() + jobs_of_plans() + jobs_to_show() + [Job(try_rows, (folder, same, str(ROOT)), 1)]

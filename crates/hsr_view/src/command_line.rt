@@ -21,8 +21,9 @@ is one), as in the comments. NODE is the node's name.
 
 Status 1: nothing is written, and one line on standard error says why: as with `hsr_bench audit`; `fault: names` (the
 scenario can't be read, or has other nodes or links than the run), `fault: link`, `fault: send` (there is no such link
-or send), or `fault: order` (the text is of no run that can have taken place: its entries follow one another in a
-circle).
+or send), `fault: nothing to show: ..` (--link and --send leave no copy), or `fault: order` (the text is of no run that
+can have taken place: its entries follow one another in a circle). A line `explain: ..` may follow, which says what
+was given in place of a transcript.
 
 Examples: hsr_bench run --transcript < scenario.toml | hsr_view capture --names scenario.toml > run.pcapng
           hsr_view capture --link 2 --send n0:3 < run.transcript > run.pcapng";
@@ -39,8 +40,9 @@ of some moments, in microseconds, both included. A picture shows 400 copies at m
 
 Status 1: nothing is written, and one line on standard error says why: as with `hsr_bench audit`; `fault: names` (the
 scenario can't be read, or has other nodes or links than the run), `fault: send` (there is no such send),
-`fault: moments` (--until is before --from), `fault: copies N, ..` (there are over 400), or `fault: order` (the text is
-of no run that can have taken place: its entries follow one another in a circle).
+`fault: moments` (--until is before --from), `fault: copies N, ..` (there are over 400), `fault: nothing to show: ..`
+(there are none), or `fault: order` (the text is of no run that can have taken place: its entries follow one another in
+a circle). A line `explain: ..` may follow, which says what was given in place of a transcript.
 
 Examples: hsr_bench run --transcript < scenario.toml | hsr_view picture --names scenario.toml > run.svg
           hsr_view picture --send n0:3 --send n1:0 --from 5000 --until 9000 < run.transcript > run.svg";
@@ -52,9 +54,24 @@ its duplicate tables it needed, of how many it had; and the nodes and stations t
 the moments when it heard them last, in microseconds.
 
 Status 1: nothing is written, and one line on standard error says why: as with `hsr_bench audit`, or `fault: names`
-(the scenario can't be read, or has other nodes or links than the run).
+(the scenario can't be read, or has other nodes or links than the run). A line `explain: ..` may follow, which says
+what was given in place of a transcript.
 
 Example: hsr_bench run --transcript < scenario.toml | hsr_view devices --names scenario.toml";
+
+const NO_LINK: &str = "usage: --link N: the number of a link, counted from 0 as in the transcript";
+
+const NO_SEND: &str = "\
+usage: --send NODE:PLACE: the name of a node (n0, n1, .. without --names), and the place of the send in its record,
+counted from 0, as n0:3";
+
+const NO_FROM: &str = "usage: --from MOMENT: microseconds, from 0 to 18446744073709551615, as 5000";
+
+const NO_UNTIL: &str =
+    "usage: --until MOMENT: microseconds, from 0 to 18446744073709551615, as 5000";
+
+const FILE_AS_WORD: &str = "\
+A transcript isn't named but comes on standard input: use < FILE, as in hsr_view picture < run.transcript";
 
 /// Why words say nothing.
 #[derive(Drop)]
@@ -77,13 +94,46 @@ fn usage(alloc: Global, text: &str) -> WordFault {
     }
 }
 
-/// The text of a refusal, without the end of its last line: whoever prints it ends the line.
-fn refused(alloc: Global, error: &Error) -> WordFault {
+/// Whether a word looks like the name of a file: it is no option, and has a dot or a slash.
+fn is_file(word: &str) -> bool {
+    !word.starts_with('-') && (word.contains('.') || word.contains('/'))
+}
+
+/// Whether a word besides the value of `--names` looks like the name of a file.
+fn has_file(words: &[&str]) -> bool {
+    let mut is_value = false;
+    for word in words {
+        if !is_value && is_file(word) {
+            return true;
+        }
+        is_value = *word == "--names";
+    }
+    false
+}
+
+/// Whether a word was refused because nothing takes it.
+fn is_unknown(error: &Error) -> bool {
+    matches!(
+        error.kind(),
+        ErrorKind::UnknownArgument | ErrorKind::InvalidSubcommand
+    )
+}
+
+/// The text of a refusal, without the end of its last line: whoever prints it ends the line. Where a word that nothing takes looks like
+/// the name of a file, it says how a file is read.
+fn refused(alloc: Global, error: &Error, words: &[&str]) -> WordFault {
     if error.kind() == ErrorKind::OutOfMemory {
         return WordFault::Memory;
     }
-    match format!(in alloc; "{error}") {
-        Ok(text) => usage(alloc, text.trim_end()),
+    let Ok(text) = format!(in alloc; "{error}") else {
+        return WordFault::Memory;
+    };
+    let text = text.trim_end();
+    if !is_unknown(error) || !has_file(words) {
+        return usage(alloc, text);
+    }
+    match format!(in alloc; "{text}\n\n{FILE_AS_WORD}") {
+        Ok(text) => WordFault::Usage { text },
         Err(_) => WordFault::Memory,
     }
 }
@@ -158,7 +208,7 @@ fn link_of(alloc: Global, matches: &ArgMatches<'_>) -> Result<Option<usize>, Wor
     match matches.get_str("link") {
         Some(word) => match decimal(word.as_bytes()) {
             Some(link) => Ok(Some(link as usize)),
-            None => Err(usage(alloc, "usage: --link N")),
+            None => Err(usage(alloc, NO_LINK)),
         },
         None => Ok(None),
     }
@@ -179,7 +229,7 @@ fn send_of<'a>(
     match matches.get_str("send") {
         Some(word) => match send_in(word) {
             Some(send) => Ok(Some(send)),
-            None => Err(usage(alloc, "usage: --send NODE:PLACE")),
+            None => Err(usage(alloc, NO_SEND)),
         },
         None => Ok(None),
     }
@@ -201,7 +251,7 @@ fn sends_of<'a>(
                     return Err(WordFault::Memory);
                 }
             }
-            None => return Err(usage(alloc, "usage: --send NODE:PLACE")),
+            None => return Err(usage(alloc, NO_SEND)),
         }
     }
     Ok(sends)
@@ -226,8 +276,8 @@ fn moment_of(
 /// The picture that words ask for.
 fn picture_in<'a>(alloc: Global, matches: &ArgMatches<'a>) -> Result<What<'a>, WordFault> {
     let sends = sends_of(alloc, matches)?;
-    let from = moment_of(alloc, matches, "from", "usage: --from MOMENT")?;
-    let until = moment_of(alloc, matches, "until", "usage: --until MOMENT")?;
+    let from = moment_of(alloc, matches, "from", NO_FROM)?;
+    let until = moment_of(alloc, matches, "until", NO_UNTIL)?;
     Ok(What::Picture {
         sends,
         span: Span { from, until },
@@ -263,6 +313,6 @@ pub(crate) fn asked<'a>(alloc: Global, words: &'a [&'a str]) -> Result<Asked<'a>
             Some((name, inner)) => asked_in(alloc, name, inner),
             None => Err(usage(alloc, "usage: --help")),
         },
-        Err(error) => Err(refused(alloc, &error)),
+        Err(error) => Err(refused(alloc, &error, words)),
     }
 }

@@ -12,13 +12,14 @@ mod command_line;
 
 use crate::asked::Asked;
 use crate::command_line::{WordFault, asked};
+use hsr_scenario::TEXT_LIMIT;
 use hsr_viewing::{Fault, tell, view_run};
 use std::alloc::{AllocError, Global};
-use std::fs::Files;
-use std::io::{ErrorKind, Write};
+use std::fs::{File, Files};
+use std::io::{ErrorKind, Read, Write};
 use std::process::ExitCode;
 use std::rt::Env;
-use std::{env, fs, io};
+use std::{env, io};
 
 /// The status where words are refused.
 const USAGE: u8 = 3;
@@ -34,18 +35,29 @@ fn words_of(alloc: Global, args: &Vec<String>) -> Result<Vec<&str>, AllocError>
     Ok(words)
 }
 
+/// The text of a file, or of a longer one a front that is longer than the text of a scenario may be.
+fn text_at<H: AllocGlobal + Files>(rt: &H, path: &str) -> io::Result<Vec<u8>> {
+    let file = File::open(rt, path)?;
+    let mut text = Vec::new(rt.alloc());
+    file.take(TEXT_LIMIT as u64 + 1).read_to_end(&mut text)?;
+    Ok(text)
+}
+
 /// The text of the scenario at a path, if there is one: of what can't be read there are no names.
 fn scenario_at<H: AllocGlobal + Files>(
     rt: &H,
     path: Option<&str>,
 ) -> Result<Option<String>, Fault> {
-    match path {
-        Some(path) => match fs::read_to_string(rt, path) {
+    let Some(path) = path else {
+        return Ok(None);
+    };
+    match text_at(rt, path) {
+        Ok(text) => match String::from_utf8(text) {
             Ok(text) => Ok(Some(text)),
-            Err(error) if error.kind() == ErrorKind::OutOfMemory => Err(Fault::Memory),
             Err(_) => Err(Fault::Names),
         },
-        None => Ok(None),
+        Err(error) if error.kind() == ErrorKind::OutOfMemory => Err(Fault::Memory),
+        Err(_) => Err(Fault::Names),
     }
 }
 

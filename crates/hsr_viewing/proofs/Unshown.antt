@@ -8,7 +8,7 @@ use Rattle.hsr_topology.specs.Topology.{Topology}
 use Rattle.hsr_closing.specs.Finished.{Finished}
 use Rattle.hsr_order.specs.Fronts.{lists_of}
 use Rattle.hsr_picture.specs.declared.span.Span.{Span}
-use Rattle.hsr_viewing.specs.Refusals.{HasStray, IsStray, IsUncaptured, IsUndrawn, IsUnshown, IsUnshownBy}
+use Rattle.hsr_viewing.specs.Refusals.{HasStray, IsBlank, IsStray, IsUncaptured, IsUndrawn, IsUnshown, IsUnshownBy}
 use Rattle.hsr_viewing.specs.Viewing.{AreNames, IsSend, send_words}
 use Rattle.hsr_viewing.specs.declared.asked.What.{What}
 use Rattle.hsr_viewing.specs.declared.asked.What.TheVariants.{Capture, Picture}
@@ -38,11 +38,11 @@ module _ (f : Finished) (t : Topology) (scenario : Option (List ℕ)) (names : N
 
   pub unshown_picture : (what : What) (one : Names) (sends : Vec (Bor (List ℕ) × ℕ) Global) (list : List (Bor (List ℕ) × ℕ)) (span : Span) (r : Result (Vec ℕ Global) Fault) →
       what ≡ Picture sends span → one ≡ names → list ≡ sends.items →
-      IfErr r (λ why. (why ≡ fault.Memory) ⊎ (((why ≡ fault.Send) × HasStray (lists_of one) list) ⊎ IsUndrawn (lists_of one) f list span why)) → IfErr r (IsUnshown f what scenario)
+      IfErr r (λ why. (why ≡ fault.Memory) ⊎ (((why ≡ fault.Send) × HasStray (lists_of one) list) ⊎ (IsUndrawn (lists_of one) f list span why ⊎ IsBlank (lists_of one) f list span why))) → IfErr r (IsUnshown f what scenario)
   unshown_picture what one sends list span (Ok octets) is first second undrawn = tt
   unshown_picture what one sends list span (Err why) is first second (inl memory) = inl memory
   unshown_picture what one sends list span (Err why) is first second (inr undrawn) =
-      let P : Names → Type 0 = λ ns. ((why ≡ fault.Send) × HasStray (lists_of ns) list) ⊎ IsUndrawn (lists_of ns) f list span why in
-      let Q : List (Bor (List ℕ) × ℕ) → Type 0 = λ xs. ((why ≡ fault.Send) × HasStray (lists_of names) xs) ⊎ IsUndrawn (lists_of names) f xs span why in
+      let P : Names → Type 0 = λ ns. ((why ≡ fault.Send) × HasStray (lists_of ns) list) ⊎ (IsUndrawn (lists_of ns) f list span why ⊎ IsBlank (lists_of ns) f list span why) in
+      let Q : List (Bor (List ℕ) × ℕ) → Type 0 = λ xs. ((why ≡ fault.Send) × HasStray (lists_of names) xs) ⊎ (IsUndrawn (lists_of names) f xs span why ⊎ IsBlank (lists_of names) f xs span why) in
       let S : What → Type 0 = λ w. IsUnshownBy (lists_of names) f w why in
       by_names what why (subst S (sym is) (subst Q second (subst P first undrawn)))

@@ -1,4 +1,6 @@
+pub mod Given
 pub mod Fault
 pub mod Viewing
 pub mod Refusals
+pub mod Reads
 pub mod Ends

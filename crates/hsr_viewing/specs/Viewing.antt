@@ -4,11 +4,9 @@
 --     IsSend        the send that words mean
 --     AreSends      the sends that words mean
 --     IsPictured    the drawing of a picture of what is wanted
---     table_of      the size of the tables, by a text's second line
+--     table_of      the size of the tables, by a text's front
 --     IsShownOf     what is shown of the text of a run
-use Rattle.std.specs.Prelude.{ℕ, ◌≡◌, List, map, filter, Ok, [], Option, Some, None, option_map, codes, if◌then◌else◌}
-use Rattle.std.specs.Str.{bytes_eq}
-use Rattle.hsr_text.specs.Words.{cut}
+use Rattle.std.specs.Prelude.{ℕ, ◌≡◌, ◌<◌, ◌==◌, ◌&&◌, ◌||◌, Bool, false, List, map, filter, length, Ok, [], Option, Some, None, is_some, option_map, codes, if◌then◌else◌}
 use Rattle.hsr_options.specs.declared.chosen.Table.{Table}
 use Rattle.hsr_options.specs.declared.chosen.Table.TheVariants.{Small, Large}
 use Rattle.hsr_node.specs.declared.event.Probe.{Probe}
@@ -27,6 +25,7 @@ use Rattle.hsr_drawing.specs.Drawing.{IsDrawing}
 use Rattle.hsr_law.specs.Run.{Run}
 use Rattle.hsr_transcript.specs.Answers.{IsTextOf}
 use Rattle.std.specs.Borrow.{Bor}
+use Rattle.hsr_viewing.specs.Given.{begins}
 use Rattle.hsr_viewing.specs.declared.asked.What.{What}
 use Rattle.hsr_viewing.specs.declared.asked.What.TheVariants as asked
 use Rattle.hsr_picture.specs.Pictures.{IsPicture, Picture}
@@ -59,22 +58,33 @@ AreSends names asked sends = map (probe_of names) asked ≡ map (λ send. Some s
 
 -- ---- captures
 
--- the run has what is wanted, and this is the capture of those of its rows that are wanted, in the order of time; each block fits
+-- a link or a send is asked for
+abbrev pub is_made : Choice → Bool
+is_made wanted = is_some wanted.link || is_some wanted.send
+
+-- something is asked for, and no row is left
+abbrev pub leaves_none : Choice → List Shown → Bool
+leaves_none wanted rows = is_made wanted && length rows == 0
+
+-- The run has what is wanted, and this is the capture of those of its rows that are wanted, in the order of time; each block fits. Where
+-- something is asked for there is such a row.
 pub record IsCaptureOf (names : List (List ℕ)) (f : Finished) (wanted : Choice) (octets : List ℕ) : Type 0 where
   pub has : checked f.run wanted ≡ Ok tt
   pub rows : List Shown
   pub story : IsStory f.run f.plan rows
+  pub some : leaves_none wanted (filter (is_wanted f.run wanted) rows) ≡ false
   pub fits : Fits names f.run (filter (is_wanted f.run wanted) rows)
   pub octets_are : octets ≡ capture names f.run (filter (is_wanted f.run wanted) rows)
 
 -- ---- pictures
 
--- what is asked for is there, a picture shows it, and this is its drawing
+-- what is asked for is there, a picture shows some of it, and this is its drawing
 pub record IsPictured (names : List (List ℕ)) (f : Finished) (asked : List (Bor (List ℕ) × ℕ)) (span : Span) (octets : List ℕ) : Type 0 where
   pub sends : List Probe
   pub meant : AreSends names asked sends
   pub picture : Picture
   pub shows : IsPicture f.run f.plan sends span picture
+  pub some : 0 < length picture.arrows
   pub drawn : IsDrawing names f.run picture octets
 
 -- ---- all that can be asked for
@@ -98,17 +108,11 @@ pub record IsShown (f : Finished) (what : What) (scenario : Option (List ℕ)) (
 
 -- ---- texts
 
--- what stands before the first line feed, if there is a text
-abbrev pub front_line : Option (List ℕ) → List ℕ
-front_line None = []
-front_line (Some text) = (cut 10 text).0
-
-abbrev pub second_line : List ℕ → List ℕ
-second_line text = front_line (cut 10 text).1
-
--- the size of the tables of which a text tells in its second line
+-- The size of the tables of which a text tells in its second line, by its front: 4 entries behind a first line as of a transcript and the
+-- line `table 4`, or else 512.
 abbrev pub table_of : List ℕ → Table
-table_of text = if bytes_eq (second_line text) (codes "table 4") then Small else Large
+table_of front =
+    if begins front (codes "hsr-bench 2\ntable 4\n") || begins front (codes "hsr-bench 1\ntable 4\n") then Small else Large
 
 -- a text of a finished run, and what is shown of it
 pub record IsShownOf (capacity : ℕ) (text : List ℕ) (what : What) (scenario : Option (List ℕ)) (octets : List ℕ) : Type 0 where

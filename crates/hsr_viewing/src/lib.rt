@@ -2,18 +2,23 @@
 //!
 //! Its modules, in the order in which to read them:
 //! - `asked`: what can be asked for
+//! - `given`: what a text is that is no transcript
 //! - `fault`: why nothing is shown, and the line that says it
 //! - `same`: whether two topologies are the same
+//! - `head`: the head of a text, read before the rest is
 //! - `viewing`: what is shown of a text
 //! - `running`: the whole, its calls
 #![tactic(auto)]
 
 mod asked;
 mod fault;
+mod given;
+mod head;
 mod running;
 mod same;
 mod viewing;
 
 pub use asked::What;
-pub use fault::Fault;
+pub use fault::{Extent, Fault, Moments};
+pub use given::Given;
 pub use running::{tell, view_run};

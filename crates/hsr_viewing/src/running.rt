@@ -2,35 +2,19 @@
 ghost use Rattle.std.specs.Prelude.{◌≡◌, ◌⊎◌, IfErr, IfOk, IfSome, option_map};
 ghost use Rattle.hsr_options.specs.Tables.{capacity_of};
 ghost use Rattle.hsr_viewing.specs.Ends.{Ends, IsDelivered, Tells, Views, code_of};
+ghost use Rattle.hsr_viewing.specs.Given.{given_of};
+ghost use Rattle.hsr_viewing.specs.Reads.{front};
 ghost use Rattle.hsr_viewing.specs.Refusals.{IsUnshownOf};
 ghost use Rattle.hsr_viewing.specs.Viewing.{IsShownOf, table_of};
-ghost use Rattle.hsr_viewing.specs.declared.fault.Fault.TheVariants.{Memory, Read as ReadFailed};
 
 use crate::asked::What;
 use crate::fault::Fault;
+use crate::head::read_head;
 use crate::viewing::shown;
 use std::alloc::Global;
-use std::io::{self, ErrorKind, Read, Write};
+use std::io::{self, Read, Write};
 
-/// All that a reader gives. `Memory` where room for it is refused, `Read` where the reader fails otherwise.
-fn read_text<R: Read>(alloc: Global, reader: &mut R) -> Result<Vec<u8>, Fault>
-    ensures text { IfOk result (λ text. IfSome (R.remaining reader.old) (λ all. text.items ≡ all)) }
-    ensures refused { IfErr result (λ fault. (fault ≡ ReadFailed) ⊎ (fault ≡ Memory)) }
-{
-    let mut text = Vec::new(alloc);
-    match reader.read_to_end(&mut text) {
-        Ok(_) => Ok(text),
-        Err(error) => {
-            if error.kind() == ErrorKind::OutOfMemory {
-                Err(Fault::Memory)
-            } else {
-                Err(Fault::Read)
-            }
-        }
-    }
-}
-
-/// What is asked for of the text that a reader gives.
+/// What is asked for of the text that a reader gives: its head is read first, and of the rest no more than it takes to tell a fault.
 fn shown_from<R: Read>(
     alloc: Global,
     what: &What<'_>,
@@ -38,12 +22,12 @@ fn shown_from<R: Read>(
     reader: &mut R,
 ) -> Result<Vec<u8>, Fault>
     ensures shown { IfOk result (λ octets. IfSome (R.remaining reader.old) (λ text.
-        IsShownOf (capacity_of (table_of text)) text what.now (option_map (λ s. s.now) scenario.entry) octets.items)) }
+        IsShownOf (capacity_of (table_of (front text))) text what.now (option_map (λ s. s.now) scenario.entry) octets.items)) }
     ensures unshown { IfErr result (λ fault. IfSome (R.remaining reader.old) (λ text.
-        IsUnshownOf (capacity_of (table_of text)) text what.now (option_map (λ s. s.now) scenario.entry) fault)) }
+        IsUnshownOf (capacity_of (table_of (front text))) (given_of (front text)) text what.now (option_map (λ s. s.now) scenario.entry) fault)) }
 {
-    match read_text(alloc, reader) {
-        Ok(text) => shown(alloc, text.as_slice(), what, scenario),
+    match read_head(alloc, reader) {
+        Ok(head) => shown(alloc, head.as_slice(), reader, what, scenario),
         Err(fault) => Err(fault),
     }
 }

@@ -1,14 +1,19 @@
 //! What is shown of a transcript.
-ghost use Rattle.std.specs.Prelude.{◌≡◌, ◌≤◌, ◌⊎◌, ◌++◌, ◌∷◌, [], Err, None, IfErr, IfOk, OnOk, option_map};
+ghost use Rattle.std.specs.Prelude.{◌≡◌, ◌≤◌, ◌⊎◌, ◌++◌, ◌∷◌, [], Err, None, IfErr, IfOk, IfSome, OnOk, option_map};
 ghost use Rattle.hsr_order.specs.Fronts.{lists_of};
 ghost use Rattle.hsr_options.specs.Tables.{capacity_of};
 ghost use Rattle.hsr_transcript.specs.Answers.{Answers, IsTextOf};
-ghost use Rattle.hsr_viewing.specs.Refusals.{HasStray, IsMisnamed, IsStray, IsUncaptured, IsUndrawn, IsUnshown, IsUnshownOf};
-ghost use Rattle.hsr_viewing.specs.Viewing.{AreNames, AreSends, IsCaptureOf, IsPictured, IsSend, IsShown, IsShownOf, probe_of, second_line, table_of};
+ghost use Rattle.hsr_viewing.specs.Fault.{nothing_fault, told};
+ghost use Rattle.hsr_viewing.specs.Given.{given_of};
+ghost use Rattle.hsr_viewing.specs.Reads.{front};
+ghost use Rattle.hsr_viewing.specs.Refusals.{HasStray, IsBlank, IsMisnamed, IsStray, IsUncaptured, IsUndrawn, IsUnshown, IsUnshownOf, TellsNothing};
+ghost use Rattle.hsr_viewing.specs.Viewing.{AreNames, AreSends, IsCaptureOf, IsPictured, IsSend, IsShown, IsShownOf, leaves_none, probe_of, table_of};
 ghost use Rattle.hsr_viewing.specs.declared.fault.Fault.TheVariants.{Memory, Send};
 
 use crate::asked::What;
-use crate::fault::Fault;
+use crate::fault::{Extent, Fault, Moments, told};
+use crate::given::{begins, given_of};
+use crate::head::front;
 use crate::same::is_same_topology;
 use hsr_capture::capture;
 use hsr_closing::Closed;
@@ -20,11 +25,11 @@ use hsr_node::Probe;
 use hsr_options::Table;
 use hsr_picture::{Span, picture_run};
 use hsr_scenario::{What as Refused, read_names};
-use hsr_story::{Choice, check_choice, chosen, story};
-use hsr_text::split_at;
+use hsr_story::{Choice, Shown, StoryFault, check_choice, chosen, story};
 use hsr_topology::Topology;
 use hsr_transcript::{ReadFault, read};
 use std::alloc::Global;
+use std::io::Read;
 
 /// The names of the nodes of a run, by the scenario from which it came; none without it. `Names` exactly where its names can't be read,
 /// or it has other nodes or links.
@@ -57,8 +62,34 @@ fn names_of(
     }
 }
 
+/// Why nothing is shown of these rows of a run, in the order of time.
+fn nothing_of(rows: &[Shown]) -> Fault
+    ensures { result ≡ nothing_fault rows.now }
+{
+    match (rows.first(), rows.last()) {
+        (Some(first), Some(last)) => Fault::NoneAsked {
+            extent: Extent {
+                copies: rows.len(),
+                moments: Moments {
+                    first: first.moment,
+                    last: last.moment,
+                },
+            },
+        },
+        _ => Fault::NoCopies,
+    }
+}
+
+/// Whether something is wanted, and no row is left.
+fn leaves_none(wanted: Choice, rows: &[Shown]) -> bool
+    ensures { result ≡ leaves_none wanted rows.now }
+{
+    (wanted.link.is_some() || wanted.send.is_some()) && rows.is_empty()
+}
+
 /// The capture of those rows of a run that are wanted, in the order of time: `Link` or `Send` where the run hasn't what is wanted,
-/// `Circle` where its rows have no order of time, `TooLong` where a block would be too long.
+/// `Circle` where its rows have no order of time, `NoCopies` or `NoneAsked` where something is wanted and no row is left, `TooLong` where
+/// a block would be too long.
 fn capture_of<const C: usize>(
     alloc: Global,
     closed: &Closed<C>,
@@ -70,8 +101,11 @@ fn capture_of<const C: usize>(
 {
     check_choice(closed, wanted)?;
     let rows = story(alloc, closed)?;
-    let rows = chosen(alloc, closed, wanted, rows.as_slice())?;
-    let octets = capture(alloc, closed, names, rows.as_slice())?;
+    let left = chosen(alloc, closed, wanted, rows.as_slice())?;
+    if leaves_none(wanted, left.as_slice()) {
+        return Err(nothing_of(rows.as_slice()));
+    }
+    let octets = capture(alloc, closed, names, left.as_slice())?;
     Ok(octets)
 }
 
@@ -108,8 +142,20 @@ fn add(probes: &mut Vec<Probe>, probe: Probe) -> Result<(), NoMemory>
     Ok(())
 }
 
+/// Why a picture of a run shows nothing.
+fn blank_of<const C: usize>(alloc: Global, closed: &Closed<C>) -> Fault
+    ensures { TellsNothing closed.now result }
+{
+    match story(alloc, closed) {
+        Ok(rows) => nothing_of(rows.as_slice()),
+        Err(StoryFault::Circle) => Fault::Circle,
+        Err(StoryFault::NoMemory) => Fault::Memory,
+    }
+}
+
 /// The picture of those rows of a run that are wanted, drawn: `Send` where the run hasn't one of the sends, `Moments` where the span ends
-/// before it begins, `Copies` where too many are wanted, `Circle` where its rows have no order of time.
+/// before it begins, `Copies` where too many are wanted, `NoCopies` or `NoneAsked` where none is, `Circle` where its rows have no order of
+/// time.
 fn picture_of<const C: usize>(
     alloc: Global,
     closed: &Closed<C>,
@@ -118,10 +164,14 @@ fn picture_of<const C: usize>(
     span: Span,
 ) -> Result<Vec<u8>, Fault>
     ensures picture { IfOk result (λ octets. IsPictured (lists_of names.now) closed.now sends.now span octets.items) }
-    ensures undrawn { IfErr result (λ fault. (fault ≡ Memory) ⊎ (((fault ≡ Send) × HasStray (lists_of names.now) sends.now) ⊎ IsUndrawn (lists_of names.now) closed.now sends.now span fault)) }
+    ensures undrawn { IfErr result (λ fault. (fault ≡ Memory) ⊎ (((fault ≡ Send) × HasStray (lists_of names.now) sends.now) ⊎
+        (IsUndrawn (lists_of names.now) closed.now sends.now span fault ⊎ IsBlank (lists_of names.now) closed.now sends.now span fault))) }
 {
     let probes = probes_of(alloc, names, sends)?;
     let picture = picture_run(alloc, closed, probes.as_slice(), span)?;
+    if picture.arrows.is_empty() {
+        return Err(blank_of(alloc, closed));
+    }
     Ok(drawing(alloc, closed, names, &picture)?)
 }
 
@@ -139,14 +189,18 @@ fn send_of(names: &[Vec<u8>], send: Option<(&str, usize)>) -> Result<Option<Prob
     }
 }
 
-/// The finished run that a text is of.
-fn read_run<const C: usize>(alloc: Global, text: &[u8]) -> Result<Closed<C>, ReadFault>
+/// The finished run that a text is of, by its head and what follows.
+fn read_run<const C: usize, R: Read>(
+    alloc: Global,
+    head: &[u8],
+    reader: &mut R,
+) -> Result<Closed<C>, ReadFault>
     requires entries { (1 ≤ C) × (C ≤ 65535) }
-    ensures run { IfOk result (λ closed. IsTextOf C closed text.now) }
-    ensures none { IfErr result (λ fault. Answers C (Err fault) text.now) }
+    ensures run { IfOk result (λ closed. IfSome (R.remaining reader.old) (λ rest. IsTextOf C closed (head.now ++ rest))) }
+    ensures none { IfErr result (λ fault. IfSome (R.remaining reader.old) (λ rest. Answers C (Err fault) (head.now ++ rest))) }
 {
-    let mut reader = text;
-    match read(alloc, &mut reader) {
+    let mut whole = head.chain(reader);
+    match read(alloc, &mut whole) {
         Ok(closed) => Ok(closed),
         Err(fault) => Err(fault),
     }
@@ -180,56 +234,53 @@ fn shown_of<const C: usize>(
     }
 }
 
-/// What is asked for of the text of a run with tables of so many entries.
-fn shown_with<const C: usize>(
+/// What is asked for of the text of a run with tables of so many entries, by its head and what follows.
+fn shown_with<const C: usize, R: Read>(
     alloc: Global,
-    text: &[u8],
+    head: &[u8],
+    reader: &mut R,
     what: &What<'_>,
     scenario: Option<&str>,
 ) -> Result<Vec<u8>, Fault>
     requires entries { (1 ≤ C) × (C ≤ 65535) }
-    ensures shown { IfOk result (λ octets. IsShownOf C text.now what.now (option_map (λ s. s.now) scenario.entry) octets.items) }
-    ensures unshown { IfErr result (IsUnshownOf C text.now what.now (option_map (λ s. s.now) scenario.entry)) }
+    ensures shown { IfOk result (λ octets. IfSome (R.remaining reader.old) (λ rest.
+        IsShownOf C (head.now ++ rest) what.now (option_map (λ s. s.now) scenario.entry) octets.items)) }
+    ensures unshown { IfErr result (λ fault. IfSome (R.remaining reader.old) (λ rest.
+        IsUnshownOf C (given_of (front head.now)) (head.now ++ rest) what.now (option_map (λ s. s.now) scenario.entry) fault)) }
 {
-    match read_run::<C>(alloc, text) {
+    match read_run::<C, R>(alloc, head, reader) {
         Ok(closed) => shown_of(alloc, &closed, what, scenario),
-        Err(fault) => Err(Fault::Transcript(fault)),
+        Err(fault) => Err(told(fault, given_of(front(head)))),
     }
 }
 
-/// The second line of a text, without its line feed; empty where it isn't there.
-fn second_line(text: &[u8]) -> &[u8]
-    ensures { result.now ≡ second_line text.now }
+/// The size of the tables of which a text tells in its second line, by its front: of 4 entries where that is `table 4`, behind a first line as
+/// of a transcript; or else of 512.
+fn table_of(front: &[u8]) -> Table
+    ensures { result ≡ table_of front.now }
 {
-    match split_at(text, b'\n').1 {
-        Some(rest) => split_at(rest, b'\n').0,
-        None => &[],
-    }
-}
-
-/// The size of the tables of which a text tells in its second line: of 4 entries where it is `table 4`, or else of 512.
-fn table_of(text: &[u8]) -> Table
-    ensures { result ≡ table_of text.now }
-{
-    if second_line(text) == b"table 4".as_slice() {
+    if begins(front, b"hsr-bench 2\ntable 4\n") || begins(front, b"hsr-bench 1\ntable 4\n") {
         Table::Small
     } else {
         Table::Large
     }
 }
 
-/// What is asked for of a transcript, with tables of the size of which it tells.
-pub fn shown(
+/// What is asked for of a transcript, by its head and what follows, with tables of the size of which it tells.
+pub fn shown<R: Read>(
     alloc: Global,
-    text: &[u8],
+    head: &[u8],
+    reader: &mut R,
     what: &What<'_>,
     scenario: Option<&str>,
 ) -> Result<Vec<u8>, Fault>
-    ensures shown { IfOk result (λ octets. IsShownOf (capacity_of (table_of text.now)) text.now what.now (option_map (λ s. s.now) scenario.entry) octets.items) }
-    ensures unshown { IfErr result (IsUnshownOf (capacity_of (table_of text.now)) text.now what.now (option_map (λ s. s.now) scenario.entry)) }
+    ensures shown { IfOk result (λ octets. IfSome (R.remaining reader.old) (λ rest.
+        IsShownOf (capacity_of (table_of (front head.now))) (head.now ++ rest) what.now (option_map (λ s. s.now) scenario.entry) octets.items)) }
+    ensures unshown { IfErr result (λ fault. IfSome (R.remaining reader.old) (λ rest.
+        IsUnshownOf (capacity_of (table_of (front head.now))) (given_of (front head.now)) (head.now ++ rest) what.now (option_map (λ s. s.now) scenario.entry) fault)) }
 {
-    match table_of(text) {
-        Table::Small => shown_with::<4>(alloc, text, what, scenario),
-        Table::Large => shown_with::<512>(alloc, text, what, scenario),
+    match table_of(front(head)) {
+        Table::Small => shown_with::<4, R>(alloc, head, reader, what, scenario),
+        Table::Large => shown_with::<512, R>(alloc, head, reader, what, scenario),
     }
 }
