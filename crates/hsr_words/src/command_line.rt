@@ -85,6 +85,8 @@ doubt: `empty` (nothing was sent), `mode`, `same-address`, `side <link>`, `forgo
 node and the place in its record, `cut-off <node> <place> <receiver>` (no way to this receiver lost no copy of that
 frame), `unknown-station` with the node and place of a frame to a Station that its RedBox did not know, or `uncovered`
 with those of a frame of which nothing is certified (a supervision frame of a Station that is joined with a Station).
+Before it stand `unlinked <node>.<port>` for each port on a ring without a link (a chain is certified, but it is not
+redundant), and `nobody <node>:<place>` for each frame that no node is for.
 
 Examples: hsr_bench run < scenario.toml
           hsr_bench run --table small --deliveries --needed --budget < scenario.toml
