@@ -596,6 +596,12 @@ class World:
                 return f"doubt side {number}"
         return self.doubt_of_nodes(["forgot", "mistaken", "numbered-late"]) or self.doubt_of_sends() or f"certified {len(self.sends())}"
 
+    def lacks(self):
+        """The lines of ports on rings without a link, and of sends that are due at no node."""
+        rings = [(node.number, port) for node in self.nodes for port in PORTS[node.role] if port not in "IP"]
+        lines = [f"unlinked {number}.{port}" for number, port in rings if (number, port) not in self.lanes]
+        return lines + [f"nobody {named(send)}" for send, frame in self.sends() if not self.due(send, frame)]
+
     def doubt_of_sends(self):
         """The first send that doesn't come to a node that it is for, else the first to a Station that its RedBox didn't know each time,
         else the first that isn't covered. None where there is none."""
@@ -673,7 +679,8 @@ class World:
         return f"budget crowded {min(crowded)}" if crowded else f"budget {max(crowds.values(), default=0)}"
 
     def report(self, asked=()):
-        """Its report, with the parts that are asked for: deliveries, needed, budget; by the audit of networks where that is."""
+        """Its report, with the parts that are asked for: deliveries, needed, budget; by the audit of networks where that is, with what
+        the network lacks."""
         lines = [f"bench 1 table {self.capacity} nodes {len(self.nodes)} links {len(self.links)}"]
         lines += [f"node {node.number} {node.role} {node.counters()}" for node in self.nodes]
         for number, link in enumerate(self.links):
@@ -682,6 +689,7 @@ class World:
         lines += self.deliveries() if "deliveries" in asked else []
         lines += [self.needed()] if "needed" in asked else []
         lines += [self.budget()] if "budget" in asked else []
+        lines += self.lacks() if "network" in asked else []
         return text([*lines, self.network_verdict() if "network" in asked else self.verdict()])
 
     def transcript(self, unit="us"):

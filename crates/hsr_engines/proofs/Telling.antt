@@ -108,7 +108,7 @@ unread_known capacity scope asked None held holds fault u k = tt
 unread_known capacity scope asked (Some text) held holds fault u k = audited_fault capacity scope asked text held holds fault u k
 
 pub audited_run : (capacity : ℕ) (scope : Scope) (asked : Asked) (all : Option (List ℕ)) (f : Finished) (found : Finding) (written : List ℕ) → IfSome all (λ text. IsTextOf capacity f text) → IsFinished f → IsFound scope f.run found
-    → IsReportOf asked f.run found written → IfSome all (λ text. IsAudited capacity scope asked text found written)
+    → IsReportOf scope asked f.run found written → IfSome all (λ text. IsAudited capacity scope asked text found written)
 audited_run capacity scope asked None f found written text holds is_found is_report = tt
 audited_run capacity scope asked (Some text) f found written is_text holds is_found is_report =
     record { finished = f; is_text = is_text; holds = holds; is_found = is_found; is_report = is_report }

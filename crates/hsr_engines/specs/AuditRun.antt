@@ -22,7 +22,7 @@ pub record IsAudited (capacity : ℕ) (scope : Scope) (asked : Asked) (text : Li
   pub is_text : IsTextOf capacity finished text
   pub holds : IsFinished finished
   pub is_found : IsFound scope finished.run found
-  pub is_report : IsReportOf asked finished.run found written
+  pub is_report : IsReportOf scope asked finished.run found written
 
 -- the text is that of no run, for this cause; or reading or memory failed
 abbrev pub IsUnread : ℕ → List ℕ → Fault → Type 0

@@ -68,7 +68,7 @@ pub record IsPlayedOn (capacity : ℕ) (said : Said) (places : List Place) (w : 
 
 -- what there is of a finished run: what was found of it, and what is shown
 abbrev pub IsShownOfRun : Showing → Finished → Shown → Type 0
-IsShownOfRun showing f (Closed found text) = IsFound showing.scope f.run found × IsShown showing.form f found text.items
+IsShownOfRun showing f (Closed found text) = IsFound showing.scope f.run found × IsShown showing.scope showing.form f found text.items
 IsShownOfRun showing f (Left text) = ⊥
 
 -- what there is of a world of these nodes that can't be closed for this reason

@@ -57,7 +57,7 @@ pub record IsReported (capacity : ℕ) (showing : Showing) (said : Said) (found 
   pub played : IsPlayed capacity said world
   pub ended : IsEnded world
   pub is_found : IsFound showing.scope (finished_of capacity world).run found
-  pub is_shown : IsShown showing.form (finished_of capacity world) found text
+  pub is_shown : IsShown showing.scope showing.form (finished_of capacity world) found text
 
 -- there is nothing to report: no scenario, or a step that is refused, or a world that can't be closed
 abbrev pub IsUnreported : ℕ → Said → Fault → Type 0

@@ -11,14 +11,15 @@ use Rattle.hsr_report.specs.declared.finding.Finding.TheVariants as finding
 use Rattle.hsr_transcript_text.specs.Transcript.{run_text}
 use Rattle.hsr_options.specs.declared.chosen.Form.{Form}
 use Rattle.hsr_options.specs.declared.chosen.Form.TheVariants.{Transcript, Report}
+use Rattle.hsr_options.specs.declared.chosen.Scope.{Scope}
 use Rattle.hsr_engines.specs.declared.fault.Fault.TheVariants.{Write}
 use Rattle.hsr_engines.specs.declared.fault.Status.{Status}
 use Rattle.hsr_engines.specs.declared.fault.Status.TheVariants.{Certified, Fault as Stopped, Doubt, Open}
 
--- the transcript, or the report with the parts that are asked for
-abbrev pub IsShown : Form → Finished → Finding → List ℕ → Type 0
-IsShown Transcript f found text = text ≡ run_text f
-IsShown (Report asked) f found text = IsReportOf asked f.run found text
+-- the transcript, or the report of the chosen audit with the parts that are asked for
+abbrev pub IsShown : Scope → Form → Finished → Finding → List ℕ → Type 0
+IsShown scope Transcript f found text = text ≡ run_text f
+IsShown scope (Report asked) f found text = IsReportOf scope asked f.run found text
 
 abbrev pub status_of : Finding → Status
 status_of (finding.Certified sends) = Certified

@@ -66,7 +66,7 @@ pub record IsRunShown (capacity : ℕ) (showing : Showing) (said : Said) (found 
   pub finished : Finished
   pub is_run : IsRan capacity said finished
   pub is_found : IsFound showing.scope finished.run found
-  pub is_shown : IsShown showing.form finished found text
+  pub is_shown : IsShown showing.scope showing.form finished found text
 
 -- How `threads` ends, and what it wrote: the transcript or the report of some finished run of the scenario; or nothing, since there
 -- is none, or reading or memory failed. Of a failed write no more is said than that there was something to write.

@@ -61,7 +61,7 @@ fn audited<R: Read, const C: usize>(
         Ok(finding) => finding,
         Err(fault) => return Err(fault),
     };
-    match report_of(alloc, &closed, finding, asked) {
+    match report_of(alloc, &closed, scope, finding, asked) {
         Ok(text) => {
             // a transcript has no names
             notes.of_run(alloc, &[], &closed, finding, asked.budget);
@@ -90,10 +90,11 @@ fn audited_with<R: Read>(
 }
 
 /// Reads a transcript of a run with tables of the chosen size, audits the run, and writes its report: the nodes with their
-/// counters, the links with what became of their copies, the parts that are asked for, and what the chosen audit found, which the
-/// status tells too. The report is formed whole before it is written. `Fault::Transcript` where the text is no run's, and `Fault::Check` where links and
-/// records of its run disagree; `Fault::Read` where the reader fails or takes over 2^40 reads, `Fault::Memory` where room is
-/// refused: then nothing is written. Where it is asked for, `notes` then has what a fault or a doubt means.
+/// counters, the links with what became of their copies, the parts that are asked for, of a network what it tells of ports on rings
+/// without a link and of sends that no node is for, and what the chosen audit found, which the status tells too. The report is formed
+/// whole before it is written. `Fault::Transcript` where the text is no run's, and `Fault::Check` where links and records of its run
+/// disagree; `Fault::Read` where the reader fails or takes over 2^40 reads, `Fault::Memory` where room is refused: then nothing is
+/// written. Where it is asked for, `notes` then has what a fault or a doubt means.
 pub fn audit_run<R: Read, W: Write>(
     alloc: Global,
     reader: &mut R,

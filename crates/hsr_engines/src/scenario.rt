@@ -186,7 +186,8 @@ fn tell<W: Write>(
 }
 
 /// Runs the scenario that a text means, with tables of the chosen size, and writes its transcript, where that is asked for,
-/// or its report: the nodes with their counters, the links with what became of their copies, and what the audit found, which
+/// or its report: the nodes with their counters, the links with what became of their copies, the parts that are asked for, of a
+/// network what it tells of ports on rings without a link and of sends that no node is for, and what the chosen audit found, which
 /// the status tells in both cases. The scenario has at most 16 MiB, and a drain takes at most 1,000,000 steps. The text is formed
 /// whole before it is written, so that after a fault nothing is, but for `Fault::Write`. `Fault::Read` where the reader fails or
 /// takes over 2^40 reads, `Fault::Memory` where room is refused. A run that can't be closed is `Fault::Check`, or, where `shows_open` asks

@@ -37,18 +37,19 @@ fn status_of(finding: Finding) -> Status
     }
 }
 
-/// The report of a finished run of which this was found, with the parts that are asked for.
+/// The report of a finished run of which the chosen audit found this, with the parts that are asked for.
 pub fn report_of<const C: usize>(
     alloc: Global,
     closed: &Closed<C>,
+    scope: Scope,
     finding: Finding,
     asked: Asked,
 ) -> Result<Vec<u8>, Fault>
-    ensures ok { IfOk result (λ text. IsReportOf asked closed.now.run finding text.items) }
+    ensures ok { IfOk result (λ text. IsReportOf scope asked closed.now.run finding text.items) }
     ensures finished { OnOk result (IsFinished closed.now) }
     ensures err { IfErr result (λ f. f ≡ Memory) }
 {
-    match report(alloc, closed, finding, asked) {
+    match report(alloc, closed, scope, finding, asked) {
         Ok(text) => Ok(text),
         Err(_) => Err(Fault::Memory),
     }
@@ -69,19 +70,19 @@ pub fn finding_of<const C: usize>(
     }
 }
 
-/// The transcript of a finished run, or the report of what was found of it.
+/// The transcript of a finished run, or the report of what the chosen audit found of it.
 fn shown<const C: usize>(
     alloc: Global,
     closed: &Closed<C>,
     finding: Finding,
-    form: Form,
+    showing: Showing,
 ) -> Result<Vec<u8>, Fault>
-    ensures ok { IfOk result (λ text. IsShown form closed.now finding text.items) }
+    ensures ok { IfOk result (λ text. IsShown showing.scope showing.form closed.now finding text.items) }
     ensures err { IfErr result (λ f. f ≡ Memory) }
 {
-    match form {
+    match showing.form {
         Form::Transcript => run_text(alloc, closed),
-        Form::Report(asked) => report_of(alloc, closed, finding, asked),
+        Form::Report(asked) => report_of(alloc, closed, showing.scope, finding, asked),
     }
 }
 
@@ -100,14 +101,14 @@ pub fn told<const C: usize>(
     showing: Showing,
 ) -> Result<(Finding, Vec<u8>), Fault>
     ensures found { IfOk result (λ r. IsFound showing.scope closed.now.run r.0) }
-    ensures text { IfOk result (λ r. IsShown showing.form closed.now r.0 r.1.items) }
+    ensures text { IfOk result (λ r. IsShown showing.scope showing.form closed.now r.0 r.1.items) }
     ensures err { IfErr result (λ f. f ≡ Memory) }
 {
     let finding = match finding_of(alloc, closed, showing.scope) {
         Ok(finding) => finding,
         Err(fault) => return Err(fault),
     };
-    match shown(alloc, closed, finding, showing.form) {
+    match shown(alloc, closed, finding, showing) {
         Ok(text) => Ok((finding, text)),
         Err(fault) => Err(fault),
     }

@@ -75,8 +75,8 @@ pub record TellsAsked (asked : Asked) (run : Run) (text : List ℕ) : Type 0 whe
 
 -- ---- the report
 
--- of a run of which this was found, with the parts that are asked for
-pub record IsReportOf (asked : Asked) (run : Run) (found : Finding) (text : List ℕ) : Type 0 where
+-- of a run of which the chosen audit found this, with the parts that are asked for
+pub record IsReportOf (scope : Scope) (asked : Asked) (run : Run) (found : Finding) (text : List ℕ) : Type 0 where
   pub parts : List ℕ
   pub are_parts : TellsAsked asked run parts
-  pub is_report : text ≡ report run found parts
+  pub is_report : text ≡ report scope run found parts

@@ -1,18 +1,27 @@
--- The lines of a report: one for the bench, one for each node and each link, those that are asked for, and what the audit found.
-use Rattle.std.specs.Prelude.{ℕ, zero, suc, Bool, List, [], ◌++◌, length, count_by, codes, Option, Some, None}
+-- The lines of a report: one for the bench, one for each node and each link, those that are asked for, those of a network, and what the
+-- audit found.
+use Rattle.std.specs.Prelude.{ℕ, zero, suc, ◌&&◌, not, Bool, if◌then◌else◌, List, [], ◌∷◌, ◌++◌, length, count_by, codes, Option, Some, None}
 use Rattle.std.specs.Fmt.{decimal}
+use Rattle.std.specs.List.{flat_map}
 use Rattle.hsr_node.specs.Counts.{counters}
 use Rattle.hsr_frame.specs.declared.counters.Counters.{Counters}
-use Rattle.hsr_node.specs.Words.{role_in, role_word}
+use Rattle.hsr_node.specs.Place.{ports}
+use Rattle.hsr_node.specs.Words.{letter, role_in, role_word}
+use Rattle.hsr_node.specs.declared.event.Probe.{Probe}
 use Rattle.hsr_node.specs.declared.role.Role.{Role}
 use Rattle.hsr_link.specs.Rows.{is_lost, is_taken}
 use Rattle.hsr_link.specs.declared.row.Row.{Row}
+use Rattle.hsr_topology.specs.Links.{is_used}
 use Rattle.hsr_law.specs.Run.{Run, past_of, place_of, rows_of}
+use Rattle.hsr_network_law.specs.Network.{is_edge}
+use Rattle.hsr_deliveries.specs.Delivered.{Delivery, deliveries, is_none}
 use Rattle.hsr_audit.specs.declared.doubt.Doubt.{Doubt}
 use Rattle.hsr_audit.specs.declared.doubt.Doubt.TheVariants.{NotRing, Mode, SameAddress, TwoLinks, Forgot, Mistaken}
 use Rattle.hsr_network_audit.specs.declared.doubt.Doubt.{Doubt as NetworkDoubt}
 use Rattle.hsr_network_audit.specs.declared.doubt.Doubt.TheVariants as network
 use Rattle.hsr_needed.specs.declared.most.Needed.{Needed}
+use Rattle.hsr_options.specs.declared.chosen.Scope.{Scope}
+use Rattle.hsr_options.specs.declared.chosen.Scope.TheVariants.{Ring, Network}
 use Rattle.hsr_node_text.specs.Reply.{counter_line}
 use Rattle.hsr_report.specs.declared.finding.Finding.{Finding}
 use Rattle.hsr_report.specs.declared.finding.Finding.TheVariants as finding
@@ -105,9 +114,42 @@ spending_text (Crowded moment) = codes "crowded " ++ decimal moment
 abbrev pub spending_line : Spending → List ℕ
 spending_line spent = codes "budget " ++ spending_text spent ++ codes "\n"
 
+-- ---- a network
+
+-- a port on a ring that no link has
+abbrev pub is_unlinked : Run → ℕ → ℕ → Bool
+is_unlinked run k port = not (is_edge (place_of run k) port) && not (is_used run.links (record { node = k; port = port }))
+
+unfoldable pub unlinked_line : Run → ℕ → ℕ → List ℕ
+unlinked_line run k port = codes "unlinked " ++ decimal k ++ codes "." ++ letter (place_of run k) port ∷ codes "\n"
+
+abbrev pub unlinked_if : Run → ℕ → ℕ → List ℕ
+unlinked_if run k port = if is_unlinked run k port then unlinked_line run k port else []
+
+-- the lines of the first ports of a node, and of the first nodes
+abbrev pub unlinked_ports : Run → ℕ → ℕ → List ℕ
+unlinked_ports run k zero = []
+unlinked_ports run k (suc port) = unlinked_ports run k port ++ unlinked_if run k port
+
+abbrev pub unlinked_lines : Run → ℕ → List ℕ
+unlinked_lines run zero = []
+unlinked_lines run (suc k) = unlinked_lines run k ++ unlinked_ports run k (ports (place_of run k))
+
+-- a send that is due at no node
+unfoldable pub nobody_line : Probe → List ℕ
+nobody_line send = codes "nobody " ++ decimal send.node ++ codes ":" ++ decimal send.place ++ codes "\n"
+
+abbrev pub nobody_if : Delivery → List ℕ
+nobody_if d = if is_none d.due then nobody_line d.send else []
+
+-- each port on a ring without a link, then each send that no node is for; of a ring's audit there are no such lines
+abbrev pub network_lines : Scope → Run → List ℕ
+network_lines Ring run = []
+network_lines Network run = unlinked_lines run (length run.places) ++ flat_map nobody_if (deliveries run)
+
 -- ---- the report
 
--- with these parts before its last line
-unfoldable pub report : Run → Finding → List ℕ → List ℕ
-report run found parts =
-    head_line run ++ node_lines run (length run.places) ++ link_lines run (length run.links) ++ parts ++ finding_line found
+-- with these parts, and the lines of a network, before its last line
+unfoldable pub report : Scope → Run → Finding → List ℕ → List ℕ
+report scope run found parts =
+    head_line run ++ node_lines run (length run.places) ++ link_lines run (length run.links) ++ parts ++ network_lines scope run ++ finding_line found

@@ -7,13 +7,14 @@ ghost use Rattle.hsr_report.specs.Found.{IsReportOf};
 ghost use Rattle.hsr_report.specs.Report.{head_line, head_text, is_row_lost, is_row_taken, link_line, link_lines, node_lines, node_text, report};
 
 use crate::finding::{Finding, put_finding};
+use crate::network::put_network;
 use crate::parts::parts;
 use hsr_closing::Closed;
 use hsr_frame::{Counters, NoMemory};
 use hsr_link::{Fate, Row};
 use hsr_node::Role;
 use hsr_node_text::{put_count, put_counters};
-use hsr_options::Asked;
+use hsr_options::{Asked, Scope};
 use std::alloc::{AllocError, Global};
 
 fn is_taken(row: &Row) -> bool
@@ -111,15 +112,16 @@ fn put_links<const C: usize>(text: &mut Vec<u8>, closed: &Closed<C>) -> Result<(
     Ok(())
 }
 
-/// Forms the report of a finished run of which this was found, with these parts before its last line.
+/// Forms the report of a finished run of which the chosen audit found this, with these parts before its last lines.
 #[tactic(auto, unfolding(crate::specs::Report::report))]
 fn report_with<const C: usize>(
     alloc: Global,
     closed: &Closed<C>,
+    scope: Scope,
     finding: Finding,
     parts: &[u8],
-) -> Result<Vec<u8>, AllocError>
-    ensures text { IfOk result (λ text. text.items ≡ report closed.now.run finding parts.now) }
+) -> Result<Vec<u8>, NoMemory>
+    ensures text { IfOk result (λ text. text.items ≡ report scope closed.now.run finding parts.now) }
     ensures finished { IsFinished closed.now }
 {
     let mut text = Vec::new(alloc);
@@ -127,22 +129,24 @@ fn report_with<const C: usize>(
     put_nodes(&mut text, closed)?;
     put_links(&mut text, closed)?;
     text.extend_from_slice(parts)?;
+    put_network(alloc, &mut text, closed, scope)?;
     put_finding(&mut text, finding)?;
     Ok(text)
 }
 
-/// The report of a finished run of which this was found: a line for the bench, for each node and for each link, the parts that
-/// are asked for, and what was found. `NoMemory` where room is refused.
+/// The report of a finished run of which the chosen audit found this: a line for the bench, for each node and for each link, the parts
+/// that are asked for; of a network a line for each port on a ring without a link, and for each send that no node is for; and what
+/// was found. `NoMemory` where room is refused.
 pub fn report<const C: usize>(
     alloc: Global,
     closed: &Closed<C>,
+    scope: Scope,
     finding: Finding,
     asked: Asked,
 ) -> Result<Vec<u8>, NoMemory>
-    ensures text { IfOk result (λ text. IsReportOf asked closed.now.run finding text.items) }
+    ensures text { IfOk result (λ text. IsReportOf scope asked closed.now.run finding text.items) }
     ensures finished { OnOk result (IsFinished closed.now) }
 {
     let parts = parts(alloc, closed, asked)?;
-    let text = report_with(alloc, closed, finding, parts.as_slice())?;
-    Ok(text)
+    report_with(alloc, closed, scope, finding, parts.as_slice())
 }

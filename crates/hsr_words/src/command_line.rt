@@ -85,6 +85,8 @@ doubt: `empty` (nothing was sent), `mode`, `same-address`, `side <link>`, `forgo
 node and the place in its record, `cut-off <node> <place> <receiver>` (no way to this receiver lost no copy of that
 frame), `unknown-station` with the node and place of a frame to a Station that its RedBox did not know, or `uncovered`
 with those of a frame of which nothing is certified (a supervision frame of a Station that is joined with a Station).
+Before it stand `unlinked <node>.<port>` for each port on a ring without a link (a chain is certified, but it is not
+redundant), and `nobody <node>:<place>` for each frame that no node is for.
 
 With --explain, lines on standard error say what a fault or a doubt means, where it is (line and column of the text,
 nodes and ports by their names, moments) and what to do; with --budget also how many entries would be enough. Each begins
@@ -218,7 +220,8 @@ fn telling<'a>(alloc: Global, command: Command<'a>) -> Result<Command<'a>, Alloc
     ensures own { IfOk result (λ c. (fields_of c).has_globals ≡ false) }
 {
     let network = "Certifies any network, not just one ring of DANHs";
-    let explain = "Says on standard error what a fault or a doubt means, where it is, and what to do";
+    let explain =
+        "Says on standard error what a fault or a doubt means, where it is, and what to do";
     let one = asking(alloc, command)?;
     let two = with_flag(alloc, one, "network", network)?;
     with_flag(alloc, two, "explain", explain)

@@ -1,0 +1,162 @@
+//! What the report of a network tells before its last line: which ports on rings have no link, and which sends no node is for.
+ghost use Rattle.std.specs.Prelude.{◌≡◌, ◌<◌, ◌++◌, length, OnOk};
+ghost use Rattle.std.specs.List.{flat_map};
+ghost use Rattle.hsr_deliveries.specs.Delivered.{deliveries};
+ghost use Rattle.hsr_law.specs.Run.{place_of};
+ghost use Rattle.hsr_network_law.specs.Network.{is_edge};
+ghost use Rattle.hsr_node.specs.Place.{ports};
+ghost use Rattle.hsr_report.specs.Report.{is_unlinked, network_lines, nobody_if, nobody_line, unlinked_if, unlinked_line, unlinked_lines, unlinked_ports};
+
+use hsr_closing::Closed;
+use hsr_deliveries::{Delivery, deliveries};
+use hsr_frame::NoMemory;
+use hsr_node::{Place, Probe};
+use hsr_node_text::put_count;
+use hsr_options::Scope;
+use hsr_topology::{End, is_used};
+use std::alloc::{AllocError, Global};
+
+/// Whether frames carry no tag at a port: whether it is a Station's, or the interlink of a RedBox. The other ports are on rings.
+fn is_edge(place: &Place, port: u8) -> bool
+    ensures { result ≡ is_edge place.now port }
+{
+    match place {
+        Place::Danh { .. } | Place::QuadBox => false,
+        Place::RedBox { .. } => port == 2,
+        Place::Station { .. } => true,
+    }
+}
+
+/// Whether a port is on a ring, and has no link.
+fn is_unlinked<const C: usize>(closed: &Closed<C>, node: usize, place: &Place, port: u8) -> bool
+    requires { place.now ≡ place_of closed.now.run node }
+    ensures { result ≡ is_unlinked closed.now.run node port }
+{
+    !is_edge(place, port) && !is_used(closed.topology().links(), End { node, port })
+}
+
+/// Puts the line of a port on a ring that has no link.
+#[tactic(auto, unfolding(crate::specs::Report::unlinked_line))]
+fn put_unlinked<const C: usize>(
+    text: &mut Vec<u8>,
+    closed: &Closed<C>,
+    node: usize,
+    place: &Place,
+    port: u8,
+) -> Result<(), AllocError>
+    requires { place.now ≡ place_of closed.now.run node }
+    ensures { OnOk result (text.new.items ≡ text.old.items ++ unlinked_line closed.now.run node port) }
+{
+    put_count(text, b"unlinked ", node as u64)?;
+    text.extend_from_slice(&[b'.', place.letter(port), b'\n'])
+}
+
+/// Puts the line of a port, if it is on a ring and has no link.
+fn put_unlinked_if<const C: usize>(
+    text: &mut Vec<u8>,
+    closed: &Closed<C>,
+    node: usize,
+    place: &Place,
+    port: u8,
+) -> Result<(), AllocError>
+    requires { place.now ≡ place_of closed.now.run node }
+    ensures { OnOk result (text.new.items ≡ text.old.items ++ unlinked_if closed.now.run node port) }
+{
+    if is_unlinked(closed, node, place, port) {
+        put_unlinked(text, closed, node, place, port)
+    } else {
+        Ok(())
+    }
+}
+
+/// Puts the lines of a node's ports on rings that have no link.
+fn put_unlinked_ports<const C: usize>(
+    text: &mut Vec<u8>,
+    closed: &Closed<C>,
+    node: usize,
+    place: &Place,
+) -> Result<(), AllocError>
+    requires { place.now ≡ place_of closed.now.run node }
+    ensures { OnOk result (text.new.items ≡ text.old.items ++ unlinked_ports closed.now.run node (ports place.now)) }
+{
+    for port in 0..place.ports() {
+        put_unlinked_if(text, closed, node, place, port)?;
+    }
+    Ok(())
+}
+
+/// Puts the lines of all ports on rings that have no link.
+fn put_all_unlinked<const C: usize>(
+    text: &mut Vec<u8>,
+    closed: &Closed<C>,
+) -> Result<(), AllocError>
+    ensures { OnOk result (text.new.items ≡ text.old.items ++ unlinked_lines closed.now.run (length closed.now.run.places)) }
+{
+    for (node, place) in closed.topology().places().iter().enumerate() {
+        put_unlinked_ports(text, closed, node, place)?;
+    }
+    Ok(())
+}
+
+/// Puts the line of a send that no node is for.
+#[tactic(auto, unfolding(crate::specs::Report::nobody_line))]
+fn put_nobody(text: &mut Vec<u8>, send: Probe) -> Result<(), AllocError>
+    ensures { OnOk result (text.new.items ≡ text.old.items ++ nobody_line send) }
+{
+    put_count(text, b"nobody ", send.node as u64)?;
+    put_count(text, b":", send.place as u64)?;
+    text.extend_from_slice(b"\n")
+}
+
+/// Puts the line of a send, if no node is for it.
+fn put_nobody_if(text: &mut Vec<u8>, delivery: &Delivery) -> Result<(), AllocError>
+    ensures { OnOk result (text.new.items ≡ text.old.items ++ nobody_if delivery.now) }
+{
+    if delivery.due.is_empty() {
+        put_nobody(text, delivery.send)
+    } else {
+        Ok(())
+    }
+}
+
+/// Puts the lines of those sends that no node is for.
+#[tactic(auto, using(hsr_deliveries::proofs::Growing::grown))]
+fn put_nobodies(text: &mut Vec<u8>, sends: &[Delivery]) -> Result<(), AllocError>
+    ensures { OnOk result (text.new.items ≡ text.old.items ++ flat_map nobody_if sends.now) }
+{
+    for delivery in sends {
+        put_nobody_if(text, delivery)?;
+    }
+    Ok(())
+}
+
+/// Puts the lines of the sends of a run that no node is for.
+fn put_all_nobodies<const C: usize>(
+    alloc: Global,
+    text: &mut Vec<u8>,
+    closed: &Closed<C>,
+) -> Result<(), NoMemory>
+    ensures { OnOk result (text.new.items ≡ text.old.items ++ flat_map nobody_if (deliveries closed.now.run)) }
+{
+    let deliveries = deliveries(alloc, closed)?;
+    put_nobodies(text, deliveries.sends.as_slice())?;
+    Ok(())
+}
+
+/// Puts what the report of a network tells more than that of a ring.
+pub fn put_network<const C: usize>(
+    alloc: Global,
+    text: &mut Vec<u8>,
+    closed: &Closed<C>,
+    scope: Scope,
+) -> Result<(), NoMemory>
+    ensures { OnOk result (text.new.items ≡ text.old.items ++ network_lines scope closed.now.run) }
+{
+    match scope {
+        Scope::Ring => Ok(()),
+        Scope::Network => {
+            put_all_unlinked(text, closed)?;
+            put_all_nobodies(alloc, text, closed)
+        }
+    }
+}
