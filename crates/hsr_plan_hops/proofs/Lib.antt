@@ -1,5 +1,4 @@
 mod Begun
-mod Ending
 mod Listing
 mod Next
 mod OnWay

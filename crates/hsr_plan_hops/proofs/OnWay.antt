@@ -1,5 +1,5 @@
 -- Copies that are on their way, without those at their front that don't wait any more.
-use Rattle.std.proofs.Common.{◌≡◌, ◌∙◌, ℕ, zero, suc, ◌+◌, ◌∷◌, [], List, Some, None, length, true, false, cond, slice_get, drop, ap, refl, sym}
+use Rattle.std.proofs.Common.{◌≡◌, ◌∙◌, ℕ, zero, suc, ◌+◌, ◌∷◌, [], List, Some, length, true, false, cond, slice_get, drop, ap, refl, sym}
 use Rattle.std.proofs.Math.Seq.{drop-length}
 use Rattle.std.proofs.lemmas.List.{drop-drop}
 use Rattle.hsr_world.specs.World.{World}

@@ -1,6 +1,6 @@
 -- Copies that are on their way were put one behind another, none before the moment from which a hop is over now; and once something that is
 -- told was done at a moment, none of which the hop is over at it.
-use Rattle.std.proofs.Common.{◌≡◌, ℕ, ◌+◌, ◌-◌, ◌≤◌, ◌<◌, ◌∷◌, [], ◌++◌, List, Option, Some, None, Bool, true, false, not, cond, option_map, option_to_list, slice_get, ap, append-nil, arith, le_of_eq, le_of_lt, refl, subst, sym}
+use Rattle.std.proofs.Common.{◌≡◌, ℕ, ◌+◌, ◌-◌, ◌≤◌, ◌<◌, ◌∷◌, [], ◌++◌, List, Option, Some, None, Bool, true, false, not, cond, option_map, option_to_list, slice_get, append-nil, arith, le_of_eq, le_of_lt, refl, subst, sym}
 use Rattle.std.proofs.lemmas.Bool.{leb-true, ltb-true}
 use Rattle.hsr_topology.specs.declared.end.End.{End}
 use Rattle.hsr_topology.specs.Links.{link_from}

@@ -1,22 +1,20 @@
 -- Orders that do all that is told, one after another.
-use Rattle.std.proofs.Common.{◌≡◌, ◌∙◌, ℕ, inl, inr, ◌∷◌, ◌++◌, ◌&&◌, [], List, None, Ok, ap, append_assoc, append-nil, refl, sym, subst, slice_get, Bool, true, false}
+use Rattle.std.proofs.Common.{◌≡◌, ◌∙◌, ℕ, inl, inr, ◌∷◌, ◌++◌, [], List, Ok, ap, append_assoc, append-nil, refl, sym, subst, true, false}
 use Rattle.hsr_frame.specs.declared.node.About.TheVariants.{Own, Proxied}
 use Rattle.hsr_topology.specs.declared.end.End.{End}
 use Rattle.hsr_scenario.specs.declared.steps.Order.{Order}
 use Rattle.hsr_scenario.specs.declared.steps.Order.TheVariants.{Step, Drain}
 use Rattle.hsr_step.specs.declared.step.Step.TheVariants.{Clock, Send, Supervise, Age, Put, Take, Judge, Cut, Mend, Inject}
 use Rattle.hsr_step.specs.declared.step.Step as steps
-use Rattle.hsr_closing.specs.Finished.{Finished}
 use Rattle.hsr_playing.specs.Playing.{Plays}
 use Rattle.hsr_plan_meaning.specs.Meaning.{Meaning}
-use Rattle.hsr_world.specs.Lawful.{IsEnded, finished_of}
+use Rattle.hsr_world.specs.Lawful.{finished_of}
 use Rattle.hsr_world.specs.World.{World, tried}
-use Rattle.hsr_plan_hops.specs.Beginning.{Begins, DoesAll, IsNext, Stage, at_first, behind, done, left_out}
+use Rattle.hsr_plan_hops.specs.Beginning.{Begins, DoesAll, IsNext, Stage, at_first, done, left_out}
 use Rattle.hsr_plan_hops.specs.Flights.{AreOnTime}
-use Rattle.hsr_plan_hops.specs.Hops.{are_in_time}
-use Rattle.hsr_plan_hops.specs.Moving.{IsRunByHops, MovesByHops, world_of}
+use Rattle.hsr_plan_hops.specs.Moving.{MovesByHops, world_of}
 use Rattle.hsr_plan_hops.specs.Telling.{Does, IsDone, IsUnknownTo, LeavesOut, Tells}
-use Rattle.hsr_plan_hops.specs.Turns.{are_in_turn, due_behind, is_first, may_stand}
+use Rattle.hsr_plan_hops.specs.Turns.{are_in_turn, due_behind}
 use Rattle.hsr_plan_hops.specs.Weaving.{EndsWell, Woven}
 use Rattle.hsr_plan_hops.specs.declared.turns.Due.{Due}
 use Rattle.hsr_plan_hops.proofs.Begun.{made}

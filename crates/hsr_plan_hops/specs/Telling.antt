@@ -1,12 +1,12 @@
 -- What a plan tells is done, and nothing else but moves of copies. Supervision about stations that their RedBox doesn't know then is left
 -- out; and nothing is done while a node has a copy to put.
 use Rattle.std.specs.Prelude.{ℕ, ◌≡◌, ◌<◌, ◌⊎◌, List, [], ◌∷◌, Ok, Err, IsErr, ⊤}
-use Rattle.hsr_frame.specs.declared.node.About.TheVariants.{Own, Proxied}
+use Rattle.hsr_frame.specs.declared.node.About.TheVariants.{Proxied}
 use Rattle.hsr_node.specs.declared.event.StepFault.TheVariants.{NotProxied}
 use Rattle.hsr_topology.specs.declared.end.End.{End}
 use Rattle.hsr_scenario.specs.declared.steps.Order.{Order}
 use Rattle.hsr_scenario.specs.declared.steps.Order.TheVariants.{Step, Drain}
-use Rattle.hsr_step.specs.declared.step.Step.TheVariants.{Clock, Send, Supervise, Age, Put, Take, Judge, Cut, Mend, Inject}
+use Rattle.hsr_step.specs.declared.step.Step.TheVariants.{Clock, Supervise, Put, Take, Judge}
 use Rattle.hsr_step.specs.declared.step.Step as steps
 use Rattle.hsr_step.specs.declared.step.WorldFault.TheVariants.{Node}
 use Rattle.hsr_world.specs.World.{World, tried}

@@ -1,6 +1,6 @@
 -- What comes next among orders. A judgement stands right behind the take of its copy, and puts stand right behind what their node passed.
 -- Moments rise, and at each of them the copies that arrive come first.
-use Rattle.std.specs.Prelude.{ℕ, ◌==◌, nat_lt, Bool, true, false, not, ◌&&◌, ◌||◌, List, [], ◌∷◌, Option, Some, None, option_map, slice_get}
+use Rattle.std.specs.Prelude.{ℕ, ◌==◌, nat_lt, Bool, true, false, not, ◌&&◌, ◌||◌, List, [], ◌∷◌, Option, Some, option_map, slice_get}
 use Rattle.hsr_topology.specs.declared.end.End.{End}
 use Rattle.hsr_link.specs.declared.row.Dir.{Dir}
 use Rattle.hsr_law.specs.Run.{to_end}

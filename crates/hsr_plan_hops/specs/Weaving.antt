@@ -1,6 +1,6 @@
 -- What holds while orders are woven.
-use Rattle.std.specs.Prelude.{ℕ, ◌+◌, ◌-◌, ◌==◌, ◌≡◌, ◌<◌, ◌≤◌, ◌⊎◌, Bool, true, false, nat_le, List, [], ◌∷◌, length, Option, Some, None, Ok, Err, IsErr, if◌then◌else◌, ⊤}
-use Rattle.hsr_frame.specs.declared.node.About.TheVariants.{Own, Proxied}
+use Rattle.std.specs.Prelude.{ℕ, ◌+◌, ◌-◌, ◌==◌, ◌≡◌, ◌<◌, ◌≤◌, ◌⊎◌, Bool, true, false, List, [], ◌∷◌, length, Option, Some, None, Ok, Err, IsErr, if◌then◌else◌, ⊤}
+use Rattle.hsr_frame.specs.declared.node.About.TheVariants.{Proxied}
 use Rattle.hsr_node.specs.declared.event.StepFault.TheVariants.{NotProxied}
 use Rattle.hsr_topology.specs.declared.end.End.{End}
 use Rattle.hsr_scenario.specs.declared.steps.Order.{Order}
@@ -13,7 +13,7 @@ use Rattle.hsr_plan_text.specs.declared.plan.Moves.{Moves}
 use Rattle.hsr_plan_text.specs.declared.plan.Moves.TheVariants.{EachSendDrains, EachMomentDrains, Hop}
 use Rattle.hsr_plan_meaning.specs.Meaning.{Meaning}
 use Rattle.hsr_world.specs.World.{World, tried}
-use Rattle.hsr_plan_hops.specs.Beginning.{Begins, IsNext, IsSettled, Stage, behind, next_copy}
+use Rattle.hsr_plan_hops.specs.Beginning.{Begins, IsSettled, Stage, behind, next_copy}
 use Rattle.hsr_world.specs.Lawful.{IsEnded, finished_of}
 use Rattle.hsr_plan_hops.specs.Hops.{are_in_time}
 use Rattle.hsr_plan_hops.specs.declared.unmoved.Unmoved.{Unmoved}

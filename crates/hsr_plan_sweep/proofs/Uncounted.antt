@@ -1,9 +1,12 @@
 -- Why nothing is counted of a plan, or of one in which a link or a node is off.
-use Rattle.std.proofs.Common.{◌≡◌, ℕ, ◌<◌, List, [], length, slice_index_or, Result, Ok, IfErr, inl, inr, subst}
+use Rattle.std.proofs.Common.{◌≡◌, ℕ, ◌<◌, List, [], length, slice_index_or, Result, Ok, IfErr, inl, inr, ⊎_elim, subst}
 use Rattle.hsr_topology.specs.declared.end.End.{End}
 use Rattle.hsr_plan_text.specs.Plan.{Plan}
 use Rattle.hsr_plan_network.specs.Nodes.{Node}
 use Rattle.hsr_plan_network.specs.Wiring.{Wired, wired}
+use Rattle.hsr_plan_scenario.specs.Refusals as refusals
+use Rattle.hsr_plan_scenario.specs.declared.checking.Trouble as plans
+use Rattle.hsr_plan_scenario.proofs.Troubles.{unmoved_why}
 use Rattle.hsr_plan_sweep.specs.Refusals.{IsKnown, IsUncounted, IsUncountedWithoutLink, IsUncountedWithoutNode, IsUnswept}
 use Rattle.hsr_plan_sweep.specs.Sweep.{cut_of, off_of, with_deed}
 use Rattle.hsr_plan_sweep.specs.declared.running.Trouble.{Trouble}
@@ -11,6 +14,10 @@ use Rattle.hsr_plan_sweep.specs.declared.running.Trouble.{Trouble}
 -- what holds of a plan holds of one that is the same
 pub uncounted_same : {X : Type 0} (r : Result X Trouble) (p q : Plan) → IfErr r (λ trouble. IsKnown trouble → IsUncounted p) → p ≡ q → IfErr r (λ trouble. IsKnown trouble → IsUncounted q)
 uncounted_same r p q none same = let P : Plan → Type 0 = λ plan. IfErr r (λ trouble. IsKnown trouble → IsUncounted plan) in subst P same none
+
+-- one that isn't moved is one of which nothing is counted
+pub unmoved_so : (plan : Plan) (trouble : plans.Trouble) → refusals.IsKnown trouble → refusals.IsUnmoved 512 plan trouble → IsUncounted plan
+unmoved_so plan trouble known is = record { why = ⊎_elim (λ nothing. inl nothing) (λ immovable. inr (inl immovable)) (unmoved_why 512 plan trouble known is) }
 
 module _ (trouble : Trouble) (plan : Plan) (moment : ℕ) where
   -- one link is off

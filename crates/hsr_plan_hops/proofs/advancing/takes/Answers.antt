@@ -1,4 +1,4 @@
-use Rattle.std.proofs.Common.{◌≡◌, ◌∙◌, ap, lit<, refl}
+use Rattle.std.proofs.Common.{◌∙◌, ap, lit<, refl}
 use Rattle.hsr_plan_hops.specs.Weaving.{Woven}
 use Rattle.hsr_plan_hops.specs.declared.weaving.Weaving.TheInside.{Inside}
 use Rattle.hsr_plan_hops.proofs.Next.{takes_at}
