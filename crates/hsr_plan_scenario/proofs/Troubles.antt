@@ -13,7 +13,7 @@ use Rattle.hsr_plan_text.specs.Fallible.{FailsAt}
 use Rattle.hsr_plan_text.specs.Plan.{Plan}
 use Rattle.hsr_plan_text.specs.declared.fault.PlanFault.{PlanFault}
 use Rattle.hsr_plan_text.specs.declared.fault.What.{What}
-use Rattle.hsr_plan_text.specs.declared.fault.What.TheVariants.{Text, Missing, Unknown, WrongKind, BadValue, Refused, NoMemory}
+use Rattle.hsr_plan_text.specs.declared.fault.What.TheVariants.{Text, Missing, Unknown, WrongKind, BadName, BadValue, Refused, NoMemory}
 use Rattle.hsr_plan_meaning.specs.Meaning.{Meaning, listed}
 use Rattle.hsr_plan_scenario.specs.Refusals.{HasNoScenario, HasNoneIf, IfDiffers, IsKnown, IsMisread, IsTroubleIn, IsTroubleOf, IsUnmoved, IsUntold, MeansNothing, unread}
 use Rattle.hsr_plan_hops.specs.Refusing.{IsImmovable}
@@ -31,6 +31,7 @@ plan_fault fault Text said known is = is
 plan_fault fault (Missing key) said known is = is
 plan_fault fault (Unknown word) said known is = is
 plan_fault fault (WrongKind key) said known is = is
+plan_fault fault (BadName key word) said known is = is
 plan_fault fault (BadValue key) said known is = is
 plan_fault fault (Refused refusal) said known is = is
 plan_fault fault NoMemory said known is = absurd (known refl)
@@ -126,6 +127,7 @@ read_so capacity (Ok plan) fault Text e is = absurd cc
 read_so capacity (Ok plan) fault (Missing key) e is = absurd cc
 read_so capacity (Ok plan) fault (Unknown word) e is = absurd cc
 read_so capacity (Ok plan) fault (WrongKind key) e is = absurd cc
+read_so capacity (Ok plan) fault (BadName key word) e is = absurd cc
 read_so capacity (Ok plan) fault (BadValue key) e is = absurd cc
 read_so capacity (Ok plan) fault (Refused refusal) e is = absurd cc
 
