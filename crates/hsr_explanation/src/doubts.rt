@@ -52,16 +52,32 @@ fn share_address(one: &Place, other: &Place) -> bool {
     }
 }
 
+/// The first node before another with an address in common.
+fn first_like(places: &[Place], node: usize) -> Option<usize> {
+    let place = places.get(node)?;
+    let earlier = places.get(..node)?;
+    earlier.iter().position(|other| share_address(other, place))
+}
+
+/// Puts two nodes last.
+fn put_both(
+    line: &mut Vec<u8>,
+    names: &[Vec<u8>],
+    one: usize,
+    other: usize,
+) -> Result<(), NoMemory> {
+    put_node(line, names, one)?;
+    put(line, " and ")?;
+    put_node(line, names, other)
+}
+
 /// Puts each node that has an address of an earlier one last.
 fn put_same(line: &mut Vec<u8>, places: &[Place], names: &[Vec<u8>]) -> Result<(), NoMemory> {
     let mut parted = "";
-    for (node, place) in places.iter().enumerate() {
-        let earlier = places.get(..node).unwrap_or(places);
-        if let Some(first) = earlier.iter().position(|other| share_address(other, place)) {
+    for node in 0..places.len() {
+        if let Some(first) = first_like(places, node) {
             put(line, parted)?;
-            put_node(line, names, first)?;
-            put(line, " and ")?;
-            put_node(line, names, node)?;
+            put_both(line, names, first, node)?;
             parted = ", ";
         }
     }

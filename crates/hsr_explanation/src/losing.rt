@@ -40,6 +40,11 @@ fn put_losses<const C: usize>(
     )
 }
 
+/// Whether a link lost copies.
+fn is_lossy(rows: &[Row]) -> bool {
+    rows.iter().any(|row| row.fate.is_lost())
+}
+
 /// Puts each link that lost copies last, with how many, and how.
 pub(crate) fn put_lossy<const C: usize>(
     line: &mut Vec<u8>,
@@ -49,7 +54,7 @@ pub(crate) fn put_lossy<const C: usize>(
     let mut parted = "";
     for link in 0..closed.topology().links().len() {
         let rows = closed.rows(link);
-        if rows.iter().any(|row| row.fate.is_lost()) {
+        if is_lossy(rows) {
             put(line, parted)?;
             put_losses(line, closed, names, link, rows)?;
             parted = ", ";
