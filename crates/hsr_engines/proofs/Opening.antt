@@ -76,15 +76,16 @@ unshown_short capacity shows_open said fault is = subst (IsUnshown capacity show
 pub unshown_left : (capacity : ℕ) (shows_open : Bool) (said : Said) (places : List Place) (w : World) (fault : CheckFault) (left : Fault)
     → IsPlayedOn capacity said places w → IfDisagree fault (λ cause. ¬ IsEnded w) → IfDisagree fault (λ cause. IsOpen (finished_of capacity w).run cause)
     → IsLeftBy shows_open fault left → IsUnshown capacity shows_open said left
-unshown_left capacity shows_open said places w (check.Disagree cause) (Check other) played stays first (hidden, same) =
-    (hidden, (w, record { meant = played.meant; means = played.means; plays = played.plays }, stays, subst (λ c. IsOpen (finished_of capacity w).run c) (sym same) first))
+unshown_left capacity shows_open said places w fault (Check cause) played stays first (hidden, same) =
+    let still : ¬ IsEnded w = subst (λ (f : CheckFault). IfDisagree f (λ c. ¬ IsEnded w)) same stays in
+    let open_so : IsOpen (finished_of capacity w).run cause = subst (λ (f : CheckFault). IfDisagree f (λ c. IsOpen (finished_of capacity w).run c)) same first in
+    (hidden, (w, record { meant = played.meant; means = played.means; plays = played.plays }, (still, open_so)))
 unshown_left capacity shows_open said places w fault Memory played stays first by = tt
 unshown_left capacity shows_open said places w fault (Line n) played stays first by = absurd by
 unshown_left capacity shows_open said places w fault (Scenario f) played stays first by = absurd by
 unshown_left capacity shows_open said places w fault (Step n f) played stays first by = absurd by
 unshown_left capacity shows_open said places w fault (Fine n) played stays first by = absurd by
 unshown_left capacity shows_open said places w fault (Transcript f) played stays first by = absurd by
-unshown_left capacity shows_open said places w check.NoMemory (Check other) played stays first by = absurd by
 unshown_left capacity shows_open said places w fault Read played stays first by = absurd by
 unshown_left capacity shows_open said places w fault Write played stays first by = absurd by
 unshown_left capacity shows_open said places w fault Thread played stays first by = absurd by
@@ -116,8 +117,8 @@ closed_told capacity shows_open showing said held holds found text status r d =
 
 pub open_told : (capacity : ℕ) (shows_open : Bool) (showing : Showing) (said : Said) (held holds : Option (List ℕ)) (text : Vec ℕ Global) (status : Status)
     → IsShownBy capacity shows_open showing said (Left text) → IsDeliveredOpen held holds text.items status → RunEnds capacity shows_open showing said held holds status
-open_told capacity shows_open showing said held holds text Open r d = (r.0, text.items, r.1, d)
-open_told capacity shows_open showing said held holds text (Stopped Write) r d = inr (r.0, text.items, r.1)
+open_told capacity shows_open showing said held holds text Open r d = (r.0, (text.items, r.1, d))
+open_told capacity shows_open showing said held holds text (Stopped Write) r d = inr (r.0, (text.items, r.1))
 open_told capacity shows_open showing said held holds text Certified r d = absurd d
 open_told capacity shows_open showing said held holds text Doubt r d = absurd d
 open_told capacity shows_open showing said held holds text (Stopped Read) r d = absurd d

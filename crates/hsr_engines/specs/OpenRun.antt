@@ -78,9 +78,9 @@ IsOpenOf capacity places w fault shown = ⊥
 
 -- it isn't shown, for this reason; or room was refused
 abbrev pub IsLeftBy : Bool → CheckFault → Fault → Type 0
-IsLeftBy shows_open (check.Disagree cause) (Check other) = (shows_open ≡ false) × (other ≡ cause)
-IsLeftBy shows_open fault Memory = Unit {0}
-IsLeftBy shows_open fault _ = ⊥
+IsLeftBy shows_open cause (Check disagree) = (shows_open ≡ false) × (cause ≡ check.Disagree disagree)
+IsLeftBy shows_open cause Memory = Unit {0}
+IsLeftBy shows_open cause _ = ⊥
 
 -- what there is of a scenario
 abbrev pub IsShownBy : ℕ → Bool → Showing → Said → Shown → Type 0

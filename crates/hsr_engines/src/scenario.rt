@@ -1,5 +1,5 @@
 //! Scenarios that are run, and shown by transcript or report.
-ghost use Rattle.std.specs.Prelude.{◌≡◌, ◌≢◌, ◌≤◌, IfErr, IfOk, IfSome};
+ghost use Rattle.std.specs.Prelude.{◌≡◌, ◌≢◌, ◌≤◌, IfErr, IfOk, IfSome, true};
 ghost use Rattle.hsr_engines.specs.Reading.{scenario_of};
 ghost use Rattle.hsr_engines.specs.OpenRun.{IsDeliveredOpen, IsLeftBy, IsOpenOf, IsPlayedOn, IsShownBy, IsShownOfRun, IsUnshown, RunEnds};
 ghost use Rattle.hsr_engines.specs.ScenarioRun.{IsUnplayed};
@@ -26,7 +26,7 @@ use std::io::{Read, Write};
 
 /// A scenario that was played: the world to which it leads, and its nodes and links.
 #[derive(Drop)]
-struct Played<const C: usize> {
+struct Reached<const C: usize> {
     world: World<C>,
     topology: Topology,
 }
@@ -43,7 +43,7 @@ fn played<const C: usize>(
     alloc: Global,
     octets: &[u8],
     notes: &mut Notes,
-) -> Result<Played<C>, Fault>
+) -> Result<Reached<C>, Fault>
     requires entries { (1 ≤ C) × (C ≤ 65535) }
     ensures ok { IfOk result (λ p. IsPlayedOn C (scenario_of octets.now) p.topology.places p.world) }
     ensures err { IfErr result (λ f. IsUnplayed C (scenario_of octets.now) f) }
@@ -59,7 +59,7 @@ fn played<const C: usize>(
         return Err(Fault::Memory);
     };
     match play(&mut world, scenario.steps.as_slice()) {
-        Ok(()) => Ok(Played { world, topology }),
+        Ok(()) => Ok(Reached { world, topology }),
         Err((step, fault)) => {
             notes.of_order(alloc, octets, step, &fault, &world);
             Err(Fault::of_step(step, fault))
@@ -120,14 +120,14 @@ fn reported<const C: usize>(
     ensures ok { IfOk result (IsShownBy C shows_open showing (scenario_of octets.now)) }
     ensures err { IfErr result (IsUnshown C shows_open (scenario_of octets.now)) }
 {
-    let played = match played::<C>(alloc, octets, notes) {
-        Ok(played) => played,
+    let reached = match played::<C>(alloc, octets, notes) {
+        Ok(reached) => reached,
         Err(fault) => return Err(fault),
     };
-    match played.world.close() {
+    match reached.world.close() {
         Ok(closed) => finished(alloc, octets, &closed, showing, notes),
         Err((world, fault)) => {
-            let places = played.topology.places();
+            let places = reached.topology.places();
             left_open(alloc, &world, places, shows_open, fault)
         }
     }
