@@ -1,6 +1,8 @@
 -- A plan that is read whole, or up to a front that is too long, and what is told where nothing shows how far it is.
-use Rattle.std.proofs.Common.{◌≡◌, ℕ, Bool, ◌^◌, ◌<◌, ◌++◌, false, length, List, Option, Some, None, Result, Ok, Err, IfOk, IfSome, inl, inr, refl, sym, subst, ap, arith}
+use Rattle.std.proofs.Common.{◌≡◌, ℕ, Bool, ◌^◌, ◌<◌, ◌++◌, false, length, List, Option, Some, None, Result, Ok, Err, IfErr, IfOk, IfSome, IsOk, inl, inr, refl, sym, subst, ap, arith}
 use Rattle.std.proofs.lemmas.List.{length-append}
+use Rattle.std.specs.Prelude.{Vec}
+use Rattle.std.specs.Global.{Global}
 use Rattle.std.specs.Io.KnownBytes.{Keeps}
 use Rattle.hsr_plan_text.specs.Meaning.{plan_of}
 use Rattle.hsr_plan_text.specs.Plan.{Plan}
@@ -10,8 +12,10 @@ use Rattle.hsr_plan_scenario.specs.Input.{IsWhole}
 use Rattle.hsr_plan_scenario.specs.declared.planning.Ending.{Ending}
 use Rattle.hsr_plan_scenario.specs.declared.planning.Ending.TheVariants.{Planned, Refused, Failed, Unwritten}
 use Rattle.hsr_plan_scenario.proofs.Whole.{no_plan}
-use Rattle.hsr_plan_sweep.specs.Refusals.{IsUnsweepable, IsUnsweptIf}
-use Rattle.hsr_plan_sweep.specs.Swept.{IfHidden, IsSwept, SweepEnds}
+use Rattle.hsr_plan_sweep.specs.Lines.{sweep_text}
+use Rattle.hsr_plan_sweep.specs.Refusals.{IsUnsweepable, IsUnsweptFrom, IsUnsweptIf}
+use Rattle.hsr_plan_sweep.specs.Sweep.{IsSweep, Sweep}
+use Rattle.hsr_plan_sweep.specs.Swept.{IfHidden, IsSwept, SweepEnds, TellsSweep}
 
 -- a text over 16 MiB is no plan
 none_said : (said : Result Plan PlanFault) (fault : PlanFault) (plan : Plan) → said ≡ Err fault → said ≡ Ok plan → ⊥
@@ -47,6 +51,20 @@ why_if_hidden octets moment shown held holds told middle tells why Planned so ke
 why_if_hidden octets moment shown held holds told middle tells why Refused so kept same (this, fault) = (so this, kept, λ hidden. subst (λ t. TellsFault t tells) (same hidden) fault)
 why_if_hidden octets moment shown held holds told middle tells why Failed so kept same fault = (kept, λ hidden. subst (λ t. TellsInput t tells) (same hidden) fault)
 why_if_hidden octets moment shown held holds told middle tells why Unwritten so kept same none = absurd none
+
+-- the lines of a sweep tell it
+pub tells_sweep : {E : Type 0} (r : Result (Vec ℕ Global) E) (plan : Plan) (moment : ℕ) (sweep : Sweep) → IsSweep plan moment sweep → IfOk r (λ lines. lines.items ≡ sweep_text sweep)
+    → IfOk r (λ lines. TellsSweep plan moment lines.items)
+tells_sweep (Ok lines) plan moment sweep is told = record { sweep = sweep; is_sweep = is; told = told }
+tells_sweep (Err e) plan moment sweep is told = tt
+
+-- octets whose plan isn't swept aren't
+pub unswept_so : {X Y Z : Type 0} (r : Result X (Result Y Z)) (octets text : List ℕ) (plan : Plan) (moment : ℕ) → plan_of text ≡ Ok plan → text ≡ octets
+    → IfErr r (λ line. IsOk line → IsUnsweptFrom plan moment) → IfErr r (λ line. IsOk line → IsUnsweepable octets moment)
+unswept_so (Ok x) octets text plan moment is same none = tt
+unswept_so (Err line) octets text plan moment is same none = λ told.
+    let P : Result Plan PlanFault → Type 0 = λ said. IsUnsweptIf said moment in
+    inr (subst (λ t. IsUnsweptIf (plan_of t) moment) same (subst P (sym is) (none told)))
 
 -- so it is with what a reader gives, where that is known
 pub run_whole : {E : Type 0} (remaining : Option (List ℕ)) (front text : List ℕ) (moment : ℕ) (shown : Bool) (held holds told tells : Option (List ℕ)) (r : Result Ending E)
