@@ -114,10 +114,12 @@ fn of_mode<const C: usize>(
     closed: &Closed<C>,
     names: &[Vec<u8>],
 ) -> Result<Vec<u8>, NoMemory> {
-    let words =
-        "in mode N a node sends nothing on: set it to mode H or U, or expect no second way round";
-    let mut line = of_words(alloc, words)?;
+    let mut line = of_words(alloc, "in mode N, in which nothing is sent on: ")?;
     put_silent(&mut line, closed.topology().places(), names)?;
+    put(
+        &mut line,
+        ": set it to mode H or U, or expect no second way round",
+    )?;
     Ok(line)
 }
 
@@ -139,10 +141,12 @@ fn of_two_links<const C: usize>(
     closed: &Closed<C>,
     names: &[Vec<u8>],
 ) -> Result<Vec<u8>, NoMemory> {
-    let words =
-        "a ring is sure to bear losses on one link: find the second break, or for a full queue drain earlier or raise capacity";
-    let mut line = of_words(alloc, words)?;
+    let mut line = of_words(alloc, "copies were lost on more links than one: ")?;
     put_lossy(&mut line, closed, names)?;
+    put(
+        &mut line,
+        ": find the second break; for a full queue drain earlier, or raise capacity",
+    )?;
     Ok(line)
 }
 
