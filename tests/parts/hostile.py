@@ -16,6 +16,7 @@ from lib.scenarios import ring, storm
 SECONDS = 120
 ROOM, ROOM_OF_THREADS = 1_000_000 * 1024, 6_000_000 * 1024
 NO_LINE, NO_TEXT, NO_TRANSCRIPT = "fault: line 1", "fault: scenario top text", "fault: transcript version"
+NAMES = "fault: names, and --names takes the scenario of the run: hsr_plan writes that of a plan"
 NO_ANSWER = "sent 0 life 0 up 0 forwarded 0 duplicate 0 returned 0 dropped 0"
 
 
@@ -124,7 +125,7 @@ def try_large_names(setting):
     """Names from a file of 3 GB of zeros, of which the disk keeps nothing."""
     with tempfile.NamedTemporaryFile(dir=setting.work) as file:
         os.truncate(file.fileno(), inputs.GB_3)
-        rows = [("names of 3 GB", [word, "--names", file.name], 1, "fault: names") for word in ("picture", "capture", "devices")]
+        rows = [("names of 3 GB", [word, "--names", file.name], 1, NAMES) for word in ("picture", "capture", "devices")]
         return try_rows(setting, rows, same, b"hsr-bench 2\ntable 512\nnodes 0\nlinks 0\nmain 0\nend\n")
 
 

@@ -434,7 +434,11 @@ def counted(said):
 def swept(said, at):
     """What is wrong with the lines of a sweep, or None."""
     ended = subprocess.run([PLANNER, "sweep", "--at-us", str(at)], input=said, capture_output=True, text=True, timeout=60)
-    meaning = Meaning(tomllib.loads(said))
+    plan = tomllib.loads(said)
+    if at > plan.get("until_us", at):
+        is_told = ended.returncode == 1 and not ended.stdout and ended.stderr.startswith("fault: plan ") and "until_us" in ended.stderr
+        return None if is_told else f"status {ended.returncode}, {ended.stderr}, not that {at} is behind until_us"
+    meaning = Meaning(plan)
     links, nodes = list(meaning.ends()), meaning.names + [f"{box}-sans" for box in meaning.boxes]
     event = f"{said}[[event]]\nat_us = {at}\n"
     wanted = [f"link {k} {a} {b} " + counted(f'{event}cut = ["{a}", "{b}"]\n') for k, (a, b) in enumerate(links)]
