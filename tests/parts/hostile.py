@@ -114,7 +114,7 @@ def try_large_names(setting):
     with tempfile.NamedTemporaryFile(dir=setting.work) as file:
         os.truncate(file.fileno(), inputs.GB_3)
         rows = [("names of 3 GB", [word, "--names", file.name], 1, "fault: names") for word in ("picture", "capture", "devices")]
-        return try_rows(setting, rows, same, b"hsr-bench 2\n")
+        return try_rows(setting, rows, same, b"hsr-bench 2\ntable 512\nnodes 0\nlinks 0\nmain 0\nend\n")
 
 
 def jobs_to_show():
