@@ -1,4 +1,3 @@
-pub mod Moments
 pub mod Sends
 pub mod Labels
 pub mod Title
