@@ -8,16 +8,16 @@
 --     IsComplete    each node that a send is due at took it up once, and no other did
 use Rattle.std.specs.Prelude.{ℕ, zero, suc, ◌≡◌, ◌==◌, ◌&&◌, nat_lt, not, Bool, true, false, if◌then◌else◌, List, [], ◌∷◌, ◌++◌, length, filter, filter_map, count_by, Option, Some, None, option_map}
 use Rattle.std.specs.List.{AllByRecursion, cons_option, range_with_len}
-use Rattle.hsr_frame.specs.Address.{is_group, is_same_address}
+use Rattle.hsr_frame.specs.Address.{is_group}
 use Rattle.hsr_frame.specs.Egress.{is_supervision}
 use Rattle.hsr_node.specs.Flow.{sent_by}
 use Rattle.hsr_node.specs.Record.{Owner}
-use Rattle.hsr_node.specs.Station.{is_among}
 use Rattle.hsr_node.specs.declared.entry.Entry.{Entry}
 use Rattle.hsr_node.specs.declared.event.Probe.{Probe}
 use Rattle.hsr_node.specs.declared.place.Place.{Place}
 use Rattle.hsr_node.specs.declared.place.Place.TheVariants.{Danh, RedBox, QuadBox, Station}
 use Rattle.hsr_node.specs.declared.sending.Sending.{Sending}
+use Rattle.hsr_node.specs.Place.{owns}
 use Rattle.hsr_link.specs.Rows.{is_lost}
 use Rattle.hsr_link.specs.declared.row.Row.{Row}
 use Rattle.hsr_law.specs.Closed.{IsClosed}
@@ -35,16 +35,9 @@ takes_groups (RedBox mac mode) dst kind = true
 takes_groups QuadBox dst kind = false
 takes_groups (Station macs) dst kind = not (is_supervision dst kind)
 
--- an address is a node's own
-abbrev pub has_address : Place → List ℕ → Bool
-has_address (Danh mac mode) dst = is_same_address mac dst
-has_address (RedBox mac mode) dst = is_same_address mac dst
-has_address QuadBox dst = false
-has_address (Station macs) dst = is_among macs.items dst
-
 -- a frame of this destination and type is for a node
 abbrev pub is_for : Place → List ℕ → ℕ → Bool
-is_for place dst kind = if is_group dst then takes_groups place dst kind else has_address place dst
+is_for place dst kind = if is_group dst then takes_groups place dst kind else owns place dst
 
 -- a send of one node is due at another that it is for, whatever modes, links and cuts there are
 abbrev pub is_due : Run → ℕ → List ℕ → ℕ → ℕ → Bool

@@ -1,7 +1,6 @@
 //! The nodes that a send is due at.
 ghost use Rattle.std.specs.Prelude.{◌≡◌, ◌==◌, ◌&&◌, not};
-ghost use Rattle.hsr_node.specs.Station.{is_among};
-ghost use Rattle.hsr_deliveries.specs.Delivered.{has_address, is_for, takes_groups};
+ghost use Rattle.hsr_deliveries.specs.Delivered.{is_for, takes_groups};
 
 use hsr_frame::{Mac, is_supervision};
 use hsr_node::Place;
@@ -18,23 +17,6 @@ fn takes_groups(place: &Place, dst: Mac, kind: u16) -> bool
     }
 }
 
-fn is_among(macs: &[Mac], mac: Mac) -> bool
-    ensures { result ≡ is_among macs.now mac }
-{
-    macs.iter().any(|own| *own == mac)
-}
-
-/// Whether an address is a node's own.
-fn has_address(place: &Place, dst: Mac) -> bool
-    ensures { result ≡ has_address place.now dst }
-{
-    match place {
-        Place::Danh { mac, .. } | Place::RedBox { mac, .. } => *mac == dst,
-        Place::QuadBox => false,
-        Place::Station { macs } => is_among(macs.as_slice(), dst),
-    }
-}
-
 /// Whether a frame of this destination and type is for a node.
 fn is_for(place: &Place, dst: Mac, kind: u16) -> bool
     ensures { result ≡ is_for place.now dst kind }
@@ -42,7 +24,7 @@ fn is_for(place: &Place, dst: Mac, kind: u16) -> bool
     if dst.is_group() {
         takes_groups(place, dst, kind)
     } else {
-        has_address(place, dst)
+        place.owns(dst)
     }
 }
 

@@ -2,15 +2,15 @@
 use Rattle.std.specs.Prelude.{ℕ, Bool, false, List, [], ◌++◌, codes, position, Option, Some, None}
 use Rattle.std.specs.Fmt.{decimal}
 use Rattle.std.specs.List.{flat_map}
-use Rattle.hsr_frame.specs.Address.{address_text, is_same_address}
+use Rattle.hsr_frame.specs.Address.{address_text}
 use Rattle.hsr_frame.specs.Words.{mode_word}
 use Rattle.hsr_supervision.specs.declared.payload.SupKind.{SupKind}
 use Rattle.hsr_supervision.specs.declared.payload.SupKind.TheVariants.{PrpDiscard, PrpAccept, Hsr}
 use Rattle.hsr_tables.specs.declared.nodes.NodeRow.{NodeRow}
 use Rattle.hsr_names.specs.Names.{name_of}
-use Rattle.hsr_node.specs.Station.{is_among}
 use Rattle.hsr_node.specs.declared.place.Place.{Place}
 use Rattle.hsr_node.specs.declared.place.Place.TheVariants.{Danh, RedBox, QuadBox, Station}
+use Rattle.hsr_node.specs.Place.{owns}
 
 -- ---- addresses
 
@@ -31,14 +31,8 @@ addresses_text (Station macs) = macs_text macs.items
 
 -- ---- whose an address is
 
-abbrev pub has_mac : List ℕ → Place → Bool
-has_mac mac (Danh own mode) = is_same_address own mac
-has_mac mac (RedBox own mode) = is_same_address own mac
-has_mac mac QuadBox = false
-has_mac mac (Station macs) = is_among macs.items mac
-
 abbrev pub owner_in : List Place → List ℕ → Option ℕ
-owner_in places mac = position (has_mac mac) places
+owner_in places mac = position (λ place. owns place mac) places
 
 abbrev pub owner_if : List (List ℕ) → Option ℕ → List ℕ
 owner_if names None = []

@@ -3,8 +3,7 @@ ghost use Rattle.std.specs.Prelude.{◌≡◌, ◌++◌, OnOk, codes};
 ghost use Rattle.std.specs.Fmt.{decimal};
 ghost use Rattle.std.specs.List.{flat_map};
 ghost use Rattle.hsr_order.specs.Fronts.{lists_of};
-ghost use Rattle.hsr_node.specs.Station.{is_among};
-ghost use Rattle.hsr_devices.specs.Describing.{addresses_text, has_mac, heard_if, kind_text, known_text, mac_text, macs_text, node_row_text, owner_if, owner_in, redbox_if, station_text, who_text};
+ghost use Rattle.hsr_devices.specs.Describing.{addresses_text, heard_if, kind_text, known_text, mac_text, macs_text, node_row_text, owner_if, owner_in, redbox_if, station_text, who_text};
 
 use crate::known::Known;
 use hsr_frame::{Mac, NoMemory};
@@ -79,29 +78,11 @@ pub(crate) fn put_addresses(
     }
 }
 
-/// Whether an address is among others.
-fn is_among(macs: &[Mac], mac: Mac) -> bool
-    ensures { result ≡ is_among macs.now mac }
-{
-    macs.iter().any(|own| *own == mac)
-}
-
-/// Whether a node has an address.
-fn has_mac(place: &Place, mac: Mac) -> bool
-    ensures { result ≡ has_mac mac place.now }
-{
-    match place {
-        Place::Danh { mac: own, .. } | Place::RedBox { mac: own, .. } => *own == mac,
-        Place::QuadBox => false,
-        Place::Station { macs } => is_among(macs.as_slice(), mac),
-    }
-}
-
 /// The first node that has an address.
 fn owner_in(places: &[Place], mac: Mac) -> Option<usize>
     ensures { result ≡ owner_in places.now mac }
 {
-    places.iter().position(|place| has_mac(place, mac))
+    places.iter().position(|place| place.owns(mac))
 }
 
 /// Puts the name of the node that has an address last, if one has.

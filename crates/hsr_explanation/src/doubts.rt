@@ -34,21 +34,12 @@ fn put_silent(line: &mut Vec<u8>, places: &[Place], names: &[Vec<u8>]) -> Result
     Ok(())
 }
 
-/// Whether a node has an address.
-fn has_address(place: &Place, address: Mac) -> bool {
-    match place {
-        Place::Danh { mac, .. } | Place::RedBox { mac, .. } => *mac == address,
-        Place::QuadBox => false,
-        Place::Station { macs } => macs.iter().any(|mac| *mac == address),
-    }
-}
-
 /// Whether two nodes have an address in common.
 fn share_address(one: &Place, other: &Place) -> bool {
     match one {
-        Place::Danh { mac, .. } | Place::RedBox { mac, .. } => has_address(other, *mac),
+        Place::Danh { mac, .. } | Place::RedBox { mac, .. } => other.owns(*mac),
         Place::QuadBox => false,
-        Place::Station { macs } => macs.iter().any(|mac| has_address(other, *mac)),
+        Place::Station { macs } => macs.iter().any(|mac| other.owns(*mac)),
     }
 }
 

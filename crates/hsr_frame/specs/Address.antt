@@ -1,5 +1,6 @@
 -- Addresses and their text.
 use Rattle.std.specs.Prelude.{Bool, ◌≡◌, ◌==◌, ◌≢◌, ◌<◌, ◌+◌, ◌-◌, ◌*◌, ◌/◌, ◌%◌, ℕ, nat_lt, nat_le, if◌then◌else◌, List, [], ◌∷◌, ◌++◌, length, map, slice_index, Option, Some, None, is_some, unwrap_or, Result, Err}
+use Rattle.std.specs.List.{list_any}
 use Rattle.std.specs.Option.{option_or}
 use Rattle.std.specs.Str.{bytes_eq}
 use Rattle.hsr_frame.specs.declared.fault.MacFault.{MacFault}
@@ -20,6 +21,10 @@ IsGroup octets = slice_index octets 0 % 2 ≡ 1
 
 abbrev pub is_same_address : List ℕ → List ℕ → Bool
 is_same_address a b = bytes_eq a b
+
+-- an address is one of these
+abbrev pub is_among : List (List ℕ) → List ℕ → Bool
+is_among macs mac = list_any (λ own. is_same_address own mac) macs
 
 -- the group of supervision frames
 abbrev pub supervision_address : List ℕ

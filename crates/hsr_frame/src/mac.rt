@@ -1,6 +1,6 @@
 //! MAC addresses and their text.
 ghost use Rattle.std.specs.Prelude.{[], ◌∷◌, ◌≡◌, ◌+◌, ◌*◌, ◌<◌, ◌≤◌, ◌↔◌, ℕ, List, length, slice_index, drop, IsTrue, IfOk, IfErr, IfSome, IfNone, Ok, Some, None, ◌/◌, ◌%◌};
-ghost use Rattle.hsr_frame.specs.Address.{supervision_address, IsGroup, IsAddress, IsLeftmost, IsTextFault, address_of, address_text, fault_from, hex_digit, hex_digits, hex_value, is_group, octet_of, place_fault, upper_digit, upper_text};
+ghost use Rattle.hsr_frame.specs.Address.{supervision_address, IsGroup, IsAddress, IsLeftmost, IsTextFault, address_of, address_text, fault_from, hex_digit, hex_digits, hex_value, is_among, is_group, octet_of, place_fault, upper_digit, upper_text};
 
 use crate::fault::MacFault;
 use std::fmt;
@@ -110,6 +110,13 @@ impl Mac {
         ensures { result ≡ supervision_address }
     {
         Mac::SUPERVISION
+    }
+
+    /// Whether it is one of these addresses.
+    pub fn is_among(self, macs: &[Mac]) -> bool
+        ensures { result ≡ is_among macs.now self }
+    {
+        macs.iter().any(|own| *own == self)
     }
 
     /// The address of these octets.

@@ -2,7 +2,7 @@
 use Rattle.std.proofs.Common.{◌≡◌, ℕ, ◌==◌, Bool, true, false, ◌||◌, if◌then◌else◌, List, [], ◌∷◌, length, Option, Some, None, Ok, Err, refl, sym, ap, ◌∙◌, subst}
 use Rattle.std.specs.Prelude.{option_map}
 use Rattle.std.proofs.lemmas.Bool.{false≢true}
-use Rattle.hsr_frame.specs.Address.{is_group, is_same_address}
+use Rattle.hsr_frame.specs.Address.{is_among, is_group, is_same_address}
 use Rattle.hsr_frame.specs.Cases.{first_of}
 use Rattle.hsr_frame.specs.Egress.{Egress, up, a, b, c, d, nowhere, to, has_exit}
 use Rattle.hsr_frame.specs.Grammar.{Fields}
@@ -23,7 +23,6 @@ use Rattle.hsr_quadbox.specs.Wanted as of_quadbox
 use Rattle.hsr_quadbox.specs.declared.wanted.QuadPort.{QuadPort}
 use Rattle.hsr_node.specs.Copies.{plain_in}
 use Rattle.hsr_node.specs.Record.{Noted, Owner, answer, box_handling, handling, has_left, is_noted, judged_as, key_handled, key_in, leaves, next_number, note_if, note_of, noted_on, now, passing, ports, probe_handled, remembers, station_wanted}
-use Rattle.hsr_node.specs.Station.{is_among}
 use Rattle.hsr_node.specs.Step.{box_port, quad_port, ring_port}
 use Rattle.hsr_node.specs.declared.entry.Entry.{Entry}
 use Rattle.hsr_node.specs.declared.event.Carried.{Carried}

@@ -2,7 +2,7 @@
 use Rattle.std.proofs.Common.{◌≡◌, ◌⊎◌, ℕ, ◌<◌, ◌==◌, ◌&&◌, ◌||◌, Bool, true, false, not, List, [], ◌∷◌, length, Some, Ok, Err, refl, sym, ap, ◌∙◌, subst, arith, inl, inr, ⊎_elim, eqb-true, eq-eqb, if◌then◌else◌}
 use Rattle.std.specs.List.{list_any, AllByRecursion}
 use Rattle.std.proofs.lemmas.Bool.{false≢true, and_parts, or_cases, or_right, not-true, not-false, cases_Bool}
-use Rattle.hsr_frame.specs.Address.{is_group, is_same_address}
+use Rattle.hsr_frame.specs.Address.{is_among, is_group, is_same_address}
 use Rattle.hsr_frame.specs.Egress.{Egress, is_supervision, up}
 use Rattle.hsr_frame.specs.Grammar.{Fields}
 use Rattle.hsr_frame.specs.declared.fault.FrameFault.{FrameFault}
@@ -19,7 +19,6 @@ use Rattle.hsr_node.specs.declared.place.Place.{Place}
 use Rattle.hsr_node.specs.declared.place.Place.TheVariants.{Danh, RedBox, QuadBox, Station}
 use Rattle.hsr_node.specs.declared.sending.Sending.{Sending}
 use Rattle.hsr_node.specs.Copies.{plain_in}
-use Rattle.hsr_node.specs.Station.{is_among}
 use Rattle.hsr_law.specs.Closed.{IsClosed, IsOfSend, IsSend}
 use Rattle.hsr_network_law.specs.Ways.{ComesOver, IsReached, keeps_own, lets_out, on, passes_on, sent}
 use Rattle.hsr_network_law.specs.Delivered.{OnceInNetwork, is_covered, is_meant}

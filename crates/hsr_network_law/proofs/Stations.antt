@@ -2,7 +2,7 @@
 use Rattle.std.proofs.Common.{◌≡◌, ◌⊎◌, ℕ, ◌<◌, ◌==◌, ◌||◌, Bool, true, false, not, List, length, Some, Ok, refl, sym, ap, ◌∙◌, subst, arith, inl, inr, ⊎_elim, eqb-true, eq-eqb}
 use Rattle.std.specs.List.{list_any}
 use Rattle.std.proofs.lemmas.Bool.{false≢true, and_parts, cases_Bool, or_cases}
-use Rattle.hsr_frame.specs.Address.{is_group}
+use Rattle.hsr_frame.specs.Address.{is_among, is_group}
 use Rattle.hsr_frame.specs.Egress.{is_supervision}
 use Rattle.hsr_frame.specs.Grammar.{Fields}
 use Rattle.hsr_frame.specs.declared.node.Mode.{Mode}
@@ -10,7 +10,6 @@ use Rattle.hsr_tag.specs.Tag.{TaggedFields, untag_of}
 use Rattle.hsr_node.specs.Flow.{arrivals, passes, send_at}
 use Rattle.hsr_node.specs.Place.{ports}
 use Rattle.hsr_node.specs.Record.{Each}
-use Rattle.hsr_node.specs.Station.{is_among}
 use Rattle.hsr_node.specs.declared.event.Event.{Event}
 use Rattle.hsr_node.specs.declared.event.Event.TheVariants.{Send, Supervise, Arrive, Age}
 use Rattle.hsr_node.specs.declared.event.Probe.{Probe}

@@ -2,7 +2,7 @@
 use Rattle.std.proofs.Common.{ap, Bool, Err, List, None, Ok, Option, Some, [], arith, false, if◌then◌else◌, inr, refl, suc, sym, true, zero, ℕ, ◌&&◌, ◌<◌, ◌==◌, ◌||◌, ◌∙◌, ◌∷◌, ◌≡◌}
 use Rattle.std.specs.Prelude.{option_map, slice_get}
 use Rattle.std.proofs.lemmas.Bool.{false≢true, or_left, or_right}
-use Rattle.hsr_frame.specs.Address.{is_group, is_same_address, supervision_address}
+use Rattle.hsr_frame.specs.Address.{is_among, is_group, is_same_address, supervision_address}
 use Rattle.hsr_frame.specs.Cases.{first_of}
 use Rattle.hsr_frame.specs.Egress.{Egress, beyond, has_exit, in_mode, is_supervision, nowhere, onward, to, up}
 use Rattle.hsr_frame.specs.Egress as out
@@ -28,7 +28,6 @@ use Rattle.hsr_quadbox.specs.declared.wanted.QuadPort.TheVariants as quad
 use Rattle.hsr_node.specs.Flow.{wanted_at, wants}
 use Rattle.hsr_node.specs.Place.{ports}
 use Rattle.hsr_node.specs.Record.{box_handling, station_wanted}
-use Rattle.hsr_node.specs.Station.{is_among}
 use Rattle.hsr_node.specs.Step.{box_port, quad_port, ring_port}
 use Rattle.hsr_node.specs.declared.place.Place.{Place}
 use Rattle.hsr_node.specs.declared.place.Place.TheVariants.{Danh, RedBox, QuadBox, Station}

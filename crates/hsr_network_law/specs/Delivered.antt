@@ -4,10 +4,9 @@
 --     OnceInNetwork   each node that a frame is for and reaches took it up once, and nothing else went up
 use Rattle.std.specs.Prelude.{ℕ, ◌<◌, ◌≤◌, ◌≡◌, ◌==◌, ◌&&◌, ◌||◌, not, Bool, true, false, List, length, count_by, if◌then◌else◌}
 use Rattle.std.specs.List.{list_any}
-use Rattle.hsr_frame.specs.Address.{is_group, is_same_address}
+use Rattle.hsr_frame.specs.Address.{is_among, is_group, is_same_address}
 use Rattle.hsr_frame.specs.Grammar.{Fields}
 use Rattle.hsr_node.specs.Record.{Each}
-use Rattle.hsr_node.specs.Station.{is_among}
 use Rattle.hsr_node.specs.declared.event.Probe.{Probe}
 use Rattle.hsr_node.specs.declared.place.Place.{Place}
 use Rattle.hsr_node.specs.declared.place.Place.TheVariants.{Danh, RedBox, QuadBox, Station}

@@ -4,11 +4,10 @@
 --     Way          a direction of a link
 --     IsNetwork    a network
 use Rattle.std.specs.Prelude.{ℕ, ◌<◌, ◌≡◌, ◌==◌, Bool, true, false, List, length, slice_get, Some}
-use Rattle.hsr_frame.specs.Address.{is_group}
+use Rattle.hsr_frame.specs.Address.{is_among, is_group}
 use Rattle.hsr_frame.specs.declared.node.Mode.{Mode}
 use Rattle.hsr_frame.specs.declared.node.Mode.TheVariants.{H, N, U}
 use Rattle.hsr_node.specs.Place.{ports}
-use Rattle.hsr_node.specs.Station.{is_among}
 use Rattle.hsr_node.specs.declared.place.Place.{Place}
 use Rattle.hsr_node.specs.declared.place.Place.TheVariants.{Danh, RedBox, QuadBox, Station}
 use Rattle.hsr_link.specs.declared.row.Dir.{Dir}

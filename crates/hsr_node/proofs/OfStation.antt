@@ -2,7 +2,7 @@
 use Rattle.std.proofs.Common.{◌≡◌, ℕ, ◌+◌, ◌==◌, ◌^◌, ◌||◌, Bool, true, false, if◌then◌else◌, List, [], ◌∷◌, length, Option, Some, None, Result, Ok, Err, refl, sym, ap, subst, ◌∙◌, add-zero}
 use Rattle.std.specs.Prelude.{max, slice_get}
 use Rattle.arrayvec.specs.ArrayVec.{ArrayVec}
-use Rattle.hsr_frame.specs.Address.{is_group}
+use Rattle.hsr_frame.specs.Address.{is_among, is_group}
 use Rattle.hsr_frame.specs.Cases.{first_of}
 use Rattle.hsr_frame.specs.Counters.{counted}
 use Rattle.hsr_frame.specs.Egress.{Egress, up, nowhere, to}
@@ -20,7 +20,7 @@ use Rattle.hsr_duptable.specs.Key.{Key}
 use Rattle.hsr_redbox.specs.Wanted.{unnumbered}
 use Rattle.hsr_node.specs.Counts.{counters}
 use Rattle.hsr_node.specs.Record.{Owner, arrive_answer, judged_as, next_number, now, passing, remembers, send_answer, sent_or_refused, station_wanted, steps}
-use Rattle.hsr_node.specs.Station.{Machine, after_arrival, after_cause, after_send, arrive_or_spent, is_among, is_passed, judged_seen, new_machine, send_from, send_or_refuse, station_step}
+use Rattle.hsr_node.specs.Station.{Machine, after_arrival, after_cause, after_send, arrive_or_spent, is_passed, judged_seen, new_machine, send_from, send_or_refuse, station_step}
 use Rattle.hsr_node.specs.declared.entry.Entry.{Entry}
 use Rattle.hsr_node.specs.declared.event.Carried.{Carried}
 use Rattle.hsr_node.specs.declared.event.Event.{Event}

@@ -7,7 +7,7 @@
 --     remembered   what is remembered of that
 use Rattle.std.specs.Prelude.{ℕ, ◌+◌, ◌-◌, ◌%◌, ◌^◌, ◌≡◌, ◌==◌, ◌&&◌, ◌||◌, not, max, nat_lt, Bool, true, false, if◌then◌else◌, List, [], ◌∷◌, ◌++◌, length, take, filter, slice_get, unwrap_or, Option, Some, None, option_map, is_some, Result, Ok, Err}
 use Rattle.std.specs.List.{list_any, cons_option}
-use Rattle.hsr_frame.specs.Address.{is_group, is_same_address}
+use Rattle.hsr_frame.specs.Address.{is_among, is_group, is_same_address}
 use Rattle.hsr_frame.specs.Cases.{first_of}
 use Rattle.hsr_frame.specs.Egress.{Egress, up, a, b, c, d, cause_of, nowhere, to}
 use Rattle.hsr_frame.specs.Grammar.{Fields}
@@ -44,7 +44,6 @@ use Rattle.hsr_redbox.specs.declared.call.LifeFault.{LifeFault}
 use Rattle.hsr_redbox.specs.declared.wanted.Handling.{Handling}
 use Rattle.hsr_quadbox.specs.Wanted as of_quadbox
 use Rattle.hsr_node.specs.Copies.{address_at, ring_address}
-use Rattle.hsr_node.specs.Station.{is_among}
 use Rattle.hsr_node.specs.Step.{box_port, life_fault, quad_port, ring_port}
 use Rattle.hsr_node.specs.Times.{Times, usual}
 use Rattle.hsr_node.specs.declared.event.Event.{Event}

@@ -55,9 +55,6 @@ after_send machine at from dst kind len = send_from machine at (slice_get machin
 
 -- ---- an arrival
 
-abbrev pub is_among : List (List ℕ) → List ℕ → Bool
-is_among macs mac = list_any (λ own. is_same_address own mac) macs
-
 -- a plain frame goes up, or nowhere for a cause
 abbrev pub judged_plain : List (List ℕ) → Fields → Cause
 judged_plain macs frame = first_of ((is_among macs frame.src, Returned) ∷ (is_among macs frame.dst || is_group frame.dst, Passed) ∷ []) Foreign

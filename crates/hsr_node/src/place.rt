@@ -19,7 +19,7 @@ pub enum Place {
 }
 
 impl Place {
-    ghost use Rattle.hsr_node.specs.Place.{ports};
+    ghost use Rattle.hsr_node.specs.Place.{owns, ports};
 
     /// How many ports it has; they are numbered from 0.
     pub fn ports(&self) -> u8
@@ -31,6 +31,17 @@ impl Place {
             Place::RedBox { .. } => 3,
             Place::QuadBox => 4,
             Place::Station { .. } => 1,
+        }
+    }
+
+    /// Whether an address is the node's own: a QuadBox has none.
+    pub fn owns(&self, mac: Mac) -> bool
+        ensures { result ≡ owns self.now mac }
+    {
+        match self {
+            Place::Danh { mac: own, .. } | Place::RedBox { mac: own, .. } => *own == mac,
+            Place::QuadBox => false,
+            Place::Station { macs } => mac.is_among(macs.as_slice()),
         }
     }
 

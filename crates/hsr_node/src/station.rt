@@ -1,8 +1,8 @@
 //! A node that sends plain frames and keeps no table.
 ghost use Rattle.std.specs.Prelude.{◌≡◌, ◌≤◌, ◌^◌, IfSome};
 ghost use Rattle.std.specs.List.{list_any};
-ghost use Rattle.hsr_frame.specs.Address.{is_same_address};
-ghost use Rattle.hsr_node.specs.Station.{is_among, judged_plain, judged_seen};
+ghost use Rattle.hsr_frame.specs.Address.{is_among, is_same_address};
+ghost use Rattle.hsr_node.specs.Station.{judged_plain, judged_seen};
 
 use crate::event::{Event, Outcome, StepFault};
 use arrayvec::ArrayVec;
@@ -155,13 +155,6 @@ fn copied_addresses(macs: &[Mac]) -> ArrayVec<Mac, 16>
 
 ghost use Rattle.std.specs.Prelude.{length};
 
-/// Whether an address is one of these.
-fn is_among(macs: &[Mac], mac: Mac) -> bool
-    ensures { result ≡ is_among macs.now mac }
-{
-    macs.iter().any(|own| *own == mac)
-}
-
 /// Why what came goes where it does: up for `Passed`, else nowhere.
 fn cause_of(macs: &[Mac], seen: &Result<SeenView<'_>, FrameFault>) -> Cause
     ensures { result ≡ judged_seen macs.now seen.now }
@@ -180,9 +173,9 @@ fn cause_of(macs: &[Mac], seen: &Result<SeenView<'_>, FrameFault>) -> Cause
 fn plain_cause(macs: &[Mac], frame: &FrameView<'_>) -> Cause
     ensures { result ≡ judged_plain macs.now frame.now }
 {
-    if is_among(macs, frame.src) {
+    if frame.src.is_among(macs) {
         Cause::Returned
-    } else if is_among(macs, frame.dst) || frame.dst.is_group() {
+    } else if frame.dst.is_among(macs) || frame.dst.is_group() {
         Cause::Passed
     } else {
         Cause::Foreign

@@ -14,7 +14,7 @@ use Rattle.hsr_plan_text.specs.declared.fault.Refusal.{Refusal}
 use Rattle.hsr_plan_text.specs.declared.fault.Refusal.TheVariants.{NoAddress, NoSuchName, Nobody, ToItself}
 use Rattle.hsr_plan_text.specs.declared.plan.Target.{Target}
 use Rattle.hsr_plan_text.specs.declared.plan.Target.TheVariants.{Named, Address}
-use Rattle.hsr_plan_network.specs.Addresses.{has_address}
+use Rattle.hsr_node.specs.Place.{owns}
 use Rattle.hsr_plan_network.specs.Names.{is_in, number}
 use Rattle.hsr_plan_network.specs.Nodes.{Node}
 use Rattle.hsr_plan_meaning.specs.declared.occasion.Sender.{Sender}
@@ -71,7 +71,7 @@ nobody nodes n = nobody_if (named nodes n) n
 -- ---- destinations
 
 abbrev pub some_has : List Node → List ℕ → Bool
-some_has nodes mac = list_any (λ node. has_address node.place mac) nodes
+some_has nodes mac = list_any (λ node. owns node.place mac) nodes
 
 -- a group's address, or one that some node has
 abbrev pub is_somebody : List Node → List ℕ → Bool
@@ -83,7 +83,7 @@ target nodes (Address mac) = if is_somebody nodes mac then Ok mac else Err (Refu
 
 abbrev pub is_own : Option Node → List ℕ → Bool
 is_own None mac = false
-is_own (Some node) mac = has_address node.place mac
+is_own (Some node) mac = owns node.place mac
 
 -- a sender of a name, which isn't itself the destination
 abbrev pub source : List Node → List ℕ → List ℕ → Result Sender What

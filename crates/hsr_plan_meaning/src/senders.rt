@@ -9,7 +9,7 @@ ghost use Rattle.hsr_plan_meaning.specs.Senders.{as_node, as_station, is_own, is
 use crate::occasion::Sender;
 use hsr_frame::Mac;
 use hsr_node::Place;
-use hsr_plan_network::{Node, has_address, is_in, number};
+use hsr_plan_network::{Node, is_in, number};
 use hsr_plan_text::{Key, Refusal, Target, What, Word};
 use std::alloc::Global;
 
@@ -149,7 +149,7 @@ fn no_sender<T>(alloc: Global, nodes: &[Node], name: &[u8]) -> Result<T, What>
 fn some_has(nodes: &[Node], mac: Mac) -> bool
     ensures { result ≡ some_has nodes.now mac }
 {
-    nodes.iter().any(|node| has_address(&node.place, mac))
+    nodes.iter().any(|node| node.place.owns(mac))
 }
 
 /// Whether an address is a group's, or some node has it.
@@ -183,7 +183,7 @@ pub(crate) fn is_own(nodes: &[Node], number: usize, mac: Mac) -> bool
     ensures { result ≡ is_own (slice_get nodes.now number) mac }
 {
     match nodes.get(number) {
-        Some(node) => has_address(&node.place, mac),
+        Some(node) => node.place.owns(mac),
         None => false,
     }
 }

@@ -1,8 +1,7 @@
 //! Whose an address is.
 ghost use Rattle.std.specs.Prelude.{◌≡◌};
 ghost use Rattle.hsr_plan_text.specs.Fallible.{Gives};
-ghost use Rattle.hsr_node.specs.Station.{is_among};
-ghost use Rattle.hsr_plan_network.specs.Addresses.{has_address, is_of, is_own, others_have};
+ghost use Rattle.hsr_plan_network.specs.Addresses.{is_of, is_own, others_have};
 ghost use Rattle.hsr_plan_network.specs.Checks.{each_passes};
 
 use crate::names::is_in;
@@ -11,24 +10,6 @@ use hsr_frame::Mac;
 use hsr_node::Place;
 use hsr_plan_text::{Addressed, Refusal, What};
 use std::alloc::Global;
-
-/// Whether an address is among addresses.
-fn is_among(macs: &[Mac], mac: Mac) -> bool
-    ensures { result ≡ is_among macs.now mac }
-{
-    macs.iter().any(|own| *own == mac)
-}
-
-/// Whether a kind of node has an address.
-pub fn has_address(place: &Place, mac: Mac) -> bool
-    ensures { result ≡ has_address place.now mac }
-{
-    match place {
-        Place::Danh { mac: own, .. } | Place::RedBox { mac: own, .. } => *own == mac,
-        Place::QuadBox => false,
-        Place::Station { macs } => is_among(macs.as_slice(), mac),
-    }
-}
 
 /// Whether a name is the node's, or one of a station that it is.
 fn is_of(node: &Node, name: &[u8]) -> bool
@@ -45,7 +26,7 @@ fn others_have(nodes: &[Node], address: &Addressed) -> bool
     let mac = address.mac;
     nodes
         .iter()
-        .any(|node| !is_of(node, name) && has_address(&node.place, mac))
+        .any(|node| !is_of(node, name) && node.place.owns(mac))
 }
 
 /// Refuses an address that a node of another name has.

@@ -11,7 +11,6 @@ mod nodes;
 mod places;
 mod wiring;
 
-pub use addresses::has_address;
 pub use names::{is_in, number};
 pub use nodes::Node;
 pub use wiring::{Wired, wire};

@@ -3,9 +3,8 @@ use Rattle.std.proofs.Common.{◌≡◌, ℕ, ◌||◌, ◌==◌, Bool, false, L
 use Rattle.std.specs.List.{All, list_any}
 use Rattle.std.proofs.lemmas.Bool.{or_parts, eqb-false}
 use Rattle.std.proofs.lemmas.List.Elements.{All-nil, All-cons}
-use Rattle.hsr_frame.specs.Address.{IsGroup, is_group, is_same_address}
+use Rattle.hsr_frame.specs.Address.{IsGroup, is_among, is_group, is_same_address}
 use Rattle.hsr_node.specs.Place.{HasOwnAddress}
-use Rattle.hsr_node.specs.Station.{is_among}
 use Rattle.hsr_node.specs.declared.place.Place.{Place}
 use Rattle.hsr_node.specs.declared.place.Place.TheVariants.{Danh, RedBox, QuadBox, Station}
 use Rattle.hsr_topology.specs.Nodes.{has_group, has_twice, is_bad_node}

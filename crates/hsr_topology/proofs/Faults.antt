@@ -8,9 +8,8 @@ use Rattle.std.proofs.lemmas.Bool.{false≢true, or_from, lt-ltb, not_from_true}
 use Rattle.std.proofs.lemmas.Bool.Decides.{nat_tests}
 use Rattle.std.proofs.lemmas.List.Elements.{All-head, All-tail}
 use Rattle.std.proofs.lemmas.List.Folds.{list_any-append, list_any_none}
-use Rattle.hsr_frame.specs.Address.{IsGroup, is_group, is_same_address}
+use Rattle.hsr_frame.specs.Address.{IsGroup, is_among, is_group, is_same_address}
 use Rattle.hsr_node.specs.Place.{HasOwnAddress}
-use Rattle.hsr_node.specs.Station.{is_among}
 use Rattle.hsr_node.specs.declared.place.Place.{Place}
 use Rattle.hsr_node.specs.declared.place.Place.TheVariants.{Danh, RedBox, QuadBox, Station}
 use Rattle.hsr_topology.specs.Links.{fault_between, faces_wrongly, has_port, is_end_of, is_port_of, is_same_end, is_used, links_fault}

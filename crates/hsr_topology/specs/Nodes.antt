@@ -1,8 +1,7 @@
 -- What the nodes of a topology may be.
 use Rattle.std.specs.Prelude.{ℕ, ◌==◌, ◌||◌, Bool, false, List, [], ◌∷◌, length}
 use Rattle.std.specs.List.{list_any}
-use Rattle.hsr_frame.specs.Address.{is_group}
-use Rattle.hsr_node.specs.Station.{is_among}
+use Rattle.hsr_frame.specs.Address.{is_among, is_group}
 use Rattle.hsr_node.specs.declared.place.Place.{Place}
 use Rattle.hsr_node.specs.declared.place.Place.TheVariants.{Danh, RedBox, QuadBox, Station}
 

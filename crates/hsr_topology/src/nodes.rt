@@ -1,7 +1,7 @@
 //! What the nodes of a topology may be.
 ghost use Rattle.std.specs.Prelude.{◌≡◌, drop, length};
+ghost use Rattle.hsr_frame.specs.Address.{is_among};
 ghost use Rattle.hsr_topology.specs.Nodes.{has_bad_node, has_group, has_twice, is_bad_node};
-ghost use Rattle.hsr_node.specs.Station.{is_among};
 
 use hsr_frame::Mac;
 use hsr_node::Place;
@@ -33,19 +33,12 @@ fn has_group(macs: &[Mac]) -> bool
     macs.iter().any(|mac| mac.is_group())
 }
 
-/// Whether an address is among addresses.
-fn is_among(macs: &[Mac], mac: Mac) -> bool
-    ensures { result ≡ is_among macs.now mac }
-{
-    macs.iter().any(|other| *other == mac)
-}
-
 /// Whether an address stands twice among addresses.
 fn has_twice(macs: &[Mac]) -> bool
     ensures { result ≡ has_twice macs.now }
 {
     for (i, mac) in macs.iter().enumerate() {
-        if is_among(&macs[i + 1..], *mac) {
+        if mac.is_among(&macs[i + 1..]) {
             return true;
         }
     }

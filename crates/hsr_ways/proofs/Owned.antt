@@ -3,14 +3,14 @@ use Rattle.std.proofs.Common.{◌≡◌, ℕ, ◌<◌, ◌||◌, Bool, true, fal
 use Rattle.std.specs.Prelude.{slice_get}
 use Rattle.std.specs.List.{list_any}
 use Rattle.std.proofs.lemmas.Bool.{cases_Bool, cases_lt, false≢true, or_cases, or_left, or_right}
-use Rattle.hsr_node.specs.Station.{is_among}
 use Rattle.hsr_node.specs.declared.place.Place.{Place}
 use Rattle.hsr_node.specs.declared.place.Place.TheVariants.{Danh, RedBox, QuadBox, Station}
+use Rattle.hsr_node.specs.Place.{owns}
 use Rattle.hsr_law.proofs.Same.{address_same, same_address}
 use Rattle.hsr_law.specs.Run.{Run, place_of}
 use Rattle.hsr_network_law.specs.Network.{HasAddress}
-use Rattle.hsr_frame.specs.Address.{is_same_address}
-use Rattle.hsr_ways.specs.Addressed.{OwnBelow, owns, shares, shares_any}
+use Rattle.hsr_frame.specs.Address.{is_among, is_same_address}
+use Rattle.hsr_ways.specs.Addressed.{OwnBelow, shares, shares_any}
 use Rattle.hsr_ways.specs.Networks.{HaveOwnAddresses}
 
 -- ---- lists

@@ -1,23 +1,15 @@
 -- What a network asks of nodes and links, as tests of lists.
 use Rattle.std.specs.Prelude.{ℕ, ◌<◌, ◌≡◌, Bool, true, false, List, length, take, slice_index_or, Option, Some, None}
 use Rattle.std.specs.List.{list_any}
-use Rattle.hsr_frame.specs.Address.{is_same_address}
 use Rattle.hsr_link.specs.declared.row.Dir.TheVariants.{Forth, Back}
-use Rattle.hsr_node.specs.Station.{is_among}
 use Rattle.hsr_node.specs.declared.place.Place.{Place}
 use Rattle.hsr_node.specs.declared.place.Place.TheVariants.{Danh, RedBox, QuadBox, Station}
+use Rattle.hsr_node.specs.Place.{owns}
 use Rattle.hsr_law.specs.Run.{from_end, to_end}
 use Rattle.hsr_network_law.specs.Network.{is_edge}
 use Rattle.hsr_topology.specs.declared.end.End.{End}
 
 -- ---- addresses
-
--- an address is a node's own
-abbrev pub owns : Place → List ℕ → Bool
-owns (Danh mac mode) address = is_same_address mac address
-owns (RedBox mac mode) address = is_same_address mac address
-owns QuadBox address = false
-owns (Station macs) address = is_among macs.items address
 
 -- an address is of both nodes
 abbrev pub shares : Place → Place → Bool

@@ -3,7 +3,7 @@ use Rattle.std.proofs.Common.{◌≡◌, ℕ, ◌+◌, ◌≤◌, ◌==◌, Bool
 use Rattle.std.specs.Prelude.{if◌then◌else◌, ◌&&◌, ◌||◌}
 use Rattle.std.specs.List.{AllByRecursion, cons_option, list_any}
 use Rattle.std.proofs.lemmas.Bool.{false≢true, cases_Bool, or_parts, cond-false, ne_eqb}
-use Rattle.hsr_frame.specs.Address.{is_group}
+use Rattle.hsr_frame.specs.Address.{is_among, is_group}
 use Rattle.hsr_frame.specs.Cases.{first_of}
 use Rattle.hsr_frame.specs.Egress.{Egress, up, a, nowhere, to, has_exit}
 use Rattle.hsr_frame.specs.Grammar.{Fields}
@@ -25,7 +25,6 @@ use Rattle.hsr_link.specs.declared.row.Row.{Row}
 use Rattle.hsr_node.specs.Copies.{copy_octets, ports_of}
 use Rattle.hsr_node.specs.Flow.{arrivals, pass_of, passes}
 use Rattle.hsr_node.specs.Record.{Each, Owner, answer, box_handling, handling, next_number, now, number_in, passing, probe_handled, remembers, station_wanted}
-use Rattle.hsr_node.specs.Station.{is_among}
 use Rattle.hsr_node.specs.Step.{quad_port, ring_port}
 use Rattle.hsr_node.specs.declared.entry.Entry.{Entry}
 use Rattle.hsr_node.specs.declared.event.Carried.{Carried}
