@@ -1,6 +1,6 @@
 //! Interfaces and packets.
 ghost use Rattle.std.specs.Prelude.{◌≡◌, ◌<◌, ◌≤◌, ◌++◌, length, Some, IfErr, OnOk};
-ghost use Rattle.hsr_law.specs.Run.{ends_of, from_end, rows_of, to_end};
+ghost use Rattle.hsr_law.specs.Run.{rows_of};
 ghost use Rattle.hsr_order.specs.Fronts.{lists_of};
 ghost use Rattle.hsr_capture.specs.Capture.{interface_number, interface_of, packet_if, packet_of};
 ghost use Rattle.hsr_capture.specs.Comments.{comment_of};
@@ -13,32 +13,7 @@ use hsr_frame::NoMemory;
 use hsr_link::{Dir, Row};
 use hsr_pcapng::{BlockFault, put_interface, put_packet};
 use hsr_story::Shown;
-use hsr_topology::End;
 use std::alloc::Global;
-
-/// The end of a link from which the copies of a direction come.
-fn from_end<const C: usize>(closed: &Closed<C>, link: usize, dir: Dir) -> End
-    requires { link < length closed.now.run.links }
-    ensures { result ≡ from_end dir (ends_of closed.now.run link) }
-{
-    let [a, b] = closed.topology().links()[link];
-    match dir {
-        Dir::Forth => a,
-        Dir::Back => b,
-    }
-}
-
-/// The end of a link to which the copies of a direction go.
-fn to_end<const C: usize>(closed: &Closed<C>, link: usize, dir: Dir) -> End
-    requires { link < length closed.now.run.links }
-    ensures { result ≡ to_end dir (ends_of closed.now.run link) }
-{
-    let [a, b] = closed.topology().links()[link];
-    match dir {
-        Dir::Forth => b,
-        Dir::Back => a,
-    }
-}
 
 /// Puts the interface of a link's direction last. `TooLong` exactly where it doesn't fit.
 pub(crate) fn put_direction<const C: usize>(
@@ -55,8 +30,8 @@ pub(crate) fn put_direction<const C: usize>(
     ensures too_long { IfErr result (IfTooLong (DirectionFits (lists_of names.now) closed.now.run link dir → ⊥)) }
 {
     let mut name = Vec::new(alloc);
-    let from = from_end(closed, link, dir);
-    let to = to_end(closed, link, dir);
+    let from = closed.from_end(link, dir);
+    let to = closed.to_end(link, dir);
     put_interface_name(&mut name, names, closed.topology().places(), from, to)?;
     let mut description = Vec::new(alloc);
     put_interface_description(&mut description, link, dir)?;
@@ -90,7 +65,7 @@ fn put_row<const C: usize>(
     ensures fits { OnOk result (RowFits (lists_of names.now) closed.now.run shown.now (Some row.now)) }
     ensures too_long { IfErr result (IfTooLong (RowFits (lists_of names.now) closed.now.run shown.now (Some row.now) → ⊥)) }
 {
-    let to = to_end(closed, shown.link, row.dir);
+    let to = closed.to_end(shown.link, row.dir);
     let mut comment = Vec::new(alloc);
     put_comment(&mut comment, names, closed, shown, row, to)?;
     put_packet(
@@ -151,7 +126,7 @@ pub fn put_shown_comment<const C: usize>(
     }
     match rows_at(closed, shown.link).get(shown.number) {
         Some(row) => {
-            let to = to_end(closed, shown.link, row.dir);
+            let to = closed.to_end(shown.link, row.dir);
             put_comment(text, names, closed, shown, row, to)
         }
         None => Ok(()),

@@ -2,17 +2,18 @@
 ghost use Rattle.std.specs.Prelude.{◌≡◌, ◌<◌, ◌^◌, length, IfErr, IfOk};
 ghost use Rattle.hsr_frame.specs.Counters.{AreWithin};
 ghost use Rattle.hsr_closing.specs.Finished.{IsFinished};
-ghost use Rattle.hsr_law.specs.Run.{past_of, place_of, record_of, rows_of};
+ghost use Rattle.hsr_law.specs.Run.{ends_of, from_end, past_of, place_of, record_of, rows_of, to_end};
 
 use crate::check::{fault_of, fault_of_records};
 use crate::disagree::CheckFault;
+use crate::ends;
 use crate::parts::Parts;
 use crate::planned::Planned;
 use crate::records::Records;
 use hsr_frame::Counters;
-use hsr_link::Row;
+use hsr_link::{Dir, Row};
 use hsr_node::{Entry, Kept, Pass};
-use hsr_topology::Topology;
+use hsr_topology::{End, Topology};
 use std::alloc::Global;
 use std::marker::Model;
 
@@ -140,6 +141,22 @@ impl<const C: usize> Closed<C> {
         ensures finished { IsFinished self.now }
     {
         &self.topology
+    }
+
+    /// The end of a link from which the copies of a direction come.
+    pub fn from_end(&self, link: usize, dir: Dir) -> End
+        requires { link < length self.now.run.links }
+        ensures { result ≡ from_end dir (ends_of self.now.run link) }
+    {
+        ends::from_end(self.topology.links()[link], dir)
+    }
+
+    /// The end of a link to which the copies of a direction go.
+    pub fn to_end(&self, link: usize, dir: Dir) -> End
+        requires { link < length self.now.run.links }
+        ensures { result ≡ to_end dir (ends_of self.now.run link) }
+    {
+        ends::to_end(self.topology.links()[link], dir)
     }
 
     /// The record of a node, the oldest entry first.

@@ -5,6 +5,7 @@
 //! - `records`: all that a run has left
 //! - `parts`: all that a run is checked by
 //! - `disagree`: why the parts of a run don't agree
+//! - `ends`: the ends of a link, by direction
 //! - `shape`: whether records and rows are the topology's
 //! - `links_agree`: the first link that doesn't agree with the records
 //! - `strangers`: the first row that is of no send
@@ -21,6 +22,7 @@
 mod check;
 mod closed;
 mod disagree;
+mod ends;
 mod links_agree;
 mod next;
 mod parts;
@@ -36,6 +38,7 @@ mod workers;
 
 pub use closed::Closed;
 pub use disagree::{CheckFault, Disagree};
+pub use ends::{from_end, to_end};
 pub use next::next_place;
 pub use parts::Parts;
 pub use passes::passes_of;

@@ -3,39 +3,15 @@ ghost use Rattle.std.specs.Prelude.{◌≡◌, ◌↔◌, ◌<◌, [], length, m
 ghost use Rattle.hsr_closing.specs.Checked.{AllAgree, IsFirstNoisy, IsFirstOther, IsQuiet, ToldAgrees, is_noisy};
 ghost use Rattle.hsr_law.specs.Closed.{PutAgrees, TakenAgrees};
 ghost use Rattle.hsr_closing.specs.Finished.{items_of, run_of};
-ghost use Rattle.hsr_law.specs.Run.{from_end, to_end};
 ghost use Rattle.hsr_closing.specs.Shape.{IsShaped};
 
+use crate::ends::{from_end, to_end};
 use hsr_frame::NoMemory;
 use hsr_index::{Passage, puts_fit, takens_fit};
 use hsr_link::{Dir, Fate, Row};
 use hsr_node::Kept;
-use hsr_topology::{End, Topology};
+use hsr_topology::Topology;
 use std::alloc::Global;
-
-/// The end of a link from which the copies of a direction come.
-fn from_end(links: &[[End; 2]], link: usize, dir: Dir) -> End
-    requires { link < length links.now }
-    ensures { result ≡ from_end dir (slice_index_or links.now link []) }
-{
-    let [a, b] = links[link];
-    match dir {
-        Dir::Forth => a,
-        Dir::Back => b,
-    }
-}
-
-/// The end of a link to which the copies of a direction go.
-fn to_end(links: &[[End; 2]], link: usize, dir: Dir) -> End
-    requires { link < length links.now }
-    ensures { result ≡ to_end dir (slice_index_or links.now link []) }
-{
-    let [a, b] = links[link];
-    match dir {
-        Dir::Forth => b,
-        Dir::Back => a,
-    }
-}
 
 /// The rows of a link.
 pub(crate) fn rows_at(rows: &[Vec<Row>], link: usize) -> &[Row]
@@ -58,7 +34,7 @@ fn put_agrees<const C: usize>(
     requires below { link < length topology.now.links }
     ensures { IfOk result (λ agrees. IsTrue agrees ↔ PutAgrees (run_of C topology.now kept.now rows.now) link dir) }
 {
-    let end = from_end(topology.links(), link, dir);
+    let end = from_end(topology.links()[link], dir);
     puts_fit(alloc, &kept[end.node], end.port, dir, rows_at(rows, link))
 }
 
@@ -75,7 +51,7 @@ fn taken_agrees<const C: usize>(
     requires below { link < length topology.now.links }
     ensures { IfOk result (λ agrees. IsTrue agrees ↔ TakenAgrees (run_of C topology.now kept.now rows.now) link dir) }
 {
-    let end = to_end(topology.links(), link, dir);
+    let end = to_end(topology.links()[link], dir);
     takens_fit(alloc, &kept[end.node], end.port, dir, rows_at(rows, link))
 }
 

@@ -8,11 +8,10 @@ ghost use Rattle.hsr_closing.specs.Checked.{AreLegal};
 ghost use Rattle.hsr_closing.specs.Shape.{AreLinked, HasShape, NodesFit, is_linked};
 ghost use Rattle.hsr_topology.specs.Wired.{IsWired};
 
-use hsr_frame::Mac;
 use hsr_index::Ends;
 use hsr_link::Row;
 use hsr_node::{Entry, Event, Kept, Place};
-use hsr_topology::{End, Topology};
+use hsr_topology::{End, Topology, is_same_place};
 
 /// The most entries that a duplicate table has.
 const TABLE_LIMIT: usize = 65535;
@@ -55,39 +54,6 @@ fn nodes_fit<const C: usize>(ends: &Ends<'_>, kept: &[Kept<C>]) -> bool
         }
     }
     true
-}
-
-fn are_same_macs(a: &[Mac], b: &[Mac]) -> bool
-    ensures { IsTrue result ↔ (a.now ≡ b.now) }
-{
-    a == b
-}
-
-fn is_same_place(a: &Place, b: &Place) -> bool
-    ensures { IsTrue result ↔ (a.now ≡ b.now) }
-{
-    match (a, b) {
-        (
-            Place::Danh { mac, mode },
-            Place::Danh {
-                mac: other,
-                mode: its,
-            },
-        ) => mac == other && mode == its,
-        (
-            Place::RedBox { mac, mode },
-            Place::RedBox {
-                mac: other,
-                mode: its,
-            },
-        ) => mac == other && mode == its,
-        (Place::QuadBox, Place::QuadBox) => true,
-        (Place::Station { macs }, Place::Station { macs: others }) => are_same_macs(
-            macs.as_slice(),
-            others.as_slice(),
-        ),
-        _ => false,
-    }
 }
 
 /// Whether the records are of nodes at these places.

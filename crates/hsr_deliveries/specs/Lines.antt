@@ -3,10 +3,10 @@
 use Rattle.std.specs.Prelude.{ℕ, List, [], ◌∷◌, ◌++◌, length, count_by, codes, if◌then◌else◌}
 use Rattle.std.specs.Fmt.{decimal}
 use Rattle.std.specs.List.{flat_map}
-use Rattle.hsr_frame.specs.Address.{address_text}
 use Rattle.hsr_link.specs.Words.{dir_word, fate_word}
 use Rattle.hsr_deliveries.specs.declared.loss.Loss.{Loss}
 use Rattle.hsr_deliveries.specs.Delivered.{Delivery, is_complete}
+use Rattle.hsr_text.specs.Words.{mac_text}
 
 -- a comma, and a text
 abbrev pub behind : {X : Type 0} → (X → List ℕ) → X → List ℕ
@@ -24,10 +24,6 @@ pair_text first n second m = first ++ decimal n ++ second ++ decimal m
 -- a loss: link, direction and fate
 unfoldable pub loss_text : Loss → List ℕ
 loss_text loss = decimal loss.link ++ codes ":" ++ dir_word loss.dir ++ codes ":" ++ fate_word loss.fate
-
--- the text of an address
-unfoldable pub mac_text : List ℕ → List ℕ
-mac_text mac = address_text mac
 
 -- a send: its node and place, its moment in microseconds as it was given, and its destination
 unfoldable pub send_text : Delivery → List ℕ

@@ -2,22 +2,13 @@
 ghost use Rattle.std.specs.Prelude.{◌≡◌, ◌++◌, codes, OnOk};
 ghost use Rattle.std.specs.Fmt.{decimal};
 ghost use Rattle.std.specs.List.{flat_map};
-ghost use Rattle.hsr_deliveries.specs.Lines.{behind, delivery_line, delivery_lines, line_if, loss_text, mac_text, nodes_text, pair_text, parted, send_text, summary_line};
+ghost use Rattle.hsr_deliveries.specs.Lines.{behind, delivery_line, delivery_lines, line_if, loss_text, nodes_text, pair_text, parted, send_text, summary_line};
 
 use crate::delivery::{Deliveries, Delivery};
 use crate::loss::Loss;
-use hsr_frame::Mac;
 use hsr_node::Probe;
-use hsr_text::put_decimal;
+use hsr_text::{put_count, put_decimal, put_mac};
 use std::alloc::{AllocError, Global};
-
-/// Puts a name and a number.
-fn put_count(text: &mut Vec<u8>, name: &[u8], n: u64) -> Result<(), AllocError>
-    ensures { OnOk result (text.new.items ≡ text.old.items ++ (name.now ++ decimal n)) }
-{
-    text.extend_from_slice(name)?;
-    put_decimal(text, n)
-}
 
 /// Puts two numbers, each behind a name.
 #[tactic(auto, unfolding(crate::specs::Lines::pair_text))]
@@ -108,15 +99,6 @@ fn put_losses(text: &mut Vec<u8>, losses: &[Loss]) -> Result<(), AllocError>
             put_other_losses(text, others)
         }
     }
-}
-
-/// Puts an address.
-#[tactic(auto, unfolding(crate::specs::Lines::mac_text))]
-fn put_mac(alloc: Global, text: &mut Vec<u8>, mac: Mac) -> Result<(), AllocError>
-    ensures { OnOk result (text.new.items ≡ text.old.items ++ mac_text mac) }
-{
-    let address = format!(in alloc; "{mac}")?;
-    text.extend_from_slice(address.as_bytes())
 }
 
 /// Puts which send it is.

@@ -2,7 +2,6 @@
 use Rattle.std.specs.Prelude.{ℕ, Bool, false, List, [], ◌++◌, codes, position, Option, Some, None}
 use Rattle.std.specs.Fmt.{decimal}
 use Rattle.std.specs.List.{flat_map}
-use Rattle.hsr_frame.specs.Address.{address_text}
 use Rattle.hsr_frame.specs.Words.{mode_word}
 use Rattle.hsr_supervision.specs.declared.payload.SupKind.{SupKind}
 use Rattle.hsr_supervision.specs.declared.payload.SupKind.TheVariants.{PrpDiscard, PrpAccept, Hsr}
@@ -11,11 +10,9 @@ use Rattle.hsr_names.specs.Names.{name_of}
 use Rattle.hsr_node.specs.declared.place.Place.{Place}
 use Rattle.hsr_node.specs.declared.place.Place.TheVariants.{Danh, RedBox, QuadBox, Station}
 use Rattle.hsr_node.specs.Place.{owns}
+use Rattle.hsr_text.specs.Words.{mac_text}
 
 -- ---- addresses
-
-unfoldable pub mac_text : List ℕ → List ℕ
-mac_text mac = address_text mac
 
 abbrev pub next_mac : List ℕ → List ℕ
 next_mac mac = codes "  " ++ mac_text mac

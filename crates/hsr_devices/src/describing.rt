@@ -3,7 +3,8 @@ ghost use Rattle.std.specs.Prelude.{◌≡◌, ◌++◌, OnOk, codes};
 ghost use Rattle.std.specs.Fmt.{decimal};
 ghost use Rattle.std.specs.List.{flat_map};
 ghost use Rattle.hsr_order.specs.Fronts.{lists_of};
-ghost use Rattle.hsr_devices.specs.Describing.{addresses_text, heard_if, kind_text, known_text, mac_text, macs_text, node_row_text, owner_if, owner_in, redbox_if, station_text, who_text};
+ghost use Rattle.hsr_devices.specs.Describing.{addresses_text, heard_if, kind_text, known_text, macs_text, node_row_text, owner_if, owner_in, redbox_if, station_text, who_text};
+ghost use Rattle.hsr_text.specs.Words.{mac_text};
 
 use crate::known::Known;
 use hsr_frame::{Mac, NoMemory};
@@ -11,7 +12,7 @@ use hsr_names::put_name;
 use hsr_node::Place;
 use hsr_supervision::SupKind;
 use hsr_tables::NodeRow;
-use hsr_text::put_decimal;
+use hsr_text::{put_decimal, put_mac};
 use std::alloc::Global;
 
 /// Puts words last.
@@ -27,16 +28,6 @@ pub(crate) fn put_number(text: &mut Vec<u8>, n: u64) -> Result<(), NoMemory>
     ensures { OnOk result (text.new.items ≡ text.old.items ++ decimal n) }
 {
     put_decimal(text, n)?;
-    Ok(())
-}
-
-/// Puts an address last.
-#[tactic(auto, unfolding(crate::specs::Describing::mac_text))]
-fn put_mac(alloc: Global, text: &mut Vec<u8>, mac: Mac) -> Result<(), NoMemory>
-    ensures { OnOk result (text.new.items ≡ text.old.items ++ mac_text mac) }
-{
-    let address = format!(in alloc; "{mac}")?;
-    text.extend_from_slice(address.as_bytes())?;
     Ok(())
 }
 

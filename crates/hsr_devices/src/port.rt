@@ -1,6 +1,5 @@
 //! Where a port leads, and what was lost there.
 ghost use Rattle.std.specs.Prelude.{◌≡◌, ◌<◌, count_by, length, option_map};
-ghost use Rattle.hsr_law.specs.Run.{ends_of, to_end};
 ghost use Rattle.hsr_topology.specs.Links.{link_from};
 ghost use Rattle.hsr_devices.specs.Port.{in_dir, is_loss, out_dir, port_link, port_link_at};
 
@@ -48,18 +47,6 @@ fn lost(rows: &[Row], dir: Dir) -> usize
     rows.iter().filter(|row| is_loss(dir, row)).count()
 }
 
-/// The end of a link to which the copies of a direction go.
-fn to_end<const C: usize>(closed: &Closed<C>, link: usize, dir: Dir) -> End
-    requires { link < length closed.now.run.links }
-    ensures { result ≡ to_end dir (ends_of closed.now.run link) }
-{
-    let [a, b] = closed.topology().links()[link];
-    match dir {
-        Dir::Forth => b,
-        Dir::Back => a,
-    }
-}
-
 /// The link of a port that is its first end, or its second.
 fn port_link_at<const C: usize>(closed: &Closed<C>, link: usize, is_first: bool) -> PortLink
     requires { link < length closed.now.run.links }
@@ -68,7 +55,7 @@ fn port_link_at<const C: usize>(closed: &Closed<C>, link: usize, is_first: bool)
     let rows = closed.rows(link);
     PortLink {
         link,
-        peer: to_end(closed, link, out_dir(is_first)),
+        peer: closed.to_end(link, out_dir(is_first)),
         lost_in: lost(rows, in_dir(is_first)),
         lost_out: lost(rows, out_dir(is_first)),
     }

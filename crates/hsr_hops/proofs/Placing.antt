@@ -5,42 +5,16 @@ use Rattle.std.specs.Global.{Global}
 use Rattle.std.specs.List.{range_with_len}
 use Rattle.std.specs.Option.{option_eq}
 use Rattle.std.specs.Str.{bytes_eq}
-use Rattle.std.proofs.lemmas.Bool.{false≢true}
 use Rattle.std.proofs.lemmas.List.{append-nil}
 use Rattle.std.proofs.lemmas.List.Elements.{filter-append}
 use Rattle.std.proofs.lemmas.List.Sums.{count_by_more_no, count_by_more_yes}
 use Rattle.indexmap.specs.IndexMap.{IndexMap, Updates, get_by}
 use Rattle.hsr_node.specs.declared.event.Carried.{Carried}
-use Rattle.hsr_node.specs.declared.event.Probe.{Probe}
-use Rattle.hsr_law.proofs.Same.{address_same, same_address}
-use Rattle.hsr_index.specs.Often.{count_of, is_key_of, is_same_carried, is_same_probe, place_of}
-use Rattle.hsr_index.proofs.Counting.{is_same_key}
+use Rattle.hsr_index.specs.Often.{count_of, is_key_of, is_same_carried, place_of}
+use Rattle.hsr_index.proofs.Counting.{is_same_key, keys_same}
 use Rattle.hsr_index.proofs.Often.{carried_tells}
 use Rattle.hsr_hops.specs.Indexed.{found_at, items_if, places_in}
 use Rattle.hsr_hops.specs.Partners.{is_at, partner_of, places, places_below}
-
--- ---- keys
-
-bytes_turned : (a b : List ℕ) → bytes_eq a b ≡ bytes_eq b a
-bytes_turned a b = by_first (bytes_eq a b) (bytes_eq b a) refl refl
-  where
-    by_first : (x y : Bool) → bytes_eq a b ≡ x → bytes_eq b a ≡ y → x ≡ y
-    by_first true true one other = refl
-    by_first false false one other = refl
-    by_first true false one other = absurd (false≢true (sym other ∙ address_same b a (sym (same_address a b one))))
-    by_first false true one other = absurd (false≢true (sym one ∙ address_same a b (sym (same_address b a other))))
-
-places_same : (p q : Option Probe) → option_eq (λ a b. nat_eq a.0 b.0 && nat_eq a.1 b.1) (place_of p) (place_of q) ≡ is_same_probe q p
-places_same None None = refl
-places_same None (Some q) = refl
-places_same (Some p) None = refl
-places_same (Some p) (Some q) = refl
-
-keys_same : (copy other : Carried) (octets : List ℕ) → octets ≡ copy.octets →
-    (option_eq (λ a b. nat_eq a.0 b.0 && nat_eq a.1 b.1) (place_of copy.probe) (place_of other.probe) && bytes_eq octets other.octets) ≡ is_same_carried other copy
-keys_same copy other octets is =
-    ap (λ b. b && bytes_eq octets other.octets) (places_same copy.probe other.probe)
-    ∙ ap (λ b. is_same_probe other.probe copy.probe && b) (ap (λ xs. bytes_eq xs other.octets) is ∙ bytes_turned copy.octets other.octets)
 
 -- ---- one more place
 

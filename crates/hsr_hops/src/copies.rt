@@ -1,46 +1,14 @@
 //! What the entries of a record passed, and what they let in.
 ghost use Rattle.std.specs.Prelude.{◌≡◌, ◌∷◌, [], ◌++◌, map, option_map, IfOk, OnOk};
-ghost use Rattle.hsr_node.specs.Record.{probe_handled};
-ghost use Rattle.hsr_index.specs.InOrder.{came_by, passed_by};
+ghost use Rattle.hsr_index.specs.InOrder.{came_by};
 ghost use Rattle.hsr_hops.specs.Hops.{came_at, passed_at, passed_from};
 
 use hsr_closing::Closed;
 use hsr_frame::NoMemory;
-use hsr_node::{Carried, Entry, Event, Octets, Place, Probe, spelled_out};
+use hsr_index::passed_by;
+use hsr_node::{Carried, Entry, Event, Place};
 use hsr_topology::End;
 use std::alloc::Global;
-
-/// The send that the copy of an entry is of.
-fn probe_of(number: usize, place: usize, event: &Event) -> Option<Probe>
-    ensures { result ≡ probe_handled (record { node = number; place = place }) event.now }
-{
-    match event {
-        Event::Arrive { port: _, carried } => carried.probe,
-        _ => Some(Probe {
-            node: number,
-            place,
-        }),
-    }
-}
-
-/// The copy that an entry let leave by a port.
-fn passed_by(
-    alloc: Global,
-    number: usize,
-    place: &Place,
-    port: u8,
-    at: usize,
-    entry: &Entry,
-) -> Result<Option<Carried>, NoMemory>
-    ensures { IfOk result (λ copy. copy ≡ passed_by (record { number = number; place = place.now }) port at entry.now) }
-{
-    let Some(octets) = spelled_out(place, &entry.event, &entry.outcome, port) else {
-        return Ok(None);
-    };
-    let octets = Octets::from_spelled(alloc, &octets)?;
-    let probe = probe_of(number, at, &entry.event);
-    Ok(Some(Carried { probe, octets }))
-}
 
 /// The copy that came to a port with an entry.
 fn came_by(port: u8, entry: &Entry) -> Result<Option<Carried>, NoMemory>

@@ -1,7 +1,7 @@
 //! The hops of a run.
 ghost use Rattle.std.specs.Prelude.{◌≡◌, ◌<◌, ◌∷◌, [], ◌++◌, length, IfOk, OnOk};
 ghost use Rattle.hsr_link.specs.declared.row.Dir.TheVariants.{Forth, Back};
-ghost use Rattle.hsr_law.specs.Run.{ends_of, from_end, rows_of, to_end};
+ghost use Rattle.hsr_law.specs.Run.{rows_of};
 ghost use Rattle.hsr_hops.specs.Hops.{hop_of, hops, hops_from, spot_at};
 ghost use Rattle.hsr_hops.specs.Sides.{IsSide};
 
@@ -13,7 +13,6 @@ use hsr_frame::NoMemory;
 use hsr_index::Passage;
 use hsr_link::{Dir, Row};
 use hsr_order::Spot;
-use hsr_topology::End;
 use std::alloc::Global;
 
 /// One direction of a link: the nodes at its ends; and for each row of the link, if it is of this direction, which entry passed its
@@ -26,30 +25,6 @@ pub(crate) struct Side {
     judged: Vec<Option<usize>>,
 }
 
-/// The end of a link from which the copies of a direction come.
-fn from_end<const C: usize>(closed: &Closed<C>, link: usize, dir: Dir) -> End
-    requires { link < length closed.now.run.links }
-    ensures { result ≡ from_end dir (ends_of closed.now.run link) }
-{
-    let [a, b] = closed.topology().links()[link];
-    match dir {
-        Dir::Forth => a,
-        Dir::Back => b,
-    }
-}
-
-/// The end of a link to which the copies of a direction go.
-fn to_end<const C: usize>(closed: &Closed<C>, link: usize, dir: Dir) -> End
-    requires { link < length closed.now.run.links }
-    ensures { result ≡ to_end dir (ends_of closed.now.run link) }
-{
-    let [a, b] = closed.topology().links()[link];
-    match dir {
-        Dir::Forth => b,
-        Dir::Back => a,
-    }
-}
-
 /// A direction of a link.
 fn direction<const C: usize>(
     alloc: Global,
@@ -60,8 +35,8 @@ fn direction<const C: usize>(
     requires { link < length closed.now.run.links }
     ensures { IfOk result (λ side. IsSide closed.now.run link dir side) }
 {
-    let from = from_end(closed, link, dir);
-    let to = to_end(closed, link, dir);
+    let from = closed.from_end(link, dir);
+    let to = closed.to_end(link, dir);
     let rows = closed.rows(link);
     let sent = passed_at(alloc, closed, from)?;
     let passed = partners(alloc, sent.as_slice(), Passage::Put, dir, rows)?;

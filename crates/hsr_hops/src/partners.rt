@@ -2,37 +2,19 @@
 ghost use Rattle.std.specs.Prelude.{◌≡◌, ◌+◌, ◌<◌, ◌^◌, ◌∷◌, [], ◌++◌, count_by, if◌then◌else◌, length, map, option_map, IfOk, OnOk};
 ghost use Rattle.hsr_node.specs.declared.event.Carried as spec;
 ghost use Rattle.hsr_index.specs.InOrder.{told_copy};
-ghost use Rattle.hsr_index.specs.Often.{count_of, is_same_carried, place_of};
+ghost use Rattle.hsr_index.specs.Often.{count_of, is_same_carried};
 ghost use Rattle.hsr_hops.specs.Partners.{is_at, partners, places};
 ghost use Rattle.hsr_hops.specs.Indexed.{found_at, places_in};
 
 use hsr_frame::NoMemory;
-use hsr_index::Passage;
+use hsr_index::{Counts, Key, Passage, count_of, count_one, key_of};
 use hsr_link::{Dir, Fate, Row};
 use hsr_node::Carried;
 use indexmap::IndexMap;
 use std::alloc::Global;
 
-/// A copy by the node and place of its send, and its octets.
-type Key<'a> = (Option<(usize, usize)>, &'a [u8]);
-
 /// Where each copy stands, rising.
 type PlacesByCopy<'a> = IndexMap<Key<'a>, Vec<usize>>;
-
-/// How often each copy came so far.
-type Counts<'a> = IndexMap<Key<'a>, usize>;
-
-/// The node and place of a copy's send, and its octets.
-fn key_of<'a>(copy: &'a Carried) -> Key<'a>
-    ensures place { result.0 ≡ place_of copy.now.probe }
-    ensures octets { result.1.now ≡ copy.now.octets }
-{
-    let place = match copy.probe {
-        Some(send) => Some((send.node, send.place)),
-        None => None,
-    };
-    (place, copy.octets.as_slice())
-}
 
 /// Keeps one more place of a copy.
 fn keep<'a>(
@@ -76,24 +58,6 @@ fn places_by_copy<'a>(
         keep_if(alloc, &mut kept, copy, i)?;
     }
     Ok(kept)
-}
-
-fn count_of(counts: &Counts<'_>, copy: &Carried) -> usize
-    ensures { result ≡ count_of counts.now copy.now }
-{
-    counts.get(&key_of(copy)).copied().unwrap_or(0)
-}
-
-/// Counts one more copy.
-fn count_one<'a>(counts: &mut Counts<'a>, copy: &'a Carried) -> Result<(), NoMemory>
-    requires { count_of counts.old copy.now + 1 < 2 ^ 64 }
-    ensures { OnOk result ((other : spec.Carried) → count_of counts.new other ≡ count_of counts.old other + (if is_same_carried other copy.now then 1 else 0)) }
-{
-    let count = count_of(counts, copy);
-    match counts.insert(key_of(copy), count + 1) {
-        Ok(_) => Ok(()),
-        Err(_) => Err(NoMemory),
-    }
 }
 
 /// Where a copy stands.

@@ -32,7 +32,7 @@ places_same None (Some q) = refl
 places_same (Some p) None = refl
 places_same (Some p) (Some q) = refl
 
-keys_same : (copy other : Carried) (octets : List ℕ) → octets ≡ copy.octets →
+pub keys_same : (copy other : Carried) (octets : List ℕ) → octets ≡ copy.octets →
     (option_eq (λ a b. nat_eq a.0 b.0 && nat_eq a.1 b.1) (place_of copy.probe) (place_of other.probe) && bytes_eq octets other.octets) ≡ is_same_carried other copy
 keys_same copy other octets is =
     ap (λ b. b && bytes_eq octets other.octets) (places_same copy.probe other.probe)

@@ -1,7 +1,6 @@
 //! Whether links agree with the records of the nodes at their ends.
 ghost use Rattle.std.specs.Prelude.{◌≡◌, ◌↔◌, ◌++◌, [], ◌∷◌, IfOk, IfSome, IsTrue, MatchOption, OnOk};
 ghost use Rattle.std.specs.List.{cons_option};
-ghost use Rattle.hsr_node.specs.Record.{probe_handled};
 ghost use Rattle.hsr_index.specs.InOrder.{PutsFit, TakensFit, came, came_by, passed, passed_by, told, told_copy};
 
 use crate::counts::is_as_often;
@@ -46,19 +45,6 @@ fn next_told<'a>(which: Passage, dir: Dir, rows: &'a [Row]) -> Option<(&'a Carri
     None
 }
 
-/// The send that the copy of an entry is of.
-fn probe_of(number: usize, place: usize, event: &Event) -> Option<Probe>
-    ensures { result ≡ probe_handled (record { node = number; place = place }) event.now }
-{
-    match event {
-        Event::Arrive { port: _, carried } => carried.probe,
-        _ => Some(Probe {
-            node: number,
-            place,
-        }),
-    }
-}
-
 /// Whether a copy is of this send and has these octets.
 fn is_copy(copy: &Carried, probe: Option<Probe>, octets: &Spelled<'_>) -> bool
     ensures { IsTrue result ↔ (copy.now ≡ record { probe = probe; octets = octets.now }) }
@@ -82,7 +68,10 @@ fn after_pass<'a>(
         return Some(rows);
     };
     let (copy, left) = next_told(Passage::Put, dir, rows)?;
-    if is_copy(copy, probe_of(number, at, &entry.event), &octets) {
+    if is_copy(copy, entry.event.probe(Probe {
+        node: number,
+        place: at,
+    }), &octets) {
         Some(left)
     } else {
         None
@@ -185,8 +174,9 @@ fn copies_told(
     Ok(copies)
 }
 
-/// The copy that an entry let leave by a port.
-fn passed_by(
+/// The copy that an entry of a node's record, `number`, let leave by a port; `at` is the entry's place. `NoMemory` where room
+/// for its octets is refused.
+pub fn passed_by(
     alloc: Global,
     number: usize,
     place: &Place,
@@ -200,7 +190,10 @@ fn passed_by(
         return Ok(None);
     };
     let octets = Octets::from_spelled(alloc, &octets)?;
-    let probe = probe_of(number, at, &entry.event);
+    let probe = entry.event.probe(Probe {
+        node: number,
+        place: at,
+    });
     Ok(Some(Carried { probe, octets }))
 }
 

@@ -8,11 +8,14 @@ use hsr_node::Carried;
 use indexmap::IndexMap;
 use std::alloc::Global;
 
-/// How often each copy stands in a list, by the node and place of its send, and its octets.
-type Counts<'a> = IndexMap<(Option<(usize, usize)>, &'a [u8]), usize>;
+/// A copy by the node and place of its send, and its octets.
+pub type Key<'a> = (Option<(usize, usize)>, &'a [u8]);
+
+/// How often each copy stands in a list.
+pub type Counts<'a> = IndexMap<Key<'a>, usize>;
 
 /// The node and place of a copy's send, and its octets.
-fn key_of<'a>(copy: &'a Carried) -> (Option<(usize, usize)>, &'a [u8])
+pub fn key_of<'a>(copy: &'a Carried) -> Key<'a>
     ensures place { result.0 ≡ place_of copy.now.probe }
     ensures octets { result.1.now ≡ copy.now.octets }
 {
@@ -23,14 +26,15 @@ fn key_of<'a>(copy: &'a Carried) -> (Option<(usize, usize)>, &'a [u8])
     (place, copy.octets.as_slice())
 }
 
-fn count_of(counts: &Counts<'_>, copy: &Carried) -> usize
+/// How often a copy was counted.
+pub fn count_of(counts: &Counts<'_>, copy: &Carried) -> usize
     ensures { result ≡ count_of counts.now copy.now }
 {
     counts.get(&key_of(copy)).copied().unwrap_or(0)
 }
 
-/// Counts one more copy.
-fn count_one<'a>(counts: &mut Counts<'a>, copy: &'a Carried) -> Result<(), NoMemory>
+/// Counts one more copy. `NoMemory` where room is refused.
+pub fn count_one<'a>(counts: &mut Counts<'a>, copy: &'a Carried) -> Result<(), NoMemory>
     requires { count_of counts.old copy.now + 1 < 2 ^ 64 }
     ensures { OnOk result ((other : spec.Carried) → count_of counts.new other ≡ count_of counts.old other + (if is_same_carried other copy.now then 1 else 0)) }
 {

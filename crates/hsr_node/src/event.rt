@@ -40,6 +40,21 @@ pub enum Event {
     Age,
 }
 
+impl Event {
+    ghost use Rattle.hsr_node.specs.Record.{probe_handled};
+
+    /// The send that the copies of an entry with this event are of: that of the copy that came, else the entry's own, which
+    /// stands `here`.
+    pub fn probe(&self, here: Probe) -> Option<Probe>
+        ensures { result ≡ probe_handled here self.now }
+    {
+        match self {
+            Event::Arrive { port: _, carried } => carried.probe,
+            _ => Some(here),
+        }
+    }
+}
+
 /// What a node answers; `ports` are those by which a frame leaves, in the order of their numbers.
 #[derive(Clone, Copy, Debug, PartialEq, Eq)]
 pub enum Outcome {

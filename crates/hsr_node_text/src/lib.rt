@@ -8,5 +8,6 @@ mod reply;
 mod request;
 
 pub use answer::answer_request;
-pub use reply::{put_count, put_counters};
+pub use hsr_text::put_count;
+pub use reply::put_counters;
 pub use request::{Request, read_request};

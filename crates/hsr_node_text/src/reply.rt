@@ -11,16 +11,8 @@ use hsr_danh::Verdict;
 use hsr_frame::{About, Cause, Counters, FrameFault, Life, Mac, RingPort, SendFault};
 use hsr_node::{life_frame, plain_octets, ring_octets};
 use hsr_tag::{FrameView, Spelled};
-use hsr_text::{put_decimal, put_hex};
+use hsr_text::{put_count, put_hex};
 use std::alloc::AllocError;
-
-/// Puts a name and a number.
-pub fn put_count(text: &mut Vec<u8>, name: &[u8], n: u64) -> Result<(), AllocError>
-    ensures { OnOk result (text.new.items ≡ text.old.items ++ (name.now ++ decimal n)) }
-{
-    text.extend_from_slice(name)?;
-    put_decimal(text, n)
-}
 
 /// Puts the octets of a frame, as hexadecimal digits.
 fn put_spelled(text: &mut Vec<u8>, spelled: &Spelled<'_>) -> Result<(), AllocError>

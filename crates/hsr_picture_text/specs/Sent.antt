@@ -1,7 +1,7 @@
 -- Sends as they are listed.
 --     sent_words   who sent it, to whom, and whether it is complete
 use Rattle.std.specs.Prelude.{ℕ, Bool, true, false, if◌then◌else◌, List, [], ◌++◌, codes, slice_get, Option, Some, None}
-use Rattle.hsr_frame.specs.Address.{address_text, is_group}
+use Rattle.hsr_frame.specs.Address.{is_group}
 use Rattle.hsr_node.specs.declared.entry.Entry.{Entry}
 use Rattle.hsr_node.specs.declared.event.Event.{Event}
 use Rattle.hsr_node.specs.declared.event.Event.TheVariants.{Supervise}
@@ -9,6 +9,7 @@ use Rattle.hsr_node.specs.declared.event.Probe.{Probe}
 use Rattle.hsr_law.specs.Run.{Run, record_of}
 use Rattle.hsr_deliveries.specs.Delivered.{Delivery, is_complete, is_none}
 use Rattle.hsr_picture_text.specs.Sends.{nodes_text, send_text}
+use Rattle.hsr_text.specs.Words.{mac_text}
 
 abbrev pub event_is_supervision : Event → Bool
 event_is_supervision (Supervise about) = true
@@ -21,9 +22,6 @@ entry_is_supervision (Some x) = event_is_supervision x.event
 -- a send is a supervision frame
 abbrev pub is_supervision : Run → Probe → Bool
 is_supervision run send = entry_is_supervision (slice_get (record_of run send.node) send.place)
-
-unfoldable pub mac_text : List ℕ → List ℕ
-mac_text mac = address_text mac
 
 -- to the nodes that a frame is due at, where it goes to no group and is due at one; else to an address
 abbrev pub address_words : List (List ℕ) → List ℕ → List ℕ → List ℕ

@@ -2,13 +2,14 @@
 ghost use Rattle.std.specs.Prelude.{◌≡◌, ◌++◌, option_map, IfOk, OnOk};
 ghost use Rattle.hsr_law.specs.Run.{record_of};
 ghost use Rattle.hsr_order.specs.Fronts.{lists_of};
-ghost use Rattle.hsr_picture_text.specs.Sent.{address_words, complete_if, entry_is_supervision, is_supervision, mac_text, sent_words, target_text};
+ghost use Rattle.hsr_picture_text.specs.Sent.{address_words, complete_if, entry_is_supervision, is_supervision, sent_words, target_text};
 
 use crate::sends::{put, put_nodes, put_send};
 use hsr_closing::Closed;
 use hsr_deliveries::Delivery;
 use hsr_frame::{Mac, NoMemory};
 use hsr_node::{Entry, Event, Probe};
+use hsr_text::put_mac;
 use std::alloc::Global;
 
 /// Whether an entry is a supervision frame's.
@@ -37,16 +38,6 @@ fn is_supervision<const C: usize>(closed: &Closed<C>, send: Probe) -> bool
     ensures { result ≡ is_supervision closed.now.run send }
 {
     entry_is_supervision(entries_at(closed, send.node).get(send.place))
-}
-
-/// Puts an address last.
-#[tactic(auto, unfolding(crate::specs::Sent::mac_text))]
-fn put_mac(alloc: Global, text: &mut Vec<u8>, mac: Mac) -> Result<(), NoMemory>
-    ensures { OnOk result (text.new.items ≡ text.old.items ++ mac_text mac) }
-{
-    let address = format!(in alloc; "{mac}")?;
-    text.extend_from_slice(address.as_bytes())?;
-    Ok(())
 }
 
 /// Puts to whom a send goes last: to a node that it is due at, or to an address.

@@ -4,99 +4,10 @@ ghost use Rattle.hsr_scenario.specs.Meaning.{scenario_view};
 ghost use Rattle.hsr_scenario.specs.Names.{names_view};
 ghost use Rattle.hsr_plan_scenario.specs.Says.{names_meant_by, scenario_meant};
 
-use hsr_frame::Mac;
-use hsr_node::Place;
 use hsr_plan_meaning::Meaning;
 use hsr_plan_network::Node;
 use hsr_scenario::{Names, Order, Scenario};
-use hsr_topology::{End, Topology};
-
-fn are_same_macs(a: &[Mac], b: &[Mac]) -> bool
-    ensures { IsTrue result ↔ (a.now ≡ b.now) }
-{
-    a == b
-}
-
-fn is_same_place(a: &Place, b: &Place) -> bool
-    ensures { IsTrue result ↔ (a.now ≡ b.now) }
-{
-    match (a, b) {
-        (
-            Place::Danh { mac, mode },
-            Place::Danh {
-                mac: other,
-                mode: its,
-            },
-        ) => mac == other && mode == its,
-        (
-            Place::RedBox { mac, mode },
-            Place::RedBox {
-                mac: other,
-                mode: its,
-            },
-        ) => mac == other && mode == its,
-        (Place::QuadBox, Place::QuadBox) => true,
-        (Place::Station { macs }, Place::Station { macs: others }) => are_same_macs(
-            macs.as_slice(),
-            others.as_slice(),
-        ),
-        _ => false,
-    }
-}
-
-/// Whether kinds of node are the same, one by one.
-fn are_same_places(a: &[Place], b: &[Place]) -> bool
-    ensures { IsTrue result ↔ (a.now ≡ b.now) }
-{
-    let mut left = b;
-    for place in a.iter() {
-        let Some((other, more)) = left.split_first() else {
-            return false;
-        };
-        if !is_same_place(place, other) {
-            return false;
-        }
-        left = more;
-    }
-    left.is_empty()
-}
-
-fn is_same_end(a: End, b: End) -> bool
-    ensures { IsTrue result ↔ (a ≡ b) }
-{
-    a.node == b.node && a.port == b.port
-}
-
-fn is_same_link(a: &[End; 2], b: &[End; 2]) -> bool
-    ensures { IsTrue result ↔ (a.now ≡ b.now) }
-{
-    let [one, other] = *a;
-    let [first, second] = *b;
-    is_same_end(one, first) && is_same_end(other, second)
-}
-
-/// Whether links are the same, one by one.
-fn are_same_links(a: &[[End; 2]], b: &[[End; 2]]) -> bool
-    ensures { IsTrue result ↔ (a.now ≡ b.now) }
-{
-    let mut left = b;
-    for link in a.iter() {
-        let Some((other, more)) = left.split_first() else {
-            return false;
-        };
-        if !is_same_link(link, other) {
-            return false;
-        }
-        left = more;
-    }
-    left.is_empty()
-}
-
-fn is_same_topology(a: &Topology, b: &Topology) -> bool
-    ensures { IsTrue result ↔ (a.now ≡ b.now) }
-{
-    are_same_places(a.places(), b.places()) && are_same_links(a.links(), b.links())
-}
+use hsr_topology::is_same_topology;
 
 fn is_same_order(a: &Order, b: &Order) -> bool
     ensures { IsTrue result ↔ (a.now ≡ b.now) }

@@ -6,7 +6,7 @@ use crate::flight::Flight;
 use crate::wire::Wire;
 use hsr_frame::NoMemory;
 use hsr_link::{Dir, Fate};
-use hsr_node::{Carried, Event, Octets, Place, Probe, Receipt, spelled_out};
+use hsr_node::{Carried, Octets, Place, Probe, Receipt, spelled_out};
 use std::alloc::Global;
 use std::sync::Wait;
 
@@ -60,17 +60,6 @@ pub(crate) fn inject<const C: usize>(
     landed(&cells.flight, link.inject(rt, dir, carried))
 }
 
-/// The send of which the frame is that an entry handled.
-fn probe_of(receipt: &Receipt) -> Option<Probe> {
-    match &receipt.entry.event {
-        Event::Arrive { port: _, carried } => carried.probe,
-        _ => Some(Probe {
-            node: receipt.node,
-            place: receipt.place,
-        }),
-    }
-}
-
 /// Puts on its link what leaves a node by a port.
 fn put_out<const C: usize>(
     rt: &impl Wait,
@@ -86,7 +75,10 @@ fn put_out<const C: usize>(
         return Ok(());
     };
     let carried = Carried {
-        probe: probe_of(receipt),
+        probe: receipt.entry.event.probe(Probe {
+            node: receipt.node,
+            place: receipt.place,
+        }),
         octets: Octets::from_spelled(alloc, &spelled)?,
     };
     put(rt, cells, wire, carried)

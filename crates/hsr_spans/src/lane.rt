@@ -1,11 +1,10 @@
 //! One direction of a link, with what its ports keep.
 ghost use Rattle.std.specs.Prelude.{◌≡◌, ◌≤◌, length, vec_capacity, OnOk};
-ghost use Rattle.hsr_node.specs.Record.{probe_handled};
 ghost use Rattle.hsr_spans.specs.Giving.{IsReady, given_lane, receipt_of};
 ghost use Rattle.hsr_spans.specs.Views.{lane_view};
 
 use hsr_frame::{MAX_FRAME, NoMemory};
-use hsr_node::{Carried, Entry, Event, Octets, Place, Probe, spelled_out};
+use hsr_node::{Carried, Entry, Octets, Place, Probe, spelled_out};
 use hsr_tag::Spelled;
 use hsr_topology::End;
 use std::alloc::Global;
@@ -35,16 +34,6 @@ pub(crate) fn prepare_lane(lane: &mut Lane, node: usize) -> Result<(), NoMemory>
     Ok(())
 }
 
-/// The send that the frame of an event is of, where `here` names the event's own entry.
-fn probe_of(here: Probe, event: &Event) -> Option<Probe>
-    ensures { result ≡ probe_handled here event.now }
-{
-    match event {
-        Event::Arrive { port: _, carried } => carried.probe,
-        _ => Some(here),
-    }
-}
-
 /// These octets, in room of their own size; where that is refused, in the room that was made. So the latter is seldom used up,
 /// and the short copies don't lie apart in long rooms.
 fn fitted(alloc: Global, room: &mut Vec<u8>, copy: &Spelled<'_>) -> Octets
@@ -67,7 +56,7 @@ fn add_copy(alloc: Global, lane: &mut Lane, place: &Place, here: Probe, entry: &
         return;
     };
     let carried = Carried {
-        probe: probe_of(here, &entry.event),
+        probe: entry.event.probe(here),
         octets: fitted(alloc, &mut lane.room, &copy),
     };
     let Ok(()) = lane.outbox.push_back(carried) else {

@@ -4,6 +4,7 @@ use Rattle.std.specs.Int.{from_be_bytes, w16}
 use Rattle.std.specs.Result.{result_ok}
 use Rattle.std.specs.Str.{all_ascii_digits}
 use Rattle.hex.specs.Hex.{decode_of, decode_sized}
+use Rattle.hsr_frame.specs.Address.{address_text}
 use Rattle.hsr_text.specs.declared.words.WordFault.{WordFault}
 use Rattle.hsr_text.specs.declared.words.WordFault.TheVariants.{Bad, Memory}
 
@@ -53,3 +54,9 @@ hex_pair_of word = do
 abbrev pub hex_octets_of : List ℕ → Option (List ℕ)
 hex_octets_of [] = None
 hex_octets_of (b ∷ bs) = if b == 45 && length bs == 0 then Some [] else result_ok (decode_of (b ∷ bs))
+
+-- ---- addresses
+
+-- the text of an address
+unfoldable pub mac_text : List ℕ → List ℕ
+mac_text mac = address_text mac

@@ -4,9 +4,10 @@ ghost use Rattle.std.specs.Char.{is_ascii_hexdigit};
 ghost use Rattle.std.specs.Fmt.{decimal as decimal_text};
 ghost use Rattle.std.specs.Result.{result_ok};
 ghost use Rattle.hex.specs.Hex.{decode_of, decode_pairs, encode_upper, hex_digit_value, pair_value, upper_digits};
-ghost use Rattle.hsr_text.specs.Words.{Gives, cut, word_at, decimal_of, hex_pair_of, hex_octets_of};
+ghost use Rattle.hsr_text.specs.Words.{Gives, cut, decimal_of, hex_octets_of, hex_pair_of, mac_text, word_at};
 
 use hex::FromHex;
+use hsr_frame::Mac;
 use itoa::Buffer;
 use memchr::memchr;
 use std::alloc::{AllocError, Global};
@@ -141,6 +142,23 @@ pub fn put_decimal(text: &mut Vec<u8>, n: u64) -> Result<(), AllocError>
 {
     let mut buffer = Buffer::new();
     text.extend_from_slice(buffer.format(n).as_bytes())
+}
+
+/// Puts a name and a number in decimal digits last.
+pub fn put_count(text: &mut Vec<u8>, name: &[u8], n: u64) -> Result<(), AllocError>
+    ensures { OnOk result (text.new.items ≡ text.old.items ++ (name.now ++ decimal_text n)) }
+{
+    text.extend_from_slice(name)?;
+    put_decimal(text, n)
+}
+
+/// Puts the text of an address last, six pairs of digits of upper case with hyphens between them.
+#[tactic(auto, unfolding(crate::specs::Words::mac_text))]
+pub fn put_mac(alloc: Global, text: &mut Vec<u8>, mac: Mac) -> Result<(), AllocError>
+    ensures { OnOk result (text.new.items ≡ text.old.items ++ mac_text mac) }
+{
+    let address = format!(in alloc; "{mac}")?;
+    text.extend_from_slice(address.as_bytes())
 }
 
 /// Puts octets in hexadecimal digits of upper case last; a refused growth changes nothing.

@@ -6,15 +6,18 @@
 //! - `links`: what the links may be
 //! - `fault`: why nodes and links are no topology
 //! - `topology`: the topology, its calls
+//! - `same`: whether two topologies are the same
 #![tactic(auto)]
 
 mod end;
 mod fault;
 mod links;
 mod nodes;
+mod same;
 mod topology;
 
 pub use end::{End, is_same_end};
 pub use fault::TopologyFault;
 pub use links::is_used;
+pub use same::{is_same_place, is_same_topology};
 pub use topology::Topology;

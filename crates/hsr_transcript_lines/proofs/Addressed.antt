@@ -9,10 +9,10 @@ use Rattle.std.specs.Result.{result_ok}
 use Rattle.std.specs.Str.{bytes_eq}
 use Rattle.hsr_frame.specs.Address.{IsAddress, address_of, address_text, hex_digit, hex_digits, upper_digit, upper_text}
 use Rattle.hsr_frame.proofs.Texts.{address_of-printed}
-use Rattle.hsr_text.specs.Words.{cut}
+use Rattle.hsr_text.specs.Words.{cut, mac_text}
 use Rattle.hsr_transcript_lines.specs.Parsed.{read_macs}
 use Rattle.hsr_transcript_lines.specs.Readable.{Lacks}
-use Rattle.hsr_transcript_lines.specs.Spelled.{mac_text, spaced}
+use Rattle.hsr_transcript_lines.specs.Spelled.{spaced}
 use Rattle.hsr_transcript_lines.proofs.CutWords.{cut_end, cut_word}
 use Rattle.hsr_transcript_lines.proofs.WordTexts.{is_word, lacks_word, word_more}
 

@@ -6,7 +6,7 @@ use Rattle.std.specs.Result.{result_ok}
 use Rattle.hex.specs.Hex.{IsBytes, encode_upper}
 use Rattle.hsr_frame.specs.Address.{address_of}
 use Rattle.hsr_frame.specs.Grammar.{pair}
-use Rattle.hsr_text.specs.Words.{cut, hex_octets_of, hex_pair_of}
+use Rattle.hsr_text.specs.Words.{cut, hex_octets_of, hex_pair_of, mac_text}
 use Rattle.hsr_frame.specs.declared.node.About.{About}
 use Rattle.hsr_node.specs.declared.event.Carried.{Carried}
 use Rattle.hsr_node.specs.declared.event.Event.{Event}
@@ -17,7 +17,7 @@ use Rattle.hsr_transcript_lines.specs.Fits.{IsEventFit, IsProbeFit, IsSendFit}
 use Rattle.hsr_transcript_lines.specs.Parsed.{read_arrive, below, read_event, read_port, read_probe, read_send, read_vlan}
 use Rattle.hsr_transcript_lines.specs.Readable.{Lacks}
 use Rattle.hsr_transcript_lines.proofs.Roles.{IsEventOf, IsPortOf}
-use Rattle.hsr_transcript_lines.specs.Spelled.{about_text, event_text, mac_text, octets_text, probe_text, spaced, vlan_text}
+use Rattle.hsr_transcript_lines.specs.Spelled.{about_text, event_text, octets_text, probe_text, spaced, vlan_text}
 use Rattle.hsr_node.specs.Words.{letter}
 use Rattle.hsr_transcript_lines.proofs.Addressed.{mac_said, word_mac}
 use Rattle.hsr_transcript_lines.proofs.Again.{octets_again, probe_again}

@@ -19,7 +19,7 @@ use Rattle.hsr_frame.specs.Address.{address_text, upper_digit, upper_text}
 use Rattle.hsr_frame.specs.Grammar.{pair}
 use Rattle.hsr_text.specs.Moments.{moment_told}
 use Rattle.hsr_text.specs.declared.time_unit.TimeUnit.{TimeUnit}
-use Rattle.hsr_text.specs.Words.{◌>>=◌, cut, decimal_of, hex_octets_of, hex_pair_of, is_decimal, value_on, word_at}
+use Rattle.hsr_text.specs.Words.{◌>>=◌, cut, decimal_of, hex_octets_of, hex_pair_of, is_decimal, mac_text, value_on, word_at}
 use Rattle.hsr_node.specs.declared.event.Event.{Event}
 use Rattle.hsr_node.specs.declared.event.Event.TheVariants.{Send, Arrive}
 use Rattle.hsr_node.specs.declared.event.Outcome.{Outcome}
@@ -34,7 +34,7 @@ use Rattle.hsr_link.specs.declared.row.Fate.{Fate}
 use Rattle.hsr_link.specs.declared.row.Fate.TheVariants.{Queued, Taken, LostDown, LostCut, LostOverrun}
 use Rattle.hsr_transcript_lines.specs.Exact.{after, is_upper, exactly, tested}
 use Rattle.hsr_transcript_lines.specs.Parsed.{below, read_fate, read_probe, read_vlan}
-use Rattle.hsr_transcript_lines.specs.Spelled.{entry_text, event_text, mac_text, octets_text, outcome_text, probe_text, row_text, vlan_text}
+use Rattle.hsr_transcript_lines.specs.Spelled.{entry_text, event_text, octets_text, outcome_text, probe_text, row_text, vlan_text}
 use Rattle.hsr_transcript_lines.proofs.Again.{exactly_again}
 use Rattle.hsr_transcript_lines.proofs.CutWords.{cut_spells}
 use Rattle.hsr_transcript_lines.proofs.UpperDigits.{decoded}

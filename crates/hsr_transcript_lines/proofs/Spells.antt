@@ -4,7 +4,7 @@ use Rattle.std.specs.Fmt.{decimal}
 use Rattle.std.specs.List.{AllByRecursion}
 use Rattle.std.proofs.lemmas.Bool.Decides.{nat_tests}
 use Rattle.hsr_frame.specs.Address.{IsAddress}
-use Rattle.hsr_text.specs.Words.{cut}
+use Rattle.hsr_text.specs.Words.{cut, mac_text}
 use Rattle.hsr_text.specs.declared.time_unit.TimeUnit.{TimeUnit}
 use Rattle.hsr_text.specs.declared.time_unit.TimeUnit.TheVariants.{Milliseconds, Microseconds}
 use Rattle.hsr_frame.specs.declared.node.Mode.{Mode}
@@ -26,7 +26,7 @@ use Rattle.hsr_transcript_lines.specs.Parsed.{only, count_of, read_end, link_of,
 use Rattle.hsr_transcript_lines.specs.Lines.{head}
 use Rattle.hsr_frame.specs.Words.{mode_of, mode_word}
 use Rattle.hsr_transcript_lines.specs.Readable.{IsSpelled, Lacks}
-use Rattle.hsr_transcript_lines.specs.Spelled.{end_text, link_text, mac_text, octets_text, place_text, probe_text, row_text, spaced, version_text}
+use Rattle.hsr_transcript_lines.specs.Spelled.{end_text, link_text, octets_text, place_text, probe_text, row_text, spaced, version_text}
 use Rattle.hsr_node.specs.Words.{letter}
 use Rattle.hsr_link.specs.Words.{dir_word, fate_word}
 use Rattle.hsr_transcript_lines.proofs.Again.{IsFinishedRow, exactly_again, lacks_decimal, number_again, row_read, turn_read}

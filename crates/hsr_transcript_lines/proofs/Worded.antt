@@ -12,7 +12,7 @@ use Rattle.hex.specs.Hex.{IsBytes, decode_sized, encode_upper, encode_with, uppe
 use Rattle.hex.proofs.HexLemmas.{decode_of-encode_upper, decode_sized-twice, length-encode_with}
 use Rattle.hsr_frame.specs.Fault.{frame_fault_code}
 use Rattle.hsr_frame.specs.Grammar.{pair}
-use Rattle.hsr_text.specs.Words.{hex_pair_of}
+use Rattle.hsr_text.specs.Words.{hex_pair_of, mac_text}
 use Rattle.hsr_frame.specs.declared.fault.FrameFault.{FrameFault}
 use Rattle.hsr_frame.specs.declared.fault.FrameFault.TheVariants.{Short, Long, GroupSource, DoubleVlan, ShortTag, NestedTag}
 use Rattle.hsr_frame.specs.declared.node.Cause.{Cause}
@@ -26,7 +26,7 @@ use Rattle.hsr_transcript_lines.specs.Fits.{IsAboutFit, IsNumberFit, IsProbeFit}
 use Rattle.hsr_transcript_lines.specs.Parsed.{read_about, below, read_cause, read_port, read_seq, read_vlan}
 use Rattle.hsr_transcript_lines.specs.Exact.{tested}
 use Rattle.hsr_transcript_lines.proofs.Roles.{IsPortOf}
-use Rattle.hsr_transcript_lines.specs.Spelled.{about_text, mac_text, probe_text, seq_text, vlan_text}
+use Rattle.hsr_transcript_lines.specs.Spelled.{about_text, probe_text, seq_text, vlan_text}
 use Rattle.hsr_node.specs.Words.{letter}
 use Rattle.hsr_frame.specs.Words.{cause_text}
 use Rattle.hsr_transcript_lines.proofs.Addressed.{mac_said, not_own, word_mac}

@@ -8,7 +8,6 @@
 use Rattle.std.specs.Prelude.{ℕ, Bool, List, [], ◌∷◌, ◌++◌, map, codes, slice_index_or, Option, Some, None, if◌then◌else◌}
 use Rattle.std.specs.Fmt.{decimal}
 use Rattle.hex.specs.Hex.{encode_upper}
-use Rattle.hsr_frame.specs.Address.{address_text}
 use Rattle.hsr_frame.specs.Grammar.{pair}
 use Rattle.hsr_frame.specs.Words.{cause_text, mode_word}
 use Rattle.hsr_frame.specs.declared.node.About.{About}
@@ -16,6 +15,7 @@ use Rattle.hsr_frame.specs.declared.node.About.TheVariants.{Own, Proxied}
 use Rattle.hsr_text.specs.Moments.{moment_told}
 use Rattle.hsr_text.specs.declared.time_unit.TimeUnit.{TimeUnit}
 use Rattle.hsr_text.specs.declared.time_unit.TimeUnit.TheVariants.{Milliseconds, Microseconds}
+use Rattle.hsr_text.specs.Words.{mac_text}
 use Rattle.hsr_node.specs.Record.{has_port}
 use Rattle.hsr_node.specs.Words.{letter, role_word}
 use Rattle.hsr_node.specs.declared.entry.Entry.{Entry}
@@ -44,10 +44,6 @@ version_text Milliseconds = codes "hsr-bench 1"
 version_text Microseconds = codes "hsr-bench 2"
 
 -- ---- words
-
--- the text of an address
-unfoldable pub mac_text : List ℕ → List ℕ
-mac_text mac = address_text mac
 
 abbrev pub octets_text : List ℕ → List ℕ
 octets_text [] = codes "-"

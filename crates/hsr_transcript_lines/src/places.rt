@@ -4,13 +4,13 @@ ghost use Rattle.std.specs.Fmt.{decimal};
 ghost use Rattle.std.specs.List.{AllByRecursion};
 ghost use Rattle.hsr_frame.specs.Address.{IsAddress};
 ghost use Rattle.hsr_transcript_lines.specs.Fits.{IsPlaceFit};
-ghost use Rattle.hsr_transcript_lines.specs.Spelled.{end_text, link_text, mac_text, place_text, spaced};
+ghost use Rattle.hsr_transcript_lines.specs.Spelled.{end_text, link_text, place_text, spaced};
 ghost use Rattle.hsr_frame.specs.Words.{mode_word};
 ghost use Rattle.hsr_node.specs.Words.{role_word};
 
 use crate::lines::LineKind;
 use crate::parsing::read_port;
-use crate::words::{mac_fits, put_mac, put_number, put_word};
+use crate::words::{mac_fits, put_next_mac, put_number, put_word};
 use arrayvec::ArrayVec;
 use hsr_frame::{Mac, Mode};
 use hsr_node::{Place, Role};
@@ -59,7 +59,7 @@ fn put_ring_node(
 {
     mac_fits(mac);
     text.extend_from_slice(role.word().as_bytes())?;
-    put_mac(alloc, text, mac)?;
+    put_next_mac(alloc, text, mac)?;
     put_word(text, mode.word().as_bytes())
 }
 
@@ -76,7 +76,7 @@ fn put_station(
     text.extend_from_slice(word)?;
     for mac in macs {
         mac_fits(*mac);
-        put_mac(alloc, text, *mac)?;
+        put_next_mac(alloc, text, *mac)?;
     }
     Ok(())
 }
@@ -226,7 +226,7 @@ fn number_behind(line: &[u8]) -> Option<u64>
 }
 
 ghost use Rattle.std.specs.Prelude.{option_map, Option, List, ℕ};
-ghost use Rattle.hsr_text.specs.Words.{cut, decimal_of};
+ghost use Rattle.hsr_text.specs.Words.{cut, decimal_of, mac_text};
 ghost use Rattle.hsr_node.specs.declared.place.Place.TheVariants.{Danh, RedBox};
 ghost use Rattle.hsr_transcript_lines.specs.Parsed.{read_end, read_link, read_macs, number_in, read_place, read_ring_node, read_station};
 ghost use Rattle.hsr_transcript_lines.specs.Lines.{head};

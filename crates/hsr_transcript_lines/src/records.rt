@@ -9,7 +9,7 @@ use crate::parsing::{
     read_probe, read_seq, read_vlan, tail_of,
 };
 use crate::words::{
-    about_fits, carried_fits, mac_fits, put_about, put_cause, put_hex_u16, put_mac, put_number,
+    about_fits, carried_fits, mac_fits, put_about, put_cause, put_hex_u16, put_next_mac, put_number,
     put_octets, put_probe, put_seq, put_vlan, put_word,
 };
 use hsr_frame::Mac;
@@ -45,7 +45,7 @@ fn put_event(
         } => {
             text.extend_from_slice(b"send")?;
             put_number(text, u64::from(*from))?;
-            put_mac(alloc, text, *dst)?;
+            put_next_mac(alloc, text, *dst)?;
             put_vlan(text, *vlan)?;
             put_hex_u16(text, *kind)?;
             put_octets(text, payload.as_slice())

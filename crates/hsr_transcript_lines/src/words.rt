@@ -6,11 +6,12 @@ ghost use Rattle.hsr_frame.specs.Address.{IsAddress};
 ghost use Rattle.hsr_frame.specs.Grammar.{pair};
 ghost use Rattle.hsr_frame.specs.Words.{cause_text, fault_text};
 ghost use Rattle.hsr_transcript_lines.specs.Fits.{IsAboutFit, IsCarriedFit, IsProbeFit};
-ghost use Rattle.hsr_transcript_lines.specs.Spelled.{about_text, mac_text, octets_text, probe_text, seq_text, vlan_text};
+ghost use Rattle.hsr_transcript_lines.specs.Spelled.{about_text, octets_text, probe_text, seq_text, vlan_text};
+ghost use Rattle.hsr_text.specs.Words.{mac_text};
 
 use hsr_frame::{About, Cause, FrameFault, Mac};
 use hsr_node::{Carried, Probe};
-use hsr_text::{put_decimal, put_hex};
+use hsr_text::{put_decimal, put_hex, put_mac};
 use std::alloc::{AllocError, Global};
 
 /// Puts a space and a number, in decimal, behind what the text holds.
@@ -29,21 +30,12 @@ pub(crate) fn put_word(text: &mut Vec<u8>, word: &[u8]) -> Result<(), AllocError
     text.extend_from_slice(word)
 }
 
-/// Puts an address.
-#[tactic(auto, unfolding(crate::specs::Spelled::mac_text))]
-fn put_address(alloc: Global, text: &mut Vec<u8>, mac: Mac) -> Result<(), AllocError>
-    ensures { OnOk result (text.new.items ≡ text.old.items ++ mac_text mac) }
-{
-    let address = format!(in alloc; "{mac}")?;
-    text.extend_from_slice(address.as_bytes())
-}
-
 /// Puts a space and an address.
-pub(crate) fn put_mac(alloc: Global, text: &mut Vec<u8>, mac: Mac) -> Result<(), AllocError>
+pub(crate) fn put_next_mac(alloc: Global, text: &mut Vec<u8>, mac: Mac) -> Result<(), AllocError>
     ensures { OnOk result (text.new.items ≡ text.old.items ++ 32 ∷ mac_text mac) }
 {
     text.push(b' ')?;
-    put_address(alloc, text, mac)
+    put_mac(alloc, text, mac)
 }
 
 /// Puts a space and octets.
@@ -103,7 +95,7 @@ pub(crate) fn put_about(alloc: Global, text: &mut Vec<u8>, about: About) -> Resu
 {
     match about {
         About::Own => text.extend_from_slice(b" own"),
-        About::Proxied(mac) => put_mac(alloc, text, mac),
+        About::Proxied(mac) => put_next_mac(alloc, text, mac),
     }
 }
 

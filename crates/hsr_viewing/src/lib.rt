@@ -4,7 +4,6 @@
 //! - `asked`: what can be asked for
 //! - `given`: what a text is that is no transcript
 //! - `fault`: why nothing is shown, and the line that says it
-//! - `same`: whether two topologies are the same
 //! - `head`: the head of a text, read before the rest is
 //! - `viewing`: what is shown of a text
 //! - `running`: the whole, its calls
@@ -15,7 +14,6 @@ mod fault;
 mod given;
 mod head;
 mod running;
-mod same;
 mod viewing;
 
 pub use asked::What;

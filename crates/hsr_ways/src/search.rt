@@ -11,9 +11,9 @@ ghost use Rattle.hsr_ways.specs.Started.{ways_from};
 
 use crate::follow::{lets_out, passes_on};
 use crate::front::Front;
-use crate::starting::{from_end, starting_in, to_end};
+use crate::starting::starting_in;
 use crate::way::Way;
-use hsr_closing::Closed;
+use hsr_closing::{Closed, from_end, to_end};
 use hsr_frame::NoMemory;
 use hsr_network_law::search_decides;
 use hsr_node::{Place, Probe};

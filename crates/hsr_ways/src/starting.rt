@@ -1,35 +1,14 @@
 //! The ways that start at each node.
 ghost use Rattle.std.specs.Prelude.{◌≡◌, ◌++◌, map, slice_index_or, IfOk, OnOk, []};
-ghost use Rattle.hsr_law.specs.Run.{from_end, to_end};
+ghost use Rattle.hsr_law.specs.Run.{from_end};
 ghost use Rattle.hsr_ways.specs.Started.{starting_in, way_from, ways_from};
 
 use crate::way::Way;
+use hsr_closing::from_end;
 use hsr_frame::NoMemory;
 use hsr_link::Dir;
 use hsr_topology::End;
 use std::alloc::Global;
-
-/// Where a direction of a link starts.
-pub(crate) fn from_end(link: [End; 2], dir: Dir) -> End
-    ensures { result ≡ from_end dir link }
-{
-    let [a, b] = link;
-    match dir {
-        Dir::Forth => a,
-        Dir::Back => b,
-    }
-}
-
-/// Where a direction of a link ends.
-pub(crate) fn to_end(link: [End; 2], dir: Dir) -> End
-    ensures { result ≡ to_end dir link }
-{
-    let [a, b] = link;
-    match dir {
-        Dir::Forth => b,
-        Dir::Back => a,
-    }
-}
 
 /// Adds a direction of a link to ways, where it starts at a node.
 fn push_from(

@@ -1,8 +1,8 @@
 use Rattle.std.proofs.Common.{◌≡◌, ◌++◌, ◌∙◌, [], map, drop, sym, ap, append_assoc}
 use Rattle.std.proofs.lemmas.List.{append-nil, drop_all}
-use Rattle.hsr_transcript_lines.specs.Spelled.{mac_text}
 use Rattle.hsr_transcript_lines.proofs.Grown.{behind, spaced_behind}
 use Rattle.hsr_transcript_lines.proofs.places.put_station.Goals as goal
+use Rattle.hsr_text.specs.Words.{mac_text}
 
 pub returns-clause-written : goal.returns-clause-written
 returns-clause-written c =

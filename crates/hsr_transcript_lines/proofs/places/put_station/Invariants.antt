@@ -1,8 +1,8 @@
 use Rattle.std.proofs.Common.{ℕ, List, ◌<◌, ◌≡◌, ◌++◌, map, drop, slice_index_or}
 use Rattle.hsr_frame.specs.Address.{IsAddress}
-use Rattle.hsr_transcript_lines.specs.Spelled.{mac_text}
 use Rattle.hsr_transcript_lines.proofs.Grown.{behind}
 use Rattle.hsr_transcript_lines.proofs.places.put_station.Given as goal
+use Rattle.hsr_text.specs.Words.{mac_text}
 
 abbrev pub invariant-loop-mac : goal.invariant-loop-mac
 invariant-loop-mac l = record {

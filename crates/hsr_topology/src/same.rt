@@ -1,9 +1,10 @@
 //! Whether two topologies are the same.
 ghost use Rattle.std.specs.Prelude.{◌≡◌, ◌↔◌, IsTrue};
 
+use crate::end::End;
+use crate::topology::Topology;
 use hsr_frame::Mac;
 use hsr_node::Place;
-use hsr_topology::{End, Topology};
 
 fn are_same_macs(a: &[Mac], b: &[Mac]) -> bool
     ensures { IsTrue result ↔ (a.now ≡ b.now) }
@@ -11,7 +12,8 @@ fn are_same_macs(a: &[Mac], b: &[Mac]) -> bool
     a == b
 }
 
-fn is_same_place(a: &Place, b: &Place) -> bool
+/// Whether two kinds of node are the same, with their addresses and modes.
+pub fn is_same_place(a: &Place, b: &Place) -> bool
     ensures { IsTrue result ↔ (a.now ≡ b.now) }
 {
     match (a, b) {
@@ -55,18 +57,12 @@ fn are_same_places(a: &[Place], b: &[Place]) -> bool
     left.is_empty()
 }
 
-fn is_same_end(a: End, b: End) -> bool
-    ensures { IsTrue result ↔ (a ≡ b) }
-{
-    a.node == b.node && a.port == b.port
-}
-
 fn is_same_link(a: &[End; 2], b: &[End; 2]) -> bool
     ensures { IsTrue result ↔ (a.now ≡ b.now) }
 {
     let [one, other] = *a;
     let [first, second] = *b;
-    is_same_end(one, first) && is_same_end(other, second)
+    one == first && other == second
 }
 
 /// Whether links are the same, one by one.
@@ -86,8 +82,8 @@ fn are_same_links(a: &[[End; 2]], b: &[[End; 2]]) -> bool
     left.is_empty()
 }
 
-/// Whether two topologies are the same.
-pub(crate) fn is_same_topology(a: &Topology, b: &Topology) -> bool
+/// Whether two topologies have the same nodes and links, in the same order.
+pub fn is_same_topology(a: &Topology, b: &Topology) -> bool
     ensures { IsTrue result ↔ (a.now ≡ b.now) }
 {
     are_same_places(a.places(), b.places()) && are_same_links(a.links(), b.links())
