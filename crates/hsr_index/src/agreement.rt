@@ -68,10 +68,14 @@ fn after_pass<'a>(
         return Some(rows);
     };
     let (copy, left) = next_told(Passage::Put, dir, rows)?;
-    if is_copy(copy, entry.event.probe(Probe {
-        node: number,
-        place: at,
-    }), &octets) {
+    if is_copy(
+        copy,
+        entry.event.probe(Probe {
+            node: number,
+            place: at,
+        }),
+        &octets,
+    ) {
         Some(left)
     } else {
         None

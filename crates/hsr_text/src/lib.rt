@@ -10,5 +10,6 @@ mod words;
 pub use lines::{Front, READ_LIMIT, ReaderFault, next_line};
 pub use time_unit::TimeUnit;
 pub use words::{
-    WordFault, decimal, hex_octets, hex_pair, put_count, put_decimal, put_hex, put_mac, split_at, word,
+    WordFault, decimal, hex_octets, hex_pair, put_count, put_decimal, put_hex, put_mac, split_at,
+    word,
 };

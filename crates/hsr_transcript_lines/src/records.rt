@@ -9,8 +9,8 @@ use crate::parsing::{
     read_probe, read_seq, read_vlan, tail_of,
 };
 use crate::words::{
-    about_fits, carried_fits, mac_fits, put_about, put_cause, put_hex_u16, put_next_mac, put_number,
-    put_octets, put_probe, put_seq, put_vlan, put_word,
+    about_fits, carried_fits, mac_fits, put_about, put_cause, put_hex_u16, put_next_mac,
+    put_number, put_octets, put_probe, put_seq, put_vlan, put_word,
 };
 use hsr_frame::Mac;
 use hsr_node::{Carried, Entry, Event, Octets, Outcome, Place};
