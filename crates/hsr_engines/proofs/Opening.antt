@@ -16,7 +16,7 @@ use Rattle.hsr_engines.specs.OpenRun.{IsDeliveredOpen, IsLeftBy, IsLeftOpen, IsO
 use Rattle.hsr_engines.specs.Reading.{Said, scenario_of}
 use Rattle.hsr_engines.specs.ScenarioRun.{IsReported, IsUnplayed, IsUnreported, ScenarioEnds}
 use Rattle.hsr_engines.specs.Shown.{IsDelivered}
-use Rattle.hsr_engines.specs.Text.{IsWhole}
+use Rattle.hsr_text.specs.Whole.{IsWhole}
 use Rattle.hsr_engines.specs.declared.fault.Fault.{Fault}
 use Rattle.hsr_engines.specs.declared.fault.Fault.TheVariants.{Line, Scenario, Step, Fine, Transcript, Check, Read, Write, Memory, Thread, Gate}
 use Rattle.hsr_engines.specs.declared.fault.Status.{Status}

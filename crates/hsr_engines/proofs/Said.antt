@@ -7,7 +7,7 @@ use Rattle.std.specs.Str.{IsUtf8, is_utf8}
 use Rattle.std.proofs.lemmas.Bool.{cases_Bool, cond-false}
 use Rattle.std.proofs.lemmas.Str.{IsUtf8-from_is_utf8, is_utf8-from_IsUtf8}
 use Rattle.hsr_scenario.specs.Meaning.{Meant, document_if, meaning}
-use Rattle.hsr_engines.specs.Text.{IsWhole}
+use Rattle.hsr_text.specs.Whole.{IsWhole}
 use Rattle.hsr_scenario.specs.Fallible.{FailsAt}
 use Rattle.hsr_scenario.specs.declared.fault.ScenarioFault.{ScenarioFault}
 use Rattle.hsr_scenario.specs.declared.fault.Spot.TheVariants as spot

@@ -6,7 +6,7 @@ use Rattle.hsr_transcript.specs.Answers.{Answers, IsTextOf}
 use Rattle.hsr_transcript_text.specs.declared.fault.ReadFault.{ReadFault}
 use Rattle.hsr_transcript_text.specs.declared.fault.ReadFault.TheVariants as read
 use Rattle.hsr_engines.specs.AuditRun.{AuditEnds, IsAudited, IsUnread, transcript_fault}
-use Rattle.hsr_engines.specs.Text.{IsWhole}
+use Rattle.hsr_text.specs.Whole.{IsWhole}
 use Rattle.hsr_report.specs.Found.{IsFound, IsReportOf}
 use Rattle.hsr_options.specs.declared.chosen.Asked.{Asked}
 use Rattle.hsr_options.specs.declared.chosen.Scope.{Scope}

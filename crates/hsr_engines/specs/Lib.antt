@@ -1,7 +1,6 @@
 pub mod Fault
 pub mod Output
 pub mod Run
-pub mod Text
 pub mod Reading
 pub mod Shown
 pub mod Ending

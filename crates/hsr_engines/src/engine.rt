@@ -8,12 +8,11 @@ ghost use Rattle.hsr_engines.specs.Run.{Finished, Ran, Served, Turned};
 ghost use Rattle.hsr_engines.specs.declared.fault.Fault.TheVariants.{Read as ReadFailed};
 
 use crate::fault::{Fault, Status};
-use crate::text::granted_reads;
 use arrayvec::ArrayVec;
 use hsr_danh::Danh;
 use hsr_node_text::{answer_request, put_counters, read_request};
 use hsr_options::{NodeOptions, Table};
-use hsr_text::{Front, TimeUnit, WordFault, next_line};
+use hsr_text::{Front, TimeUnit, WordFault, granted_reads, next_line};
 use std::alloc::Global;
 use std::io::{BufRead, BufReader, Read, Write};
 

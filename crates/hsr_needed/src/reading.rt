@@ -61,24 +61,12 @@ pub fn hear(stations: &mut ProxyTable, place: &Place, at: u64, event: &Event)
     }
 }
 
-/// The number that a frame got.
-fn number_in(outcome: &Outcome) -> Option<u16>
-    ensures { result ≡ number_in outcome.now }
-{
-    match outcome {
-        Outcome::Sent { seq, .. } => *seq,
-        Outcome::Life { seq, .. } => Some(*seq),
-        Outcome::Judged { seq, .. } => *seq,
-        Outcome::Aged => None,
-    }
-}
-
 /// Whether a frame of the node's own got a number.
 fn is_own_numbered(place: &Place, outcome: &Outcome) -> bool
     ensures { result ≡ is_some (own_key (ring_address place.now) (number_in outcome.now)) }
 {
     match place {
-        Place::Danh { .. } | Place::RedBox { .. } => number_in(outcome).is_some(),
+        Place::Danh { .. } | Place::RedBox { .. } => outcome.number().is_some(),
         Place::QuadBox | Place::Station { .. } => false,
     }
 }

@@ -80,6 +80,22 @@ pub enum Outcome {
     Aged,
 }
 
+impl Outcome {
+    ghost use Rattle.hsr_node.specs.Record.{number_in};
+
+    /// The sequence number that the node gave a frame, if it gave one.
+    pub fn number(&self) -> Option<u16>
+        ensures { result ≡ number_in self.now }
+    {
+        match self {
+            Outcome::Sent { seq, .. } => *seq,
+            Outcome::Life { seq, .. } => Some(*seq),
+            Outcome::Judged { seq, .. } => *seq,
+            Outcome::Aged => None,
+        }
+    }
+}
+
 /// Why a node refuses an event, in the order in which the reasons are tried.
 #[derive(Clone, Copy, Debug, PartialEq, Eq)]
 pub enum StepFault {

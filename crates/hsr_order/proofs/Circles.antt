@@ -14,13 +14,13 @@ use Rattle.hsr_order.specs.Fronts.{AreAllKnown, AreBlocked, IsFront, length_at, 
 
 -- ---- the order of times
 
-abbrev IsBefore : Time → Time → Type 0
+abbrev pub IsBefore : Time → Time → Type 0
 IsBefore x y = (x.moment < y.moment) ⊎ ((x.moment ≡ y.moment) × (x.step < y.step))
 
-abbrev IsUpTo : Time → Time → Type 0
+abbrev pub IsUpTo : Time → Time → Type 0
 IsUpTo x y = (x.moment < y.moment) ⊎ ((x.moment ≡ y.moment) × (x.step ≤ y.step))
 
-earlier_told : (x y : Time) → is_earlier x y ≡ true → IsBefore x y
+pub earlier_told : (x y : Time) → is_earlier x y ≡ true → IsBefore x y
 earlier_told x y is = of (nat_lt x.moment y.moment) refl
   where
     of : (b : Bool) → nat_lt x.moment y.moment ≡ b → IsBefore x y
@@ -35,7 +35,7 @@ is_or : (b c : Bool) → c ≡ true → (b || c) ≡ true
 is_or true c h = refl
 is_or false c h = h
 
-earlier_from : (x y : Time) → IsBefore x y → is_earlier x y ≡ true
+pub earlier_from : (x y : Time) → IsBefore x y → is_earlier x y ≡ true
 earlier_from x y h = ⊎_elim
     (λ lt. let e : nat_lt x.moment y.moment ≡ true = grind (arith, nat_tests) in ap (λ b. b || (x.moment == y.moment && nat_lt x.step y.step)) e)
     (λ both. let same : (x.moment == y.moment) ≡ true = let h : x.moment ≡ y.moment = both.0 in grind (arith, nat_tests) in
@@ -43,7 +43,7 @@ earlier_from x y h = ⊎_elim
     is_or (nat_lt x.moment y.moment) (x.moment == y.moment && nat_lt x.step y.step) (ap (λ b. b && nat_lt x.step y.step) same ∙ less))
     h
 
-order_cases : (x y : Time) → IsBefore x y ⊎ IsUpTo y x
+pub order_cases : (x y : Time) → IsBefore x y ⊎ IsUpTo y x
 order_cases x y = ⊎_elim (λ lt. inl (inl lt))
     (λ ge. ⊎_elim (λ same. ⊎_elim (λ lt. inl (inr (same, lt))) (λ le. inr (inr (sym same, le))) (cases_lt x.step y.step))
     (λ other. inr (inl (omega arith)))

@@ -4,27 +4,14 @@
 //! Its modules, in the order to read them: `planning`.
 #![tactic(auto)]
 
-ghost use Rattle.std.specs.Prelude.{◌≡◌, IfOk, drop, map, string_bytes};
-
 mod planning;
 
 pub use crate::planning::plan;
-use std::alloc::{AllocError, Global};
+use hsr_text::arguments;
 use std::io::{BufWriter, ErrorKind, IsTerminal, Write};
 use std::process::ExitCode;
 use std::rt::Env;
 use std::{env, io};
-
-/// The words after the program's name.
-fn words_of(alloc: Global, args: &Vec<String>) -> Result<Vec<&str>, AllocError>
-    ensures { IfOk result (λ words. map (λ s. s.now) words.items ≡ map string_bytes (drop 1 args.now.items)) }
-{
-    let mut words = Vec::new(alloc);
-    for word in args.iter().skip(1) {
-        words.push(word.as_str())?;
-    }
-    Ok(words)
-}
 
 /// Does what the words ask for over the standard streams, where standard error is a terminal or not.
 fn run<H: AllocGlobal + Env + Input + Print, E: Write>(
@@ -33,7 +20,7 @@ fn run<H: AllocGlobal + Env + Input + Print, E: Write>(
     errors: &mut E,
 ) -> io::Result<ExitCode> {
     let args: Vec<String> = env::args(rt)?.collect(rt.alloc())?;
-    let words = words_of(rt.alloc(), &args)?;
+    let words = arguments(rt.alloc(), &args)?;
     let mut reader = rt.reader();
     let mut writer = BufWriter::new(rt.alloc(), io::writer(rt))?;
     let code = plan(

@@ -12,7 +12,7 @@ use Rattle.hsr_plan_text.specs.declared.fault.PlanFault.{PlanFault}
 use Rattle.hsr_plan_text.specs.declared.fault.Spot.TheVariants as spot
 use Rattle.hsr_plan_text.specs.declared.fault.What.TheVariants as what
 use Rattle.hsr_plan_scenario.specs.Ends.{Checks, Ends}
-use Rattle.hsr_plan_scenario.specs.Input.{IsWhole}
+use Rattle.hsr_text.specs.Whole.{IsWhole}
 use Rattle.hsr_plan_scenario.specs.Refusals.{HasNoneIf, IsNoScenario, IsUnplanned}
 use Rattle.hsr_plan_scenario.specs.Says.{IsScenario, SaysIf, SaysPlan}
 use Rattle.hsr_plan_scenario.specs.declared.planning.Ending.{Ending}

@@ -5,7 +5,7 @@ use Rattle.hsr_plan_text.specs.Words.{is_title}
 use Rattle.hsr_plan_scenario.specs.Input.{input_line}
 use Rattle.hsr_plan_scenario.specs.Refusals.{IsNoScenario, IsUnplanned}
 use Rattle.hsr_plan_scenario.specs.Says.{IsScenario, SaysPlan}
-use Rattle.hsr_plan_scenario.specs.declared.input.InputFault.{InputFault}
+use Rattle.hsr_text.specs.declared.whole.InputFault.{InputFault}
 use Rattle.hsr_plan_scenario.specs.declared.planning.Ending.{Ending}
 use Rattle.hsr_plan_scenario.specs.declared.planning.Ending.TheVariants.{Planned, Refused, Failed, Unwritten}
 

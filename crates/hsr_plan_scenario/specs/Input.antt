@@ -1,19 +1,8 @@
--- A text that is read whole, up to a length.
-use Rattle.std.specs.Prelude.{ℕ, ◌≡◌, ◌⊎◌, ◌<◌, ◌++◌, Bool, false, List, Option, codes, length}
-use Rattle.std.specs.Io.KnownBytes.{Consumes, IsAtEnd}
-use Rattle.hsr_plan_scenario.specs.declared.input.InputFault.{InputFault}
-use Rattle.hsr_plan_scenario.specs.declared.input.InputFault.TheVariants.{Read, Memory}
+-- The line that tells why a text isn't read.
+use Rattle.std.specs.Prelude.{ℕ, List, codes}
+use Rattle.hsr_text.specs.declared.whole.InputFault.{InputFault}
+use Rattle.hsr_text.specs.declared.whole.InputFault.TheVariants.{Read, Memory}
 
--- a piece was read and put behind a text; `false` at the end of what there was to read
-abbrev pub ReadsPiece : Option (List ℕ) → Option (List ℕ) → List ℕ → List ℕ → Bool → Type 0
-ReadsPiece old new held holds more =
-    (piece : List ℕ) × (holds ≡ held ++ piece) × Consumes old new piece × (more ≡ false → IsAtEnd new)
-
--- all of a text, or a front of it that is longer than `most`
-abbrev pub IsWhole : ℕ → List ℕ → List ℕ → Type 0
-IsWhole most text read = (text ≡ read) ⊎ ((most < length read) × ((rest : List ℕ) × (text ≡ read ++ rest)))
-
--- the line that tells why it isn't read
 abbrev pub input_line : InputFault → List ℕ
 input_line Read = codes "fault: read\n"
 input_line Memory = codes "fault: memory\n"

@@ -4,11 +4,11 @@ ghost use Rattle.hsr_plan_scenario.specs.Ends.{Checks};
 ghost use Rattle.hsr_plan_scenario.specs.Refusals.{IsNoScenario};
 ghost use Rattle.hsr_plan_scenario.specs.Says.{IsScenario};
 
-use crate::input::read_text;
 use crate::planning::{Ending, Line, complain, fail, words};
 use hsr_frame::NoMemory;
 use hsr_scenario::{TEXT_LIMIT, What, read};
 use hsr_scenario_fault::told;
+use hsr_text::read_text;
 use std::alloc::Global;
 use std::io::{self, Read, Write};
 

@@ -11,6 +11,6 @@ mod same;
 mod spelling;
 
 pub use checking::{Trouble, moved, scenario_of_meaning, scenario_of_plan};
-pub use input::{InputFault, read_text};
+pub use hsr_text::{InputFault, read_text};
 pub use judging::check_run;
 pub use planning::{Ending, Line, complain, deliver, fail, line_of, plan_run, words};

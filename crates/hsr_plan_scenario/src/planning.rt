@@ -9,11 +9,11 @@ ghost use Rattle.hsr_plan_scenario.specs.Says.{SaysPlan};
 ghost use Rattle.hsr_plan_scenario.specs.declared.planning.Ending.TheVariants.{Failed, Refused};
 
 use crate::checking::{Trouble, scenario_of_plan};
-use crate::input::{InputFault, read_text};
+use crate::input::input_line;
 use hsr_frame::NoMemory;
 use hsr_plan_fault::told;
 use hsr_plan_text::{PlanFault, TEXT_LIMIT, What};
-use hsr_text::put_decimal;
+use hsr_text::{InputFault, put_decimal, read_text};
 use std::alloc::Global;
 use std::io::{self, Read, Write};
 
@@ -164,7 +164,7 @@ pub fn fail<E: Write>(errors: &mut E, fault: InputFault) -> io::Result<Ending>
     ensures is { IfOk result (λ ending. ending ≡ Failed) }
     ensures told { OnOk result (TellsInput (E.contents errors.old) (E.contents errors.new)) }
 {
-    errors.write_all(fault.line())?;
+    errors.write_all(input_line(fault))?;
     errors.flush()?;
     Ok(Ending::Failed)
 }

@@ -51,24 +51,12 @@ fn ring_address(place: &Place) -> Option<Mac>
     }
 }
 
-/// The number that a frame got.
-fn number_in(outcome: &Outcome) -> Option<u16>
-    ensures { result ≡ number_in outcome.now }
-{
-    match outcome {
-        Outcome::Sent { seq, .. } => *seq,
-        Outcome::Life { seq, .. } => Some(*seq),
-        Outcome::Judged { seq, .. } => *seq,
-        Outcome::Aged => None,
-    }
-}
-
 /// A node's own source, and the number that a frame of it got.
 fn own_key(place: &Place, outcome: &Outcome) -> Option<Key>
     ensures { result ≡ own_key (ring_address place.now) (number_in outcome.now) }
 {
     let src = ring_address(place)?;
-    let seq = number_in(outcome)?;
+    let seq = outcome.number()?;
     Some(Key { src, seq })
 }
 

@@ -26,7 +26,8 @@ use Rattle.hsr_story_law.specs.Keeps.{ChosenKeepOrder, HasEachOnce, KeepsOrder, 
 use Rattle.hsr_story_law.proofs.Following.{comes_after}
 use Rattle.hsr_story_law.proofs.Judging.{hop_below}
 use Rattle.hsr_story_law.proofs.Listed.{IsIn, contains_in, count_kept, in_contains, in_kept, kept_place, kept_places}
-use Rattle.hsr_story_law.proofs.Rising.{IsBefore, IsUpTo, before_or_not, earlier_told, not_both, up_trans}
+use Rattle.hsr_order.proofs.Circles.{IsBefore, IsUpTo, earlier_told, order_cases}
+use Rattle.hsr_story_law.proofs.Rising.{not_both, up_trans}
 
 -- ---- what a row tells
 
@@ -188,7 +189,7 @@ less x y h = ⊎_elim
     h
 
 up : (a b : Shown) → is_lt (shown_cmp b a) ≡ false → IsUpTo (time_of a) (time_of b)
-up a b h = ⊎_elim (λ before. absurd (false≢true (sym h ∙ less b a before))) (λ le. le) (before_or_not (time_of b) (time_of a))
+up a b h = ⊎_elim (λ before. absurd (false≢true (sym h ∙ less b a before))) (λ le. le) (order_cases (time_of b) (time_of a))
 
 -- no row is earlier than one before it
 never_earlier : (story : List Shown) → IsSorted shown_cmp story → (n i : ℕ) (d : Shown) → i + n < length story → IsUpTo (time_of (get_or story i d)) (time_of (get_or story (i + n) d))

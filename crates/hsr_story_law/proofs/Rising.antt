@@ -8,45 +8,9 @@ use Rattle.hsr_order.specs.declared.origin.Origin.{Origin}
 use Rattle.hsr_order.specs.declared.origin.Spot.{Spot}
 use Rattle.hsr_order.specs.declared.time.Time.{Time}
 use Rattle.hsr_order.specs.Times.{AreTimes, FollowsAll, IsAfter, at_spot, before, is_earlier, time_by}
-use Rattle.hsr_order.proofs.Circles.{causes_first}
+use Rattle.hsr_order.proofs.Circles.{IsBefore, IsUpTo, causes_first, earlier_from, earlier_told}
 
 -- ---- the order of times
-
-abbrev pub IsBefore : Time → Time → Type 0
-IsBefore x y = (x.moment < y.moment) ⊎ ((x.moment ≡ y.moment) × (x.step < y.step))
-
-abbrev pub IsUpTo : Time → Time → Type 0
-IsUpTo x y = (x.moment < y.moment) ⊎ ((x.moment ≡ y.moment) × (x.step ≤ y.step))
-
-pub earlier_told : (x y : Time) → is_earlier x y ≡ true → IsBefore x y
-earlier_told x y is = of (nat_lt x.moment y.moment) refl
-  where
-    of : (b : Bool) → nat_lt x.moment y.moment ≡ b → IsBefore x y
-    of true e = inl (ltb-true x.moment y.moment e)
-    of false e = within (x.moment == y.moment) refl
-      where
-        within : (b : Bool) → (x.moment == y.moment) ≡ b → IsBefore x y
-        within true same = inr (eqb-true x.moment y.moment same, ltb-true x.step y.step (sym (ap (λ b. b || (x.moment == y.moment && nat_lt x.step y.step)) e ∙ ap (λ b. b && nat_lt x.step y.step) same) ∙ is))
-        within false other = absurd (let h : false ≡ true = sym (ap (λ b. b || (x.moment == y.moment && nat_lt x.step y.step)) e ∙ ap (λ b. b && nat_lt x.step y.step) other) ∙ is in cc)
-
-is_or : (b c : Bool) → c ≡ true → (b || c) ≡ true
-is_or true c h = refl
-is_or false c h = h
-
-pub earlier_from : (x y : Time) → IsBefore x y → is_earlier x y ≡ true
-earlier_from x y h = ⊎_elim
-    (λ lt. let e : nat_lt x.moment y.moment ≡ true = grind (arith, nat_tests) in ap (λ b. b || (x.moment == y.moment && nat_lt x.step y.step)) e)
-    (λ both. let same : (x.moment == y.moment) ≡ true = let h : x.moment ≡ y.moment = both.0 in grind (arith, nat_tests) in
-    let less : nat_lt x.step y.step ≡ true = let h : x.step < y.step = both.1 in grind (arith, nat_tests) in
-    is_or (nat_lt x.moment y.moment) (x.moment == y.moment && nat_lt x.step y.step) (ap (λ b. b && nat_lt x.step y.step) same ∙ less))
-    h
-
-pub before_or_not : (x y : Time) → IsBefore x y ⊎ IsUpTo y x
-before_or_not x y = ⊎_elim (λ lt. inl (inl lt))
-    (λ ge. ⊎_elim (λ same. ⊎_elim (λ lt. inl (inr (same, lt))) (λ le. inr (inr (sym same, le))) (cases_lt x.step y.step))
-    (λ other. inr (inl (omega arith)))
-    (cases_eq x.moment y.moment))
-    (cases_lt x.moment y.moment)
 
 pub before_trans : (x y z : Time) → IsBefore x y → IsBefore y z → IsBefore x z
 before_trans x y z h k = ⊎_elim

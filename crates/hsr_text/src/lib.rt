@@ -1,14 +1,18 @@
 //! The lines of a text, the words of a line, and the unit of its moments.
 //!
-//! Its modules, in the order to read them: `lines`, `words`, `time_unit`.
+//! Its modules, in the order to read them: `lines`, `whole`, `words`, `time_unit`, `arguments`.
 #![tactic(auto)]
 
+mod arguments;
 mod lines;
 mod time_unit;
+mod whole;
 mod words;
 
+pub use arguments::arguments;
 pub use lines::{Front, READ_LIMIT, ReaderFault, next_line};
 pub use time_unit::TimeUnit;
+pub use whole::{InputFault, granted_reads, read_text};
 pub use words::{
     WordFault, decimal, hex_octets, hex_pair, put_count, put_decimal, put_hex, put_mac, split_at,
     word,

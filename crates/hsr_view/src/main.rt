@@ -13,8 +13,8 @@ mod command_line;
 use crate::asked::Asked;
 use crate::command_line::{WordFault, asked};
 use hsr_scenario::TEXT_LIMIT;
+use hsr_text::arguments;
 use hsr_viewing::{Fault, tell, view_run};
-use std::alloc::{AllocError, Global};
 use std::fs::{File, Files};
 use std::io::{ErrorKind, Read, Write};
 use std::process::ExitCode;
@@ -23,17 +23,6 @@ use std::{env, io};
 
 /// The status where words are refused.
 const USAGE: u8 = 3;
-
-/// The words after the program's name.
-fn words_of(alloc: Global, args: &Vec<String>) -> Result<Vec<&str>, AllocError>
-    ensures { IfOk result (λ words. map (λ s. s.now) words.items ≡ map string_bytes (drop 1 args.now.items)) }
-{
-    let mut words = Vec::new(alloc);
-    for word in args.iter().skip(1) {
-        words.push(word.as_str())?;
-    }
-    Ok(words)
-}
 
 /// The text of a file, or of a longer one a front that is longer than the text of a scenario may be.
 fn text_at<H: AllocGlobal + Files>(rt: &H, path: &str) -> io::Result<Vec<u8>> {
@@ -112,7 +101,7 @@ fn run<H: AllocGlobal + Env + Files + Input + Print, E: Write>(
     errors: &mut E,
 ) -> io::Result<ExitCode> {
     let args: Vec<String> = env::args(rt)?.collect(rt.alloc())?;
-    let words = words_of(rt.alloc(), &args)?;
+    let words = arguments(rt.alloc(), &args)?;
     let code = match asked(rt.alloc(), words.as_slice()) {
         Ok(asked) => view_input(rt, asked, errors),
         Err(WordFault::Usage { text }) => refuse(errors, text.as_str()),

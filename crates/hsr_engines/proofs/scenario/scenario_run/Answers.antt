@@ -1,6 +1,6 @@
 use Rattle.std.proofs.Common.{ℕ, ◌^◌, IfSome, List, subst, sym}
 use Rattle.hsr_options.specs.Tables.{capacity_of}
-use Rattle.hsr_engines.specs.Text.{IsWhole}
+use Rattle.hsr_text.specs.Whole.{IsWhole}
 use Rattle.hsr_engines.proofs.Opening.{run_told_text}
 use Rattle.hsr_engines.proofs.scenario.scenario_run.Goals as goal
 

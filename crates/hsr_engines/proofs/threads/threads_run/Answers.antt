@@ -1,6 +1,6 @@
 use Rattle.std.proofs.Common.{ℕ, ◌^◌, IfSome, List, subst, sym}
 use Rattle.hsr_options.specs.Tables.{capacity_of}
-use Rattle.hsr_engines.specs.Text.{IsWhole}
+use Rattle.hsr_text.specs.Whole.{IsWhole}
 use Rattle.hsr_engines.proofs.Telling.{run_text_told}
 use Rattle.hsr_engines.proofs.threads.threads_run.Goals as goal
 

@@ -1,8 +1,0 @@
-use Rattle.std.specs.Io.KnownBytes.{Consumes}
-use Rattle.hsr_plan_scenario.proofs.input.read_granted.Given as goal
-
-abbrev pub invariant-loop-reads : goal.invariant-loop-reads
-invariant-loop-reads g l = Consumes (g.R.Read.remaining l.initial.reader) (g.R.Read.remaining l.reader) l.text.items
-
-abbrev pub decreases-loop-reads : goal.decreases-loop-reads
-decreases-loop-reads g l = l.reads

@@ -1,0 +1,15 @@
+//! The arguments of a program's command line.
+ghost use Rattle.std.specs.Prelude.{◌≡◌, IfOk, drop, map, string_bytes};
+
+use std::alloc::{AllocError, Global};
+
+/// The arguments after the program's name.
+pub fn arguments(alloc: Global, args: &Vec<String>) -> Result<Vec<&str>, AllocError>
+    ensures { IfOk result (λ words. map (λ s. s.now) words.items ≡ map string_bytes (drop 1 args.now.items)) }
+{
+    let mut words = Vec::new(alloc);
+    for word in args.iter().skip(1) {
+        words.push(word.as_str())?;
+    }
+    Ok(words)
+}
