@@ -1,15 +1,15 @@
 //! The lines of a text, the words of a line, and the unit of its moments.
 //!
-//! Its modules, in the order to read them: `lines`, `whole`, `words`, `time_unit`, `arguments`.
+//! Its modules, in the order to read them: `lines`, `whole`, `words`, `time_unit`, `command_line`.
 #![tactic(auto)]
 
-mod arguments;
+mod command_line;
 mod lines;
 mod time_unit;
 mod whole;
 mod words;
 
-pub use arguments::arguments;
+pub use command_line::arguments;
 pub use lines::{Front, READ_LIMIT, ReaderFault, next_line};
 pub use time_unit::TimeUnit;
 pub use whole::{InputFault, granted_reads, read_text};

@@ -3,7 +3,7 @@ use Rattle.std.proofs.lemmas.Iterator.{YieldsList-from_slice}
 use Rattle.std.proofs.lemmas.Iterator.Adapters.{YieldsList-from_skip}
 use Rattle.std.proofs.lemmas.Iterator.Consumers.{YieldsList-end}
 use Rattle.std.proofs.lemmas.Simd.{map-map}
-use Rattle.hsr_text.proofs.arguments.arguments.Goals as goal
+use Rattle.hsr_text.proofs.command_line.arguments.Goals as goal
 
 pub returns : goal.returns
 returns c =
