@@ -284,6 +284,21 @@ fn put_names(
     put_next_names(text, names, others)
 }
 
+/// Puts the line of names behind words last.
+fn put_names_line(
+    text: &mut Vec<u8>,
+    words: &[u8],
+    names: &[Vec<u8>],
+    node: usize,
+    others: &[usize],
+) -> Result<(), NoMemory>
+    ensures { OnOk result (text.new.items ≡ text.old.items ++ words.now ++ parted_names (lists_of names.now) node others.now ++ codes "\n") }
+{
+    put(text, words)?;
+    put_names(text, names, node, others)?;
+    put(text, b"\n")
+}
+
 /// Puts the line of the nodes last of which supervision never told a node, if there are any.
 pub(crate) fn put_unheard(
     text: &mut Vec<u8>,
@@ -294,11 +309,7 @@ pub(crate) fn put_unheard(
 {
     match nodes.split_first() {
         None => Ok(()),
-        Some((node, others)) => {
-            put(text, b"  never heard ")?;
-            put_names(text, names, *node, others)?;
-            put(text, b"\n")
-        }
+        Some((node, others)) => put_names_line(text, b"  never heard ", names, *node, others),
     }
 }
 

@@ -2,7 +2,7 @@
 //!
 //! Its modules, in the order in which to read them:
 //! - `counted`: what is counted of a record at a port
-//! - `port`: where a port leads, and what was lost there
+//! - `port`: where a port leads, its octets, and what was lost there
 //! - `known`: the nodes and stations that a node knows
 //! - `unheard`: of whom supervision never told a node
 //! - `cells`: columns of a table

@@ -1,5 +1,6 @@
 //! The list of all devices.
-ghost use Rattle.std.specs.Prelude.{◌≡◌, ◌<◌, ◌++◌, ◌∷◌, [], IfOk, OnOk, fold, length, map};
+ghost use Rattle.std.specs.Prelude.{◌≡◌, ◌<◌, ◌++◌, ◌∷◌, [], IfOk, OnOk, codes, fold, length, map};
+ghost use Rattle.std.specs.Fmt.{decimal};
 ghost use Rattle.std.specs.List.{flat_map};
 ghost use Rattle.hsr_law.specs.Run.{place_of};
 ghost use Rattle.hsr_order.specs.Fronts.{lists_of};
@@ -310,14 +311,21 @@ fn put_needed(
     }
 }
 
+/// Puts the line of a number behind words last.
+fn put_number_line(text: &mut Vec<u8>, words: &[u8], n: u64) -> Result<(), NoMemory>
+    ensures { OnOk result (text.new.items ≡ text.old.items ++ words.now ++ decimal n ++ codes "\n") }
+{
+    put(text, words)?;
+    put_number(text, n)?;
+    put(text, b"\n")
+}
+
 /// Puts the line of how many supervision frames a node couldn't read last.
 #[tactic(auto, unfolding(crate::specs::Listing::unreadable_line))]
 fn put_unreadable(text: &mut Vec<u8>, count: u64) -> Result<(), NoMemory>
     ensures { OnOk result (text.new.items ≡ text.old.items ++ unreadable_line count) }
 {
-    put(text, b"  unreadable supervision ")?;
-    put_number(text, count)?;
-    put(text, b"\n")
+    put_number_line(text, b"  unreadable supervision ", count)
 }
 
 /// Puts that line last, if there were any.
