@@ -292,7 +292,7 @@ fn put_names_line(
     node: usize,
     others: &[usize],
 ) -> Result<(), NoMemory>
-    ensures { OnOk result (text.new.items ≡ text.old.items ++ words.now ++ parted_names (lists_of names.now) node others.now ++ codes "\n") }
+    ensures { OnOk result (text.new.items ≡ text.old.items ++ (words.now ++ parted_names (lists_of names.now) node others.now ++ codes "\n")) }
 {
     put(text, words)?;
     put_names(text, names, node, others)?;

@@ -313,7 +313,7 @@ fn put_needed(
 
 /// Puts the line of a number behind words last.
 fn put_number_line(text: &mut Vec<u8>, words: &[u8], n: u64) -> Result<(), NoMemory>
-    ensures { OnOk result (text.new.items ≡ text.old.items ++ words.now ++ decimal n ++ codes "\n") }
+    ensures { OnOk result (text.new.items ≡ text.old.items ++ (words.now ++ decimal n ++ codes "\n")) }
 {
     put(text, words)?;
     put_number(text, n)?;
