@@ -96,15 +96,18 @@ for plan in "$here"/examples/scenarios/*.toml; do
     drawn "$(awk -v middle="$middle" '$1 <= middle' "$work/moments" | wc -l)" --until "$middle"
     drawn "$(awk -v middle="$middle" '$1 >= middle' "$work/moments" | wc -l)" --from "$middle"
 
-    # devices: the node column and the sum over ports are the report's counters; the losses are those of the links, each told twice
+    # devices: the node column and the sum over ports are the report's counters; the losses are those of the links, each told twice, and
+    # the octets those of all copies, and again of those that were taken
     "$view" devices <"$run" >"$work/devices"
     "$bench" run <"$plan" >"$work/report"
-    awk '$1 == "taken" {print $NF}' "$work/devices" >"$work/up"
-    awk '$1 == "taken" {n = 0; for (i = 3; i < NF; i++) n += $i; print n}' "$work/devices" >"$work/sums"
+    awk '$3 == "taken" {print $NF}' "$work/devices" >"$work/up"
+    awk '$3 == "taken" {n = 0; for (i = 5; i < NF; i++) n += $i; print n}' "$work/devices" >"$work/sums"
     awk '$1 == "node" {for (i = 4; i < NF; i++) if ($i == "up") print $(i + 1)}' "$work/report" >"$work/wanted"
     told 'taken up' "$(tr '\n' ' ' <"$work/up")" "$(tr '\n' ' ' <"$work/wanted")"
     told 'taken up at all ports' "$(tr '\n' ' ' <"$work/sums")" "$(tr '\n' ' ' <"$work/wanted")"
     lost=$(awk '$1 == "link" {n += $NF} END {print 2 * n}' "$work/report")
+    octets=$(awk '/^(forth|back) /{n += length($3) / 2} $4 == "taken" {n += length($3) / 2} END {print n + 0}' "$run")
+    told octets "$(awk '$1 == "octets" {for (i = 2; i <= NF; i++) n += $i} END {print n + 0}' "$work/devices")" "$octets"
     told 'lost copies' "$(awk '$1 == "lost" {for (i = 5; i <= NF; i++) n += $i} END {print n + 0}' "$work/devices")" "$lost"
 
     told 'words of tshark' "$(grep -vc 'Running as user' "$work/said")" 0

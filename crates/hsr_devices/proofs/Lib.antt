@@ -2,3 +2,4 @@ mod Growing
 mod Summing
 mod Hearing
 mod Needing
+mod Telling

@@ -1,15 +1,19 @@
 -- What is counted at the ports of a record sums up to the counters of its node.
-use Rattle.std.proofs.Common.{◌≡◌, ◌⊎◌, inl, inr, ⊎_elim, ℕ, zero, suc, ◌+◌, ◌<◌, ◌==◌, ◌%◌, ◌^◌, ◌&&◌, ◌||◌, Bool, true, false, cond, if◌then◌else◌, List, [], ◌∷◌, ◌++◌, count_by, length, reverse, Option, Some, None, Result, Ok, Err, refl, sym, ap, ◌∙◌, subst, arith}
+use Rattle.std.proofs.Common.{◌≡◌, ◌⊎◌, inl, inr, ⊎_elim, ℕ, zero, suc, ◌+◌, ◌<◌, ◌≤◌, ◌==◌, ◌%◌, ◌^◌, ◌&&◌, ◌||◌, Bool, true, false, cond, if◌then◌else◌, List, [], ◌∷◌, ◌++◌, count_by, length, reverse, Option, Some, None, Result, Ok, Err, refl, sym, ap, ◌∙◌, subst, arith}
 use Rattle.std.specs.Prelude.{option_map}
 use Rattle.std.proofs.lemmas.Bool.{false≢true}
 use Rattle.std.proofs.lemmas.List.{reverse-append, reverse-reverse}
 use Rattle.hsr_frame.specs.Cause.{is_duplicate, is_returned, is_foreign, is_local, is_untagged, is_tagged, is_malformed}
 use Rattle.hsr_frame.specs.Counters.{bit}
+use Rattle.hsr_frame.specs.Egress.{cause_of, is_any}
 use Rattle.hsr_frame.specs.Send.{send_refusal}
 use Rattle.hsr_frame.specs.declared.fault.SendFault.{SendFault}
 use Rattle.hsr_frame.specs.declared.node.About.{About}
 use Rattle.hsr_frame.specs.declared.node.About.TheVariants.{Own as Self, Proxied}
+use Rattle.hsr_frame.specs.declared.egress.Exits.{Exits}
+use Rattle.hsr_frame.specs.declared.egress.Wants.{Wants}
 use Rattle.hsr_frame.specs.declared.node.Cause.{Cause}
+use Rattle.hsr_frame.specs.declared.node.Cause.TheVariants.{Passed, Duplicate}
 use Rattle.hsr_frame.specs.declared.node.RingPort.{RingPort}
 use Rattle.hsr_danh.specs.Wanted as of_danh
 use Rattle.hsr_redbox.specs.Step.{life_refusal}
@@ -21,7 +25,7 @@ use Rattle.hsr_quadbox.specs.Wanted as of_quadbox
 use Rattle.hsr_quadbox.specs.declared.wanted.QuadPort.{QuadPort}
 use Rattle.hsr_node.specs.Copies.{address_at}
 use Rattle.hsr_node.specs.Counts.{copies, counters, is_cause, is_up}
-use Rattle.hsr_node.specs.Record.{Each, Owner, answer, box_handling, count_of, handling, knows, life_answer, lived_or_refused, lives, next_number, now, send_answer, sending, sent_as, sent_or_refused, station_wanted, steps, sum_of}
+use Rattle.hsr_node.specs.Record.{Each, Owner, answer, box_handling, count_of, handling, judged_as, knows, life_answer, lived_or_refused, lives, next_number, now, passing, remembers, send_answer, sending, sent_as, sent_or_refused, station_wanted, steps, sum_of}
 use Rattle.hsr_node.specs.declared.entry.Entry.{Entry}
 use Rattle.hsr_node.specs.declared.event.Carried.{Carried}
 use Rattle.hsr_node.specs.declared.event.Event.{Event}
@@ -37,7 +41,7 @@ use Rattle.hsr_law.proofs.Lists.{count_more}
 use Rattle.hsr_law.proofs.Records.{Answered, legal_each}
 use Rattle.hsr_law.proofs.Views.{Came, came, judged, knows_at}
 use Rattle.hsr_law.proofs.Wanted.{no_box_port, no_quad_port, no_ring_port}
-use Rattle.hsr_devices.specs.Counted.{SumsAre, SumsAreCounters, becomes, is_at, is_counted, judged_as, leaves_by, summed}
+use Rattle.hsr_devices.specs.Counted.{IsUpPassed, SumsAre, SumsAreCounters, becomes, is_at, is_counted, is_passed, judged_as as counted_as, leaves_by, summed}
 use Rattle.hsr_devices.specs.Listing.{AreSums}
 use Rattle.hsr_devices.specs.declared.counted.Counted.{Counted}
 use Rattle.hsr_devices.specs.declared.counted.Counted.TheVariants as what
@@ -236,14 +240,70 @@ up_is (Sent seq ports) = refl
 up_is (Life seq life ports) = refl
 up_is Aged = refl
 
-cause_is : (w : Counted) (q : Cause → Bool) → ((up : Bool) (c : Cause) → judged_as w up c ≡ q c) → (o : Outcome) → becomes w o ≡ is_cause q o
+cause_is : (w : Counted) (q : Cause → Bool) → ((up : Bool) (c : Cause) → counted_as w up c ≡ q c) → (o : Outcome) → becomes w o ≡ is_cause q o
 cause_is w q same (Judged up ports seq c) = same up c
 cause_is w q same (Sent seq ports) = refl
 cause_is w q same (Life seq life ports) = refl
 cause_is w q same Aged = refl
 
-sums_of : (owner : Owner) (past : List Entry) → FitAll past → SumsAre (reverse past) (counters owner.place past)
-sums_of owner past all = record {
+-- ---- what was taken up was passed
+
+abbrev PassesUp : Outcome → Type 0
+PassesUp outcome = becomes what.Up outcome ≡ true → becomes what.Passed outcome ≡ true
+
+some_passed : (wants : Wants) (passes : Exits) → passes.up ≡ true → is_passed (cause_of wants passes) ≡ true
+some_passed wants passes up =
+    let A : Bool → Bool = λ b. b || passes.a || passes.b || passes.c || passes.d in
+    let C : Bool → Cause = λ b. if b then Passed else (if is_any wants.exits then Duplicate else wants.cause) in
+    ap (λ b. is_passed (C (A b))) up
+
+up_passed : (h : Handling) (passes : Exits) (next : ℕ) → PassesUp (judged_as h passes next)
+up_passed h passes next = λ up. some_passed h.wants passes up
+
+passes_up : (capacity : ℕ) (owner : Owner) (past : List Entry) (at : ℕ) (event : Event) (outcome : Outcome) → answer capacity owner past at event ≡ Ok outcome → Fits event outcome → PassesUp outcome
+passes_up capacity owner past at event outcome ok fit =
+    ⊎_elim
+    (λ arrival.
+    let A : Event → Type 0 = λ e. answer capacity owner past at e ≡ Ok outcome in
+    let j = judged capacity owner past at arrival.0 arrival.1 outcome (subst A arrival.2 ok) in
+    subst PassesUp (sym j.out) (up_passed j.h (passing (remembers capacity owner past at) j.h.wants.exits (came arrival.1)) (next_number past)))
+    (λ none up. absurd (false≢true (sym (becomes_none what.Up outcome none) ∙ up)))
+    fit
+
+abbrev PassAll : List Entry → Type 0
+PassAll past = Each (λ x below. PassesUp x.outcome) past
+
+all_pass : (capacity : ℕ) (owner : Owner) (past : List Entry) → Each (Answered capacity owner) past → PassAll past
+all_pass capacity owner [] each = tt
+all_pass capacity owner (x ∷ past) each =
+    (passes_up capacity owner past (now (x ∷ past)) x.event x.outcome each.0 (fits capacity owner past (now (x ∷ past)) x.event x.outcome each.0), all_pass capacity owner past each.1)
+
+no_more : (a u p : Bool) → (u ≡ true → p ≡ true) → bit (a && u) ≤ bit (a && p)
+no_more false u p so = omega arith
+no_more true false false so = omega arith
+no_more true false true so = omega arith
+no_more true true true so = omega arith
+no_more true true false so = absurd (false≢true (so refl))
+
+one_up : (port : ℕ) (x : Entry) → PassesUp x.outcome → bit (is_counted what.Up port x) ≤ bit (is_counted what.Passed port x)
+one_up port x so =
+    let up = ap bit (or_none (is_at port x.event && becomes what.Up x.outcome) (leaves_by what.Up port x.outcome) refl) in
+    let passed = ap bit (or_none (is_at port x.event && becomes what.Passed x.outcome) (leaves_by what.Passed port x.outcome) refl) in
+    let less = no_more (is_at port x.event) (becomes what.Up x.outcome) (becomes what.Passed x.outcome) so in
+    omega (arith, up, passed, less)
+
+up_is_passed : (past : List Entry) → PassAll past → IsUpPassed (reverse past)
+up_is_passed [] all port = omega arith
+up_is_passed (x ∷ past) all port =
+    let up = count_turned (is_counted what.Up port) x past in
+    let passed = count_turned (is_counted what.Passed port) x past in
+    let rest = up_is_passed past all.1 port in
+    let one = one_up port x all.0 in
+    omega (arith, up, passed, rest, one)
+
+sums_of : (owner : Owner) (past : List Entry) → FitAll past → PassAll past → SumsAre (reverse past) (counters owner.place past)
+sums_of owner past all pass = record {
+  passed = up_is_passed past pass;
   up = count_is what.Up is_up up_is (λ k o. refl) past all;
   forwarded = sum_is what.Forwarded copies (λ x fit. left_all x) past all;
   duplicate = count_is what.Duplicate (is_cause is_duplicate) (cause_is what.Duplicate is_duplicate (λ up c. refl)) (λ k o. refl) past all;
@@ -258,7 +318,8 @@ sums_of owner past all = record {
 pub sums_are : SumsAreCounters
 sums_are capacity owner entries legal =
     let P : List Entry → Type 0 = λ xs. SumsAre xs (counters owner.place (reverse entries)) in
-    subst P (reverse-reverse entries) (sums_of owner (reverse entries) (all_fit capacity owner (reverse entries) (legal_each capacity owner (reverse entries) legal)))
+    let each = legal_each capacity owner (reverse entries) legal in
+    subst P (reverse-reverse entries) (sums_of owner (reverse entries) (all_fit capacity owner (reverse entries) each) (all_pass capacity owner (reverse entries) each))
 
 pub finished_sums : (f : Finished) → IsFinished f → AreSums f.run
 finished_sums f finished k below = sums_are f.run.capacity (owner_of f.run k) (record_of f.run k) (finished.closed.legal k below)

@@ -2,7 +2,7 @@
 --     is_counted        an entry is counted there
 --     summed            over the four ports that a node may have
 --     SumsAreCounters   these sums are the node's counters
-use Rattle.std.specs.Prelude.{ℕ, ◌+◌, ◌≡◌, ◌==◌, ◌&&◌, ◌||◌, Bool, true, false, List, count_by, reverse}
+use Rattle.std.specs.Prelude.{ℕ, ◌+◌, ◌≤◌, ◌≡◌, ◌==◌, ◌&&◌, ◌||◌, Bool, true, false, List, count_by, reverse}
 use Rattle.hsr_frame.specs.Cause.{is_duplicate, is_returned, is_foreign, is_local, is_untagged, is_tagged, is_malformed}
 use Rattle.hsr_frame.specs.declared.counters.Counters.{Counters}
 use Rattle.hsr_frame.specs.declared.node.Cause.{Cause}
@@ -63,8 +63,13 @@ is_counted what port x = (is_at port x.event && becomes what x.outcome) || leave
 abbrev pub summed : Counted → List Entry → ℕ
 summed what entries = count_by (is_counted what 0) entries + count_by (is_counted what 1) entries + count_by (is_counted what 2) entries + count_by (is_counted what 3) entries
 
--- each of a node's counters of arrivals is what its ports sum up to
+-- what was taken up at a port was passed there too
+abbrev pub IsUpPassed : List Entry → Type 0
+IsUpPassed entries = (port : ℕ) → count_by (is_counted Up port) entries ≤ count_by (is_counted Passed port) entries
+
+-- each of a node's counters of arrivals is what its ports sum up to, and what was taken up was passed
 pub record SumsAre (entries : List Entry) (node : Counters) : Type 0 where
+  pub passed : IsUpPassed entries
   pub up : summed Up entries ≡ node.up
   pub forwarded : summed Forwarded entries ≡ node.forwarded
   pub duplicate : summed Duplicate entries ≡ node.duplicate
@@ -75,6 +80,6 @@ pub record SumsAre (entries : List Entry) (node : Counters) : Type 0 where
   pub tagged : summed Tagged entries ≡ node.tagged
   pub malformed : summed Malformed entries ≡ node.malformed
 
--- What is counted at the ports of a legal record sums up to the counters of its node.
+-- What is counted at the ports of a legal record sums up to the counters of its node, and what was taken up was passed.
 abbrev pub SumsAreCounters : Type 0
 SumsAreCounters = (capacity : ℕ) (owner : Owner) (entries : List Entry) → IsLegal capacity owner (reverse entries) → SumsAre entries (counters owner.place (reverse entries))

@@ -1,5 +1,5 @@
 -- What a node is, and what it knows, in words.
-use Rattle.std.specs.Prelude.{ℕ, Bool, false, List, [], ◌++◌, codes, position, Option, Some, None}
+use Rattle.std.specs.Prelude.{ℕ, Bool, false, List, [], ◌∷◌, ◌++◌, codes, position, Option, Some, None}
 use Rattle.std.specs.Fmt.{decimal}
 use Rattle.std.specs.List.{flat_map}
 use Rattle.hsr_frame.specs.Words.{mode_word}
@@ -63,6 +63,17 @@ node_row_text names places row =
 -- a station that is known on the interlink, with its latest moment
 unfoldable pub station_text : List (List ℕ) → List Place → List ℕ × ℕ → List ℕ
 station_text names places station = codes "  knows " ++ who_text names places station.0 ++ codes "  station, at " ++ decimal station.1 ++ codes " us\n"
+
+-- nodes of which supervision never told a node
+abbrev pub next_name : List (List ℕ) → ℕ → List ℕ
+next_name names node = codes ", " ++ name_of names node
+
+abbrev pub parted_names : List (List ℕ) → ℕ → List ℕ → List ℕ
+parted_names names node nodes = name_of names node ++ flat_map (next_name names) nodes
+
+abbrev pub unheard_text : List (List ℕ) → List ℕ → List ℕ
+unheard_text names [] = []
+unheard_text names (node ∷ nodes) = codes "  never heard " ++ parted_names names node nodes ++ codes "\n"
 
 abbrev pub known_text : List (List ℕ) → List Place → List NodeRow → List (List ℕ × ℕ) → List ℕ
 known_text names places nodes stations = flat_map (node_row_text names places) nodes ++ flat_map (station_text names places) stations

@@ -1,6 +1,8 @@
 pub mod Counted
 pub mod Port
 pub mod Known
+pub mod Told
+pub mod Unheard
 pub mod Cells
 pub mod Lines
 pub mod Describing

@@ -28,7 +28,7 @@ counts entries ports what = map (λ port. count_by (is_counted what port) entrie
 
 unfoldable pub label_of : Counted → List ℕ
 label_of Arrived = codes "  in"
-label_of Up = codes "    taken up"
+label_of Up = codes "      of it taken up"
 label_of Passed = codes "    passed"
 label_of Duplicate = codes "    duplicate"
 label_of Returned = codes "    returned"
@@ -47,13 +47,17 @@ counted_row width entries ports what node = row_text width (label_of what) (coun
 unfoldable pub counted_if : ℕ → List Entry → ℕ → Counted → ℕ → List ℕ
 counted_if width entries ports what node = if node == 0 then [] else counted_row width entries ports what (Some node)
 
+-- the octets at each port
+unfoldable pub octets_row : ℕ → List ℕ → List ℕ
+octets_row width octets = row_text width (codes "    octets") octets None
+
 unfoldable pub lost_row : ℕ → List ℕ → List ℕ
 lost_row width lost = row_text width (codes "    lost on the way") lost None
 
--- all that came, and what was wanted of it
+-- all that came, and what was wanted of it; what was taken up was passed too
 unfoldable pub wanted_text : ℕ → List Entry → ℕ → Counters → List ℕ
 wanted_text width entries ports node =
-    counted_row width entries ports Arrived None ++ counted_row width entries ports Up (Some node.up) ++ counted_row width entries ports Passed None
+    counted_row width entries ports Arrived None ++ counted_row width entries ports Passed None ++ counted_row width entries ports Up (Some node.up)
     ++ counted_row width entries ports Duplicate (Some node.duplicate)
 
 -- the rest of what came
@@ -62,10 +66,12 @@ unwanted_text width entries ports node =
     counted_if width entries ports Returned node.returned ++ counted_if width entries ports Foreign node.foreign ++ counted_if width entries ports Local node.local
     ++ counted_if width entries ports Untagged node.untagged ++ counted_if width entries ports Tagged node.tagged ++ counted_if width entries ports Malformed node.malformed
 
--- what came, by what became of it, and what was lost on its way here
-unfoldable pub arrivals_text : ℕ → List Entry → ℕ → Counters → List ℕ → List ℕ
-arrivals_text width entries ports node lost = wanted_text width entries ports node ++ unwanted_text width entries ports node ++ lost_row width lost
+-- what came, by what became of it, its octets, and what was lost on its way here
+unfoldable pub arrivals_text : ℕ → List Entry → ℕ → Counters → List ℕ → List ℕ → List ℕ
+arrivals_text width entries ports node octets lost =
+    wanted_text width entries ports node ++ unwanted_text width entries ports node ++ octets_row width octets ++ lost_row width lost
 
--- what left, and what was lost on its way from here
-unfoldable pub departures_text : ℕ → List Entry → ℕ → Counters → List ℕ → List ℕ
-departures_text width entries ports node lost = counted_row width entries ports Own None ++ counted_row width entries ports Forwarded (Some node.forwarded) ++ lost_row width lost
+-- what left, its octets, and what was lost on its way from here
+unfoldable pub departures_text : ℕ → List Entry → ℕ → Counters → List ℕ → List ℕ → List ℕ
+departures_text width entries ports node octets lost =
+    counted_row width entries ports Own None ++ counted_row width entries ports Forwarded (Some node.forwarded) ++ octets_row width octets ++ lost_row width lost

@@ -1,7 +1,7 @@
 -- The list of all devices.
 --     device_text   the lines of a device
 --     IsListing     the lines of all, with what the tables of each needed
-use Rattle.std.specs.Prelude.{ℕ, zero, suc, ◌+◌, ◌<◌, ◌≡◌, List, [], ◌∷◌, ◌++◌, codes, fold, length, map, max, slice_index_or, Option, Some, None}
+use Rattle.std.specs.Prelude.{ℕ, zero, suc, ◌+◌, ◌<◌, ◌≡◌, ◌==◌, if◌then◌else◌, List, [], ◌∷◌, ◌++◌, codes, fold, length, map, max, slice_index_or, Option, Some, None}
 use Rattle.std.specs.Fmt.{decimal}
 use Rattle.std.specs.List.{flat_map, range_with_len}
 use Rattle.hsr_frame.specs.declared.counters.Counters.{Counters}
@@ -17,10 +17,11 @@ use Rattle.hsr_needed.specs.Needs.{IsMostAt}
 use Rattle.hsr_needed.specs.declared.most.Needed.{Needed}
 use Rattle.hsr_devices.specs.Cells.{left, right}
 use Rattle.hsr_devices.specs.Counted.{SumsAre}
-use Rattle.hsr_devices.specs.Describing.{addresses_text, known_text}
+use Rattle.hsr_devices.specs.Describing.{addresses_text, known_text, unheard_text}
 use Rattle.hsr_devices.specs.Known.{stations_known}
 use Rattle.hsr_devices.specs.Lines.{arrivals_text, departures_text}
 use Rattle.hsr_devices.specs.Port.{port_link}
+use Rattle.hsr_devices.specs.Unheard.{unheard}
 use Rattle.hsr_devices.specs.declared.port.PortLink.{PortLink}
 
 -- ---- links
@@ -35,6 +36,14 @@ lost_in_of (Some link) = link.lost_in
 abbrev pub lost_out_of : Option PortLink → ℕ
 lost_out_of None = 0
 lost_out_of (Some link) = link.lost_out
+
+abbrev pub octets_in_of : Option PortLink → ℕ
+octets_in_of None = 0
+octets_in_of (Some link) = link.octets_in
+
+abbrev pub octets_out_of : Option PortLink → ℕ
+octets_out_of None = 0
+octets_out_of (Some link) = link.octets_out
 
 abbrev pub peer_text : List (List ℕ) → List Place → Option PortLink → List ℕ
 peer_text names places None = codes "-"
@@ -77,16 +86,30 @@ needed_text (RedBox mac mode) entries needed = table_text entries needed
 needed_text QuadBox entries needed = table_text entries needed
 needed_text (Station macs) entries needed = []
 
+-- supervision frames that couldn't be read, if there were any
+unfoldable pub unreadable_line : ℕ → List ℕ
+unreadable_line n = codes "  unreadable supervision " ++ decimal n ++ codes "\n"
+
+unfoldable pub unreadable_if : ℕ → List ℕ
+unreadable_if n = if n == 0 then [] else unreadable_line n
+
 unfoldable pub known_at : List (List ℕ) → Run → ℕ → Place → List ℕ
 known_at names run k place = known_text names run.places (rows place (past_of run k) (now (past_of run k))) (stations_known place (past_of run k))
+
+-- of whom supervision never told a DANH or a RedBox
+unfoldable pub unheard_at : List (List ℕ) → Run → ℕ → Place → List ℕ
+unheard_at names run k (Danh mac mode) = unheard_text names (unheard run k)
+unheard_at names run k (RedBox mac mode) = unheard_text names (unheard run k)
+unheard_at names run k QuadBox = []
+unheard_at names run k (Station macs) = []
 
 -- ---- a device
 
 -- what came to the ports of a node and what left by them, in columns of this width
 unfoldable pub traffic_text : ℕ → Run → ℕ → Place → List (Option PortLink) → List ℕ
 traffic_text width run k place links =
-    arrivals_text width (record_of run k) (ports place) (counters place (past_of run k)) (map lost_in_of links)
-    ++ departures_text width (record_of run k) (ports place) (counters place (past_of run k)) (map lost_out_of links)
+    arrivals_text width (record_of run k) (ports place) (counters place (past_of run k)) (map octets_in_of links) (map lost_in_of links)
+    ++ departures_text width (record_of run k) (ports place) (counters place (past_of run k)) (map octets_out_of links) (map lost_out_of links)
 
 -- the ports of a node as columns
 unfoldable pub columns_text : List (List ℕ) → Run → ℕ → Place → List ℕ
@@ -96,11 +119,12 @@ columns_text names run k place =
     let width = fold wider 10 peers in
     ports_row width place ++ peers_row width peers ++ traffic_text width run k place links
 
--- what it is and sent, its ports, its tables, and what it knows
+-- what it is and sent, its ports, its tables, what it couldn't read, what it knows, and of whom it never heard
 unfoldable pub device_text : List (List ℕ) → Run → ℕ → Place → Needed → List ℕ
 device_text names run k place needed =
     head_text names k place ++ sent_text (counters place (past_of run k)) ++ columns_text names run k place ++ needed_text place run.capacity needed
-    ++ known_at names run k place ++ codes "\n"
+    ++ unreadable_if (counters place (past_of run k)).bad_life ++ known_at names run k place ++ unheard_at names run k place
+    ++ codes "\n"
 
 -- ---- all devices
 

@@ -1,6 +1,7 @@
--- Where a port leads, and what was lost there.
-use Rattle.std.specs.Prelude.{ℕ, ◌&&◌, Bool, true, false, count_by, Option, option_map}
-use Rattle.hsr_link.specs.Rows.{is_lost, is_same_dir}
+-- Where a port leads, and what came, left and was lost there.
+use Rattle.std.specs.Prelude.{ℕ, ◌&&◌, Bool, true, false, if◌then◌else◌, length, count_by, Option, option_map}
+use Rattle.std.specs.List.{sum_by}
+use Rattle.hsr_link.specs.Rows.{is_lost, is_same_dir, is_taken}
 use Rattle.hsr_link.specs.declared.row.Dir.{Dir}
 use Rattle.hsr_link.specs.declared.row.Dir.TheVariants.{Forth, Back}
 use Rattle.hsr_link.specs.declared.row.Row.{Row}
@@ -22,6 +23,13 @@ in_dir false = Forth
 abbrev pub is_loss : Dir → Row → Bool
 is_loss dir row = is_same_dir dir row.dir && is_lost row.fate
 
+-- the octets of a copy of a direction, if it was taken; and of any such copy
+abbrev pub octets_taken : Dir → Row → ℕ
+octets_taken dir row = if is_same_dir dir row.dir && is_taken row.fate then length row.carried.octets else 0
+
+abbrev pub octets_put : Dir → Row → ℕ
+octets_put dir row = if is_same_dir dir row.dir then length row.carried.octets else 0
+
 -- a link, and whether the port is its first end
 abbrev pub port_link_at : Run → ℕ × Bool → PortLink
 port_link_at run at = record {
@@ -29,6 +37,8 @@ port_link_at run at = record {
   peer = to_end (out_dir at.1) (ends_of run at.0);
   lost_in = count_by (is_loss (in_dir at.1)) (rows_of run at.0);
   lost_out = count_by (is_loss (out_dir at.1)) (rows_of run at.0);
+  octets_in = sum_by (octets_taken (in_dir at.1)) (rows_of run at.0);
+  octets_out = sum_by (octets_put (out_dir at.1)) (rows_of run at.0);
 }
 
 -- the link of a port

@@ -3,7 +3,7 @@ ghost use Rattle.std.specs.Prelude.{◌≡◌, ◌++◌, OnOk, codes};
 ghost use Rattle.std.specs.Fmt.{decimal};
 ghost use Rattle.std.specs.List.{flat_map};
 ghost use Rattle.hsr_order.specs.Fronts.{lists_of};
-ghost use Rattle.hsr_devices.specs.Describing.{addresses_text, heard_if, kind_text, known_text, macs_text, node_row_text, owner_if, owner_in, redbox_if, station_text, who_text};
+ghost use Rattle.hsr_devices.specs.Describing.{addresses_text, heard_if, kind_text, known_text, macs_text, next_name, node_row_text, owner_if, owner_in, parted_names, redbox_if, station_text, unheard_text, who_text};
 ghost use Rattle.hsr_text.specs.Words.{mac_text};
 
 use crate::known::Known;
@@ -222,6 +222,67 @@ fn put_stations(
         put_station(alloc, text, names, places, station.0, station.1)?;
     }
     Ok(())
+}
+
+/// Puts a comma and the name of a node last.
+fn put_next_name(text: &mut Vec<u8>, names: &[Vec<u8>], node: usize) -> Result<(), NoMemory>
+    ensures { OnOk result (text.new.items ≡ text.old.items ++ next_name (lists_of names.now) node) }
+{
+    put(text, b", ")?;
+    put_name(text, names, node)
+}
+
+/// Puts the names of nodes last, each behind a comma.
+#[tactic(auto, using(crate::proofs::Growing::grown))]
+fn put_next_names(text: &mut Vec<u8>, names: &[Vec<u8>], nodes: &[usize]) -> Result<(), NoMemory>
+    ensures { OnOk result (text.new.items ≡ text.old.items ++ flat_map (next_name (lists_of names.now)) nodes.now) }
+{
+    for node in nodes {
+        put_next_name(text, names, *node)?;
+    }
+    Ok(())
+}
+
+/// Puts the names of nodes last, parted by commas.
+fn put_names(
+    text: &mut Vec<u8>,
+    names: &[Vec<u8>],
+    node: usize,
+    others: &[usize],
+) -> Result<(), NoMemory>
+    ensures { OnOk result (text.new.items ≡ text.old.items ++ parted_names (lists_of names.now) node others.now) }
+{
+    put_name(text, names, node)?;
+    put_next_names(text, names, others)
+}
+
+/// Puts the line of names behind words last.
+fn put_names_line(
+    text: &mut Vec<u8>,
+    words: &[u8],
+    names: &[Vec<u8>],
+    node: usize,
+    others: &[usize],
+) -> Result<(), NoMemory>
+    ensures { OnOk result (text.new.items ≡ text.old.items ++ (words.now ++ parted_names (lists_of names.now) node others.now ++ codes "\n")) }
+{
+    put(text, words)?;
+    put_names(text, names, node, others)?;
+    put(text, b"\n")
+}
+
+/// Puts the line of the nodes last of which supervision never told a node, if there are any.
+pub(crate) fn put_unheard(
+    text: &mut Vec<u8>,
+    names: &[Vec<u8>],
+    nodes: &[usize],
+) -> Result<(), NoMemory>
+    ensures { OnOk result (text.new.items ≡ text.old.items ++ unheard_text (lists_of names.now) nodes.now) }
+{
+    match nodes.split_first() {
+        None => Ok(()),
+        Some((node, others)) => put_names_line(text, b"  never heard ", names, *node, others),
+    }
 }
 
 /// Puts the lines of the nodes and stations that a node knows last.

@@ -21,7 +21,7 @@ pub struct Known {
 }
 
 /// The ring port that a port is, of a node that hears supervision frames, and the node's address.
-fn hears_on(place: &Place, port: u8) -> Option<(Mac, RingPort)>
+pub(crate) fn hears_on(place: &Place, port: u8) -> Option<(Mac, RingPort)>
     ensures { result ≡ hears_with place.now port }
 {
     match (place, port) {

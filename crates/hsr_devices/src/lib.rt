@@ -2,8 +2,9 @@
 //!
 //! Its modules, in the order in which to read them:
 //! - `counted`: what is counted of a record at a port
-//! - `port`: where a port leads, and what was lost there
+//! - `port`: where a port leads, its octets, and what was lost there
 //! - `known`: the nodes and stations that a node knows
+//! - `unheard`: of whom supervision never told a node
 //! - `cells`: columns of a table
 //! - `lines`: the rows of a device's table
 //! - `describing`: what a node is, and what it knows, in words
@@ -17,6 +18,7 @@ mod known;
 mod lines;
 mod listing;
 mod port;
+mod unheard;
 
 pub use counted::{Counted, count, sums_are_counters};
 pub use known::{Known, known_by};

@@ -1,7 +1,7 @@
 //! The lines of a device.
 ghost use Rattle.std.specs.Prelude.{◌≡◌, ◌++◌, IfOk, OnOk};
 ghost use Rattle.std.specs.List.{flat_map};
-ghost use Rattle.hsr_devices.specs.Lines.{arrivals_text, cell_text, counted_if, counted_row, counts, departures_text, label_of, lost_row, node_cell, row_text, unwanted_text, wanted_text};
+ghost use Rattle.hsr_devices.specs.Lines.{arrivals_text, cell_text, counted_if, counted_row, counts, departures_text, label_of, lost_row, node_cell, octets_row, row_text, unwanted_text, wanted_text};
 
 use crate::cells::{put_count, put_left};
 use crate::counted::{Counted, count};
@@ -84,7 +84,7 @@ fn label(what: Counted) -> &'static [u8]
 {
     match what {
         Counted::Arrived => b"  in",
-        Counted::Up => b"    taken up",
+        Counted::Up => b"      of it taken up",
         Counted::Passed => b"    passed",
         Counted::Duplicate => b"    duplicate",
         Counted::Returned => b"    returned",
@@ -137,6 +137,19 @@ fn put_counted_if(
     put_counted(alloc, text, columns, what, Some(node))
 }
 
+/// Puts the row of octets at each port last.
+#[tactic(auto, unfolding(crate::specs::Lines::octets_row))]
+fn put_octets(
+    alloc: Global,
+    text: &mut Vec<u8>,
+    width: usize,
+    octets: &[u64],
+) -> Result<(), NoMemory>
+    ensures { OnOk result (text.new.items ≡ text.old.items ++ octets_row width octets.now) }
+{
+    put_row(alloc, text, width, b"    octets", octets, None)
+}
+
 /// Puts the row of what was lost at each port last.
 #[tactic(auto, unfolding(crate::specs::Lines::lost_row))]
 fn put_lost(alloc: Global, text: &mut Vec<u8>, width: usize, lost: &[u64]) -> Result<(), NoMemory>
@@ -156,8 +169,8 @@ fn put_wanted(
     ensures { OnOk result (text.new.items ≡ text.old.items ++ wanted_text columns.now.width columns.now.entries.now columns.now.ports node) }
 {
     put_counted(alloc, text, columns, Counted::Arrived, None)?;
-    put_counted(alloc, text, columns, Counted::Up, Some(node.up))?;
     put_counted(alloc, text, columns, Counted::Passed, None)?;
+    put_counted(alloc, text, columns, Counted::Up, Some(node.up))?;
     put_counted(
         alloc,
         text,
@@ -192,12 +205,14 @@ pub(crate) fn put_arrivals(
     text: &mut Vec<u8>,
     columns: &Columns<'_>,
     node: Counters,
+    octets: &[u64],
     lost: &[u64],
 ) -> Result<(), NoMemory>
-    ensures { OnOk result (text.new.items ≡ text.old.items ++ arrivals_text columns.now.width columns.now.entries.now columns.now.ports node lost.now) }
+    ensures { OnOk result (text.new.items ≡ text.old.items ++ arrivals_text columns.now.width columns.now.entries.now columns.now.ports node octets.now lost.now) }
 {
     put_wanted(alloc, text, columns, node)?;
     put_unwanted(alloc, text, columns, node)?;
+    put_octets(alloc, text, columns.width, octets)?;
     put_lost(alloc, text, columns.width, lost)
 }
 
@@ -208,9 +223,10 @@ pub(crate) fn put_departures(
     text: &mut Vec<u8>,
     columns: &Columns<'_>,
     node: Counters,
+    octets: &[u64],
     lost: &[u64],
 ) -> Result<(), NoMemory>
-    ensures { OnOk result (text.new.items ≡ text.old.items ++ departures_text columns.now.width columns.now.entries.now columns.now.ports node lost.now) }
+    ensures { OnOk result (text.new.items ≡ text.old.items ++ departures_text columns.now.width columns.now.entries.now columns.now.ports node octets.now lost.now) }
 {
     put_counted(alloc, text, columns, Counted::Own, None)?;
     put_counted(
@@ -220,5 +236,6 @@ pub(crate) fn put_departures(
         Counted::Forwarded,
         Some(node.forwarded),
     )?;
+    put_octets(alloc, text, columns.width, octets)?;
     put_lost(alloc, text, columns.width, lost)
 }

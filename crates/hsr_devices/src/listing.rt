@@ -1,16 +1,18 @@
 //! The list of all devices.
-ghost use Rattle.std.specs.Prelude.{◌≡◌, ◌<◌, ◌++◌, ◌∷◌, [], IfOk, OnOk, fold, length, map};
+ghost use Rattle.std.specs.Prelude.{◌≡◌, ◌<◌, ◌++◌, ◌∷◌, [], IfOk, OnOk, codes, fold, length, map};
+ghost use Rattle.std.specs.Fmt.{decimal};
 ghost use Rattle.std.specs.List.{flat_map};
 ghost use Rattle.hsr_law.specs.Run.{place_of};
 ghost use Rattle.hsr_order.specs.Fronts.{lists_of};
-ghost use Rattle.hsr_devices.specs.Listing.{AreMost, AreSums, IsListing, columns_text, device_text, devices_below, head_text, known_at, letter_cell, links_at, lost_in_of, lost_out_of, needed_if, needed_text, peer_text, peers_row, ports_row, sent_text, table_text, traffic_text, wider};
+ghost use Rattle.hsr_devices.specs.Listing.{AreMost, AreSums, IsListing, columns_text, device_text, devices_below, head_text, known_at, letter_cell, links_at, lost_in_of, lost_out_of, needed_if, needed_text, octets_in_of, octets_out_of, peer_text, peers_row, ports_row, sent_text, table_text, traffic_text, unheard_at, unreadable_if, unreadable_line, wider};
 ghost use Rattle.hsr_devices.specs.Cells.{right};
 
 use crate::cells::{put_left, put_right};
-use crate::describing::{put, put_addresses, put_known, put_number};
+use crate::describing::{put, put_addresses, put_known, put_number, put_unheard};
 use crate::known::known_by;
 use crate::lines::{Columns, put_arrivals, put_departures};
 use crate::port::{PortLink, port_link};
+use crate::unheard::unheard;
 use hsr_closing::Closed;
 use hsr_frame::{Counters, NoMemory};
 use hsr_names::{put_name, put_port};
@@ -37,7 +39,8 @@ fn links_at<const C: usize>(
 {
     let mut links = Vec::new(alloc);
     for port in 0..ports {
-        links.push(port_link(closed, End { node, port }))?;
+        let link = port_link(closed, End { node, port })?;
+        links.push(link)?;
     }
     Ok(links)
 }
@@ -82,6 +85,48 @@ fn lost_out(alloc: Global, links: &[Option<PortLink>]) -> Result<Vec<u64>, NoMem
         lost.push(lost_out_of(link))?;
     }
     Ok(lost)
+}
+
+/// The octets that came in at a port.
+fn octets_in_of(link: &Option<PortLink>) -> u64
+    ensures { result ≡ octets_in_of link.now }
+{
+    match link {
+        Some(link) => link.octets_in,
+        None => 0,
+    }
+}
+
+/// The octets that were put on the link of a port there.
+fn octets_out_of(link: &Option<PortLink>) -> u64
+    ensures { result ≡ octets_out_of link.now }
+{
+    match link {
+        Some(link) => link.octets_out,
+        None => 0,
+    }
+}
+
+/// The octets that came in, at each port.
+fn octets_in(alloc: Global, links: &[Option<PortLink>]) -> Result<Vec<u64>, NoMemory>
+    ensures { IfOk result (λ octets. octets.items ≡ map octets_in_of links.now) }
+{
+    let mut octets = Vec::new(alloc);
+    for link in links {
+        octets.push(octets_in_of(link))?;
+    }
+    Ok(octets)
+}
+
+/// The octets that were put on its link, at each port.
+fn octets_out(alloc: Global, links: &[Option<PortLink>]) -> Result<Vec<u64>, NoMemory>
+    ensures { IfOk result (λ octets. octets.items ≡ map octets_out_of links.now) }
+{
+    let mut octets = Vec::new(alloc);
+    for link in links {
+        octets.push(octets_out_of(link))?;
+    }
+    Ok(octets)
 }
 
 /// The port to which a port leads, in words.
@@ -266,6 +311,34 @@ fn put_needed(
     }
 }
 
+/// Puts the line of a number behind words last.
+fn put_number_line(text: &mut Vec<u8>, words: &[u8], n: u64) -> Result<(), NoMemory>
+    ensures { OnOk result (text.new.items ≡ text.old.items ++ (words.now ++ decimal n ++ codes "\n")) }
+{
+    put(text, words)?;
+    put_number(text, n)?;
+    put(text, b"\n")
+}
+
+/// Puts the line of how many supervision frames a node couldn't read last.
+#[tactic(auto, unfolding(crate::specs::Listing::unreadable_line))]
+fn put_unreadable(text: &mut Vec<u8>, count: u64) -> Result<(), NoMemory>
+    ensures { OnOk result (text.new.items ≡ text.old.items ++ unreadable_line count) }
+{
+    put_number_line(text, b"  unreadable supervision ", count)
+}
+
+/// Puts that line last, if there were any.
+#[tactic(auto, unfolding(crate::specs::Listing::unreadable_if))]
+fn put_unreadable_if(text: &mut Vec<u8>, count: u64) -> Result<(), NoMemory>
+    ensures { OnOk result (text.new.items ≡ text.old.items ++ unreadable_if count) }
+{
+    if count == 0 {
+        return Ok(());
+    }
+    put_unreadable(text, count)
+}
+
 /// Puts the rows of what came to a node's ports and of what left by them last.
 #[tactic(auto, unfolding(crate::specs::Listing::traffic_text))]
 fn put_traffic<const C: usize>(
@@ -287,10 +360,24 @@ fn put_traffic<const C: usize>(
         ports: place.ports(),
         width,
     };
-    let came = lost_in(alloc, links)?;
-    put_arrivals(alloc, text, &columns, counters, came.as_slice())?;
-    let left = lost_out(alloc, links)?;
-    put_departures(alloc, text, &columns, counters, left.as_slice())
+    let (came, lost) = (octets_in(alloc, links)?, lost_in(alloc, links)?);
+    put_arrivals(
+        alloc,
+        text,
+        &columns,
+        counters,
+        came.as_slice(),
+        lost.as_slice(),
+    )?;
+    let (left, lost) = (octets_out(alloc, links)?, lost_out(alloc, links)?);
+    put_departures(
+        alloc,
+        text,
+        &columns,
+        counters,
+        left.as_slice(),
+        lost.as_slice(),
+    )
 }
 
 /// Puts the table of a node last: its ports, where they lead, and what came and left there.
@@ -332,6 +419,29 @@ fn put_knowledge<const C: usize>(
     put_known(alloc, text, names, closed.topology().places(), &known)
 }
 
+/// Puts the line of the nodes last of which supervision never told a node.
+#[tactic(auto, unfolding(crate::specs::Listing::unheard_at))]
+fn put_never_heard<const C: usize>(
+    alloc: Global,
+    text: &mut Vec<u8>,
+    names: &[Vec<u8>],
+    closed: &Closed<C>,
+    node: usize,
+    place: &Place,
+) -> Result<(), NoMemory>
+    requires below { node < length closed.now.run.places }
+    requires place { place.now ≡ place_of closed.now.run node }
+    ensures { OnOk result (text.new.items ≡ text.old.items ++ unheard_at (lists_of names.now) closed.now.run node place.now) }
+{
+    match place {
+        Place::Danh { .. } | Place::RedBox { .. } => {
+            let nodes = unheard(alloc, closed, node, place)?;
+            put_unheard(text, names, nodes.as_slice())
+        }
+        Place::QuadBox | Place::Station { .. } => Ok(()),
+    }
+}
+
 /// Puts the lines of a device last.
 #[tactic(auto, unfolding(crate::specs::Listing::device_text))]
 fn put_device<const C: usize>(
@@ -351,7 +461,9 @@ fn put_device<const C: usize>(
     put_sent(text, closed.counters(node))?;
     put_columns(alloc, text, names, closed, node, place)?;
     put_needed(text, place, capacity(closed), needed)?;
+    put_unreadable_if(text, closed.counters(node).bad_life)?;
     put_knowledge(alloc, text, names, closed, node, place)?;
+    put_never_heard(alloc, text, names, closed, node, place)?;
     put(text, b"\n")
 }
 
@@ -394,10 +506,12 @@ fn put_devices<const C: usize>(
 }
 
 /// The devices of a finished run, node by node: what each is; where its ports lead, what came and left there with the node's own
-/// counters beside it, and what was lost on the way; how many entries its duplicate tables have, how many were needed, and by which
-/// entry of its record first; and the nodes and stations that it knows at the moment of its last entry, as its own tables have them.
+/// counters beside it, its octets, and what was lost on the way; how many entries its duplicate tables have, how many were needed, and by
+/// which entry of its record first; how many supervision frames it couldn't read, if there were any; the nodes and stations that it
+/// knows at the moment of its last entry, as its own tables have them; and the other DANHs and RedBoxes of which supervision never told
+/// it.
 /// A node without a name is `n` and its number. `NoMemory` where room is refused. What is counted at the ports of a node sums up to
-/// its counters.
+/// its counters, and what was taken up was passed too.
 pub fn devices<const C: usize>(
     alloc: Global,
     closed: &Closed<C>,

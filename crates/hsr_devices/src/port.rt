@@ -1,19 +1,25 @@
-//! Where a port leads, and what was lost there.
-ghost use Rattle.std.specs.Prelude.{◌≡◌, ◌<◌, count_by, length, option_map};
+//! Where a port leads, and what came, left and was lost there.
+ghost use Rattle.std.specs.Prelude.{◌≡◌, ◌<◌, ◌+◌, count_by, length, option_map, IfOk};
+ghost use Rattle.std.specs.List.{sum_by};
+ghost use Rattle.hsr_link.specs.Rows.{goes};
 ghost use Rattle.hsr_topology.specs.Links.{link_from};
-ghost use Rattle.hsr_devices.specs.Port.{in_dir, is_loss, out_dir, port_link, port_link_at};
+ghost use Rattle.hsr_devices.specs.Port.{in_dir, is_loss, octets_put, octets_taken, out_dir, port_link, port_link_at};
 
 use hsr_closing::Closed;
-use hsr_link::{Dir, Row};
+use hsr_frame::NoMemory;
+use hsr_link::{Dir, Fate, Row};
 use hsr_topology::End;
 
-/// The link of a port, counted from 0: the port at its other end, and how many copies were lost on their way in and on their way out.
+/// The link of a port, counted from 0: the port at its other end, how many copies were lost on their way in and on their way out, and the
+/// octets of those that came and of all that were put there.
 #[derive(Clone, Copy, Debug, PartialEq, Eq)]
 pub struct PortLink {
     pub link: usize,
     pub peer: End,
     pub lost_in: usize,
     pub lost_out: usize,
+    pub octets_in: u64,
+    pub octets_out: u64,
 }
 
 /// The direction of the copies that leave by an end.
@@ -30,14 +36,75 @@ fn in_dir(is_first: bool) -> Dir
     if is_first { Dir::Back } else { Dir::Forth }
 }
 
+/// Whether a row is of a direction.
+fn goes(dir: Dir, row: &Row) -> bool
+    ensures { result ≡ goes dir row.now }
+{
+    matches!(
+        (dir, row.dir),
+        (Dir::Forth, Dir::Forth) | (Dir::Back, Dir::Back)
+    )
+}
+
 /// Whether a row is of a lost copy of a direction.
 fn is_loss(dir: Dir, row: &Row) -> bool
     ensures { result ≡ is_loss dir row.now }
 {
-    match (dir, row.dir) {
-        (Dir::Forth, Dir::Forth) | (Dir::Back, Dir::Back) => row.fate.is_lost(),
-        _ => false,
+    goes(dir, row) && row.fate.is_lost()
+}
+
+/// The octets of a copy of a direction, if it was taken.
+fn octets_taken(dir: Dir, row: &Row) -> u64
+    ensures { result ≡ octets_taken dir row.now }
+{
+    if goes(dir, row) && matches!(row.fate, Fate::Taken) {
+        row.carried.octets.as_slice().len() as u64
+    } else {
+        0
     }
+}
+
+/// The octets of a copy of a direction.
+fn octets_put(dir: Dir, row: &Row) -> u64
+    ensures { result ≡ octets_put dir row.now }
+{
+    if goes(dir, row) {
+        row.carried.octets.as_slice().len() as u64
+    } else {
+        0
+    }
+}
+
+/// A sum with one more term. More octets than a number counts don't fit into memory.
+fn more(sum: u64, octets: u64) -> Result<u64, NoMemory>
+    ensures { IfOk result (λ n. n ≡ sum + octets) }
+{
+    match sum.checked_add(octets) {
+        Some(n) => Ok(n),
+        None => Err(NoMemory),
+    }
+}
+
+/// The octets of the copies of a direction that were taken.
+fn octets_in(rows: &[Row], dir: Dir) -> Result<u64, NoMemory>
+    ensures { IfOk result (λ n. n ≡ sum_by (octets_taken dir) rows.now) }
+{
+    let mut sum = 0;
+    for row in rows {
+        sum = more(sum, octets_taken(dir, row))?;
+    }
+    Ok(sum)
+}
+
+/// The octets of the copies of a direction.
+fn octets_out(rows: &[Row], dir: Dir) -> Result<u64, NoMemory>
+    ensures { IfOk result (λ n. n ≡ sum_by (octets_put dir) rows.now) }
+{
+    let mut sum = 0;
+    for row in rows {
+        sum = more(sum, octets_put(dir, row))?;
+    }
+    Ok(sum)
 }
 
 /// How many copies of a direction were lost.
@@ -48,25 +115,31 @@ fn lost(rows: &[Row], dir: Dir) -> usize
 }
 
 /// The link of a port that is its first end, or its second.
-fn port_link_at<const C: usize>(closed: &Closed<C>, link: usize, is_first: bool) -> PortLink
+fn port_link_at<const C: usize>(
+    closed: &Closed<C>,
+    link: usize,
+    is_first: bool,
+) -> Result<PortLink, NoMemory>
     requires { link < length closed.now.run.links }
-    ensures { result ≡ port_link_at closed.now.run (link, is_first) }
+    ensures { IfOk result (λ at. at ≡ port_link_at closed.now.run (link, is_first)) }
 {
     let rows = closed.rows(link);
-    PortLink {
+    Ok(PortLink {
         link,
         peer: closed.to_end(link, out_dir(is_first)),
         lost_in: lost(rows, in_dir(is_first)),
         lost_out: lost(rows, out_dir(is_first)),
-    }
+        octets_in: octets_in(rows, in_dir(is_first))?,
+        octets_out: octets_out(rows, out_dir(is_first))?,
+    })
 }
 
-/// The link of a port, if it has one.
-pub fn port_link<const C: usize>(closed: &Closed<C>, end: End) -> Option<PortLink>
-    ensures { result ≡ port_link closed.now.run end }
+/// The link of a port, if it has one. `NoMemory` where its octets are more than 64 bits count, which fit into no memory.
+pub fn port_link<const C: usize>(closed: &Closed<C>, end: End) -> Result<Option<PortLink>, NoMemory>
+    ensures { IfOk result (λ link. link ≡ port_link closed.now.run end) }
 {
     match closed.topology().link_at(end) {
-        Some((link, is_first)) => Some(port_link_at(closed, link, is_first)),
-        None => None,
+        Some((link, is_first)) => Ok(Some(port_link_at(closed, link, is_first)?)),
+        None => Ok(None),
     }
 }

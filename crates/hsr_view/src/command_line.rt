@@ -49,9 +49,10 @@ Examples: hsr_bench run --transcript < scenario.toml | hsr_view picture --names 
 
 const DEVICES_ENDS: &str = "\
 Of each node: what it is; where each port leads; how many copies came in there and what became of them, how many
-went out, and how many were lost on their way, with the node's own counters in the last column; how many entries of
-its duplicate tables it needed, of how many it had; and the nodes and stations that it knew at its last entry, with
-the moments when it heard them last, in microseconds.
+went out, their octets, and how many were lost on their way, with the node's own counters in the last column; how
+many entries of its duplicate tables it needed, of how many it had; how many supervision frames it couldn't read;
+the nodes and stations that it knew at its last entry, with the moments when it heard them last, in microseconds;
+and the other DANHs and RedBoxes of which supervision never told it.
 
 Status 1: nothing is written, and one line on standard error says why: as with `hsr_bench audit`, or `fault: names`
 (the scenario can't be read, or has other nodes or links than the run). A line `explain: ..` may follow, which says
