@@ -96,9 +96,16 @@ abbrev pub became : List (List ℕ) → Run → Shown → Row → List ℕ
 became names run shown row =
     if shown.is_lost then loss_text row.fate else judged_text names run (to_end row.dir (ends_of run shown.link)) shown.place
 
--- the entry that judged a copy; none where it was lost
+unfoldable pub judge_words : List ℕ
+judge_words = codes "; judged by entry "
+
+-- the entry that judged a copy
+unfoldable pub judge_text : List (List ℕ) → ℕ → ℕ → List ℕ
+judge_text names node place = judge_words ++ entry_text names node place
+
+-- none did where it was lost
 abbrev pub judge_if : List (List ℕ) → Shown → List ℕ
-judge_if names shown = if shown.is_lost then [] else codes "; judged by entry " ++ entry_text names shown.node shown.place
+judge_if names shown = if shown.is_lost then [] else judge_text names shown.node shown.place
 
 -- the sequence number of a frame; none where it has no tag
 abbrev pub sequence_text : Result Seen FrameFault → List ℕ

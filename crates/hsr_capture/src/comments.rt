@@ -6,7 +6,7 @@ ghost use Rattle.hsr_node.specs.Words.{letter};
 ghost use Rattle.hsr_tag.specs.Seen.{classified};
 ghost use Rattle.hsr_law.specs.Run.{ends_of, record_of, to_end};
 ghost use Rattle.hsr_order.specs.Fronts.{lists_of};
-ghost use Rattle.hsr_capture.specs.Comments.{became, comment, entry_text, interface_description, judge_if, judged_if, judged_text, judgement, letters_from, loss_reason, loss_text, name_from, number_text, outcome_text, send_if, send_text, send_words, sequence_text};
+ghost use Rattle.hsr_capture.specs.Comments.{became, comment, entry_text, interface_description, judge_if, judge_text, judge_words, judged_if, judged_text, judgement, letters_from, loss_reason, loss_text, name_from, number_text, outcome_text, send_if, send_text, send_words, sequence_text};
 
 use hsr_closing::Closed;
 use hsr_frame::{Cause, NoMemory};
@@ -255,6 +255,28 @@ fn put_arrival<const C: usize>(
     put_judged(text, places, end.node, entries_at(closed, end.node), place)
 }
 
+/// Puts the words before an entry that judged a copy last.
+#[tactic(auto, unfolding(crate::specs::Comments::judge_words))]
+fn put_judge_words(text: &mut Vec<u8>) -> Result<(), NoMemory>
+    ensures { OnOk result (text.new.items ≡ text.old.items ++ judge_words) }
+{
+    put(text, b"; judged by entry ")
+}
+
+/// Puts last which entry judged a copy.
+#[tactic(auto, unfolding(crate::specs::Comments::judge_text))]
+fn put_judge_entry(
+    text: &mut Vec<u8>,
+    names: &[Vec<u8>],
+    node: usize,
+    place: usize,
+) -> Result<(), NoMemory>
+    ensures { OnOk result (text.new.items ≡ text.old.items ++ judge_text (lists_of names.now) node place) }
+{
+    put_judge_words(text)?;
+    put_spot(text, names, node, place)
+}
+
 /// Puts last which entry judged a copy, if one did.
 fn put_judge(text: &mut Vec<u8>, names: &[Vec<u8>], shown: &Shown) -> Result<(), NoMemory>
     ensures { OnOk result (text.new.items ≡ text.old.items ++ judge_if (lists_of names.now) shown.now) }
@@ -262,8 +284,7 @@ fn put_judge(text: &mut Vec<u8>, names: &[Vec<u8>], shown: &Shown) -> Result<(),
     if shown.is_lost {
         return Ok(());
     }
-    put(text, b"; judged by entry ")?;
-    put_spot(text, names, shown.node, shown.place)
+    put_judge_entry(text, names, shown.node, shown.place)
 }
 
 /// Puts the sequence number of a frame last, if it has a tag.
