@@ -5,7 +5,7 @@ use Rattle.std.specs.Fmt.{decimal}
 
 -- the three digits of a number below 1000
 abbrev pub digits_of : ℕ → List ℕ
-digits_of n = 48 + n / 100 ∷ 48 + n / 10 % 10 ∷ 48 + n % 10 ∷ []
+digits_of n = (48 + n / 100) ∷ (48 + n / 10 % 10) ∷ (48 + n % 10) ∷ []
 
 -- what is left of a unit, behind a point; nothing where nothing is
 abbrev pub thousandths : ℕ → List ℕ

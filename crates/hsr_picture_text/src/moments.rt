@@ -1,5 +1,5 @@
 //! Moments in the unit that reads best.
-ghost use Rattle.std.specs.Prelude.{◌≡◌, ◌<◌, ◌++◌, ◌∷◌, [], OnOk};
+ghost use Rattle.std.specs.Prelude.{◌≡◌, ◌<◌, ◌+◌, ◌++◌, ◌∷◌, [], OnOk};
 ghost use Rattle.hsr_picture_text.specs.Moments.{digits_of, millionths, milliseconds, moment_text, seconds, thousandths};
 
 use crate::sends::{put, put_number};
