@@ -1,9 +1,8 @@
--- Nodes, ports, links and moments.
+-- Nodes, ports and links.
 use Rattle.std.specs.Prelude.{ℕ, List, [], ◌++◌, codes, Option, Some, None}
 use Rattle.std.specs.Fmt.{decimal}
 use Rattle.hsr_node.specs.Words.{letter}
 use Rattle.hsr_node.specs.declared.place.Place.{Place}
-use Rattle.hsr_picture_text.specs.Moments.{moment_text}
 use Rattle.hsr_node.specs.declared.place.Place.TheVariants.{Danh, RedBox, QuadBox, Station}
 
 -- what kind of node it is; nothing of a DANH
@@ -20,6 +19,3 @@ letter_at (Some place) port = letter place port
 
 abbrev pub link_words : ℕ → List ℕ
 link_words link = codes "link " ++ decimal link
-
-abbrev pub moment_words : ℕ → List ℕ
-moment_words moment = moment_text moment
