@@ -181,8 +181,7 @@ fn spaces_of(longest: Longest, lanes: u64, last: u64) -> Spaces {
 /// Where the list of sends stands.
 fn list_at(columns: &Columns, label: u64) -> u64 {
     let last_line = columns.next.saturating_sub(columns.width);
-    let beside = last_line.saturating_add(list_beside(label));
-    beside.max(columns.next.saturating_add(10))
+    last_line.saturating_add(list_beside(label))
 }
 
 /// The sheet of a picture.
