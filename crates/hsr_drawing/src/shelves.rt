@@ -7,7 +7,7 @@ use std::alloc::Global;
 pub(crate) const SHELF: u64 = 8;
 
 /// The least space between two labels of a shelf.
-const APART: u64 = 2;
+const APART: u64 = 3;
 
 /// Labels stand above their row, or below it where a copy was lost.
 #[derive(Clone, Copy, PartialEq, Eq)]
