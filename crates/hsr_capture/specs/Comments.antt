@@ -1,11 +1,16 @@
 -- What a capture says of links and rows, in words.
 --     interface_name, interface_description    of a link's direction
---     comment                                  of a row: what became of its copy, and of which send it is
-use Rattle.std.specs.Prelude.{ℕ, ◌+◌, Bool, if◌then◌else◌, List, [], ◌∷◌, ◌++◌, codes, slice_get, Option, Some, None}
+--     comment                                  of a row: what became of its copy, by which entry, of which send it is, and the number
+--                                              of its frame
+use Rattle.std.specs.Prelude.{ℕ, ◌+◌, Bool, if◌then◌else◌, List, [], ◌∷◌, ◌++◌, codes, slice_get, Option, Some, None, Result, Ok, Err}
 use Rattle.std.specs.Fmt.{decimal}
 use Rattle.hsr_frame.specs.Words.{cause_word}
 use Rattle.hsr_frame.specs.declared.node.Cause.{Cause}
 use Rattle.hsr_frame.specs.declared.node.Cause.TheVariants.{Passed}
+use Rattle.hsr_frame.specs.declared.fault.FrameFault.{FrameFault}
+use Rattle.hsr_tag.specs.Seen.{classified}
+use Rattle.hsr_tag.specs.declared.seen.Seen.{Seen}
+use Rattle.hsr_tag.specs.declared.seen.Seen.TheVariants.{Plain, Tagged}
 use Rattle.hsr_node.specs.Words.{letter}
 use Rattle.hsr_node.specs.declared.entry.Entry.{Entry}
 use Rattle.hsr_node.specs.declared.event.Outcome.{Outcome}
@@ -38,9 +43,13 @@ interface_description l dir = codes "link " ++ decimal l ++ codes " " ++ dir_wor
 unfoldable pub send_words : List ℕ
 send_words = codes "; copy of send "
 
+-- an entry: its node, and its place in that node's record
+unfoldable pub entry_text : List (List ℕ) → ℕ → ℕ → List ℕ
+entry_text names node place = name_of names node ++ codes ":" ++ decimal place
+
 -- of which send a copy is
 unfoldable pub send_text : List (List ℕ) → Probe → List ℕ
-send_text names send = send_words ++ name_of names send.node ++ codes ":" ++ decimal send.place
+send_text names send = send_words ++ entry_text names send.node send.place
 
 abbrev pub send_if : List (List ℕ) → Option Probe → List ℕ
 send_if names None = []
@@ -87,8 +96,26 @@ abbrev pub became : List (List ℕ) → Run → Shown → Row → List ℕ
 became names run shown row =
     if shown.is_lost then loss_text row.fate else judged_text names run (to_end row.dir (ends_of run shown.link)) shown.place
 
+unfoldable pub judge_words : List ℕ
+judge_words = codes "; judged by entry "
+
+-- the entry that judged a copy
+unfoldable pub judge_text : List (List ℕ) → ℕ → ℕ → List ℕ
+judge_text names node place = judge_words ++ entry_text names node place
+
+-- none did where it was lost
+abbrev pub judge_if : List (List ℕ) → Shown → List ℕ
+judge_if names shown = if shown.is_lost then [] else judge_text names shown.node shown.place
+
+-- the sequence number of a frame; none where it has no tag
+abbrev pub sequence_text : Result Seen FrameFault → List ℕ
+sequence_text (Err fault) = []
+sequence_text (Ok (Plain frame)) = []
+sequence_text (Ok (Tagged frame)) = codes "; sequence number " ++ decimal frame.seq
+
 abbrev pub comment : List (List ℕ) → Run → Shown → Row → List ℕ
-comment names run shown row = became names run shown row ++ send_if names row.carried.probe
+comment names run shown row =
+    became names run shown row ++ send_if names row.carried.probe ++ judge_if names shown ++ sequence_text (classified row.carried.octets)
 
 -- that of the row that stands somewhere, if there is one
 abbrev pub comment_if : List (List ℕ) → Run → Shown → Option Row → List ℕ

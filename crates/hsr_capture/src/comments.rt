@@ -3,9 +3,10 @@ ghost use Rattle.std.specs.Prelude.{◌≡◌, ◌++◌, ◌∷◌, [], codes, i
 ghost use Rattle.std.specs.Fmt.{decimal};
 ghost use Rattle.hsr_frame.specs.declared.node.Cause.TheVariants.{Passed};
 ghost use Rattle.hsr_node.specs.Words.{letter};
+ghost use Rattle.hsr_tag.specs.Seen.{classified};
 ghost use Rattle.hsr_law.specs.Run.{ends_of, record_of, to_end};
 ghost use Rattle.hsr_order.specs.Fronts.{lists_of};
-ghost use Rattle.hsr_capture.specs.Comments.{comment, interface_description, judged_if, judged_text, judgement, letters_from, loss_reason, loss_text, name_from, number_text, outcome_text, send_if, send_text, send_words};
+ghost use Rattle.hsr_capture.specs.Comments.{became, comment, entry_text, interface_description, judge_if, judge_text, judge_words, judged_if, judged_text, judgement, letters_from, loss_reason, loss_text, name_from, number_text, outcome_text, send_if, send_text, send_words, sequence_text};
 
 use hsr_closing::Closed;
 use hsr_frame::{Cause, NoMemory};
@@ -13,6 +14,7 @@ use hsr_link::{Dir, Fate, Row};
 use hsr_names::{put_name, put_port};
 use hsr_node::{Entry, Outcome, Place, Probe};
 use hsr_story::Shown;
+use hsr_tag::{EitherView, look_at};
 use hsr_text::put_decimal;
 use hsr_topology::End;
 
@@ -70,15 +72,28 @@ fn put_send_words(text: &mut Vec<u8>) -> Result<(), NoMemory>
     put(text, b"; copy of send ")
 }
 
+/// Puts an entry last: its node, and its place in that node's record.
+#[tactic(auto, unfolding(crate::specs::Comments::entry_text))]
+fn put_spot(
+    text: &mut Vec<u8>,
+    names: &[Vec<u8>],
+    node: usize,
+    place: usize,
+) -> Result<(), NoMemory>
+    ensures { OnOk result (text.new.items ≡ text.old.items ++ entry_text (lists_of names.now) node place) }
+{
+    put_name(text, names, node)?;
+    put(text, b":")?;
+    put_number(text, place as u64)
+}
+
 /// Puts last of which send a copy is.
 #[tactic(auto, unfolding(crate::specs::Comments::send_text))]
 fn put_send(text: &mut Vec<u8>, names: &[Vec<u8>], send: Probe) -> Result<(), NoMemory>
     ensures { OnOk result (text.new.items ≡ text.old.items ++ send_text (lists_of names.now) send) }
 {
     put_send_words(text)?;
-    put_name(text, names, send.node)?;
-    put(text, b":")?;
-    put_number(text, send.place as u64)
+    put_spot(text, names, send.node, send.place)
 }
 
 /// Puts last of which send a copy is, if it is of one.
@@ -240,8 +255,75 @@ fn put_arrival<const C: usize>(
     put_judged(text, places, end.node, entries_at(closed, end.node), place)
 }
 
-/// Puts the comment of a row last: what became of its copy, by the entry that judged it or by its fate, and of which send it is. `to`
-/// is the end to which it went.
+/// Puts the words before an entry that judged a copy last.
+#[tactic(auto, unfolding(crate::specs::Comments::judge_words))]
+fn put_judge_words(text: &mut Vec<u8>) -> Result<(), NoMemory>
+    ensures { OnOk result (text.new.items ≡ text.old.items ++ judge_words) }
+{
+    put(text, b"; judged by entry ")
+}
+
+/// Puts last which entry judged a copy.
+#[tactic(auto, unfolding(crate::specs::Comments::judge_text))]
+fn put_judge_entry(
+    text: &mut Vec<u8>,
+    names: &[Vec<u8>],
+    node: usize,
+    place: usize,
+) -> Result<(), NoMemory>
+    ensures { OnOk result (text.new.items ≡ text.old.items ++ judge_text (lists_of names.now) node place) }
+{
+    put_judge_words(text)?;
+    put_spot(text, names, node, place)
+}
+
+/// Puts last which entry judged a copy, if one did.
+fn put_judge(text: &mut Vec<u8>, names: &[Vec<u8>], shown: &Shown) -> Result<(), NoMemory>
+    ensures { OnOk result (text.new.items ≡ text.old.items ++ judge_if (lists_of names.now) shown.now) }
+{
+    if shown.is_lost {
+        return Ok(());
+    }
+    put_judge_entry(text, names, shown.node, shown.place)
+}
+
+/// Puts the sequence number of a frame last, if it has a tag.
+fn put_sequence(text: &mut Vec<u8>, octets: &[u8]) -> Result<(), NoMemory>
+    ensures { OnOk result (text.new.items ≡ text.old.items ++ sequence_text (classified octets.now)) }
+{
+    let Ok(seen) = look_at(octets) else {
+        return Ok(());
+    };
+    match &seen.frame {
+        EitherView::Plain(_) => Ok(()),
+        EitherView::Tagged(tagged) => {
+            put(text, b"; sequence number ")?;
+            put_number(text, u64::from(tagged.seq))
+        }
+    }
+}
+
+/// Puts last what became of the copy of a row, by the entry that judged it or by its fate. `to` is the end to which it went.
+fn put_became<const C: usize>(
+    text: &mut Vec<u8>,
+    names: &[Vec<u8>],
+    closed: &Closed<C>,
+    shown: &Shown,
+    row: &Row,
+    to: End,
+) -> Result<(), NoMemory>
+    requires { to ≡ to_end row.now.dir (ends_of closed.now.run shown.now.link) }
+    ensures { OnOk result (text.new.items ≡ text.old.items ++ became (lists_of names.now) closed.now.run shown.now row.now) }
+{
+    if shown.is_lost {
+        put_loss(text, row.fate)
+    } else {
+        put_arrival(text, names, closed, to, shown.place)
+    }
+}
+
+/// Puts the comment of a row last: what became of its copy, of which send it is, which entry judged it, and the sequence number of its
+/// frame. `to` is the end to which it went.
 pub(crate) fn put_comment<const C: usize>(
     text: &mut Vec<u8>,
     names: &[Vec<u8>],
@@ -253,10 +335,8 @@ pub(crate) fn put_comment<const C: usize>(
     requires { to ≡ to_end row.now.dir (ends_of closed.now.run shown.now.link) }
     ensures { OnOk result (text.new.items ≡ text.old.items ++ comment (lists_of names.now) closed.now.run shown.now row.now) }
 {
-    if shown.is_lost {
-        put_loss(text, row.fate)?;
-    } else {
-        put_arrival(text, names, closed, to, shown.place)?;
-    }
-    put_send_if(text, names, row.carried.probe)
+    put_became(text, names, closed, shown, row, to)?;
+    put_send_if(text, names, row.carried.probe)?;
+    put_judge(text, names, shown)?;
+    put_sequence(text, row.carried.octets.as_slice())
 }

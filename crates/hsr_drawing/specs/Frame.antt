@@ -7,7 +7,8 @@ use Rattle.hsr_node.specs.declared.place.Place.{Place}
 use Rattle.hsr_names.specs.Names.{name_of}
 use Rattle.hsr_panels.specs.Panels.{Panel}
 use Rattle.hsr_panels.specs.declared.panel.Lane.{Lane}
-use Rattle.hsr_picture_text.specs.Labels.{kind_word, letter_at, link_words, moment_words}
+use Rattle.hsr_picture_text.specs.Labels.{kind_word, letter_at, link_words}
+use Rattle.hsr_picture_text.specs.Moments.{moment_text}
 use Rattle.hsr_svg.specs.Elements.{Shape, line, text}
 use Rattle.hsr_svg.specs.declared.elements.Label.TheVariants as label
 use Rattle.hsr_svg.specs.declared.elements.Line.TheVariants as lines
@@ -58,7 +59,7 @@ link_shapes places lane =
 
 -- a line, and the moment below it
 unfoldable pub moment_shapes : ℕ → List Shape
-moment_shapes moment = line lines.Moment ∷ text label.Moment (moment_words moment) ∷ []
+moment_shapes moment = line lines.Moment ∷ text label.Moment (moment_text moment) ∷ []
 
 -- ---- all
 

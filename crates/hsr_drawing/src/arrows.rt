@@ -19,7 +19,7 @@ use hsr_node::Probe;
 use hsr_picture::{Arrow, Look};
 use hsr_picture_text::send_words;
 use hsr_story::Shown;
-use hsr_svg::{Anchor, Element, Label, Spot, Way, add_arrow, add_text, add_words};
+use hsr_svg::{Element, Label, Spot, Way, add_arrow, add_text, add_words};
 use std::alloc::Global;
 
 // ---- arrows
@@ -74,24 +74,6 @@ pub(crate) fn add_arrows<const C: usize>(
 
 // ---- their labels
 
-/// Where a text stands beyond the point of an arrow, so that the arrow is free, so much lower than the point where the arrow runs to the
-/// right, and so much where it runs to the left.
-fn beyond(way: Way, y_right: u64, y_left: u64) -> Spot {
-    if way.x1 < way.x2 {
-        Spot {
-            x: way.x2.saturating_add(6),
-            y: y_right,
-            anchor: Anchor::Start,
-        }
-    } else {
-        Spot {
-            x: way.x2.saturating_sub(6),
-            y: y_left,
-            anchor: Anchor::End,
-        }
-    }
-}
-
 /// Adds of which send a copy is that was taken up, if it is of one, and if several are shown.
 fn add_copy_if(
     alloc: Global,
@@ -99,18 +81,17 @@ fn add_copy_if(
     names: &[Vec<u8>],
     has_one: bool,
     send: Option<Probe>,
-    way: Way,
+    spot: Spot,
 ) -> Result<(), NoMemory>
     ensures { OnOk result (shapes elements.new.items ≡ shapes elements.old.items ++ copy_if (lists_of names.now) has_one send) }
 {
     match send {
         Some(send) if !has_one => {
-            let y = way.y2.saturating_sub(2);
             let words = send_words(alloc, names, send)?;
             let label = Label::Copy {
                 look: Look::TakenUp,
             };
-            add_text(elements, label, words, beyond(way, y, y))
+            add_text(elements, label, words, spot)
         }
         _ => Ok(()),
     }
@@ -121,12 +102,10 @@ fn add_loss(
     alloc: Global,
     elements: &mut Vec<Element>,
     word: &str,
-    way: Way,
+    spot: Spot,
 ) -> Result<(), NoMemory>
     ensures { OnOk result (shapes elements.new.items ≡ shapes elements.old.items ++ text_shape (labels.Copy Lost) word.now ∷ []) }
 {
-    // two copies may be lost on one lane at one time: their labels stand between the crosses
-    let spot = beyond(way, way.y2, way.y2.saturating_add(3));
     let label = Label::Copy { look: Look::Lost };
     add_words(alloc, elements, label, word.as_bytes(), spot)
 }
@@ -139,19 +118,19 @@ fn add_label_by(
     has_one: bool,
     look: Look,
     row: &Row,
-    way: Way,
+    spot: Spot,
 ) -> Result<(), NoMemory>
     ensures { OnOk result (shapes elements.new.items ≡ shapes elements.old.items ++ label_by (lists_of names.now) has_one look row.now) }
 {
     match look {
-        Look::Lost => add_loss(alloc, elements, row.fate.word(), way),
-        Look::TakenUp => add_copy_if(alloc, elements, names, has_one, row.carried.probe, way),
+        Look::Lost => add_loss(alloc, elements, row.fate.word(), spot),
+        Look::TakenUp => add_copy_if(alloc, elements, names, has_one, row.carried.probe, spot),
         _ => Ok(()),
     }
 }
 
 /// The rows of a link; none where there is no such link.
-fn rows_at<const C: usize>(closed: &Closed<C>, link: usize) -> &[Row]
+pub(crate) fn rows_at<const C: usize>(closed: &Closed<C>, link: usize) -> &[Row]
     ensures { result.now ≡ rows_of closed.now.run link }
 {
     if link < closed.topology().links().len() {
@@ -169,12 +148,12 @@ fn add_label<const C: usize>(
     closed: &Closed<C>,
     has_one: bool,
     arrow: &Arrow,
-    way: Way,
+    spot: Spot,
 ) -> Result<(), NoMemory>
     ensures { OnOk result (shapes elements.new.items ≡ shapes elements.old.items ++ label_shapes (lists_of names.now) closed.now.run has_one arrow.now) }
 {
     match rows_at(closed, arrow.row.link).get(arrow.row.number) {
-        Some(row) => add_label_by(alloc, elements, names, has_one, arrow.look, row, way),
+        Some(row) => add_label_by(alloc, elements, names, has_one, arrow.look, row, spot),
         None => Ok(()),
     }
 }
@@ -193,8 +172,8 @@ pub(crate) fn add_labels<const C: usize>(
     ensures { OnOk result (shapes elements.new.items ≡ shapes elements.old.items ++ flat_map (label_shapes (lists_of names.now) closed.now.run has_one) arrows.now) }
 {
     for arrow in arrows {
-        let way = sheet.way_of(arrow);
-        add_label(alloc, elements, names, closed, has_one, arrow, way)?;
+        let spot = sheet.label_at(arrow);
+        add_label(alloc, elements, names, closed, has_one, arrow, spot)?;
     }
     Ok(())
 }

@@ -5,8 +5,13 @@ ghost use Rattle.hsr_panels.specs.Panels.{lanes_in};
 ghost use Rattle.hsr_drawing.specs.Frame.{nodes_in, nodes_of};
 
 use hsr_frame::NoMemory;
+use hsr_order::Spot;
 use hsr_panels::{Lane, Panel};
+use hsr_picture::{Arrow, Look};
 use std::alloc::Global;
+
+/// The least length of the arrow of a lost copy.
+const STUB: u64 = 9;
 
 /// Where a lane stands, and the node at its left.
 #[derive(Clone, Copy)]
@@ -106,6 +111,51 @@ impl Columns {
             None => self.strip_at(self.strips.len()),
         }
     }
+
+    /// From where to where an arrow runs: from the line of the entry that passed the copy to that of the entry that judged it. The arrow of
+    /// a copy that was lost ends on its way.
+    pub(crate) fn run_of(&self, arrow: &Arrow) -> (u64, u64) {
+        let strip = self.strip_of(arrow.row.link);
+        let (from, to) = if is_of(arrow.passed, strip.node) {
+            (strip.left, strip.right)
+        } else {
+            (strip.right, strip.left)
+        };
+        if arrow.look == Look::Lost {
+            (from, self.stub_end(from, to))
+        } else {
+            (from, to)
+        }
+    }
+
+    /// Where the arrow of a lost copy ends, on its way to a line.
+    fn stub_end(&self, from: u64, to: u64) -> u64 {
+        let part = (self.width / 5).max(STUB);
+        if from < to {
+            from.saturating_add(part)
+        } else {
+            from.saturating_sub(part)
+        }
+    }
+}
+
+/// Whether an entry is of a node.
+fn is_of(spot: Option<Spot>, node: usize) -> bool {
+    match spot {
+        Some(spot) => spot.node == node,
+        None => false,
+    }
+}
+
+/// How many lanes would stand side by side, where each panel takes one more for the space behind it.
+pub(crate) fn lane_count(panels: &[Panel]) -> u64 {
+    let mut count: u64 = 0;
+    for panel in panels {
+        count = count
+            .saturating_add(panel.lanes.len() as u64)
+            .saturating_add(1);
+    }
+    count
 }
 
 /// The columns of panels, from a place on.

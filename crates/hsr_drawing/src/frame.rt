@@ -7,13 +7,13 @@ ghost use Rattle.hsr_svg.specs.declared.elements.Line.TheVariants as lines;
 ghost use Rattle.hsr_drawing.specs.Frame.{frame_shapes, head_shapes, heads_below, is_again, kind_if, link_shapes, moment_shapes, strokes_below};
 
 use crate::columns::Strip;
-use crate::rows::TOP;
+use crate::heads::Heads;
 use crate::sheet::Sheet;
 use hsr_frame::NoMemory;
 use hsr_node::Place;
 use hsr_panels::Lane;
 use hsr_picture_text::{kind_word, letter_at, link_words, moment_words, name_words};
-use hsr_svg::{Anchor, Element, Label, Line, Spot, Way, add_line, add_text, add_words};
+use hsr_svg::{Anchor, Element, Label, Line, Reading, Spot, Way, add_line, add_text, add_words};
 use std::alloc::Global;
 
 // ---- node lines
@@ -39,7 +39,7 @@ fn add_stroke(
     let x = sheet.columns.line_at(number);
     let way = Way {
         x1: x,
-        y1: TOP - 8,
+        y1: sheet.heads.top.saturating_sub(8),
         x2: x,
         y2: sheet.rows.bottom.saturating_add(16),
     };
@@ -87,29 +87,21 @@ fn add_head(
     elements: &mut Vec<Element>,
     names: &[Vec<u8>],
     places: &[Place],
+    sheet: &Sheet,
     nodes: &[usize],
     number: usize,
-    x: u64,
 ) -> Result<(), NoMemory>
     requires { number < length nodes.now }
     ensures { OnOk result (shapes elements.new.items ≡ shapes elements.old.items ++ head_shapes (lists_of names.now) places.now nodes.now number) }
 {
-    let name = Spot {
-        x,
-        y: TOP - 44,
-        anchor: Anchor::Middle,
-    };
-    let kind = Spot {
-        y: TOP - 33,
-        ..name
-    };
+    let x = sheet.columns.line_at(number);
     let node = nodes[number];
     let label = Label::Name {
         is_again: is_again(nodes, number),
     };
     let words = name_words(alloc, names, node)?;
-    add_text(elements, label, words, name)?;
-    add_kind(alloc, elements, places, node, kind)
+    add_text(elements, label, words, sheet.heads.name_at(x))?;
+    add_kind(alloc, elements, places, node, sheet.heads.kind_at(x))
 }
 
 /// Adds the names of nodes, each over its line.
@@ -124,8 +116,7 @@ fn add_heads(
     ensures { OnOk result (shapes elements.new.items ≡ shapes elements.old.items ++ heads_below (lists_of names.now) places.now nodes.now (length nodes.now)) }
 {
     for number in 0..nodes.len() {
-        let x = sheet.columns.line_at(number);
-        add_head(alloc, elements, names, places, nodes, number, x)?;
+        add_head(alloc, elements, names, places, sheet, nodes, number)?;
     }
     Ok(())
 }
@@ -138,32 +129,20 @@ fn add_link(
     alloc: Global,
     elements: &mut Vec<Element>,
     places: &[Place],
+    heads: Heads,
     lane: Lane,
     strip: Strip,
 ) -> Result<(), NoMemory>
     ensures { OnOk result (shapes elements.new.items ≡ shapes elements.old.items ++ link_shapes places.now lane) }
 {
-    let left = Spot {
-        x: strip.left.saturating_add(4),
-        y: TOP - 12,
-        anchor: Anchor::Start,
-    };
-    let right = Spot {
-        x: strip.right.saturating_sub(4),
-        anchor: Anchor::End,
-        ..left
-    };
-    let middle = Spot {
-        x: strip.left / 2 + strip.right / 2,
-        y: TOP - 22,
-        anchor: Anchor::Middle,
-    };
+    let left = heads.left_letter_at(strip);
+    let right = heads.right_letter_at(strip);
     let letter = [letter_at(places, lane.left.node, lane.left.port)];
     add_words(alloc, elements, Label::Link, letter.as_slice(), left)?;
     let letter = [letter_at(places, lane.right.node, lane.right.port)];
     add_words(alloc, elements, Label::Link, letter.as_slice(), right)?;
     let words = link_words(alloc, lane.link)?;
-    add_text(elements, Label::Link, words, middle)
+    add_text(elements, Label::Link, words, heads.link_at(strip))
 }
 
 /// Adds the letters and the numbers of all links.
@@ -179,7 +158,7 @@ fn add_links(
 {
     for (number, lane) in lanes.iter().enumerate() {
         let strip = sheet.columns.strip_at(number);
-        add_link(alloc, elements, places, *lane, strip)?;
+        add_link(alloc, elements, places, sheet.heads, *lane, strip)?;
     }
     Ok(())
 }
@@ -209,6 +188,7 @@ fn add_moment(
         x,
         y: y.saturating_add(3),
         anchor: Anchor::End,
+        reading: Reading::Across,
     };
     add_line(elements, Line::Moment, way)?;
     let words = moment_words(alloc, moment)?;

@@ -8,7 +8,7 @@ ghost use Rattle.hsr_svg.specs.Style.{looks};
 use hsr_frame::NoMemory;
 use hsr_picture::{Arrow, Look};
 use hsr_svg::{
-    Anchor, Element, Label, Spot, Way, add_sample, add_square, add_words, looks, words_of,
+    Anchor, Element, Label, Reading, Spot, Way, add_sample, add_square, add_words, looks, words_of,
 };
 use std::alloc::Global;
 
@@ -21,6 +21,7 @@ fn words_at(y: u64) -> Spot {
         x: 56,
         y,
         anchor: Anchor::Start,
+        reading: Reading::Across,
     }
 }
 
@@ -147,6 +148,7 @@ pub(crate) fn add_foot(alloc: Global, elements: &mut Vec<Element>, y: u64) -> Re
         x: 14,
         y,
         anchor: Anchor::Start,
+        reading: Reading::Across,
     };
     add_words(
         alloc,

@@ -2,8 +2,11 @@
 //! order, with its words and its look, and gets its place on the paper. No contract speaks of places.
 //!
 //! Its modules, in the order in which to read them:
-//! - `rows`: moments and steps, downwards
+//! - `widths`: how wide texts are
 //! - `columns`: lines of nodes and the lanes between them, side by side
+//! - `heads`: what stands over them
+//! - `shelves`, `labels`: labels, so that none lies on another
+//! - `rows`: moments and steps, downwards
 //! - `moments`, `items`: moments, and the sends that are listed, in their order
 //! - `sheet`: these, all places, and where arrows run
 //! - `frame`: node lines, their names, and moments
@@ -16,14 +19,18 @@
 mod arrows;
 mod columns;
 mod frame;
+mod heads;
 mod items;
+mod labels;
 mod legend;
 mod listing;
 mod marks;
 mod moments;
 mod rows;
 mod sheet;
+mod shelves;
 mod svg;
 mod telling;
+mod widths;
 
 pub use svg::drawing;

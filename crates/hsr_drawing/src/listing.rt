@@ -6,18 +6,20 @@ ghost use Rattle.hsr_svg.specs.Elements.{shapes};
 ghost use Rattle.hsr_drawing.specs.Listing.{delivery_shapes, item_shapes, listed_shapes};
 
 use crate::items::Item;
-use crate::rows::TOP;
 use crate::sheet::Sheet;
 use hsr_closing::Closed;
 use hsr_deliveries::Delivery;
 use hsr_frame::NoMemory;
 use hsr_order::Time;
 use hsr_picture_text::sent_words;
-use hsr_svg::{Anchor, Element, Label, Line, Spot, Way, add_line, add_text};
+use hsr_svg::{Anchor, Element, Label, Line, Reading, Spot, Way, add_line, add_text};
 use std::alloc::Global;
 
 /// How many places a line of the list takes.
 const LINE: u64 = 12;
+
+/// How wide a letter of it is, at most.
+pub(crate) const LETTER: u64 = 6;
 
 /// Where the list ends: its right end and its lower end.
 #[derive(Clone, Copy)]
@@ -48,6 +50,7 @@ fn add_listed(
         x,
         y: y.saturating_add(3),
         anchor: Anchor::Start,
+        reading: Reading::Across,
     };
     add_line(elements, Line::Sent, way)?;
     add_text(elements, Label::Sent { is_complete }, words, spot)
@@ -67,7 +70,7 @@ fn add_item<const C: usize>(
     ensures { OnOk result (shapes elements.new.items ≡ shapes elements.old.items ++ delivery_shapes (lists_of names.now) closed.now.run delivery.now) }
 {
     let words = sent_words(alloc, names, closed, delivery)?;
-    let wide = (words.len() as u64).saturating_mul(6);
+    let wide = (words.len() as u64).saturating_mul(LETTER);
     let y = row.max(ends.bottom.saturating_add(LINE));
     add_listed(elements, words, delivery.is_complete(), row, x, y)?;
     Ok(Ends {
@@ -96,9 +99,10 @@ fn add_item_if<const C: usize>(
     } = item;
     match deliveries.get(number) {
         Some(delivery) => {
-            let row = sheet.rows.at(Time { moment, step });
-            let x = sheet.columns.next.saturating_add(10);
-            add_item(alloc, elements, names, closed, delivery, row, x, ends)
+            let row = sheet.rows.at_some(Some(Time { moment, step }));
+            add_item(
+                alloc, elements, names, closed, delivery, row, sheet.list, ends,
+            )
         }
         None => Ok(ends),
     }
@@ -118,8 +122,8 @@ pub(crate) fn add_list<const C: usize>(
     ensures { OnOk result (shapes elements.new.items ≡ shapes elements.old.items ++ flat_map (item_shapes (lists_of names.now) closed.now.run deliveries.now) items.now) }
 {
     let mut ends = Ends {
-        right: sheet.columns.next.saturating_add(10),
-        bottom: TOP - LINE,
+        right: sheet.list,
+        bottom: sheet.heads.top.saturating_sub(LINE),
     };
     for item in items {
         ends = add_item_if(

@@ -5,13 +5,14 @@ ghost use Rattle.hsr_order.specs.Fronts.{lists_of};
 ghost use Rattle.hsr_svg.specs.Elements.{shapes};
 ghost use Rattle.hsr_drawing.specs.Marks.{mark_if, mark_shapes, marks_of, sent_marks};
 
-use crate::sheet::Sheet;
+use crate::sheet::{Mark, Sheet};
 use hsr_deliveries::Delivery;
 use hsr_frame::NoMemory;
 use hsr_node::Probe;
+use hsr_order::Time;
 use hsr_picture::Sent;
 use hsr_picture_text::send_words;
-use hsr_svg::{Anchor, Element, Label, Spot, add_square, add_text};
+use hsr_svg::{Element, Label, add_square, add_text};
 use std::alloc::Global;
 
 /// Adds the mark of a send, with its words.
@@ -21,19 +22,13 @@ fn add_mark(
     elements: &mut Vec<Element>,
     names: &[Vec<u8>],
     send: Probe,
-    x: u64,
-    y: u64,
+    mark: Mark,
 ) -> Result<(), NoMemory>
     ensures { OnOk result (shapes elements.new.items ≡ shapes elements.old.items ++ mark_shapes (lists_of names.now) send) }
 {
-    add_square(elements, x, y)?;
+    add_square(elements, mark.x, mark.y)?;
     let words = send_words(alloc, names, send)?;
-    let spot = Spot {
-        x: x.saturating_add(7),
-        y: y.saturating_sub(2),
-        anchor: Anchor::Start,
-    };
-    add_text(elements, Label::Mark, words, spot)
+    add_text(elements, Label::Mark, words, mark.label)
 }
 
 /// Adds the mark of a send, if a line is of its node.
@@ -43,13 +38,12 @@ fn add_mark_if(
     names: &[Vec<u8>],
     send: Probe,
     node: usize,
-    x: u64,
-    y: u64,
+    mark: Mark,
 ) -> Result<(), NoMemory>
     ensures { OnOk result (shapes elements.new.items ≡ shapes elements.old.items ++ mark_if (lists_of names.now) send node) }
 {
     if node == send.node {
-        add_mark(alloc, elements, names, send, x, y)
+        add_mark(alloc, elements, names, send, mark)
     } else {
         Ok(())
     }
@@ -64,13 +58,13 @@ fn add_marks_of(
     sheet: &Sheet,
     nodes: &[usize],
     send: Probe,
-    y: u64,
+    start: Option<Time>,
 ) -> Result<(), NoMemory>
     ensures { OnOk result (shapes elements.new.items ≡ shapes elements.old.items ++ marks_of (lists_of names.now) nodes.now send) }
 {
     for (number, node) in nodes.iter().enumerate() {
-        let x = sheet.columns.line_at(number);
-        add_mark_if(alloc, elements, names, send, *node, x, y)?;
+        let mark = sheet.mark_at(number, start);
+        add_mark_if(alloc, elements, names, send, *node, mark)?;
     }
     Ok(())
 }
@@ -89,8 +83,15 @@ fn add_sent(
     match deliveries.get(sent.number) {
         Some(delivery) => {
             let nodes = sheet.columns.nodes.as_slice();
-            let y = sheet.rows.at_some(sent.start);
-            add_marks_of(alloc, elements, names, sheet, nodes, delivery.send, y)
+            add_marks_of(
+                alloc,
+                elements,
+                names,
+                sheet,
+                nodes,
+                delivery.send,
+                sent.start,
+            )
         }
         None => Ok(()),
     }

@@ -1,65 +1,46 @@
 //! Moments and steps, downwards.
+use crate::shelves::{SHELF, Shelves, Side};
 use hsr_frame::NoMemory;
 use hsr_order::Time;
 use hsr_picture::Picture;
 use std::alloc::Global;
 
-/// Where the first row stands.
-pub(crate) const TOP: u64 = 92;
-
 /// The more space between two moments.
 const GAP: u64 = 12;
 
-/// A row: a moment and a step, and its place on the paper.
-#[derive(Clone, Copy)]
-struct Row {
-    moment: u64,
-    step: u64,
-    y: u64,
-}
-
-/// All rows, downwards; the space between two steps; and where the last stands.
+/// All times of a picture, rising: for each a row.
 #[derive(Drop)]
-pub(crate) struct Rows {
-    rows: Vec<Row>,
-    pub space: u64,
-    pub bottom: u64,
+pub(crate) struct Times {
+    times: Vec<(u64, u64)>,
 }
 
-impl Rows {
-    /// The place of a time. Each time of a picture has a row; what hasn't one would stand in the first, so that it is drawn all the same.
-    pub(crate) fn at(&self, time: Time) -> u64 {
-        let row = self
-            .rows
+impl Times {
+    /// The row of a time. Each time of a picture has one; what hasn't one would stand in the first, so that it is drawn all the same.
+    pub(crate) fn row_of(&self, time: Option<Time>) -> usize {
+        match time {
+            Some(time) => self
+                .times
+                .as_slice()
+                .iter()
+                .position(|(moment, step)| *moment == time.moment && *step == time.step)
+                .unwrap_or(0),
+            None => 0,
+        }
+    }
+
+    /// The first row of a moment.
+    fn first_of(&self, moment: u64) -> usize {
+        self.times
             .as_slice()
             .iter()
-            .find(|row| row.moment == time.moment && row.step == time.step);
-        match row {
-            Some(row) => row.y,
-            None => TOP,
-        }
-    }
-
-    /// The place of a time; that of the first row, where there is none.
-    pub(crate) fn at_some(&self, time: Option<Time>) -> u64 {
-        match time {
-            Some(time) => self.at(time),
-            None => TOP,
-        }
-    }
-
-    /// The place of the first row of a moment.
-    pub(crate) fn first_of(&self, moment: u64) -> u64 {
-        match self.rows.as_slice().iter().find(|row| row.moment == moment) {
-            Some(row) => row.y,
-            None => TOP,
-        }
+            .position(|(other, _)| *other == moment)
+            .unwrap_or(0)
     }
 
     /// The last moment.
     pub(crate) fn last_moment(&self) -> u64 {
-        match self.rows.as_slice().last() {
-            Some(row) => row.moment,
+        match self.times.as_slice().last() {
+            Some((moment, _)) => *moment,
             None => 0,
         }
     }
@@ -73,20 +54,53 @@ fn push_if(marks: &mut Vec<(u64, u64)>, time: Option<Time>) -> Result<(), NoMemo
     Ok(())
 }
 
-/// The times of all arrows and sends.
-fn times_of(alloc: Global, picture: &Picture) -> Result<Vec<(u64, u64)>, NoMemory> {
-    let mut marks = Vec::new(alloc);
+/// The times of a picture.
+pub(crate) fn times_of(alloc: Global, picture: &Picture) -> Result<Times, NoMemory> {
+    let mut times = Vec::new(alloc);
     for arrow in picture.arrows.as_slice() {
-        marks.push((arrow.row.moment, arrow.row.step))?;
-        push_if(&mut marks, arrow.start)?;
+        times.push((arrow.row.moment, arrow.row.step))?;
+        push_if(&mut times, arrow.start)?;
     }
     for sent in picture.sends.as_slice() {
-        push_if(&mut marks, sent.start)?;
+        push_if(&mut times, sent.start)?;
     }
-    Ok(marks)
+    times.sort_unstable();
+    times.dedup();
+    Ok(Times { times })
 }
 
-/// The space between two steps, for so many rows.
+/// Where each row stands; the least space between two; how far the cross of a lost copy stands below its row; and where the last stands.
+#[derive(Drop)]
+pub(crate) struct Rows {
+    pub times: Times,
+    places: Vec<u64>,
+    pub top: u64,
+    pub space: u64,
+    pub drop: u64,
+    pub bottom: u64,
+}
+
+impl Rows {
+    /// The place of a row.
+    fn at(&self, row: usize) -> u64 {
+        match self.places.as_slice().get(row) {
+            Some(y) => *y,
+            None => self.top,
+        }
+    }
+
+    /// The place of a time; that of the first row, where there is none.
+    pub(crate) fn at_some(&self, time: Option<Time>) -> u64 {
+        self.at(self.times.row_of(time))
+    }
+
+    /// The place of the first row of a moment.
+    pub(crate) fn first_of(&self, moment: u64) -> u64 {
+        self.at(self.times.first_of(moment))
+    }
+}
+
+/// The least space between two steps, for so many rows.
 fn space_for(count: usize) -> u64 {
     match count {
         0..=160 => 15,
@@ -95,33 +109,50 @@ fn space_for(count: usize) -> u64 {
     }
 }
 
-/// The space before a row.
-fn space_before(before: Option<u64>, moment: u64, space: u64) -> u64 {
+/// The space before a row at a moment, where labels of the row before take so much room below it, and its own so much above it.
+fn space_before(before: Option<u64>, moment: u64, space: u64, below: u64, above: u64) -> u64 {
+    let labels = below.saturating_add(above);
     match before {
-        None => 0,
-        Some(before) if before == moment => space,
-        Some(_) => space.saturating_add(GAP),
+        None => above.saturating_sub(SHELF + 1),
+        Some(before) if before == moment => space.max(labels),
+        Some(_) => space.saturating_add(GAP).max(labels),
     }
 }
 
-/// The rows of a picture.
-pub(crate) fn rows_of(alloc: Global, picture: &Picture) -> Result<Rows, NoMemory> {
-    let mut marks = times_of(alloc, picture)?;
-    marks.sort_unstable();
-    marks.dedup();
-    let space = space_for(marks.len());
-    let mut rows = Vec::new(alloc);
-    let mut y = TOP;
+/// How much room there must be below a row: that of the labels of lost copies, which hang there beside their crosses.
+fn room_below(shelves: &Shelves, row: usize, drop: u64) -> u64 {
+    match shelves.room(row, Side::Below) {
+        0 => 0,
+        room => room.saturating_add(drop).saturating_sub(4),
+    }
+}
+
+/// Rows from a place downwards, with room for these labels.
+pub(crate) fn rows_of(
+    alloc: Global,
+    times: Times,
+    top: u64,
+    shelves: &Shelves,
+) -> Result<Rows, NoMemory> {
+    let space = space_for(times.times.len());
+    let drop = space / 3;
+    let mut places = Vec::new(alloc);
+    let mut y = top;
+    let mut below = 0;
     let mut before = None;
-    for mark in marks.as_slice() {
-        let (moment, step) = *mark;
-        y = y.saturating_add(space_before(before, moment, space));
-        rows.push(Row { moment, step, y })?;
-        before = Some(moment);
+    for (row, time) in times.times.as_slice().iter().enumerate() {
+        let above = shelves.room(row, Side::Above);
+        y = y.saturating_add(space_before(before, time.0, space, below, above));
+        places.push(y)?;
+        before = Some(time.0);
+        below = room_below(shelves, row, drop);
     }
     Ok(Rows {
-        rows,
+        times,
+        places,
+        top,
         space,
-        bottom: y,
+        drop,
+        bottom: y.saturating_add(below),
     })
 }

@@ -6,20 +6,31 @@ ghost use Rattle.hsr_drawing.specs.Frame.{nodes_of};
 ghost use Rattle.hsr_drawing.specs.Items.{AreListed};
 ghost use Rattle.hsr_drawing.specs.Moments.{AreMoments, all_moments};
 
-use crate::columns::{Columns, columns_of};
+use crate::columns::{Columns, columns_of, lane_count};
+use crate::heads::{Heads, heads_of};
 use crate::items::{Item, listed};
+use crate::labels::{foot_of, judged_at, mark_foot, shelves_of};
+use crate::listing::LETTER;
 use crate::moments::moments_of;
-use crate::rows::{Rows, rows_of};
+use crate::rows::{Rows, rows_of, times_of};
+use crate::shelves::{Foot, SHELF, Shelves};
+use crate::widths::{MARK, NAME, width_of};
 use hsr_closing::Closed;
 use hsr_frame::NoMemory;
 use hsr_names::put_name;
-use hsr_order::{Spot, Time};
+use hsr_order::Time;
 use hsr_picture::{Arrow, Look, Picture};
-use hsr_svg::Way;
+use hsr_picture_text::sent_words;
+use hsr_svg::{Reading, Spot, Way};
 use std::alloc::Global;
 
-/// The least width of a lane.
+/// The least width of a lane where there is room, and where there isn't.
 const LANE: u64 = 72;
+
+const NARROW: u64 = 20;
+
+/// How wide a picture is at most, if its lanes can be so narrow.
+const MOST: u64 = 2400;
 
 /// The least width between the moments and the first line.
 const SIDE: u64 = 36;
@@ -31,8 +42,19 @@ pub(crate) struct Sheet {
     pub rows: Rows,
     pub columns: Columns,
     pub items: Vec<Item>,
+    pub heads: Heads,
+    shelves: Shelves,
     pub left: u64,
     pub side: u64,
+    pub list: u64,
+}
+
+/// How wide the longest name is; the longest label of a mark; and the longest line of the list of sends.
+#[derive(Clone, Copy)]
+struct Longest {
+    name: u64,
+    label: u64,
+    listed: u64,
 }
 
 /// How wide lanes are; where the first line stands; and how far the moments stand from it.
@@ -43,6 +65,8 @@ struct Spaces {
     side: u64,
 }
 
+// ---- widths
+
 /// How many digits a number has.
 fn digits(n: u64) -> u64 {
     match n.checked_ilog10() {
@@ -51,17 +75,18 @@ fn digits(n: u64) -> u64 {
     }
 }
 
-/// How many octets the longest name of a node has.
+/// How wide the longest name of a node is, with letters of a width.
 fn longest_name<const C: usize>(
     alloc: Global,
     closed: &Closed<C>,
     names: &[Vec<u8>],
+    letter: u64,
 ) -> Result<u64, NoMemory> {
     let mut longest = 0;
     for node in 0..closed.topology().places().len() {
         let mut name = Vec::new(alloc);
         put_name(&mut name, names, node)?;
-        longest = longest.max(name.len() as u64);
+        longest = longest.max(width_of(name.as_slice(), letter));
     }
     Ok(longest)
 }
@@ -75,36 +100,88 @@ fn longest_record<const C: usize>(closed: &Closed<C>) -> u64 {
     longest
 }
 
-/// How wide a lane is that has room for the name of a node, or for two labels of so many octets side by side.
-fn lane_width(name: u64, label: u64) -> u64 {
-    let by_name = name.saturating_mul(7).saturating_add(14);
-    let by_label = label.saturating_mul(9).saturating_add(14);
-    LANE.max(by_name).max(by_label)
-}
-
-/// How far the moments stand from the first line, where a label of so many octets may stand between.
-fn side_width(label: u64) -> u64 {
-    SIDE.max(label.saturating_mul(5).saturating_add(12))
-}
-
-/// How wide the lanes of a picture are, where the first line stands, and how far the moments stand from it.
-fn spaces_of<const C: usize>(
+/// How wide the longest line of the list of sends is.
+fn longest_listed<const C: usize>(
     alloc: Global,
     closed: &Closed<C>,
     names: &[Vec<u8>],
-    last: u64,
-) -> Result<Spaces, NoMemory> {
-    let name = longest_name(alloc, closed, names)?;
-    let label = name
-        .saturating_add(digits(longest_record(closed)))
-        .saturating_add(1);
-    let side = side_width(label);
-    let moment = digits(last).saturating_mul(6);
-    Ok(Spaces {
-        width: lane_width(name, label),
-        left: moment.saturating_add(44).saturating_add(side),
-        side,
+    picture: &Picture,
+) -> Result<u64, NoMemory> {
+    let deliveries = picture.deliveries.sends.as_slice();
+    let mut longest = 0;
+    for sent in picture.sends.as_slice() {
+        if let Some(delivery) = deliveries.get(sent.number) {
+            let words = sent_words(alloc, names, closed, delivery)?;
+            longest = longest.max(words.len() as u64);
+        }
+    }
+    Ok(longest.saturating_mul(LETTER))
+}
+
+/// How wide the longest texts of a picture are.
+fn longest_of<const C: usize>(
+    alloc: Global,
+    closed: &Closed<C>,
+    names: &[Vec<u8>],
+    picture: &Picture,
+) -> Result<Longest, NoMemory> {
+    let place = digits(longest_record(closed)).saturating_add(1);
+    let label = longest_name(alloc, closed, names, MARK)?.saturating_add(place.saturating_mul(
+        MARK,
+    ));
+    Ok(Longest {
+        name: longest_name(alloc, closed, names, NAME)?,
+        label,
+        listed: longest_listed(alloc, closed, names, picture)?,
     })
+}
+
+// ---- places
+
+/// How wide a lane is, where there is room for the longest name over it, and for two labels side by side.
+fn wide_lane(longest: Longest) -> u64 {
+    let by_name = longest.name.saturating_add(6);
+    let by_label = (longest.label / 2).saturating_mul(3).saturating_add(14);
+    LANE.max(by_name).max(by_label)
+}
+
+/// How wide each of so many lanes is, from a place on: so narrow that all have room in the width of a picture, if they have any.
+fn lane_width(longest: Longest, count: u64, left: u64) -> u64 {
+    let wide = wide_lane(longest);
+    let beside = list_beside(longest.label).saturating_add(longest.listed);
+    let room = MOST
+        .saturating_sub(left)
+        .saturating_sub(beside.saturating_add(10));
+    // the last space is no lane: the list stands in it
+    match room.checked_div(count.saturating_sub(1)) {
+        Some(part) => wide.min(part.max(NARROW)),
+        None => wide,
+    }
+}
+
+/// How far the list of sends stands from the last line, where a label of a width may stand between.
+fn list_beside(label: u64) -> u64 {
+    label.saturating_add(30)
+}
+
+/// How wide the lanes of a picture are, where the first line stands, and how far the moments stand from it.
+fn spaces_of(longest: Longest, lanes: u64, last: u64) -> Spaces {
+    let side = SIDE.max(longest.label.saturating_add(12));
+    let left = digits(last)
+        .saturating_mul(6)
+        .saturating_add(44)
+        .saturating_add(side);
+    Spaces {
+        width: lane_width(longest, lanes, left),
+        left,
+        side,
+    }
+}
+
+/// Where the list of sends stands.
+fn list_at(columns: &Columns, label: u64) -> u64 {
+    let last_line = columns.next.saturating_sub(columns.width);
+    last_line.saturating_add(list_beside(label))
 }
 
 /// The sheet of a picture.
@@ -119,66 +196,93 @@ pub(crate) fn sheet_of<const C: usize>(
     ensures moments { IfOk result (λ sheet. AreMoments (all_moments picture.now.arrows picture.now.sends) sheet.moments.items) }
     ensures listed { IfOk result (λ sheet. AreListed picture.now.sends sheet.items.items) }
 {
-    let rows = rows_of(alloc, picture)?;
-    let Spaces { width, left, side } = spaces_of(alloc, closed, names, rows.last_moment())?;
-    let columns = columns_of(alloc, picture.panels.as_slice(), left, width)?;
+    let panels = picture.panels.as_slice();
+    let longest = longest_of(alloc, closed, names, picture)?;
+    let times = times_of(alloc, picture)?;
+    let Spaces { width, left, side } = spaces_of(longest, lane_count(panels), times.last_moment());
+    let columns = columns_of(alloc, panels, left, width)?;
+    let heads = heads_of(width, longest.name);
+    let shelves = shelves_of(alloc, closed, names, picture, &times, &columns)?;
+    let rows = rows_of(alloc, times, heads.top, &shelves)?;
     let moments = moments_of(alloc, picture)?;
     let items = listed(alloc, picture.sends.as_slice())?;
+    let list = list_at(&columns, longest.label);
     Ok(Sheet {
         moments,
         rows,
         columns,
         items,
+        heads,
+        shelves,
         left,
         side,
+        list,
     })
 }
 
-/// Whether an entry is of a node.
-fn is_of(spot: Option<Spot>, node: usize) -> bool {
-    match spot {
-        Some(spot) => spot.node == node,
-        None => false,
-    }
+/// Where a mark stands, and its label.
+#[derive(Clone, Copy)]
+pub(crate) struct Mark {
+    pub x: u64,
+    pub y: u64,
+    pub label: Spot,
 }
 
 impl Sheet {
     /// Where an arrow runs: from the line and the row of the entry that passed the copy to those of the entry that judged it. The
     /// arrow of a copy that was lost ends on its way.
     pub(crate) fn way_of(&self, arrow: &Arrow) -> Way {
-        let strip = self.columns.strip_of(arrow.row.link);
+        let (x1, x2) = self.columns.run_of(arrow);
         let y1 = self.rows.at_some(arrow.start);
-        let (x1, x2) = if is_of(arrow.passed, strip.node) {
-            (strip.left, strip.right)
+        let y2 = if arrow.look == Look::Lost {
+            y1.saturating_add(self.rows.drop)
         } else {
-            (strip.right, strip.left)
+            self.rows.at_some(Some(judged_at(arrow)))
         };
-        if arrow.look == Look::Lost {
-            self.lost_way(x1, y1, x2)
-        } else {
-            let time = Time {
-                moment: arrow.row.moment,
-                step: arrow.row.step,
-            };
-            Way {
-                x1,
-                y1,
-                x2,
-                y2: self.rows.at(time),
-            }
+        Way { x1, y1, x2, y2 }
+    }
+
+    /// A label on its shelf above a place.
+    fn above(&self, foot: Foot, y: u64) -> Spot {
+        let raised = self.shelves.shelf_of(foot).saturating_mul(SHELF);
+        Spot {
+            x: foot.x,
+            y: y.saturating_sub(2).saturating_sub(raised),
+            anchor: foot.anchor,
+            reading: Reading::Across,
         }
     }
 
-    /// Where the arrow of a lost copy runs, towards a line.
-    fn lost_way(&self, x1: u64, y1: u64, towards: u64) -> Way {
-        let part = self.columns.width / 5;
-        let x2 = if x1 < towards {
-            x1.saturating_add(part)
+    /// A label on its shelf below a place.
+    fn below(&self, foot: Foot, y: u64) -> Spot {
+        let lowered = self.shelves.shelf_of(foot).saturating_mul(SHELF);
+        Spot {
+            x: foot.x,
+            y: y.saturating_add(3).saturating_add(lowered),
+            anchor: foot.anchor,
+            reading: Reading::Across,
+        }
+    }
+
+    /// Where the label of an arrow stands: above its point, or beside the cross where its copy was lost.
+    pub(crate) fn label_at(&self, arrow: &Arrow) -> Spot {
+        let foot = foot_of(&self.rows.times, &self.columns, arrow);
+        let y = self.way_of(arrow).y2;
+        if arrow.look == Look::Lost {
+            self.below(foot, y)
         } else {
-            x1.saturating_sub(part)
-        };
-        // below the label of its own row, and above that of the next
-        let y2 = y1.saturating_add(self.rows.space / 3);
-        Way { x1, y1, x2, y2 }
+            self.above(foot, y)
+        }
+    }
+
+    /// The mark of a send that began at a time, on the line that has a number.
+    pub(crate) fn mark_at(&self, number: usize, start: Option<Time>) -> Mark {
+        let y = self.rows.at_some(start);
+        let foot = mark_foot(&self.rows.times, &self.columns, number, start);
+        Mark {
+            x: self.columns.line_at(number),
+            y,
+            label: self.above(foot, y),
+        }
     }
 }

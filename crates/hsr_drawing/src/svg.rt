@@ -17,7 +17,7 @@ use hsr_closing::Closed;
 use hsr_frame::NoMemory;
 use hsr_picture::Picture;
 use hsr_picture_text::title_words;
-use hsr_svg::{Anchor, Element, Label, Spot, add_text, begin_labels, end_labels, put_svg};
+use hsr_svg::{Anchor, Element, Label, Reading, Spot, add_text, begin_labels, end_labels, put_svg};
 use std::alloc::Global;
 
 /// The least width of a picture.
@@ -44,6 +44,7 @@ fn add_title<const C: usize>(
         x: 14,
         y: 20,
         anchor: Anchor::Start,
+        reading: Reading::Across,
     };
     add_text(elements, Label::Title, words, spot)
 }

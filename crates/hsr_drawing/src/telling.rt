@@ -11,7 +11,7 @@ use hsr_deliveries::Delivery;
 use hsr_frame::NoMemory;
 use hsr_picture::Sent;
 use hsr_picture_text::{more_words, told_words};
-use hsr_svg::{Anchor, Element, Label, Spot, add_text};
+use hsr_svg::{Anchor, Element, Label, Reading, Spot, add_text};
 use std::alloc::Global;
 
 /// The most sends that aren't complete of which the foot tells; the others are counted.
@@ -65,6 +65,7 @@ fn add_told(elements: &mut Vec<Element>, words: Vec<u8>, y: u64) -> Result<u64, 
         x: 14,
         y,
         anchor: Anchor::Start,
+        reading: Reading::Across,
     };
     add_text(elements, Label::Incomplete, words, spot)?;
     Ok(y.saturating_add(LINE))

@@ -1,4 +1,4 @@
--- Nodes, ports, links and moments.
+-- Nodes, ports and links.
 use Rattle.std.specs.Prelude.{ℕ, List, [], ◌++◌, codes, Option, Some, None}
 use Rattle.std.specs.Fmt.{decimal}
 use Rattle.hsr_node.specs.Words.{letter}
@@ -19,6 +19,3 @@ letter_at (Some place) port = letter place port
 
 abbrev pub link_words : ℕ → List ℕ
 link_words link = codes "link " ++ decimal link
-
-abbrev pub moment_words : ℕ → List ℕ
-moment_words moment = decimal moment ++ codes " us"

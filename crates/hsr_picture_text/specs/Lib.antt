@@ -1,3 +1,4 @@
+pub mod Moments
 pub mod Sends
 pub mod Labels
 pub mod Title

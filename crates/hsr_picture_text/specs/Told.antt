@@ -7,6 +7,7 @@ use Rattle.std.specs.List.{flat_map}
 use Rattle.hsr_link.specs.Words.{dir_word, fate_word}
 use Rattle.hsr_deliveries.specs.declared.loss.Loss.{Loss}
 use Rattle.hsr_deliveries.specs.Delivered.{Delivery}
+use Rattle.hsr_picture_text.specs.Moments.{moment_text}
 use Rattle.hsr_picture_text.specs.Sends.{nodes_text, send_text}
 
 -- a loss: link, direction and fate
@@ -21,9 +22,9 @@ abbrev pub losses_text : List Loss → List ℕ
 losses_text [] = []
 losses_text (loss ∷ losses) = codes "; lost on " ++ loss_text loss ++ flat_map next_loss losses
 
--- a send and its moment in microseconds, as it was given
+-- a send and its moment, as it was given
 unfoldable pub at_text : List (List ℕ) → Delivery → List ℕ
-at_text names d = send_text names d.send ++ codes " at " ++ decimal d.at
+at_text names d = send_text names d.send ++ codes " at " ++ moment_text d.at
 
 -- the send, which nodes missed it, took it up twice, or took it up though it wasn't due there, and where copies of it were lost
 unfoldable pub told_words : List (List ℕ) → Delivery → List ℕ

@@ -2,8 +2,10 @@
 ghost use Rattle.std.specs.Prelude.{◌≡◌, slice_get, IfOk};
 ghost use Rattle.hsr_names.specs.Names.{name_of};
 ghost use Rattle.hsr_order.specs.Fronts.{lists_of};
-ghost use Rattle.hsr_picture_text.specs.Labels.{kind_word, letter_at, link_words, moment_words};
+ghost use Rattle.hsr_picture_text.specs.Labels.{kind_word, letter_at, link_words};
+ghost use Rattle.hsr_picture_text.specs.Moments.{moment_text};
 
+use crate::moments::put_moment;
 use crate::sends::{put, put_number};
 use hsr_frame::NoMemory;
 use hsr_names::put_name;
@@ -51,12 +53,11 @@ pub fn link_words(alloc: Global, link: usize) -> Result<Vec<u8>, NoMemory>
     Ok(words)
 }
 
-/// A moment in microseconds. `NoMemory` where room is refused.
+/// A moment in microseconds, in s, ms or us. `NoMemory` where room is refused.
 pub fn moment_words(alloc: Global, moment: u64) -> Result<Vec<u8>, NoMemory>
-    ensures { IfOk result (λ words. words.items ≡ moment_words moment) }
+    ensures { IfOk result (λ words. words.items ≡ moment_text moment) }
 {
     let mut words = Vec::new(alloc);
-    put_number(&mut words, moment)?;
-    put(&mut words, " us")?;
+    put_moment(&mut words, moment)?;
     Ok(words)
 }

@@ -2,6 +2,7 @@
 //!
 //! Its modules, in the order in which to read them:
 //! - `sends`: sends, and names of nodes
+//! - `moments`: moments in the unit that reads best
 //! - `labels`: nodes, ports, links and moments
 //! - `title`: the title
 //! - `sent`: sends as they are listed
@@ -9,6 +10,7 @@
 #![tactic(auto)]
 
 mod labels;
+mod moments;
 mod sends;
 mod sent;
 mod title;

@@ -4,6 +4,7 @@ ghost use Rattle.std.specs.List.{flat_map};
 ghost use Rattle.hsr_order.specs.Fronts.{lists_of};
 ghost use Rattle.hsr_picture_text.specs.Told.{at_text, loss_text, losses_text, more_words, next_loss, told_words};
 
+use crate::moments::put_moment;
 use crate::sends::{put, put_nodes, put_number, put_send};
 use hsr_deliveries::{Delivery, Loss};
 use hsr_frame::NoMemory;
@@ -62,7 +63,7 @@ fn put_at(text: &mut Vec<u8>, names: &[Vec<u8>], delivery: &Delivery) -> Result<
 {
     put_send(text, names, delivery.send)?;
     put(text, " at ")?;
-    put_number(text, delivery.at)
+    put_moment(text, delivery.at)
 }
 
 /// A send that isn't complete: its moment, which nodes missed it, took it up twice, or took it up though it wasn't due there, and where

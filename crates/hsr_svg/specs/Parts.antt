@@ -4,7 +4,7 @@
 use Rattle.std.specs.Prelude.{ℕ, ◌==◌, nat_lt, if◌then◌else◌, List, [], ◌∷◌, ◌++◌, codes}
 use Rattle.std.specs.List.{flat_map}
 use Rattle.hsr_svg.specs.declared.parts.Attribute.{Attribute}
-use Rattle.hsr_svg.specs.declared.parts.Attribute.TheVariants.{Class, Identity, X, Y, X1, Y1, X2, Y2, Width, Height, Stroke, StrokeWidth, Dashes, Size, Fill, Anchor, Weight, Marker, View}
+use Rattle.hsr_svg.specs.declared.parts.Attribute.TheVariants.{Class, Identity, X, Y, X1, Y1, X2, Y2, Width, Height, Stroke, StrokeWidth, Dashes, Size, Fill, Anchor, Weight, Transform, Marker, View}
 
 -- an octet of a text that is shown: what means something in SVG is spelled, and a control is a space
 abbrev pub escaped_octet : ℕ → List ℕ
@@ -33,6 +33,7 @@ attribute_name Size = codes "font-size"
 attribute_name Fill = codes "fill"
 attribute_name Anchor = codes "text-anchor"
 attribute_name Weight = codes "font-weight"
+attribute_name Transform = codes "transform"
 attribute_name Marker = codes "marker-end"
 attribute_name View = codes "viewBox"
 

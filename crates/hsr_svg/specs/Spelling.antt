@@ -2,7 +2,7 @@
 --     element_text   an element
 --     points_text    what stands at the points of arrows
 --     svg_text       elements as a picture
-use Rattle.std.specs.Prelude.{ℕ, Bool, true, false, List, ◌++◌, codes}
+use Rattle.std.specs.Prelude.{ℕ, Bool, true, false, List, [], ◌++◌, codes}
 use Rattle.std.specs.Fmt.{decimal}
 use Rattle.std.specs.List.{flat_map}
 use Rattle.hsr_picture.specs.declared.arrow.Look.{Look}
@@ -14,9 +14,11 @@ use Rattle.hsr_svg.specs.declared.elements.Label.{Label}
 use Rattle.hsr_svg.specs.declared.elements.Label.TheVariants as label
 use Rattle.hsr_svg.specs.declared.elements.Line.{Line}
 use Rattle.hsr_svg.specs.declared.elements.Line.TheVariants as line
+use Rattle.hsr_svg.specs.declared.elements.Reading.{Reading}
+use Rattle.hsr_svg.specs.declared.elements.Reading.TheVariants.{Across, Upwards}
 use Rattle.hsr_svg.specs.declared.elements.Spot.{Spot}
 use Rattle.hsr_svg.specs.declared.elements.Way.{Way}
-use Rattle.hsr_svg.specs.declared.parts.Attribute.TheVariants.{Class, Identity, X, Y, X1, Y1, X2, Y2, Width, Height, Stroke, StrokeWidth, Dashes, Size, Fill, Anchor as At, Weight, Marker, View}
+use Rattle.hsr_svg.specs.declared.parts.Attribute.TheVariants.{Class, Identity, X, Y, X1, Y1, X2, Y2, Width, Height, Stroke, StrokeWidth, Dashes, Size, Fill, Anchor as At, Weight, Transform, Marker, View}
 use Rattle.hsr_svg.specs.Parts.{attribute_name, attribute_text, escaped}
 use Rattle.hsr_svg.specs.Style.{head_path, look_colour, look_dashes, look_point, looks}
 
@@ -69,12 +71,20 @@ anchor_word anchor.Start = codes "start"
 anchor_word anchor.Middle = codes "middle"
 anchor_word anchor.End = codes "end"
 
+-- a text that runs upwards is turned about its place
+unfoldable pub rotation_text : ℕ → ℕ → List ℕ
+rotation_text x y = codes " " ++ attribute_name Transform ++ codes "=\"rotate(-90 " ++ decimal x ++ codes " " ++ decimal y ++ codes ")\""
+
+abbrev pub turn_text : Reading → ℕ → ℕ → List ℕ
+turn_text Across x y = []
+turn_text Upwards x y = rotation_text x y
+
 -- where it stands, how it is set, and its words
 unfoldable pub words_text : Label → List ℕ → Spot → List ℕ
 words_text tells words spot =
     codes "<text" ++ attribute_text X (decimal spot.x) ++ attribute_text Y (decimal spot.y) ++ attribute_text Size (label_size tells)
     ++ attribute_text Fill (label_colour tells) ++ attribute_text At (anchor_word spot.anchor) ++ attribute_text Weight (label_weight tells)
-    ++ codes ">" ++ escaped words ++ codes "</text>\n"
+    ++ turn_text spot.reading spot.x spot.y ++ codes ">" ++ escaped words ++ codes "</text>\n"
 
 -- ---- lines
 

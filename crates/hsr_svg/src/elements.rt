@@ -62,12 +62,20 @@ pub enum Anchor {
     End,
 }
 
+/// Which way a text runs.
+#[derive(Clone, Copy, Debug)]
+pub enum Reading {
+    Across,
+    Upwards,
+}
+
 /// Where a text stands.
 #[derive(Clone, Copy, Debug)]
 pub struct Spot {
     pub x: u64,
     pub y: u64,
     pub anchor: Anchor,
+    pub reading: Reading,
 }
 
 /// An element of a picture.

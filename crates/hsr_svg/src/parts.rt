@@ -70,6 +70,7 @@ pub(crate) enum Attribute {
     Fill,
     Anchor,
     Weight,
+    Transform,
     Marker,
     View,
 }
@@ -97,6 +98,7 @@ pub(crate) fn name_of(attribute: Attribute) -> &'static str
         Attribute::Fill => "fill",
         Attribute::Anchor => "text-anchor",
         Attribute::Weight => "font-weight",
+        Attribute::Transform => "transform",
         Attribute::Marker => "marker-end",
         Attribute::View => "viewBox",
     }

@@ -2,10 +2,10 @@
 ghost use Rattle.std.specs.Prelude.{◌≡◌, ◌++◌, OnOk};
 ghost use Rattle.std.specs.Fmt.{decimal};
 ghost use Rattle.std.specs.List.{flat_map};
-ghost use Rattle.hsr_svg.specs.Spelling.{anchor_word, arrow_text, element_text, ground_text, head_text, label_colour, label_size, label_weight, labels_text, line_colour, line_dashes, line_text, line_width, marker_text, outline_text, point_box, point_text, points_text, sample_text, square_text, stroke_text, svg_text, title_text, view_text, way_text, words_text};
+ghost use Rattle.hsr_svg.specs.Spelling.{anchor_word, arrow_text, element_text, ground_text, head_text, label_colour, label_size, label_weight, labels_text, line_colour, line_dashes, line_text, line_width, marker_text, outline_text, point_box, point_text, points_text, rotation_text, sample_text, square_text, stroke_text, svg_text, title_text, turn_text, view_text, way_text, words_text};
 ghost use Rattle.hsr_svg.specs.Style.{looks};
 
-use crate::elements::{Anchor, Element, Label, Line, Spot, Way};
+use crate::elements::{Anchor, Element, Label, Line, Reading, Spot, Way};
 use crate::parts::{Attribute, name_of, put, put_attribute, put_length, put_number, put_shown};
 use crate::style::{colour_of, dashes_of, looks, path_of, point_of};
 use hsr_frame::NoMemory;
@@ -67,6 +67,30 @@ fn anchor_word(anchor: Anchor) -> &'static str
     }
 }
 
+/// Puts by how much a text at a place is turned last, so that it runs upwards from there.
+#[tactic(auto, unfolding(crate::specs::Spelling::rotation_text))]
+fn put_rotation(text: &mut Vec<u8>, x: u64, y: u64) -> Result<(), NoMemory>
+    ensures { OnOk result (text.new.items ≡ text.old.items ++ rotation_text x y) }
+{
+    put(text, " ")?;
+    put(text, name_of(Attribute::Transform))?;
+    put(text, "=\"rotate(-90 ")?;
+    put_number(text, x)?;
+    put(text, " ")?;
+    put_number(text, y)?;
+    put(text, ")\"")
+}
+
+/// Puts how a text is turned last, where it doesn't run across.
+fn put_turn(text: &mut Vec<u8>, reading: Reading, x: u64, y: u64) -> Result<(), NoMemory>
+    ensures { OnOk result (text.new.items ≡ text.old.items ++ turn_text reading x y) }
+{
+    match reading {
+        Reading::Across => Ok(()),
+        Reading::Upwards => put_rotation(text, x, y),
+    }
+}
+
 /// Puts a text last.
 #[tactic(auto, unfolding(crate::specs::Spelling::words_text))]
 fn put_words(text: &mut Vec<u8>, label: Label, words: &[u8], spot: Spot) -> Result<(), NoMemory>
@@ -79,6 +103,7 @@ fn put_words(text: &mut Vec<u8>, label: Label, words: &[u8], spot: Spot) -> Resu
     put_attribute(text, Attribute::Fill, ink_of(label))?;
     put_attribute(text, Attribute::Anchor, anchor_word(spot.anchor))?;
     put_attribute(text, Attribute::Weight, weight_of(label))?;
+    put_turn(text, spot.reading, spot.x, spot.y)?;
     put(text, ">")?;
     put_shown(text, words)?;
     put(text, "</text>\n")

@@ -1,0 +1,85 @@
+"""Draws runs of large networks, of long names and of lost copies: each picture has an arrow for each copy, no text lies on another, and it is
+at most so wide."""
+from lib.running import Job, Tally, run
+from lib.scenarios import GROUP, ring
+from lib.svg_texts import collisions, size_of
+
+WIDTH = 2400
+
+# two rings that two QuadBoxes join, with a RedBox and its Station: 16 nodes; each ring loses a link, and then a node goes off
+JOINED = """until_us = 4000000
+moves = "{moves}"
+[rings]
+process = ["mu1", "mu2", "qb1", "prot1", "rb1", "mu3", "qb2"]
+station = ["ied1", "qb1", "ied2", "ied3", "qb2", "gw", "ied4", "ied5", "ied6", "ied7"]
+[redbox]
+rb1 = ["cam1", "cam2"]
+[[stream]]
+from = ["mu1", "prot1"]
+to = "01-0C-CD-04-00-01"
+type = "goose"
+size = 110
+every_us = 1000000
+start_us = 1000000
+[[stream]]
+from = "cam1"
+to = "gw"
+type = 0x88B5
+every_us = 2000000
+[[event]]
+at_us = 2000000
+cut = ["mu1", "mu2"]
+[[event]]
+at_us = 2000000
+cut = ["ied2", "ied3"]
+[[event]]
+at_us = 3500000
+off = "ied5"
+"""
+
+
+def short(node):
+    return f"n{node}"
+
+
+def long(node):
+    return f"ied-of-bay-{node:02}-".ljust(32, "x")
+
+
+def large(name):
+    """A ring of 64, of which two send to all."""
+    text = ring(64)
+    for node in reversed(range(64)):
+        text = text.replace(f'"n{node}"', f'"{name(node)}"').replace(f'"n{node}.', f'"{name(node)}.')
+    sends = [f'{{do="send", node="{name(node)}", to="{GROUP}", type=0x88B5}}, {{do="drain"}}, {{do="clock", at=1500}},\n' for node in (5, 40)]
+    return text + "step = [\n" + "".join(sends) + "]\n"
+
+
+def try_picture(setting, name, scenario, *choice):
+    """Draws one run."""
+    tally, file = Tally(), setting.work / f"picture-{name}.toml"
+    file.write_bytes(scenario)
+    _, transcript, _ = run(setting, "hsr_bench", ["run", "--transcript"], scenario)
+    status, picture, fault = run(setting, "hsr_view", ["picture", "--names", str(file), *choice], transcript)
+    text = picture.decode()
+    if status:
+        tally.count(name, fault.decode())
+        return tally
+    width, found = size_of(text)[0], collisions(text)
+    tally.count(f"width of {name}", f"{width}" if width > WIDTH else "")
+    tally.count(f"texts of {name}", f"{found[0][0]} lies on {found[0][1]}, one of {len(found)}" if found else "")
+    return tally
+
+
+def try_joined(setting, moves, since, until):
+    """Draws a span of a run of joined rings."""
+    _, scenario, _ = run(setting, "hsr_plan", [], JOINED.format(moves=moves).encode())
+    name = f"joined-{moves.replace(' ', '-')}-{since}"
+    return try_picture(setting, name, scenario, "--from", str(since), "--until", str(until))
+
+
+def jobs(setting):
+    rings = [Job(try_picture, (f"ring-{name.__name__}", large(name).encode()), 2) for name in (short, long)]
+    drained = [Job(try_joined, (f"each {what} drains", moment, moment)) for what in ("send", "moment") for moment in (1000000, 3000000)]
+    spans = [(1000000, 1000400), (2000000, 2000030), (2000030, 2000090), (3000000, 3000300)]
+    return rings + drained + [Job(try_joined, ("hop_us = 10", *span)) for span in spans]
