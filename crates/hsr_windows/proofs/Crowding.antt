@@ -1,5 +1,5 @@
 -- How many of moments that rise lie in a window.
-use Rattle.std.proofs.Common.{◌≡◌, ℕ, ◌+◌, ◌-◌, ◌<◌, ◌≤◌, nat_lt, inl, ⊎_elim, max, Bool, true, false, cond, List, [], ◌∷◌, length, count_by, map, slice_index, slice_index_or, refl, subst, sym, ap, ◌∙◌, arith, zero, suc}
+use Rattle.std.proofs.Common.{◌≡◌, ℕ, ◌+◌, ◌-◌, ◌<◌, ◌≤◌, nat_lt, ◌⊎◌, inl, inr, ⊎_elim, max, Bool, true, false, cond, List, [], ◌∷◌, length, count_by, map, slice_index, slice_index_or, refl, subst, sym, ap, ◌∙◌, arith, zero, suc}
 use Rattle.std.specs.List.Sorted.{IsNonDecreasing, IsPartitionPoint}
 use Rattle.std.proofs.lemmas.Bool.Decides.{nat_tests}
 use Rattle.std.proofs.lemmas.List.Sums.{sum_by-cons}
@@ -112,28 +112,26 @@ count_le p q (x ∷ xs) h =
 lies_later : (start m x : ℕ) → lies_in start m ≡ true → m ≤ x → ones (lies_in start x) ≤ ones (lies_in m x)
 lies_later start m x lies later = grind (arith, nat_tests, lies, later)
 
--- a window holds nothing, or no more than that of the first moment in it
-first_in : (ms : List ℕ) (start : ℕ) → IsNonDecreasing ms → (crowd_in ms start ≡ 0) ⊎ ((i : ℕ) × (i < length ms) × (crowd_in ms start ≤ crowd_in ms (slice_index ms i)))
+-- a window holds nothing, or no more than that of a moment in it
+abbrev HasFirst : List ℕ → ℕ → Type 0
+HasFirst ms start = (crowd_in ms start ≡ 0) ⊎ ((i : ℕ) × (i < length ms) × (crowd_in ms start ≤ crowd_in ms (slice_index ms i)))
+
+first_of : (m : ℕ) (ms : List ℕ) (start : ℕ) (lies : Bool) → IsNonDecreasing (m ∷ ms) → lies_in start m ≡ lies → HasFirst ms start → HasFirst (m ∷ ms) start
+first_of m ms start true rise lies rest =
+    inr (0, omega arith, count_le (lies_in start) (lies_in m) (m ∷ ms) (λ k below. lies_later start m (slice_index (m ∷ ms) k) lies (rise 0 k 0 (omega arith) below)))
+first_of m ms start false rise lies rest =
+    let cons = sum_by-cons (λ y. ones (lies_in start y)) m ms in
+    let none : ones (lies_in start m) ≡ ones false = ap ones lies in
+    ⊎_elim
+    (λ nothing. inl (omega (arith, cons, none, nothing)))
+    (λ at. let more = sum_by-cons (λ y. ones (lies_in (slice_index ms at.0) y)) m ms in let below = at.1 in let least = at.2 in
+    inr (suc at.0, omega (arith, below), omega (arith, cons, none, least, more)))
+    rest
+
+first_in : (ms : List ℕ) (start : ℕ) → IsNonDecreasing ms → HasFirst ms start
 first_in [] start rise = inl refl
-first_in (m ∷ ms) start rise = by_first (lies_in start m) refl
-  where
-    cons_start : crowd_in (m ∷ ms) start ≡ ones (lies_in start m) + crowd_in ms start
-    cons_start = sum_by-cons (λ y. ones (lies_in start y)) m ms
-
-    later : (s : ℕ) → crowd_in ms s ≤ crowd_in (m ∷ ms) s
-    later s = let cons = sum_by-cons (λ y. ones (lies_in s y)) m ms in omega (arith, cons)
-
-    by_first : (lies : Bool) → lies_in start m ≡ lies
-        → (crowd_in (m ∷ ms) start ≡ 0) ⊎ ((i : ℕ) × (i < length (m ∷ ms)) × (crowd_in (m ∷ ms) start ≤ crowd_in (m ∷ ms) (slice_index (m ∷ ms) i)))
-    by_first true lies =
-        inr (0, omega arith, count_le (lies_in start) (lies_in m) (m ∷ ms) (λ k below. lies_later start m (slice_index (m ∷ ms) k) lies (rise 0 k 0 (omega arith) below)))
-    by_first false lies =
-        let none : ones (lies_in start m) ≡ ones false = ap ones lies in
-        ⊎_elim
-        (λ nothing. inl (omega (arith, cons_start, none, nothing)))
-        (λ at. let more = later (slice_index ms at.0) in let below = at.1 in let least = at.2 in
-        inr (suc at.0, omega (arith, below), omega (arith, cons_start, none, least, more)))
-        (first_in ms start (λ i j d low below. rise (suc i) (suc j) d (omega (arith, low)) (omega (arith, below))))
+first_in (m ∷ ms) start rise =
+    first_of m ms start (lies_in start m) rise refl (first_in ms start (λ i j d low below. rise (suc i) (suc j) d (omega (arith, low)) (omega (arith, below))))
 
 pub any_window : (ms : List ℕ) (most : ℕ) → IsNonDecreasing ms → IsMostBelow ms (length ms) most → (start : ℕ) → crowd_in ms start ≤ most
 any_window ms most rise is start =
