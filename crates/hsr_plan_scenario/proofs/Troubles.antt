@@ -83,7 +83,7 @@ titled_by (Some title) outline m is = (
   _,
   ap (λ t. ((((((((title_text t ++ summary_text outline.moves m) ++ codes "unit = \"us\"\ncapacity = ") ++ decimal m.capacity) ++ codes "\n") ++ nodes_text m.nodes)
       ++ links_text m.nodes m.topology.links) ++ codes "step = [\n") ++ flat_map (order_line m.nodes) m.orders) ++ codes "]\n") is
-  ∙ joined (codes "# " ++ title ++ codes "\n") (summary_text outline.moves m) (codes "unit = \"us\"\ncapacity = ") (decimal m.capacity) (codes "\n") (nodes_text m.nodes)
+      ∙ joined (codes "# " ++ title ++ codes "\n") (summary_text outline.moves m) (codes "unit = \"us\"\ncapacity = ") (decimal m.capacity) (codes "\n") (nodes_text m.nodes)
       (links_text m.nodes m.topology.links) (codes "step = [\n") (flat_map (order_line m.nodes) m.orders) (codes "]\n"),
 )
 

@@ -54,8 +54,8 @@ fn played(alloc: Global, text: &str, scenario: Scenario) -> Result<(), Wrong>
             "fault: scenario 1:1 missing word node: a list of nodes, each with name and role",
         )));
     }
-    let orders = scenario.steps.as_slice();
-    match finished::<TABLE>(alloc, scenario.topology, scenario.capacity, orders) {
+    let (topology, capacity) = (scenario.topology, scenario.capacity);
+    match finished::<TABLE>(alloc, topology, capacity, scenario.steps.as_slice()) {
         Ok(_closed) => Ok(()),
         Err(Unfinished::Step(place, fault)) => {
             Err(Wrong::Told(line_of_order(alloc, text, place, &fault)))
@@ -73,10 +73,7 @@ fn judged(alloc: Global, octets: &[u8]) -> Result<(), Wrong>
     ensures wrong { IfErr result (IsWrong octets.now) }
 {
     let Ok(text) = str::from_utf8(octets) else {
-        return Err(Wrong::Told(words(
-            alloc,
-            "fault: scenario 1:1 no UTF-8",
-        )));
+        return Err(Wrong::Told(words(alloc, "fault: scenario 1:1 no UTF-8")));
     };
     match read(alloc, text) {
         Ok(scenario) => played(alloc, text, scenario),
