@@ -71,6 +71,12 @@ def many_senders(count):
     return plan_of(["from = [" + ", ".join(['"a"'] * count) + "]\nevery_us = 1\n"])
 
 
+def many_small_streams():
+    """Streams that send once, all in the first moment."""
+    stream = '[[stream]]\nfrom = "a"\nto = "01-0C-CD-01-00-01"\ntype = 1\nevery_us = 1\ncount = 1\n'
+    return ('ring = ["a", "b"]\nuntil_us = 1000000\nlife_ms = 0\n' + stream * 200_000).encode()
+
+
 def many_streams():
     """Each but the first sends too much by itself; the first sends once."""
     return plan_of(['from = "a"\nevery_us = 1\ncount = 1\n'] + ['from = "a"\nevery_us = 1\n'] * 2000)

@@ -16,7 +16,7 @@ from lib.scenarios import ring, storm
 SECONDS = 120
 ROOM, ROOM_OF_THREADS = 1_000_000 * 1024, 6_000_000 * 1024
 NO_LINE, NO_TEXT, NO_TRANSCRIPT = "fault: line 1", "fault: scenario top text", "fault: transcript version"
-NAMES = "fault: names, and --names takes the scenario of the run: hsr_plan writes that of a plan"
+NAMES = "explain: this is no scenario"
 NO_ANSWER = "sent 0 life 0 up 0 forwarded 0 duplicate 0 returned 0 dropped 0"
 
 
@@ -178,6 +178,7 @@ def jobs_of_plans():
         Job(try_rows, (planned("a million senders", f"5:1 {senders}"), inputs.many_senders, 1_000_000), 4),
         Job(try_rows, (planned("4096 senders of a million frames", f"4:3 {sends}"), inputs.many_senders, 4096), 2),
         Job(try_rows, (planned("2000 streams of a million frames", f"10:3 {sends}"), inputs.many_streams), 2),
+        Job(try_rows, ([("200,000 streams", ["hsr_plan", "sweep"], 0, "needed 1")], inputs.many_small_streams), 20),
     ]
 
 

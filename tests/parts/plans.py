@@ -1,5 +1,5 @@
 """Plays the scenario of each example of a plan: its report and status are those of the scenario in tests/plans, which another program wrote
-of that plan; and a sweep says of the undisturbed run what the bench's audit of networks says."""
+of that plan, and so is its comment that counts; and a sweep says of the undisturbed run what the bench's audit of networks says."""
 import re
 
 from lib.case_files import ROOT
@@ -13,12 +13,19 @@ def last_line(text):
     return text.decode().rstrip("\n").split("\n")[-1]
 
 
+def comments(text):
+    """The title, and the comment that counts."""
+    return b"\n".join(text.split(b"\n")[:2]) + b"\n"
+
+
 def try_plan(setting, name):
     """Compares one plan."""
     tally, plan = Tally(), (PLANS / f"{name}.toml").read_bytes()
     status, scenario, _ = run(setting, "hsr_plan", [], plan)
-    ours, theirs = (run(setting, "hsr_bench", ["run", "--budget"], text) for text in (scenario, (SCENARIOS / f"{name}.scenario").read_bytes()))
+    other = (SCENARIOS / f"{name}.scenario").read_bytes()
+    ours, theirs = (run(setting, "hsr_bench", ["run", "--budget"], text) for text in (scenario, other))
     why = [f"status {status}"] * (status != 0) + ["status of the run"] * (ours[0] != theirs[0])
+    why += difference("the comments", comments(scenario), comments(other))
     tally.count(name, "\n".join(why + difference("the report", ours[1], theirs[1])))
     verdict = last_line(run(setting, "hsr_bench", ["run", "--network"], scenario)[1])
     swept = run(setting, "hsr_plan", ["sweep"], plan)[1].decode()

@@ -2,8 +2,8 @@
 
     python3 tests/second/random_plans.py PLANNER [COUNT [SEED [BENCH [SECONDS]]]]
 
-COUNT (1000) plans from SEED (1) on, or as many as SECONDS allow. Of each that is no fault: the steps are those that the plan means, in
-order; model.py refuses none of them; and a RedBox sends supervision about a station just where the model's RedBox knows it then. With BENCH
+COUNT (1000) plans from SEED (1) on, or as many as SECONDS allow. Of each that is no fault: the comments are its title, and how many nodes,
+links and sends the scenario has, with the most sends in 800 ms; `--check` finds it right; the steps are those that the plan means, in order; model.py refuses none of them; and a RedBox sends supervision about a station just where the model's RedBox knows it then. With BENCH
 the program plays the scenario too, and refuses no step. Each 20th plan is swept, and the lines compared with what model.py counts. About
 half of the plans move copies by hops: there each copy is put in the moment of the entry that passed it, and taken and judged just a hop
 later, before anything else happens at that moment. Of each that is a fault: the status is 1, nothing is written, and the line says why there
@@ -24,6 +24,7 @@ import subprocess
 import sys
 import time
 import tomllib
+from bisect import bisect_left
 from collections import Counter
 
 import model
@@ -468,11 +469,31 @@ def faulty(plan, table, ended):
     return " ".join(word for word in reason.split() if "-" not in word and word != "nobody:"), None
 
 
+def comments(plan, scenario):
+    """The title, and the comment that counts, by the steps of the scenario."""
+    moments, now = [], 0
+    for step in scenario["step"]:
+        now = step.get("at", now)
+        moments += [now] * (step["do"] in ("send", "life"))
+    most = max((bisect_left(moments, start + 800_000) - bisect_left(moments, start) for start in moments), default=0)
+    counts = f"{len(scenario['node'])} nodes, {len(scenario['link'])} links, {len(moments)} sends, at most {most} in 800 ms"
+    return f"# {plan['title']}\n# {counts}; copies: {plan.get('moves', 'each send drains')}\n"
+
+
+def checked(scenario):
+    """What `--check` says of a scenario, or None."""
+    ended = subprocess.run([PLANNER, "--check"], input=scenario, capture_output=True, text=True, timeout=120)
+    return ended.stderr or ended.stdout or (f"status {ended.returncode}" if ended.returncode else None)
+
+
 def told(plan, table, scenario):
     """What is wrong with the scenario of a plan, or None."""
     for reason in Meaning(plan).reasons():
         return f"no fault, although {reason}"
-    return check(plan, tomllib.loads(scenario), TABLES[table]) or (BENCH and played(scenario, table))
+    read = tomllib.loads(scenario)
+    if not scenario.startswith(comments(plan, read)):
+        return f"the comments: not {comments(plan, read)}"
+    return check(plan, read, TABLES[table]) or (table == "large" and checked(scenario)) or (BENCH and played(scenario, table))
 
 
 def one(seed, counts):

@@ -3,7 +3,6 @@ pub mod Certifying
 pub mod Premised
 pub mod Clearing
 pub mod Losses
-pub mod Crowding
 pub mod Timing
 pub mod Spending
 mod WorkedCut

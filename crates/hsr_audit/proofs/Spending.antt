@@ -18,7 +18,7 @@ use Rattle.hsr_law.specs.Run.{Run, record_of}
 use Rattle.hsr_audit.specs.Budgeted.{AreInTime, IsEnough, IsFirstBreach, IsFirstCrowded, IsInTimeAt, IsMost, IsOverspent, IsSendMoment, crowd}
 use Rattle.hsr_premises.specs.Flaws.{IsFirstNot}
 use Rattle.hsr_audit.specs.Timed.{AllInTimeBelow, AreSendMoments, IsFirstLate, moment_sent}
-use Rattle.hsr_audit.specs.Windows.{IsFirstOver, IsMostBelow, crowd_in, lies_in}
+use Rattle.hsr_windows.specs.Windows.{IsFirstOver, IsMostBelow, crowd_in, lies_in}
 use Rattle.hsr_audit.specs.declared.breach.BudgetFault.{BudgetFault}
 use Rattle.hsr_audit.specs.declared.breach.BudgetFault.TheVariants.{Late, Crowded, NoMemory}
 use Rattle.hsr_needed.proofs.Places.{each_from, from_each}

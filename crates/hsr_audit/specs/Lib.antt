@@ -4,4 +4,3 @@ pub mod Certificate
 pub mod Listed
 pub mod Budgeted
 pub mod Timed
-pub mod Windows

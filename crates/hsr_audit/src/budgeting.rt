@@ -7,10 +7,10 @@ ghost use Rattle.hsr_audit.specs.Budgeted.{IsEnough, IsFirstBreach, IsMost, IsOv
 use crate::breach::{Budget, BudgetFault};
 use crate::late::first_late;
 use crate::moments::moments_of;
-use crate::windows::{most_crowded, most_of};
 use hsr_closing::Closed;
 use hsr_frame::NoMemory;
 use hsr_law::{boxless, budget_keeps, budget_tells, no_storm, once_in_budget};
+use hsr_windows::{most_crowded, most_of};
 use std::alloc::Global;
 
 /// The budget of a run, or the first reason why the run isn't within it.

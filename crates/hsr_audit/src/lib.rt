@@ -9,7 +9,6 @@
 //! - `auditing`: the audit, its call
 //! - `moments`: the effective moments of a run's entries and sends
 //! - `late`: the first arrival that comes late
-//! - `windows`: how many sends come together at most
 //! - `breach`: what a budget is, and why a run isn't within it
 //! - `budgeting`: whether a run is within budget, its call
 #![tactic(auto)]
@@ -22,7 +21,6 @@ mod doubt;
 mod late;
 mod moments;
 mod round;
-mod windows;
 
 pub use auditing::audit;
 pub use breach::{Budget, BudgetFault};

@@ -1,8 +1,9 @@
 -- Texts that grow by what one more element says.
-use Rattle.std.proofs.Common.{◌≡◌, ℕ, zero, suc, ◌+◌, ◌<◌, List, [], ◌∷◌, ◌++◌, Option, codes, length, min, take, slice_index_or, arith, ap, sym, ◌∙◌, append_assoc, append-nil, add-one, zero-add}
+use Rattle.std.proofs.Common.{◌≡◌, ℕ, zero, suc, ◌+◌, ◌<◌, List, [], ◌∷◌, ◌++◌, codes, length, min, take, slice_index_or, arith, ap, sym, ◌∙◌, append_assoc, append-nil, add-one, zero-add}
 use Rattle.std.specs.List.{flat_map}
 use Rattle.std.proofs.lemmas.List.{length-append, take_more}
 use Rattle.std.proofs.lemmas.Grind.{flat_map-append}
+use Rattle.hsr_plan_text.specs.Plan.{Outline}
 use Rattle.hsr_plan_meaning.specs.Meaning.{Meaning}
 use Rattle.hsr_plan_scenario.specs.Spelled.{comma, front_text, listed, numbered, order_line, parted, scenario_text}
 
@@ -45,17 +46,17 @@ listed_more word i xs d start old middle one new below so_far parts is more =
 sum_of : (front lines most : ℕ) → min (min (front + 2) most + min lines most) most ≡ min (front + (lines + 2)) most
 sum_of front lines most = omega arith
 
-pub measured_all : (title : Option (List ℕ)) (m : Meaning) (items : List ℕ) (long front steps octets most : ℕ) → items ≡ front_text title m → long ≡ length items →
+pub measured_all : (outline : Outline) (m : Meaning) (items : List ℕ) (long front steps octets most : ℕ) → items ≡ front_text outline m → long ≡ length items →
     front ≡ min (long + 2) most → steps ≡ min (length (flat_map (order_line m.nodes) m.orders)) most → octets ≡ min (front + steps) most →
-    octets ≡ min (length (scenario_text title m)) most
+    octets ≡ min (length (scenario_text outline m)) most
 unfolding scenario_text
-measured_all title m items long front steps octets most is len before behind all =
+measured_all outline m items long front steps octets most is len before behind all =
     let lines : List ℕ = flat_map (order_line m.nodes) m.orders in
     let ends : List ℕ = codes "]\n" in
-    let whole : length ((front_text title m ++ lines) ++ ends) ≡ length (front_text title m) + (length lines + 2) =
-    omega (arith, length-append (front_text title m ++ lines) ends, length-append (front_text title m) lines) in
-    let octets_are : octets ≡ min (length (front_text title m) + (length lines + 2)) most =
-    (let one : long ≡ length (front_text title m) = len ∙ ap length is in
-    all ∙ ap (λ n. min (n + steps) most) before ∙ ap (λ n. min (min (n + 2) most + steps) most) one ∙ ap (λ n. min (min (length (front_text title m) + 2) most + n) most) behind
-    ∙ sum_of (length (front_text title m)) (length lines) most) in
+    let whole : length ((front_text outline m ++ lines) ++ ends) ≡ length (front_text outline m) + (length lines + 2) =
+    omega (arith, length-append (front_text outline m ++ lines) ends, length-append (front_text outline m) lines) in
+    let octets_are : octets ≡ min (length (front_text outline m) + (length lines + 2)) most =
+    (let one : long ≡ length (front_text outline m) = len ∙ ap length is in
+    all ∙ ap (λ n. min (n + steps) most) before ∙ ap (λ n. min (min (n + 2) most + steps) most) one ∙ ap (λ n. min (min (length (front_text outline m) + 2) most + n) most) behind
+    ∙ sum_of (length (front_text outline m)) (length lines) most) in
     octets_are ∙ ap (λ n. min n most) (sym whole)

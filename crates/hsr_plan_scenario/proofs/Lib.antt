@@ -2,3 +2,4 @@ mod Growing
 mod Names
 pub mod Troubles
 pub mod Whole
+mod Rising

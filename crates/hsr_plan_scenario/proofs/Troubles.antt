@@ -10,7 +10,7 @@ use Rattle.hsr_scenario.specs.declared.fault.ScenarioFault.{ScenarioFault}
 use Rattle.hsr_scenario.specs.declared.fault.What as scenario
 use Rattle.hsr_scenario.specs.declared.fault.What.TheVariants as read
 use Rattle.hsr_plan_text.specs.Fallible.{FailsAt}
-use Rattle.hsr_plan_text.specs.Plan.{Plan}
+use Rattle.hsr_plan_text.specs.Plan.{Outline, Plan}
 use Rattle.hsr_plan_text.specs.declared.fault.PlanFault.{PlanFault}
 use Rattle.hsr_plan_text.specs.declared.fault.What.{What}
 use Rattle.hsr_plan_text.specs.declared.fault.What.TheVariants.{Text, Missing, Unknown, WrongKind, BadName, BadValue, Refused, NoMemory}
@@ -18,7 +18,7 @@ use Rattle.hsr_plan_meaning.specs.Meaning.{Meaning, listed}
 use Rattle.hsr_plan_scenario.specs.Refusals.{HasNoScenario, HasNoneIf, IfDiffers, IsKnown, IsMisread, IsTroubleIn, IsTroubleOf, IsUnmoved, IsUntold, MeansNothing, unread}
 use Rattle.hsr_plan_hops.specs.Refusing.{IsImmovable}
 use Rattle.hsr_plan_scenario.specs.Says.{IsTitled, Tells, names_meant_by, scenario_meant}
-use Rattle.hsr_plan_scenario.specs.Spelled.{front_text, links_text, nodes_text, order_line, scenario_text}
+use Rattle.hsr_plan_scenario.specs.Spelled.{front_text, links_text, nodes_text, order_line, scenario_text, summary_text, title_text}
 use Rattle.hsr_plan_scenario.specs.declared.checking.Trouble.{Trouble}
 use Rattle.hsr_plan_scenario.specs.declared.checking.Trouble.TheVariants.{Plan as Faulty, TooLong, Endless, Differs}
 use Rattle.hsr_plan_scenario.proofs.Whole.{no_scenario}
@@ -65,39 +65,44 @@ differs_weaker P Q (Faulty fault) so h = h
 differs_weaker P Q (TooLong octets) so h = h
 differs_weaker P Q (Endless steps) so h = h
 
-pub differs_untold : (title : Option (List ℕ)) (m : Meaning) (trouble : Trouble) → IfDiffers (IsMisread title m) trouble → IsUntold title m trouble
-differs_untold title m Differs h = h
-differs_untold title m (Faulty fault) h = h
-differs_untold title m (TooLong octets) h = absurd cc
-differs_untold title m (Endless steps) h = h
+pub differs_untold : (outline : Outline) (m : Meaning) (trouble : Trouble) → IfDiffers (IsMisread outline m) trouble → IsUntold outline m trouble
+differs_untold outline m Differs h = h
+differs_untold outline m (Faulty fault) h = h
+differs_untold outline m (TooLong octets) h = absurd cc
+differs_untold outline m (Endless steps) h = h
 
 -- ---- texts
 
-joined : (a b c d e f g h i : List ℕ) → (((((((a ++ b) ++ c) ++ d) ++ e) ++ f) ++ g) ++ h) ++ i ≡ a ++ (b ++ (c ++ (d ++ (e ++ (f ++ (g ++ (h ++ i)))))))
-joined a b c d e f g h i = simp append_assoc
+joined : (a b c d e f g h i j : List ℕ) → ((((((((a ++ b) ++ c) ++ d) ++ e) ++ f) ++ g) ++ h) ++ i) ++ j ≡ a ++ (b ++ (c ++ (d ++ (e ++ (f ++ (g ++ (h ++ (i ++ j))))))))
+joined a b c d e f g h i j = simp append_assoc
 
--- a scenario's text begins with its title
-pub titled : (title : Option (List ℕ)) (m : Meaning) → IsTitled title (scenario_text title m)
+titled_by : (title : Option (List ℕ)) (outline : Outline) (m : Meaning) → outline.title ≡ title → IsTitled title (scenario_text outline m)
 unfolding scenario_text front_text
-titled None m = tt
-titled (Some title) m = (
+titled_by None outline m is = tt
+titled_by (Some title) outline m is = (
   _,
-  joined (codes "# " ++ title ++ codes "\n") (codes "unit = \"us\"\ncapacity = ") (decimal m.capacity) (codes "\n") (nodes_text m.nodes) (links_text m.nodes m.topology.links)
-      (codes "step = [\n") (flat_map (order_line m.nodes) m.orders) (codes "]\n"),
+  ap (λ t. ((((((((title_text t ++ summary_text outline.moves m) ++ codes "unit = \"us\"\ncapacity = ") ++ decimal m.capacity) ++ codes "\n") ++ nodes_text m.nodes)
+      ++ links_text m.nodes m.topology.links) ++ codes "step = [\n") ++ flat_map (order_line m.nodes) m.orders) ++ codes "]\n") is
+      ∙ joined (codes "# " ++ title ++ codes "\n") (summary_text outline.moves m) (codes "unit = \"us\"\ncapacity = ") (decimal m.capacity) (codes "\n") (nodes_text m.nodes)
+      (links_text m.nodes m.topology.links) (codes "step = [\n") (flat_map (order_line m.nodes) m.orders) (codes "]\n"),
 )
 
+-- a scenario's text begins with the plan's title
+pub titled : (outline : Outline) (m : Meaning) → IsTitled outline.title (scenario_text outline m)
+titled outline m = titled_by outline.title outline m refl
+
 -- one over 16 MiB isn't read
-misread : (title : Option (List ℕ)) (m : Meaning) (trouble : Trouble) → IsKnown trouble → IsUntold title m trouble → IsMisread title m
-misread title m (TooLong octets) known long = unread_long
+misread : (outline : Outline) (m : Meaning) (trouble : Trouble) → IsKnown trouble → IsUntold outline m trouble → IsMisread outline m
+misread outline m (TooLong octets) known long = unread_long
   where
-    unread_long : IsMisread title m
+    unread_long : IsMisread outline m
     unread_long tells =
         let means = tells.means in
-        let none = no_scenario (scenario_text title m) long in
+        let none = no_scenario (scenario_text outline m) long in
         absurd cc
-misread title m Differs known h = h
-misread title m (Faulty fault) known h = let same : fault.what ≡ NoMemory = cc in absurd (known same)
-misread title m (Endless steps) known h = absurd cc
+misread outline m Differs known h = h
+misread outline m (Faulty fault) known h = let same : fault.what ≡ NoMemory = cc in absurd (known same)
+misread outline m (Endless steps) known h = absurd cc
 
 -- ---- plans
 
@@ -115,7 +120,7 @@ unmoved_so capacity plan trouble known is = ⊎_elim (λ nothing. inl nothing) (
 pub none_so : (capacity : ℕ) (said : Result Plan PlanFault) (trouble : Trouble) → IsKnown trouble → IsTroubleIn capacity said trouble → HasNoneIf capacity said
 none_so capacity (Err fault) trouble known is = tt
 none_so capacity (Ok plan) trouble known (inl unmoved) = unmoved_so capacity plan trouble known unmoved
-none_so capacity (Ok plan) trouble known (inr (m, means, untold)) = inr (inr (m, means, misread plan.outline.title m trouble known untold))
+none_so capacity (Ok plan) trouble known (inr (m, means, untold)) = inr (inr (m, means, misread plan.outline m trouble known untold))
 
 -- ---- one by one
 
@@ -138,12 +143,12 @@ trouble_so capacity said plan (Err trouble) e is = let P : Result Plan PlanFault
 
 -- ---- a text that is checked
 
-pub tells : {E : Type 0} (title : Option (List ℕ)) (m : Meaning) (text words : List ℕ) (r : Result (Unit {0}) E) → words ≡ text → IsUtf8 text → text ≡ scenario_text title m →
-    meaning words ≡ Ok (scenario_meant m) → OnOk r (names_meant words ≡ Ok (names_meant_by m)) → OnOk r (Tells title m text)
-tells title m text words (Ok done) same is spelled means named = record {
+pub tells : {E : Type 0} (outline : Outline) (m : Meaning) (text words : List ℕ) (r : Result (Unit {0}) E) → words ≡ text → IsUtf8 text → text ≡ scenario_text outline m →
+    meaning words ≡ Ok (scenario_meant m) → OnOk r (names_meant words ≡ Ok (names_meant_by m)) → OnOk r (Tells outline m text)
+tells outline m text words (Ok done) same is spelled means named = record {
   is_text = is;
   means = ap meaning (sym same) ∙ means;
   named = ap names_meant (sym same) ∙ named;
-  titled = let P : List ℕ → Type 0 = IsTitled title in subst P (sym spelled) (titled title m);
+  titled = let P : List ℕ → Type 0 = IsTitled outline.title in subst P (sym spelled) (titled outline m);
 }
-tells title m text words (Err e) same is spelled means named = tt
+tells outline m text words (Err e) same is spelled means named = tt

@@ -13,7 +13,7 @@ use Rattle.hsr_plan_text.specs.declared.fault.Spot.TheVariants as spot
 use Rattle.hsr_plan_text.specs.declared.fault.What.TheVariants as what
 use Rattle.hsr_plan_scenario.specs.Ends.{Checks, Ends}
 use Rattle.hsr_text.specs.Whole.{IsWhole}
-use Rattle.hsr_plan_scenario.specs.Refusals.{HasNoneIf, IsNoScenario, IsUnplanned}
+use Rattle.hsr_plan_scenario.specs.Refusals.{HasNoneIf, IsLeftOpen, IsNoScenario, IsUnplanned, IsUnplayedIf}
 use Rattle.hsr_plan_scenario.specs.Says.{IsScenario, SaysIf, SaysPlan}
 use Rattle.hsr_plan_scenario.specs.declared.planning.Ending.{Ending}
 use Rattle.hsr_plan_scenario.specs.declared.planning.Ending.TheVariants.{Planned, Refused, Failed, Unwritten}
@@ -55,11 +55,19 @@ no_scenario text h = let e : nat_le (length text) (2 ^ 24) ≡ false = grind (ar
 none_meant : (said : Result Meant ScenarioFault) (fault : ScenarioFault) (m : Meant) → said ≡ Err fault → said ≡ Ok m → ⊥
 none_meant said fault m e is = absurd cc
 
+unplayed : (front rest all : List ℕ) → 2 ^ 24 < length front → all ≡ front ++ rest → IsNoScenario all
+unplayed front rest all h is =
+    let P : Result Meant ScenarioFault → Type 0 = IsUnplayedIf in
+    inr (subst P (sym (no_scenario all (longer front rest all h is))) tt)
+
+-- what is told of what was read is told of all
 pub scenario_whole : (all front : List ℕ) (told tells : Option (List ℕ)) (ending : Ending) → IsWhole (2 ^ 24) all front
     → Checks front told tells ending → Checks all told tells ending
 scenario_whole all front told tells Planned (inl same) (is, kept) = (subst IsScenario (sym same) is, kept)
 scenario_whole all front told tells Planned (inr long) (is, kept) = absurd (none_meant (meaning front) _ is.1.0 (no_scenario front long.0) is.1.1)
-scenario_whole all front told tells Refused (inl same) (none, tells_why) = (subst IsNoScenario (sym same) none, tells_why)
-scenario_whole all front told tells Refused (inr long) (none, tells_why) = (inr (_, no_scenario all (longer front long.1.0 all long.0 long.1.1)), tells_why)
+scenario_whole all front told tells Refused (inl same) (inl (none, tells_why)) = inl (subst IsNoScenario (sym same) none, tells_why)
+scenario_whole all front told tells Refused (inl same) (inr (cause, left, tells_open)) = inr (cause, subst (λ t. IsLeftOpen t cause) (sym same) left, tells_open)
+scenario_whole all front told tells Refused (inr long) (inl (none, tells_why)) = inl (unplayed front long.1.0 all long.0 long.1.1, tells_why)
+scenario_whole all front told tells Refused (inr long) (inr (cause, left, tells_open)) = absurd (none_meant (meaning front) _ left.0 (no_scenario front long.0) left.1)
 scenario_whole all front told tells Failed whole checks = checks
 scenario_whole all front told tells Unwritten whole checks = elim checks [ ]

@@ -1,9 +1,12 @@
 -- How a run over a plan or a scenario ends, what it wrote, and what it told.
-use Rattle.std.specs.Prelude.{◌≡◌, ⊤, ℕ, List, ◌++◌, codes, true, Option}
+use Rattle.std.specs.Prelude.{◌≡◌, ◌⊎◌, ⊤, ℕ, List, ◌++◌, codes, true, Option}
+use Rattle.std.specs.Fmt.{decimal}
 use Rattle.std.specs.Io.KnownBytes.{Appends, Keeps}
+use Rattle.hsr_closing.specs.Disagree.{disagree_code}
+use Rattle.hsr_closing.specs.declared.disagree.Disagree.{Disagree}
 use Rattle.hsr_plan_text.specs.Words.{is_title}
 use Rattle.hsr_plan_scenario.specs.Input.{input_line}
-use Rattle.hsr_plan_scenario.specs.Refusals.{IsNoScenario, IsUnplanned}
+use Rattle.hsr_plan_scenario.specs.Refusals.{IsLeftOpen, IsNoScenario, IsUnplanned}
 use Rattle.hsr_plan_scenario.specs.Says.{IsScenario, SaysPlan}
 use Rattle.hsr_text.specs.declared.whole.InputFault.{InputFault}
 use Rattle.hsr_plan_scenario.specs.declared.planning.Ending.{Ending}
@@ -44,9 +47,20 @@ Ends capacity octets held holds told tells Refused = IsUnplanned capacity octets
 Ends capacity octets held holds told tells Failed = Keeps held holds × TellsInput told tells
 Ends capacity octets held holds told tells Unwritten = Keeps told tells
 
--- a text is a scenario, and nothing was told; or it is none, and a fault was told; or it wasn't read, or room refused, and that was told
+-- two lines were told of a run that isn't closed: `fault: check ` and the number of the cause, then `explain: ` and what it means
+abbrev pub TellsOpen : Disagree → Option (List ℕ) → Option (List ℕ) → Type 0
+TellsOpen cause told tells = (why : List ℕ) × (is_title why ≡ true) × Appends told tells (codes "fault: check " ++ decimal (disagree_code cause) ++ codes "\nexplain: " ++ why ++ codes "\n")
+
+-- a run that isn't closed was told, or refused room
+abbrev pub TellsWhyOpen : Disagree → Option (List ℕ) → Option (List ℕ) → Ending → Type 0
+TellsWhyOpen cause told tells Refused = TellsOpen cause told tells
+TellsWhyOpen cause told tells Failed = TellsInput told tells
+TellsWhyOpen cause told tells _ = ⊥
+
+-- Octets are a scenario that is played to its end, and nothing was told; or they are none, and a fault was told; or its run isn't closed,
+-- and that was told; or it wasn't read, or room refused, and that was told.
 abbrev pub Checks : List ℕ → Option (List ℕ) → Option (List ℕ) → Ending → Type 0
 Checks octets told tells Planned = IsScenario octets × Keeps told tells
-Checks octets told tells Refused = IsNoScenario octets × TellsFault told tells
+Checks octets told tells Refused = (IsNoScenario octets × TellsFault told tells) ⊎ ((cause : Disagree) × IsLeftOpen octets cause × TellsOpen cause told tells)
 Checks octets told tells Failed = TellsInput told tells
 Checks octets told tells Unwritten = ⊥

@@ -1,3 +1,4 @@
+pub mod Sends
 pub mod Spelled
 pub mod Says
 pub mod Refusals

@@ -1,9 +1,11 @@
 -- What it is for a text to be the scenario that a plan means.
-use Rattle.std.specs.Prelude.{◌≡◌, ⊤, ℕ, List, ◌++◌, codes, map, Option, Some, None, Result, Ok, Err}
+use Rattle.std.specs.Prelude.{◌≡◌, ◌<◌, ⊤, ℕ, List, ◌++◌, codes, length, map, Option, Some, None, Result, Ok, Err}
 use Rattle.std.specs.Str.{IsUtf8}
+use Rattle.hsr_closing.specs.Finished.{Finished}
+use Rattle.hsr_playing.specs.Finishing.{IsFinishedBy}
 use Rattle.hsr_scenario.specs.Meaning.{Meant, meaning}
 use Rattle.hsr_scenario.specs.Names.{NamesMeant, names_meant}
-use Rattle.hsr_plan_text.specs.Plan.{Plan}
+use Rattle.hsr_plan_text.specs.Plan.{Outline, Plan}
 use Rattle.hsr_plan_text.specs.Meaning.{plan_of}
 use Rattle.hsr_plan_text.specs.declared.fault.PlanFault.{PlanFault}
 use Rattle.hsr_plan_meaning.specs.Meaning.{Meaning}
@@ -23,16 +25,16 @@ abbrev pub IsTitled : Option (List ℕ) → List ℕ → Type 0
 IsTitled None text = ⊤
 IsTitled (Some title) text = (rest : List ℕ) × (text ≡ codes "# " ++ title ++ codes "\n" ++ rest)
 
--- octets are a text that is read as the scenario that is meant, its nodes have the names that are meant, and it begins with a title
-pub record Tells (title : Option (List ℕ)) (m : Meaning) (text : List ℕ) : Type 0 where
+-- octets are a text that is read as the scenario that is meant, its nodes have the names that are meant, and it begins with the plan's title
+pub record Tells (outline : Outline) (m : Meaning) (text : List ℕ) : Type 0 where
   pub is_text : IsUtf8 text
   pub means : meaning text ≡ Ok (scenario_meant m)
   pub named : names_meant text ≡ Ok (names_meant_by m)
-  pub titled : IsTitled title text
+  pub titled : IsTitled outline.title text
 
 -- a text is spelled as what a plan means in a world with tables of so many entries, and is read as that, with the plan's title
 abbrev pub Says : ℕ → Plan → List ℕ → Type 0
-Says capacity plan text = (m : Meaning) × MeansMoved capacity plan m × (text ≡ scenario_text plan.outline.title m) × Tells plan.outline.title m text
+Says capacity plan text = (m : Meaning) × MeansMoved capacity plan m × (text ≡ scenario_text plan.outline m) × Tells plan.outline m text
 
 abbrev pub SaysIf : ℕ → Result Plan PlanFault → List ℕ → Type 0
 SaysIf capacity (Ok plan) text = Says capacity plan text
@@ -42,6 +44,16 @@ SaysIf capacity (Err fault) text = ⊥
 abbrev pub SaysPlan : ℕ → List ℕ → List ℕ → Type 0
 SaysPlan capacity plan text = IsUtf8 plan × SaysIf capacity (plan_of plan) text
 
--- octets are a text, and that is a scenario
+-- ---- scenarios that are played
+
+-- how many entries the tables have with which a scenario is tried
+abbrev pub entries_tried : ℕ
+entries_tried = 512
+
+-- what is meant has nodes, and its orders lead to a finished run: none is refused, and nothing is on its way at their end
+abbrev pub IsPlayed : Meant → Type 0
+IsPlayed m = (0 < length m.topology.places) × ((run : Finished) × IsFinishedBy entries_tried m.topology m.capacity m.steps run)
+
+-- octets are a text, and that is a scenario that is played to its end
 abbrev pub IsScenario : List ℕ → Type 0
-IsScenario text = IsUtf8 text × ((m : Meant) × (meaning text ≡ Ok m))
+IsScenario text = IsUtf8 text × ((m : Meant) × (meaning text ≡ Ok m) × IsPlayed m)

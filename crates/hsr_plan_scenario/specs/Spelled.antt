@@ -1,7 +1,8 @@
--- How the scenario of a plan is spelled in TOML: one line for each node, each link and each order.
+-- How the scenario of a plan is spelled in TOML: one line for each node, each link and each order, behind comments.
 --     node_line, link_line, order_line   such a line
+--     summary_text                       the comment that counts nodes, links and sends
 --     scenario_text                      the whole
-use Rattle.std.specs.Prelude.{ℕ, zero, suc, ◌+◌, nat_lt, List, [], ◌∷◌, ◌++◌, codes, slice_get, Option, Some, None, if◌then◌else◌}
+use Rattle.std.specs.Prelude.{ℕ, zero, suc, ◌+◌, nat_lt, List, [], ◌∷◌, ◌++◌, codes, length, slice_get, Option, Some, None, if◌then◌else◌}
 use Rattle.std.specs.Fmt.{decimal}
 use Rattle.std.specs.List.{flat_map}
 use Rattle.hex.specs.Hex.{encode_upper}
@@ -21,8 +22,13 @@ use Rattle.hsr_step.specs.declared.step.Step.TheVariants.{Clock, Send, Supervise
 use Rattle.hsr_topology.specs.declared.end.End.{End}
 use Rattle.hsr_scenario.specs.declared.steps.Order.{Order}
 use Rattle.hsr_scenario.specs.declared.steps.Order.TheVariants.{Step, Drain}
+use Rattle.hsr_windows.specs.Windows.{most_in}
+use Rattle.hsr_plan_text.specs.Plan.{Outline}
+use Rattle.hsr_plan_text.specs.declared.plan.Moves.{Moves}
+use Rattle.hsr_plan_text.specs.declared.plan.Moves.TheVariants.{EachSendDrains, EachMomentDrains, Hop}
 use Rattle.hsr_plan_network.specs.Nodes.{Node}
 use Rattle.hsr_plan_meaning.specs.Meaning.{Meaning}
+use Rattle.hsr_plan_scenario.specs.Sends.{send_moments}
 
 -- ---- words
 
@@ -177,6 +183,22 @@ abbrev pub title_text : Option (List ℕ) → List ℕ
 title_text None = []
 title_text (Some title) = codes "# " ++ title ++ codes "\n"
 
+-- how copies move, as a plan tells it
+abbrev pub moves_text : Moves → List ℕ
+moves_text EachSendDrains = codes "each send drains"
+moves_text EachMomentDrains = codes "each moment drains"
+moves_text (Hop us) = codes "hop_us = " ++ decimal us
+
+-- how many nodes and links there are, how many sends, by their moments, how many of these in 800 milliseconds at most, and how copies move
+unfoldable pub counts_text : ℕ → ℕ → List ℕ → Moves → List ℕ
+counts_text nodes links sends moves =
+    codes "# " ++ decimal nodes ++ codes " nodes, " ++ decimal links ++ codes " links, " ++ decimal (length sends) ++ codes " sends, at most "
+    ++ decimal (most_in sends) ++ codes " in 800 ms; copies: " ++ moves_text moves ++ codes "\n"
+
+-- that of what is meant
+unfoldable pub summary_text : Moves → Meaning → List ℕ
+summary_text moves m = counts_text (length m.nodes) (length m.topology.links) (send_moments 0 m.orders) moves
+
 unfoldable pub nodes_text : List Node → List ℕ
 nodes_text nodes = codes "node = [\n" ++ flat_map node_line nodes ++ codes "]\n"
 
@@ -184,11 +206,11 @@ unfoldable pub links_text : List Node → List (List End) → List ℕ
 links_text nodes links = codes "link = [\n" ++ link_lines nodes links ++ codes "]\n"
 
 -- what stands before the orders
-unfoldable pub front_text : Option (List ℕ) → Meaning → List ℕ
-front_text title m =
-    title_text title ++ codes "unit = \"us\"\ncapacity = " ++ decimal m.capacity ++ codes "\n" ++ nodes_text m.nodes ++ links_text m.nodes m.topology.links
+unfoldable pub front_text : Outline → Meaning → List ℕ
+front_text outline m =
+    title_text outline.title ++ summary_text outline.moves m ++ codes "unit = \"us\"\ncapacity = " ++ decimal m.capacity ++ codes "\n" ++ nodes_text m.nodes ++ links_text m.nodes m.topology.links
     ++ codes "step = [\n"
 
--- the scenario that is meant, with a title
-unfoldable pub scenario_text : Option (List ℕ) → Meaning → List ℕ
-scenario_text title m = front_text title m ++ flat_map (order_line m.nodes) m.orders ++ codes "]\n"
+-- the scenario that is meant, with what the plan says besides
+unfoldable pub scenario_text : Outline → Meaning → List ℕ
+scenario_text outline m = front_text outline m ++ flat_map (order_line m.nodes) m.orders ++ codes "]\n"

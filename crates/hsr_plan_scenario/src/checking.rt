@@ -1,5 +1,5 @@
 //! The text of a plan's scenario, checked against what the plan means.
-ghost use Rattle.std.specs.Prelude.{ℕ, ◌≡◌, ◌≢◌, ◌≤◌, IfErr, IfOk, OnOk, Ok, option_map, string_bytes};
+ghost use Rattle.std.specs.Prelude.{ℕ, ◌≡◌, ◌≢◌, ◌≤◌, IfErr, IfOk, OnOk, Ok};
 ghost use Rattle.hsr_scenario.specs.Meaning.{meaning};
 ghost use Rattle.hsr_scenario.specs.Names.{names_meant};
 ghost use Rattle.hsr_plan_text.specs.Meaning.{plan_of};
@@ -14,7 +14,7 @@ use crate::same::{is_meant, is_named};
 use crate::spelling::{measured, spelled};
 use hsr_plan_hops::{Unmoved, moved_meaning_of};
 use hsr_plan_meaning::Meaning;
-use hsr_plan_text::{Plan, PlanFault, Spot, What};
+use hsr_plan_text::{Outline, Plan, PlanFault, Spot, What};
 use hsr_scenario::{ScenarioFault, TEXT_LIMIT, What as ScenarioWhat, read, read_names};
 use std::alloc::Global;
 
@@ -101,10 +101,10 @@ fn check_names(alloc: Global, text: &str, meant: &Meaning) -> Result<(), Trouble
 }
 
 /// Refuses a text that isn't read as what a plan means.
-fn check(alloc: Global, text: &[u8], title: &Option<String>, meant: &Meaning) -> Result<(), Trouble>
-    requires spelled { text.now ≡ scenario_text (option_map string_bytes title.now) meant.now }
-    ensures tells { OnOk result (Tells (option_map string_bytes title.now) meant.now text.now) }
-    ensures differs { IfErr result (IfDiffers (IsMisread (option_map string_bytes title.now) meant.now)) }
+fn check(alloc: Global, text: &[u8], outline: &Outline, meant: &Meaning) -> Result<(), Trouble>
+    requires spelled { text.now ≡ scenario_text outline.now meant.now }
+    ensures tells { OnOk result (Tells outline.now meant.now text.now) }
+    ensures differs { IfErr result (IfDiffers (IsMisread outline.now meant.now)) }
 {
     let Ok(words) = str::from_utf8(text) else {
         return Err(Trouble::Differs);
@@ -114,26 +114,26 @@ fn check(alloc: Global, text: &[u8], title: &Option<String>, meant: &Meaning) ->
 }
 
 /// Refuses what is meant where its text has over 16 MiB. The text isn't formed for it.
-fn check_length(alloc: Global, title: &Option<String>, meant: &Meaning) -> Result<(), Trouble>
-    ensures { IfErr result (IsUntold (option_map string_bytes title.now) meant.now) }
+fn check_length(alloc: Global, outline: &Outline, meant: &Meaning) -> Result<(), Trouble>
+    ensures { IfErr result (IsUntold outline.now meant.now) }
 {
-    match measured(alloc, title, meant) {
+    match measured(alloc, outline, meant) {
         Ok(octets) if octets > TEXT_LIMIT => Err(Trouble::TooLong(octets)),
         Ok(_) => Ok(()),
         Err(_) => Err(no_memory()),
     }
 }
 
-/// The text of what is meant, with a title, checked.
-fn formed(alloc: Global, title: &Option<String>, meant: &Meaning) -> Result<Vec<u8>, Trouble>
-    ensures spelled { IfOk result (λ text. text.items ≡ scenario_text (option_map string_bytes title.now) meant.now) }
-    ensures tells { IfOk result (λ text. Tells (option_map string_bytes title.now) meant.now text.items) }
-    ensures differs { IfErr result (IfDiffers (IsMisread (option_map string_bytes title.now) meant.now)) }
+/// The text of what is meant, with what the plan says besides, checked.
+fn formed(alloc: Global, outline: &Outline, meant: &Meaning) -> Result<Vec<u8>, Trouble>
+    ensures spelled { IfOk result (λ text. text.items ≡ scenario_text outline.now meant.now) }
+    ensures tells { IfOk result (λ text. Tells outline.now meant.now text.items) }
+    ensures differs { IfErr result (IfDiffers (IsMisread outline.now meant.now)) }
 {
-    let Ok(text) = spelled(alloc, title, meant) else {
+    let Ok(text) = spelled(alloc, outline, meant) else {
         return Err(no_memory());
     };
-    match check(alloc, text.as_slice(), title, meant) {
+    match check(alloc, text.as_slice(), outline, meant) {
         Ok(()) => Ok(text),
         Err(trouble) => Err(trouble),
     }
@@ -141,13 +141,13 @@ fn formed(alloc: Global, title: &Option<String>, meant: &Meaning) -> Result<Vec<
 
 /// The text of what a plan means, checked. It is measured before it is formed.
 fn checked(alloc: Global, plan: &Plan, meant: &Meaning) -> Result<Vec<u8>, Trouble>
-    ensures spelled { IfOk result (λ text. text.items ≡ scenario_text plan.now.outline.title meant.now) }
-    ensures tells { IfOk result (λ text. Tells plan.now.outline.title meant.now text.items) }
-    ensures untold { IfErr result (IsUntold plan.now.outline.title meant.now) }
+    ensures spelled { IfOk result (λ text. text.items ≡ scenario_text plan.now.outline meant.now) }
+    ensures tells { IfOk result (λ text. Tells plan.now.outline meant.now text.items) }
+    ensures untold { IfErr result (IsUntold plan.now.outline meant.now) }
 {
-    let title = &plan.outline.title;
-    match check_length(alloc, title, meant) {
-        Ok(()) => match formed(alloc, title, meant) {
+    let outline = &plan.outline;
+    match check_length(alloc, outline, meant) {
+        Ok(()) => match formed(alloc, outline, meant) {
             Ok(text) => Ok(text),
             Err(trouble) => Err(trouble),
         },
@@ -155,8 +155,8 @@ fn checked(alloc: Global, plan: &Plan, meant: &Meaning) -> Result<Vec<u8>, Troub
     }
 }
 
-/// The text of the scenario that a plan means in a world with tables of `C` entries, with the plan's names, and its title as the first
-/// comment. Before it is answered it is read back and compared with what the plan means: a text that differs is `Differs`. One of over
+/// The text of the scenario that a plan means in a world with tables of `C` entries, with the plan's names. Its first comments
+/// are the plan's title, and a line that counts nodes, links and sends, and says how many sends lie in 800 milliseconds at most. Before it is answered it is read back and compared with what the plan means: a text that differs is `Differs`. One of over
 /// 16 MiB is `TooLong`, and isn't formed. All other troubles are those of `moved`.
 pub fn scenario_of_meaning<const C: usize>(alloc: Global, plan: &Plan) -> Result<Vec<u8>, Trouble>
     requires { (1 ≤ C) × (C ≤ 65535) }

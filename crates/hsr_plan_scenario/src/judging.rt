@@ -1,50 +1,133 @@
-//! Whether a text is a scenario, over a reader and a writer.
-ghost use Rattle.std.specs.Prelude.{IfErr, IfOk, IfSome, IsOk, OnOk};
-ghost use Rattle.hsr_plan_scenario.specs.Ends.{Checks};
-ghost use Rattle.hsr_plan_scenario.specs.Refusals.{IsNoScenario};
-ghost use Rattle.hsr_plan_scenario.specs.Says.{IsScenario};
+//! Whether a text is a scenario that can be played to its end, over a reader and a writer.
+ghost use Rattle.std.specs.Prelude.{◌≡◌, ◌≢◌, IfErr, IfOk, IfSome, IsOk, Ok, OnOk, true};
+ghost use Rattle.hsr_step.specs.declared.step.DrainFault.TheVariants.{World as InWorld};
+ghost use Rattle.hsr_step.specs.declared.step.WorldFault.TheVariants.{NoMemory as NoRoom};
+ghost use Rattle.hsr_scenario.specs.Meaning.{meaning, scenario_view};
+ghost use Rattle.hsr_plan_text.specs.Words.{is_title};
+ghost use Rattle.hsr_plan_scenario.specs.Ends.{Checks, TellsOpen, TellsWhyOpen};
+ghost use Rattle.hsr_plan_scenario.specs.Refusals.{IsWrong};
+ghost use Rattle.hsr_plan_scenario.specs.Says.{IsPlayed, IsScenario};
+ghost use Rattle.hsr_plan_scenario.specs.declared.planning.Ending.TheVariants.{Refused};
 
-use crate::planning::{Ending, Line, complain, fail, words};
+use crate::planning::{Ending, Line, complain, fail, reason, words};
+use hsr_closing::{CheckFault, Disagree};
 use hsr_frame::NoMemory;
-use hsr_scenario::{TEXT_LIMIT, What, read};
-use hsr_scenario_fault::told;
-use hsr_text::read_text;
+use hsr_playing::{Unfinished, finished};
+use hsr_scenario::{Scenario, TEXT_LIMIT, What, read};
+use hsr_scenario_fault::{told, told_step, words_of_check, words_of_step};
+use hsr_step::{DrainFault, WorldFault};
+use hsr_text::{InputFault, read_text};
 use std::alloc::Global;
 use std::io::{self, Read, Write};
 
-/// Judges octets: nothing where they are a scenario, or the line of what is wrong.
-fn judged(alloc: Global, octets: &[u8]) -> Result<(), Line>
+/// How many entries the tables have with which a scenario is tried.
+const TABLE: usize = 512;
+
+/// Why octets are no scenario that can be played to its end.
+#[derive(Debug, Drop)]
+pub enum Wrong {
+    /// They are none, or an order is refused: the line that says it, or no room for that line.
+    Told(Line),
+    /// The run that the orders lead to can't be closed.
+    Open(Disagree),
+}
+
+/// The line of an order that is refused; there is none for refused room.
+fn line_of_order(alloc: Global, text: &str, place: usize, fault: &DrainFault) -> Line
+    ensures { IsOk result → fault.now ≢ InWorld NoRoom }
+{
+    if matches!(fault, DrainFault::World(WorldFault::NoMemory)) {
+        return Err(NoMemory);
+    }
+    told_step(alloc, text, place, words_of_step(fault))
+}
+
+/// Plays a scenario to its end, in tables of 512 entries.
+fn played(alloc: Global, text: &str, scenario: Scenario) -> Result<(), Wrong>
+    requires { meaning text.now ≡ Ok (scenario_view scenario) }
+    ensures right { OnOk result (IsPlayed (scenario_view scenario)) }
+    ensures wrong { IfErr result (IsWrong text.now) }
+{
+    if scenario.topology.places().is_empty() {
+        return Err(Wrong::Told(words(
+            alloc,
+            "fault: scenario 1:1 missing word node: a list of nodes, each with name and role",
+        )));
+    }
+    let (topology, capacity) = (scenario.topology, scenario.capacity);
+    match finished::<TABLE>(alloc, topology, capacity, scenario.steps.as_slice()) {
+        Ok(_closed) => Ok(()),
+        Err(Unfinished::Step(place, fault)) => {
+            Err(Wrong::Told(line_of_order(alloc, text, place, &fault)))
+        }
+        Err(Unfinished::Check(CheckFault::Disagree(cause))) => Err(Wrong::Open(cause)),
+        Err(Unfinished::Check(CheckFault::NoMemory) | Unfinished::Memory) => {
+            Err(Wrong::Told(Err(NoMemory)))
+        }
+    }
+}
+
+/// Judges octets: nothing where they are a scenario that can be played to its end, or what is wrong.
+fn judged(alloc: Global, octets: &[u8]) -> Result<(), Wrong>
     ensures right { OnOk result (IsScenario octets.now) }
-    ensures wrong { IfErr result (λ line. IsOk line → IsNoScenario octets.now) }
+    ensures wrong { IfErr result (IsWrong octets.now) }
 {
     let Ok(text) = str::from_utf8(octets) else {
-        return Err(words(alloc, "fault: scenario 1:1 no UTF-8"));
+        return Err(Wrong::Told(words(alloc, "fault: scenario 1:1 no UTF-8")));
     };
     match read(alloc, text) {
-        Ok(_scenario) => Ok(()),
+        Ok(scenario) => played(alloc, text, scenario),
         Err(fault) => {
             if matches!(fault.what, What::NoMemory) {
-                Err(Err(NoMemory))
+                Err(Wrong::Told(Err(NoMemory)))
             } else {
-                Err(told(alloc, text, &fault))
+                Err(Wrong::Told(told(alloc, text, &fault)))
             }
         }
     }
 }
 
-/// Judges octets; where they are no scenario, the line of what is wrong is written.
+/// Writes the lines of a run that can't be closed, after which nothing is written.
+fn explain<E: Write>(errors: &mut E, cause: Disagree, why: &[u8]) -> io::Result<Ending>
+    requires { is_title why.now ≡ true }
+    ensures is { IfOk result (λ ending. ending ≡ Refused) }
+    ensures told { OnOk result (TellsOpen cause (E.contents errors.old) (E.contents errors.new)) }
+{
+    let code = cause.code();
+    write!(errors, "fault: check {code}\nexplain: ")?;
+    errors.write_all(why)?;
+    errors.write_all(b"\n")?;
+    errors.flush()?;
+    Ok(Ending::Refused)
+}
+
+/// Writes why a run can't be closed, and what would do; or the line of refused room.
+fn complain_open<E: Write>(alloc: Global, errors: &mut E, cause: Disagree) -> io::Result<Ending>
+    ensures { IfOk result (TellsWhyOpen cause (E.contents errors.old) (E.contents errors.new)) }
+{
+    match reason(alloc, words(alloc, words_of_check(cause))) {
+        Ok(why) => explain(errors, cause, why.as_slice()),
+        Err(_) => fail(errors, InputFault::Memory),
+    }
+}
+
+/// Judges octets; where they are no scenario that can be played to its end, what is wrong is written.
 fn answer<E: Write>(alloc: Global, octets: &[u8], errors: &mut E) -> io::Result<Ending>
     ensures { IfOk result (Checks octets.now (E.contents errors.old) (E.contents errors.new)) }
 {
     match judged(alloc, octets) {
         Ok(()) => Ok(Ending::Planned),
-        Err(line) => complain(alloc, errors, line),
+        Err(Wrong::Told(line)) => complain(alloc, errors, line),
+        Err(Wrong::Open(cause)) => complain_open(alloc, errors, cause),
     }
 }
 
-/// Reads a scenario, and tells whether it is one: a text that `hsr_scenario::read` reads. Where it isn't, one line on `errors` says why:
-/// `fault: scenario <line>:<column>` and what would be right. Otherwise it is right, but for `fault: read` and `fault: memory`. A scenario
-/// has at most 16 MiB. The error of `errors`, where that line can't be written there.
+/// Reads a scenario, and tells whether it can be played to its end: a text that `hsr_scenario::read` reads, with nodes, whose orders lead to
+/// a finished run with tables of 512 entries. Where it can't, `errors` says why. `fault: scenario <line>:<column>` and what would be right
+/// stands there of a text that is none, of one without nodes, and of an order that is refused. `fault: check <n>`, and a line that explains
+/// it, stands there where all orders are obeyed, and the run that they lead to can't be closed: something is still on its way, or was
+/// injected. Otherwise the scenario is right, but for `fault: read` and `fault: memory`. It has at most 16 MiB. The error of `errors`, where
+/// a line can't be written there.
 #[tactic(auto, using(crate::proofs::Whole::scenario_whole))]
 pub fn check_run<R: Read, E: Write>(
     alloc: Global,

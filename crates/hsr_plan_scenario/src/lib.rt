@@ -1,6 +1,6 @@
 //! The scenario that a plan means, as a text, and the whole way there from the plan's own text; and whether a text is a scenario.
 //!
-//! Its modules, in the order to read them: `spelling`, `same`, `checking`, `input`, `planning`, `judging`.
+//! Its modules, in the order to read them: `sends`, `spelling`, `same`, `checking`, `input`, `planning`, `judging`.
 #![tactic(auto)]
 
 mod checking;
@@ -8,6 +8,7 @@ mod input;
 mod judging;
 mod planning;
 mod same;
+mod sends;
 mod spelling;
 
 pub use checking::{Trouble, moved, scenario_of_meaning, scenario_of_plan};

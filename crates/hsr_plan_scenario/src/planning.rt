@@ -125,7 +125,7 @@ fn shown(octet: u8) -> u8
 }
 
 /// Why something is wrong, without control characters: a name in a plan or in a scenario may have them.
-fn reason(alloc: Global, line: Line) -> Line
+pub(crate) fn reason(alloc: Global, line: Line) -> Line
     ensures title { IfOk result (λ why. is_title why.items ≡ true) }
     ensures some { OnOk result (IsOk line) }
 {

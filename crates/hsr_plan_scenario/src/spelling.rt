@@ -1,21 +1,24 @@
 //! How a scenario is spelled in TOML.
 ghost use Rattle.std.specs.Prelude.{◌≡◌, ◌++◌, IfOk, OnOk, codes, length, min, option_map, slice_get, string_bytes};
+ghost use Rattle.std.specs.List.Sorted.{IsNonDecreasing};
 ghost use Rattle.std.specs.Fmt.{decimal};
 ghost use Rattle.std.specs.List.{flat_map};
 ghost use Rattle.hex.specs.Hex.{encode_upper};
 ghost use Rattle.hsr_frame.specs.Grammar.{pair};
-ghost use Rattle.hsr_plan_scenario.specs.Spelled.{about_text, at_link, at_node, at_port, clock_text, comma, digits_text, dir_text, does_text, frame_text, from_text, front_text, letter_or, link_line, link_lines, links_text, listed, mac_text, mode_text, name_of, name_text, node_line, nodes_text, octets_text, order_line, order_text, place_text, port_text, ring_place_text, role_text, scenario_text, station_text, stations_text, step_text, title_text, vlan_text};
+ghost use Rattle.hsr_plan_scenario.specs.Spelled.{about_text, at_link, at_node, at_port, clock_text, comma, counts_text, digits_text, dir_text, does_text, frame_text, from_text, front_text, letter_or, link_line, link_lines, links_text, listed, mac_text, mode_text, moves_text, name_of, name_text, node_line, nodes_text, octets_text, order_line, order_text, place_text, port_text, ring_place_text, role_text, scenario_text, station_text, stations_text, step_text, summary_text, title_text, vlan_text};
 
+use crate::sends::send_moments;
 use hsr_frame::{About, Mac, Mode, NoMemory};
 use hsr_link::Dir;
 use hsr_node::Place;
 use hsr_plan_meaning::Meaning;
 use hsr_plan_network::Node;
-use hsr_plan_text::Word;
+use hsr_plan_text::{Moves, Outline, Word};
 use hsr_scenario::Order;
 use hsr_step::Step;
 use hsr_text::{put_decimal, put_hex};
 use hsr_topology::End;
+use hsr_windows::most_of;
 use std::alloc::Global;
 use std::io::Write;
 
@@ -539,17 +542,77 @@ fn put_title(text: &mut Vec<u8>, title: &Option<String>) -> Result<(), NoMemory>
     }
 }
 
+/// Puts how copies move last.
+fn put_moves(text: &mut Vec<u8>, moves: Moves) -> Result<(), NoMemory>
+    ensures { OnOk result (text.new.items ≡ text.old.items ++ moves_text moves) }
+{
+    match moves {
+        Moves::EachSendDrains => put(text, "each send drains"),
+        Moves::EachMomentDrains => put(text, "each moment drains"),
+        Moves::Hop(us) => {
+            put(text, "hop_us = ")?;
+            put_number(text, us)
+        }
+    }
+}
+
+/// Puts a number and what it counts last.
+fn put_count(text: &mut Vec<u8>, number: usize, words: &str) -> Result<(), NoMemory>
+    ensures { OnOk result (text.new.items ≡ text.old.items ++ (decimal number ++ words.now)) }
+{
+    put_number(text, number as u64)?;
+    put(text, words)
+}
+
+/// Puts the comment of so many nodes and links, of sends at these moments, which rise, and of how copies move, last.
+#[tactic(auto, unfolding(crate::specs::Spelled::counts_text))]
+fn put_counts(
+    text: &mut Vec<u8>,
+    nodes: usize,
+    links: usize,
+    sends: &[u64],
+    moves: Moves,
+) -> Result<(), NoMemory>
+    requires { IsNonDecreasing sends.now }
+    ensures { OnOk result (text.new.items ≡ text.old.items ++ counts_text nodes links sends.now moves) }
+{
+    put(text, "# ")?;
+    put_count(text, nodes, " nodes, ")?;
+    put_count(text, links, " links, ")?;
+    put_count(text, sends.len(), " sends, at most ")?;
+    put_count(text, most_of(sends), " in 800 ms; copies: ")?;
+    put_moves(text, moves)?;
+    put(text, "\n")
+}
+
+/// Puts the comment that counts what is meant last.
+#[tactic(auto, unfolding(crate::specs::Spelled::summary_text))]
+fn put_summary(
+    alloc: Global,
+    text: &mut Vec<u8>,
+    moves: Moves,
+    meaning: &Meaning,
+) -> Result<(), NoMemory>
+    ensures { OnOk result (text.new.items ≡ text.old.items ++ summary_text moves meaning.now) }
+{
+    let sends = send_moments(alloc, meaning.orders.as_slice())?;
+    let nodes = meaning.nodes.len();
+    let links = meaning.topology.links().len();
+    put_counts(text, nodes, links, sends.as_slice(), moves)
+}
+
 /// What ends the list of steps.
 const END: &str = "]\n";
 
-/// What stands before the lines of steps: the title, the unit of moments, the capacity, then nodes and links, one a line.
+/// What stands before the lines of steps: the title, the comment that counts, the unit of moments, the capacity, then nodes and links, one a line.
 #[tactic(auto, unfolding(crate::specs::Spelled::front_text))]
-fn begun(alloc: Global, title: &Option<String>, meaning: &Meaning) -> Result<Vec<u8>, NoMemory>
-    ensures { IfOk result (λ text. text.items ≡ front_text (option_map string_bytes title.now) meaning.now) }
+fn begun(alloc: Global, outline: &Outline, meaning: &Meaning) -> Result<Vec<u8>, NoMemory>
+    ensures { IfOk result (λ text. text.items ≡ front_text outline.now meaning.now) }
 {
     let nodes = meaning.nodes.as_slice();
     let mut text = Vec::new(alloc);
-    put_title(&mut text, title)?;
+    put_title(&mut text, &outline.title)?;
+    put_summary(alloc, &mut text, outline.moves, meaning)?;
     put(&mut text, "unit = \"us\"\ncapacity = ")?;
     put_number(&mut text, meaning.capacity as u64)?;
     put(&mut text, "\n")?;
@@ -562,12 +625,12 @@ fn begun(alloc: Global, title: &Option<String>, meaning: &Meaning) -> Result<Vec
 /// How many octets the scenario's text has, or `usize::MAX` where it has more. The text isn't formed for it.
 pub(crate) fn measured(
     alloc: Global,
-    title: &Option<String>,
+    outline: &Outline,
     meaning: &Meaning,
 ) -> Result<usize, NoMemory>
-    ensures { IfOk result (λ octets. octets ≡ min (length (scenario_text (option_map string_bytes title.now) meaning.now)) usize.MAX) }
+    ensures { IfOk result (λ octets. octets ≡ min (length (scenario_text outline.now meaning.now)) usize.MAX) }
 {
-    let front = begun(alloc, title, meaning)?
+    let front = begun(alloc, outline, meaning)?
         .len()
         .saturating_add(END.len());
     let steps = measured_steps(alloc, meaning)?;
@@ -578,12 +641,12 @@ pub(crate) fn measured(
 #[tactic(auto, unfolding(crate::specs::Spelled::scenario_text))]
 pub(crate) fn spelled(
     alloc: Global,
-    title: &Option<String>,
+    outline: &Outline,
     meaning: &Meaning,
 ) -> Result<Vec<u8>, NoMemory>
-    ensures { IfOk result (λ text. text.items ≡ scenario_text (option_map string_bytes title.now) meaning.now) }
+    ensures { IfOk result (λ text. text.items ≡ scenario_text outline.now meaning.now) }
 {
-    let mut text = begun(alloc, title, meaning)?;
+    let mut text = begun(alloc, outline, meaning)?;
     let nodes = meaning.nodes.as_slice();
     put_orders(&mut text, nodes, meaning.orders.as_slice())?;
     put(&mut text, END)?;

@@ -39,7 +39,8 @@ A plan is TOML, read from standard input:
 The scenario is written on standard output.
 
 With --check standard input is a scenario, and nothing is written if it is right; else one line on standard error
-says in which line and column which word is wrong, and what is allowed there.
+says in which line and column which word is wrong, and what is allowed there. It is also played to its end, with
+tables of 512 entries: `fault: check N` says that it can't be closed, as where it doesn't end with a drain.
 
 With sweep each link and each node is off from a moment on, one by one, and a line says of each run how many sends it
 had, how many of these are complete, missed and taken up twice, how many table entries it needed, and what the audit

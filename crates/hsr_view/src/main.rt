@@ -14,7 +14,8 @@ use crate::asked::Asked;
 use crate::command_line::{WordFault, asked};
 use hsr_scenario::TEXT_LIMIT;
 use hsr_text::arguments;
-use hsr_viewing::{Fault, tell, view_run};
+use hsr_viewing::{Fault, Unnamed, no_text, tell, view_run};
+use std::alloc::Global;
 use std::fs::{File, Files};
 use std::io::{ErrorKind, Read, Write};
 use std::process::ExitCode;
@@ -41,12 +42,17 @@ fn scenario_at<H: AllocGlobal + Files>(
         return Ok(None);
     };
     match text_at(rt, path) {
-        Ok(text) => match String::from_utf8(text) {
-            Ok(text) => Ok(Some(text)),
-            Err(_) => Err(Fault::Names),
-        },
+        Ok(text) => {
+            if str::from_utf8(text.as_slice()).is_err() {
+                return Err(Fault::Names(no_text(text.as_slice())));
+            }
+            match String::from_utf8(text) {
+                Ok(text) => Ok(Some(text)),
+                Err(_) => Err(Fault::Names(Unnamed::NoText)),
+            }
+        }
         Err(error) if error.kind() == ErrorKind::OutOfMemory => Err(Fault::Memory),
-        Err(_) => Err(Fault::Names),
+        Err(_) => Err(Fault::Names(Unnamed::NoFile)),
     }
 }
 

@@ -16,6 +16,7 @@ use Rattle.hsr_picture.specs.declared.picturing.PictureFault.TheVariants as pict
 use Rattle.hsr_transcript_text.specs.declared.fault.ReadFault.{ReadFault}
 use Rattle.hsr_transcript_text.specs.declared.fault.ReadFault.TheVariants as read
 use Rattle.hsr_viewing.specs.Given.{given_words}
+use Rattle.hsr_viewing.specs.Unnamed.{unnamed_words}
 use Rattle.hsr_viewing.specs.declared.given.Given.{Given}
 use Rattle.hsr_viewing.specs.declared.fault.Fault.{Fault}
 use Rattle.hsr_viewing.specs.declared.fault.Extent.{Extent}
@@ -46,7 +47,8 @@ extent_text extent = decimal extent.copies ++ (codes ", of moments " ++ moments_
 abbrev pub fault_line : Fault → List ℕ
 fault_line (Transcript fault) = read_line fault
 fault_line (Other given has_ended) = other_line given has_ended
-fault_line Names = codes "fault: names, and --names takes the scenario of the run: hsr_plan writes that of a plan"
+fault_line (Names unnamed) =
+    codes "fault: names, and --names takes the scenario of the run: hsr_plan writes that of a plan\nexplain: " ++ unnamed_words unnamed
 fault_line Link = codes "fault: link"
 fault_line Send = codes "fault: send"
 fault_line Reversed = codes "fault: moments"

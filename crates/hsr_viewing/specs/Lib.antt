@@ -1,4 +1,5 @@
 pub mod Given
+pub mod Unnamed
 pub mod Fault
 pub mod Viewing
 pub mod Refusals

@@ -29,7 +29,10 @@ use Rattle.hsr_viewing.specs.Viewing.{AreNames, AreSends, IsSend, leaves_none, p
 use Rattle.hsr_viewing.specs.declared.asked.What.{What}
 use Rattle.hsr_viewing.specs.declared.asked.What.TheVariants as asked
 use Rattle.hsr_viewing.specs.declared.fault.Fault.{Fault}
+use Rattle.hsr_viewing.specs.Unnamed.{unread}
 use Rattle.hsr_viewing.specs.declared.given.Given.{Given}
+use Rattle.hsr_viewing.specs.declared.unnamed.Unnamed.{Unnamed}
+use Rattle.hsr_viewing.specs.declared.unnamed.Unnamed.TheVariants.{Other}
 use Rattle.hsr_viewing.specs.declared.fault.Fault.TheVariants.{Names, Link, Send, NoCopies, NoneAsked, Circle, TooLong, Read, Memory}
 
 -- a text can't be read for the names of a scenario, or it is one of other nodes or links
@@ -37,13 +40,18 @@ abbrev pub IsOther : Topology → Result NamesMeant ScenarioFault → Type 0
 IsOther topology (Ok meant) = ¬ (meant.topology ≡ topology)
 IsOther topology (Err fault) = ⊤
 
--- a scenario was given, and its names aren't taken for this cause
-abbrev pub HasOtherNames : Topology → Option (List ℕ) → Type 0
-HasOtherNames topology None = ⊥
-HasOtherNames topology (Some text) = IsOther topology (names_meant text)
+-- what a text is of which the names aren't taken
+abbrev pub given_instead : Result NamesMeant ScenarioFault → List ℕ → Unnamed
+given_instead (Ok meant) text = Other
+given_instead (Err fault) text = unread text
+
+-- a scenario was given, and its names aren't taken for this cause; what it is instead
+abbrev pub HasOtherNames : Topology → Option (List ℕ) → Unnamed → Type 0
+HasOtherNames topology None is = ⊥
+HasOtherNames topology (Some text) is = IsOther topology (names_meant text) × (is ≡ given_instead (names_meant text) text)
 
 abbrev pub IsMisnamed : Topology → Option (List ℕ) → Fault → Type 0
-IsMisnamed topology scenario Names = HasOtherNames topology scenario
+IsMisnamed topology scenario (Names is) = HasOtherNames topology scenario is
 IsMisnamed topology scenario Memory = Unit {0}
 IsMisnamed topology scenario _ = ⊥
 

@@ -3,6 +3,7 @@ ghost use Rattle.std.specs.Prelude.{◌≡◌, Some};
 ghost use Rattle.hsr_viewing.specs.Fault.{extent_text, fault_line, moments_text, told};
 
 use crate::given::Given;
+use crate::unnamed::Unnamed;
 use hsr_capture::BlockFault;
 use hsr_frame::NoMemory;
 use hsr_picture::PictureFault;
@@ -51,8 +52,8 @@ pub enum Fault {
     Transcript(ReadFault),
     /// The text is no transcript, but one that another program knows; whether it ended in its first line.
     Other { given: Given, has_ended: bool },
-    /// The names are of no scenario, or of one with other nodes or links.
-    Names,
+    /// The names are of no scenario, or of one with other nodes or links; what was given in its place.
+    Names(Unnamed),
     /// There is no such link.
     Link,
     /// There is no such send.
@@ -165,7 +166,7 @@ pub(crate) fn told(fault: ReadFault, given: Option<Given>) -> Fault
 }
 
 /// The line on standard error, without its line feed; that of a transcript is the one that `hsr_bench audit` has. Behind it stands, where
-/// the text is one that another program knows, a line that says which.
+/// the text is one that another program knows, a line that says which; and a line that says what was given for names.
 impl fmt::Display for Fault {
     ghost output = { λ fault. Some (fault_line fault) };
 
@@ -190,9 +191,9 @@ impl fmt::Display for Fault {
                 given,
                 has_ended: true,
             } => write!(f, "fault: transcript end\nexplain: {given}"),
-            Fault::Names => write!(
+            Fault::Names(unnamed) => write!(
                 f,
-                "fault: names, and --names takes the scenario of the run: hsr_plan writes that of a plan"
+                "fault: names, and --names takes the scenario of the run: hsr_plan writes that of a plan\nexplain: {unnamed}"
             ),
             Fault::Link => write!(f, "fault: link"),
             Fault::Send => write!(f, "fault: send"),

@@ -3,6 +3,7 @@
 //! Its modules, in the order in which to read them:
 //! - `asked`: what can be asked for
 //! - `given`: what a text is that is no transcript
+//! - `unnamed`: what a text is that is no scenario of the run
 //! - `fault`: why nothing is shown, and the line that says it
 //! - `head`: the head of a text, read before the rest is
 //! - `viewing`: what is shown of a text
@@ -14,9 +15,11 @@ mod fault;
 mod given;
 mod head;
 mod running;
+mod unnamed;
 mod viewing;
 
 pub use asked::What;
 pub use fault::{Extent, Fault, Moments};
 pub use given::Given;
 pub use running::{tell, view_run};
+pub use unnamed::{Unnamed, no_text};

@@ -14,6 +14,7 @@ use crate::asked::What;
 use crate::fault::{Extent, Fault, Moments, told};
 use crate::given::{begins, given_of};
 use crate::head::front;
+use crate::unnamed::{Unnamed, unread};
 use hsr_capture::capture;
 use hsr_closing::Closed;
 use hsr_devices::devices;
@@ -31,7 +32,7 @@ use std::alloc::Global;
 use std::io::Read;
 
 /// The names of the nodes of a run, by the scenario from which it came; none without it. `Names` exactly where its names can't be read,
-/// or it has other nodes or links.
+/// or it has other nodes or links, with what it is.
 fn names_of(
     alloc: Global,
     topology: &Topology,
@@ -48,14 +49,14 @@ fn names_of(
             if is_same_topology(&named.topology, topology) {
                 Ok(named.names)
             } else {
-                Err(Fault::Names)
+                Err(Fault::Names(Unnamed::Other))
             }
         }
         Err(fault) => {
             if matches!(fault.what, Refused::NoMemory) {
                 Err(Fault::Memory)
             } else {
-                Err(Fault::Names)
+                Err(Fault::Names(unread(text.as_bytes())))
             }
         }
     }

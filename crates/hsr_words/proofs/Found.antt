@@ -4,7 +4,7 @@ use Rattle.clap.specs.Kinds.{HasKind, IsAmong, Kinds}
 use Rattle.clap.specs.Words.{App, Row, Text, fault_of, first_of, is_simple, is_simple_and_free, kind_of, subcommand_of}
 use Rattle.clap.specs.declared.error.Error.{Error}
 use Rattle.clap.specs.declared.error.kind.ErrorKind.TheVariants.{OutOfMemory}
-use Rattle.hsr_words.specs.Options.{Chosen, ChosenIn, IfUsage, IsAsked, IsBench, IsForm, IsRefused, IsShowing, IsTaken, ListsModes, ListsTables, ListsUnits, Says, SaysNothing, Listed, bench_app, flag_text}
+use Rattle.hsr_words.specs.Options.{Chosen, ChosenIn, IfUsage, IsAsked, IsBench, IsForm, IsRefused, IsShowing, IsTaken, ListsModes, ListsTables, ListsUnits, Says, SaysNothing, Listed, bench_app, flag_text, mac_usage}
 use Rattle.hsr_frame.specs.Words.{mode_of, mode_word}
 use Rattle.hsr_frame.specs.declared.node.Mode.{Mode}
 use Rattle.hsr_frame.specs.declared.node.Mode.TheVariants.{H, N, U}
@@ -91,7 +91,7 @@ faulty [] app text h is some = absurd (omega arith)
 faulty (w ∷ ws) app text h is some = (app, is, inl some)
 
 pub silent : (words : List Text) (app : App) (text : Text) → 0 < length words → IsBench app → fault_of app words ≡ [] → SaysNothing (subcommand_of app words)
-    → text ≡ codes "usage: --mac" → IsRefused words text
+    → text ≡ mac_usage → IsRefused words text
 silent [] app text h is none nothing said = absurd (omega arith)
 silent (w ∷ ws) app text h is none nothing said = (app, is, inr (none, nothing, said))
 

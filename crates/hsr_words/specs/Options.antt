@@ -168,11 +168,15 @@ IsTaken (w ∷ ws) = (app : App) × IsBench app × (fault_of app (w ∷ ws) ≡ 
 abbrev pub SaysNothing : Option (Text × List Row) → Type 0
 SaysNothing found = (o : Options) → ¬ ChosenIn found o
 
+-- the text by which a `--mac` is refused: the agreed line, and what it takes
+abbrev pub mac_usage : Text
+mac_usage = codes "usage: --mac\nexplain: --mac takes the address of one node: six pairs of hexadecimal digits with hyphens between, the first pair even (an odd one is a group's), as 02-00-00-00-00-01"
+
 -- words are refused by this text: the command finds a fault in them, or finds none, and what it finds says nothing
 abbrev pub IsRefused : List Text → Text → Type 0
 IsRefused [] text = ⊥
 IsRefused (w ∷ ws) text = (app : App) × IsBench app × ((fault_of app (w ∷ ws) ≢ [])
-    ⊎ ((fault_of app (w ∷ ws) ≡ []) × SaysNothing (subcommand_of app (w ∷ ws)) × (text ≡ codes "usage: --mac")))
+    ⊎ ((fault_of app (w ∷ ws) ≡ []) × SaysNothing (subcommand_of app (w ∷ ws)) × (text ≡ mac_usage)))
 
 -- a text, or how help is asked for where it is empty
 abbrev pub or_help : Text → Text

@@ -39,6 +39,10 @@ status 1.
 
 Example: echo 'send 0 02-00-00-00-00-02 0800 AABB' | hsr_bench node";
 
+const NO_MAC: &str = "\
+usage: --mac
+explain: --mac takes the address of one node: six pairs of hexadecimal digits with hyphens between, the first pair even (an odd one is a group's), as 02-00-00-00-00-01";
+
 const RUN_ABOUT: &str =
     "Runs the scenario on standard input (< scenario.toml), and reports whether it certifies delivery";
 
@@ -538,8 +542,8 @@ fn chosen_in(matches: &ArgMatches<'_>) -> Option<Options>
 }
 
 /// What the words after the program's name say: with none, `node` and its defaults. A `--mac` that is no
-/// address or a group's is refused by the text `usage: --mac`, and other words by clap's text, which isn't empty; `Memory` where
-/// room is refused.
+/// address or a group's is refused by `usage: --mac` and a line that says what it takes, and other words by clap's text, which isn't
+/// empty; `Memory` where room is refused.
 pub fn options<'a>(alloc: Global, words: &'a [&'a str]) -> Result<Options, OptionFault>
     ensures found { IfOk result (Says (map (λ s. s.now) words.entry.now)) }
     ensures taken { OnOk result (IsTaken (map (λ s. s.now) words.entry.now)) }
@@ -561,7 +565,7 @@ pub fn options<'a>(alloc: Global, words: &'a [&'a str]) -> Result<Options, Optio
     match command.try_get_matches_from(words) {
         Ok(matches) => match chosen_in(&matches) {
             Some(options) => Ok(options),
-            None => Err(usage(alloc, "usage: --mac")),
+            None => Err(usage(alloc, NO_MAC)),
         },
         Err(error) => Err(refused(alloc, &error)),
     }

@@ -1,8 +1,8 @@
-//! How crowded the windows of a run's sends are.
-ghost use Rattle.std.specs.Prelude.{◌≡◌, ◌-◌, ◌*◌, ◌≤◌, nat_lt, length, count_by, IfErr, IfOk};
+//! How crowded the windows of moments are.
+ghost use Rattle.std.specs.Prelude.{ℕ, ◌≡◌, ◌-◌, ◌*◌, ◌≤◌, nat_lt, length, count_by, IfErr, IfOk};
 ghost use Rattle.std.specs.List.Sorted.{IsNonDecreasing};
 ghost use Rattle.hsr_duptable.specs.Notes.{entry_forget};
-ghost use Rattle.hsr_audit.specs.Windows.{IsFirstOver, IsMostBelow, crowd_in};
+ghost use Rattle.hsr_windows.specs.Windows.{IsFirstOver, IsMostBelow, crowd_in, most_in};
 
 use hsr_duptable::ENTRY_FORGET;
 
@@ -34,9 +34,9 @@ fn crowd_in(moments: &[u64], start: u64) -> usize
     count_until_end(moments, start) - count_before(moments, start)
 }
 
-/// The most of these moments that lie in the window from one of them on, or the first of them whose window has more than
-/// there is room for.
-pub(crate) fn most_crowded(room: usize, moments: &[u64]) -> Result<usize, u64>
+/// The most of these moments, in microseconds and rising, that lie in the 800 milliseconds from one of them on; or the first of them from
+/// which on there are more than there is room for.
+pub fn most_crowded(room: usize, moments: &[u64]) -> Result<usize, u64>
     requires { IsNonDecreasing moments.now }
     ensures most { IfOk result (λ most. IsMostBelow moments.now (length moments.now) most) }
     ensures room { IfOk result (λ most. most ≤ room) }
@@ -53,10 +53,12 @@ pub(crate) fn most_crowded(room: usize, moments: &[u64]) -> Result<usize, u64>
     Ok(most)
 }
 
-/// The most of these moments that lie in the window from one of them on.
-pub(crate) fn most_of(moments: &[u64]) -> usize
+/// The most of these moments, in microseconds and rising, that lie in any 800 milliseconds; 0 where there are none.
+pub fn most_of(moments: &[u64]) -> usize
     requires { IsNonDecreasing moments.now }
-    ensures { IsMostBelow moments.now (length moments.now) result }
+    ensures most { result ≡ most_in moments.now }
+    ensures reached { IsMostBelow moments.now (length moments.now) result }
+    ensures any { (start : ℕ) → crowd_in moments.now start ≤ result }
 {
     let mut most = 0;
     for start in moments {

@@ -1,7 +1,7 @@
 use Rattle.std.proofs.Common.{nat_lt, rules}
 use Rattle.std.proofs.lemmas.List.Sorted.{IsPartitionPoint-from_clause, IsPartitionedBy-ltb}
-use Rattle.hsr_audit.proofs.Crowding.{point_counts}
-use Rattle.hsr_audit.proofs.windows.count_before.Goals as goal
+use Rattle.hsr_windows.proofs.Crowding.{point_counts}
+use Rattle.hsr_windows.proofs.windows.count_before.Goals as goal
 
 pub returns : goal.returns
 returns c =

@@ -1,6 +1,6 @@
 use Rattle.std.proofs.Common.{rules}
-use Rattle.hsr_audit.proofs.Crowding.{first_over, most_more}
-use Rattle.hsr_audit.proofs.windows.most_crowded.Goals as goal
+use Rattle.hsr_windows.proofs.Crowding.{first_over, most_more}
+use Rattle.hsr_windows.proofs.windows.most_crowded.Goals as goal
 
 pub returns-then-count-room-clause-crowded : goal.returns-then-count-room-clause-crowded
 returns-then-count-room-clause-crowded c =
