@@ -1,0 +1,2 @@
+pub mod Fallible
+pub mod Tables
