@@ -18,5 +18,6 @@ pub use plan::{
     Addressed, Behind, Deed, Event, Framing, InMode, Kind, LinkEnd, Moves, Network, Outline, Plan,
     Ring, Stream, Target, Timing,
 };
-pub use reading::{TEXT_LIMIT, read};
+pub use hsr_toml::TEXT_LIMIT;
+pub use reading::read;
 pub use word::Word;

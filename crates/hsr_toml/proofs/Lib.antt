@@ -1,2 +1,3 @@
 pub mod Fallible
-pub mod Tables
+pub mod Arrays
+pub mod Lists

@@ -1,3 +1,5 @@
 pub mod Faults
 pub mod Fallible
 pub mod Tables
+pub mod Documents
+pub mod Names

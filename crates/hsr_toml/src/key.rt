@@ -5,7 +5,7 @@ ghost use Rattle.hsr_toml.specs.Faults.{Faults};
 /// A key that tables of a text may have, and what is told of it where a table isn't as it has to be.
 pub trait TableKey: Copy {
     /// What is told of a table.
-    type Fault;
+    type Fault: Drop;
 
     ghost faults: { Faults Self Self.Fault };
 
