@@ -5,7 +5,7 @@ use crate::lines::Explanation;
 use hsr_closing::Disagree;
 use hsr_frame::{NoMemory, SendFault};
 use hsr_node::StepFault;
-use hsr_plan_fault::put;
+use hsr_toml::put;
 use hsr_ring::World;
 use hsr_scenario::{ScenarioFault, read_names};
 use hsr_scenario_fault::{told, told_step};

@@ -3,3 +3,8 @@ pub mod Fallible
 pub mod Tables
 pub mod Documents
 pub mod Names
+pub mod Position
+pub mod Lexing
+pub mod Places
+pub mod Line
+pub mod Headers

@@ -1,6 +1,6 @@
 -- Where words and headers stand in a text, whatever they are part of.
 use Rattle.std.specs.Prelude.{◌≡◌, ℕ, ◌+◌, ◌-◌, ◌<◌, ◌≤◌, ◌==◌, ◌&&◌, nat_le, Bool, true, false, List, length, slice_get, Option, Some, None}
-use Rattle.hsr_plan_fault.specs.Position.{is_whole}
+use Rattle.hsr_toml.specs.Position.{is_whole}
 
 -- the first place from `from` on where the word stands whole
 pub record IsFirst (text word : List ℕ) (from at : ℕ) : Type 0 where

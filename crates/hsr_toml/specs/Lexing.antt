@@ -1,7 +1,7 @@
 -- A text of TOML without what its comments and strings say.
 use Rattle.std.specs.Prelude.{ℕ, ◌+◌, ◌==◌, ◌&&◌, ◌||◌, nat_lt, List, [], ◌∷◌, if◌then◌else◌}
-use Rattle.hsr_plan_fault.specs.declared.lexing.Lexing.{Lexing}
-use Rattle.hsr_plan_fault.specs.declared.lexing.Lexing.TheVariants.{Plain, Comment, Opened, Empty, Line, LineEscape, Long, LongEscape}
+use Rattle.hsr_toml.specs.declared.lexing.Lexing.{Lexing}
+use Rattle.hsr_toml.specs.declared.lexing.Lexing.TheVariants.{Plain, Comment, Opened, Empty, Line, LineEscape, Long, LongEscape}
 
 -- 34 and 39 are quotes, 35 begins a comment, 92 is a backslash
 

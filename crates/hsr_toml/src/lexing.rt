@@ -1,7 +1,7 @@
 //! A text of TOML without what its comments and strings say.
 ghost use Rattle.std.specs.Prelude.{◌≡◌, IfOk};
-ghost use Rattle.hsr_plan_fault.specs.Lexing.{bare, empty, ending, lexed, line, long, opened, plain, shown};
-ghost use Rattle.hsr_plan_fault.specs.declared.lexing.Lexing.TheVariants as lexing;
+ghost use Rattle.hsr_toml.specs.Lexing.{bare, empty, ending, lexed, line, long, opened, plain, shown};
+ghost use Rattle.hsr_toml.specs.declared.lexing.Lexing.TheVariants as lexing;
 
 use hsr_frame::NoMemory;
 use std::alloc::Global;

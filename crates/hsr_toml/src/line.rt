@@ -1,6 +1,6 @@
 //! A fault's one line.
 ghost use Rattle.std.specs.Prelude.{◌≡◌, ◌++◌, map, IfOk, OnOk};
-ghost use Rattle.hsr_plan_fault.specs.Line.{IsLine, line_of, shown};
+ghost use Rattle.hsr_toml.specs.Line.{IsLine, line_of, shown};
 
 use hsr_frame::NoMemory;
 use std::alloc::Global;

@@ -1,6 +1,6 @@
 //! Where a word stands in a text.
 ghost use Rattle.std.specs.Prelude.{◌≡◌, ◌≤◌, ◌==◌, ◌+◌, ◌-◌, ℕ, true, false, count_by, length, take, drop, slice_get};
-ghost use Rattle.hsr_plan_fault.specs.Position.{before, column, is_edge, is_whole, is_word_octet, position_of};
+ghost use Rattle.hsr_toml.specs.Position.{before, column, is_edge, is_whole, is_word_octet, position_of};
 
 /// A place in a text: its line and its column, both from 1; columns are counted in octets.
 #[derive(Clone, Copy, Debug, PartialEq, Eq)]

@@ -1,6 +1,6 @@
 //! Where keys, tables and names stand in a text.
 ghost use Rattle.std.specs.Prelude.{◌≡◌, ◌≤◌, true, length, IfSome};
-ghost use Rattle.hsr_plan_fault.specs.Places.{begins_string, is_quote, stands};
+ghost use Rattle.hsr_toml.specs.Places.{begins_string, is_quote, stands};
 
 use crate::position::{before, is_whole};
 use crate::walk::{Walk, is_blank};
@@ -286,7 +286,7 @@ fn has_list(source: Source<'_>, word: &[u8], place: usize) -> Option<usize> {
 }
 
 /// Whether the value of a key that stands at a place is a list.
-pub(crate) fn is_list(source: Source<'_>, word: &[u8], place: usize) -> bool {
+pub fn is_list(source: Source<'_>, word: &[u8], place: usize) -> bool {
     has_list(source, word, place).is_some()
 }
 
@@ -320,15 +320,13 @@ pub fn name_under(source: Source<'_>, key: &[u8], name: &[u8]) -> Option<usize>
     }
 }
 
-/// Whether what a key of the document says is of its nodes.
-fn is_of_nodes(source: Source<'_>, at: usize) -> bool {
-    word_at(source, b"ring", at).is_some()
-        || word_at(source, b"rings", at).is_some()
-        || word_at(source, b"redbox", at).is_some()
+/// Whether one of these keys stands at a place.
+fn is_one_of(source: Source<'_>, keys: &[&[u8]], at: usize) -> bool {
+    keys.iter().any(|key| word_at(source, key, at).is_some())
 }
 
-/// Where a name of nodes stands the second time in its list, or else where it stands last.
-pub fn name_again(source: Source<'_>, name: &[u8]) -> Option<usize>
+/// Where a name stands the second time in a list under one of these keys of the document, or else where it stands last there.
+pub fn name_again(source: Source<'_>, keys: &[&[u8]], name: &[u8]) -> Option<usize>
     ensures { IfSome result (λ at. stands source.entry.text.now source.entry.bare.now name.now at ≡ true) }
 {
     let mut walk = Walk::start();
@@ -337,7 +335,7 @@ pub fn name_again(source: Source<'_>, name: &[u8]) -> Option<usize>
     let mut last = usize::MAX;
     for at in 0..source.bare.len() {
         if walk.is_top_key() {
-            is_here = is_of_nodes(source, at);
+            is_here = is_one_of(source, keys, at);
         }
         if source.bare[at] == b'[' {
             is_in_list = false;

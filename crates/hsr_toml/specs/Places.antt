@@ -1,6 +1,6 @@
 -- Where a word stands in a text and in the same text without its comments and strings.
 use Rattle.std.specs.Prelude.{ℕ, ◌-◌, ◌==◌, ◌&&◌, ◌||◌, not, nat_lt, Bool, false, List, slice_get, Option, Some, None}
-use Rattle.hsr_plan_fault.specs.Position.{before, is_whole}
+use Rattle.hsr_toml.specs.Position.{before, is_whole}
 
 abbrev pub is_quote : Option ℕ → Bool
 is_quote None = false

@@ -1,7 +1,7 @@
 //! The words of a fault that name its place, and of a text that isn't TOML.
+use crate::document::TEXT_LIMIT;
 use crate::position::position_of;
 use hsr_frame::NoMemory;
-use hsr_plan_text::TEXT_LIMIT;
 use hsr_text::put_decimal;
 use std::alloc::Global;
 

@@ -1,6 +1,6 @@
 //! Where words and the headers of tables stand in a text, whatever they are part of.
 ghost use Rattle.std.specs.Prelude.{◌≡◌, ◌≤◌, ◌<◌, length, IfSome};
-ghost use Rattle.hsr_plan_fault.specs.Headers.{IsFirst, IsHeader, is_bracketed, is_octet};
+ghost use Rattle.hsr_toml.specs.Headers.{IsFirst, IsHeader, is_bracketed, is_octet};
 
 use crate::position::is_whole;
 

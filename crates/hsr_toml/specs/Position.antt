@@ -1,7 +1,7 @@
 -- Where a word stands in a text.
 use Rattle.std.specs.Prelude.{◌≡◌, ℕ, ◌+◌, ◌-◌, ◌<◌, ◌≤◌, ◌==◌, ◌&&◌, ◌||◌, not, nat_le, Bool, true, false, List, [], ◌∷◌, length, take, drop, count_by, slice_get, Option, Some, None, if◌then◌else◌}
 use Rattle.std.specs.Str.{bytes_eq}
-use Rattle.hsr_plan_fault.specs.declared.position.Position.{Position}
+use Rattle.hsr_toml.specs.declared.position.Position.{Position}
 
 -- a letter, a digit, a hyphen or an underscore
 abbrev pub is_word_octet : ℕ → Bool
