@@ -31,7 +31,15 @@ fn of_node(role: &str) -> Keys {
 fn of_own_step(word: &str) -> Keys {
     match word {
         "send" => Keys {
-            keys: &[Key::Do, Key::Node, Key::To, Key::Kind, Key::Payload, Key::Vlan, Key::From],
+            keys: &[
+                Key::Do,
+                Key::Node,
+                Key::To,
+                Key::Kind,
+                Key::Payload,
+                Key::Vlan,
+                Key::From,
+            ],
             words: "a send has do, node, to, type, payload, vlan and from",
         },
         "life" => Keys {
@@ -88,7 +96,13 @@ pub(crate) fn text_at<'a>(table: &'a Table, key: &str) -> &'a str {
 pub(crate) fn keys_at(spot: Spot, table: &Table) -> Keys {
     match spot {
         Spot::Top => Keys {
-            keys: &[Key::Capacity, Key::TimeUnit, Key::Node, Key::Link, Key::Step],
+            keys: &[
+                Key::Capacity,
+                Key::TimeUnit,
+                Key::Node,
+                Key::Link,
+                Key::Step,
+            ],
             words: "a scenario has capacity, unit, node, link and step",
         },
         Spot::Node(_) => of_node(text_at(table, "role")),
