@@ -1,6 +1,6 @@
 -- An explanation: lines without control octets.
 use Rattle.std.specs.Prelude.{ℕ, List, [], ◌∷◌, ◌++◌, codes, map}
-use Rattle.hsr_plan_fault.specs.Line.{shown}
+use Rattle.hsr_toml.specs.Line.{shown}
 
 abbrev pub line_of : List ℕ → List ℕ
 line_of words = codes "explain: " ++ map shown words ++ codes "\n"

@@ -4,7 +4,7 @@ use crate::naming::{put_entry, put_number};
 use hsr_audit::{BudgetFault, budget, most_sends};
 use hsr_closing::Closed;
 use hsr_frame::NoMemory;
-use hsr_plan_fault::put;
+use hsr_toml::put;
 use hsr_text::put_decimal;
 use std::alloc::Global;
 

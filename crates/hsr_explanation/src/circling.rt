@@ -3,7 +3,7 @@ use crate::naming::{put_link, put_number};
 use hsr_frame::NoMemory;
 use hsr_link::Row;
 use hsr_names::put_name;
-use hsr_plan_fault::put;
+use hsr_toml::put;
 use hsr_ring::World;
 use hsr_scenario::Names;
 use std::alloc::Global;

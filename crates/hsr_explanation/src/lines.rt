@@ -4,7 +4,7 @@ ghost use Rattle.hsr_order.specs.Fronts.{lists_of};
 ghost use Rattle.hsr_explanation.specs.Lines.{line_of, lines_of};
 
 use hsr_frame::NoMemory;
-use hsr_plan_fault::put_shown;
+use hsr_toml::put_shown;
 use std::alloc::Global;
 
 /// What is explained: the words of each line.

@@ -3,7 +3,7 @@ use crate::naming::{put_link, put_number};
 use hsr_closing::Closed;
 use hsr_frame::NoMemory;
 use hsr_link::{Fate, Row};
-use hsr_plan_fault::put;
+use hsr_toml::put;
 
 /// How many copies of a link have this fate.
 fn count_of(rows: &[Row], fate: Fate) -> usize {

@@ -1,5 +1,0 @@
-pub mod Position
-pub mod Lexing
-pub mod Places
-pub mod Line
-pub mod Headers

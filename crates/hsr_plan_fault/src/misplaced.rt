@@ -1,6 +1,6 @@
 //! Words of the top of a plan that stand below a header.
-use crate::keys::{Source, is_list, member_at};
 use hsr_plan_text::{Key, PlanFault, Spot, What};
+use hsr_toml::{Source, is_list, member_at};
 
 /// A key of the top of a plan, and where it stands.
 #[derive(Clone, Copy)]

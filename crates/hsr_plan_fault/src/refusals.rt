@@ -1,8 +1,8 @@
 //! The words of why a plan means nothing.
-use crate::text::put;
 use hsr_frame::NoMemory;
 use hsr_plan_text::{Key, Refusal, Word};
 use hsr_text::put_decimal;
+use hsr_toml::put;
 
 /// Puts a word last, between others.
 pub(crate) fn put_word(

@@ -1,20 +1,23 @@
 //! The line of a fault.
 ghost use Rattle.std.specs.Prelude.{IfOk};
-ghost use Rattle.hsr_plan_fault.specs.Line.{IsLine};
+ghost use Rattle.hsr_toml.specs.Line.{IsLine};
 
-use crate::keys::{Source, key_in, member_at, name_again, name_in, name_under, table_at, top_key};
-use crate::lexing::bare;
-use crate::line::fault_line;
 use crate::misplaced::{Misplaced, out_of_place};
 use crate::refusals::{put_refusal, put_word};
-use crate::text::{put, put_no_toml, put_place};
 use crate::wiring::reason_of;
 use hsr_frame::NoMemory;
 use hsr_plan_text::{Key, PlanFault, Refusal, Spot, What, Word};
+use hsr_toml::{
+    Source, bare, fault_line, key_in, member_at, name_again, name_in, name_under, put, put_no_toml,
+    put_place, table_at, top_key,
+};
 use std::alloc::Global;
 
 /// The keys of an event that name nodes.
 const EVENT_KEYS: [Key; 4] = [Key::Cut, Key::Mend, Key::Off, Key::On];
+
+/// The keys of a plan that name its nodes in lists.
+const NODE_KEYS: [&[u8]; 3] = [b"ring", b"rings", b"redbox"];
 
 // ---- where it is
 
@@ -76,7 +79,7 @@ fn rings_at(source: Source<'_>) -> Option<usize> {
 /// Where what is refused stands.
 fn refused_at(source: Source<'_>, spot: Spot, start: usize, refusal: &Refusal) -> Option<usize> {
     match refusal {
-        Refusal::NameTwice(word) => name_again(source, word.as_bytes()),
+        Refusal::NameTwice(word) => name_again(source, &NODE_KEYS, word.as_bytes()),
         Refusal::NoSuchName(word) | Refusal::NoAddress(word) | Refusal::OfStation(word) =>
             unknown_name(source, spot, start, word.as_bytes()),
         Refusal::AddressTaken(word) => member_at(source, b"address", word.as_bytes()),

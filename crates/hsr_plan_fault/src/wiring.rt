@@ -1,6 +1,6 @@
 //! Why the nodes and links of a plan are no topology, and where that is.
-use crate::keys::{Source, member_at, top_key};
 use hsr_frame::Mac;
+use hsr_toml::{Source, member_at, top_key};
 use toml::{Table, Value};
 
 /// The most nodes of a topology.

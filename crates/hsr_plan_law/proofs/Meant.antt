@@ -3,7 +3,7 @@ use Rattle.std.proofs.Common.{◌≡◌, ℕ, ◌∙◌, map, List, [], ◌∷�
 use Rattle.hsr_topology.specs.Topology.{Topology, topology_fault}
 use Rattle.hsr_topology.specs.declared.fault.TopologyFault.{TopologyFault}
 use Rattle.hsr_frame.specs.Cases.{unless}
-use Rattle.hsr_plan_text.specs.Fallible.{◌>>=◌}
+use Rattle.hsr_toml.specs.Fallible.{◌>>=◌}
 use Rattle.hsr_plan_text.specs.Plan.{Network}
 use Rattle.hsr_plan_text.specs.declared.fault.Key.TheVariants as key
 use Rattle.hsr_plan_text.specs.declared.fault.Refusal.TheVariants.{TooMany}

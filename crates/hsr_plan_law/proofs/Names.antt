@@ -10,7 +10,7 @@ use Rattle.std.proofs.lemmas.List.Folds.{list_any-append, list_any_at}
 use Rattle.std.proofs.lemmas.List.Sums.{position_or_len_is}
 use Rattle.std.proofs.lemmas.Slice.Eq.{bytes_eq-Decides}
 use Rattle.hsr_topology.proofs.Addresses.{none_pass}
-use Rattle.hsr_plan_text.specs.Fallible.{◌>>=◌}
+use Rattle.hsr_toml.specs.Fallible.{◌>>=◌}
 use Rattle.hsr_plan_text.specs.declared.fault.What.{What}
 use Rattle.hsr_plan_text.specs.declared.fault.Refusal.{Refusal}
 use Rattle.hsr_plan_network.specs.Checks.{each_once, unless_held}

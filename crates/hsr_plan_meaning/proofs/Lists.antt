@@ -4,7 +4,8 @@ use Rattle.std.specs.Prelude.{⊤}
 use Rattle.std.proofs.lemmas.List.{drop_more}
 use Rattle.hsr_topology.specs.declared.end.End.{End}
 use Rattle.hsr_plan_text.proofs.Lists.{stays, stays_at}
-use Rattle.hsr_plan_text.specs.Fallible.{◌>>=◌, Fails, FailsAt, at_spot}
+use Rattle.hsr_toml.specs.Fallible.{◌>>=◌}
+use Rattle.hsr_plan_text.specs.Fallible.{Fails, FailsAt, at_spot}
 use Rattle.hsr_plan_text.specs.Plan.{Stream}
 use Rattle.hsr_plan_text.specs.declared.fault.PlanFault.{PlanFault}
 use Rattle.hsr_plan_text.specs.declared.fault.Spot.TheVariants as spot

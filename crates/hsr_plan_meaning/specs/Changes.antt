@@ -1,6 +1,7 @@
 -- Events that change something.
 use Rattle.std.specs.Prelude.{ℕ, ◌+◌, ◌==◌, ◌&&◌, ◌||◌, nat_lt, nat_le, Bool, true, false, ⊤, List, [], ◌∷◌, take, drop, Option, Some, None, Result, Ok, if◌then◌else◌}
-use Rattle.hsr_plan_text.specs.Fallible.{◌>>=◌, at_spot}
+use Rattle.hsr_toml.specs.Fallible.{◌>>=◌}
+use Rattle.hsr_plan_text.specs.Fallible.{at_spot}
 use Rattle.hsr_plan_text.specs.declared.fault.Key.{Key}
 use Rattle.hsr_plan_text.specs.declared.fault.Key.TheVariants as key
 use Rattle.hsr_plan_text.specs.declared.fault.PlanFault.{PlanFault}

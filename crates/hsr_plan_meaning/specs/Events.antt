@@ -2,7 +2,7 @@
 use Rattle.std.specs.Prelude.{ℕ, ◌==◌, ◌&&◌, ◌||◌, nat_le, Bool, true, false, List, [], ◌∷◌, slice_get, position, Option, Some, None, option_map, Result, Ok, ok_or}
 use Rattle.hsr_node.specs.Words.{port_of}
 use Rattle.hsr_topology.specs.declared.end.End.{End}
-use Rattle.hsr_plan_text.specs.Fallible.{◌>>=◌, guard}
+use Rattle.hsr_toml.specs.Fallible.{◌>>=◌, guard}
 use Rattle.hsr_plan_text.specs.declared.fault.Key.{Key}
 use Rattle.hsr_plan_text.specs.declared.fault.Key.TheVariants as key
 use Rattle.hsr_plan_text.specs.declared.fault.What.{What}

@@ -4,7 +4,8 @@ use Rattle.std.specs.Ordering.{nat_cmp}
 use Rattle.std.specs.List.Sorted.{IsPermutation, IsSortedByKey, IsStableByKey}
 use Rattle.hsr_topology.specs.Topology.{Topology}
 use Rattle.hsr_scenario.specs.declared.steps.Order.{Order}
-use Rattle.hsr_plan_text.specs.Fallible.{◌>>=◌, at_spot}
+use Rattle.hsr_toml.specs.Fallible.{◌>>=◌}
+use Rattle.hsr_plan_text.specs.Fallible.{at_spot}
 use Rattle.hsr_plan_text.specs.Plan.{Plan}
 use Rattle.hsr_plan_text.specs.declared.fault.PlanFault.{PlanFault}
 use Rattle.hsr_plan_text.specs.declared.fault.Spot.TheVariants as spot

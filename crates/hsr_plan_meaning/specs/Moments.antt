@@ -3,7 +3,7 @@ use Rattle.std.specs.Prelude.{ℕ, zero, suc, ◌+◌, ◌-◌, ◌*◌, ◌^◌
 use Rattle.std.specs.List.{list_all}
 use Rattle.hsr_node.specs.declared.place.Place.{Place}
 use Rattle.hsr_node.specs.declared.place.Place.TheVariants.{Danh, RedBox, QuadBox, Station}
-use Rattle.hsr_plan_text.specs.Fallible.{◌>>=◌, guard}
+use Rattle.hsr_toml.specs.Fallible.{◌>>=◌, guard}
 use Rattle.hsr_plan_text.specs.Plan.{Outline, Stream, Timing}
 use Rattle.hsr_plan_text.specs.declared.fault.Key.TheVariants as key
 use Rattle.hsr_plan_text.specs.declared.fault.What.{What}

@@ -1,6 +1,7 @@
 -- All that happens in a plan, moment by moment.
 use Rattle.std.specs.Prelude.{ℕ, ◌+◌, ◌-◌, ◌^◌, nat_le, ⊤, List, [], ◌∷◌, ◌++◌, length, Option, Result, Ok, Err, if◌then◌else◌}
-use Rattle.hsr_plan_text.specs.Fallible.{◌>>=◌, at_spot}
+use Rattle.hsr_toml.specs.Fallible.{◌>>=◌}
+use Rattle.hsr_plan_text.specs.Fallible.{at_spot}
 use Rattle.hsr_plan_text.specs.Plan.{Plan, Stream}
 use Rattle.hsr_plan_text.specs.declared.fault.Key.TheVariants as key
 use Rattle.hsr_plan_text.specs.declared.fault.PlanFault.{PlanFault}

@@ -3,7 +3,8 @@ use Rattle.std.proofs.Common.{◌≡◌, ℕ, ◌+◌, ◌-◌, ◌<◌, ◌∙�
 use Rattle.std.specs.Prelude.{⊤}
 use Rattle.std.proofs.lemmas.List.{drop_more}
 use Rattle.hsr_plan_text.proofs.Lists.{stays}
-use Rattle.hsr_plan_text.specs.Fallible.{◌>>=◌, Fails}
+use Rattle.hsr_toml.specs.Fallible.{◌>>=◌}
+use Rattle.hsr_plan_text.specs.Fallible.{Fails}
 use Rattle.hsr_plan_text.specs.Plan.{Behind, Network}
 use Rattle.hsr_plan_text.specs.declared.fault.What.{What}
 use Rattle.hsr_plan_text.specs.declared.fault.Refusal.TheVariants.{NameTwice, Topology as NoTopology}

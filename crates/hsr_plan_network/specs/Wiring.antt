@@ -2,7 +2,7 @@
 use Rattle.std.specs.Prelude.{List, map, ⊤, Result, Ok, Err}
 use Rattle.hsr_topology.specs.Topology.{Topology, made}
 use Rattle.hsr_topology.specs.declared.fault.TopologyFault.{TopologyFault}
-use Rattle.hsr_plan_text.specs.Fallible.{◌>>=◌}
+use Rattle.hsr_toml.specs.Fallible.{◌>>=◌}
 use Rattle.hsr_plan_text.specs.Plan.{Network}
 use Rattle.hsr_plan_text.specs.declared.fault.What.{What}
 use Rattle.hsr_plan_text.specs.declared.fault.What.TheVariants.{Refused}

@@ -1,6 +1,7 @@
 //! What names a plan may not have.
 ghost use Rattle.std.specs.Prelude.{◌≡◌, ◌++◌, codes, length, nat_le, IfOk, OnOk};
-ghost use Rattle.hsr_plan_text.specs.Fallible.{Gives, guard};
+ghost use Rattle.hsr_toml.specs.Fallible.{guard};
+ghost use Rattle.hsr_plan_text.specs.Fallible.{Gives};
 ghost use Rattle.hsr_plan_text.specs.declared.fault.Key.TheVariants as key;
 ghost use Rattle.hsr_plan_text.specs.declared.fault.Refusal.TheVariants as why;
 ghost use Rattle.hsr_plan_text.specs.declared.fault.What.TheVariants.{BadValue};

@@ -2,9 +2,11 @@
 use Rattle.std.specs.Prelude.{ℕ, List, [], ◌∷◌, Option, Some, None, Result, Ok, Err, ok_or}
 use Rattle.toml.specs.Data.{Data, Members}
 use Rattle.hsr_text.specs.Words.{cut}
-use Rattle.hsr_plan_text.specs.Fallible.{◌>>=◌, each_item}
+use Rattle.hsr_toml.specs.Fallible.{◌>>=◌, each_item}
 use Rattle.hsr_plan_text.specs.Network.{name, named}
-use Rattle.hsr_plan_text.specs.Tables.{at_key, items, moment, needed, only, text}
+use Rattle.hsr_toml.specs.Tables.{at_key, items, needed, text}
+use Rattle.hsr_plan_text.specs.Fault.{faults}
+use Rattle.hsr_plan_text.specs.Tables.{moment, only}
 use Rattle.hsr_plan_text.specs.Words.{letter_of}
 use Rattle.hsr_plan_text.specs.declared.fault.Key.{Key}
 use Rattle.hsr_plan_text.specs.declared.fault.Key.TheVariants as key
@@ -20,10 +22,10 @@ abbrev pub end_in : Key → List ℕ → Result LinkEnd What
 end_in key s = named key (cut 46 s).0 >>= λ n. ok_or (letter_of (cut 46 s).1) (BadValue key) >>= λ l. Ok (record { name = n; letter = l })
 
 abbrev pub end : Key → Data → Result LinkEnd What
-end key d = text key d >>= end_in key
+end key d = text faults key d >>= end_in key
 
 abbrev pub ends : Key → Data → Result (List LinkEnd) What
-ends key d = items key d >>= each_item (end key) []
+ends key d = items faults key d >>= each_item (end key) []
 
 abbrev pub two_of : Key → List LinkEnd → Result (LinkEnd × LinkEnd) What
 two_of key (a ∷ b ∷ []) = Ok (a, b)
@@ -52,22 +54,22 @@ deed_on ms None = nothing ms
 
 abbrev pub deed_off : Members → Option Data → Result Deed What
 deed_off ms (Some d) = alone key.Off (at_node Off) d ms
-deed_off ms None = deed_on ms (at_key key.On ms)
+deed_off ms None = deed_on ms (at_key faults key.On ms)
 
 abbrev pub deed_mend : Members → Option Data → Result Deed What
 deed_mend ms (Some d) = alone key.Mend (between_ends Mend) d ms
-deed_mend ms None = deed_off ms (at_key key.Off ms)
+deed_mend ms None = deed_off ms (at_key faults key.Off ms)
 
 abbrev pub deed_cut : Members → Option Data → Result Deed What
 deed_cut ms (Some d) = alone key.Cut (between_ends Cut) d ms
-deed_cut ms None = deed_mend ms (at_key key.Mend ms)
+deed_cut ms None = deed_mend ms (at_key faults key.Mend ms)
 
 -- one of `cut`, `mend`, `off` and `on`
 abbrev pub deed_in : Members → Result Deed What
-deed_in ms = deed_cut ms (at_key key.Cut ms)
+deed_in ms = deed_cut ms (at_key faults key.Cut ms)
 
 unfoldable pub event_in : Members → Result Event What
 event_in ms = do
   deed ← deed_in ms
-  at ← needed key.At moment ms
+  at ← needed faults key.At moment ms
   Ok (record { at = at; deed = deed })

@@ -1,7 +1,11 @@
--- The words of keys.
-use Rattle.std.specs.Prelude.{ℕ, List, codes}
+-- The words of keys, and what is told of them.
+use Rattle.std.specs.Prelude.{ℕ, Bool, true, false, List, codes}
+use Rattle.hsr_toml.specs.Faults.{Faults}
 use Rattle.hsr_plan_text.specs.declared.fault.Key.{Key}
 use Rattle.hsr_plan_text.specs.declared.fault.Key.TheVariants as key
+use Rattle.hsr_plan_text.specs.declared.fault.PlanFault.{PlanFault}
+use Rattle.hsr_plan_text.specs.declared.fault.What.{What}
+use Rattle.hsr_plan_text.specs.declared.fault.What.TheVariants.{Missing, WrongKind, BadValue, NoMemory}
 
 -- a key as it is written
 abbrev pub key_text : Key → List ℕ
@@ -33,3 +37,14 @@ key_text key.Cut = codes "cut"
 key_text key.Mend = codes "mend"
 key_text key.Off = codes "off"
 key_text key.On = codes "on"
+
+abbrev pub is_memory : What → Bool
+is_memory NoMemory = true
+is_memory _ = false
+
+abbrev pub is_memory_at : PlanFault → Bool
+is_memory_at fault = is_memory fault.what
+
+-- what is told of a key and its value
+abbrev pub faults : Faults Key What
+faults = record { text = key_text; missing = Missing; wrong_kind = WrongKind; bad_value = BadValue; is_memory = is_memory }

@@ -1,10 +1,12 @@
 -- What the table of a stream says.
 use Rattle.std.specs.Prelude.{ℕ, zero, suc, ℤ, ◌+◌, ◌*◌, ◌^◌, ◌==◌, ◌&&◌, ◌||◌, nat_lt, nat_le, Bool, true, List, [], ◌∷◌, length, Option, Some, None, Result, Ok, Err, ok_or, unwrap_or, if◌then◌else◌}
 use Rattle.toml.specs.Data.{Data, Items, no_items, item, Members, as_integer, as_str}
-use Rattle.hsr_plan_text.specs.Fallible.{◌>>=◌, each_item, guard}
+use Rattle.hsr_toml.specs.Fallible.{◌>>=◌, each_item, guard}
 use Rattle.hsr_plan_text.specs.Network.{name, named}
 use Rattle.hsr_plan_text.specs.Plan.{Stream, Timing}
-use Rattle.hsr_plan_text.specs.Tables.{between, gap, items, moment, needed, only, optional, perhaps, word}
+use Rattle.hsr_toml.specs.Tables.{between, items, needed, optional, perhaps, word}
+use Rattle.hsr_plan_text.specs.Fault.{faults}
+use Rattle.hsr_plan_text.specs.Tables.{gap, moment, only}
 use Rattle.hsr_plan_text.specs.Words.{kind_named, target_of}
 use Rattle.hsr_plan_text.specs.declared.fault.Key.{Key}
 use Rattle.hsr_plan_text.specs.declared.fault.Key.TheVariants as key
@@ -29,7 +31,7 @@ some_few n = nat_lt 0 n && nat_le n 4096
 
 -- the names are counted before they are read
 abbrev pub few_names : Key → Data → Result (List (List ℕ)) What
-few_names key d = items key d >>= λ ds. guard (some_few (how_many ds)) (BadValue key) >>= λ _. each_item (name key) [] ds
+few_names key d = items faults key d >>= λ ds. guard (some_few (how_many ds)) (BadValue key) >>= λ _. each_item (name key) [] ds
 
 abbrev pub one_or_few : Option (List ℕ) → Key → Data → Result (List (List ℕ)) What
 one_or_few None key d = few_names key d
@@ -46,7 +48,7 @@ abbrev pub numbered : Key → ℕ → Result Kind What
 numbered key n = if (n == 0x892F) || (n == 0x8100) then Err (BadValue key) else Ok (Number n)
 
 abbrev pub kind_or_number : Option (List ℕ) → Key → Data → Result Kind What
-kind_or_number None key d = between 0 65535 key d >>= numbered key
+kind_or_number None key d = between faults 0 65535 key d >>= numbered key
 kind_or_number (Some s) key d = ok_or (kind_named s) (BadValue key)
 
 abbrev pub kind : Key → Data → Result Kind What
@@ -59,8 +61,8 @@ tag_of vlan priority = Some (8192 * unwrap_or priority 0 + unwrap_or vlan 0)
 
 unfoldable pub tag_in : Members → Result (Option ℕ) What
 tag_in ms = do
-  vlan ← optional key.Vlan None (perhaps (between 0 4095)) ms
-  priority ← optional key.Priority None (perhaps (between 0 7)) ms
+  vlan ← optional faults key.Vlan None (perhaps (between faults 0 4095)) ms
+  priority ← optional faults key.Priority None (perhaps (between faults 0 7)) ms
   Ok (tag_of vlan priority)
 
 -- where no size is said: 46 octets under a number, and of GOOSE and sampled values the shortest, which is told as 0
@@ -76,16 +78,16 @@ least_size SampledValues = 1
 
 unfoldable pub framing_in : Members → Result Framing What
 framing_in ms = do
-  target ← needed key.To (word target_of) ms
-  kind ← needed key.Kind kind ms
-  size ← optional key.Size (usual_size kind) (between (least_size kind) 1500) ms
+  target ← needed faults key.To (word faults target_of) ms
+  kind ← needed faults key.Kind kind ms
+  size ← optional faults key.Size (usual_size kind) (between faults (least_size kind) 1500) ms
   tag ← tag_in ms
   Ok (record { target = target; kind = kind; size = size; tag = tag })
 
 -- ---- when they are sent
 
 abbrev pub moments : Key → Data → Result (List ℕ) What
-moments key d = items key d >>= each_item (moment key) []
+moments key d = items faults key d >>= each_item (moment key) []
 
 -- there is no moment before it, or an earlier one
 abbrev pub comes_after : Option ℕ → ℕ → Bool
@@ -111,12 +113,12 @@ some_moments key d = one_or_moments (as_integer d) key d
 
 unfoldable pub timing_in : Members → Result Timing What
 timing_in ms = do
-  starts ← optional key.Start (0 ∷ []) some_moments ms
-  every ← needed key.Every gap ms
-  grow ← optional key.Grow 1 (between 1 1000) ms
-  most ← optional key.Most (2 ^ 40) gap ms
-  count ← optional key.Count None (perhaps (between 1 (2 ^ 40))) ms
-  until ← optional key.Until None (perhaps moment) ms
+  starts ← optional faults key.Start (0 ∷ []) some_moments ms
+  every ← needed faults key.Every gap ms
+  grow ← optional faults key.Grow 1 (between faults 1 1000) ms
+  most ← optional faults key.Most (2 ^ 40) gap ms
+  count ← optional faults key.Count None (perhaps (between faults 1 (2 ^ 40))) ms
+  until ← optional faults key.Until None (perhaps moment) ms
   Ok (record { starts = starts; every = every; grow = grow; most = most; count = count; until = until })
 
 -- ---- all
@@ -127,7 +129,7 @@ stream_keys = key.From ∷ key.To ∷ key.Kind ∷ key.Size ∷ key.Vlan ∷ key
 unfoldable pub stream_in : Members → Result Stream What
 stream_in ms = do
   _ ← only stream_keys ms
-  from ← needed key.From senders ms
+  from ← needed faults key.From senders ms
   framing ← framing_in ms
   timing ← timing_in ms
   Ok (record { from = from; framing = framing; timing = timing })

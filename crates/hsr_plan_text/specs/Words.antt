@@ -1,11 +1,10 @@
 -- The words that texts of a plan spell.
-use Rattle.std.specs.Prelude.{ℕ, ◌==◌, ◌&&◌, ◌||◌, not, nat_lt, nat_le, Bool, List, [], ◌∷◌, length, codes, Option, Some, None, option_map, if◌then◌else◌}
+use Rattle.std.specs.Prelude.{ℕ, ◌==◌, ◌&&◌, not, nat_le, Bool, List, [], ◌∷◌, codes, Option, Some, None, option_map, if◌then◌else◌}
 use Rattle.std.specs.List.{list_all}
-use Rattle.std.specs.Result.{result_ok}
 use Rattle.std.specs.Str.{bytes_eq}
-use Rattle.hsr_frame.specs.Address.{address_of}
 use Rattle.hsr_frame.specs.Cases.{first_of}
 use Rattle.hsr_text.specs.Words.{◌>>=◌, decimal_of, word_at}
+use Rattle.hsr_toml.specs.Names.{is_port_letter, mac_of, name_of}
 use Rattle.hsr_plan_text.specs.declared.plan.Kind.{Kind}
 use Rattle.hsr_plan_text.specs.declared.plan.Kind.TheVariants.{Goose, SampledValues}
 use Rattle.hsr_plan_text.specs.declared.plan.Moves.{Moves}
@@ -13,21 +12,7 @@ use Rattle.hsr_plan_text.specs.declared.plan.Moves.TheVariants.{EachSendDrains, 
 use Rattle.hsr_plan_text.specs.declared.plan.Target.{Target}
 use Rattle.hsr_plan_text.specs.declared.plan.Target.TheVariants.{Named, Address}
 
--- ---- names
-
--- a small letter, a digit or a hyphen
-abbrev pub is_name_octet : ℕ → Bool
-is_name_octet b = (nat_le 97 b && nat_le b 122) || ((nat_le 48 b && nat_le b 57) || b == 45)
-
-abbrev pub is_name : List ℕ → Bool
-is_name s = list_all is_name_octet s && (nat_lt 0 (length s) && nat_le (length s) 32)
-
-abbrev pub name_of : List ℕ → Option (List ℕ)
-name_of s = if is_name s then Some s else None
-
--- the letter of a port of some role: A, B, C, D, I, P
-abbrev pub is_port_letter : ℕ → Bool
-is_port_letter c = (nat_le 65 c && nat_le c 68) || (c == 73 || c == 80)
+-- ---- ends
 
 -- the letter behind a dot, where there is a dot
 abbrev pub letter_of : Option (List ℕ) → Option (Option ℕ)
@@ -61,7 +46,7 @@ moves_of s = first_of ((bytes_eq s (codes "each send drains"), Some EachSendDrai
 abbrev pub kind_named : List ℕ → Option Kind
 kind_named s = first_of ((bytes_eq s (codes "goose"), Some Goose) ∷ (bytes_eq s (codes "sv"), Some SampledValues) ∷ []) None
 
--- ---- titles and addresses
+-- ---- titles and targets
 
 -- no control characters
 abbrev pub is_title : List ℕ → Bool
@@ -69,9 +54,6 @@ is_title s = list_all (λ b. nat_le 32 b && not (b == 127)) s
 
 abbrev pub title_of : List ℕ → Option (List ℕ)
 title_of s = if is_title s then Some s else None
-
-abbrev pub mac_of : List ℕ → Option (List ℕ)
-mac_of s = result_ok (address_of s)
 
 -- whom a text names: an address, or else a node or a station
 abbrev pub target_if : List ℕ → Option (List ℕ) → Option Target

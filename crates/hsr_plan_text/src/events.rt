@@ -10,9 +10,9 @@ ghost use Rattle.hsr_plan_text.specs.declared.plan.Deed.TheVariants as deed;
 use crate::fault::{Key, What};
 use crate::network::{name, name_in};
 use crate::plan::{Deed, Event, LinkEnd};
-use crate::table::{items, moment, needed, only, text, value};
-use crate::words::is_port_letter;
+use crate::table::{moment, only};
 use hsr_text::split_at;
+use hsr_toml::{is_port_letter, items, needed, text, value};
 use std::alloc::Global;
 use toml::{Table, Value};
 

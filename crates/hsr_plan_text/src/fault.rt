@@ -5,6 +5,7 @@ ghost use Rattle.hsr_plan_text.specs.declared.fault.What.TheVariants.{NoMemory a
 
 use crate::word::Word;
 use hsr_frame::NoMemory;
+use hsr_toml::TableKey;
 use std::alloc::AllocFailed;
 
 /// A key of a plan's tables.
@@ -46,6 +47,34 @@ pub enum Key {
     Mend,
     Off,
     On,
+}
+
+impl TableKey for Key {
+    ghost use Rattle.hsr_plan_text.specs.Fault.{faults};
+
+    type Fault = What;
+
+    ghost faults = { faults };
+
+    fn text(self) -> &'static str {
+        self.text()
+    }
+
+    fn missing(self) -> What {
+        What::Missing(self)
+    }
+
+    fn wrong_kind(self) -> What {
+        What::WrongKind(self)
+    }
+
+    fn bad_value(self) -> What {
+        What::BadValue(self)
+    }
+
+    fn no_memory(self) -> What {
+        What::NoMemory
+    }
 }
 
 impl Key {

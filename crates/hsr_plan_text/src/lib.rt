@@ -14,9 +14,10 @@ mod word;
 mod words;
 
 pub use fault::{Key, PlanFault, Refusal, Spot, What};
+pub use hsr_toml::TEXT_LIMIT;
 pub use plan::{
     Addressed, Behind, Deed, Event, Framing, InMode, Kind, LinkEnd, Moves, Network, Outline, Plan,
     Ring, Stream, Target, Timing,
 };
-pub use reading::{TEXT_LIMIT, read};
+pub use reading::read;
 pub use word::Word;

@@ -2,19 +2,20 @@
 ghost use Rattle.std.specs.Prelude.{◌≡◌, [], Err};
 ghost use Rattle.toml.specs.View.{items_view, view, table_view};
 ghost use Rattle.hsr_frame.specs.Words.{mode_of};
-ghost use Rattle.hsr_plan_text.specs.Fallible.{Gives, each_item, each_member};
+ghost use Rattle.hsr_toml.specs.Fallible.{each_item, each_member};
+ghost use Rattle.hsr_plan_text.specs.Fallible.{Gives};
 ghost use Rattle.hsr_plan_text.specs.Network.{address, addresses, mode, modes, name, named, named_rings, names, network_in, only_ring, redbox, redboxes, ring, rings, rings_in};
-ghost use Rattle.hsr_plan_text.specs.Tables.{optional, word};
-ghost use Rattle.hsr_plan_text.specs.Words.{name_of};
+ghost use Rattle.hsr_toml.specs.Tables.{optional, word};
+ghost use Rattle.hsr_plan_text.specs.Fault.{faults};
+ghost use Rattle.hsr_toml.specs.Names.{name_of};
 ghost use Rattle.hsr_plan_text.specs.declared.fault.Key.TheVariants as key;
 ghost use Rattle.hsr_plan_text.specs.declared.fault.What.TheVariants.{BadName};
 
 use crate::fault::{Key, Refusal, What};
 use crate::plan::{Addressed, Behind, InMode, Network, Ring};
-use crate::table::{items, members, text, value};
 use crate::word::Word;
-use crate::words::{is_name, mac};
 use hsr_frame::Mode;
+use hsr_toml::{is_name, items, mac, members, text, value};
 use std::alloc::Global;
 use toml::{Table, Value};
 
@@ -168,7 +169,7 @@ fn redboxes(alloc: Global, key: Key, value: &Value) -> Result<Vec<Behind>, What>
 
 /// The RedBoxes of a plan.
 fn redboxes_in(alloc: Global, table: &Table) -> Result<Vec<Behind>, What>
-    ensures { Gives (λ v. v.items) result (optional key.RedBox [] redboxes (table_view table.now)) }
+    ensures { Gives (λ v. v.items) result (optional faults key.RedBox [] redboxes (table_view table.now)) }
 {
     match value(table, Key::RedBox) {
         None => Ok(Vec::new(alloc)),
@@ -209,7 +210,7 @@ fn addresses(alloc: Global, key: Key, value: &Value) -> Result<Vec<Addressed>, W
 
 /// The addresses of a plan.
 fn addresses_in(alloc: Global, table: &Table) -> Result<Vec<Addressed>, What>
-    ensures { Gives (λ v. v.items) result (optional key.Address [] addresses (table_view table.now)) }
+    ensures { Gives (λ v. v.items) result (optional faults key.Address [] addresses (table_view table.now)) }
 {
     match value(table, Key::Address) {
         None => Ok(Vec::new(alloc)),
@@ -219,7 +220,7 @@ fn addresses_in(alloc: Global, table: &Table) -> Result<Vec<Addressed>, What>
 
 /// The mode that a value spells.
 fn mode_of(key: Key, value: &Value) -> Result<Mode, What>
-    ensures { Gives (λ m. m) result (word mode_of key (view value.now)) }
+    ensures { Gives (λ m. m) result (word faults mode_of key (view value.now)) }
 {
     match Mode::from_word(text(key, value)?.as_bytes()) {
         Some(mode) => Ok(mode),
@@ -260,7 +261,7 @@ fn modes(alloc: Global, key: Key, value: &Value) -> Result<Vec<InMode>, What>
 
 /// The modes of a plan.
 fn modes_in(alloc: Global, table: &Table) -> Result<Vec<InMode>, What>
-    ensures { Gives (λ v. v.items) result (optional key.Mode [] modes (table_view table.now)) }
+    ensures { Gives (λ v. v.items) result (optional faults key.Mode [] modes (table_view table.now)) }
 {
     match value(table, Key::Mode) {
         None => Ok(Vec::new(alloc)),

@@ -2,11 +2,12 @@
 ghost use Rattle.std.specs.Prelude.{◌≡◌, [], map, Err, None, option_map, string_bytes};
 ghost use Rattle.toml.specs.View.{table_view, view};
 ghost use Rattle.hsr_plan_text.specs.Fallible.{Gives, GivesAt, at_spot, each};
-ghost use Rattle.hsr_plan_text.specs.Tables.{between, optional, perhaps, word};
+ghost use Rattle.hsr_toml.specs.Tables.{between, optional, perhaps, word};
+ghost use Rattle.hsr_plan_text.specs.Fault.{faults};
 ghost use Rattle.hsr_plan_text.specs.Words.{moves_of, title_of};
 ghost use Rattle.hsr_plan_text.specs.Streams.{stream_in};
 ghost use Rattle.hsr_plan_text.specs.Events.{event_in};
-ghost use Rattle.hsr_plan_text.specs.Meaning.{document, events_in, milliseconds, outline, plan_of, streams_in};
+ghost use Rattle.hsr_plan_text.specs.Meaning.{document, events_in, milliseconds, outline, plan_of, streams_in, text_fault};
 ghost use Rattle.hsr_plan_text.specs.declared.fault.Key.TheVariants as key;
 ghost use Rattle.hsr_plan_text.specs.declared.fault.Spot.TheVariants as spot;
 ghost use Rattle.hsr_plan_text.specs.declared.fault.What.TheVariants.{NoMemory};
@@ -17,17 +18,15 @@ use crate::fault::{Key, PlanFault, Spot, What};
 use crate::network::network;
 use crate::plan::{Event, Moves, Outline, Plan, Stream};
 use crate::streams::{stream, until};
-use crate::table::{between, only, tables_at, text, value};
+use crate::table::only;
 use crate::words::{is_title, moves_of};
 use hsr_tables::LIFE_CHECK;
+use hsr_toml::{NoDocument, between, document_of, number_or, tables_at, text, value};
 use std::alloc::Global;
 use toml::{Table, Value};
 
-/// The most octets of a text: 16 MiB.
-pub const TEXT_LIMIT: usize = 1 << 24;
-
 /// How many copies wait in each direction of a link, where a text doesn't say.
-const CAPACITY: usize = 64;
+const CAPACITY: u64 = 64;
 
 /// How many copies may wait in each direction of a link.
 const CAPACITY_LIMIT: u64 = 4096;
@@ -39,10 +38,7 @@ const LIFE_LIMIT: u64 = 1 << 30;
 fn at_spot<T>(spot: Spot, told: Result<T, What>) -> Result<T, PlanFault>
     ensures { result ≡ at_spot spot told }
 {
-    match told {
-        Ok(value) => Ok(value),
-        Err(what) => Err(PlanFault { spot, what }),
-    }
+    told.map_err(|what| PlanFault { spot, what })
 }
 
 /// The fault where room for what a table says is refused.
@@ -113,7 +109,7 @@ fn events_of(alloc: Global, tables: &[&Table]) -> Result<Vec<Event>, PlanFault>
 
 /// The title that a value is.
 fn title_of(alloc: Global, key: Key, value: &Value) -> Result<String, What>
-    ensures { Gives string_bytes result (word title_of key (view value.now)) }
+    ensures { Gives string_bytes result (word faults title_of key (view value.now)) }
 {
     let title = text(key, value)?;
     if !is_title(title.as_bytes()) {
@@ -127,7 +123,7 @@ fn title_of(alloc: Global, key: Key, value: &Value) -> Result<String, What>
 
 /// The title of a document.
 fn title(alloc: Global, table: &Table) -> Result<Option<String>, What>
-    ensures { Gives (option_map string_bytes) result (optional key.Title None (perhaps (word title_of)) (table_view table.now)) }
+    ensures { Gives (option_map string_bytes) result (optional faults key.Title None (perhaps (word faults title_of)) (table_view table.now)) }
 {
     match value(table, Key::Title) {
         None => Ok(None),
@@ -140,20 +136,15 @@ fn title(alloc: Global, table: &Table) -> Result<Option<String>, What>
 
 /// The capacity of a document.
 fn capacity(table: &Table) -> Result<usize, What>
-    ensures { Gives (λ n. n) result (optional key.Capacity 64 (between 1 4096) (table_view table.now)) }
+    ensures { Gives (λ n. n) result (optional faults key.Capacity 64 (between faults 1 4096) (table_view table.now)) }
 {
-    match value(table, Key::Capacity) {
-        None => Ok(CAPACITY),
-        Some(value) => {
-            let capacity = between(1, CAPACITY_LIMIT, Key::Capacity, value)?;
-            Ok(capacity as usize)
-        }
-    }
+    let capacity = number_or(CAPACITY, 1, CAPACITY_LIMIT, table, Key::Capacity)?;
+    Ok(capacity as usize)
 }
 
 /// The period of supervision of a document, in microseconds: that of the standard, where it doesn't say.
 fn life(table: &Table) -> Result<u64, What>
-    ensures { Gives (λ n. n) result (optional key.Life 2000000 milliseconds (table_view table.now)) }
+    ensures { Gives (λ n. n) result (optional faults key.Life 2000000 milliseconds (table_view table.now)) }
 {
     match value(table, Key::Life) {
         None => Ok(LIFE_CHECK),
@@ -166,7 +157,7 @@ fn life(table: &Table) -> Result<u64, What>
 
 /// How copies move, by a document.
 fn moves(table: &Table) -> Result<Moves, What>
-    ensures { Gives (λ m. m) result (optional key.Moves EachSendDrains (word moves_of) (table_view table.now)) }
+    ensures { Gives (λ m. m) result (optional faults key.Moves EachSendDrains (word faults moves_of) (table_view table.now)) }
 {
     match value(table, Key::Moves) {
         None => Ok(Moves::EachSendDrains),
@@ -248,14 +239,18 @@ fn document(alloc: Global, table: &Table) -> Result<Plan, PlanFault>
     })
 }
 
-/// A fault of the text itself.
-fn text_fault(what: What) -> Result<Plan, PlanFault>
-    ensures { result ≡ at_spot spot.Top (Err what) }
+/// The fault of a text that is no document.
+fn text_fault(fault: NoDocument) -> PlanFault
+    ensures { result ≡ text_fault fault }
 {
-    Err(PlanFault {
+    let what = match fault {
+        NoDocument::NoToml => What::Text,
+        NoDocument::NoMemory => What::NoMemory,
+    };
+    PlanFault {
         spot: Spot::Top,
         what,
-    })
+    }
 }
 
 /// The plan that a text is: a document of TOML, of at most 16 MiB, with the keys `title`, `ring` or `rings` (by their keys),
@@ -267,17 +262,8 @@ fn text_fault(what: What) -> Result<Plan, PlanFault>
 pub fn read(alloc: Global, text: &str) -> Result<Plan, PlanFault>
     ensures { GivesAt (λ p. p) result (plan_of text.now) }
 {
-    if text.len() > TEXT_LIMIT {
-        return text_fault(What::Text);
-    }
-    match toml::table_from_str(alloc, text) {
+    match document_of(alloc, text) {
         Ok(table) => document(alloc, &table),
-        Err(error) => {
-            if error.is_memory() {
-                text_fault(What::NoMemory)
-            } else {
-                text_fault(What::Text)
-            }
-        }
+        Err(fault) => Err(text_fault(fault)),
     }
 }

@@ -1,10 +1,14 @@
 //! The streams of a plan.
 ghost use Rattle.std.specs.Prelude.{◌≡◌, ◌≤◌, ◌∷◌, ◌^◌, [], IfOk, IfSome, None, ok_or, option_map};
 ghost use Rattle.toml.specs.View.{items_view, view, table_view};
-ghost use Rattle.hsr_plan_text.specs.Fallible.{Gives, guard};
+ghost use Rattle.hsr_toml.specs.Fallible.{guard};
+ghost use Rattle.hsr_plan_text.specs.Fallible.{Gives};
 ghost use Rattle.hsr_plan_text.specs.Streams.{comes_after, few_names, framing_in, how_many, kind, least_size, moments, numbered, only_name, rises, rising, senders, some_few, some_moments, stream_in, tag_in, tag_of, timing_in, usual_size};
-ghost use Rattle.hsr_plan_text.specs.Tables.{between, gap, moment, needed, optional, perhaps, word};
-ghost use Rattle.hsr_plan_text.specs.Words.{name_of, target_of};
+ghost use Rattle.hsr_toml.specs.Tables.{between, needed, optional, perhaps, word};
+ghost use Rattle.hsr_plan_text.specs.Fault.{faults};
+ghost use Rattle.hsr_plan_text.specs.Tables.{gap, moment};
+ghost use Rattle.hsr_toml.specs.Names.{name_of};
+ghost use Rattle.hsr_plan_text.specs.Words.{target_of};
 ghost use Rattle.hsr_plan_text.specs.declared.plan.Target.TheVariants.{Named};
 ghost use Rattle.hsr_plan_text.specs.declared.fault.Key.TheVariants as key;
 ghost use Rattle.hsr_plan_text.specs.declared.fault.What.TheVariants.{BadValue};
@@ -12,10 +16,11 @@ ghost use Rattle.hsr_plan_text.specs.declared.fault.What.TheVariants.{BadValue};
 use crate::fault::{Key, What};
 use crate::network::{name_in, names_of};
 use crate::plan::{Framing, Kind, Stream, Target, Timing};
-use crate::table::{between, gap, items, moment, needed, only, text, value};
+use crate::table::{gap, moment, only};
 use crate::word::Word;
-use crate::words::{is_name, kind_named};
+use crate::words::kind_named;
 use hsr_frame::Mac;
+use hsr_toml::{between, is_name, items, needed, number_or, text, value};
 use std::alloc::Global;
 use toml::{Table, Value};
 
@@ -93,7 +98,7 @@ fn target_of(alloc: Global, text: &str) -> Result<Target, What>
 
 /// Whom a stream is for.
 fn target(alloc: Global, table: &Table) -> Result<Target, What>
-    ensures { Gives (λ t. t) result (needed key.To (word target_of) (table_view table.now)) }
+    ensures { Gives (λ t. t) result (needed faults key.To (word faults target_of) (table_view table.now)) }
 {
     target_of(alloc, text(Key::To, needed(table, Key::To)?)?)
 }
@@ -126,7 +131,7 @@ fn kind_of(key: Key, value: &Value) -> Result<Kind, What>
 
 /// The kind of a stream's payload.
 fn kind(table: &Table) -> Result<Kind, What>
-    ensures { Gives (λ k. k) result (needed key.Kind kind (table_view table.now)) }
+    ensures { Gives (λ k. k) result (needed faults key.Kind kind (table_view table.now)) }
 {
     kind_of(Key::Kind, needed(table, Key::Kind)?)
 }
@@ -154,7 +159,7 @@ fn least_size(kind: Kind) -> u64
 
 /// How many octets of payload a stream's frames of a kind have; 0 for the shortest.
 fn size(kind: Kind, table: &Table) -> Result<usize, What>
-    ensures { Gives (λ n. n) result (optional key.Size (usual_size kind) (between (least_size kind) 1500) (table_view table.now)) }
+    ensures { Gives (λ n. n) result (optional faults key.Size (usual_size kind) (between faults (least_size kind) 1500) (table_view table.now)) }
 {
     match value(table, Key::Size) {
         None => Ok(usual_size(kind)),
@@ -167,7 +172,7 @@ fn size(kind: Kind, table: &Table) -> Result<usize, What>
 
 /// A number that may be left out.
 fn perhaps(table: &Table, key: Key, least: u64, most: u64) -> Result<Option<u64>, What>
-    ensures value { Gives (λ n. n) result (optional key None (perhaps (between least most)) (table_view table.now)) }
+    ensures value { Gives (λ n. n) result (optional faults key None (perhaps (between faults least most)) (table_view table.now)) }
     ensures most { IfOk result (λ n. IfSome n (λ n. n ≤ most)) }
 {
     match value(table, key) {
@@ -292,7 +297,7 @@ fn some_moments(alloc: Global, key: Key, value: &Value) -> Result<Vec<u64>, What
 
 /// The moments from which on a stream sends.
 fn starts(alloc: Global, table: &Table) -> Result<Vec<u64>, What>
-    ensures { Gives (λ v. v.items) result (optional key.Start (0 ∷ []) some_moments (table_view table.now)) }
+    ensures { Gives (λ v. v.items) result (optional faults key.Start (0 ∷ []) some_moments (table_view table.now)) }
 {
     match value(table, Key::Start) {
         None => {
@@ -306,34 +311,28 @@ fn starts(alloc: Global, table: &Table) -> Result<Vec<u64>, What>
 
 /// The first gap of a stream.
 fn every(table: &Table) -> Result<u64, What>
-    ensures { Gives (λ n. n) result (needed key.Every gap (table_view table.now)) }
+    ensures { Gives (λ n. n) result (needed faults key.Every gap (table_view table.now)) }
 {
     gap(Key::Every, needed(table, Key::Every)?)
 }
 
 /// By how much a stream's gaps grow.
 fn grow(table: &Table) -> Result<u64, What>
-    ensures { Gives (λ n. n) result (optional key.Grow 1 (between 1 1000) (table_view table.now)) }
+    ensures { Gives (λ n. n) result (optional faults key.Grow 1 (between faults 1 1000) (table_view table.now)) }
 {
-    match value(table, Key::Grow) {
-        None => Ok(1),
-        Some(value) => between(1, 1000, Key::Grow, value),
-    }
+    number_or(1, 1, 1000, table, Key::Grow)
 }
 
 /// The longest gap of a stream.
 fn most(table: &Table) -> Result<u64, What>
-    ensures { Gives (λ n. n) result (optional key.Most (2 ^ 40) gap (table_view table.now)) }
+    ensures { Gives (λ n. n) result (optional faults key.Most (2 ^ 40) gap (table_view table.now)) }
 {
-    match value(table, Key::Most) {
-        None => Ok(LAST),
-        Some(value) => gap(Key::Most, value),
-    }
+    number_or(LAST, 1, LAST, table, Key::Most)
 }
 
 /// The moment of a key that may be left out.
 pub(crate) fn until(table: &Table) -> Result<Option<u64>, What>
-    ensures { Gives (λ n. n) result (optional key.Until None (perhaps moment) (table_view table.now)) }
+    ensures { Gives (λ n. n) result (optional faults key.Until None (perhaps moment) (table_view table.now)) }
 {
     perhaps(table, Key::Until, 0, LAST)
 }
@@ -379,7 +378,7 @@ const STREAM_KEYS: [Key; 12] = [
 
 /// Who sends a stream.
 fn from(alloc: Global, table: &Table) -> Result<Vec<Word>, What>
-    ensures { Gives (λ v. v.items) result (needed key.From senders (table_view table.now)) }
+    ensures { Gives (λ v. v.items) result (needed faults key.From senders (table_view table.now)) }
 {
     senders(alloc, Key::From, needed(table, Key::From)?)
 }

@@ -1,52 +1,13 @@
 //! The words that texts of a plan spell.
 ghost use Rattle.std.specs.Prelude.{◌≡◌, option_map};
-ghost use Rattle.std.specs.List.{list_all};
-ghost use Rattle.hsr_plan_text.specs.Fallible.{Gives};
-ghost use Rattle.hsr_plan_text.specs.Words.{hop_of, is_name, is_name_octet, is_port_letter, is_title, kind_named, last_number, mac_of, moves_of};
-ghost use Rattle.hsr_plan_text.specs.Tables.{word};
+ghost use Rattle.hsr_plan_text.specs.Words.{hop_of, is_title, kind_named, last_number, moves_of};
 ghost use Rattle.hsr_plan_text.specs.declared.plan.Moves.TheVariants.{Hop};
-ghost use Rattle.toml.specs.View.{view};
 
-use crate::fault::{Key, What};
 use crate::plan::{Kind, Moves};
-use crate::table::text;
-use hsr_frame::Mac;
 use hsr_text::{decimal, word};
-use toml::Value;
-
-/// The most octets of a name.
-const NAME_LIMIT: usize = 32;
 
 /// The most microseconds from a copy's put to its judgement.
 const HOP_LIMIT: u64 = 1_000_000;
-
-/// Whether a name may have that octet.
-fn is_name_octet(b: u8) -> bool
-    ensures { result ≡ is_name_octet b }
-{
-    b.is_ascii_lowercase() || b.is_ascii_digit() || b == b'-'
-}
-
-/// Whether a name may have these octets.
-fn are_name_octets(text: &[u8]) -> bool
-    ensures { result ≡ list_all is_name_octet text.now }
-{
-    text.iter().all(|b| is_name_octet(*b))
-}
-
-/// Whether a text is a name: 1 to 32 small letters, digits and hyphens.
-pub(crate) fn is_name(text: &[u8]) -> bool
-    ensures { result ≡ is_name text.now }
-{
-    are_name_octets(text) && !text.is_empty() && text.len() <= NAME_LIMIT
-}
-
-/// Whether a port of some role has the letter.
-pub(crate) fn is_port_letter(letter: u8) -> bool
-    ensures { result ≡ is_port_letter letter }
-{
-    matches!(letter, b'A'..=b'D' | b'I' | b'P')
-}
 
 /// Whether a text has no control characters.
 pub(crate) fn is_title(text: &[u8]) -> bool
@@ -109,15 +70,5 @@ pub(crate) fn kind_named(word: &str) -> Option<Kind>
         "goose" => Some(Kind::Goose),
         "sv" => Some(Kind::SampledValues),
         _ => None,
-    }
-}
-
-/// The address that a value spells.
-pub(crate) fn mac(key: Key, value: &Value) -> Result<Mac, What>
-    ensures { Gives (λ m. m) result (word mac_of key (view value.now)) }
-{
-    match Mac::from_text(text(key, value)?) {
-        Ok(mac) => Ok(mac),
-        Err(_) => Err(What::BadValue(key)),
     }
 }

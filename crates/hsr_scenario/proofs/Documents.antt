@@ -4,7 +4,8 @@ use Rattle.toml.specs.Data.{Members}
 use Rattle.toml.specs.Parse.{parse_document}
 use Rattle.hsr_topology.specs.Topology.{Topology}
 use Rattle.hsr_topology.specs.declared.end.End.{End}
-use Rattle.hsr_scenario.specs.Fallible.{◌>>=◌, at_spot, each}
+use Rattle.hsr_toml.specs.Fallible.{◌>>=◌}
+use Rattle.hsr_scenario.specs.Fallible.{at_spot, each}
 use Rattle.hsr_scenario.specs.Links.{link_in}
 use Rattle.hsr_scenario.specs.Meaning.{Meant, content, document, document_if, joined, meaning, topology_of, with_steps}
 use Rattle.hsr_scenario.specs.Nodes.{node_in}

@@ -1,7 +1,8 @@
 -- Readings one after another, and tables one after another.
 use Rattle.std.proofs.Common.{◌≡◌, ◌⊎◌, ℕ, zero, suc, ◌+◌, ◌≤◌, List, [], ◌∷◌, ◌++◌, length, take, slice_get, Some, Result, Ok, Err, refl, sym, ap, ◌∙◌, subst, arith, inl, inr, append-nil, append_assoc}
 use Rattle.toml.specs.Data.{Members}
-use Rattle.hsr_scenario.specs.Fallible.{◌>>=◌, at_spot, each}
+use Rattle.hsr_toml.specs.Fallible.{◌>>=◌}
+use Rattle.hsr_scenario.specs.Fallible.{at_spot, each}
 use Rattle.hsr_scenario.specs.declared.fault.ScenarioFault.{ScenarioFault}
 use Rattle.hsr_scenario.specs.declared.fault.Spot.{Spot}
 use Rattle.hsr_scenario.specs.declared.fault.What.{What}

@@ -1,4 +1,3 @@
-pub mod Tables
 pub mod Macs
 pub mod Lists
 mod Each

@@ -2,8 +2,8 @@
 use Rattle.std.proofs.Common.{◌≡◌, ℕ, ◌+◌, ◌<◌, ◌∙◌, ◌++◌, length, get_or, drop, map, List, [], ◌∷◌, Some, option_map, ap, Bor}
 use Rattle.std.proofs.lemmas.List.{drop_more}
 use Rattle.hsr_scenario.specs.Tables.{each_of}
-use Rattle.hsr_scenario.specs.Words.{mac_of}
-use Rattle.hsr_scenario.proofs.Tables.{moved}
+use Rattle.hsr_toml.specs.Names.{mac_of}
+use Rattle.hsr_toml.proofs.Arrays.{moved}
 
 -- the address of a text joins those before it
 pub macs_step : (seen : List (List ℕ)) (ts : List (Bor (List ℕ))) (i : ℕ) (d : Bor (List ℕ)) (mac : List ℕ) → i < length ts → mac_of (get_or ts i d).now ≡ Some mac

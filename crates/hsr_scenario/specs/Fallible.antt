@@ -1,20 +1,11 @@
--- Readings that may fail, one after another, and what code gives of them.
-use Rattle.std.specs.Prelude.{◌≡◌, ℕ, Bool, ⊤, List, [], ◌∷◌, ◌++◌, length, Result, Ok, Err, if◌then◌else◌}
+-- Faults with their places, and what code gives.
+use Rattle.std.specs.Prelude.{◌≡◌, ℕ, List, length, Result, Ok, Err}
 use Rattle.toml.specs.Data.{Members}
+use Rattle.hsr_toml.specs.Fallible.{each_table, UnlessMemory, Gives as Told}
+use Rattle.hsr_scenario.specs.Fault.{is_memory, is_memory_at}
+use Rattle.hsr_scenario.specs.declared.fault.ScenarioFault.{ScenarioFault}
 use Rattle.hsr_scenario.specs.declared.fault.Spot.{Spot}
 use Rattle.hsr_scenario.specs.declared.fault.What.{What}
-use Rattle.hsr_scenario.specs.declared.fault.What.TheVariants.{NoMemory}
-use Rattle.hsr_scenario.specs.declared.fault.ScenarioFault.{ScenarioFault}
-
--- the next step, if there was no fault
-infixl 10 ◌>>=◌
-abbrev pub ◌>>=◌ : {A B E : Type 0} → Result A E → (A → Result B E) → Result B E
-(Ok x) >>= f = f x
-(Err e) >>= f = Err e
-
--- a fault, unless it holds
-abbrev pub guard : Bool → What → Result ⊤ What
-guard holds e = if holds then Ok tt else Err e
 
 -- a fault with its place
 abbrev pub at_spot : {A : Type 0} → Spot → Result A What → Result A ScenarioFault
@@ -23,23 +14,15 @@ at_spot spot (Err e) = Err (record { spot = spot; what = e })
 
 -- each table of a list, read after those before it; a fault is at its table's number
 abbrev pub each : {A : Type 0} → (ℕ → Spot) → (List A → Members → Result A What) → List A → List Members → Result (List A) ScenarioFault
-each spot read seen [] = Ok seen
-each spot read seen (ms ∷ more) = at_spot (spot (length seen)) (read seen ms) >>= λ x. each spot read (seen ++ x ∷ []) more
+each spot read seen tables = each_table (λ seen ms. at_spot (spot (length seen)) (read seen ms)) seen tables
 
--- ---- what is told is what the definition says, unless memory ran out
-
-abbrev pub Fails : {Y : Type 0} → What → Result Y What → Type 0
-Fails NoMemory said = Unit {0}
-Fails e said = said ≡ Err e
-
-abbrev pub Gives : {X Y : Type 0} → (X → Y) → Result X What → Result Y What → Type 0
-Gives view (Ok x) said = said ≡ Ok (view x)
-Gives view (Err e) said = Fails e said
+-- what is told is what the definition says, unless memory ran out
 
 abbrev pub FailsAt : {Y : Type 0} → ScenarioFault → What → Result Y ScenarioFault → Type 0
-FailsAt fault NoMemory said = Unit {0}
-FailsAt fault _ said = said ≡ Err fault
+FailsAt fault what said = UnlessMemory (is_memory what) (said ≡ Err fault)
+
+abbrev pub Gives : {X Y : Type 0} → (X → Y) → Result X What → Result Y What → Type 0
+Gives view told said = Told is_memory view told said
 
 abbrev pub GivesAt : {X Y : Type 0} → (X → Y) → Result X ScenarioFault → Result Y ScenarioFault → Type 0
-GivesAt view (Ok x) said = said ≡ Ok (view x)
-GivesAt view (Err e) said = FailsAt e e.what said
+GivesAt view told said = Told is_memory_at view told said

@@ -1,6 +1,7 @@
 -- The words of a fault.
-use Rattle.std.specs.Prelude.{ℕ, List, ◌++◌, codes}
+use Rattle.std.specs.Prelude.{ℕ, Bool, true, false, List, ◌++◌, codes}
 use Rattle.std.specs.Fmt.{decimal}
+use Rattle.hsr_toml.specs.Faults.{Faults}
 use Rattle.hsr_topology.specs.Fault.{topology_fault_code}
 use Rattle.hsr_scenario.specs.declared.fault.Key.{Key}
 use Rattle.hsr_scenario.specs.declared.fault.Key.TheVariants as key
@@ -34,6 +35,17 @@ key_text key.About = codes "about"
 key_text key.Port = codes "port"
 key_text key.Dir = codes "dir"
 key_text key.Octets = codes "octets"
+
+abbrev pub is_memory : What → Bool
+is_memory NoMemory = true
+is_memory _ = false
+
+abbrev pub is_memory_at : ScenarioFault → Bool
+is_memory_at fault = is_memory fault.what
+
+-- what is told of a key and its value
+abbrev pub faults : Faults Key What
+faults = record { text = key_text; missing = Missing; wrong_kind = WrongKind; bad_value = BadValue; is_memory = is_memory }
 
 abbrev pub spot_text : Spot → List ℕ
 spot_text Top = codes "top"

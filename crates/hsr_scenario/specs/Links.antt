@@ -4,9 +4,12 @@ use Rattle.std.specs.Str.{bytes_eq}
 use Rattle.toml.specs.Data.{Data, Members}
 use Rattle.hsr_topology.specs.declared.end.End.{End}
 use Rattle.hsr_node.specs.Words.{port_of}
-use Rattle.hsr_scenario.specs.Fallible.{◌>>=◌}
-use Rattle.hsr_scenario.specs.Tables.{each_of, needed, only, texts, word}
-use Rattle.hsr_scenario.specs.Words.{end_of, name_of}
+use Rattle.hsr_toml.specs.Fallible.{◌>>=◌}
+use Rattle.hsr_toml.specs.Tables.{needed, texts, word}
+use Rattle.hsr_scenario.specs.Fault.{faults}
+use Rattle.hsr_scenario.specs.Tables.{each_of, only}
+use Rattle.hsr_toml.specs.Names.{name_of}
+use Rattle.hsr_scenario.specs.Words.{end_of}
 use Rattle.hsr_scenario.specs.declared.fault.Key.{Key}
 use Rattle.hsr_scenario.specs.declared.fault.Key.TheVariants as key
 use Rattle.hsr_scenario.specs.declared.fault.What.{What}
@@ -33,10 +36,10 @@ end_named nodes e = end_at nodes (node_named nodes e.0) e.1
 
 -- a name that a node has, and an end that is there
 abbrev pub used_name : List Named → Key → Data → Result ℕ What
-used_name nodes key d = word name_of key d >>= λ name. ok_or (node_named nodes name) NoSuchName
+used_name nodes key d = word faults name_of key d >>= λ name. ok_or (node_named nodes name) NoSuchName
 
 abbrev pub used_end : List Named → Key → Data → Result End What
-used_end nodes key d = word end_of key d >>= λ e. ok_or (end_named nodes e) NoSuchName
+used_end nodes key d = word faults end_of key d >>= λ e. ok_or (end_named nodes e) NoSuchName
 
 -- ---- links
 
@@ -49,9 +52,9 @@ abbrev pub ends_of : List Named → Key → List (List ℕ) → Result (List End
 ends_of nodes key ts = ok_or (two_ends ts) (BadValue key) >>= λ es. ok_or (each_of (end_named nodes) es) NoSuchName
 
 abbrev pub ends : List Named → Key → Data → Result (List End) What
-ends nodes key d = texts key d >>= ends_of nodes key
+ends nodes key d = texts faults key d >>= ends_of nodes key
 
 unfoldable pub link_in : List Named → Members → Result (List End) What
 link_in nodes ms = do
   _ ← only (key.Ends ∷ []) ms
-  needed key.Ends (ends nodes) ms
+  needed faults key.Ends (ends nodes) ms

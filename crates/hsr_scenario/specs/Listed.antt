@@ -15,7 +15,9 @@ use Rattle.hsr_scenario.specs.Links.{link_in}
 use Rattle.hsr_scenario.specs.Meaning.{Meant, meaning, topology_of}
 use Rattle.hsr_scenario.specs.Nodes.{node_in}
 use Rattle.hsr_scenario.specs.Steps.{order_in}
-use Rattle.hsr_scenario.specs.Tables.{between, only, optional, tables, word}
+use Rattle.hsr_toml.specs.Tables.{between, optional, tables, word}
+use Rattle.hsr_scenario.specs.Fault.{faults}
+use Rattle.hsr_scenario.specs.Tables.{only}
 use Rattle.hsr_scenario.specs.declared.fault.Key.TheVariants as key
 use Rattle.hsr_scenario.specs.declared.fault.ScenarioFault.{ScenarioFault}
 use Rattle.hsr_scenario.specs.declared.fault.Spot.{Spot}
@@ -52,21 +54,21 @@ pub record AreKeys (ms : Members) : Type 0 where
   pub links : List Members
   pub steps : List Members
   pub no_others : only (key.Capacity ∷ key.TimeUnit ∷ key.Node ∷ key.Link ∷ key.Step ∷ []) ms ≡ Ok tt
-  pub capacity_is : optional key.Capacity 64 (between 1 4096) ms ≡ Ok capacity
-  pub unit_is : optional key.TimeUnit Milliseconds (word unit_of) ms ≡ Ok unit
-  pub nodes_are : optional key.Node [] tables ms ≡ Ok nodes
-  pub links_are : optional key.Link [] tables ms ≡ Ok links
-  pub steps_are : optional key.Step [] tables ms ≡ Ok steps
+  pub capacity_is : optional faults key.Capacity 64 (between faults 1 4096) ms ≡ Ok capacity
+  pub unit_is : optional faults key.TimeUnit Milliseconds (word faults unit_of) ms ≡ Ok unit
+  pub nodes_are : optional faults key.Node [] (tables faults) ms ≡ Ok nodes
+  pub links_are : optional faults key.Link [] (tables faults) ms ≡ Ok links
+  pub steps_are : optional faults key.Step [] (tables faults) ms ≡ Ok steps
 
 -- one of these keys has a fault
 abbrev pub IsKeyFault : Members → What → Type 0
 IsKeyFault ms what =
     (only (key.Capacity ∷ key.TimeUnit ∷ key.Node ∷ key.Link ∷ key.Step ∷ []) ms ≡ Err what)
-    ⊎ (optional key.Capacity 64 (between 1 4096) ms ≡ Err what)
-    ⊎ (optional key.TimeUnit Milliseconds (word unit_of) ms ≡ Err what)
-    ⊎ (optional key.Node [] tables ms ≡ Err what)
-    ⊎ (optional key.Link [] tables ms ≡ Err what)
-    ⊎ (optional key.Step [] tables ms ≡ Err what)
+    ⊎ (optional faults key.Capacity 64 (between faults 1 4096) ms ≡ Err what)
+    ⊎ (optional faults key.TimeUnit Milliseconds (word faults unit_of) ms ≡ Err what)
+    ⊎ (optional faults key.Node [] (tables faults) ms ≡ Err what)
+    ⊎ (optional faults key.Link [] (tables faults) ms ≡ Err what)
+    ⊎ (optional faults key.Step [] (tables faults) ms ≡ Err what)
 
 -- the tables of nodes and links are read
 pub record AreJoined (ms : Members) : Type 0 where

@@ -1,13 +1,16 @@
 -- The names of a scenario's nodes, with its topology.
 use Rattle.std.specs.Prelude.{ℕ, ◌^◌, nat_le, List, [], length, map, Option, Some, None, Result, Ok, Err, if◌then◌else◌}
 use Rattle.toml.specs.Data.{Members}
-use Rattle.toml.specs.Parse.{parse_document}
 use Rattle.hsr_topology.specs.Topology.{Topology}
-use Rattle.hsr_scenario.specs.Fallible.{◌>>=◌, at_spot, each}
-use Rattle.hsr_scenario.specs.Tables.{optional, tables}
+use Rattle.hsr_toml.specs.Fallible.{◌>>=◌}
+use Rattle.hsr_toml.specs.Documents.{document_of}
+use Rattle.hsr_toml.specs.declared.document.NoDocument.TheVariants.{NoToml}
+use Rattle.hsr_scenario.specs.Fallible.{at_spot, each}
+use Rattle.hsr_toml.specs.Tables.{optional, tables}
+use Rattle.hsr_scenario.specs.Fault.{faults}
 use Rattle.hsr_scenario.specs.Nodes.{node_in}
 use Rattle.hsr_scenario.specs.Links.{link_in}
-use Rattle.hsr_scenario.specs.Meaning.{topology_of}
+use Rattle.hsr_scenario.specs.Meaning.{text_fault, topology_of}
 use Rattle.hsr_scenario.specs.declared.fault.Key.TheVariants as key
 use Rattle.hsr_scenario.specs.declared.fault.Spot.TheVariants as spot
 use Rattle.hsr_scenario.specs.declared.fault.What.TheVariants.{Text}
@@ -36,15 +39,14 @@ named_by nodes link_tables = do
 -- what the nodes and links of a document say
 unfoldable pub named_in : Members → Result NamesMeant ScenarioFault
 named_in ms = do
-  node_tables ← at_spot spot.Top (optional key.Node [] tables ms)
-  link_tables ← at_spot spot.Top (optional key.Link [] tables ms)
+  node_tables ← at_spot spot.Top (optional faults key.Node [] (tables faults) ms)
+  link_tables ← at_spot spot.Top (optional faults key.Link [] (tables faults) ms)
   nodes ← each spot.Node node_in [] node_tables
   named_by nodes link_tables
 
 abbrev pub named_if : Option Members → Result NamesMeant ScenarioFault
-named_if None = Err (record { spot = spot.Top; what = Text })
+named_if None = Err (text_fault NoToml)
 named_if (Some ms) = named_in ms
 
--- a text of at most 16 MiB that is a document of TOML
 abbrev pub names_meant : List ℕ → Result NamesMeant ScenarioFault
-names_meant text = named_if (if nat_le (length text) (2 ^ 24) then parse_document text else None)
+names_meant text = named_if (document_of text)

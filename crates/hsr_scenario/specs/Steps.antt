@@ -6,9 +6,12 @@ use Rattle.hsr_frame.specs.declared.node.About.TheVariants.{Own, Proxied}
 use Rattle.hsr_step.specs.declared.step.Step.{Step}
 use Rattle.hsr_step.specs.declared.step.Step.TheVariants.{Clock, Send, Supervise, Age, Put, Take, Judge, Cut, Mend, Inject}
 use Rattle.hsr_text.specs.declared.time_unit.TimeUnit.{TimeUnit}
-use Rattle.hsr_scenario.specs.Fallible.{◌>>=◌}
-use Rattle.hsr_scenario.specs.Tables.{between, integer, moment, needed, only, optional, word}
-use Rattle.hsr_scenario.specs.Words.{deed_of, mac_of, octets_of}
+use Rattle.hsr_toml.specs.Fallible.{◌>>=◌}
+use Rattle.hsr_toml.specs.Tables.{between, integer, needed, optional, perhaps, word}
+use Rattle.hsr_scenario.specs.Fault.{faults}
+use Rattle.hsr_scenario.specs.Tables.{moment, only}
+use Rattle.hsr_toml.specs.Names.{mac_of}
+use Rattle.hsr_scenario.specs.Words.{deed_of, octets_of}
 use Rattle.hsr_link.specs.Words.{dir_of}
 use Rattle.hsr_scenario.specs.Links.{used_end, used_name}
 use Rattle.hsr_scenario.specs.declared.fault.Key.{Key}
@@ -27,11 +30,7 @@ link_numbered links (pos n) = if nat_lt n links then Some n else None
 link_numbered links (negsuc n) = None
 
 abbrev pub used_link : ℕ → Key → Data → Result ℕ What
-used_link links key d = integer key d >>= λ z. ok_or (link_numbered links z) NoSuchName
-
--- a value that may be left out, and nothing stands for it
-abbrev pub perhaps : {A : Type 0} → (Key → Data → Result A What) → Key → Data → Result (Option A) What
-perhaps read key d = read key d >>= λ x. Ok (Some x)
+used_link links key d = integer faults key d >>= λ z. ok_or (link_numbered links z) NoSuchName
 
 -- who a supervision frame is about
 abbrev pub about_of : Option (List ℕ) → About
@@ -41,60 +40,60 @@ about_of (Some mac) = Proxied mac
 unfoldable pub clock : TimeUnit → Members → Result Step What
 clock unit ms = do
   _ ← only (key.Do ∷ key.At ∷ []) ms
-  at ← needed key.At (moment unit) ms
+  at ← needed faults key.At (moment unit) ms
   Ok (Clock at)
 
 unfoldable pub send : List Named → Members → Result Step What
 send nodes ms = do
   _ ← only (key.Do ∷ key.Node ∷ key.To ∷ key.Kind ∷ key.Payload ∷ key.Vlan ∷ key.From ∷ []) ms
-  node ← needed key.Node (used_name nodes) ms
-  dst ← needed key.To (word mac_of) ms
-  kind ← needed key.Kind (between 0 65535) ms
-  payload ← optional key.Payload [] (word octets_of) ms
-  vlan ← optional key.Vlan None (perhaps (between 0 65535)) ms
-  from ← optional key.From 0 (between 0 15) ms
+  node ← needed faults key.Node (used_name nodes) ms
+  dst ← needed faults key.To (word faults mac_of) ms
+  kind ← needed faults key.Kind (between faults 0 65535) ms
+  payload ← optional faults key.Payload [] (word faults octets_of) ms
+  vlan ← optional faults key.Vlan None (perhaps (between faults 0 65535)) ms
+  from ← optional faults key.From 0 (between faults 0 15) ms
   Ok (Send node from dst vlan kind payload)
 
 unfoldable pub life : List Named → Members → Result Step What
 life nodes ms = do
   _ ← only (key.Do ∷ key.Node ∷ key.About ∷ []) ms
-  node ← needed key.Node (used_name nodes) ms
-  about ← optional key.About None (perhaps (word mac_of)) ms
+  node ← needed faults key.Node (used_name nodes) ms
+  about ← optional faults key.About None (perhaps (word faults mac_of)) ms
   Ok (Supervise node (about_of about))
 
 unfoldable pub age : List Named → Members → Result Step What
 age nodes ms = do
   _ ← only (key.Do ∷ key.Node ∷ []) ms
-  node ← needed key.Node (used_name nodes) ms
+  node ← needed faults key.Node (used_name nodes) ms
   Ok (Age node)
 
 -- `put` and `judge`
 unfoldable pub at_port : (ℕ → ℕ → Step) → List Named → Members → Result Step What
 at_port step nodes ms = do
   _ ← only (key.Do ∷ key.Port ∷ []) ms
-  end ← needed key.Port (used_end nodes) ms
+  end ← needed faults key.Port (used_end nodes) ms
   Ok (step end.node end.port)
 
 unfoldable pub take : ℕ → Members → Result Step What
 take links ms = do
   _ ← only (key.Do ∷ key.Link ∷ key.Dir ∷ []) ms
-  link ← needed key.Link (used_link links) ms
-  dir ← needed key.Dir (word dir_of) ms
+  link ← needed faults key.Link (used_link links) ms
+  dir ← needed faults key.Dir (word faults dir_of) ms
   Ok (Take link dir)
 
 -- `cut` and `mend`
 unfoldable pub at_link : (ℕ → Step) → ℕ → Members → Result Step What
 at_link step links ms = do
   _ ← only (key.Do ∷ key.Link ∷ []) ms
-  link ← needed key.Link (used_link links) ms
+  link ← needed faults key.Link (used_link links) ms
   Ok (step link)
 
 unfoldable pub inject : ℕ → Members → Result Step What
 inject links ms = do
   _ ← only (key.Do ∷ key.Link ∷ key.Dir ∷ key.Octets ∷ []) ms
-  link ← needed key.Link (used_link links) ms
-  dir ← needed key.Dir (word dir_of) ms
-  octets ← needed key.Octets (word octets_of) ms
+  link ← needed faults key.Link (used_link links) ms
+  dir ← needed faults key.Dir (word faults dir_of) ms
+  octets ← needed faults key.Octets (word faults octets_of) ms
   Ok (Inject link dir octets)
 
 abbrev pub stepped : Result Step What → Result Order What
@@ -121,5 +120,5 @@ order_of deed.Drain unit nodes links ms = drain ms
 -- the step of a table, where moments are in this unit, and there are these nodes and so many links
 unfoldable pub order_in : TimeUnit → List Named → ℕ → Members → Result Order What
 order_in unit nodes links ms = do
-  deed ← needed key.Do (word deed_of) ms
+  deed ← needed faults key.Do (word faults deed_of) ms
   order_of deed unit nodes links ms

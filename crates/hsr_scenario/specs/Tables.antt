@@ -1,91 +1,28 @@
--- A table's keys, and the values that stand at them.
-use Rattle.std.specs.Prelude.{ℕ, ℤ, pos, negsuc, ◌&&◌, nat_le, Bool, true, ⊤, List, [], ◌∷◌, Option, Some, None, Result, Ok, Err, ok_or, if◌then◌else◌}
-use Rattle.std.specs.List.{list_any}
+-- The keys that a table may have, and the values that scenarios alone have.
+use Rattle.std.specs.Prelude.{ℕ, ℤ, pos, negsuc, ⊤, List, [], ◌∷◌, Option, Some, None, Result, Ok, Err, ok_or}
 use Rattle.std.specs.Option.{option_and_then}
-use Rattle.std.specs.Str.{bytes_eq}
-use Rattle.toml.specs.Data.{Data, Members, no_members, member, Items, no_items, item, get_member, as_str, as_integer, as_array, as_table}
+use Rattle.toml.specs.Data.{Data, Members}
 use Rattle.hsr_text.specs.Moments.{moment_in}
 use Rattle.hsr_text.specs.declared.time_unit.TimeUnit.{TimeUnit}
-use Rattle.hsr_scenario.specs.Fault.{key_text}
-use Rattle.hsr_scenario.specs.Fallible.{◌>>=◌, guard}
+use Rattle.hsr_toml.specs.Fallible.{◌>>=◌}
+use Rattle.hsr_toml.specs.Tables.{in_front, integer, other_key}
+use Rattle.hsr_scenario.specs.Fault.{faults}
 use Rattle.hsr_scenario.specs.declared.fault.Key.{Key}
 use Rattle.hsr_scenario.specs.declared.fault.What.{What}
-use Rattle.hsr_scenario.specs.declared.fault.What.TheVariants.{Missing, Unknown, WrongKind, BadValue}
+use Rattle.hsr_scenario.specs.declared.fault.What.TheVariants.{Unknown, BadValue}
+
+abbrev pub known : Option (List ℕ) → Result ⊤ What
+known None = Ok tt
+known (Some other) = Err Unknown
 
 -- each key of the table is one of these
-abbrev pub has_only : List Key → Members → Bool
-has_only keys no_members = true
-has_only keys (member k d ms) = list_any (λ key. bytes_eq k (key_text key)) keys && has_only keys ms
-
 abbrev pub only : List Key → Members → Result ⊤ What
-only keys ms = guard (has_only keys ms) Unknown
-
--- ---- what stands at a key
-
-abbrev pub at_key : Key → Members → Option Data
-at_key key ms = get_member (key_text key) ms
-
-abbrev pub present : Key → Option Data → Result Data What
-present key None = Err (Missing key)
-present key (Some d) = Ok d
-
--- a value that has to be there
-abbrev pub needed : {A : Type 0} → Key → (Key → Data → Result A What) → Members → Result A What
-needed key read ms = present key (at_key key ms) >>= read key
-
-abbrev pub read_or : {A : Type 0} → Key → A → (Key → Data → Result A What) → Option Data → Result A What
-read_or key default read None = Ok default
-read_or key default read (Some d) = read key d
-
--- a value that may be left out, with what then stands for it
-abbrev pub optional : {A : Type 0} → Key → A → (Key → Data → Result A What) → Members → Result A What
-optional key default read ms = read_or key default read (at_key key ms)
-
--- ---- kinds of value
-
-abbrev pub text : Key → Data → Result (List ℕ) What
-text key d = ok_or (as_str d) (WrongKind key)
-
-abbrev pub integer : Key → Data → Result ℤ What
-integer key d = ok_or (as_integer d) (WrongKind key)
-
-abbrev pub items : Key → Data → Result Items What
-items key d = ok_or (as_array d) (WrongKind key)
-
--- one more in front, where both are there
-abbrev pub in_front : {A : Type 0} → Option A → Option (List A) → Option (List A)
-in_front (Some x) (Some xs) = Some (x ∷ xs)
-in_front _ _ = None
-
--- what each item of an array is, if each is of that kind
-abbrev pub all_of : {A : Type 0} → (Data → Option A) → Items → Option (List A)
-all_of as_kind no_items = Some []
-all_of as_kind (item d ds) = in_front (as_kind d) (all_of as_kind ds)
-
-abbrev pub texts : Key → Data → Result (List (List ℕ)) What
-texts key d = items key d >>= λ ds. ok_or (all_of as_str ds) (WrongKind key)
-
-abbrev pub tables : Key → Data → Result (List Members) What
-tables key d = items key d >>= λ ds. ok_or (all_of as_table ds) (WrongKind key)
-
--- a text that spells something
-abbrev pub word : {A : Type 0} → (List ℕ → Option A) → Key → Data → Result A What
-word spelled key d = text key d >>= λ s. ok_or (spelled s) (BadValue key)
+only keys ms = known (other_key faults keys ms)
 
 -- what each of a list is, if each is something
 abbrev pub each_of : {A B : Type 0} → (A → Option B) → List A → Option (List B)
 each_of f [] = Some []
 each_of f (x ∷ xs) = in_front (f x) (each_of f xs)
-
--- ---- numbers
-
-abbrev pub in_range : ℕ → ℕ → ℤ → Option ℕ
-in_range low high (pos n) = if nat_le low n && nat_le n high then Some n else None
-in_range low high (negsuc n) = None
-
--- a number between two, which it may be
-abbrev pub between : ℕ → ℕ → Key → Data → Result ℕ What
-between low high key d = integer key d >>= λ z. ok_or (in_range low high z) (BadValue key)
 
 -- a number that is not below 0
 abbrev pub natural : ℤ → Option ℕ
@@ -94,4 +31,4 @@ natural (negsuc n) = None
 
 -- a moment in microseconds
 abbrev pub moment : TimeUnit → Key → Data → Result ℕ What
-moment unit key d = integer key d >>= λ z. ok_or (option_and_then (moment_in unit) (natural z)) (BadValue key)
+moment unit key d = integer faults key d >>= λ z. ok_or (option_and_then (moment_in unit) (natural z)) (BadValue key)

@@ -1,29 +1,14 @@
 -- The words that texts of a scenario spell.
-use Rattle.std.specs.Prelude.{ℕ, ◌==◌, ◌&&◌, ◌||◌, nat_lt, nat_le, Bool, List, [], ◌∷◌, length, codes, Option, Some, None, if◌then◌else◌}
-use Rattle.std.specs.List.{list_all}
+use Rattle.std.specs.Prelude.{ℕ, ◌&&◌, List, [], ◌∷◌, codes, Option, Some, None, if◌then◌else◌}
 use Rattle.std.specs.Result.{result_ok}
 use Rattle.std.specs.Str.{bytes_eq}
 use Rattle.hex.specs.Hex.{decode_of}
-use Rattle.hsr_frame.specs.Address.{address_of}
 use Rattle.hsr_text.specs.Words.{cut}
+use Rattle.hsr_toml.specs.Names.{is_name, is_port_letter}
 use Rattle.hsr_scenario.specs.declared.words.Deed.{Deed}
 use Rattle.hsr_scenario.specs.declared.words.Deed.TheVariants as deed
 
--- ---- names
-
--- a small letter, a digit or a hyphen
-abbrev pub is_name_octet : ℕ → Bool
-is_name_octet b = (nat_le 97 b && nat_le b 122) || ((nat_le 48 b && nat_le b 57) || b == 45)
-
-abbrev pub is_name : List ℕ → Bool
-is_name s = list_all is_name_octet s && (nat_lt 0 (length s) && nat_le (length s) 32)
-
-abbrev pub name_of : List ℕ → Option (List ℕ)
-name_of s = if is_name s then Some s else None
-
--- the letter of a port of some role: A, B, C, D, I, P
-abbrev pub is_port_letter : ℕ → Bool
-is_port_letter c = (nat_le 65 c && nat_le c 68) || (c == 73 || c == 80)
+-- ---- ends
 
 abbrev pub end_if : List ℕ → Option (List ℕ) → Option (List ℕ × ℕ)
 end_if name (Some (letter ∷ [])) = if is_name name && is_port_letter letter then Some (name, letter) else None
@@ -45,10 +30,7 @@ deed_of s = spelled (
     ∷ (codes "put", deed.Put) ∷ (codes "judge", deed.Judge) ∷ (codes "take", deed.Take) ∷ (codes "cut", deed.Cut)
     ∷ (codes "mend", deed.Mend) ∷ (codes "inject", deed.Inject) ∷ (codes "drain", deed.Drain) ∷ []) s
 
--- ---- addresses and octets
-
-abbrev pub mac_of : List ℕ → Option (List ℕ)
-mac_of s = result_ok (address_of s)
+-- ---- octets
 
 abbrev pub octets_of : List ℕ → Option (List ℕ)
 octets_of s = result_ok (decode_of s)

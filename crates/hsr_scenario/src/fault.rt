@@ -4,6 +4,7 @@ ghost use Rattle.hsr_scenario.specs.Fault.{key_text};
 ghost use Rattle.hsr_scenario.specs.declared.fault.What.TheVariants.{NoMemory as NoRoom};
 
 use hsr_frame::NoMemory;
+use hsr_toml::TableKey;
 use hsr_topology::TopologyFault;
 use std::alloc::AllocFailed;
 use std::error::Error;
@@ -36,6 +37,34 @@ pub enum Key {
     Port,
     Dir,
     Octets,
+}
+
+impl TableKey for Key {
+    ghost use Rattle.hsr_scenario.specs.Fault.{faults};
+
+    type Fault = What;
+
+    ghost faults = { faults };
+
+    fn text(self) -> &'static str {
+        self.text()
+    }
+
+    fn missing(self) -> What {
+        What::Missing(self)
+    }
+
+    fn wrong_kind(self) -> What {
+        What::WrongKind(self)
+    }
+
+    fn bad_value(self) -> What {
+        What::BadValue(self)
+    }
+
+    fn no_memory(self) -> What {
+        What::NoMemory
+    }
 }
 
 impl Key {

@@ -19,6 +19,7 @@ mod words;
 pub use fault::{Key, ScenarioFault, Spot, What};
 pub use law::{fault_is_first, means_its_tables};
 pub use naming::{Names, read_names};
-pub use reading::{TEXT_LIMIT, read};
+pub use hsr_toml::TEXT_LIMIT;
+pub use reading::read;
 pub use scenario::Scenario;
 pub use steps::Order;

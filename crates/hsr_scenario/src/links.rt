@@ -2,14 +2,16 @@
 ghost use Rattle.std.specs.Prelude.{◌≡◌, ◌∷◌, []};
 ghost use Rattle.toml.specs.View.{view, table_view};
 ghost use Rattle.hsr_scenario.specs.Fallible.{Gives};
-ghost use Rattle.hsr_scenario.specs.Tables.{needed};
+ghost use Rattle.hsr_toml.specs.Tables.{needed};
+ghost use Rattle.hsr_scenario.specs.Fault.{faults};
 ghost use Rattle.hsr_scenario.specs.Links.{end_named, ends, ends_of, link_in, node_named, used_end, used_name};
 ghost use Rattle.hsr_scenario.specs.declared.fault.Key.TheVariants as key;
 
 use crate::fault::{Key, What};
 use crate::nodes::Named;
-use crate::table::{needed, only, text, texts};
-use crate::words::{end_of, is_name};
+use crate::table::only;
+use crate::words::end_of;
+use hsr_toml::{is_name, needed, text, texts};
 use hsr_topology::End;
 use std::alloc::Global;
 use toml::{Table, Value};
@@ -53,7 +55,7 @@ fn used_name(nodes: &[Named], key: Key, value: &Value) -> Result<usize, What>
 
 /// The number of the node that a step names.
 pub(crate) fn used_node(nodes: &[Named], table: &Table) -> Result<usize, What>
-    ensures { Gives (λ n. n) result (needed key.Node (used_name nodes.now) (table_view table.now)) }
+    ensures { Gives (λ n. n) result (needed faults key.Node (used_name nodes.now) (table_view table.now)) }
 {
     used_name(nodes, Key::Node, needed(table, Key::Node)?)
 }
@@ -73,7 +75,7 @@ fn used_end(nodes: &[Named], key: Key, value: &Value) -> Result<End, What>
 
 /// The end that a step names.
 pub(crate) fn used_port(nodes: &[Named], table: &Table) -> Result<End, What>
-    ensures { Gives (λ e. e) result (needed key.Port (used_end nodes.now) (table_view table.now)) }
+    ensures { Gives (λ e. e) result (needed faults key.Port (used_end nodes.now) (table_view table.now)) }
 {
     used_end(nodes, Key::Port, needed(table, Key::Port)?)
 }

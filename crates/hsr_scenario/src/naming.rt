@@ -7,7 +7,8 @@ ghost use Rattle.hsr_scenario.specs.declared.fault.Spot.TheVariants as spot;
 
 use crate::fault::{Key, ScenarioFault, Spot, What};
 use crate::nodes::Named;
-use crate::reading::{TEXT_LIMIT, at_spot, links_of, nodes_of, tables_at, topology_of};
+use crate::reading::{at_spot, links_of, nodes_of, text_fault, topology_of};
+use hsr_toml::{document_of, tables_at};
 use hsr_topology::Topology;
 use std::alloc::Global;
 use toml::Table;
@@ -63,33 +64,14 @@ fn named_in(alloc: Global, table: &Table) -> Result<Names, ScenarioFault>
     named_by(alloc, nodes.as_slice(), links.as_slice())
 }
 
-/// A fault of the text itself.
-fn text_fault(what: What) -> Result<Names, ScenarioFault>
-    ensures { result ≡ at_spot spot.Top (Err what) }
-{
-    Err(ScenarioFault {
-        spot: Spot::Top,
-        what,
-    })
-}
-
 /// The topology and the names of the nodes of a scenario, as `read` reads its nodes and links; what it says beside them isn't looked
 /// at. A fault is the first in this order: the text itself, nodes, links, the topology. `NoMemory` comes where a growth was
 /// refused, in place of any other answer.
 pub fn read_names(alloc: Global, text: &str) -> Result<Names, ScenarioFault>
     ensures { GivesAt names_view result (names_meant text.now) }
 {
-    if text.len() > TEXT_LIMIT {
-        return text_fault(What::Text);
-    }
-    match toml::table_from_str(alloc, text) {
+    match document_of(alloc, text) {
         Ok(table) => named_in(alloc, &table),
-        Err(error) => {
-            if error.is_memory() {
-                text_fault(What::NoMemory)
-            } else {
-                text_fault(What::Text)
-            }
-        }
+        Err(fault) => Err(text_fault(fault)),
     }
 }

@@ -1,11 +1,13 @@
 //! The nodes of a scenario.
 ghost use Rattle.std.specs.Prelude.{◌≡◌, ◌≤◌, ◌++◌, ◌∷◌, [], length, map, take, option_map};
-ghost use Rattle.toml.specs.View.{view, table_view};
+ghost use Rattle.toml.specs.View.{table_view};
 ghost use Rattle.hsr_scenario.specs.Fallible.{Gives};
-ghost use Rattle.hsr_scenario.specs.Tables.{each_of, needed, optional, word};
+ghost use Rattle.hsr_toml.specs.Tables.{needed, optional, word};
+ghost use Rattle.hsr_scenario.specs.Fault.{faults};
+ghost use Rattle.hsr_scenario.specs.Tables.{each_of};
 ghost use Rattle.hsr_frame.specs.Words.{mode_of};
 ghost use Rattle.hsr_node.specs.Words.{role_of};
-ghost use Rattle.hsr_scenario.specs.Words.{mac_of};
+ghost use Rattle.hsr_toml.specs.Names.{mac_of};
 ghost use Rattle.hsr_scenario.specs.Nodes.{is_taken, macs, macs_of, new_name, node_in, quadbox, ring_node, station};
 ghost use Rattle.hsr_scenario.specs.declared.fault.Key.TheVariants as key;
 ghost use Rattle.hsr_node.specs.declared.place.Place.TheVariants as place;
@@ -13,13 +15,13 @@ ghost use Rattle.hsr_frame.specs.declared.node.Mode.TheVariants.{H};
 
 use crate::fault::{Key, What};
 use crate::name::Name;
-use crate::table::{needed, only, text, texts, value};
-use crate::words::is_name;
+use crate::table::only;
 use arrayvec::ArrayVec;
 use hsr_frame::{Mac, Mode};
 use hsr_node::{Place, Role};
+use hsr_toml::{is_name, mac, needed, text, texts, value};
 use std::alloc::Global;
-use toml::{Table, Value};
+use toml::Table;
 
 /// A node with its name.
 #[derive(Debug, Drop)]
@@ -37,7 +39,7 @@ fn is_taken(nodes: &[Named], name: &str) -> bool
 
 /// The name of a node that follows others.
 fn new_name(alloc: Global, nodes: &[Named], table: &Table) -> Result<Name, What>
-    ensures { Gives (λ n. n) result (needed key.Name (new_name nodes.now) (table_view table.now)) }
+    ensures { Gives (λ n. n) result (needed faults key.Name (new_name nodes.now) (table_view table.now)) }
 {
     let name = text(Key::Name, needed(table, Key::Name)?)?;
     if !is_name(name.as_bytes()) {
@@ -49,26 +51,16 @@ fn new_name(alloc: Global, nodes: &[Named], table: &Table) -> Result<Name, What>
     Name::from_str(alloc, name)
 }
 
-/// The address that a value spells.
-pub(crate) fn mac(key: Key, value: &Value) -> Result<Mac, What>
-    ensures { Gives (λ m. m) result (word mac_of key (view value.now)) }
-{
-    match Mac::from_text(text(key, value)?) {
-        Ok(mac) => Ok(mac),
-        Err(_) => Err(What::BadValue(key)),
-    }
-}
-
 /// The address of a node.
 fn own_mac(table: &Table) -> Result<Mac, What>
-    ensures { Gives (λ m. m) result (needed key.Mac (word mac_of) (table_view table.now)) }
+    ensures { Gives (λ m. m) result (needed faults key.Mac (word faults mac_of) (table_view table.now)) }
 {
     mac(Key::Mac, needed(table, Key::Mac)?)
 }
 
 /// The mode of a node.
 fn mode(table: &Table) -> Result<Mode, What>
-    ensures { Gives (λ m. m) result (optional key.Mode H (word mode_of) (table_view table.now)) }
+    ensures { Gives (λ m. m) result (optional faults key.Mode H (word faults mode_of) (table_view table.now)) }
 {
     match value(table, Key::Mode) {
         None => Ok(Mode::H),
@@ -107,7 +99,7 @@ fn each_mac(texts: &[&str]) -> Option<ArrayVec<Mac, 16>>
 
 /// The addresses of a station.
 fn macs(alloc: Global, table: &Table) -> Result<ArrayVec<Mac, 16>, What>
-    ensures { Gives (λ v. v.items) result (needed key.Macs macs (table_view table.now)) }
+    ensures { Gives (λ v. v.items) result (needed faults key.Macs macs (table_view table.now)) }
 {
     let texts = texts(alloc, Key::Macs, needed(table, Key::Macs)?)?;
     match macs_of(texts.as_slice()) {
@@ -170,7 +162,7 @@ fn station(alloc: Global, nodes: &[Named], table: &Table) -> Result<Named, What>
 
 /// The role of a node.
 fn role(table: &Table) -> Result<Role, What>
-    ensures { Gives (λ r. r) result (needed key.Role (word role_of) (table_view table.now)) }
+    ensures { Gives (λ r. r) result (needed faults key.Role (word faults role_of) (table_view table.now)) }
 {
     match Role::from_word(text(Key::Role, needed(table, Key::Role)?)?.as_bytes()) {
         Some(role) => Ok(role),

@@ -4,11 +4,12 @@ ghost use Rattle.toml.specs.View.{table_view};
 ghost use Rattle.hsr_text.specs.Moments.{unit_of};
 ghost use Rattle.hsr_text.specs.declared.time_unit.TimeUnit.TheVariants.{Milliseconds};
 ghost use Rattle.hsr_scenario.specs.Fallible.{Gives, GivesAt, at_spot, each};
-ghost use Rattle.hsr_scenario.specs.Tables.{between, optional, tables, word};
+ghost use Rattle.hsr_toml.specs.Tables.{between, optional, tables, word};
+ghost use Rattle.hsr_scenario.specs.Fault.{faults};
 ghost use Rattle.hsr_scenario.specs.Nodes.{node_in};
 ghost use Rattle.hsr_scenario.specs.Links.{link_in};
 ghost use Rattle.hsr_scenario.specs.Steps.{order_in};
-ghost use Rattle.hsr_scenario.specs.Meaning.{content, document, joined, meaning, scenario_view, topology_of, with_steps};
+ghost use Rattle.hsr_scenario.specs.Meaning.{content, document, joined, meaning, scenario_view, text_fault, topology_of, with_steps};
 ghost use Rattle.hsr_scenario.specs.declared.fault.Key.TheVariants as key;
 ghost use Rattle.hsr_scenario.specs.declared.fault.Spot.TheVariants as spot;
 ghost use Rattle.hsr_scenario.specs.declared.fault.What.TheVariants.{NoMemory};
@@ -18,18 +19,16 @@ use crate::links::link;
 use crate::nodes::{Named, node};
 use crate::scenario::Scenario;
 use crate::steps::{Order, order_in};
-use crate::table::{between, only, tables, text, value};
+use crate::table::only;
 use hsr_node::Place;
 use hsr_text::TimeUnit;
+use hsr_toml::{NoDocument, document_of, number_or, tables_at, text, value};
 use hsr_topology::{End, Topology};
 use std::alloc::Global;
 use toml::Table;
 
-/// The most octets of a text: 16 MiB.
-pub const TEXT_LIMIT: usize = 1 << 24;
-
 /// How many copies wait in each direction of a link, where a text doesn't say.
-const CAPACITY: usize = 64;
+const CAPACITY: u64 = 64;
 
 /// How many copies may wait in each direction of a link.
 const CAPACITY_LIMIT: u64 = 4096;
@@ -38,10 +37,7 @@ const CAPACITY_LIMIT: u64 = 4096;
 pub(crate) fn at_spot<T>(spot: Spot, told: Result<T, What>) -> Result<T, ScenarioFault>
     ensures { result ≡ at_spot spot told }
 {
-    match told {
-        Ok(value) => Ok(value),
-        Err(what) => Err(ScenarioFault { spot, what }),
-    }
+    told.map_err(|what| ScenarioFault { spot, what })
 }
 
 /// The fault where room for what a table says is refused.
@@ -258,22 +254,17 @@ fn content(
 
 /// The capacity of a document.
 fn capacity(table: &Table) -> Result<usize, What>
-    ensures value { Gives (λ n. n) result (optional key.Capacity 64 (between 1 4096) (table_view table.now)) }
+    ensures value { Gives (λ n. n) result (optional faults key.Capacity 64 (between faults 1 4096) (table_view table.now)) }
     ensures some { IfOk result (λ n. 1 ≤ n) }
     ensures most { IfOk result (λ n. n ≤ 4096) }
 {
-    match value(table, Key::Capacity) {
-        None => Ok(CAPACITY),
-        Some(value) => {
-            let capacity = between(1, CAPACITY_LIMIT, Key::Capacity, value)?;
-            Ok(capacity as usize)
-        }
-    }
+    let capacity = number_or(CAPACITY, 1, CAPACITY_LIMIT, table, Key::Capacity)?;
+    Ok(capacity as usize)
 }
 
 /// The unit of the moments of a document.
 fn unit(table: &Table) -> Result<TimeUnit, What>
-    ensures { Gives (λ u. u) result (optional key.TimeUnit Milliseconds (word unit_of) (table_view table.now)) }
+    ensures { Gives (λ u. u) result (optional faults key.TimeUnit Milliseconds (word faults unit_of) (table_view table.now)) }
 {
     match value(table, Key::TimeUnit) {
         None => Ok(TimeUnit::Milliseconds),
@@ -281,20 +272,6 @@ fn unit(table: &Table) -> Result<TimeUnit, What>
             Some(unit) => Ok(unit),
             None => Err(What::BadValue(Key::TimeUnit)),
         },
-    }
-}
-
-/// The tables of an array that may be missing.
-pub(crate) fn tables_at<'a>(
-    alloc: Global,
-    table: &'a Table,
-    key: Key,
-) -> Result<Vec<&'a Table>, What>
-    ensures { Gives (λ v. map (λ t. table_view t.now) v.items) result (optional key [] tables (table_view table.now)) }
-{
-    match value(table, key) {
-        None => Ok(Vec::new(alloc)),
-        Some(value) => tables(alloc, key, value),
     }
 }
 
@@ -328,14 +305,18 @@ fn document(alloc: Global, table: &Table) -> Result<Scenario, ScenarioFault>
     )
 }
 
-/// A fault of the text itself.
-fn text_fault(what: What) -> Result<Scenario, ScenarioFault>
-    ensures { result ≡ at_spot spot.Top (Err what) }
+/// The fault of a text that is no document.
+pub(crate) fn text_fault(fault: NoDocument) -> ScenarioFault
+    ensures { result ≡ text_fault fault }
 {
-    Err(ScenarioFault {
+    let what = match fault {
+        NoDocument::NoToml => What::Text,
+        NoDocument::NoMemory => What::NoMemory,
+    };
+    ScenarioFault {
         spot: Spot::Top,
         what,
-    })
+    }
 }
 
 /// The scenario that a text is: a document of TOML, of at most 16 MiB, with the keys `capacity` (1 to 4096, 64 where it is
@@ -347,17 +328,8 @@ fn text_fault(what: What) -> Result<Scenario, ScenarioFault>
 pub fn read(alloc: Global, text: &str) -> Result<Scenario, ScenarioFault>
     ensures { GivesAt scenario_view result (meaning text.now) }
 {
-    if text.len() > TEXT_LIMIT {
-        return text_fault(What::Text);
-    }
-    match toml::table_from_str(alloc, text) {
+    match document_of(alloc, text) {
         Ok(table) => document(alloc, &table),
-        Err(error) => {
-            if error.is_memory() {
-                text_fault(What::NoMemory)
-            } else {
-                text_fault(What::Text)
-            }
-        }
+        Err(fault) => Err(text_fault(fault)),
     }
 }

@@ -2,17 +2,20 @@
 ghost use Rattle.std.specs.Prelude.{◌≡◌, ◌≤◌, [], IfOk, None, option_map};
 ghost use Rattle.toml.specs.View.{view, table_view};
 ghost use Rattle.hsr_scenario.specs.Fallible.{Gives};
-ghost use Rattle.hsr_scenario.specs.Tables.{between, moment, natural, needed, optional, word};
-ghost use Rattle.hsr_scenario.specs.Words.{deed_of, mac_of, octets_of};
+ghost use Rattle.hsr_toml.specs.Tables.{between, needed, optional, perhaps, word};
+ghost use Rattle.hsr_scenario.specs.Fault.{faults};
+ghost use Rattle.hsr_scenario.specs.Tables.{moment, natural};
+ghost use Rattle.hsr_toml.specs.Names.{mac_of};
+ghost use Rattle.hsr_scenario.specs.Words.{deed_of, octets_of};
 ghost use Rattle.hsr_link.specs.Words.{dir_of};
-ghost use Rattle.hsr_scenario.specs.Steps.{age, at_link, at_port, clock, drain, inject, life, link_numbered, order_in, order_of, perhaps, send, stepped, take, used_link};
+ghost use Rattle.hsr_scenario.specs.Steps.{age, at_link, at_port, clock, drain, inject, life, link_numbered, order_in, order_of, send, stepped, take, used_link};
 ghost use Rattle.hsr_scenario.specs.declared.fault.Key.TheVariants as key;
 ghost use Rattle.hsr_step.specs.declared.step.Step.TheVariants as step;
 
 use crate::fault::{Key, What};
 use crate::links::{used_node, used_port};
-use crate::nodes::{Named, mac};
-use crate::table::{between, integer, needed, only, text, value};
+use crate::nodes::Named;
+use crate::table::only;
 use crate::words::{Deed, deed_of};
 use hex::FromHexError;
 use hsr_frame::{About, Mac};
@@ -20,6 +23,7 @@ use hsr_link::Dir;
 use hsr_node::Octets;
 use hsr_step::Step;
 use hsr_text::TimeUnit;
+use hsr_toml::{between, integer, mac, needed, number_or, text, value};
 use std::alloc::Global;
 use toml::{Table, Value};
 
@@ -46,7 +50,7 @@ fn natural(number: i64) -> Option<u64>
 
 /// The moment of a step, in microseconds.
 fn moment(unit: TimeUnit, table: &Table) -> Result<u64, What>
-    ensures { Gives (λ n. n) result (needed key.At (moment unit) (table_view table.now)) }
+    ensures { Gives (λ n. n) result (needed faults key.At (moment unit) (table_view table.now)) }
 {
     let at = natural(integer(Key::At, needed(table, Key::At)?)?);
     match at.and_then(|at| unit.moment(at)) {
@@ -68,7 +72,7 @@ fn link_numbered(links: usize, number: i64) -> Option<usize>
 
 /// The link that a step names.
 fn used_link(links: usize, table: &Table) -> Result<usize, What>
-    ensures { Gives (λ n. n) result (needed key.Link (used_link links) (table_view table.now)) }
+    ensures { Gives (λ n. n) result (needed faults key.Link (used_link links) (table_view table.now)) }
 {
     match link_numbered(links, integer(Key::Link, needed(table, Key::Link)?)?) {
         Some(link) => Ok(link),
@@ -78,7 +82,7 @@ fn used_link(links: usize, table: &Table) -> Result<usize, What>
 
 /// The direction of a step.
 fn dir(table: &Table) -> Result<Dir, What>
-    ensures { Gives (λ d. d) result (needed key.Dir (word dir_of) (table_view table.now)) }
+    ensures { Gives (λ d. d) result (needed faults key.Dir (word faults dir_of) (table_view table.now)) }
 {
     match Dir::from_word(text(Key::Dir, needed(table, Key::Dir)?)?.as_bytes()) {
         Some(dir) => Ok(dir),
@@ -88,7 +92,7 @@ fn dir(table: &Table) -> Result<Dir, What>
 
 /// The octets that a value spells in hexadecimal digits.
 fn octets(alloc: Global, key: Key, value: &Value) -> Result<Octets, What>
-    ensures { Gives (λ o. o) result (word octets_of key (view value.now)) }
+    ensures { Gives (λ o. o) result (word faults octets_of key (view value.now)) }
 {
     match hex::decode(alloc, text(key, value)?) {
         Ok(octets) => Ok(Octets::new(octets)),
@@ -99,21 +103,21 @@ fn octets(alloc: Global, key: Key, value: &Value) -> Result<Octets, What>
 
 /// The octets of an inject.
 fn injected(alloc: Global, table: &Table) -> Result<Octets, What>
-    ensures { Gives (λ o. o) result (needed key.Octets (word octets_of) (table_view table.now)) }
+    ensures { Gives (λ o. o) result (needed faults key.Octets (word faults octets_of) (table_view table.now)) }
 {
     octets(alloc, Key::Octets, needed(table, Key::Octets)?)
 }
 
 /// The destination of a send.
 fn destination(table: &Table) -> Result<Mac, What>
-    ensures { Gives (λ m. m) result (needed key.To (word mac_of) (table_view table.now)) }
+    ensures { Gives (λ m. m) result (needed faults key.To (word faults mac_of) (table_view table.now)) }
 {
     mac(Key::To, needed(table, Key::To)?)
 }
 
 /// A number of 16 bits.
 fn pair(key: Key, value: &Value) -> Result<u16, What>
-    ensures { Gives (λ n. n) result (between 0 65535 key (view value.now)) }
+    ensures { Gives (λ n. n) result (between faults 0 65535 key (view value.now)) }
 {
     let number = between(0, 65535, key, value)?;
     Ok(number as u16)
@@ -121,14 +125,14 @@ fn pair(key: Key, value: &Value) -> Result<u16, What>
 
 /// The type of a send.
 fn kind(table: &Table) -> Result<u16, What>
-    ensures { Gives (λ n. n) result (needed key.Kind (between 0 65535) (table_view table.now)) }
+    ensures { Gives (λ n. n) result (needed faults key.Kind (between faults 0 65535) (table_view table.now)) }
 {
     pair(Key::Kind, needed(table, Key::Kind)?)
 }
 
 /// The payload of a send.
 fn payload(alloc: Global, table: &Table) -> Result<Octets, What>
-    ensures { Gives (λ o. o) result (optional key.Payload [] (word octets_of) (table_view table.now)) }
+    ensures { Gives (λ o. o) result (optional faults key.Payload [] (word faults octets_of) (table_view table.now)) }
 {
     match value(table, Key::Payload) {
         None => Ok(Octets::new(Vec::new(alloc))),
@@ -138,7 +142,7 @@ fn payload(alloc: Global, table: &Table) -> Result<Octets, What>
 
 /// The control information of a send's VLAN tag, if it has one.
 fn vlan(table: &Table) -> Result<Option<u16>, What>
-    ensures { Gives (λ v. v) result (optional key.Vlan None (perhaps (between 0 65535)) (table_view table.now)) }
+    ensures { Gives (λ v. v) result (optional faults key.Vlan None (perhaps (between faults 0 65535)) (table_view table.now)) }
 {
     match value(table, Key::Vlan) {
         None => Ok(None),
@@ -151,20 +155,15 @@ fn vlan(table: &Table) -> Result<Option<u16>, What>
 
 /// The place of a send's source among the addresses of its node.
 fn from(table: &Table) -> Result<u8, What>
-    ensures { Gives (λ n. n) result (optional key.From 0 (between 0 15) (table_view table.now)) }
+    ensures { Gives (λ n. n) result (optional faults key.From 0 (between faults 0 15) (table_view table.now)) }
 {
-    match value(table, Key::From) {
-        None => Ok(0),
-        Some(value) => {
-            let from = between(0, 15, Key::From, value)?;
-            Ok(from as u8)
-        }
-    }
+    let from = number_or(0, 0, 15, table, Key::From)?;
+    Ok(from as u8)
 }
 
 /// The address that a supervision frame is about, if it isn't the node itself.
 fn about(table: &Table) -> Result<Option<Mac>, What>
-    ensures { Gives (λ m. m) result (optional key.About None (perhaps (word mac_of)) (table_view table.now)) }
+    ensures { Gives (λ m. m) result (optional faults key.About None (perhaps (word faults mac_of)) (table_view table.now)) }
 {
     match value(table, Key::About) {
         None => Ok(None),
@@ -320,7 +319,7 @@ fn drain(table: &Table) -> Result<Order, What>
 
 /// What a step does.
 fn deed(table: &Table) -> Result<Deed, What>
-    ensures { Gives (λ d. d) result (needed key.Do (word deed_of) (table_view table.now)) }
+    ensures { Gives (λ d. d) result (needed faults key.Do (word faults deed_of) (table_view table.now)) }
 {
     match deed_of(text(Key::Do, needed(table, Key::Do)?)?) {
         Some(deed) => Ok(deed),

@@ -1,12 +1,9 @@
 //! The words that texts of a scenario spell.
 ghost use Rattle.std.specs.Prelude.{◌≡◌, ◌++◌, option_map};
-ghost use Rattle.std.specs.List.{list_all};
-ghost use Rattle.hsr_scenario.specs.Words.{deed_of, end_of, is_name, is_name_octet, is_port_letter};
+ghost use Rattle.hsr_scenario.specs.Words.{deed_of, end_of};
 
 use hsr_text::split_at;
-
-/// The most octets of a name.
-const NAME_LIMIT: usize = 32;
+use hsr_toml::{is_name, is_port_letter};
 
 /// What a step does.
 #[derive(Clone, Copy, Debug, PartialEq, Eq)]
@@ -42,34 +39,6 @@ pub(crate) fn deed_of(word: &str) -> Option<Deed>
         "drain" => Some(Deed::Drain),
         _ => None,
     }
-}
-
-/// Whether a name may have that octet.
-fn is_name_octet(b: u8) -> bool
-    ensures { result ≡ is_name_octet b }
-{
-    b.is_ascii_lowercase() || b.is_ascii_digit() || b == b'-'
-}
-
-/// Whether a name may have these octets.
-fn are_name_octets(text: &[u8]) -> bool
-    ensures { result ≡ list_all is_name_octet text.now }
-{
-    text.iter().all(|b| is_name_octet(*b))
-}
-
-/// Whether a text is a name: 1 to 32 small letters, digits and hyphens.
-pub(crate) fn is_name(text: &[u8]) -> bool
-    ensures { result ≡ is_name text.now }
-{
-    are_name_octets(text) && !text.is_empty() && text.len() <= NAME_LIMIT
-}
-
-/// Whether a port of some role has the letter.
-fn is_port_letter(letter: u8) -> bool
-    ensures { result ≡ is_port_letter letter }
-{
-    matches!(letter, b'A'..=b'D' | b'I' | b'P')
 }
 
 /// The name and the letter of an end.

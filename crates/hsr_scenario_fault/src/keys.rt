@@ -1,11 +1,11 @@
 //! Which keys the tables of a scenario have.
-use hsr_scenario::Spot;
+use hsr_scenario::{Key, Spot};
 use toml::Table;
 
 /// What a table may have: its keys, and the words that say it.
 #[derive(Clone, Copy)]
 pub(crate) struct Keys {
-    pub keys: &'static [&'static str],
+    pub keys: &'static [Key],
     pub words: &'static str,
 }
 
@@ -13,15 +13,15 @@ pub(crate) struct Keys {
 fn of_node(role: &str) -> Keys {
     match role {
         "quadbox" => Keys {
-            keys: &["name", "role"],
+            keys: &[Key::Name, Key::Role],
             words: "a QuadBox has name and role",
         },
         "station" => Keys {
-            keys: &["name", "role", "macs"],
+            keys: &[Key::Name, Key::Role, Key::Macs],
             words: "a Station has name, role and macs",
         },
         _ => Keys {
-            keys: &["name", "role", "mac", "mode"],
+            keys: &[Key::Name, Key::Role, Key::Mac, Key::Mode],
             words: "a DANH or RedBox has name, role, mac and mode",
         },
     }
@@ -31,23 +31,31 @@ fn of_node(role: &str) -> Keys {
 fn of_own_step(word: &str) -> Keys {
     match word {
         "send" => Keys {
-            keys: &["do", "node", "to", "type", "payload", "vlan", "from"],
+            keys: &[
+                Key::Do,
+                Key::Node,
+                Key::To,
+                Key::Kind,
+                Key::Payload,
+                Key::Vlan,
+                Key::From,
+            ],
             words: "a send has do, node, to, type, payload, vlan and from",
         },
         "life" => Keys {
-            keys: &["do", "node", "about"],
+            keys: &[Key::Do, Key::Node, Key::About],
             words: "a life has do, node and about",
         },
         "age" => Keys {
-            keys: &["do", "node"],
+            keys: &[Key::Do, Key::Node],
             words: "an age has do and node",
         },
         "clock" => Keys {
-            keys: &["do", "at"],
+            keys: &[Key::Do, Key::At],
             words: "a clock has do and at",
         },
         _ => Keys {
-            keys: &["do"],
+            keys: &[Key::Do],
             words: "a drain has do alone",
         },
     }
@@ -57,19 +65,19 @@ fn of_own_step(word: &str) -> Keys {
 fn of_step(word: &str) -> Keys {
     match word {
         "put" | "judge" => Keys {
-            keys: &["do", "port"],
+            keys: &[Key::Do, Key::Port],
             words: "a put or judge has do and port",
         },
         "take" => Keys {
-            keys: &["do", "link", "dir"],
+            keys: &[Key::Do, Key::Link, Key::Dir],
             words: "a take has do, link and dir",
         },
         "cut" | "mend" => Keys {
-            keys: &["do", "link"],
+            keys: &[Key::Do, Key::Link],
             words: "a cut or mend has do and link",
         },
         "inject" => Keys {
-            keys: &["do", "link", "dir", "octets"],
+            keys: &[Key::Do, Key::Link, Key::Dir, Key::Octets],
             words: "an inject has do, link, dir and octets",
         },
         _ => of_own_step(word),
@@ -88,31 +96,22 @@ pub(crate) fn text_at<'a>(table: &'a Table, key: &str) -> &'a str {
 pub(crate) fn keys_at(spot: Spot, table: &Table) -> Keys {
     match spot {
         Spot::Top => Keys {
-            keys: &["capacity", "unit", "node", "link", "step"],
+            keys: &[
+                Key::Capacity,
+                Key::TimeUnit,
+                Key::Node,
+                Key::Link,
+                Key::Step,
+            ],
             words: "a scenario has capacity, unit, node, link and step",
         },
         Spot::Node(_) => of_node(text_at(table, "role")),
         Spot::Link(_) => Keys {
-            keys: &["ends"],
+            keys: &[Key::Ends],
             words: "a link has ends",
         },
         Spot::Step(_) => of_step(text_at(table, "do")),
     }
-}
-
-/// Whether a word is one of these.
-fn is_one_of(word: &str, keys: &[&str]) -> bool {
-    keys.iter().any(|key| word == *key)
-}
-
-/// The first key of a table that isn't one of these, in the order of their octets.
-pub(crate) fn other_key<'a>(table: &'a Table, keys: &[&str]) -> Option<&'a str> {
-    for (word, _value) in table.iter() {
-        if !is_one_of(word.as_str(), keys) {
-            return Some(word.as_str());
-        }
-    }
-    None
 }
 
 /// The tables under a name, of which the one of that number.

@@ -1,13 +1,13 @@
 //! The line of a step that was refused.
 ghost use Rattle.std.specs.Prelude.{IfOk};
-ghost use Rattle.hsr_plan_fault.specs.Line.{IsLine};
+ghost use Rattle.hsr_toml.specs.Line.{IsLine};
 
 use crate::keys::{table_of, text_at};
 use crate::telling::{put_spots, start_of};
 use hsr_frame::NoMemory;
-use hsr_plan_fault::{Source, bare, fault_line, put, put_place};
 use hsr_scenario::Spot;
 use hsr_text::put_decimal;
+use hsr_toml::{Source, bare, fault_line, put, put_place};
 use std::alloc::Global;
 use toml::Table;
 

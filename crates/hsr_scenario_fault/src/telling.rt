@@ -1,16 +1,16 @@
 //! The line of a fault.
 ghost use Rattle.std.specs.Prelude.{IfOk};
-ghost use Rattle.hsr_plan_fault.specs.Line.{IsLine};
+ghost use Rattle.hsr_toml.specs.Line.{IsLine};
 
-use crate::keys::{keys_at, other_key, table_of};
+use crate::keys::{keys_at, table_of};
 use crate::wiring::spot_of;
 use crate::words::{values_of, words_of};
 use hsr_frame::NoMemory;
-use hsr_plan_fault::{
-    Source, bare, fault_line, key_in, put, put_no_toml, put_place, table_at, top_key,
-};
 use hsr_scenario::{Key, ScenarioFault, Spot, What};
 use hsr_text::put_decimal;
+use hsr_toml::{
+    Source, bare, fault_line, key_in, other_key, put, put_no_toml, put_place, table_at, top_key,
+};
 use std::alloc::Global;
 use toml::Table;
 

@@ -1,6 +1,6 @@
 use Rattle.std.proofs.Common.{◌≡◌, []}
 use Rattle.toml.specs.View.{members_view}
-use Rattle.hsr_plan_text.specs.Fallible.{each_member}
+use Rattle.hsr_toml.specs.Fallible.{each_member}
 use Rattle.hsr_plan_text.specs.Network.{ring}
 use Rattle.hsr_plan_text.proofs.network.rings_of.Given as goal
 

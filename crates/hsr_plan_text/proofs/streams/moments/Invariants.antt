@@ -1,6 +1,6 @@
 use Rattle.std.proofs.Common.{◌≡◌, [], drop}
 use Rattle.toml.specs.View.{items_view}
-use Rattle.hsr_plan_text.specs.Fallible.{each_item}
+use Rattle.hsr_toml.specs.Fallible.{each_item}
 use Rattle.hsr_plan_text.specs.Tables.{moment}
 use Rattle.hsr_plan_text.proofs.streams.moments.Given as goal
 

@@ -1,7 +1,7 @@
 use Rattle.std.proofs.Common.{◌∙◌, ◌++◌, ◌+◌, ap, sym, arith, drop, map, option_map}
 use Rattle.std.specs.Result.{result_ok}
 use Rattle.hsr_scenario.specs.Tables.{each_of}
-use Rattle.hsr_scenario.specs.Words.{mac_of}
+use Rattle.hsr_toml.specs.Names.{mac_of}
 use Rattle.hsr_scenario.proofs.Macs.{macs_step}
 use Rattle.hsr_scenario.proofs.nodes.each_mac.Goals as goal
 

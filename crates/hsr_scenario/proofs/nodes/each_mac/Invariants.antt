@@ -1,6 +1,6 @@
 use Rattle.std.proofs.Common.{◌≡◌, ◌++◌, length, drop, map, option_map}
 use Rattle.hsr_scenario.specs.Tables.{each_of}
-use Rattle.hsr_scenario.specs.Words.{mac_of}
+use Rattle.hsr_toml.specs.Names.{mac_of}
 use Rattle.hsr_scenario.proofs.nodes.each_mac.Given as goal
 
 abbrev pub invariant-loop-text : goal.invariant-loop-text

@@ -1,7 +1,0 @@
-use Rattle.std.proofs.Common.{◌≡◌, ◌++◌, drop}
-use Rattle.hsr_plan_fault.specs.Lexing.{bare}
-use Rattle.hsr_plan_fault.specs.declared.lexing.Lexing.TheVariants as lexing
-use Rattle.hsr_plan_fault.proofs.lexing.bare.Given as goal
-
-abbrev pub invariant-loop-b : goal.invariant-loop-b
-invariant-loop-b l = l.bare.items ++ bare l.lexing (drop l.b-index l.text) ≡ bare lexing.Plain l.text

@@ -1,6 +1,0 @@
-use Rattle.std.proofs.Common.{◌≡◌, ◌++◌, map, take}
-use Rattle.hsr_plan_fault.specs.Line.{shown}
-use Rattle.hsr_plan_fault.proofs.line.put_shown.Given as goal
-
-abbrev pub invariant-loop-b : goal.invariant-loop-b
-invariant-loop-b l = l.line.items ≡ l.initial.line.items ++ map shown (take l.b-index l.words)

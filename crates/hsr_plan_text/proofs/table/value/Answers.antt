@@ -1,8 +1,0 @@
-use Rattle.std.proofs.Common.{◌∙◌, ap}
-use Rattle.toml.specs.Data.{get_member}
-use Rattle.toml.specs.View.{table_view}
-use Rattle.toml.proofs.Views.{table_get}
-use Rattle.hsr_plan_text.proofs.table.value.Goals as goal
-
-pub returns : goal.returns
-returns c = table_get c.get.result _ c.args.table.now.entries c.get.ensures.value ∙ ap (λ k. get_member k (table_view c.args.table.now)) c.text.ensures

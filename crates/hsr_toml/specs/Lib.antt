@@ -1,0 +1,10 @@
+pub mod Faults
+pub mod Fallible
+pub mod Tables
+pub mod Documents
+pub mod Names
+pub mod Position
+pub mod Lexing
+pub mod Places
+pub mod Line
+pub mod Headers

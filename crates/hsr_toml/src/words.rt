@@ -1,0 +1,44 @@
+//! The words of a fault that name its place, and of a text that isn't TOML.
+use crate::document::TEXT_LIMIT;
+use crate::position::position_of;
+use hsr_frame::NoMemory;
+use hsr_text::put_decimal;
+use std::alloc::Global;
+
+/// Puts words last.
+pub fn put(line: &mut Vec<u8>, words: &str) -> Result<(), NoMemory> {
+    line.extend_from_slice(words.as_bytes())?;
+    Ok(())
+}
+
+/// Puts line and column of a place last, or those of the end of the text where it has no such place.
+pub fn put_place(line: &mut Vec<u8>, text: &[u8], at: usize) -> Result<(), NoMemory> {
+    let position = position_of(text, at.min(text.len()));
+    put_decimal(line, position.line as u64)?;
+    put(line, ":")?;
+    put_decimal(line, position.column as u64)?;
+    put(line, " ")
+}
+
+/// Puts where a text of at most 16 MiB isn't TOML last, and why; of a text that is, its start.
+fn put_broken(alloc: Global, line: &mut Vec<u8>, text: &str) -> Result<(), NoMemory> {
+    match toml::table_from_str(alloc, text) {
+        Ok(_) => put_place(line, text.as_bytes(), 0),
+        Err(error) => match error.span() {
+            Some(span) => {
+                put_place(line, text.as_bytes(), span.start)?;
+                put(line, "no TOML: ")?;
+                put(line, error.message())
+            }
+            None => Err(NoMemory),
+        },
+    }
+}
+
+/// Puts where a text isn't TOML last, and why.
+pub fn put_no_toml(alloc: Global, line: &mut Vec<u8>, text: &str) -> Result<(), NoMemory> {
+    if text.len() > TEXT_LIMIT {
+        return put(line, "1:1 over 16 MiB of text");
+    }
+    put_broken(alloc, line, text)
+}
