@@ -36,7 +36,8 @@ fn put_next_mac(alloc: Global, text: &mut Vec<u8>, mac: Mac) -> Result<(), NoMem
     ensures { OnOk result (text.new.items ≡ text.old.items ++ (codes "  " ++ mac_text mac)) }
 {
     put(text, b"  ")?;
-    put_mac(alloc, text, mac)
+    put_mac(alloc, text, mac)?;
+    Ok(())
 }
 
 /// Puts addresses last, each behind two spaces.

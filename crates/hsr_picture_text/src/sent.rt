@@ -52,7 +52,8 @@ fn put_address(
 {
     if dst.is_group() || due.is_empty() {
         put(text, " to ")?;
-        put_mac(alloc, text, dst)
+        put_mac(alloc, text, dst)?;
+        Ok(())
     } else {
         put_nodes(text, names, " to ", due)
     }
