@@ -1,7 +1,6 @@
 -- One step of a station: the answer to an event, and what the station holds after it.
 use Rattle.std.specs.Prelude.{ℕ, ◌+◌, ◌^◌, ◌==◌, ◌||◌, max, Bool, true, false, List, [], ◌∷◌, length, slice_get, Option, Some, None, Result, Ok, Err, if◌then◌else◌}
-use Rattle.std.specs.List.{list_any}
-use Rattle.hsr_frame.specs.Address.{is_group, is_same_address}
+use Rattle.hsr_frame.specs.Address.{is_among, is_group}
 use Rattle.hsr_frame.specs.Cases.{first_of}
 use Rattle.hsr_frame.specs.Counters.{counted, no_counts}
 use Rattle.hsr_frame.specs.Grammar.{Fields}

@@ -1,7 +1,6 @@
 //! A node that sends plain frames and keeps no table.
 ghost use Rattle.std.specs.Prelude.{◌≡◌, ◌≤◌, ◌^◌, IfSome};
-ghost use Rattle.std.specs.List.{list_any};
-ghost use Rattle.hsr_frame.specs.Address.{is_among, is_same_address};
+ghost use Rattle.hsr_frame.specs.Address.{is_among};
 ghost use Rattle.hsr_node.specs.Station.{judged_plain, judged_seen};
 
 use crate::event::{Event, Outcome, StepFault};

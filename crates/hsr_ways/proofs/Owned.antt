@@ -9,7 +9,7 @@ use Rattle.hsr_node.specs.Place.{owns}
 use Rattle.hsr_law.proofs.Same.{address_same, same_address}
 use Rattle.hsr_law.specs.Run.{Run, place_of}
 use Rattle.hsr_network_law.specs.Network.{HasAddress}
-use Rattle.hsr_frame.specs.Address.{is_among, is_same_address}
+use Rattle.hsr_frame.specs.Address.{is_same_address}
 use Rattle.hsr_ways.specs.Addressed.{OwnBelow, shares, shares_any}
 use Rattle.hsr_ways.specs.Networks.{HaveOwnAddresses}
 
