@@ -16,10 +16,17 @@ use std::alloc::Global;
 /// The keys of an event that name nodes.
 const EVENT_KEYS: [Key; 4] = [Key::Cut, Key::Mend, Key::Off, Key::On];
 
-/// The keys of a plan that name its nodes in lists.
-const NODE_KEYS: [&[u8]; 3] = [b"ring", b"rings", b"redbox"];
-
 // ---- where it is
+
+/// Where a name stands the second time in a list of nodes, or else where it stands last there.
+fn node_again(source: Source<'_>, name: &[u8]) -> Option<usize> {
+    let keys = [
+        Key::Ring.text().as_bytes(),
+        Key::Rings.text().as_bytes(),
+        Key::RedBox.text().as_bytes(),
+    ];
+    name_again(source, &keys, name)
+}
 
 /// Where the table of a fault begins.
 fn start_of(source: Source<'_>, spot: Spot) -> usize {
@@ -79,7 +86,7 @@ fn rings_at(source: Source<'_>) -> Option<usize> {
 /// Where what is refused stands.
 fn refused_at(source: Source<'_>, spot: Spot, start: usize, refusal: &Refusal) -> Option<usize> {
     match refusal {
-        Refusal::NameTwice(word) => name_again(source, &NODE_KEYS, word.as_bytes()),
+        Refusal::NameTwice(word) => node_again(source, word.as_bytes()),
         Refusal::NoSuchName(word) | Refusal::NoAddress(word) | Refusal::OfStation(word) =>
             unknown_name(source, spot, start, word.as_bytes()),
         Refusal::AddressTaken(word) => member_at(source, b"address", word.as_bytes()),
