@@ -71,9 +71,12 @@ anchor_word anchor.Start = codes "start"
 anchor_word anchor.Middle = codes "middle"
 anchor_word anchor.End = codes "end"
 
+unfoldable pub place_text : ℕ → ℕ → List ℕ
+place_text x y = decimal x ++ codes " " ++ decimal y
+
 -- a text that runs upwards is turned about its place
 unfoldable pub rotation_text : ℕ → ℕ → List ℕ
-rotation_text x y = codes " " ++ attribute_name Transform ++ codes "=\"rotate(-90 " ++ decimal x ++ codes " " ++ decimal y ++ codes ")\""
+rotation_text x y = codes " " ++ attribute_name Transform ++ codes "=\"rotate(-90 " ++ place_text x y ++ codes ")\""
 
 abbrev pub turn_text : Reading → ℕ → ℕ → List ℕ
 turn_text Across x y = []
