@@ -82,11 +82,16 @@ abbrev pub turn_text : Reading → ℕ → ℕ → List ℕ
 turn_text Across x y = []
 turn_text Upwards x y = rotation_text x y
 
--- where it stands, how it is set, and its words
+-- how it is set
+unfoldable pub setting_text : Label → Anchor → List ℕ
+setting_text tells anchor =
+    attribute_text Size (label_size tells) ++ attribute_text Fill (label_colour tells) ++ attribute_text At (anchor_word anchor)
+    ++ attribute_text Weight (label_weight tells)
+
+-- where it stands, how it is set, which way it runs, and its words
 unfoldable pub words_text : Label → List ℕ → Spot → List ℕ
 words_text tells words spot =
-    codes "<text" ++ attribute_text X (decimal spot.x) ++ attribute_text Y (decimal spot.y) ++ attribute_text Size (label_size tells)
-    ++ attribute_text Fill (label_colour tells) ++ attribute_text At (anchor_word spot.anchor) ++ attribute_text Weight (label_weight tells)
+    codes "<text" ++ attribute_text X (decimal spot.x) ++ attribute_text Y (decimal spot.y) ++ setting_text tells spot.anchor
     ++ turn_text spot.reading spot.x spot.y ++ codes ">" ++ escaped words ++ codes "</text>\n"
 
 -- ---- lines
