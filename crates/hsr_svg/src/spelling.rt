@@ -2,7 +2,7 @@
 ghost use Rattle.std.specs.Prelude.{◌≡◌, ◌++◌, OnOk};
 ghost use Rattle.std.specs.Fmt.{decimal};
 ghost use Rattle.std.specs.List.{flat_map};
-ghost use Rattle.hsr_svg.specs.Spelling.{anchor_word, arrow_text, element_text, ground_text, head_text, label_colour, label_size, label_weight, labels_text, line_colour, line_dashes, line_text, line_width, marker_text, outline_text, place_text, point_box, point_text, points_text, rotation_text, sample_text, setting_text, square_text, stroke_text, svg_text, title_text, turn_text, view_text, way_text, words_text};
+ghost use Rattle.hsr_svg.specs.Spelling.{anchor_word, arrow_text, element_text, ground_text, head_text, label_colour, label_size, label_weight, labels_text, line_colour, line_dashes, line_text, line_width, marker_text, outline_text, place_text, point_box, point_text, points_text, quarter_text, rotation_text, sample_text, setting_text, square_text, stroke_text, svg_text, title_text, turn_text, view_text, way_text, words_text};
 ghost use Rattle.hsr_svg.specs.Style.{looks};
 
 use crate::elements::{Anchor, Element, Label, Line, Reading, Spot, Way};
@@ -88,6 +88,14 @@ fn put_place(text: &mut Vec<u8>, x: u64, y: u64) -> Result<(), NoMemory>
     put_number(text, y)
 }
 
+/// Puts a quarter turn against the clock last.
+#[tactic(auto, unfolding(crate::specs::Spelling::quarter_text))]
+fn put_quarter(text: &mut Vec<u8>) -> Result<(), NoMemory>
+    ensures { OnOk result (text.new.items ≡ text.old.items ++ quarter_text) }
+{
+    put(text, "=\"rotate(-90 ")
+}
+
 /// Puts by how much a text at a place is turned last, so that it runs upwards from there.
 #[tactic(auto, unfolding(crate::specs::Spelling::rotation_text))]
 fn put_rotation(text: &mut Vec<u8>, x: u64, y: u64) -> Result<(), NoMemory>
@@ -95,7 +103,7 @@ fn put_rotation(text: &mut Vec<u8>, x: u64, y: u64) -> Result<(), NoMemory>
 {
     put(text, " ")?;
     put(text, name_of(Attribute::Transform))?;
-    put(text, "=\"rotate(-90 ")?;
+    put_quarter(text)?;
     put_place(text, x, y)?;
     put(text, ")\"")
 }
