@@ -71,19 +71,31 @@ anchor_word anchor.Start = codes "start"
 anchor_word anchor.Middle = codes "middle"
 anchor_word anchor.End = codes "end"
 
+unfoldable pub place_text : ℕ → ℕ → List ℕ
+place_text x y = decimal x ++ codes " " ++ decimal y
+
+-- a quarter turn against the clock
+unfoldable pub quarter_text : List ℕ
+quarter_text = codes "=\"rotate(-90 "
+
 -- a text that runs upwards is turned about its place
 unfoldable pub rotation_text : ℕ → ℕ → List ℕ
-rotation_text x y = codes " " ++ attribute_name Transform ++ codes "=\"rotate(-90 " ++ decimal x ++ codes " " ++ decimal y ++ codes ")\""
+rotation_text x y = codes " " ++ attribute_name Transform ++ quarter_text ++ place_text x y ++ codes ")\""
 
 abbrev pub turn_text : Reading → ℕ → ℕ → List ℕ
 turn_text Across x y = []
 turn_text Upwards x y = rotation_text x y
 
--- where it stands, how it is set, and its words
+-- how it is set
+unfoldable pub setting_text : Label → Anchor → List ℕ
+setting_text tells anchor =
+    attribute_text Size (label_size tells) ++ attribute_text Fill (label_colour tells) ++ attribute_text At (anchor_word anchor)
+    ++ attribute_text Weight (label_weight tells)
+
+-- where it stands, how it is set, which way it runs, and its words
 unfoldable pub words_text : Label → List ℕ → Spot → List ℕ
 words_text tells words spot =
-    codes "<text" ++ attribute_text X (decimal spot.x) ++ attribute_text Y (decimal spot.y) ++ attribute_text Size (label_size tells)
-    ++ attribute_text Fill (label_colour tells) ++ attribute_text At (anchor_word spot.anchor) ++ attribute_text Weight (label_weight tells)
+    codes "<text" ++ attribute_text X (decimal spot.x) ++ attribute_text Y (decimal spot.y) ++ setting_text tells spot.anchor
     ++ turn_text spot.reading spot.x spot.y ++ codes ">" ++ escaped words ++ codes "</text>\n"
 
 -- ---- lines

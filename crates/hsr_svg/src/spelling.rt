@@ -2,7 +2,7 @@
 ghost use Rattle.std.specs.Prelude.{◌≡◌, ◌++◌, OnOk};
 ghost use Rattle.std.specs.Fmt.{decimal};
 ghost use Rattle.std.specs.List.{flat_map};
-ghost use Rattle.hsr_svg.specs.Spelling.{anchor_word, arrow_text, element_text, ground_text, head_text, label_colour, label_size, label_weight, labels_text, line_colour, line_dashes, line_text, line_width, marker_text, outline_text, point_box, point_text, points_text, rotation_text, sample_text, square_text, stroke_text, svg_text, title_text, turn_text, view_text, way_text, words_text};
+ghost use Rattle.hsr_svg.specs.Spelling.{anchor_word, arrow_text, element_text, ground_text, head_text, label_colour, label_size, label_weight, labels_text, line_colour, line_dashes, line_text, line_width, marker_text, outline_text, place_text, point_box, point_text, points_text, quarter_text, rotation_text, sample_text, setting_text, square_text, stroke_text, svg_text, title_text, turn_text, view_text, way_text, words_text};
 ghost use Rattle.hsr_svg.specs.Style.{looks};
 
 use crate::elements::{Anchor, Element, Label, Line, Reading, Spot, Way};
@@ -67,6 +67,35 @@ fn anchor_word(anchor: Anchor) -> &'static str
     }
 }
 
+/// Puts how a text is set last.
+#[tactic(auto, unfolding(crate::specs::Spelling::setting_text))]
+fn put_setting(text: &mut Vec<u8>, label: Label, anchor: Anchor) -> Result<(), NoMemory>
+    ensures { OnOk result (text.new.items ≡ text.old.items ++ setting_text label anchor) }
+{
+    put_attribute(text, Attribute::Size, size_of(label))?;
+    put_attribute(text, Attribute::Fill, ink_of(label))?;
+    put_attribute(text, Attribute::Anchor, anchor_word(anchor))?;
+    put_attribute(text, Attribute::Weight, weight_of(label))
+}
+
+/// Puts a place last.
+#[tactic(auto, unfolding(crate::specs::Spelling::place_text))]
+fn put_place(text: &mut Vec<u8>, x: u64, y: u64) -> Result<(), NoMemory>
+    ensures { OnOk result (text.new.items ≡ text.old.items ++ place_text x y) }
+{
+    put_number(text, x)?;
+    put(text, " ")?;
+    put_number(text, y)
+}
+
+/// Puts a quarter turn against the clock last.
+#[tactic(auto, unfolding(crate::specs::Spelling::quarter_text))]
+fn put_quarter(text: &mut Vec<u8>) -> Result<(), NoMemory>
+    ensures { OnOk result (text.new.items ≡ text.old.items ++ quarter_text) }
+{
+    put(text, "=\"rotate(-90 ")
+}
+
 /// Puts by how much a text at a place is turned last, so that it runs upwards from there.
 #[tactic(auto, unfolding(crate::specs::Spelling::rotation_text))]
 fn put_rotation(text: &mut Vec<u8>, x: u64, y: u64) -> Result<(), NoMemory>
@@ -74,10 +103,8 @@ fn put_rotation(text: &mut Vec<u8>, x: u64, y: u64) -> Result<(), NoMemory>
 {
     put(text, " ")?;
     put(text, name_of(Attribute::Transform))?;
-    put(text, "=\"rotate(-90 ")?;
-    put_number(text, x)?;
-    put(text, " ")?;
-    put_number(text, y)?;
+    put_quarter(text)?;
+    put_place(text, x, y)?;
     put(text, ")\"")
 }
 
@@ -99,10 +126,7 @@ fn put_words(text: &mut Vec<u8>, label: Label, words: &[u8], spot: Spot) -> Resu
     put(text, "<text")?;
     put_length(text, Attribute::X, spot.x)?;
     put_length(text, Attribute::Y, spot.y)?;
-    put_attribute(text, Attribute::Size, size_of(label))?;
-    put_attribute(text, Attribute::Fill, ink_of(label))?;
-    put_attribute(text, Attribute::Anchor, anchor_word(spot.anchor))?;
-    put_attribute(text, Attribute::Weight, weight_of(label))?;
+    put_setting(text, label, spot.anchor)?;
     put_turn(text, spot.reading, spot.x, spot.y)?;
     put(text, ">")?;
     put_shown(text, words)?;
