@@ -3,3 +3,4 @@ mod Summing
 mod Hearing
 mod Needing
 mod Telling
+mod Octets

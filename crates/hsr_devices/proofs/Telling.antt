@@ -10,7 +10,7 @@ use Rattle.hsr_supervision.specs.Payload.{Fields, read_of}
 use Rattle.hsr_supervision.specs.declared.payload.SupFault.{SupFault}
 use Rattle.hsr_tag.specs.Seen.{classified, is_told, payload_in}
 use Rattle.hsr_tag.specs.declared.seen.Seen.{Seen}
-use Rattle.hsr_tables.specs.Nodes.{Hearing, hearing_if}
+use Rattle.hsr_tables.specs.Nodes.{hearing_if}
 use Rattle.hsr_node.specs.Copies.{ring_address}
 use Rattle.hsr_node.specs.Record.{hearing_by, hearings, hearings_from, hears_on, now}
 use Rattle.hsr_node.specs.declared.entry.Entry.{Entry}
@@ -18,7 +18,7 @@ use Rattle.hsr_node.specs.declared.event.Event.{Event}
 use Rattle.hsr_node.specs.declared.event.Event.TheVariants.{Send, Supervise, Arrive, Age}
 use Rattle.hsr_node.specs.declared.place.Place.{Place}
 use Rattle.hsr_node.specs.declared.place.Place.TheVariants.{Danh, RedBox, QuadBox, Station}
-use Rattle.hsr_devices.specs.Known.{hears_with, with_own}
+use Rattle.hsr_devices.specs.Known.{with_own}
 use Rattle.hsr_devices.specs.Told.{about_of, is_mac, told_by, told_in, told_with}
 use Rattle.hsr_devices.specs.Unheard.{is_told_of, tells}
 

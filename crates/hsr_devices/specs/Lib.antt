@@ -1,5 +1,6 @@
 pub mod Counted
 pub mod Port
+pub mod Uncounted
 pub mod Known
 pub mod Told
 pub mod Unheard

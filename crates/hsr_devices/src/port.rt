@@ -1,9 +1,10 @@
 //! Where a port leads, and what came, left and was lost there.
-ghost use Rattle.std.specs.Prelude.{◌≡◌, ◌<◌, ◌+◌, count_by, length, option_map, IfOk};
+ghost use Rattle.std.specs.Prelude.{◌≡◌, ◌<◌, ◌≤◌, ◌+◌, ◌^◌, count_by, length, option_map, IfOk, IsSomeAnd, OnErr};
 ghost use Rattle.std.specs.List.{sum_by};
 ghost use Rattle.hsr_link.specs.Rows.{goes};
 ghost use Rattle.hsr_topology.specs.Links.{link_from};
 ghost use Rattle.hsr_devices.specs.Port.{in_dir, is_loss, octets_put, octets_taken, out_dir, port_link, port_link_at};
+ghost use Rattle.hsr_devices.specs.Uncounted.{IsUncounted};
 
 use hsr_closing::Closed;
 use hsr_frame::NoMemory;
@@ -77,7 +78,8 @@ fn octets_put(dir: Dir, row: &Row) -> u64
 
 /// A sum with one more term. More octets than a number counts don't fit into memory.
 fn more(sum: u64, octets: u64) -> Result<u64, NoMemory>
-    ensures { IfOk result (λ n. n ≡ sum + octets) }
+    ensures ok { IfOk result (λ n. n ≡ sum + octets) }
+    ensures err { OnErr result (2 ^ 64 ≤ sum + octets) }
 {
     match sum.checked_add(octets) {
         Some(n) => Ok(n),
@@ -86,8 +88,10 @@ fn more(sum: u64, octets: u64) -> Result<u64, NoMemory>
 }
 
 /// The octets of the copies of a direction that were taken.
+#[tactic(auto, using(crate::proofs::Octets::front_sum))]
 fn octets_in(rows: &[Row], dir: Dir) -> Result<u64, NoMemory>
-    ensures { IfOk result (λ n. n ≡ sum_by (octets_taken dir) rows.now) }
+    ensures ok { IfOk result (λ n. n ≡ sum_by (octets_taken dir) rows.now) }
+    ensures err { OnErr result (2 ^ 64 ≤ sum_by (octets_taken dir) rows.now) }
 {
     let mut sum = 0;
     for row in rows {
@@ -97,8 +101,10 @@ fn octets_in(rows: &[Row], dir: Dir) -> Result<u64, NoMemory>
 }
 
 /// The octets of the copies of a direction.
+#[tactic(auto, using(crate::proofs::Octets::front_sum))]
 fn octets_out(rows: &[Row], dir: Dir) -> Result<u64, NoMemory>
-    ensures { IfOk result (λ n. n ≡ sum_by (octets_put dir) rows.now) }
+    ensures ok { IfOk result (λ n. n ≡ sum_by (octets_put dir) rows.now) }
+    ensures err { OnErr result (2 ^ 64 ≤ sum_by (octets_put dir) rows.now) }
 {
     let mut sum = 0;
     for row in rows {
@@ -121,7 +127,8 @@ fn port_link_at<const C: usize>(
     is_first: bool,
 ) -> Result<PortLink, NoMemory>
     requires { link < length closed.now.run.links }
-    ensures { IfOk result (λ at. at ≡ port_link_at closed.now.run (link, is_first)) }
+    ensures ok { IfOk result (λ at. at ≡ port_link_at closed.now.run (link, is_first)) }
+    ensures err { OnErr result (IsUncounted (port_link_at closed.now.run (link, is_first))) }
 {
     let rows = closed.rows(link);
     Ok(PortLink {
@@ -134,9 +141,10 @@ fn port_link_at<const C: usize>(
     })
 }
 
-/// The link of a port, if it has one. `NoMemory` where its octets are more than 64 bits count, which fit into no memory.
+/// The link of a port, if it has one. `NoMemory` where its octets are more than 64 bits count, which fit into no memory, and only there.
 pub fn port_link<const C: usize>(closed: &Closed<C>, end: End) -> Result<Option<PortLink>, NoMemory>
-    ensures { IfOk result (λ link. link ≡ port_link closed.now.run end) }
+    ensures ok { IfOk result (λ link. link ≡ port_link closed.now.run end) }
+    ensures err { OnErr result (IsSomeAnd (port_link closed.now.run end) IsUncounted) }
 {
     match closed.topology().link_at(end) {
         Some((link, is_first)) => Ok(Some(port_link_at(closed, link, is_first)?)),

@@ -14,4 +14,4 @@ loop-port-preserved g c =
     let f : ℕ → Option PortLink = λ p. port_link run (record { node = c.args.node; port = p }) in
     c.in_ok-push.ensures.items
     ∙ (ap (λ (ls : List (Option PortLink)). ls ++ c.in_ok-link.link ∷ []) c.loop-port.invariant
-    ∙ (ap (λ (o : Option PortLink). links_at run c.args.node port ++ o ∷ []) c.in_ok-link.ensures ∙ sym (map-range_with_len_more f 0 port port (omega arith))))
+    ∙ (ap (λ (o : Option PortLink). links_at run c.args.node port ++ o ∷ []) c.in_ok-link.ensures.ok ∙ sym (map-range_with_len_more f 0 port port (omega arith))))
