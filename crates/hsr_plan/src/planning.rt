@@ -112,8 +112,8 @@ fn answer<R: Read, W: Write, E: Write>(
 }
 
 /// Does what the words after the program's name choose, over a text that is read, standard output and standard error, and gives the
-/// status of the process: 0 where the scenario or the lines of a sweep were written, or a scenario is right; 1 after a fault, whose line
-/// is then on standard error, and nothing was written; 3 where the words are refused, by a text on standard error. The error of
+/// status of the process: 0 where the scenario or the lines of a sweep were written, or a scenario is right; 1 after a fault, whose lines
+/// are then on standard error, and nothing was written; 3 where the words are refused, by a text on standard error. The error of
 /// `errors`, where a line can't be written there.
 pub fn plan<'a, R: Read, W: Write, E: Write>(
     alloc: Global,

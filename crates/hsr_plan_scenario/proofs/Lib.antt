@@ -1,5 +1,6 @@
 mod Growing
 mod Names
+mod Played
+mod Rising
 pub mod Troubles
 pub mod Whole
-mod Rising

@@ -43,6 +43,7 @@ fn line_of_order(alloc: Global, text: &str, place: usize, fault: &DrainFault) ->
 }
 
 /// Plays a scenario to its end, in tables of 512 entries.
+#[tactic(auto, using(crate::proofs::Played::unplayed_so))]
 fn played(alloc: Global, text: &str, scenario: Scenario) -> Result<(), Wrong>
     requires { meaning text.now ≡ Ok (scenario_view scenario) }
     ensures right { OnOk result (IsPlayed (scenario_view scenario)) }
@@ -68,6 +69,7 @@ fn played(alloc: Global, text: &str, scenario: Scenario) -> Result<(), Wrong>
 }
 
 /// Judges octets: nothing where they are a scenario that can be played to its end, or what is wrong.
+#[tactic(auto, using(crate::proofs::Played::played_so, crate::proofs::Played::unread_so, crate::proofs::Played::wrong_so))]
 fn judged(alloc: Global, octets: &[u8]) -> Result<(), Wrong>
     ensures right { OnOk result (IsScenario octets.now) }
     ensures wrong { IfErr result (IsWrong octets.now) }
