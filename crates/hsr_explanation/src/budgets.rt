@@ -4,8 +4,8 @@ use crate::naming::{put_entry, put_number};
 use hsr_audit::{BudgetFault, budget, most_sends};
 use hsr_closing::Closed;
 use hsr_frame::NoMemory;
-use hsr_toml::put;
 use hsr_text::put_decimal;
+use hsr_toml::put;
 use std::alloc::Global;
 
 /// What it means that a copy came late.

@@ -3,9 +3,9 @@ use crate::naming::{put_link, put_number};
 use hsr_frame::NoMemory;
 use hsr_link::Row;
 use hsr_names::put_name;
-use hsr_toml::put;
 use hsr_ring::World;
 use hsr_scenario::Names;
+use hsr_toml::put;
 use std::alloc::Global;
 
 /// The copies that were put on a link; none where there is no such link.

@@ -7,8 +7,8 @@ use hsr_closing::Closed;
 use hsr_frame::{Mac, Mode, NoMemory};
 use hsr_network_audit::Doubt as NetworkDoubt;
 use hsr_node::Place;
-use hsr_toml::put;
 use hsr_report::Finding;
+use hsr_toml::put;
 use std::alloc::Global;
 
 // ---- nodes

@@ -17,9 +17,9 @@ mod table;
 mod words;
 
 pub use fault::{Key, ScenarioFault, Spot, What};
+pub use hsr_toml::TEXT_LIMIT;
 pub use law::{fault_is_first, means_its_tables};
 pub use naming::{Names, read_names};
-pub use hsr_toml::TEXT_LIMIT;
 pub use reading::read;
 pub use scenario::Scenario;
 pub use steps::Order;
