@@ -1,5 +1,8 @@
 //! Whether a text is a scenario that can be played to its end, over a reader and a writer.
-ghost use Rattle.std.specs.Prelude.{◌≡◌, ◌≢◌, IfErr, IfOk, IfSome, IsOk, Ok, OnOk, true};
+ghost use Rattle.std.specs.Prelude.{◌≡◌, ◌≢◌, ◌++◌, IfErr, IfOk, IfSome, IsOk, Ok, OnOk, codes, true};
+ghost use Rattle.std.specs.Fmt.{decimal};
+ghost use Rattle.std.specs.Io.KnownBytes.{Appends};
+ghost use Rattle.hsr_closing.specs.Disagree.{disagree_code};
 ghost use Rattle.hsr_step.specs.declared.step.DrainFault.TheVariants.{World as InWorld};
 ghost use Rattle.hsr_step.specs.declared.step.WorldFault.TheVariants.{NoMemory as NoRoom};
 ghost use Rattle.hsr_scenario.specs.Meaning.{meaning, scenario_view};
@@ -16,7 +19,7 @@ use hsr_playing::{Unfinished, finished};
 use hsr_scenario::{Scenario, TEXT_LIMIT, What, read};
 use hsr_scenario_fault::{told, told_step, words_of_check, words_of_step};
 use hsr_step::{DrainFault, WorldFault};
-use hsr_text::{InputFault, read_text};
+use hsr_text::{InputFault, put_decimal, read_text};
 use std::alloc::Global;
 use std::io::{self, Read, Write};
 
@@ -89,17 +92,41 @@ fn judged(alloc: Global, octets: &[u8]) -> Result<(), Wrong>
     }
 }
 
+/// The number of a cause, in decimal digits.
+fn digits_of(alloc: Global, cause: Disagree) -> Line
+    ensures { IfOk result (λ digits. digits.items ≡ decimal (disagree_code cause)) }
+{
+    let mut digits = Vec::new(alloc);
+    put_decimal(&mut digits, u64::from(cause.code()))?;
+    Ok(digits)
+}
+
+/// Writes the lines of a run that can't be closed, with the number of the cause, in decimal digits, and what it means.
+fn tell_open<E: Write>(errors: &mut E, number: &[u8], why: &[u8]) -> io::Result<()>
+    ensures { OnOk result (Appends (E.contents errors.old) (E.contents errors.new)
+        (codes "fault: check " ++ number.now ++ codes "\nexplain: " ++ why.now ++ codes "\n")) }
+{
+    errors.write_all(b"fault: check ")?;
+    errors.write_all(number)?;
+    errors.write_all(b"\nexplain: ")?;
+    errors.write_all(why)?;
+    errors.write_all(b"\n")?;
+    errors.flush()
+}
+
 /// Writes the lines of a run that can't be closed, after which nothing is written.
-fn explain<E: Write>(errors: &mut E, cause: Disagree, why: &[u8]) -> io::Result<Ending>
-    requires { is_title why.now ≡ true }
+fn explain<E: Write>(
+    errors: &mut E,
+    cause: Disagree,
+    number: &[u8],
+    why: &[u8],
+) -> io::Result<Ending>
+    requires digits { number.now ≡ decimal (disagree_code cause) }
+    requires title { is_title why.now ≡ true }
     ensures is { IfOk result (λ ending. ending ≡ Refused) }
     ensures told { OnOk result (TellsOpen cause (E.contents errors.old) (E.contents errors.new)) }
 {
-    let code = cause.code();
-    write!(errors, "fault: check {code}\nexplain: ")?;
-    errors.write_all(why)?;
-    errors.write_all(b"\n")?;
-    errors.flush()?;
+    tell_open(errors, number, why)?;
     Ok(Ending::Refused)
 }
 
@@ -107,8 +134,11 @@ fn explain<E: Write>(errors: &mut E, cause: Disagree, why: &[u8]) -> io::Result<
 fn complain_open<E: Write>(alloc: Global, errors: &mut E, cause: Disagree) -> io::Result<Ending>
     ensures { IfOk result (TellsWhyOpen cause (E.contents errors.old) (E.contents errors.new)) }
 {
+    let Ok(number) = digits_of(alloc, cause) else {
+        return fail(errors, InputFault::Memory);
+    };
     match reason(alloc, words(alloc, words_of_check(cause))) {
-        Ok(why) => explain(errors, cause, why.as_slice()),
+        Ok(why) => explain(errors, cause, number.as_slice(), why.as_slice()),
         Err(_) => fail(errors, InputFault::Memory),
     }
 }
