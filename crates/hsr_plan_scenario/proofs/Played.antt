@@ -22,7 +22,7 @@ unread_so text fault what known is = inr (subst IsUnplayedIf (sym (scenario_faul
 -- what holds of a text holds of the octets that it is
 pub played_so : {E : Type 0} (r : Result (Unit {0}) E) (text octets : List ℕ) (m : Meant) → text ≡ octets → IsUtf8 octets → meaning text ≡ Ok m → OnOk r (IsPlayed m)
     → OnOk r (IsScenario octets)
-played_so (Ok done) text octets m same is means played = (is, (m, (ap meaning (sym same) ∙ means, played)))
+played_so (Ok done) text octets m same is means played = (is, (m, ap meaning (sym same) ∙ means, played))
 played_so (Err e) text octets m same is means played = tt
 
 pub wrong_so : (r : Result (Unit {0}) Wrong) (text octets : List ℕ) → text ≡ octets → IfErr r (IsWrong text) → IfErr r (IsWrong octets)

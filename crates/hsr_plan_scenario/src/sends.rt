@@ -39,7 +39,7 @@ fn push_if(sends: &mut Vec<u64>, is_send: bool, moment: u64) -> Result<(), NoMem
 }
 
 /// The moments of the sends of orders, in microseconds, as they rise from 0 on.
-#[tactic(auto, using(crate::proofs::Rising::moments_step, crate::proofs::Rising::moments_rise))]
+#[tactic(auto, using(crate::proofs::Rising::moments_step))]
 pub(crate) fn send_moments(alloc: Global, orders: &[Order]) -> Result<Vec<u64>, NoMemory>
     ensures moments { IfOk result (λ moments. moments.items ≡ send_moments 0 orders.now) }
     ensures rise { IfOk result (λ moments. IsNonDecreasing moments.items) }
