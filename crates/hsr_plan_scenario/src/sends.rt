@@ -38,11 +38,10 @@ fn push_if(sends: &mut Vec<u64>, is_send: bool, moment: u64) -> Result<(), NoMem
     Ok(())
 }
 
-/// The moments of the sends of orders, in microseconds, as they rise from 0 on.
+/// The moments of the sends of orders, in microseconds.
 #[tactic(auto, using(crate::proofs::Rising::moments_step))]
-pub(crate) fn send_moments(alloc: Global, orders: &[Order]) -> Result<Vec<u64>, NoMemory>
-    ensures moments { IfOk result (λ moments. moments.items ≡ send_moments 0 orders.now) }
-    ensures rise { IfOk result (λ moments. IsNonDecreasing moments.items) }
+fn moments_of(alloc: Global, orders: &[Order]) -> Result<Vec<u64>, NoMemory>
+    ensures { IfOk result (λ moments. moments.items ≡ send_moments 0 orders.now) }
 {
     let mut moments = Vec::new(alloc);
     let mut now = 0_u64;
@@ -53,4 +52,15 @@ pub(crate) fn send_moments(alloc: Global, orders: &[Order]) -> Result<Vec<u64>, 
         left = rest;
     }
     Ok(moments)
+}
+
+/// The moments of the sends of orders, in microseconds, as they rise from 0 on.
+pub(crate) fn send_moments(alloc: Global, orders: &[Order]) -> Result<Vec<u64>, NoMemory>
+    ensures moments { IfOk result (λ moments. moments.items ≡ send_moments 0 orders.now) }
+    ensures rise { IfOk result (λ moments. IsNonDecreasing moments.items) }
+{
+    match moments_of(alloc, orders) {
+        Ok(moments) => Ok(moments),
+        Err(fault) => Err(fault),
+    }
 }
