@@ -3,3 +3,4 @@ mod Heads
 pub mod Sending
 mod Unshown
 mod Texts
+mod Misnaming

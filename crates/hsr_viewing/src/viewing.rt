@@ -2,6 +2,7 @@
 ghost use Rattle.std.specs.Prelude.{◌≡◌, ◌≤◌, ◌⊎◌, ◌++◌, ◌∷◌, [], Err, None, IfErr, IfOk, IfSome, OnOk, option_map};
 ghost use Rattle.hsr_order.specs.Fronts.{lists_of};
 ghost use Rattle.hsr_options.specs.Tables.{capacity_of};
+ghost use Rattle.hsr_scenario.specs.Fault.{is_memory};
 ghost use Rattle.hsr_transcript.specs.Answers.{Answers, IsTextOf};
 ghost use Rattle.hsr_viewing.specs.Fault.{nothing_fault, told};
 ghost use Rattle.hsr_viewing.specs.Given.{given_of};
@@ -31,6 +32,13 @@ use hsr_transcript::{ReadFault, read};
 use std::alloc::Global;
 use std::io::Read;
 
+/// Whether a scenario isn't read for want of room.
+fn is_memory(what: Refused) -> bool
+    ensures { result ≡ is_memory what }
+{
+    matches!(what, Refused::NoMemory)
+}
+
 /// The names of the nodes of a run, by the scenario from which it came; none without it. `Names` exactly where its names can't be read,
 /// or it has other nodes or links, with what it is.
 fn names_of(
@@ -53,7 +61,7 @@ fn names_of(
             }
         }
         Err(fault) => {
-            if matches!(fault.what, Refused::NoMemory) {
+            if is_memory(fault.what) {
                 Err(Fault::Memory)
             } else {
                 Err(Fault::Names(unread(text.as_bytes())))
