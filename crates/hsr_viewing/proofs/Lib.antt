@@ -3,4 +3,3 @@ mod Heads
 pub mod Sending
 mod Unshown
 mod Texts
-mod Misnaming

@@ -3,14 +3,15 @@ use Rattle.std.proofs.Common.{◌≡◌, ◌⊎◌, inl, inr, ℕ, List, ◌++�
 use Rattle.std.specs.Global.{Global}
 use Rattle.std.specs.Prelude.{IfErr, IfOk, IfSome, Vec}
 use Rattle.std.specs.Io.KnownBytes.{Keeps}
+use Rattle.hsr_closing.specs.Finished.{Finished}
 use Rattle.hsr_options.specs.Tables.{capacity_of}
-use Rattle.hsr_transcript.specs.Answers.{Answers}
+use Rattle.hsr_transcript.specs.Answers.{Answers, IsTextOf}
 use Rattle.hsr_transcript_text.specs.declared.fault.ReadFault.{ReadFault}
 use Rattle.hsr_viewing.specs.Ends.{Ends}
 use Rattle.hsr_viewing.specs.Fault.{told}
 use Rattle.hsr_viewing.specs.Given.{given_of}
 use Rattle.hsr_viewing.specs.Reads.{ReadsHead, front}
-use Rattle.hsr_viewing.specs.Refusals.{IsUnshownOf}
+use Rattle.hsr_viewing.specs.Refusals.{IsUnshown, IsUnshownOf}
 use Rattle.hsr_viewing.specs.Viewing.{IsShownOf, table_of}
 use Rattle.hsr_viewing.specs.declared.asked.What.{What}
 use Rattle.hsr_viewing.specs.declared.fault.Fault.{Fault}
@@ -22,6 +23,13 @@ module _ (what : What) (scenario : Option (List ℕ)) where
       fault ≡ told why given → IfSome rests (λ rest. Answers capacity (Err why) (head ++ rest)) → IfSome rests (λ rest. IsUnshownOf capacity given (head ++ rest) what scenario fault)
   unread capacity given None head why fault is answers = tt
   unread capacity given (Some rest) head why fault is answers = inr (inl (why, is, answers))
+
+  pub unshown_run : (capacity : ℕ) (given : Option Given) (rests : Option (List ℕ)) (head : List ℕ) (f : Finished) (r : Result (Vec ℕ Global) Fault) →
+      IfSome rests (λ rest. IsTextOf capacity f (head ++ rest)) → IfErr r (IsUnshown f what scenario) →
+      IfErr r (λ fault. IfSome rests (λ rest. IsUnshownOf capacity given (head ++ rest) what scenario fault))
+  unshown_run capacity given rests head f (Ok octets) text unshown = tt
+  unshown_run capacity given None head f (Err fault) text unshown = tt
+  unshown_run capacity given (Some rest) head f (Err fault) text unshown = inr (inr (f, text, unshown))
 
   pub shown_sized : (n : ℕ) (rests : Option (List ℕ)) (head : List ℕ) (r : Result (Vec ℕ Global) Fault) → capacity_of (table_of (front head)) ≡ n →
       IfOk r (λ octets. IfSome rests (λ rest. IsShownOf n (head ++ rest) what scenario octets.items)) →
