@@ -189,11 +189,17 @@ moves_text EachSendDrains = codes "each send drains"
 moves_text EachMomentDrains = codes "each moment drains"
 moves_text (Hop us) = codes "hop_us = " ++ decimal us
 
--- how many nodes and links there are, how many sends, by their moments, how many of these in 800 milliseconds at most, and how copies move
+-- how many nodes and links there are
+unfoldable pub sizes_text : ℕ → ℕ → List ℕ
+sizes_text nodes links = codes "# " ++ decimal nodes ++ codes " nodes, " ++ decimal links ++ codes " links, "
+
+-- how many sends, by their moments, and how many of these in 800 milliseconds at most
+unfoldable pub sends_text : List ℕ → List ℕ
+sends_text sends = decimal (length sends) ++ codes " sends, at most " ++ decimal (most_in sends) ++ codes " in 800 ms; copies: "
+
+-- both, and how copies move
 unfoldable pub counts_text : ℕ → ℕ → List ℕ → Moves → List ℕ
-counts_text nodes links sends moves =
-    codes "# " ++ decimal nodes ++ codes " nodes, " ++ decimal links ++ codes " links, " ++ decimal (length sends) ++ codes " sends, at most "
-    ++ decimal (most_in sends) ++ codes " in 800 ms; copies: " ++ moves_text moves ++ codes "\n"
+counts_text nodes links sends moves = sizes_text nodes links ++ sends_text sends ++ moves_text moves ++ codes "\n"
 
 -- that of what is meant
 unfoldable pub summary_text : Moves → Meaning → List ℕ

@@ -5,7 +5,7 @@ ghost use Rattle.std.specs.Fmt.{decimal};
 ghost use Rattle.std.specs.List.{flat_map};
 ghost use Rattle.hex.specs.Hex.{encode_upper};
 ghost use Rattle.hsr_frame.specs.Grammar.{pair};
-ghost use Rattle.hsr_plan_scenario.specs.Spelled.{about_text, at_link, at_node, at_port, clock_text, comma, counts_text, digits_text, dir_text, does_text, frame_text, from_text, front_text, letter_or, link_line, link_lines, links_text, listed, mac_text, mode_text, moves_text, name_of, name_text, node_line, nodes_text, octets_text, order_line, order_text, place_text, port_text, ring_place_text, role_text, scenario_text, station_text, stations_text, step_text, summary_text, title_text, vlan_text};
+ghost use Rattle.hsr_plan_scenario.specs.Spelled.{about_text, at_link, at_node, at_port, clock_text, comma, counts_text, digits_text, dir_text, does_text, frame_text, from_text, front_text, letter_or, link_line, link_lines, links_text, listed, mac_text, mode_text, moves_text, name_of, name_text, node_line, nodes_text, octets_text, order_line, order_text, place_text, port_text, ring_place_text, role_text, scenario_text, sends_text, sizes_text, station_text, stations_text, step_text, summary_text, title_text, vlan_text};
 
 use crate::sends::send_moments;
 use hsr_frame::{About, Mac, Mode, NoMemory};
@@ -564,6 +564,45 @@ fn put_count(text: &mut Vec<u8>, number: usize, words: &str) -> Result<(), NoMem
     put(text, words)
 }
 
+/// Puts two numbers, each with what it counts, last.
+fn put_two_counts(
+    text: &mut Vec<u8>,
+    first: usize,
+    words: &str,
+    second: usize,
+    others: &str,
+) -> Result<(), NoMemory>
+    ensures { OnOk result (text.new.items ≡ text.old.items ++ (decimal first ++ words.now ++ decimal second ++ others.now)) }
+{
+    put_count(text, first, words)?;
+    put_count(text, second, others)
+}
+
+/// Puts how many nodes and links there are last.
+#[tactic(auto, unfolding(crate::specs::Spelled::sizes_text))]
+fn put_sizes(text: &mut Vec<u8>, nodes: usize, links: usize) -> Result<(), NoMemory>
+    ensures { OnOk result (text.new.items ≡ text.old.items ++ sizes_text nodes links) }
+{
+    put(text, "# ")?;
+    put_count(text, nodes, " nodes, ")?;
+    put_count(text, links, " links, ")
+}
+
+/// Puts last how many sends there are, by their moments, which rise, and how many of these in 800 ms at most.
+#[tactic(auto, unfolding(crate::specs::Spelled::sends_text))]
+fn put_sends(text: &mut Vec<u8>, sends: &[u64]) -> Result<(), NoMemory>
+    requires { IsNonDecreasing sends.now }
+    ensures { OnOk result (text.new.items ≡ text.old.items ++ sends_text sends.now) }
+{
+    put_two_counts(
+        text,
+        sends.len(),
+        " sends, at most ",
+        most_of(sends),
+        " in 800 ms; copies: ",
+    )
+}
+
 /// Puts the comment of so many nodes and links, of sends at these moments, which rise, and of how copies move, last.
 #[tactic(auto, unfolding(crate::specs::Spelled::counts_text))]
 fn put_counts(
@@ -576,11 +615,8 @@ fn put_counts(
     requires { IsNonDecreasing sends.now }
     ensures { OnOk result (text.new.items ≡ text.old.items ++ counts_text nodes links sends.now moves) }
 {
-    put(text, "# ")?;
-    put_count(text, nodes, " nodes, ")?;
-    put_count(text, links, " links, ")?;
-    put_count(text, sends.len(), " sends, at most ")?;
-    put_count(text, most_of(sends), " in 800 ms; copies: ")?;
+    put_sizes(text, nodes, links)?;
+    put_sends(text, sends)?;
     put_moves(text, moves)?;
     put(text, "\n")
 }
