@@ -29,10 +29,9 @@ use Rattle.hsr_viewing.specs.Viewing.{AreNames, AreSends, IsSend, leaves_none, p
 use Rattle.hsr_viewing.specs.declared.asked.What.{What}
 use Rattle.hsr_viewing.specs.declared.asked.What.TheVariants as asked
 use Rattle.hsr_viewing.specs.declared.fault.Fault.{Fault}
-use Rattle.hsr_viewing.specs.Unnamed.{unread}
+use Rattle.hsr_viewing.specs.Unnamed.{other, unread}
 use Rattle.hsr_viewing.specs.declared.given.Given.{Given}
 use Rattle.hsr_viewing.specs.declared.unnamed.Unnamed.{Unnamed}
-use Rattle.hsr_viewing.specs.declared.unnamed.Unnamed.TheVariants.{Other}
 use Rattle.hsr_viewing.specs.declared.fault.Fault.TheVariants.{Names, Link, Send, NoCopies, NoneAsked, Circle, TooLong, Read, Memory}
 
 -- a text can't be read for the names of a scenario, or it is one of other nodes or links
@@ -42,7 +41,7 @@ IsOther topology (Err fault) = ⊤
 
 -- what a text is of which the names aren't taken
 abbrev pub given_instead : Result NamesMeant ScenarioFault → List ℕ → Unnamed
-given_instead (Ok meant) text = Other
+given_instead (Ok meant) text = other text
 given_instead (Err fault) text = unread text
 
 -- a scenario was given, and its names aren't taken for this cause; what it is instead

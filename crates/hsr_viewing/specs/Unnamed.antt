@@ -19,6 +19,14 @@ by_front (Some given.Plan) = Plan
 abbrev pub unread : List ℕ → Unnamed
 unread text = if begins text (codes "hsr-bench ") then Transcript else by_front (given_of text)
 
+-- a plan has neither nodes nor links of a scenario's kind, so it is read as a scenario without any
+abbrev pub by_name : Option Given → Unnamed
+by_name (Some given.Plan) = Plan
+by_name _ = Other
+
+abbrev pub other : List ℕ → Unnamed
+other text = by_name (given_of text)
+
 -- the first two octets of what gzip writes are 31 and 139
 abbrev pub no_text : List ℕ → Unnamed
 no_text octets = if begins octets (31 ∷ 139 ∷ []) then Gzip else NoText

@@ -1,6 +1,6 @@
 //! What was given in place of the scenario of a run.
 ghost use Rattle.std.specs.Prelude.{◌≡◌, Some};
-ghost use Rattle.hsr_viewing.specs.Unnamed.{no_text, unnamed_words, unread};
+ghost use Rattle.hsr_viewing.specs.Unnamed.{no_text, other, unnamed_words, unread};
 
 use crate::given::{Given, begins, given_of};
 use std::fmt;
@@ -78,6 +78,17 @@ pub(crate) fn unread(text: &[u8]) -> Unnamed
         Some(Given::Scenario) => Unnamed::Faulty,
         Some(Given::Plan) => Unnamed::Plan,
         None => Unnamed::Unknown,
+    }
+}
+
+/// What a text is that is read as a scenario of other nodes or links. A plan has none of a scenario's kind, so it is read as one
+/// without any.
+pub(crate) fn other(text: &[u8]) -> Unnamed
+    ensures { result ≡ other text.now }
+{
+    match given_of(text) {
+        Some(Given::Plan) => Unnamed::Plan,
+        _ => Unnamed::Other,
     }
 }
 

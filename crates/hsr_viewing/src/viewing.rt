@@ -15,7 +15,7 @@ use crate::asked::What;
 use crate::fault::{Extent, Fault, Moments, told};
 use crate::given::{begins, given_of};
 use crate::head::front;
-use crate::unnamed::{Unnamed, unread};
+use crate::unnamed::{other, unread};
 use hsr_capture::capture;
 use hsr_closing::Closed;
 use hsr_devices::devices;
@@ -57,7 +57,7 @@ fn names_of(
             if is_same_topology(&named.topology, topology) {
                 Ok(named.names)
             } else {
-                Err(Fault::Names(Unnamed::Other))
+                Err(Fault::Names(other(text.as_bytes())))
             }
         }
         Err(fault) => {
