@@ -1,6 +1,6 @@
 use Rattle.std.proofs.Common.{Bool, ◌≤◌, None, ap, ◌∙◌, arith}
 use Rattle.hsr_tables.specs.Nodes.{Nodes}
-use Rattle.hsr_role.specs.Tables.{Notes}
+use Rattle.hsr_role.specs.Tables.{Notes, copies_of}
 use Rattle.hsr_role.specs.declared.judged.Judged.{Judged}
 use Rattle.hsr_role.proofs.Arrivals.{heard_of-last}
 use Rattle.hsr_role.proofs.Counts.{AreWithin-arrived}
@@ -35,13 +35,15 @@ pub invariant_of-self : goal.invariant_of-self
 invariant_of-self g c =
     let later : c.self.inside.moment ≤ c.max-now.result = omega (arith, c.max-now.ensures) in
     let exits = c.ring_wants-wants.result.exits in
+    let few : copies_of c.judge-judged.result.passes ≤ 3 = rw (ap (λ (o : Judged × Notes). o.0) c.judge-judged.ensures, c.ring_wants-wants.ensures)
+    (copies-judged g.row.C c.self.inside.tables c.self.inside.own c.self.inside.mode c.args.port c.look_at-seen.result c.max-now.result) in
     record {
       station = c.self.invariant.station;
       there = ap (λ (o : Judged × Notes). o.1.there) c.judge-judged.ensures ∙ passed-there g.row.C c.self.inside.tables exits c.look_at-seen.result c.max-now.result ∙ c.self.invariant.there;
       notes = rw (ap (λ (o : Judged × Notes). o.1) c.judge-judged.ensures) (AreWithin-passed g.row.C c.self.inside.tables exits c.look_at-seen.result c.self.inside.moment c.max-now.result c.self.inside.accepted later c.self.invariant.notes);
       nodes = rw (ap (λ (h : Bool × Nodes). h.1) c.hear-readable.ensures) (heard_of-last c.self.inside.own c.self.inside.nodes c.args.port c.look_at-seen.result c.max-now.result (omega (arith, c.self.invariant.nodes)));
       steps = omega (arith, c.self.invariant.steps, c.if-self-eq-STEP_LIMIT.false);
-      counters = rw c.count.ensures (AreWithin-arrived c.self.inside.counters c.judge-judged.result c.hear-readable.result c.self.inside.accepted (count-requires-clause-few g c) c.self.invariant.counters);
+      counters = rw c.count.ensures (AreWithin-arrived c.self.inside.counters c.judge-judged.result c.hear-readable.result c.self.inside.accepted few c.self.invariant.counters);
     }
 
 pub returns : goal.returns
