@@ -18,7 +18,7 @@ use Rattle.hsr_duptable.specs.Log.{StandsFor}
 use Rattle.hsr_duptable.specs.Table.{remembers}
 use Rattle.hsr_role.specs.Arrival.{key_of}
 use Rattle.hsr_role.specs.Past.{log_remembers, note_of}
-use Rattle.hsr_role.specs.Tables.{copies_of, counted_with, judged as judged_notes, judged_as, passed, table_of}
+use Rattle.hsr_role.specs.Tables.{copies_of, counted_with, judged as judged_notes, judged_as, passed as passed_notes, table_of}
 use Rattle.hsr_role.specs.declared.judged.Judged.{Judged as Verdict}
 use Rattle.hsr_role.proofs.Keeping.{AreWithin-aged, AreWithin-new, AreWithin-passed, passed-shut, remembers-logged, stands-aged, stands-new, stands-passed, within-of}
 use Rattle.hsr_role.proofs.Pasts.{answers-same, later-max}
@@ -50,7 +50,7 @@ off true q e = absurd (cc)
 off false q e = refl
 
 passes-told : (capacity : ℕ) (machine : Machine) (past : List Deed) (x : QuadPort) (seen : Result Seen FrameFault) (now : ℕ) → machine.moment ≤ now → IsTold capacity machine past
-    → let exits = (wanted x seen).exits in (passed capacity machine.notes exits seen now).0 ≡ passes_in capacity past exits seen now
+    → let exits = (wanted x seen).exits in (passed_notes capacity machine.notes exits seen now).0 ≡ passes_in capacity past exits seen now
 passes-told capacity machine past x (Err fault) now h told = refl
 passes-told capacity machine past x (Ok (Plain frame)) now h told = refl
 passes-told capacity machine past x (Ok (Tagged frame)) now h told =
