@@ -13,28 +13,26 @@ use Rattle.hsr_frame.specs.declared.node.Mode.{Mode}
 use Rattle.hsr_frame.specs.declared.node.RingPort.{RingPort}
 use Rattle.hsr_tag.specs.Seen.{classified}
 use Rattle.hsr_tag.specs.declared.seen.Seen.{Seen}
-use Rattle.hsr_tag.specs.declared.seen.Seen.TheVariants.{Plain, Tagged}
 use Rattle.hsr_duptable.specs.Key.{Key}
 use Rattle.hsr_duptable.specs.Log.{StandsFor}
 use Rattle.hsr_duptable.specs.Notes.{note_if}
-use Rattle.hsr_duptable.specs.Table.{remembers}
 use Rattle.hsr_tables.specs.Known.{known}
 use Rattle.hsr_tables.specs.Nodes.{Nodes, heard, no_nodes}
 use Rattle.hsr_tables.proofs.NodeLaws.{rows_of_latest}
-use Rattle.hsr_role.specs.Arrival.{heard_of, key_of}
+use Rattle.hsr_role.specs.Arrival.{heard_of}
 use Rattle.hsr_role.specs.Numbers.{number_range}
 use Rattle.hsr_role.specs.Past.{answers_of, is_bad_life, note_of}
-use Rattle.hsr_role.specs.Tables.{AreWithin, aged, copies_of, counted_with, judged, judged_as, passed, table_of}
+use Rattle.hsr_role.specs.Tables.{AreWithin, aged, copies_of, counted_with, judged, judged_as, table_of}
 use Rattle.hsr_role.specs.declared.judged.Judged.{Judged}
 use Rattle.hsr_role.proofs.Counts.{counted-plus, counts_plus}
-use Rattle.hsr_role.proofs.Keeping.{AreWithin-aged, AreWithin-new, AreWithin-passed, AreWithin-passes, passed-shut, passes-same, remembers-logged, stands-aged, stands-new, stands-passed, stands-passes, stands-same, within-of}
+use Rattle.hsr_role.proofs.Keeping.{AreWithin-aged, AreWithin-new, AreWithin-passed, AreWithin-passes, last-earlier, passed-logged, passed-shut, stands-aged, stands-new, stands-passed, stands-passes, stands-same}
 use Rattle.hsr_role.proofs.Pasts.{answers-same, heard-same, heard-told, later-max}
 use Rattle.hsr_role.proofs.Wants.{wanted-c, wanted-d}
 use Rattle.hsr_danh.specs.Machine.{Machine, new_machine}
 use Rattle.hsr_danh.specs.Step.{after_arrival, after_numbered, age_step, arrive_or_spent, arrive_step, life_or_spent, life_step, now_at, send_or_refuse, send_step, verdict_of}
 use Rattle.hsr_danh.specs.Wanted.{egresses, wanted}
 use Rattle.hsr_danh.specs.Past as deeds
-use Rattle.hsr_danh.specs.Past.{Answer, Call, Deed, Did, count_of, counters_of, done, gave_up, hearings_of, is_step, is_unreadable, judged_frame, log_of, number_after, moment_of, passes_from, past_step, remembers_of, sent_frame, sent_life, step, verdict_from}
+use Rattle.hsr_danh.specs.Past.{Answer, Call, Deed, Did, count_of, counters_of, done, gave_up, hearings_of, is_step, is_unreadable, judged_frame, log_of, number_after, moment_of, past_step, sent_frame, sent_life, step, verdict_from}
 use Rattle.hsr_danh.specs.declared.danh.Verdict.{Verdict}
 
 -- what a machine holds is what its past gives
@@ -51,10 +49,6 @@ pub record IsPastOf (capacity : ℕ) (machine : Machine) (past : List Deed) : Ty
 abbrev pub Kept : ℕ → Machine → Answer × Machine → Answer × List Deed → Type 0
 Kept capacity machine s p = (s.0 ≡ p.0) × IsPastOf capacity s.1 p.1 × (s.1.own ≡ machine.own) × (s.1.mode ≡ machine.mode)
 
--- no table's time is ahead of a later moment
-earlier : {capacity : ℕ} {machine : Machine} {past : List Deed} {now : ℕ} → IsPastOf capacity machine past → machine.moment ≤ now → (egress : Egress) → (table_of machine.notes egress).last ≤ now
-earlier r later egress = let one = within-of r.within egress in omega (arith, one.last, later)
-
 -- ---- frames of the node's own
 
 -- the machine after a numbered frame, and a past that begins with it
@@ -67,7 +61,7 @@ numbered : (capacity : ℕ) (machine : Machine) (past : List Deed) (now : ℕ) (
 numbered capacity machine past now counters did later r noted silent counts steps counted =
     let key : Key = record { src = machine.own; seq = machine.next } in
     record {
-      logs = λ egress. rw (noted egress) (stands-passes capacity machine.notes (log_of machine.own egress past) (exits_of (a ∷ b ∷ [])) key now egress (earlier r later egress) (r.logs egress));
+      logs = λ egress. rw (noted egress) (stands-passes capacity machine.notes (log_of machine.own egress past) (exits_of (a ∷ b ∷ [])) key now egress (last-earlier r.within later egress) (r.logs egress));
       within = AreWithin-passes capacity machine.notes (exits_of (a ∷ b ∷ [])) key machine.moment now machine.accepted later r.within;
       nodes = rw silent (heard-same machine.nodes (hearings_of machine.own past) r.nodes);
       next = rw counts (omega (arith, r.next));
@@ -105,15 +99,6 @@ life-case capacity machine past at false r =
     )
 
 -- ---- arrivals
-
-verdict-same : (capacity : ℕ) (machine : Machine) (past : List Deed) (now : ℕ) (exits : Exits) (seen : Result Seen FrameFault) → machine.moment ≤ now → IsPastOf capacity machine past
-    → (passed capacity machine.notes exits seen now).0 ≡ passes_from capacity machine.own past now exits seen
-verdict-same capacity machine past now exits (Err fault) h r = refl
-verdict-same capacity machine past now exits (Ok (Plain frame)) h r = refl
-verdict-same capacity machine past now exits (Ok (Tagged frame)) h r =
-    let key = key_of frame in
-    passes-same exits (λ egress. remembers (table_of machine.notes egress) key now) (remembers_of capacity machine.own past now key)
-    (λ egress. remembers-logged capacity machine.notes (log_of machine.own egress past) machine.moment now machine.accepted key egress h r.within (r.logs egress))
 
 -- a DANH passes an arrival up and by its ring ports alone
 passed-told : (judgement : Judged) → judgement.passes.c ≡ false → judgement.passes.d ≡ false → (egress : Egress) → has_exit judgement.passes egress ≡ deeds.passed (verdict_of judgement) egress
@@ -158,14 +143,14 @@ arrive-case capacity machine past at x octets false r =
     let no_c = passed-shut capacity machine.notes wants.exits seen now c (wanted-c machine.own machine.mode x seen) in
     let no_d = passed-shut capacity machine.notes wants.exits seen now d (wanted-d machine.own machine.mode None x seen) in
     let same : verdict ≡ verdict_from capacity machine.own machine.mode past (max (moment_of past) at) x seen
-    = ap (λ (passes : Exits). verdict_of (judged_as wants passes)) (verdict-same capacity machine past now wants.exits seen later r)
+    = ap (λ (passes : Exits). verdict_of (judged_as wants passes)) (passed-logged capacity machine.notes (λ egress. log_of machine.own egress past) wants.exits seen machine.moment now machine.accepted later r.within r.logs)
     ∙ ap (λ n. verdict_from capacity machine.own machine.mode past (max n at) x seen) r.moment in
     let deed : record { now = now; did = judged_frame x seen verdict } ≡ record { now = max (moment_of past) at; did = judged_frame x seen (verdict_from capacity machine.own machine.mode past (max (moment_of past) at) x seen) }
     = λ i. record { now = max (r.moment i) at; did = judged_frame x seen (same i) } in (
       ap (λ (v : Verdict). deeds.judged (Ok v)) same,
       subst (λ (d : Deed). IsPastOf capacity (after_arrival capacity machine now x seen).1 (d ∷ past)) deed (record {
         logs = λ egress. subst (λ (p : Bool). StandsFor capacity (table_of outcome.1 egress) (log_of machine.own egress past ++ note_of seen p now)) (passed-told outcome.0 no_c no_d egress)
-            (stands-passed capacity machine.notes (log_of machine.own egress past) wants.exits seen now egress (earlier r later egress) (r.logs egress));
+            (stands-passed capacity machine.notes (log_of machine.own egress past) wants.exits seen now egress (last-earlier r.within later egress) (r.logs egress));
         within = AreWithin-passed capacity machine.notes wants.exits seen machine.moment now machine.accepted later r.within;
         nodes = told.0 ∙ ap (λ (n : Nodes). fold heard n (deeds.heard_by machine.own now (judged_frame x seen verdict))) r.nodes
             ∙ sym (fold-append heard no_nodes (hearings_of machine.own past) (deeds.heard_by machine.own now (judged_frame x seen verdict)));
@@ -186,7 +171,7 @@ age-case capacity machine past at r =
     let now = now_at machine at in
     let after : IsPastOf capacity (age_step machine at) (record { now = now; did = gave_up } ∷ past) = record {
       logs = λ egress. stands-same capacity (aged machine.notes now) (log_of machine.own egress past) egress
-          (stands-aged capacity machine.notes (log_of machine.own egress past) now egress (earlier r (later-max machine.moment at) egress) (r.logs egress));
+          (stands-aged capacity machine.notes (log_of machine.own egress past) now egress (last-earlier r.within (later-max machine.moment at) egress) (r.logs egress));
       within = AreWithin-aged machine.notes machine.moment now machine.accepted (later-max machine.moment at) r.within;
       nodes = heard-same machine.nodes (hearings_of machine.own past) r.nodes;
       next = r.next;

@@ -69,9 +69,3 @@ arrive-accepted capacity machine at x octets seen verdict notes readable nodes n
     let step : whole (verdict, notes) (readable, nodes) ≡ after_arrival capacity machine now x seen
     = ap (λ o. whole o (readable, nodes)) outcome ∙ ap (λ h. whole (judged capacity machine.notes (wanted machine.own machine.mode x seen) seen now) h) hearing in
     ap (λ (p : Verdict × Machine). (Ok p.0, p.1)) (step ∙ ap₂ (λ n s. after_arrival capacity machine n x s) at_now read) ∙ ap (arrive_or_spent capacity machine (now_at machine at) x octets) (sym (unspent machine.accepted some))
-
--- at most two ports pass an arrival
-pub copies-judged : (capacity : ℕ) (notes : Notes) (own : List ℕ) (mode : Mode) (x : RingPort) (seen : Result Seen FrameFault) (now : ℕ) → copies_of (judged capacity notes (wanted own mode x seen) seen now).0.passes ≤ 3
-copies-judged capacity notes own mode x seen now =
-    let exits = (wanted own mode x seen).exits in
-    copies-few (passed capacity notes exits seen now).0 d refl (passed-shut capacity notes exits seen now d (wanted-d own mode None x seen))

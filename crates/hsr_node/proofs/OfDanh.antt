@@ -34,6 +34,7 @@ use Rattle.hsr_danh.specs.Machine.{Machine, new_machine}
 use Rattle.hsr_danh.specs.Past as deeds
 use Rattle.hsr_danh.specs.Past.{Answer, Deed, done, gave_up, judged_frame, sent_frame, sent_life}
 use Rattle.hsr_role.specs.Arrival.{key_of}
+use Rattle.hsr_role.specs.Past.{log_remembers, passes_from}
 use Rattle.hsr_role.proofs.Keeping.{passes-same, unwanted-shut}
 use Rattle.hsr_role.proofs.Wants.{wanted-c, wanted-d}
 use Rattle.hsr_danh.specs.Step.{arrive_step, life_step, send_step}
@@ -223,7 +224,7 @@ judged-tells number mac mode did past worker at port x copy v is_x t = record {
 -- ---- the verdict
 
 remembers-same : (capacity number : ℕ) (mac : List ℕ) (mode : Mode) (did : List Deed) (past : List Entry) (at : ℕ) (key : Key) (e : Egress) → Tells number mac mode did past
-    → deeds.remembers_of capacity mac did at key e ≡ remembers capacity (owner_of number mac mode) past at key e
+    → log_remembers capacity (deeds.log_of mac e did) at key ≡ remembers capacity (owner_of number mac mode) past at key e
 remembers-same capacity number mac mode did past at key e t =
     ap (λ log. has_key key (remembered capacity entry_forget log at)) (t.log e) ∙ remembers-oldest capacity at key (notes (owner_of number mac mode) e past)
 
@@ -236,8 +237,8 @@ verdict-same capacity number mac mode did past at next x (Ok (Tagged frame)) t =
     let seen : Result Seen FrameFault = Ok (Tagged frame) in
     let wants : Wants = wanted mac mode x seen in
     let key = key_of frame in
-    let told : Egress → Bool = deeds.remembers_of capacity mac did at key in
-    let old : Exits = deeds.passes_from capacity mac did at wants.exits seen in
+    let told : Egress → Bool = λ e. log_remembers capacity (deeds.log_of mac e did) at key in
+    let old : Exits = passes_from capacity (λ e. deeds.log_of mac e did) wants.exits seen at in
     let no_c = unwanted-shut wants.exits.c (told c) (wanted-c mac mode x seen) in
     let no_d = unwanted-shut wants.exits.d (told d) (wanted-d mac mode None x seen) in
     ap (λ (p : Exits). judged_as (unnumbered wants) p next)

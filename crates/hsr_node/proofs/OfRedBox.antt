@@ -33,6 +33,7 @@ use Rattle.hsr_supervision.specs.Payload.{read_of}
 use Rattle.hsr_tables.specs.Known.{known, latest_heard}
 use Rattle.hsr_tables.specs.Nodes.{Hearing}
 use Rattle.hsr_role.specs.Tables.{judged_as as verdict_as}
+use Rattle.hsr_role.specs.Past.{log_remembers, passes_from}
 use Rattle.hsr_role.proofs.Keeping.{passes-same, unwanted-shut}
 use Rattle.hsr_role.proofs.Wants.{wanted-d}
 use Rattle.hsr_redbox.specs.Machine.{Machine, new_machine}
@@ -391,14 +392,14 @@ knows-same number mac mode did past at t =
 -- ---- verdicts
 
 remembers-same : (capacity number : ℕ) (mac : List ℕ) (mode : Mode) (did : List Deed) (past : List Entry) (at : ℕ) (key : Key) (e : Egress) → Tells number mac mode did past
-    → deeds.remembers_of capacity mac did at key e ≡ remembers capacity (owner_of number mac mode) past at key e
+    → log_remembers capacity (deeds.log_of mac e did) at key ≡ remembers capacity (owner_of number mac mode) past at key e
 remembers-same capacity number mac mode did past at key e t =
     ap (λ log. has_key key (remembered capacity entry_forget log at)) (t.log e) ∙ remembers-oldest capacity at key (notes (owner_of number mac mode) e past)
 
 -- by what is known
 abbrev ring_verdict : ℕ → List ℕ → Mode → List Deed → ℕ → (List ℕ → Bool) → RingPort → Result Seen FrameFault → BoxVerdict
 ring_verdict capacity mac mode did at knows x seen =
-    let wants = wanted mac mode knows x seen in verdict_of (verdict_as wants (deeds.passes_from capacity mac did at wants.exits seen)) None
+    let wants = wanted mac mode knows x seen in verdict_of (verdict_as wants (passes_from capacity (λ e. deeds.log_of mac e did) wants.exits seen at)) None
 
 ring-same : (capacity number : ℕ) (mac : List ℕ) (mode : Mode) (did : List Deed) (past : List Entry) (at next : ℕ) (knows : List ℕ → Bool) (x : RingPort) (seen : Result Seen FrameFault) → Tells number mac mode did past
     → judged_as (unnumbered (wanted mac mode knows x seen)) (passing (remembers capacity (owner_of number mac mode) past at) (wanted mac mode knows x seen).exits seen) next
@@ -409,8 +410,8 @@ ring-same capacity number mac mode did past at next knows x (Ok (Tagged frame)) 
     let seen : Result Seen FrameFault = Ok (Tagged frame) in
     let wants : Wants = wanted mac mode knows x seen in
     let key = key_of frame in
-    let told : Egress → Bool = deeds.remembers_of capacity mac did at key in
-    let old : Exits = deeds.passes_from capacity mac did at wants.exits seen in
+    let told : Egress → Bool = λ e. log_remembers capacity (deeds.log_of mac e did) at key in
+    let old : Exits = passes_from capacity (λ e. deeds.log_of mac e did) wants.exits seen at in
     let no_d = unwanted-shut wants.exits.d (told d) (wanted-d mac mode (Some knows) x seen) in
     ap (λ (p : Exits). judged_as (unnumbered wants) p next)
     (passes-same wants.exits (remembers capacity (owner_of number mac mode) past at key) told (λ e. sym (remembers-same capacity number mac mode did past at key e t)))
@@ -556,7 +557,7 @@ ring-case capacity number worker at port y x copy machine did past s is_y is_rin
         of_past = k.1;
         own = k.2;
         mode_is = k.3;
-        tells = ring-tells number mac mode did past worker at port y x copy wants (deeds.passes_from capacity mac did old wants.exits seen) is_y is_ring is_x t;
+        tells = ring-tells number mac mode did past worker at port y x copy wants (passes_from capacity (λ e. deeds.log_of mac e did) wants.exits seen old) is_y is_ring is_x t;
       },
     )
 

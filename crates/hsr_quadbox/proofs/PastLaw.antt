@@ -20,7 +20,7 @@ use Rattle.hsr_role.specs.Arrival.{key_of}
 use Rattle.hsr_role.specs.Past.{log_remembers, note_of}
 use Rattle.hsr_role.specs.Tables.{copies_of, counted_with, judged as judged_notes, judged_as, passed as passed_notes, table_of}
 use Rattle.hsr_role.specs.declared.judged.Judged.{Judged as Verdict}
-use Rattle.hsr_role.proofs.Keeping.{AreWithin-aged, AreWithin-new, AreWithin-passed, passed-shut, remembers-logged, stands-aged, stands-new, stands-passed, within-of}
+use Rattle.hsr_role.proofs.Keeping.{AreWithin-aged, AreWithin-new, AreWithin-passed, last-earlier, passed-shut, remembers-logged, stands-aged, stands-new, stands-passed}
 use Rattle.hsr_role.proofs.Pasts.{answers-same, later-max}
 use Rattle.hsr_quadbox.specs.Wanted.{egresses, wanted}
 use Rattle.hsr_quadbox.specs.Machine.{Machine, new_machine}
@@ -29,10 +29,6 @@ use Rattle.hsr_quadbox.specs.Past.{AnswersAsPast, Answer, IsTold, Call, arriving
 use Rattle.hsr_quadbox.specs.declared.quadbox.QuadVerdict.{QuadVerdict}
 use Rattle.hsr_quadbox.specs.declared.wanted.QuadPort.{QuadPort}
 use Rattle.hsr_quadbox.specs.declared.wanted.QuadPort.TheVariants.{A, B, C, D}
-
--- no table's time is ahead of a later moment
-earlier : {capacity : ℕ} {machine : Machine} {past : List Deed} {now : ℕ} → IsTold capacity machine past → machine.moment ≤ now → (port : QuadPort) → (table_of machine.notes (egress_of port)).last ≤ now
-earlier told later port = let one = within-of told.within (egress_of port) in omega (arith, one.last, later)
 
 -- ---- where an arrival passes
 
@@ -150,7 +146,7 @@ told-judged capacity machine past at x seen told =
     let after = (after_arrival capacity machine now x seen).1 in
     let one_told : IsTold capacity after (judged (deed outcome.0.passes) ∷ past) = record {
       logs = λ port. subst (λ (p : Bool). StandsFor capacity (table_of outcome.1 (egress_of port)) (log port past ++ note_of seen p now)) (passed-told outcome.0.passes port)
-          (stands-passed capacity machine.notes (log port past) wants.exits seen now (egress_of port) (earlier told later port) (told.logs port));
+          (stands-passed capacity machine.notes (log port past) wants.exits seen now (egress_of port) (last-earlier told.within later (egress_of port)) (told.logs port));
       within = AreWithin-passed capacity machine.notes wants.exits seen machine.moment now machine.accepted later told.within;
       moment = refl;
       accepted = omega (arith, told.accepted);
@@ -163,7 +159,7 @@ told-aged capacity machine past at told =
     let now = now_at machine at in
     let later = later-max machine.moment at in
     record {
-      logs = λ port. stands-aged capacity machine.notes (log port past) now (egress_of port) (earlier told later port) (told.logs port);
+      logs = λ port. stands-aged capacity machine.notes (log port past) now (egress_of port) (last-earlier told.within later (egress_of port)) (told.logs port);
       within = AreWithin-aged machine.notes machine.moment now machine.accepted later told.within;
       moment = ap (λ (m : ℕ). max m at) told.moment;
       accepted = told.accepted;

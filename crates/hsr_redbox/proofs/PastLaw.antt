@@ -20,27 +20,26 @@ use Rattle.hsr_tag.specs.Seen.{classified}
 use Rattle.hsr_tag.specs.declared.seen.Seen.{Seen}
 use Rattle.hsr_tag.specs.declared.seen.Seen.TheVariants.{Plain, Tagged}
 use Rattle.hsr_duptable.specs.Log.{StandsFor}
-use Rattle.hsr_duptable.specs.Table.{remembers}
 use Rattle.hsr_duptable.specs.declared.note.Note.{Note}
 use Rattle.hsr_tables.specs.Known.{known}
 use Rattle.hsr_tables.specs.Nodes.{Nodes, heard, no_nodes}
 use Rattle.hsr_tables.specs.Proxies.{Proxies, is_known, learned, no_proxies}
 use Rattle.hsr_tables.proofs.NodeLaws.{rows_of_latest}
 use Rattle.hsr_tables.proofs.ProxyLaws.{knows_latest}
-use Rattle.hsr_role.specs.Arrival.{heard_of, key_of}
+use Rattle.hsr_role.specs.Arrival.{heard_of}
 use Rattle.hsr_role.specs.Numbers.{number_range}
-use Rattle.hsr_role.specs.Past.{answers_of, is_bad_life, note_of}
-use Rattle.hsr_role.specs.Tables.{AreWithin, Notes, aged, copies_of, counted_with, judged, judged_as, passed, table_of}
+use Rattle.hsr_role.specs.Past.{answers_of, is_bad_life, note_of, passes_from}
+use Rattle.hsr_role.specs.Tables.{AreWithin, Notes, aged, copies_of, counted_with, judged, judged_as, table_of}
 use Rattle.hsr_role.specs.declared.judged.Judged.{Judged}
 use Rattle.hsr_role.proofs.Counts.{counted-plus, counts_plus}
-use Rattle.hsr_role.proofs.Keeping.{AreWithin-aged, AreWithin-new, AreWithin-passed, passed-shut, passes-same, remembers-logged, stands-aged, stands-new, stands-passed, stands-passes, stands-same, within-of}
+use Rattle.hsr_role.proofs.Keeping.{AreWithin-aged, AreWithin-new, AreWithin-passed, last-earlier, passed-logged, passed-shut, stands-aged, stands-new, stands-passed, stands-passes, stands-same}
 use Rattle.hsr_role.proofs.Pasts.{answers-same, heard-same, heard-told, later-max}
 use Rattle.hsr_role.proofs.Wants.{wanted-d}
 use Rattle.hsr_redbox.specs.Machine.{Machine, new_machine}
 use Rattle.hsr_redbox.specs.Step.{after_arrival, after_frame, after_interlink, after_marks, after_ring, age_step, arrive_or_spent, arrive_step, heard_from, life_or_refuse, life_refusal, life_step, now_at, number_of, send_or_refuse, send_step, sent_of, verdict_of}
 use Rattle.hsr_redbox.specs.Wanted.{egresses, handling_interlink, handling_send, interlink, wanted}
 use Rattle.hsr_redbox.specs.Past as deeds
-use Rattle.hsr_redbox.specs.Past.{Answer, Call, Deed, Did, count_of, counters_of, done, gave_up, hearings_of, is_step, is_unreadable, judged_interlink, judged_ring, knows_among, known_among, linked, log_of, mark_if, moment_of, noted_by, now_after, number_after, passes_from, past_step, remembers_of, sent_frame, sent_life, source_in, sources_of, step}
+use Rattle.hsr_redbox.specs.Past.{Answer, Call, Deed, Did, count_of, counters_of, done, gave_up, hearings_of, is_step, is_unreadable, judged_interlink, judged_ring, knows_among, known_among, linked, log_of, mark_if, moment_of, noted_by, now_after, number_after, past_step, sent_frame, sent_life, source_in, sources_of, step}
 use Rattle.hsr_redbox.specs.declared.wanted.Handling.{Handling}
 use Rattle.hsr_redbox.specs.declared.call.BoxPort.{BoxPort}
 use Rattle.hsr_redbox.specs.declared.call.BoxPort.TheVariants.{A, B, I}
@@ -64,10 +63,6 @@ abbrev pub Kept : {X : Type 0} → ℕ → Machine → X × Machine → X × Lis
 Kept capacity machine s p = (s.0 ≡ p.0) × IsPastOf capacity s.1 p.1 × (s.1.own ≡ machine.own) × (s.1.mode ≡ machine.mode)
 
 -- ---- logs
-
--- no table's time is ahead of a later moment
-earlier : {capacity : ℕ} {machine : Machine} {past : List Deed} {now : ℕ} → IsPastOf capacity machine past → machine.moment ≤ now → (egress : Egress) → (table_of machine.notes egress).last ≤ now
-earlier r later egress = let one = within-of r.within egress in omega (arith, one.last, later)
 
 log-marked : (capacity : ℕ) (notes : Notes) (log : List Note) (exits : Exits) (source : Option (List ℕ)) (seq now : ℕ) (egress : Egress) → (table_of notes egress).last ≤ now → StandsFor capacity (table_of notes egress) log
     → StandsFor capacity (table_of (after_marks capacity notes exits source seq now) egress) (log ++ mark_if source seq (has_exit exits egress) now)
@@ -139,7 +134,7 @@ marked : (capacity : ℕ) (machine : Machine) (past : List Deed) (now : ℕ) (pr
     → IsPastOf capacity (after_frame capacity (record machine { proxies = proxies }) now exits source counters) (record { now = now; did = did } ∷ past)
 marked capacity machine past now proxies exits source counters did later r noted silent counts steps learnt counted =
     record {
-      logs = λ egress. rw (noted egress) (log-marked capacity machine.notes (log_of machine.own egress past) exits source machine.next now egress (earlier r later egress) (r.logs egress));
+      logs = λ egress. rw (noted egress) (log-marked capacity machine.notes (log_of machine.own egress past) exits source machine.next now egress (last-earlier r.within later egress) (r.logs egress));
       within = notes-marked capacity machine.notes exits source machine.next machine.moment now machine.accepted later r.within;
       nodes = rw silent (heard-same machine.nodes (hearings_of machine.own past) r.nodes);
       proxies = learnt;
@@ -203,15 +198,6 @@ interlink-case capacity machine past now seen later r =
 
 -- ---- arrivals at a ring port
 
-verdict-same : (capacity : ℕ) (machine : Machine) (past : List Deed) (now : ℕ) (exits : Exits) (seen : Result Seen FrameFault) → machine.moment ≤ now → IsPastOf capacity machine past
-    → (passed capacity machine.notes exits seen now).0 ≡ passes_from capacity machine.own past now exits seen
-verdict-same capacity machine past now exits (Err fault) h r = refl
-verdict-same capacity machine past now exits (Ok (Plain frame)) h r = refl
-verdict-same capacity machine past now exits (Ok (Tagged frame)) h r =
-    let key = key_of frame in
-    passes-same exits (λ egress. remembers (table_of machine.notes egress) key now) (remembers_of capacity machine.own past now key)
-    (λ egress. remembers-logged capacity machine.notes (log_of machine.own egress past) machine.moment now machine.accepted key egress h r.within (r.logs egress))
-
 ring-case : (capacity : ℕ) (machine : Machine) (past : List Deed) (now : ℕ) (x : RingPort) (seen : Result Seen FrameFault) → machine.moment ≤ now → IsPastOf capacity machine past
     → Kept capacity machine (after_ring capacity machine now x seen) (deeds.ring_from capacity machine.own machine.mode past now x seen)
 ring-case capacity machine past now x seen later r =
@@ -225,13 +211,13 @@ ring-case capacity machine past now x seen later r =
     let told = heard-told machine.own machine.nodes x seen now in
     let more = deeds.heard_by machine.own now (judged_ring x seen verdict) in
     let no_d = passed-shut capacity machine.notes wants.exits seen now d (wanted-d machine.own machine.mode (Some knows) x seen) in
-    subst (λ knows. let w = wanted machine.own machine.mode knows x seen in Kept capacity machine after (by w (passes_from capacity machine.own past now w.exits seen)))
+    subst (λ knows. let w = wanted machine.own machine.mode knows x seen in Kept capacity machine after (by w (passes_from capacity (λ egress. log_of machine.own egress past) w.exits seen now)))
     (knows-latest machine.proxies (sources_of machine.own past) now r.proxies)
-    (subst (λ passes. Kept capacity machine after (by wants passes)) (verdict-same capacity machine past now wants.exits seen later r) (
+    (subst (λ passes. Kept capacity machine after (by wants passes)) (passed-logged capacity machine.notes (λ egress. log_of machine.own egress past) wants.exits seen machine.moment now machine.accepted later r.within r.logs) (
       refl,
       record {
         logs = λ egress. subst (λ (p : Bool). StandsFor capacity (table_of outcome.1 egress) (log_of machine.own egress past ++ note_of seen p now)) (passed-told outcome.0 no_d egress)
-            (stands-passed capacity machine.notes (log_of machine.own egress past) wants.exits seen now egress (earlier r later egress) (r.logs egress));
+            (stands-passed capacity machine.notes (log_of machine.own egress past) wants.exits seen now egress (last-earlier r.within later egress) (r.logs egress));
         within = AreWithin-passed capacity machine.notes wants.exits seen machine.moment now machine.accepted later r.within;
         nodes = told.0 ∙ ap (λ (n : Nodes). fold heard n more) r.nodes ∙ sym (fold-append heard no_nodes (hearings_of machine.own past) more);
         proxies = learned-same machine.proxies (sources_of machine.own past) r.proxies;
@@ -264,7 +250,7 @@ age-case capacity machine past now later r =
     let k : Counters = counters_of machine.own past in
     record {
       logs = λ egress. stands-same capacity (aged machine.notes now) (log_of machine.own egress past) egress
-          (stands-aged capacity machine.notes (log_of machine.own egress past) now egress (earlier r later egress) (r.logs egress));
+          (stands-aged capacity machine.notes (log_of machine.own egress past) now egress (last-earlier r.within later egress) (r.logs egress));
       within = AreWithin-aged machine.notes machine.moment now machine.accepted later r.within;
       nodes = heard-same machine.nodes (hearings_of machine.own past) r.nodes;
       proxies = learned-same machine.proxies (sources_of machine.own past) r.proxies;

@@ -85,12 +85,6 @@ send-fits own knows dst kind = sent-fits own (knows dst) (is_supervision dst kin
 
 -- ---- copies: at most three ports pass an arrival
 
-pub copies-judged : (capacity : ℕ) (notes : Notes) (own : List ℕ) (mode : Mode) (knows : List ℕ → Bool) (x : RingPort) (seen : Result Seen FrameFault) (now : ℕ)
-    → copies_of (judged capacity notes (wanted own mode knows x seen) seen now).0.passes ≤ 3
-copies-judged capacity notes own mode knows x seen now =
-    let exits = (wanted own mode knows x seen).exits in
-    copies-few (passed capacity notes exits seen now).0 d refl (passed-shut capacity notes exits seen now d (wanted-d own mode (Some knows) x seen))
-
 pub copies-handled : (own : List ℕ) (knows : List ℕ → Bool) (seen : Result Seen FrameFault) → copies_of (handling_interlink own knows seen).wants.exits ≤ 3
 copies-handled own knows seen = copies-few (handling_interlink own knows seen).wants.exits d refl (interlink-fits own knows seen).1
 

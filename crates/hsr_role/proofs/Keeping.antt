@@ -14,7 +14,7 @@ use Rattle.hsr_duptable.specs.declared.note.Note.{Note}
 use Rattle.hsr_duptable.proofs.LogLaws.{StandsFor-age, StandsFor-new, StandsFor-pass, StandsFor-same}
 use Rattle.hsr_duptable.proofs.Within.{IsWithin-age, IsWithin-empty, IsWithin-more, IsWithin-pass}
 use Rattle.hsr_role.specs.Arrival.{key_of}
-use Rattle.hsr_role.specs.Past.{log_remembers, note_of}
+use Rattle.hsr_role.specs.Past.{log_remembers, note_of, passes_from}
 use Rattle.hsr_role.specs.Tables.{AreEarlier, AreRoomy, AreWithin, Notes, after_passes, age_if, aged, copies_of, no_notes, passed, passes_by, passes_of, table_of}
 use Rattle.hsr_role.proofs.Pasts.{remembers-same}
 
@@ -26,6 +26,10 @@ within-of w a = w.a
 within-of w b = w.b
 within-of w c = w.c
 within-of w d = w.d
+
+-- no table's time is ahead of a later moment
+pub last-earlier : {notes : Notes} {moment now accepted : ℕ} → AreWithin notes moment accepted → moment ≤ now → (e : Egress) → (table_of notes e).last ≤ now
+last-earlier w later e = let one = within-of w e in omega (arith, one.last, later)
 
 pub AreWithin-new : (there : Exits) → AreWithin (no_notes there) 0 0
 AreWithin-new there = record { up = IsWithin-empty; a = IsWithin-empty; b = IsWithin-empty; c = IsWithin-empty; d = IsWithin-empty }
@@ -146,6 +150,16 @@ unwanted-shut wanted held e = rw e refl
 
 pub passes-same : (exits : Exits) (held told : Egress → Bool) → ((e : Egress) → held e ≡ told e) → passes_by held exits ≡ passes_by told exits
 passes-same exits held told same = λ i. passes_by (λ e. same e i) exits
+
+-- an arrival passes by the tables as it does by the logs that they stand for
+pub passed-logged : (capacity : ℕ) (notes : Notes) (logs : Egress → List Note) (exits : Exits) (seen : Result Seen FrameFault) (moment now accepted : ℕ) → moment ≤ now → AreWithin notes moment accepted
+    → ((e : Egress) → StandsFor capacity (table_of notes e) (logs e)) → (passed capacity notes exits seen now).0 ≡ passes_from capacity logs exits seen now
+passed-logged capacity notes logs exits (Err fault) moment now accepted h w s = refl
+passed-logged capacity notes logs exits (Ok (Plain frame)) moment now accepted h w s = refl
+passed-logged capacity notes logs exits (Ok (Tagged frame)) moment now accepted h w s =
+    let key = key_of frame in
+    passes-same exits (λ e. remembers (table_of notes e) key now) (λ e. log_remembers capacity (logs e) now key)
+    (λ e. remembers-logged capacity notes (logs e) moment now accepted key e h w (s e))
 
 -- where an arrival doesn't pass: what isn't wanted
 pub passed-shut : (capacity : ℕ) (notes : Notes) (exits : Exits) (seen : Result Seen FrameFault) (now : ℕ) (e : Egress) → has_exit exits e ≡ false → has_exit (passed capacity notes exits seen now).0 e ≡ false

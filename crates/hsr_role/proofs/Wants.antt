@@ -1,8 +1,8 @@
 -- A node on a ring wants nothing at an egress that it doesn't have.
-use Rattle.std.proofs.Common.{◌≡◌, ℕ, ◌&&◌, Bool, true, false, List, [], ◌∷◌, ◌++◌, Option, Some, None, Result, Ok, Err, refl, ap, ◌∙◌}
+use Rattle.std.proofs.Common.{◌≡◌, ℕ, ◌≤◌, ◌&&◌, Bool, true, false, List, [], ◌∷◌, ◌++◌, Option, Some, None, Result, Ok, Err, refl, ap, ◌∙◌}
 use Rattle.hsr_frame.specs.Address.{is_group, is_same_address}
 use Rattle.hsr_frame.specs.Cases.{first_of}
-use Rattle.hsr_frame.specs.Egress.{up, beyond, in_mode, is_supervision, nowhere, onward, to}
+use Rattle.hsr_frame.specs.Egress.{up, d as fourth, beyond, in_mode, is_supervision, nowhere, onward, to}
 use Rattle.hsr_frame.specs.declared.egress.Wants.{Wants}
 use Rattle.hsr_frame.specs.declared.fault.FrameFault.{FrameFault}
 use Rattle.hsr_frame.specs.declared.node.Cause.TheVariants.{Returned}
@@ -12,8 +12,9 @@ use Rattle.hsr_frame.specs.declared.node.RingPort.{RingPort}
 use Rattle.hsr_frame.specs.declared.node.RingPort.TheVariants.{A, B}
 use Rattle.hsr_tag.specs.declared.seen.Seen.{Seen}
 use Rattle.hsr_tag.specs.declared.seen.Seen.TheVariants.{Plain, Tagged}
-use Rattle.hsr_role.specs.Tables.{among}
+use Rattle.hsr_role.specs.Tables.{Notes, among, copies_of, judged, passed}
 use Rattle.hsr_role.specs.Wanted.{Stations, interlink_of, is_behind, ring_exits, wanted, wanted_tagged}
+use Rattle.hsr_role.proofs.Keeping.{copies-few, passed-shut}
 
 -- a frame is wanted at egresses of the node alone
 abbrev Fits : Option Stations → Wants → Type 0
@@ -94,3 +95,10 @@ wanted-d own mode stations x seen = no-fourth stations (wanted own mode stations
 -- one without an interlink has no third
 pub wanted-c : (own : List ℕ) (mode : Mode) (x : RingPort) (seen : Result Seen FrameFault) → (wanted own mode None x seen).exits.c ≡ false
 wanted-c own mode x seen = ap (λ e. e.c) (wanted-among own mode None x seen) ∙ shut (wanted own mode None x seen).exits.c
+
+-- so at most three ports pass what came to a ring port
+pub wanted-few : (capacity : ℕ) (notes : Notes) (own : List ℕ) (mode : Mode) (stations : Option Stations) (x : RingPort) (seen : Result Seen FrameFault) (now : ℕ)
+    → copies_of (judged capacity notes (wanted own mode stations x seen) seen now).0.passes ≤ 3
+wanted-few capacity notes own mode stations x seen now =
+    let exits = (wanted own mode stations x seen).exits in
+    copies-few (passed capacity notes exits seen now).0 fourth refl (passed-shut capacity notes exits seen now fourth (wanted-d own mode stations x seen))

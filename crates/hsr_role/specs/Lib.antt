@@ -1,5 +1,5 @@
 pub mod Arrival
 pub mod Numbers
-pub mod Past
 pub mod Wanted
 pub mod Tables
+pub mod Past

@@ -16,12 +16,12 @@ use Rattle.hsr_role.specs.declared.judged.Judged.{Judged}
 -- ---- one egress
 
 -- whether a node has an egress, and what it remembers there: nothing where it doesn't have it
-pub record Place : Type 0 where
+pub record Slot : Type 0 where
   pub there : Bool
   pub table : Table
 
-abbrev pub empty_place : Bool → Place
-empty_place there = record { there = there; table = empty_table entry_forget }
+abbrev pub empty_slot : Bool → Slot
+empty_slot there = record { there = there; table = empty_table entry_forget }
 
 abbrev pub table_held : Option Table → Table
 table_held None = empty_table entry_forget

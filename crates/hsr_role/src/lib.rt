@@ -4,7 +4,7 @@
 //! - `arrival`: the key and the hearing of an arrival
 //! - `wanted`: which egresses of a node on a ring want it
 //! - `judged`: the verdict on it, and what is counted
-//! - `place`: what one egress remembers, if it is there
+//! - `slot`: what one egress remembers, if it is there
 //! - `tables`: what all egresses remember, and the verdict by that
 //! - `number`: the numbers of a node's own frames
 #![tactic(auto)]
@@ -12,7 +12,7 @@
 mod arrival;
 mod judged;
 mod number;
-mod place;
+mod slot;
 mod tables;
 mod wanted;
 

@@ -3,7 +3,7 @@ ghost use Rattle.std.specs.Prelude.{◌≡◌, ◌≤◌, IfOk};
 
 use crate::arrival::key_in;
 use crate::judged::Judged;
-use crate::place::TablePlace;
+use crate::slot::TableSlot;
 use hsr_duptable::Key;
 use hsr_frame::{Exits, FrameFault, NoMemory, Wants};
 use hsr_tag::SeenView;
@@ -14,11 +14,11 @@ use std::marker::Model;
 /// that the node doesn't have has no table. Moments are in microseconds.
 #[derive(Drop)]
 pub struct EgressTables<const C: usize> {
-    up: TablePlace<C>,
-    a: TablePlace<C>,
-    b: TablePlace<C>,
-    c: TablePlace<C>,
-    d: TablePlace<C>,
+    up: TableSlot<C>,
+    a: TableSlot<C>,
+    b: TableSlot<C>,
+    c: TableSlot<C>,
+    d: TableSlot<C>,
 }
 
 impl<const C: usize> Model for EgressTables<C> {
@@ -38,11 +38,11 @@ impl<const C: usize> EgressTables<C> {
         requires { (1 ≤ C) × (C ≤ 65535) }
         ensures { IfOk result (λ tables. tables ≡ no_notes egresses) }
     {
-        let up = TablePlace::new(alloc, egresses.up)?;
-        let a = TablePlace::new(alloc, egresses.a)?;
-        let b = TablePlace::new(alloc, egresses.b)?;
-        let c = TablePlace::new(alloc, egresses.c)?;
-        let d = TablePlace::new(alloc, egresses.d)?;
+        let up = TableSlot::new(alloc, egresses.up)?;
+        let a = TableSlot::new(alloc, egresses.a)?;
+        let b = TableSlot::new(alloc, egresses.b)?;
+        let c = TableSlot::new(alloc, egresses.c)?;
+        let d = TableSlot::new(alloc, egresses.d)?;
         Ok(EgressTables { up, a, b, c, d })
     }
 

@@ -5,9 +5,9 @@ use Rattle.hsr_role.specs.declared.judged.Judged.{Judged}
 use Rattle.hsr_role.proofs.Arrivals.{heard_of-last}
 use Rattle.hsr_role.proofs.Counts.{AreWithin-arrived}
 use Rattle.hsr_role.proofs.Keeping.{AreEarlier-within, AreRoomy-within, AreWithin-passed, passed-there}
-use Rattle.hsr_role.proofs.Wants.{wanted-among}
+use Rattle.hsr_role.proofs.Wants.{wanted-among, wanted-few}
 use Rattle.hsr_danh.specs.Machine.{Machine}
-use Rattle.hsr_danh.proofs.Steps.{arrive-accepted, arrive-spent, copies-judged}
+use Rattle.hsr_danh.proofs.Steps.{arrive-accepted, arrive-spent}
 use Rattle.hsr_danh.proofs.danh.Danh.arrive.Goals as goal
 
 pub returns-then-self-eq-STEP_LIMIT : goal.returns-then-self-eq-STEP_LIMIT
@@ -29,14 +29,14 @@ judge-judged-requires g c =
 pub count-requires-clause-few : goal.count-requires-clause-few
 count-requires-clause-few g c =
     rw (ap (λ (o : Judged × Notes). o.0) c.judge-judged.ensures, c.ring_wants-wants.ensures)
-    (copies-judged g.row.C c.self.inside.tables c.self.inside.own c.self.inside.mode c.args.port c.look_at-seen.result c.max-now.result)
+    (wanted-few g.row.C c.self.inside.tables c.self.inside.own c.self.inside.mode None c.args.port c.look_at-seen.result c.max-now.result)
 
 pub invariant_of-self : goal.invariant_of-self
 invariant_of-self g c =
     let later : c.self.inside.moment ≤ c.max-now.result = omega (arith, c.max-now.ensures) in
     let exits = c.ring_wants-wants.result.exits in
     let few : copies_of c.judge-judged.result.passes ≤ 3 = rw (ap (λ (o : Judged × Notes). o.0) c.judge-judged.ensures, c.ring_wants-wants.ensures)
-    (copies-judged g.row.C c.self.inside.tables c.self.inside.own c.self.inside.mode c.args.port c.look_at-seen.result c.max-now.result) in
+    (wanted-few g.row.C c.self.inside.tables c.self.inside.own c.self.inside.mode None c.args.port c.look_at-seen.result c.max-now.result) in
     record {
       station = c.self.invariant.station;
       there = ap (λ (o : Judged × Notes). o.1.there) c.judge-judged.ensures ∙ passed-there g.row.C c.self.inside.tables exits c.look_at-seen.result c.max-now.result ∙ c.self.invariant.there;

@@ -7,10 +7,10 @@ use Rattle.hsr_role.specs.declared.judged.Judged.{Judged}
 use Rattle.hsr_role.proofs.Arrivals.{heard_of-last}
 use Rattle.hsr_role.proofs.Counts.{AreWithin-arrived}
 use Rattle.hsr_role.proofs.Keeping.{AreEarlier-within, AreRoomy-within, AreWithin-passed, passed-there}
-use Rattle.hsr_role.proofs.Wants.{wanted-among}
+use Rattle.hsr_role.proofs.Wants.{wanted-among, wanted-few}
 use Rattle.hsr_redbox.specs.Machine.{Machine}
 use Rattle.hsr_redbox.specs.Step.{after_ring}
-use Rattle.hsr_redbox.proofs.Steps.{copies-judged, ring-step}
+use Rattle.hsr_redbox.proofs.Steps.{ring-step}
 use Rattle.hsr_redbox.proofs.redbox.RedBox.from_ring.Goals as goal
 
 pub judge-judged-requires : goal.judge-judged-requires
@@ -30,14 +30,14 @@ judge-judged-requires g c =
 pub count-requires-clause-few : goal.count-requires-clause-few
 count-requires-clause-few g c =
     rw (ap (λ (o : Judged × Notes). o.0) c.judge-judged.ensures, c.ring_wants-wants.ensures)
-    (copies-judged g.row.C c.self.inside.tables c.self.inside.own c.self.inside.mode (is_known c.args.now c.self.inside.proxies.heard) c.args.x c.args.seen.now c.args.now)
+    (wanted-few g.row.C c.self.inside.tables c.self.inside.own c.self.inside.mode (Some (is_known c.args.now c.self.inside.proxies.heard)) c.args.x c.args.seen.now c.args.now)
 
 pub invariant_of-self : goal.invariant_of-self
 invariant_of-self g c =
     let later : c.self.inside.moment ≤ c.args.now = rw (← c.self.view_is) at c.requires.later in
     let exits = c.ring_wants-wants.result.exits in
     let few : copies_of c.judge-judged.result.passes ≤ 3 = rw (ap (λ (o : Judged × Notes). o.0) c.judge-judged.ensures, c.ring_wants-wants.ensures)
-    (copies-judged g.row.C c.self.inside.tables c.self.inside.own c.self.inside.mode (is_known c.args.now c.self.inside.proxies.heard) c.args.x c.args.seen.now c.args.now) in
+    (wanted-few g.row.C c.self.inside.tables c.self.inside.own c.self.inside.mode (Some (is_known c.args.now c.self.inside.proxies.heard)) c.args.x c.args.seen.now c.args.now) in
     record {
       station = c.self.invariant.station;
       there = ap (λ (o : Judged × Notes). o.1.there) c.judge-judged.ensures ∙ passed-there g.row.C c.self.inside.tables exits c.args.seen.now c.args.now ∙ c.self.invariant.there;

@@ -7,35 +7,35 @@ use hsr_frame::NoMemory;
 use std::alloc::Global;
 use std::marker::Model;
 
-/// The place for an egress's duplicate table of `C` entries.
+/// The slot for an egress's duplicate table of `C` entries.
 #[derive(Drop)]
-pub(crate) struct TablePlace<const C: usize> {
+pub(crate) struct TableSlot<const C: usize> {
     table: Option<DupTable<C>>,
 }
 
-impl<const C: usize> Model for TablePlace<C> {
+impl<const C: usize> Model for TableSlot<C> {
     ghost use Rattle.std.specs.Prelude.{is_some};
-    ghost use Rattle.hsr_role.specs.Tables.{Place, table_held};
+    ghost use Rattle.hsr_role.specs.Tables.{Slot, table_held};
 
-    ghost Value = { Place };
+    ghost Value = { Slot };
 
-    ghost view = { λ p. record { there = is_some p.table; table = table_held p.table } };
+    ghost view = { λ s. record { there = is_some s.table; table = table_held s.table } };
 }
 
-impl<const C: usize> TablePlace<C> {
+impl<const C: usize> TableSlot<C> {
     ghost use Rattle.hsr_duptable.specs.Table.{after_pass, remembers};
-    ghost use Rattle.hsr_role.specs.Tables.{age_if, empty_place};
+    ghost use Rattle.hsr_role.specs.Tables.{age_if, empty_slot};
 
     /// A table that holds nothing, if the egress is there.
     pub(crate) fn new(alloc: Global, is_there: bool) -> Result<Self, NoMemory>
         requires { (1 ≤ C) × (C ≤ 65535) }
-        ensures { IfOk result (λ place. place ≡ empty_place is_there) }
+        ensures { IfOk result (λ slot. slot ≡ empty_slot is_there) }
     {
         if !is_there {
-            return Ok(TablePlace { table: None });
+            return Ok(TableSlot { table: None });
         }
         let table = DupTable::new(alloc, ENTRY_FORGET)?;
-        Ok(TablePlace { table: Some(table) })
+        Ok(TableSlot { table: Some(table) })
     }
 
     /// Notes a frame that passes, without a look.
