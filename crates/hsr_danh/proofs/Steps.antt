@@ -1,23 +1,19 @@
 -- What the program does in a step is the step of the definition, and keeps what holds of each DANH.
-use Rattle.std.proofs.Common.{◌≡◌, ℕ, ◌+◌, ◌%◌, ◌<◌, ◌≤◌, Bool, true, false, List, [], ◌∷◌, Some, None, Result, Ok, Err, refl, ap, ap₂, sym, arith, ◌∙◌}
+use Rattle.std.proofs.Common.{◌≡◌, ℕ, ◌+◌, ◌%◌, ◌<◌, Bool, List, [], ◌∷◌, Some, None, Result, Ok, Err, ap, ap₂, sym, ◌∙◌}
 use Rattle.hsr_frame.specs.Counters.{step_limit}
-use Rattle.hsr_frame.specs.Egress.{a, b, d, exits_of}
+use Rattle.hsr_frame.specs.Egress.{a, b, exits_of}
 use Rattle.hsr_frame.specs.Send.{send_refusal}
-use Rattle.hsr_frame.specs.declared.counters.Counters.{Counters}
 use Rattle.hsr_frame.specs.declared.fault.FrameFault.{FrameFault}
 use Rattle.hsr_frame.specs.declared.fault.SendFault.{SendFault}
-use Rattle.hsr_frame.specs.declared.node.Mode.{Mode}
 use Rattle.hsr_frame.specs.declared.node.RingPort.{RingPort}
 use Rattle.hsr_tag.specs.Seen.{classified}
 use Rattle.hsr_tag.specs.declared.seen.Seen.{Seen}
 use Rattle.hsr_tables.specs.Nodes.{Nodes}
 use Rattle.hsr_role.specs.Arrival.{heard_of}
 use Rattle.hsr_role.specs.Numbers.{number_range}
-use Rattle.hsr_role.specs.Tables.{Notes, after_passes, copies_of, counted_with, judged, passed}
+use Rattle.hsr_role.specs.Tables.{Notes, after_passes, counted_with, judged}
 use Rattle.hsr_role.specs.declared.judged.Judged.{Judged}
-use Rattle.hsr_role.proofs.Keeping.{copies-few, passed-shut}
 use Rattle.hsr_role.proofs.Spending.{spent, unspent}
-use Rattle.hsr_role.proofs.Wants.{wanted-d}
 use Rattle.hsr_danh.specs.Machine.{Machine}
 use Rattle.hsr_danh.specs.Step.{after_arrival, arrive_or_spent, arrive_step, life_or_spent, life_step, now_at, send_or_refuse, send_step, verdict_of}
 use Rattle.hsr_danh.specs.Wanted.{wanted}
