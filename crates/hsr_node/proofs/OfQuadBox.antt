@@ -13,7 +13,6 @@ use Rattle.hsr_frame.specs.declared.fault.Spent.{Spent as IsSpent}
 use Rattle.hsr_frame.specs.declared.node.Cause.{Cause}
 use Rattle.hsr_frame.specs.declared.node.Cause.TheVariants as cause
 use Rattle.hsr_tag.specs.Seen.{classified}
-use Rattle.hsr_tag.specs.Tag.{TaggedFields}
 use Rattle.hsr_tag.specs.declared.seen.Seen.{Seen}
 use Rattle.hsr_tag.specs.declared.seen.Seen.TheVariants.{Plain, Tagged}
 use Rattle.hsr_duptable.specs.Key.{Key}
