@@ -1,5 +1,5 @@
 -- What no node wants: what is no frame, what it sent itself, what came plain from a ring, and, for a Station, anything on.
-use Rattle.std.proofs.Common.{ap, Bool, Err, List, None, Ok, Option, Some, [], arith, false, if◌then◌else◌, inr, refl, suc, sym, true, zero, ℕ, ◌&&◌, ◌<◌, ◌==◌, ◌||◌, ◌∙◌, ◌∷◌, ◌≡◌}
+use Rattle.std.proofs.Common.{ap, Bool, Err, List, None, Ok, Option, Some, [], arith, false, if◌then◌else◌, inr, refl, suc, sym, true, zero, ℕ, ◌<◌, ◌==◌, ◌||◌, ◌∙◌, ◌∷◌, ◌≡◌}
 use Rattle.std.specs.Prelude.{option_map, slice_get}
 use Rattle.std.proofs.lemmas.Bool.{false≢true, or_left, or_right}
 use Rattle.hsr_frame.specs.Address.{is_group, is_same_address}
