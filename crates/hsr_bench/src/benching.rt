@@ -15,7 +15,8 @@ use std::thread::Threads;
 
 /// Writes a line.
 fn put_line<E: Write>(errors: &mut E, text: &str) -> io::Result<()>
-    ensures { OnOk result (Appends (E.contents errors.old) (E.contents errors.new) (text.now ++ codes "\n")) }
+    ensures { OnOk result (Appends (E.contents errors.old) (E.contents errors.new)
+        (text.now ++ codes "\n")) }
 {
     errors.write_all(text.as_bytes())?;
     errors.write_all(b"\n")
@@ -27,6 +28,7 @@ fn explain<E: Write>(alloc: Global, errors: &mut E, lines: &[Vec<u8>]) -> io::Re
 {
     let mut text = Vec::new(alloc);
     if put_explanation(&mut text, lines).is_err() {
+        // What can't be explained for want of room isn't: the status stays.
         return Ok(());
     }
     errors.write_all(text.as_slice())
@@ -40,9 +42,11 @@ fn tell<E: Write>(
     explains: bool,
     explanation: &Explanation,
 ) -> io::Result<u8>
-    ensures { IfOk result (λ code. Tells explains (E.contents errors.old) (E.contents errors.new) status code) }
+    ensures { IfOk result (λ code. Tells explains (E.contents errors.old)
+        (E.contents errors.new) status code) }
 {
     if let Status::Fault(fault) = status {
+        // The agreed line comes first, since scripts read one line.
         writeln!(errors, "{fault}")?;
     }
     if explains {
@@ -72,9 +76,11 @@ fn done<H: Threads + Wait + Sync, R: Read, W: Write>(
     chosen: &Options,
     notes: &mut Notes,
 ) -> Status
-    ensures { IfSome (R.remaining reader.old) (λ text. IsDone chosen.now text (W.contents writer.old) (W.contents writer.new) result) }
+    ensures { IfSome (R.remaining reader.old)
+        (λ text. IsDone chosen.now text (W.contents writer.old) (W.contents writer.new) result) }
 {
     let status = perform(rt, alloc, reader, writer, chosen, notes);
+    // The one place where output is flushed. A flush that fails is a failed write.
     match writer.flush() {
         Ok(()) => status,
         Err(_) => Status::Fault(Fault::Write),
@@ -101,9 +107,11 @@ fn answer<H: Threads + Wait + Sync, R: Read, W: Write, E: Write>(
         }
         Err(OptionFault::Usage { text }) => {
             put_line(errors, text.as_str())?;
+            // A status of its own, so that scripts tell refused words from faults and doubts.
             Ok(3)
         }
         Err(OptionFault::Memory) => {
+            // Before any choice is known, so nothing more is explained.
             let short = Status::Fault(Fault::Memory);
             tell(alloc, errors, short, false, &Explanation::new(alloc))
         }

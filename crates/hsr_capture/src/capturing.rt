@@ -23,9 +23,12 @@ fn put_link<const C: usize>(
     link: usize,
 ) -> Result<(), BlockFault>
     requires { link < length closed.now.run.links }
-    ensures bytes { OnOk result (text.new.items ≡ text.old.items ++ (interface_of (lists_of names.now) closed.now.run link Forth ++ interface_of (lists_of names.now) closed.now.run link Back)) }
+    ensures bytes { OnOk result (text.new.items
+        ≡ text.old.items ++ (interface_of (lists_of names.now) closed.now.run link Forth
+        ++ interface_of (lists_of names.now) closed.now.run link Back)) }
     ensures fits { OnOk result (LinkFits (lists_of names.now) closed.now.run link) }
-    ensures too_long { IfErr result (IfTooLong (LinkFits (lists_of names.now) closed.now.run link → ⊥)) }
+    ensures too_long { IfErr result (IfTooLong
+        (LinkFits (lists_of names.now) closed.now.run link → ⊥)) }
 {
     put_direction(alloc, text, names, closed, link, Dir::Forth)?;
     put_direction(alloc, text, names, closed, link, Dir::Back)
@@ -38,9 +41,14 @@ fn put_interfaces<const C: usize>(
     names: &[Vec<u8>],
     closed: &Closed<C>,
 ) -> Result<(), BlockFault>
-    ensures bytes { OnOk result (text.new.items ≡ text.old.items ++ interfaces_below (lists_of names.now) closed.now.run (length closed.now.run.links)) }
-    ensures fits { OnOk result ((l : ℕ) → l < length closed.now.run.links → LinkFits (lists_of names.now) closed.now.run l) }
-    ensures too_long { IfErr result (IfTooLong (((l : ℕ) → l < length closed.now.run.links → LinkFits (lists_of names.now) closed.now.run l) → ⊥)) }
+    ensures bytes { OnOk result (text.new.items
+        ≡ text.old.items ++ interfaces_below (lists_of names.now) closed.now.run
+        (length closed.now.run.links)) }
+    ensures fits { OnOk result ((l : ℕ) → l < length closed.now.run.links
+        → LinkFits (lists_of names.now) closed.now.run l) }
+    ensures too_long { IfErr result (IfTooLong
+        (((l : ℕ) → l < length closed.now.run.links
+        → LinkFits (lists_of names.now) closed.now.run l) → ⊥)) }
 {
     for link in 0..closed.topology().links().len() {
         put_link(alloc, text, names, closed, link)?;
@@ -56,9 +64,11 @@ fn put_packets<const C: usize>(
     closed: &Closed<C>,
     rows: &[Shown],
 ) -> Result<(), BlockFault>
-    ensures bytes { OnOk result (text.new.items ≡ text.old.items ++ flat_map (packet_of (lists_of names.now) closed.now.run) rows.now) }
+    ensures bytes { OnOk result (text.new.items
+        ≡ text.old.items ++ flat_map (packet_of (lists_of names.now) closed.now.run) rows.now) }
     ensures fits { OnOk result (All (ShownFits (lists_of names.now) closed.now.run) rows.now) }
-    ensures too_long { IfErr result (IfTooLong (All (ShownFits (lists_of names.now) closed.now.run) rows.now → ⊥)) }
+    ensures too_long { IfErr result (IfTooLong
+        (All (ShownFits (lists_of names.now) closed.now.run) rows.now → ⊥)) }
 {
     for shown in rows {
         put_shown(alloc, text, names, closed, shown)?;
@@ -77,11 +87,14 @@ pub fn capture<const C: usize>(
     names: &[Vec<u8>],
     rows: &[Shown],
 ) -> Result<Vec<u8>, BlockFault>
-    ensures text { IfOk result (λ text. text.items ≡ capture (lists_of names.now) closed.now.run rows.now) }
+    ensures text { IfOk result (λ text. text.items
+        ≡ capture (lists_of names.now) closed.now.run rows.now) }
     ensures fits { OnOk result (Fits (lists_of names.now) closed.now.run rows.now) }
-    ensures too_long { IfErr result (IfTooLong (Fits (lists_of names.now) closed.now.run rows.now → ⊥)) }
+    ensures too_long { IfErr result (IfTooLong
+        (Fits (lists_of names.now) closed.now.run rows.now → ⊥)) }
 {
     let mut text = Vec::new(alloc);
+    // Interfaces come before packets, which name them by number (draft-ietf-opsawg-pcapng section 4.3).
     put_section_header(alloc, &mut text, b"hsr_view")?;
     put_interfaces(alloc, &mut text, names, closed)?;
     put_packets(alloc, &mut text, names, closed, rows)?;

@@ -22,6 +22,7 @@ use hsr_topology::End;
 fn put(text: &mut Vec<u8>, words: &[u8]) -> Result<(), NoMemory>
     ensures { OnOk result (text.new.items ≡ text.old.items ++ words.now) }
 {
+    // In a function of its own: so each caller's proof has one clause about the text.
     text.extend_from_slice(words)?;
     Ok(())
 }
@@ -42,7 +43,8 @@ pub(crate) fn put_interface_name(
     from: End,
     to: End,
 ) -> Result<(), NoMemory>
-    ensures { OnOk result (text.new.items ≡ text.old.items ++ name_from (lists_of names.now) places.now from to) }
+    ensures { OnOk result (text.new.items ≡ text.old.items
+        ++ name_from (lists_of names.now) places.now from to) }
 {
     put_port(text, b".", names, places, from)?;
     put(text, b">")?;
@@ -69,6 +71,7 @@ pub(crate) fn put_interface_description(
 fn put_send_words(text: &mut Vec<u8>) -> Result<(), NoMemory>
     ensures { OnOk result (text.new.items ≡ text.old.items ++ send_words) }
 {
+    // In a function of its own: a long literal at the head of a text keeps search from the rest of it.
     put(text, b"; copy of send ")
 }
 
@@ -80,7 +83,8 @@ fn put_spot(
     node: usize,
     place: usize,
 ) -> Result<(), NoMemory>
-    ensures { OnOk result (text.new.items ≡ text.old.items ++ entry_text (lists_of names.now) node place) }
+    ensures { OnOk result (text.new.items ≡ text.old.items
+        ++ entry_text (lists_of names.now) node place) }
 {
     put_name(text, names, node)?;
     put(text, b":")?;
@@ -114,6 +118,7 @@ fn loss_reason(fate: Fate) -> &'static [u8]
         Fate::LostDown => b"the link was cut",
         Fate::LostCut => b"the link was cut while it waited",
         Fate::LostOverrun => b"no room on the link",
+        // A copy that waits or was taken wasn't lost. Only lost ones are asked for.
         Fate::Queued | Fate::Taken => b"",
     }
 }
@@ -132,7 +137,8 @@ fn put_loss(text: &mut Vec<u8>, fate: Fate) -> Result<(), NoMemory>
 
 /// Puts a port's letter behind a space, if a copy left by it.
 fn put_left(text: &mut Vec<u8>, place: &Place, port: u8, leaves: bool) -> Result<(), NoMemory>
-    ensures { OnOk result (text.new.items ≡ text.old.items ++ (if leaves then codes " " ++ letter place.now port ∷ [] else [])) }
+    ensures { OnOk result (text.new.items ≡ text.old.items
+        ++ (if leaves then codes " " ++ letter place.now port ∷ [] else [])) }
 {
     if leaves {
         put(text, b" ")?;
@@ -173,7 +179,8 @@ fn put_passed(
     ports: [bool; 4],
     seq: Option<u16>,
 ) -> Result<(), NoMemory>
-    ensures { OnOk result (text.new.items ≡ text.old.items ++ judgement place.now up ports seq Passed) }
+    ensures { OnOk result (text.new.items ≡ text.old.items
+        ++ judgement place.now up ports seq Passed) }
 {
     put(text, b"passed")?;
     put(text, if up { b" up" } else { b"" })?;
@@ -204,7 +211,8 @@ fn put_entry(
     entries: &[Entry],
     at: usize,
 ) -> Result<(), NoMemory>
-    ensures { OnOk result (text.new.items ≡ text.old.items ++ judged_if (Some place.now) (slice_get entries.now at)) }
+    ensures { OnOk result (text.new.items ≡ text.old.items
+        ++ judged_if (Some place.now) (slice_get entries.now at)) }
 {
     match entries.get(at) {
         Some(entry) => put_outcome(text, place, &entry.outcome),
@@ -220,7 +228,8 @@ fn put_judged(
     entries: &[Entry],
     at: usize,
 ) -> Result<(), NoMemory>
-    ensures { OnOk result (text.new.items ≡ text.old.items ++ judged_if (slice_get places.now node) (slice_get entries.now at)) }
+    ensures { OnOk result (text.new.items ≡ text.old.items
+        ++ judged_if (slice_get places.now node) (slice_get entries.now at)) }
 {
     match places.get(node) {
         Some(place) => put_entry(text, place, entries, at),
@@ -247,7 +256,8 @@ fn put_arrival<const C: usize>(
     end: End,
     place: usize,
 ) -> Result<(), NoMemory>
-    ensures { OnOk result (text.new.items ≡ text.old.items ++ judged_text (lists_of names.now) closed.now.run end place) }
+    ensures { OnOk result (text.new.items ≡ text.old.items
+        ++ judged_text (lists_of names.now) closed.now.run end place) }
 {
     let places = closed.topology().places();
     put_port(text, b" ", names, places, end)?;
@@ -260,6 +270,7 @@ fn put_arrival<const C: usize>(
 fn put_judge_words(text: &mut Vec<u8>) -> Result<(), NoMemory>
     ensures { OnOk result (text.new.items ≡ text.old.items ++ judge_words) }
 {
+    // In a function of its own, as the words before a send.
     put(text, b"; judged by entry ")
 }
 
@@ -271,7 +282,8 @@ fn put_judge_entry(
     node: usize,
     place: usize,
 ) -> Result<(), NoMemory>
-    ensures { OnOk result (text.new.items ≡ text.old.items ++ judge_text (lists_of names.now) node place) }
+    ensures { OnOk result (text.new.items ≡ text.old.items
+        ++ judge_text (lists_of names.now) node place) }
 {
     put_judge_words(text)?;
     put_spot(text, names, node, place)
@@ -279,8 +291,10 @@ fn put_judge_entry(
 
 /// Puts last which entry judged a copy, if one did.
 fn put_judge(text: &mut Vec<u8>, names: &[Vec<u8>], shown: &Shown) -> Result<(), NoMemory>
-    ensures { OnOk result (text.new.items ≡ text.old.items ++ judge_if (lists_of names.now) shown.now) }
+    ensures { OnOk result (text.new.items ≡ text.old.items
+        ++ judge_if (lists_of names.now) shown.now) }
 {
+    // A lost copy was judged by no entry.
     if shown.is_lost {
         return Ok(());
     }
@@ -289,8 +303,10 @@ fn put_judge(text: &mut Vec<u8>, names: &[Vec<u8>], shown: &Shown) -> Result<(),
 
 /// Puts the sequence number of a frame last, if it has a tag.
 fn put_sequence(text: &mut Vec<u8>, octets: &[u8]) -> Result<(), NoMemory>
-    ensures { OnOk result (text.new.items ≡ text.old.items ++ sequence_text (classified octets.now)) }
+    ensures { OnOk result (text.new.items ≡ text.old.items
+        ++ sequence_text (classified octets.now)) }
 {
+    // What is no frame has no number, and its comment says nothing of one.
     let Ok(seen) = look_at(octets) else {
         return Ok(());
     };
@@ -313,7 +329,8 @@ fn put_became<const C: usize>(
     to: End,
 ) -> Result<(), NoMemory>
     requires { to ≡ to_end row.now.dir (ends_of closed.now.run shown.now.link) }
-    ensures { OnOk result (text.new.items ≡ text.old.items ++ became (lists_of names.now) closed.now.run shown.now row.now) }
+    ensures { OnOk result (text.new.items ≡ text.old.items
+        ++ became (lists_of names.now) closed.now.run shown.now row.now) }
 {
     if shown.is_lost {
         put_loss(text, row.fate)
@@ -333,7 +350,8 @@ pub(crate) fn put_comment<const C: usize>(
     to: End,
 ) -> Result<(), NoMemory>
     requires { to ≡ to_end row.now.dir (ends_of closed.now.run shown.now.link) }
-    ensures { OnOk result (text.new.items ≡ text.old.items ++ comment (lists_of names.now) closed.now.run shown.now row.now) }
+    ensures { OnOk result (text.new.items ≡ text.old.items
+        ++ comment (lists_of names.now) closed.now.run shown.now row.now) }
 {
     put_became(text, names, closed, shown, row, to)?;
     put_send_if(text, names, row.carried.probe)?;

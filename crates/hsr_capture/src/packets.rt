@@ -25,9 +25,11 @@ pub(crate) fn put_direction<const C: usize>(
     dir: Dir,
 ) -> Result<(), BlockFault>
     requires { link < length closed.now.run.links }
-    ensures bytes { OnOk result (text.new.items ≡ text.old.items ++ interface_of (lists_of names.now) closed.now.run link dir) }
+    ensures bytes { OnOk result (text.new.items
+        ≡ text.old.items ++ interface_of (lists_of names.now) closed.now.run link dir) }
     ensures fits { OnOk result (DirectionFits (lists_of names.now) closed.now.run link dir) }
-    ensures too_long { IfErr result (IfTooLong (DirectionFits (lists_of names.now) closed.now.run link dir → ⊥)) }
+    ensures too_long { IfErr result (IfTooLong
+        (DirectionFits (lists_of names.now) closed.now.run link dir → ⊥)) }
 {
     let mut name = Vec::new(alloc);
     let from = closed.from_end(link, dir);
@@ -43,6 +45,7 @@ fn interface_number(link: usize, dir: Dir) -> u32
     requires { link < 128 }
     ensures { result ≡ interface_number link dir }
 {
+    // Each link has two interfaces, Forth before Back, in the order in which they were put.
     let forth = 2 * (link as u32);
     match dir {
         Dir::Forth => forth,
@@ -61,9 +64,13 @@ fn put_row<const C: usize>(
 ) -> Result<(), BlockFault>
     requires below { shown.now.link < length closed.now.run.links }
     requires few { shown.now.link < 128 }
-    ensures bytes { OnOk result (text.new.items ≡ text.old.items ++ packet_if (lists_of names.now) closed.now.run shown.now (Some row.now)) }
-    ensures fits { OnOk result (RowFits (lists_of names.now) closed.now.run shown.now (Some row.now)) }
-    ensures too_long { IfErr result (IfTooLong (RowFits (lists_of names.now) closed.now.run shown.now (Some row.now) → ⊥)) }
+    ensures bytes { OnOk result (text.new.items
+        ≡ text.old.items ++ packet_if (lists_of names.now) closed.now.run shown.now
+        (Some row.now)) }
+    ensures fits { OnOk result (RowFits (lists_of names.now) closed.now.run shown.now
+        (Some row.now)) }
+    ensures too_long { IfErr result (IfTooLong
+        (RowFits (lists_of names.now) closed.now.run shown.now (Some row.now) → ⊥)) }
 {
     let to = closed.to_end(shown.link, row.dir);
     let mut comment = Vec::new(alloc);
@@ -99,10 +106,13 @@ pub(crate) fn put_shown<const C: usize>(
     closed: &Closed<C>,
     shown: &Shown,
 ) -> Result<(), BlockFault>
-    ensures bytes { OnOk result (text.new.items ≡ text.old.items ++ packet_of (lists_of names.now) closed.now.run shown.now) }
+    ensures bytes { OnOk result (text.new.items
+        ≡ text.old.items ++ packet_of (lists_of names.now) closed.now.run shown.now) }
     ensures fits { OnOk result (ShownFits (lists_of names.now) closed.now.run shown.now) }
-    ensures too_long { IfErr result (IfTooLong (ShownFits (lists_of names.now) closed.now.run shown.now → ⊥)) }
+    ensures too_long { IfErr result (IfTooLong
+        (ShownFits (lists_of names.now) closed.now.run shown.now → ⊥)) }
 {
+    // Rows of another run may name a link that isn't there: they give no packet.
     if shown.link >= closed.topology().links().len() {
         return Ok(());
     }
@@ -114,13 +124,15 @@ pub(crate) fn put_shown<const C: usize>(
 
 /// Puts the comment of a row of a run last, if there is such a row: what became of its copy, of which send it is, which entry judged it, and
 /// the sequence number of its frame.
+/// `NoMemory` where room is refused; a front of the comment may stand there then.
 pub fn put_shown_comment<const C: usize>(
     text: &mut Vec<u8>,
     names: &[Vec<u8>],
     closed: &Closed<C>,
     shown: &Shown,
 ) -> Result<(), NoMemory>
-    ensures { OnOk result (text.new.items ≡ text.old.items ++ comment_of (lists_of names.now) closed.now.run shown.now) }
+    ensures { OnOk result (text.new.items ≡ text.old.items
+        ++ comment_of (lists_of names.now) closed.now.run shown.now) }
 {
     if shown.link >= closed.topology().links().len() {
         return Ok(());

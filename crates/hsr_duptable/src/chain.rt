@@ -22,6 +22,7 @@ fn held_entry(ring: &HeapCircularBuffer<Entry>, gone: u64, serial: u64) -> Optio
     ensures { option_copied result ≡ entry_of gone ring.now.items serial }
 {
     if serial > gone {
+        // Serials follow one another and the oldest are gone, so a serial says the place.
         ring.get((serial - gone - 1) as usize)
     } else {
         None
@@ -48,6 +49,7 @@ pub(crate) fn look_up<const C: usize>(
 {
     let mut serial = head;
     let mut looks = 0;
+    // A chain ends at a serial that is no longer held: nothing is unlinked when a note is given up.
     while let Some(entry) = held_entry(ring, gone, serial) {
         looks += 1;
         if entry.note.key == key {
@@ -63,8 +65,10 @@ pub(crate) fn look_up<const C: usize>(
 pub(crate) fn give_up_expired(ring: &mut HeapCircularBuffer<Entry>, forget: u64, at: u64)
     requires { IsRising 0 (notes_of ring.old.items) at }
     ensures notes { notes_of ring.new.items ≡ unexpired_notes forget at (notes_of ring.old.items) }
-    ensures last { ring.new ≡ buffer (last_entries (length ring.new.items) ring.old.items) ring.old.capacity }
+    ensures last { ring.new
+        ≡ buffer (last_entries (length ring.new.items) ring.old.items) ring.old.capacity }
 {
+    // Notes stand by their moments, so the first that isn't expired ends the walk.
     while let Some(oldest) = ring.front() {
         if oldest.note.is_unexpired(forget, at) {
             return;

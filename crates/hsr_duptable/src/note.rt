@@ -39,6 +39,7 @@ impl Note {
     pub(crate) fn is_unexpired(&self, forget: u64, at: u64) -> bool
         ensures { result ≡ is_unexpired forget at self.now }
     {
+        // A difference and no sum: `moment + forget` may overflow.
         at.saturating_sub(self.moment) < forget
     }
 }

@@ -21,6 +21,7 @@ pub struct DupTable<const C: usize> {
     // for each bucket the serial of its youngest note
     heads: Vec<u64>,
     forget: u64,
+    // Both are kept here, so that no call of a role needs a premise on its moment or its room.
     last: u64,
     noted: u64,
 }
@@ -63,6 +64,7 @@ impl<const C: usize> DupTable<C> {
         ensures value { result ≡ bucket_of C key }
         ensures within { result < C }
     {
+        // No overflow: 31 times 48 bits, and 16 bits, are below 2^54.
         let source = BigEndian::read_u48(&key.src.octets());
         ((31 * source + key.seq as u64) % C as u64) as usize
     }
@@ -105,6 +107,7 @@ impl<const C: usize> DupTable<C> {
         ensures looks { result.1 ≡ looks_of C key self.now.notes }
         ensures within { result.1 ≤ C }
     {
+        // No field keeps how many are gone: it is what was noted less what is held.
         let gone = self.noted - self.ring.len() as u64;
         let head = self.heads[Self::bucket(key)];
         look_up::<C>(&self.ring, gone, head, key, self.forget, at)
@@ -120,6 +123,7 @@ impl<const C: usize> DupTable<C> {
         let bucket = Self::bucket(key);
         let older = self.heads[bucket];
         let note = Note { key, moment: at };
+        // A full ring overwrites its front, the oldest note. Its serial stays in `heads` and in chains, and ends them.
         self.ring.push_back(Entry { note, older });
         self.heads[bucket] = serial;
         self.noted = serial;
@@ -134,6 +138,7 @@ impl<const C: usize> DupTable<C> {
         ensures passes { result ≡ (wanted && not (remembers self.old key at)) }
         ensures noted { self.new ≡ after_pass C self.old result key at }
     {
+        // Look and note are one call, so that no role forgets either.
         let passes = wanted && !self.seen(key, at);
         self.mark(passes, key, at);
         passes
@@ -155,6 +160,7 @@ impl<const C: usize> DupTable<C> {
         requires { self.old.last ≤ at }
         ensures { self.new ≡ after_age self.old at }
     {
+        // `heads` stays as it is: a serial that is no longer held ends a chain.
         give_up_expired(&mut self.ring, self.forget, at);
         self.last = at;
     }

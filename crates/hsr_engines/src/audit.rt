@@ -50,9 +50,11 @@ fn audited<R: Read, const C: usize>(
     notes: &mut Notes,
 ) -> Result<(Finding, Vec<u8>), Fault>
     requires entries { (1 ≤ C) × (C ≤ 65535) }
-    ensures ok { IfOk result (λ r. IfSome (R.remaining reader.old) (λ text. IsAudited C scope asked text r.0 r.1.items)) }
+    ensures ok { IfOk result (λ r. IfSome (R.remaining reader.old)
+        (λ text. IsAudited C scope asked text r.0 r.1.items)) }
     ensures err { IfErr result (λ f. IfSome (R.remaining reader.old) (λ text. IsUnread C text f)) }
 {
+    // A `match` and no `?`, which gets no proof where a clause says which fault comes first.
     let closed = match closed::<R, C>(alloc, reader) {
         Ok(closed) => closed,
         Err(fault) => return Err(fault),
@@ -80,10 +82,13 @@ fn audited_with<R: Read>(
     asked: Asked,
     notes: &mut Notes,
 ) -> Result<(Finding, Vec<u8>), Fault>
-    ensures ok { IfOk result (λ r. IfSome (R.remaining reader.old) (λ text. IsAudited (capacity_of table) scope asked text r.0 r.1.items)) }
-    ensures err { IfErr result (λ f. IfSome (R.remaining reader.old) (λ text. IsUnread (capacity_of table) text f)) }
+    ensures ok { IfOk result (λ r. IfSome (R.remaining reader.old)
+        (λ text. IsAudited (capacity_of table) scope asked text r.0 r.1.items)) }
+    ensures err { IfErr result (λ f. IfSome (R.remaining reader.old)
+        (λ text. IsUnread (capacity_of table) text f)) }
 {
     match table {
+        // The size of a table is a constant of its type, so each choice is a call of its own.
         Table::Small => audited::<R, 4>(alloc, reader, scope, asked, notes),
         Table::Large => audited::<R, 512>(alloc, reader, scope, asked, notes),
     }

@@ -22,6 +22,7 @@ const LINE_LIMIT: usize = 4096;
 /// Room for a line, without its line feed, and for its answer, used again for each line.
 #[derive(Drop)]
 struct Room {
+    // Of a fixed size: a line of any length takes no more, and is refused.
     line: ArrayVec<u8, LINE_LIMIT>,
     text: Vec<u8>,
 }
@@ -36,13 +37,15 @@ fn serve<W: Write, const C: usize>(
     writer: &mut W,
     text: &mut Vec<u8>,
 ) -> Result<(), Fault>
-    ensures { Served unit C danh.old danh.new number line.now (W.contents writer.old) (W.contents writer.new) result }
+    ensures { Served unit C danh.old danh.new number line.now (W.contents writer.old)
+        (W.contents writer.new) result }
 {
     let request = match read_request(alloc, unit, line) {
         Ok(request) => request,
         Err(WordFault::Bad) => return Err(Fault::Line(number)),
         Err(WordFault::Memory) => return Err(Fault::Memory),
     };
+    // Formed whole before it is written, so that want of memory leaves no half answer.
     answer_request(danh, &request, text)?;
     match writer.write_all(text.as_slice()) {
         Ok(()) => Ok(()),
@@ -61,7 +64,8 @@ fn answer_front<W: Write, const C: usize>(
     writer: &mut W,
     room: &mut Room,
 ) -> Result<bool, Fault>
-    ensures turned { (left rest : Option (List ℕ)) → ReadsFront LINE_LIMIT left rest room.old.line.items front
+    ensures turned { (left rest : Option (List ℕ))
+        → ReadsFront LINE_LIMIT left rest room.old.line.items front
         → Turned unit left rest (W.contents writer.old) (W.contents writer.new) C danh.old danh.new number result }
     ensures told { IfErr result (λ f. f ≢ ReadFailed) }
 {
@@ -74,6 +78,7 @@ fn answer_front<W: Write, const C: usize>(
             Err(fault) => Err(fault),
         },
         Front::Rest => {
+            // Nothing behind the last line feed is no line.
             if line.is_empty() {
                 return Ok(false);
             }
@@ -96,7 +101,8 @@ fn turn<R: BufRead, W: Write, const C: usize>(
     writer: &mut W,
     room: &mut Room,
 ) -> Result<bool, Fault>
-    ensures turned { Turned unit (R.remaining reader.old) (R.remaining reader.new) (W.contents writer.old) (W.contents writer.new) C danh.old danh.new number result }
+    ensures turned { Turned unit (R.remaining reader.old) (R.remaining reader.new)
+        (W.contents writer.old) (W.contents writer.new) C danh.old danh.new number result }
     ensures fewer { OnOk result (reads.new < reads.old) }
     ensures bounded { reads.new ≤ reads.old }
 {
@@ -131,7 +137,8 @@ fn run<R: BufRead, W: Write, const C: usize>(
 ) -> Result<(), Fault>
     requires entries { (1 ≤ C) × (C ≤ 65535) }
     requires granted { reads.old ≡ 2 ^ 40 }
-    ensures { Ran chosen.now.unit (R.remaining reader.old) (W.contents writer.old) (W.contents writer.new) C (new_machine chosen.now.mac chosen.now.mode) result }
+    ensures { Ran chosen.now.unit (R.remaining reader.old) (W.contents writer.old)
+        (W.contents writer.new) C (new_machine chosen.now.mac chosen.now.mode) result }
 {
     let mut danh = match Danh::<C>::new(alloc, chosen.mac, chosen.mode) {
         Ok(danh) => danh,
@@ -142,6 +149,7 @@ fn run<R: BufRead, W: Write, const C: usize>(
         text: Vec::new(alloc),
     };
     let mut number = 1u64;
+    // It ends, since reads are counted.
     loop {
         match turn(
             alloc,
@@ -175,8 +183,10 @@ pub fn node_run<R: Read, W: Write>(
     let Ok(mut lines) = BufReader::new(alloc, reader) else {
         return Status::Fault(Fault::Memory);
     };
+    // A reader that never ends is given up after 2^40 reads, as one that fails (RULES, Fault lines).
     let mut reads = granted_reads();
     let ran = match chosen.table {
+        // The size of a table is a constant of its type, so each choice is a call of its own.
         Table::Small => run::<_, W, 4>(alloc, &mut lines, writer, &mut reads, chosen),
         Table::Large => run::<_, W, 512>(alloc, &mut lines, writer, &mut reads, chosen),
     };

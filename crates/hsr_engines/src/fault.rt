@@ -69,6 +69,7 @@ impl Status {
         match self {
             Status::Certified => 0,
             Status::Fault(_) => 1,
+            // A run that stays open isn't certified, so no script takes it for that.
             Status::Doubt | Status::Open => 2,
         }
     }
@@ -80,6 +81,7 @@ impl Fault {
         ensures { result ≡ step_fault step fault }
     {
         match fault {
+            // Want of memory is one fault of a run, wherever it comes.
             DrainFault::World(WorldFault::NoMemory) => Fault::Memory,
             _ => Fault::Step { step, fault },
         }

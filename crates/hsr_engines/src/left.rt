@@ -13,6 +13,7 @@ fn role_at(places: &[Place], node: usize) -> Role
 {
     match places.get(node) {
         Some(place) => place.role(),
+        // Never so: the world's nodes are the topology's.
         None => Role::QuadBox,
     }
 }
@@ -23,7 +24,8 @@ fn put_nodes<const C: usize>(
     world: &World<C>,
     places: &[Place],
 ) -> Result<(), AllocError>
-    ensures { OnOk result (text.new.items ≡ text.old.items ++ open_nodes places.now world.now (length world.now.places)) }
+    ensures { OnOk result (text.new.items ≡ text.old.items
+        ++ open_nodes places.now world.now (length world.now.places)) }
 {
     for node in 0..world.node_count() {
         put_node(text, node, role_at(places, node), &world.counters(node))?;
@@ -33,7 +35,8 @@ fn put_nodes<const C: usize>(
 
 /// Puts the line of each link.
 fn put_links<const C: usize>(text: &mut Vec<u8>, world: &World<C>) -> Result<(), AllocError>
-    ensures { OnOk result (text.new.items ≡ text.old.items ++ open_links world.now (length world.now.spans)) }
+    ensures { OnOk result (text.new.items ≡ text.old.items
+        ++ open_links world.now (length world.now.spans)) }
 {
     for link in 0..world.link_count() {
         put_link(text, link, world.rows(link))?;
@@ -42,6 +45,7 @@ fn put_links<const C: usize>(text: &mut Vec<u8>, world: &World<C>) -> Result<(),
 }
 
 /// What there is of a world of these nodes: the lines of the bench, of each node and of each link, and the last line `open`.
+/// `AllocError` where room is refused.
 #[tactic(auto, unfolding(crate::specs::OpenRun::open_text))]
 pub fn open_text<const C: usize>(
     alloc: Global,

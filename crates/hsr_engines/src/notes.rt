@@ -71,6 +71,7 @@ impl Notes {
 
     /// Notes what is explained. What can't be for want of room isn't: that is no reason to stop.
     fn note(&mut self, explained: Result<Explanation, NoMemory>) {
+        // What can't be explained for want of room isn't: the status is that of the run.
         if let Ok(explanation) = explained {
             self.explanation = explanation;
         }
@@ -78,6 +79,7 @@ impl Notes {
 
     /// Notes why a text led to no finished run, unless that is noted.
     pub(crate) fn of_fault(&mut self, alloc: Global, octets: &[u8], fault: &Fault) {
+        // What was noted closer to the fault says more.
         if self.explains && self.explanation.lines.is_empty() {
             self.note(explained(alloc, octets, fault));
         }

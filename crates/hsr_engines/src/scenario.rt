@@ -45,13 +45,15 @@ fn played<const C: usize>(
     notes: &mut Notes,
 ) -> Result<Reached<C>, Fault>
     requires entries { (1 ≤ C) × (C ≤ 65535) }
-    ensures ok { IfOk result (λ p. IsPlayedOn C (scenario_of octets.now) p.topology.places p.world) }
+    ensures ok { IfOk result (λ p. IsPlayedOn C
+        (scenario_of octets.now) p.topology.places p.world) }
     ensures err { IfErr result (λ f. IsUnplayed C (scenario_of octets.now) f) }
 {
     let scenario = match scenario_of(alloc, octets) {
         Ok(scenario) => scenario,
         Err(fault) => return Err(fault),
     };
+    // A copy, since the world takes the topology, and what stays open is shown by its nodes.
     let Ok(topology) = scenario.topology.copy() else {
         return Err(Fault::Memory);
     };
@@ -95,10 +97,12 @@ fn left_open<const C: usize>(
     shows_open: bool,
     fault: CheckFault,
 ) -> Result<Shown, Fault>
-    ensures ok { IfOk result (λ shown. (shows_open ≡ true) × IsOpenOf C places.now world.now fault shown) }
+    ensures ok { IfOk result (λ shown. (shows_open ≡ true)
+        × IsOpenOf C places.now world.now fault shown) }
     ensures err { IfErr result (IsLeftBy shows_open fault) }
 {
     match fault {
+        // Want of memory is no open run.
         CheckFault::Disagree(_) if shows_open => match open_text(alloc, world, places) {
             Ok(text) => Ok(Shown::Open { text }),
             Err(_) => Err(Fault::Memory),
@@ -142,10 +146,12 @@ fn reported_with(
     shows_open: bool,
     notes: &mut Notes,
 ) -> Result<Shown, Fault>
-    ensures ok { IfOk result (IsShownBy (capacity_of table) shows_open showing (scenario_of octets.now)) }
+    ensures ok { IfOk result (IsShownBy (capacity_of table) shows_open showing
+        (scenario_of octets.now)) }
     ensures err { IfErr result (IsUnshown (capacity_of table) shows_open (scenario_of octets.now)) }
 {
     match table {
+        // The size of a table is a constant of its type, so each choice is a call of its own.
         Table::Small => reported::<4>(alloc, octets, showing, shows_open, notes),
         Table::Large => reported::<512>(alloc, octets, showing, shows_open, notes),
     }
@@ -155,6 +161,7 @@ fn reported_with(
 fn deliver_open<W: Write>(writer: &mut W, text: &[u8]) -> Status
     ensures { IsDeliveredOpen (W.contents writer.old) (W.contents writer.new) text.now result }
 {
+    // What was written is flushed in one place, `bench`.
     match writer.write_all(text) {
         Ok(()) => Status::Open,
         Err(_) => Status::Fault(Fault::Write),
@@ -172,7 +179,8 @@ fn tell<W: Write>(
     shows_open: bool,
     notes: &mut Notes,
 ) -> Status
-    ensures shown { RunEnds (capacity_of table) shows_open showing (scenario_of octets.now) (W.contents writer.old) (W.contents writer.new) result }
+    ensures shown { RunEnds (capacity_of table) shows_open showing (scenario_of octets.now)
+        (W.contents writer.old) (W.contents writer.new) result }
     ensures told { result ≢ Stopped ReadFailed }
 {
     match reported_with(alloc, octets, table, showing, shows_open, notes) {

@@ -38,6 +38,7 @@ fn status_of(finding: Finding) -> Status
 }
 
 /// The report of a finished run of which the chosen audit found this, with the parts that are asked for.
+/// `Fault::Memory` where room is refused, and no other fault.
 pub fn report_of<const C: usize>(
     alloc: Global,
     closed: &Closed<C>,
@@ -56,6 +57,7 @@ pub fn report_of<const C: usize>(
 }
 
 /// What the chosen audit of a finished run finds.
+/// `Fault::Memory` where room is refused, and no other fault.
 pub fn finding_of<const C: usize>(
     alloc: Global,
     closed: &Closed<C>,
@@ -77,7 +79,8 @@ fn shown<const C: usize>(
     finding: Finding,
     showing: Showing,
 ) -> Result<Vec<u8>, Fault>
-    ensures ok { IfOk result (λ text. IsShown showing.scope showing.form closed.now finding text.items) }
+    ensures ok { IfOk result
+        (λ text. IsShown showing.scope showing.form closed.now finding text.items) }
     ensures err { IfErr result (λ f. f ≡ Memory) }
 {
     match showing.form {
@@ -95,6 +98,8 @@ pub fn asks_budget(showing: Showing) -> bool {
 }
 
 /// Audits a finished run, and forms what is shown of it.
+/// The audit is made for a transcript too, since the status tells what it found. `Fault::Memory` where room is
+/// refused, and no other fault.
 pub fn told<const C: usize>(
     alloc: Global,
     closed: &Closed<C>,
@@ -104,6 +109,7 @@ pub fn told<const C: usize>(
     ensures text { IfOk result (λ r. IsShown showing.scope showing.form closed.now r.0 r.1.items) }
     ensures err { IfErr result (λ f. f ≡ Memory) }
 {
+    // Audited for a transcript too, since the status tells what was found.
     let finding = match finding_of(alloc, closed, showing.scope) {
         Ok(finding) => finding,
         Err(fault) => return Err(fault),
@@ -118,6 +124,7 @@ pub fn told<const C: usize>(
 pub fn deliver<W: Write>(writer: &mut W, finding: Finding, text: &[u8]) -> Status
     ensures { IsDelivered (W.contents writer.old) (W.contents writer.new) finding text.now result }
 {
+    // What was written is flushed in one place, `bench`.
     match writer.write_all(text) {
         Ok(()) => status_of(finding),
         Err(_) => Status::Fault(Fault::Write),

@@ -11,9 +11,11 @@ use std::io::Read;
 /// Reads a whole text, or of one with more than `most` octets a front that has more. `Fault::Read` where the reader fails or takes
 /// 2^40 reads, `Fault::Memory` where room is refused.
 pub fn read_text<R: Read>(alloc: Global, reader: &mut R, most: usize) -> Result<Vec<u8>, Fault>
-    ensures ok { IfOk result (λ text. IfSome (R.remaining reader.old) (λ all. IsWhole most all text.items)) }
+    ensures ok { IfOk result (λ text. IfSome (R.remaining reader.old)
+        (λ all. IsWhole most all text.items)) }
     ensures err { IfErr result (λ f. (f ≡ ReadFailed) ⊎ (f ≡ Memory)) }
 {
+    // The same reading, with the faults of a run.
     match hsr_text::read_text(alloc, reader, most) {
         Ok(text) => Ok(text),
         Err(InputFault::Read) => Err(Fault::Read),

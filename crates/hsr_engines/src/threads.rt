@@ -51,6 +51,7 @@ fn ran<H: Threads + Wait + Sync, const C: usize>(
         Ok(scenario) => scenario,
         Err(fault) => return Err(fault),
     };
+    // A gate is for tests: here nothing holds threads back.
     match run_threads::<C, OpenGate, H>(rt, alloc, &scenario, &OpenGate) {
         Ok(closed) => Ok(closed),
         Err(fault) => Err(run_fault(fault)),
@@ -91,10 +92,12 @@ fn run_shown_with<H: Threads + Wait + Sync>(
     showing: Showing,
     notes: &mut Notes,
 ) -> Result<(Finding, Vec<u8>), Fault>
-    ensures ok { IfOk result (λ r. IsRunShown (capacity_of table) showing (scenario_of octets.now) r.0 r.1.items) }
+    ensures ok { IfOk result (λ r. IsRunShown (capacity_of table) showing
+        (scenario_of octets.now) r.0 r.1.items) }
     ensures err { IfErr result (λ f. IsUnrun (capacity_of table) (scenario_of octets.now) f) }
 {
     match table {
+        // The size of a table is a constant of its type, so each choice is a call of its own.
         Table::Small => run_shown::<H, 4>(rt, alloc, octets, showing, notes),
         Table::Large => run_shown::<H, 512>(rt, alloc, octets, showing, notes),
     }
@@ -111,7 +114,8 @@ fn tell<H: Threads + Wait + Sync, W: Write>(
     showing: Showing,
     notes: &mut Notes,
 ) -> Status
-    ensures shown { ThreadsEnds (capacity_of table) showing (scenario_of octets.now) (W.contents writer.old) (W.contents writer.new) result }
+    ensures shown { ThreadsEnds (capacity_of table) showing (scenario_of octets.now)
+        (W.contents writer.old) (W.contents writer.new) result }
     ensures told { result ≢ Stopped ReadFailed }
 {
     match run_shown_with(rt, alloc, octets, table, showing, notes) {

@@ -60,7 +60,9 @@ impl Counters {
         requires few { copies ≤ 3 }
         ensures { self.new ≡ counted self.old cause up copies }
     {
+        // No sum overflows: a node accepts 2^62 arrivals at most, and each adds 3 copies at most.
         match cause {
+            // What passed has no counter of its own: `up` and `forwarded` tell where it went.
             Cause::Passed => {}
             Cause::Duplicate => self.duplicate += 1,
             Cause::Returned => self.returned += 1,
@@ -75,6 +77,7 @@ impl Counters {
     }
 
     /// How often an arrival was neither passed nor a duplicate nor the node's own frame.
+    /// A node prints this one sum in place of its five parts.
     pub fn dropped(&self) -> u64
         requires { AreWithin self.now (2 ^ 62) }
         ensures { result ≡ dropped self.now }

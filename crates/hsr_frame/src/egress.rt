@@ -9,6 +9,7 @@ use crate::node::Cause;
 /// A set of egresses: up, and ports. `c` is port C of a QuadBox, or a RedBox's interlink.
 #[derive(Clone, Copy, Debug, PartialEq, Eq)]
 pub struct Exits {
+    // Fields and no list: passing, noting and counting go by field, and each egress asks its table once.
     pub up: bool,
     pub a: bool,
     pub b: bool,
@@ -68,6 +69,7 @@ impl Wants {
     }
 
     /// These egresses want the frame; where there are none it is foreign.
+    /// The cause is used only where `exits` is empty.
     pub fn to(exits: Exits) -> Wants
         ensures { result ≡ record { exits = exits; cause = Cause.Foreign } }
     {
@@ -84,6 +86,7 @@ impl Wants {
         if passes.is_any() {
             Cause::Passed
         } else if self.exits.is_any() {
+            // An egress that wants a frame passes it, unless its table remembers it.
             Cause::Duplicate
         } else {
             self.cause

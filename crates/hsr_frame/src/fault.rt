@@ -80,16 +80,18 @@ impl SendFault {
 #[derive(Clone, Copy, Debug, PartialEq, Eq)]
 pub struct Spent;
 
-/// A growth was refused.
+/// A growth was refused: the allocator gave no memory. What stands then is told by each call that gives this.
 #[derive(Clone, Copy, Debug, PartialEq, Eq)]
 pub struct NoMemory;
 
+// Two errors of the allocator are one fault here, so that `?` hands either on.
 impl From<AllocError> for NoMemory {
     fn from(_refused: AllocError) -> NoMemory {
         NoMemory
     }
 }
 
+// A value that found no room is let go: who goes on with it takes it out of the error before.
 impl<T: Drop> From<AllocFailed<T>> for NoMemory {
     fn from(_refused: AllocFailed<T>) -> NoMemory {
         NoMemory

@@ -1,4 +1,14 @@
 //! Where the parts of a frame stand, how long they are, and the types that tell frames apart. Lengths are in octets.
+//!
+//! A frame, with offsets in octets; the second row has a VLAN tag (IEEE 802.3 clause 3, IEEE 802.1Q clause 9):
+//!
+//! ```text
+//! 0             6        12     14        16     18
+//! | destination | source | type | payload ...
+//! | destination | source | 8100 | control | type | payload ...
+//! ```
+//!
+//! Numbers of 16 bits have their high octet first. An HSR tag has the place of the type and 6 octets of the payload.
 
 /// Where the source begins, behind the destination (IEEE 802.3 clause 3).
 pub const SOURCE_AT: usize = 6;

@@ -10,7 +10,8 @@
 //! - `words`: the words that texts have for modes, ring ports and causes
 //! - `egress`: where a frame can leave a node
 //! - `counters`: what a node counts
-//! - `send`: why a node refuses to send
+//! - `send`: which sends a node refuses
+//! - `refusal`: why a node refuses to send, as a word
 #![tactic(auto)]
 
 mod counters;

@@ -41,6 +41,7 @@ fn nibble(c: u8) -> Option<u8>
 fn octet_fault(place: usize, c: u8) -> Option<MacFault>
     ensures { result ≡ place_fault place c }
 {
+    // Two digits and a hyphen take three octets, so each third one is a hyphen.
     if place % 3 == 2 {
         if c == b'-' {
             None
@@ -58,7 +59,8 @@ fn octet_fault(place: usize, c: u8) -> Option<MacFault>
 fn text_fault(text: &[u8]) -> Option<MacFault>
     ensures first { result ≡ fault_from 0 text.now }
     ensures leftmost { IfSome result (IsLeftmost text.now) }
-    ensures right { IfNone result ((k : ℕ) → k < length text.now → place_fault k (slice_index text.now k) ≡ None) }
+    ensures right { IfNone result ((k : ℕ) → k < length text.now
+        → place_fault k (slice_index text.now k) ≡ None) }
 {
     for (i, c) in text.iter().enumerate() {
         if let Some(fault) = octet_fault(i, *c) {
@@ -78,6 +80,7 @@ fn octet_at(text: &[u8], at: usize) -> u8
     ensures high { upper_digit (slice_index text.now at) ≡ hex_digit (result / 16) }
     ensures low { upper_digit (slice_index text.now (at + 1)) ≡ hex_digit (result % 16) }
 {
+    // Neither is `None`: both octets were found to be digits.
     16 * nibble(text[at]).unwrap() + nibble(text[at + 1]).unwrap()
 }
 
@@ -88,6 +91,7 @@ fn read_mac(text: &[u8]) -> Result<Mac, MacFault>
     ensures found { IfOk result (λ m. upper_text text.now ≡ address_text m) }
     ensures fault { IfErr result (λ e. IsTextFault text.now e) }
 {
+    // The length comes first: a wrong octet is named only in a text of 17 (RULES, Addresses).
     if text.len() != 17 {
         return Err(MacFault::Length);
     }
@@ -139,6 +143,7 @@ impl Mac {
         ensures value { result ≡ is_group self.now }
         ensures group { IsTrue result ↔ IsGroup self.now }
     {
+        // The bit that is sent first on the wire is the lowest of the first octet (IEEE 802 clause 8).
         self.octets[0] % 2 == 1
     }
 
@@ -157,7 +162,8 @@ impl Mac {
         // What is read is spelled so, but for the case of its digits.
         ensures found { IfOk result (λ m. upper_text text.now ≡ address_text m) }
         // What is printed is read, in either case of its digits.
-        ensures reads { (o : List ℕ) → IsAddress o → upper_text text.now ≡ address_text o → result ≡ Ok o }
+        ensures reads { (o : List ℕ) → IsAddress o
+            → upper_text text.now ≡ address_text o → result ≡ Ok o }
         ensures fault { IfErr result (λ e. IsTextFault text.now e) }
     {
         Mac::from_ascii(text.as_bytes())
@@ -169,7 +175,8 @@ impl Mac {
     pub fn from_ascii(text: &[u8]) -> Result<Mac, MacFault>
         ensures exact { result ≡ address_of text.now }
         ensures found { IfOk result (λ m. upper_text text.now ≡ address_text m) }
-        ensures reads { (o : List ℕ) → IsAddress o → upper_text text.now ≡ address_text o → result ≡ Ok o }
+        ensures reads { (o : List ℕ) → IsAddress o
+            → upper_text text.now ≡ address_text o → result ≡ Ok o }
         ensures fault { IfErr result (λ e. IsTextFault text.now e) }
     {
         read_mac(text)
@@ -180,6 +187,7 @@ impl Mac {
 #[derive(Clone, Copy)]
 struct Pair(u8);
 
+// A type of its own, whose `output` says what one octet prints: an address is then six of them.
 impl fmt::Display for Pair {
     ghost output = { λ p. Some (hex_digits p.0) };
 
@@ -193,6 +201,7 @@ impl fmt::Display for Mac {
     ghost output = { λ m. Some (address_text m) };
 
     fn fmt<W: fmt::Write>(&self, f: &mut fmt::Formatter<W>) -> fmt::Result {
+        // There is no `f` among the names: that is the formatter.
         let [a, b, c, d, e, g] = self.octets;
         let (a, b, c) = (Pair(a), Pair(b), Pair(c));
         let (d, e, g) = (Pair(d), Pair(e), Pair(g));

@@ -57,5 +57,6 @@ pub enum About {
     Proxied(Mac),
 }
 
+// With this bound no counter of 64 bits overflows, not even that of copies, which adds up to 3 a step.
 /// How many sends, supervisions and arrivals a node accepts (this profile's choice).
 pub const STEP_LIMIT: u64 = 1 << 62;

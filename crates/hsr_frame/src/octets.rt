@@ -21,6 +21,7 @@ pub fn put<const CAP: usize>(out: &mut ArrayVec<u8, CAP>, octets: &[u8])
     requires { array_vec_len out.old + length octets.now ≤ CAP }
     ensures { out.new.items ≡ out.old.items ++ octets.now }
 {
+    // Nothing is refused here: `requires` says that there is room.
     out.try_extend_from_slice(octets).unwrap();
 }
 
@@ -35,6 +36,7 @@ pub fn put_u16<const CAP: usize>(out: &mut ArrayVec<u8, CAP>, n: u16)
 }
 
 /// Puts the addresses and the VLAN tag, which are at most 16 octets, at the front.
+/// The room is for 6 octets each and 4 of the tag. The type isn't put: frames with and without an HSR tag differ there.
 pub fn put_head<const CAP: usize>(
     out: &mut ArrayVec<u8, CAP>,
     dst: &Mac,

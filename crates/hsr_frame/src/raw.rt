@@ -69,6 +69,7 @@ fn mac_at(octets: &[u8], at: usize) -> Mac
 }
 
 /// The frame by its places, or the first of the faults.
+/// Faults are tried in the order of the rules (RULES, Frames): short, long, a group's source, a second VLAN tag.
 fn read_head(octets: &[u8]) -> Result<Head<'_>, FrameFault>
     ensures found { IfOk result (λ r. (raw_fault octets.now ≡ None) × (r ≡ fields_of octets.now)) }
     ensures fault { IfErr result (λ e. raw_fault octets.now ≡ Some e) }
@@ -82,6 +83,7 @@ fn read_head(octets: &[u8]) -> Result<Head<'_>, FrameFault>
         return Err(FrameFault::Short);
     }
     let head = if has_vlan { VLAN_HEAD_LEN } else { HEAD_LEN };
+    // Nothing is cut off as padding: padding that came belongs to the payload (RULES, Frames).
     let rest = &octets[head..];
     if rest.len() > MAX_REST {
         return Err(FrameFault::Long);
@@ -95,6 +97,7 @@ fn read_head(octets: &[u8]) -> Result<Head<'_>, FrameFault>
     } else {
         None
     };
+    // The last type stands just before the rest, with a VLAN tag and without.
     let kind = u16_at(octets, head - 2);
     if kind == ETHERTYPE_VLAN {
         return Err(FrameFault::DoubleVlan);
@@ -138,6 +141,7 @@ impl Raw {
             src: head.src,
             vlan: head.vlan,
             kind: head.kind,
+            // The copy fits: a `Head` has `MAX_REST` octets behind its type at most.
             rest: copied(head.rest),
         })
     }

@@ -1,4 +1,5 @@
 //! Why a node refuses to send, as a word.
+//! Scenarios print the word, `node` prints the number (`SendFault::code`).
 use crate::fault::SendFault;
 use std::fmt;
 

@@ -19,6 +19,7 @@ impl Mode {
     }
 
     /// The mode whose word this is.
+    /// Any other word, also one in small letters, is none.
     #[tactic(auto, using(crate::proofs::Spelled::mode_again))]
     pub fn from_word(word: &[u8]) -> Option<Mode>
         ensures value { result ≡ mode_of word.now }
@@ -49,6 +50,7 @@ impl RingPort {
     }
 
     /// The ring port whose letter this word is.
+    /// Any other word is none.
     #[tactic(auto, using(crate::proofs::Spelled::port_again))]
     pub fn from_word(word: &[u8]) -> Option<RingPort>
         ensures value { result ≡ port_of word.now }
@@ -66,6 +68,7 @@ impl RingPort {
 
 impl FrameFault {
     /// The fault that has this number in texts, 1 to 6.
+    /// Any other number is none.
     #[tactic(auto, using(crate::proofs::Spelled::fault_again))]
     pub fn from_code(code: u64) -> Option<FrameFault>
         ensures value { result ≡ fault_of code }
@@ -120,8 +123,10 @@ impl Cause {
     #[tactic(auto, using(crate::proofs::Spelled::cause_again))]
     pub fn from_word(word: &[u8], fault: Option<FrameFault>) -> Option<Cause>
         ensures value { result ≡ cause_of word.now fault }
-        ensures again { (cause : Cause) → cause_of (cause_word cause) (fault_in cause) ≡ Some cause }
+        ensures again { (cause : Cause)
+            → cause_of (cause_word cause) (fault_in cause) ≡ Some cause }
     {
+        // A fault goes with `malformed` alone, and `malformed` with a fault alone.
         if let Some(fault) = fault {
             return if word == b"malformed".as_slice() {
                 Some(Cause::Malformed(fault))

@@ -15,11 +15,13 @@ fn came_by(port: u8, entry: &Entry) -> Result<Option<Carried>, NoMemory>
     ensures { IfOk result (λ copy. copy ≡ came_by port entry.now) }
 {
     match &entry.event {
+        // Owned, as what was passed is, which is spelled anew: so one function compares both.
         Event::Arrive { port: by, carried } if *by == port => Ok(Some(carried.copy()?)),
         _ => Ok(None),
     }
 }
 
+/// Puts a copy, or none, last.
 fn add(copies: &mut Vec<Option<Carried>>, copy: Option<Carried>) -> Result<(), NoMemory>
     ensures { OnOk result (copies.new.items ≡ copies.old.items ++ copy ∷ []) }
 {
@@ -35,7 +37,8 @@ fn passed(
     port: u8,
     entries: &[Entry],
 ) -> Result<Vec<Option<Carried>>, NoMemory>
-    ensures { IfOk result (λ copies. copies.items ≡ passed_from (record { number = number; place = place.now }) port 0 entries.now) }
+    ensures { IfOk result (λ copies. copies.items
+        ≡ passed_from (record { number = number; place = place.now }) port 0 entries.now) }
 {
     let mut copies = Vec::new(alloc);
     for (at, entry) in entries.iter().enumerate() {
@@ -52,6 +55,7 @@ fn came(alloc: Global, port: u8, entries: &[Entry]) -> Result<Vec<Option<Carried
     ensures { IfOk result (λ copies. copies.items ≡ map (came_by port) entries.now) }
 {
     let mut copies = Vec::new(alloc);
+    // The index is used by the loop's invariant alone.
     for (at, entry) in entries.iter().enumerate() {
         add(&mut copies, came_by(port, entry)?)?;
     }
@@ -81,6 +85,7 @@ pub(crate) fn came_at<const C: usize>(
     ensures { IfOk result (λ copies. copies.items ≡ came_at closed.now.run end) }
 {
     match closed.topology().places().get(end.node) {
+        // The record is asked for only where the node is there.
         Some(_) => came(alloc, end.port, closed.entries(end.node)),
         None => Ok(Vec::new(alloc)),
     }

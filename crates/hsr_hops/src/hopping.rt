@@ -67,7 +67,12 @@ impl Side {
     fn hop(&self, link: usize, number: usize) -> Hop
         requires passed { number < length self.now.passed.items }
         requires judged { number < length self.now.judged.items }
-        ensures { result ≡ record { link = link; number = number; passed = spot_at self.now.from (slice_index_or self.now.passed.items number None); judged = spot_at self.now.to (slice_index_or self.now.judged.items number None) } }
+        ensures { result ≡ record {
+          link = link;
+          number = number;
+          passed = spot_at self.now.from (slice_index_or self.now.passed.items number None);
+          judged = spot_at self.now.to (slice_index_or self.now.judged.items number None);
+        } }
     {
         Hop {
             link,
@@ -106,8 +111,10 @@ fn list_link<const C: usize>(
     link: usize,
 ) -> Result<(), NoMemory>
     requires { link < length closed.now.run.links }
-    ensures { OnOk result (hops.new.items ≡ hops.old.items ++ hops_from closed.now.run link 0 (rows_of closed.now.run link)) }
+    ensures { OnOk result (hops.new.items ≡ hops.old.items
+        ++ hops_from closed.now.run link 0 (rows_of closed.now.run link)) }
 {
+    // Both directions are gathered before the rows are walked, so that each row costs one look.
     let forth = direction(alloc, closed, link, Dir::Forth)?;
     let back = direction(alloc, closed, link, Dir::Back)?;
     let rows = closed.rows(link);
@@ -124,7 +131,8 @@ pub fn link_hops<const C: usize>(
     link: usize,
 ) -> Result<Vec<Hop>, NoMemory>
     requires { link < length closed.now.run.links }
-    ensures { IfOk result (λ list. list.items ≡ hops_from closed.now.run link 0 (rows_of closed.now.run link)) }
+    ensures { IfOk result (λ list. list.items
+        ≡ hops_from closed.now.run link 0 (rows_of closed.now.run link)) }
 {
     let mut list = Vec::new(alloc);
     list_link(alloc, &mut list, closed, link)?;

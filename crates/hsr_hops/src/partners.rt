@@ -1,4 +1,7 @@
 //! Which of some copies is which of others, by an index.
+//!
+//! The k-th of the equal copies on one side is the k-th on the other. An index and a count of those so far make this one
+//! walk, where a search for each copy would grow with the square of the run.
 ghost use Rattle.std.specs.Prelude.{◌≡◌, ◌+◌, ◌<◌, ◌^◌, ◌∷◌, [], ◌++◌, count_by, if◌then◌else◌, length, map, option_map, IfOk, OnOk};
 ghost use Rattle.hsr_node.specs.declared.event.Carried as spec;
 ghost use Rattle.hsr_index.specs.InOrder.{told_copy};
@@ -23,7 +26,9 @@ fn keep<'a>(
     copy: &'a Carried,
     place: usize,
 ) -> Result<(), NoMemory>
-    ensures { OnOk result ((other : spec.Carried) → places_in kept.new other ≡ places_in kept.old other ++ (if is_same_carried other copy.now then place ∷ [] else [])) }
+    ensures { OnOk result ((other : spec.Carried)
+        → places_in kept.new other ≡ places_in kept.old other
+        ++ (if is_same_carried other copy.now then place ∷ [] else [])) }
 {
     kept.entry(key_of(copy))?
         .or_insert(Vec::new(alloc))
@@ -38,10 +43,13 @@ fn keep_if<'a>(
     copy: &'a Option<Carried>,
     place: usize,
 ) -> Result<(), NoMemory>
-    ensures { OnOk result ((other : spec.Carried) → places_in kept.new other ≡ places_in kept.old other ++ (if is_at other copy.now then place ∷ [] else [])) }
+    ensures { OnOk result ((other : spec.Carried)
+        → places_in kept.new other ≡ places_in kept.old other
+        ++ (if is_at other copy.now then place ∷ [] else [])) }
 {
     match copy {
         Some(copy) => keep(alloc, kept, copy, place),
+        // Places without a copy are counted all the same, so that a place is that of its entry.
         None => Ok(()),
     }
 }
@@ -51,7 +59,8 @@ fn places_by_copy<'a>(
     alloc: Global,
     copies: &'a [Option<Carried>],
 ) -> Result<PlacesByCopy<'a>, NoMemory>
-    ensures { IfOk result (λ kept. (copy : spec.Carried) → places_in kept copy ≡ places copy copies.now) }
+    ensures { IfOk result (λ kept. (copy : spec.Carried)
+        → places_in kept copy ≡ places copy copies.now) }
 {
     let mut kept = IndexMap::new(alloc);
     for (i, copy) in copies.iter().enumerate() {
@@ -75,6 +84,7 @@ fn told<'a>(which: Passage, dir: Dir, row: &'a Row) -> Option<&'a Carried>
     ensures { option_map (λ c. c.now) result ≡ told_copy which dir row.now }
 {
     let is_told = match which {
+        // What was injected was passed by no entry.
         Passage::Put => row.dir == dir && !row.injected,
         Passage::Taken => row.dir == dir && row.fate == Fate::Taken,
     };
@@ -88,8 +98,11 @@ fn next_partner<'a>(
     copy: Option<&'a Carried>,
 ) -> Result<Option<usize>, NoMemory>
     requires { (other : spec.Carried) → count_of counts.old other + 1 < 2 ^ 64 }
-    ensures place { IfOk result (λ place. place ≡ found_at kept.now counts.old (option_map (λ c. c.now) copy.entry)) }
-    ensures counts { OnOk result ((other : spec.Carried) → count_of counts.new other ≡ count_of counts.old other + (if is_at other (option_map (λ c. c.now) copy.entry) then 1 else 0)) }
+    ensures place { IfOk result (λ place. place
+        ≡ found_at kept.now counts.old (option_map (λ c. c.now) copy.entry)) }
+    ensures counts { OnOk result ((other : spec.Carried)
+        → count_of counts.new other ≡ count_of counts.old other +
+        (if is_at other (option_map (λ c. c.now) copy.entry) then 1 else 0)) }
 {
     let Some(copy) = copy else {
         return Ok(None);
@@ -107,7 +120,8 @@ pub(crate) fn partners(
     dir: Dir,
     rows: &[Row],
 ) -> Result<Vec<Option<usize>>, NoMemory>
-    ensures { IfOk result (λ places. places.items ≡ partners copies.now (map (told_copy which dir) rows.now)) }
+    ensures { IfOk result (λ places. places.items
+        ≡ partners copies.now (map (told_copy which dir) rows.now)) }
 {
     let kept = places_by_copy(alloc, copies)?;
     let mut counts = IndexMap::new(alloc);

@@ -1,4 +1,7 @@
 //! A link that threads share.
+//!
+//! What is done under the lock is a private function of the desk, with a contract. No clause can name what stands under
+//! a lock, so each call of `LinkCell` does just that one function.
 ghost use Rattle.std.specs.Prelude.{◌≡◌, true, false, IfErr, IfOk, MatchBool, None, is_some};
 ghost use Rattle.hsr_link.specs.Cell.{is_put_fate, is_ready};
 ghost use Rattle.hsr_link.specs.Link.{add_step, cut_step, mended, take_step};
@@ -40,7 +43,8 @@ fn add_at(
     carried: Carried,
     injected: bool,
 ) -> Result<Fate, (Carried, NoMemory)>
-    ensures ok { IfOk result (λ fate. (fate, desk.new.link) ≡ add_step desk.old.link dir carried injected) }
+    ensures ok { IfOk result (λ fate. (fate, desk.new.link)
+        ≡ add_step desk.old.link dir carried injected) }
     ensures err { IfErr result (λ e. (desk.new ≡ desk.old) × (e.0 ≡ carried)) }
     ensures closed { desk.new.closed ≡ desk.old.closed }
 {
@@ -80,9 +84,11 @@ fn is_ready(desk: &Desk, dir: Dir) -> bool
 fn take_ready(desk: &mut Desk, dir: Dir) -> Option<Carried>
     requires { is_ready desk.old dir ≡ true }
     ensures copy { MatchBool desk.old.closed (result ≡ None) (is_some result ≡ true) }
-    ensures link { MatchBool desk.old.closed (desk.new ≡ desk.old) ((result, desk.new.link) ≡ take_step desk.old.link dir) }
+    ensures link { MatchBool desk.old.closed (desk.new ≡ desk.old)
+        ((result, desk.new.link) ≡ take_step desk.old.link dir) }
     ensures closed { desk.new.closed ≡ desk.old.closed }
 {
+    // A closed desk gives nothing, even where copies wait: who takes is to end.
     if desk.closed {
         return None;
     }
@@ -150,12 +156,14 @@ impl LinkCell {
         ensures err { IfErr result (λ e. e.0 ≡ carried) }
     {
         let fate = add_at(&mut self.desk.lock(rt), dir, carried, injected)?;
+        // All are woken and not one: those who wait for either direction wait at one `Condvar`.
         self.changed.notify_all();
         Ok(fate)
     }
 
     /// Waits for the lock and cuts the link: all copies that wait are lost, and it tells how many. Needs no memory.
     pub fn cut(&self, rt: &impl Wait) -> usize {
+        // Nobody is woken: a cut gives no copy to take.
         cut_at(&mut self.desk.lock(rt))
     }
 
@@ -167,6 +175,7 @@ impl LinkCell {
     /// Waits until a copy waits in a direction or the cell is closed. Takes the oldest such copy, or none once the cell is
     /// closed, whatever waits there. Needs no memory.
     pub fn take_or_closed(&self, rt: &impl Wait, dir: Dir) -> Option<Carried> {
+        // The lock is kept from the wait to the take, so no other takes the copy in between.
         let mut desk = self
             .changed
             .wait_while(rt, self.desk.lock(rt), |desk| !is_ready(desk, dir));

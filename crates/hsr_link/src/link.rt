@@ -79,11 +79,13 @@ impl Link {
         carried: Carried,
         injected: bool,
     ) -> Result<Fate, (Carried, NoMemory)>
-        ensures ok { IfOk result (λ fate. (fate, self.new) ≡ add_step self.old dir carried injected) }
+        ensures ok { IfOk result (λ fate. (fate, self.new)
+            ≡ add_step self.old dir carried injected) }
         ensures err { IfErr result (λ e. (self.new ≡ self.old) × (e.0 ≡ carried)) }
     {
         match dir {
             Dir::Forth => {
+                // A cut link is told before a full queue: what is put on it is lost either way.
                 let fate = put_fate(self.is_cut, &self.forth);
                 let row = Row {
                     dir,
@@ -121,6 +123,7 @@ impl Link {
         ensures { result ≡ is_some (first_copy dir self.now.rows) }
     {
         match dir {
+            // The queue is asked and not the rows, so the answer takes the same time however many rows there are.
             Dir::Forth => has_first(&self.forth),
             Dir::Back => has_first(&self.back),
         }
@@ -164,6 +167,8 @@ impl Link {
 }
 
 /// What a link is but its rows: the copies that wait in each direction, how many may, and whether it is cut.
+/// A world that is closed hands its rows over, and keeps this to join them again if the run is refused: so no row is
+/// copied.
 #[derive(Debug, Drop)]
 pub struct Queues {
     capacity: usize,

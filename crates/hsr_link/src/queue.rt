@@ -39,10 +39,12 @@ fn queue_up(
     row: &Row,
 ) -> Result<(), NoMemory>
     requires { is_queued row.now.fate ≡ true → length queue.old.items < queue.old.capacity }
-    ensures ok { OnOk result (queue.new ≡ buffer (queue.old.items ++ waiting row.now.dir place (row.now ∷ [])) queue.old.capacity) }
+    ensures ok { OnOk result (queue.new ≡ buffer
+        (queue.old.items ++ waiting row.now.dir place (row.now ∷ [])) queue.old.capacity) }
     ensures err { OnErr result (queue.new ≡ queue.old) }
 {
     if row.fate == Fate::Queued {
+        // The row keeps its copy for good, so a take gives this one and needs no memory.
         let carried = row.carried.copy()?;
         queue.push_back(Waiting { place, carried });
     }
@@ -58,8 +60,11 @@ pub(crate) fn enter(
 ) -> Result<Fate, (Carried, NoMemory)>
     requires holds { queue.old.items ≡ waiting row.dir 0 rows.old.items }
     requires room { is_queued row.fate ≡ true → length queue.old.items < queue.old.capacity }
-    ensures ok { IfOk result (λ fate. (fate ≡ row.fate) × (rows.new.items ≡ rows.old.items ++ row ∷ []) × (queue.new ≡ buffer (waiting row.dir 0 rows.new.items) queue.old.capacity)) }
-    ensures err { IfErr result (λ e. (rows.new.items ≡ rows.old.items) × (queue.new ≡ queue.old) × (e.0 ≡ row.carried)) }
+    ensures ok { IfOk result (λ fate. (fate ≡ row.fate)
+        × (rows.new.items ≡ rows.old.items ++ row ∷ [])
+        × (queue.new ≡ buffer (waiting row.dir 0 rows.new.items) queue.old.capacity)) }
+    ensures err { IfErr result (λ e. (rows.new.items ≡ rows.old.items) × (queue.new ≡ queue.old)
+        × (e.0 ≡ row.carried)) }
 {
     // All that may be refused comes before the first change.
     if rows.reserve(1).is_err() {
@@ -69,6 +74,7 @@ pub(crate) fn enter(
         return Err((row.carried, NoMemory));
     }
     let fate = row.fate;
+    // Room was made above, so this push isn't refused.
     let Ok(()) = rows.push(row) else {
         unreachable!()
     };
@@ -108,6 +114,7 @@ pub(crate) fn lose_all(queue: &mut HeapCircularBuffer<Waiting>, rows: &mut [Row]
     ensures rows { rows.new ≡ map (lost_of dir) rows.old }
     ensures queue { queue.new ≡ buffer [] queue.old.capacity }
 {
+    // What is lost is dropped: its row keeps the octets.
     while let Some(_lost) = turn_first(queue, rows, dir, Fate::LostCut) {}
 }
 
@@ -124,6 +131,7 @@ pub(crate) fn lose_both(
     ensures forth { forth.new ≡ buffer [] forth.old.capacity }
     ensures back { back.new ≡ buffer [] back.old.capacity }
 {
+    // Counted first: both queues are empty afterwards.
     let count = forth.len() + back.len();
     lose_all(forth, rows, Dir::Forth);
     lose_all(back, rows, Dir::Back);

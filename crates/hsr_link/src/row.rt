@@ -30,6 +30,7 @@ pub enum Fate {
 }
 
 /// One copy that was put or injected, and what became of it.
+/// `injected` says that no port sent it.
 #[derive(Clone, Debug, Drop, PartialEq, Eq)]
 pub struct Row {
     pub dir: Dir,

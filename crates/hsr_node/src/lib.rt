@@ -5,6 +5,7 @@
 //! - `role`: the roles of places, and the letters of their ports
 //! - `octets`: octets that are owned
 //! - `event`: what happens to a node, and what it answers
+//! - `refusal`: why a node refuses an event, as a word
 //! - `entry`: what a record holds
 //! - `station`: a node that sends plain frames
 //! - `danh`: the events of a DANH

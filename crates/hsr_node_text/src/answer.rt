@@ -20,12 +20,16 @@ fn answer_send<const C: usize>(
     payload: &[u8],
     text: &mut Vec<u8>,
 ) -> Result<(), AllocError>
-    ensures text { OnOk result (text.new.items ≡ text.old.items ++ reply C danh.old (send (record { at = at; dst = dst; kind = kind; payload = payload.now; vlan = vlan }))) }
-    ensures after { danh.new ≡ after C danh.old (send (record { at = at; dst = dst; kind = kind; payload = payload.now; vlan = vlan })) }
+    ensures text { OnOk result (text.new.items
+        ≡ text.old.items ++ reply C danh.old
+        (send (record { at = at; dst = dst; kind = kind; payload = payload.now; vlan = vlan }))) }
+    ensures after { danh.new ≡ after C danh.old
+        (send (record { at = at; dst = dst; kind = kind; payload = payload.now; vlan = vlan })) }
 {
     let own = danh.address();
     match danh.send(at, dst, vlan, kind, payload) {
         Ok(sent) => {
+            // The node answers no frame: what is sent is formed anew, as everywhere else, by the one function for it.
             let frame = asked_frame(Some(own), dst, vlan, kind, payload);
             put_sent(text, frame, sent.seq)
         },
@@ -45,6 +49,7 @@ fn answer_life<const C: usize>(
     let own = danh.address();
     match danh.supervise(at) {
         Ok(sent) => put_lived(text, own, sent),
+        // A supervision is refused for this reason alone.
         Err(_) => put_refused(text, SendFault::Spent),
     }
 }
@@ -57,16 +62,20 @@ fn answer_arrival<const C: usize>(
     octets: &[u8],
     text: &mut Vec<u8>,
 ) -> Result<(), AllocError>
-    ensures text { OnOk result (text.new.items ≡ text.old.items ++ reply C danh.old (arrive at port octets.now)) }
+    ensures text { OnOk result (text.new.items
+        ≡ text.old.items ++ reply C danh.old (arrive at port octets.now)) }
     ensures after { danh.new ≡ after C danh.old (arrive at port octets.now) }
 {
     match danh.arrive(at, port, octets) {
         Ok(verdict) => put_judged(text, octets, verdict),
+        // An arrival is refused for this reason alone.
         Err(_) => put_refused(text, SendFault::Spent),
     }
 }
 
 /// Makes a text the lines that answer a request.
+/// What the text held goes. Moments are microseconds. `AllocError` where room is refused; the node has done the
+/// request then, and the text has a front of its answer at most.
 #[tactic(auto, unfolding(crate::specs::Reply::reply, crate::specs::Reply::after))]
 pub fn answer_request<const C: usize>(
     danh: &mut Danh<C>,
@@ -76,6 +85,7 @@ pub fn answer_request<const C: usize>(
     ensures text { OnOk result (text.new.items ≡ reply C danh.old (view request.now)) }
     ensures after { danh.new ≡ after C danh.old (view request.now) }
 {
+    // The same room for each request, so that a line mostly takes no new memory.
     text.clear();
     match request {
         Request::Send {

@@ -40,11 +40,13 @@ fn put_copies(text: &mut Vec<u8>, frame: Option<FrameView<'_>>, seq: u16) -> Res
 {
     match frame {
         Some(frame) => put_both(text, &frame, seq),
+        // No accepted send comes here: its frame can always be spelled.
         None => Ok(()),
     }
 }
 
 /// Puts the lines of a send that was accepted.
+/// `sent <number>`, and the copies of the frame for A and B, where there is a frame. `AllocError` where room is refused.
 pub fn put_sent(
     text: &mut Vec<u8>,
     frame: Option<FrameView<'_>>,
@@ -66,6 +68,7 @@ pub fn put_refused(text: &mut Vec<u8>, fault: SendFault) -> Result<(), AllocErro
 }
 
 /// Puts the lines of a supervision that was accepted.
+/// `life <number> <earlier>`, and the two copies of the frame about the node itself. `AllocError` where room is refused.
 pub fn put_lived(text: &mut Vec<u8>, own: Mac, life: Life) -> Result<(), AllocError>
     ensures { OnOk result (text.new.items ≡ text.old.items ++ lived_text own life) }
 {
@@ -87,7 +90,8 @@ fn put_if(text: &mut Vec<u8>, said: bool, word: &[u8]) -> Result<(), AllocError>
 
 /// Puts the letter of a ring port, if something leaves by it.
 fn put_port_if(text: &mut Vec<u8>, leaves: bool, port: RingPort) -> Result<(), AllocError>
-    ensures { OnOk result (text.new.items ≡ text.old.items ++ word_if leaves (32 ∷ port_word port)) }
+    ensures { OnOk result (text.new.items ≡ text.old.items
+        ++ word_if leaves (32 ∷ port_word port)) }
 {
     if leaves {
         text.push(b' ')?;
@@ -129,6 +133,7 @@ fn put_verdict(text: &mut Vec<u8>, verdict: Verdict) -> Result<(), AllocError>
 fn put_up(text: &mut Vec<u8>, octets: &[u8]) -> Result<(), AllocError>
     ensures { OnOk result (text.new.items ≡ text.old.items ++ up_text (plain_octets octets.now)) }
 {
+    // What went up is a frame, so this isn't met.
     let Some(plain) = plain_octets(octets) else {
         return Ok(());
     };
@@ -138,10 +143,13 @@ fn put_up(text: &mut Vec<u8>, octets: &[u8]) -> Result<(), AllocError>
 }
 
 /// Puts the lines of an arrival that was judged.
+/// The cause, a fault's number, the egresses in the order `up A B`; and `up <octets>` where it went up. `AllocError`
+/// where room is refused.
 pub fn put_judged(text: &mut Vec<u8>, octets: &[u8], verdict: Verdict) -> Result<(), AllocError>
     ensures { OnOk result (text.new.items ≡ text.old.items ++ judged_text octets.now verdict) }
 {
     put_verdict(text, verdict)?;
+    // A verdict holds no frame, so what goes up is read anew from the octets that came.
     if verdict.up {
         return put_up(text, octets);
     }
@@ -170,6 +178,8 @@ fn put_stopped(text: &mut Vec<u8>, counters: &Counters) -> Result<(), AllocError
 }
 
 /// Puts the line of a node's counters.
+/// `sent`, `life`, `up`, `forwarded`, `duplicate`, `returned` and `dropped`, each with its number. `AllocError` where
+/// room is refused.
 #[tactic(auto, unfolding(crate::specs::Reply::counter_line))]
 pub fn put_counters(text: &mut Vec<u8>, counters: &Counters) -> Result<(), AllocError>
     requires { AreWithin counters.now (2 ^ 62) }

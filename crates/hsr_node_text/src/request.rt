@@ -41,6 +41,7 @@ fn read_vlan(rest: Option<&[u8]>) -> Result<Option<u16>, WordFault>
     match word(rest) {
         None => Ok(None),
         Some((digits, None)) => Ok(Some(hex_pair(digits).ok_or(WordFault::Bad)?)),
+        // Nothing may follow, not even a space (RULES, Lines of `node`).
         Some((_, Some(_))) => Err(WordFault::Bad),
     }
 }
@@ -95,6 +96,8 @@ fn read_last(unit: TimeUnit, rest: Option<&[u8]>) -> Option<u64>
 }
 
 /// Reads a line of a text whose moments are in this unit.
+/// It has no line feed. `Bad` where it is no line of `node` (RULES, Lines of `node`); `Memory` where room for its
+/// octets is refused.
 #[tactic(auto, unfolding(crate::specs::Request::request_of))]
 pub fn read_request(alloc: Global, unit: TimeUnit, line: &[u8]) -> Result<Request, WordFault>
     ensures { Gives view result (request_of unit line.now) }

@@ -5,6 +5,7 @@ ghost use Rattle.hsr_numbers.specs.Numbers.{has, has_bit, IsLowest};
 
 use std::marker::Model;
 
+// 512 is the number of ports that 64 nodes may have, 8 for each; directions of links and ways are fewer.
 /// How many words a set has.
 const WORDS: usize = 8;
 
@@ -40,6 +41,7 @@ fn lowest_of(words: &[u64]) -> Option<usize>
     ensures { IsLowest (64 * length words.now) words.now result }
 {
     for (index, word) in words.iter().enumerate() {
+        // An empty word has no lowest bit: it is passed over whole.
         if *word != 0 {
             return Some(64 * index + word.trailing_zeros() as usize);
         }
@@ -66,9 +68,11 @@ impl Numbers {
     }
 
     /// Lets a number be in the set or not.
+    /// A number that is in already, or out already, changes nothing.
     pub fn put(&mut self, number: usize, is_in: bool)
         requires { number < 512 }
-        ensures { (n : ℕ) → n < 512 → has self.new n ≡ (if n == number then is_in else has self.old n) }
+        ensures { (n : ℕ) → n < 512 → has self.new n
+            ≡ (if n == number then is_in else has self.old n) }
     {
         let index = number / 64;
         self.words[index] = with_bit(self.words[index], number % 64, is_in);

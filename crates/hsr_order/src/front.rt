@@ -8,6 +8,7 @@ use crate::time::Time;
 use hsr_frame::NoMemory;
 
 /// The time of an entry; none where it isn't known.
+/// `times` has a list for each node, in the order of its record.
 pub fn time_at(times: &[Vec<Time>], spot: Spot) -> Option<Time>
     ensures { result ≡ at_spot (lists_of times.now) spot }
 {
@@ -44,6 +45,7 @@ fn before(spot: Spot) -> Option<Spot>
 fn next(time: Time) -> Result<Time, NoMemory>
     ensures { IfOk result (λ t. t ≡ record { moment = time.moment; step = time.step + 1 }) }
 {
+    // 64 bits of steps are never used up; if they were, that would be want of room.
     match time.step.checked_add(1) {
         Some(step) => Ok(Time {
             moment: time.moment,
@@ -74,6 +76,7 @@ fn time_by(times: &[Vec<Time>], spot: Spot, origin: Origin) -> Result<Option<Tim
         moment: origin.at,
         step: 0,
     };
+    // The order of the three causes doesn't matter: the latest counts.
     let Some(recorded) = after(times, before(spot), own)? else {
         return Ok(None);
     };
@@ -94,6 +97,7 @@ pub(crate) fn next_of(
 {
     let spot = Spot {
         node,
+        // Times are found in the order of the record, so the next entry is the one behind those that are known.
         place: times[node].len(),
     };
     match origin_at(records, spot) {

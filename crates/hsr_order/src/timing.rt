@@ -18,6 +18,7 @@ pub enum OrderFault {
     NoMemory,
 }
 
+// `from_gives` says which fault `?` makes, so that no clause takes want of memory for a circle.
 impl From<NoMemory> for OrderFault {
     ghost use Rattle.std.specs.Prelude.{◌≡◌};
     ghost use Rattle.hsr_order.specs.declared.timing.OrderFault.TheVariants.{NoMemory as NoRoom};
@@ -32,7 +33,9 @@ impl From<NoMemory> for OrderFault {
 /// Gives a node's next entry its time.
 fn push(times: &mut Vec<Vec<Time>>, node: usize, time: Time) -> Result<(), NoMemory>
     requires { node < length times.old.items }
-    ensures { OnOk result (lists_of times.new.items ≡ slice_set (lists_of times.old.items) node (slice_index_or (lists_of times.old.items) node [] ++ time ∷ [])) }
+    ensures { OnOk result (lists_of times.new.items
+        ≡ slice_set (lists_of times.old.items) node
+        (slice_index_or (lists_of times.old.items) node [] ++ time ∷ [])) }
 {
     times[node].push(time)?;
     Ok(())
@@ -47,10 +50,13 @@ fn catch_up(
     requires front { IsFront (lists_of records.now) (lists_of times.old.items) }
     requires below { node < length times.old.items }
     ensures front { OnOk result (IsFront (lists_of records.now) (lists_of times.new.items)) }
-    ensures still { IfOk result (λ moved. moved ≡ false → lists_of times.new.items ≡ lists_of times.old.items) }
-    ensures blocked { IfOk result (λ moved. moved ≡ false → next_of (lists_of records.now) (lists_of times.old.items) node ≡ None) }
+    ensures still { IfOk result (λ moved. moved ≡ false
+        → lists_of times.new.items ≡ lists_of times.old.items) }
+    ensures blocked { IfOk result (λ moved.
+        moved ≡ false → next_of (lists_of records.now) (lists_of times.old.items) node ≡ None) }
 {
     let mut moved = false;
+    // A loop with a bound has an end by its form. Its own end is never reached: memory runs out before.
     for _ in 0..u64::MAX {
         match next_of(records, times.as_slice(), node)? {
             Some(time) => {
@@ -67,7 +73,9 @@ fn catch_up(
 fn round(records: &[Vec<Origin>], times: &mut Vec<Vec<Time>>) -> Result<bool, NoMemory>
     requires { IsFront (lists_of records.now) (lists_of times.old.items) }
     ensures front { OnOk result (IsFront (lists_of records.now) (lists_of times.new.items)) }
-    ensures blocked { IfOk result (λ moved. moved ≡ false → AreBlocked (lists_of records.now) (lists_of times.new.items) (length records.now)) }
+    ensures blocked { IfOk result (λ moved.
+        moved ≡ false → AreBlocked (lists_of records.now) (lists_of times.new.items)
+        (length records.now)) }
 {
     let mut moved = false;
     for node in 0..records.len() {
@@ -82,8 +90,10 @@ fn round(records: &[Vec<Origin>], times: &mut Vec<Vec<Time>>) -> Result<bool, No
 fn settle(records: &[Vec<Origin>], times: &mut Vec<Vec<Time>>) -> Result<(), NoMemory>
     requires { IsFront (lists_of records.now) (lists_of times.old.items) }
     ensures front { OnOk result (IsFront (lists_of records.now) (lists_of times.new.items)) }
-    ensures blocked { OnOk result (AreBlocked (lists_of records.now) (lists_of times.new.items) (length records.now)) }
+    ensures blocked { OnOk result (AreBlocked (lists_of records.now) (lists_of times.new.items)
+        (length records.now)) }
 {
+    // A loop with a bound has an end by its form. Its own end is never reached: each turn gives a time to an entry.
     for _ in 0..u64::MAX {
         if !round(records, times)? {
             return Ok(());
@@ -109,6 +119,7 @@ fn are_all_known(records: &[Vec<Origin>], times: &[Vec<Time>]) -> bool
     ensures { IsTrue result ↔ AreAllKnown (lists_of records.now) (lists_of times.now) }
 {
     for (node, record) in records.iter().enumerate() {
+        // Known times are a front of their record, so the numbers tell whether all are.
         if times[node].len() != record.len() {
             return false;
         }
@@ -122,7 +133,8 @@ fn are_all_known(records: &[Vec<Origin>], times: &[Vec<Time>]) -> bool
 /// one another in a circle, or follow one that isn't there. `NoMemory` where room is refused.
 #[tactic(auto, using(crate::proofs::Circles::all_known, crate::proofs::Circles::none_left))]
 pub fn times(alloc: Global, records: &[Vec<Origin>]) -> Result<Vec<Vec<Time>>, OrderFault>
-    ensures times { IfOk result (λ times. AreTimes (lists_of records.now) (at_spot (lists_of times.items))) }
+    ensures times { IfOk result (λ times. AreTimes (lists_of records.now)
+        (at_spot (lists_of times.items))) }
     ensures circle { IfErr result (IfCircle (HasNoTimes (lists_of records.now))) }
 {
     let mut times = none_known(alloc, records)?;

@@ -1,4 +1,42 @@
 //! The section header, an interface, a packet.
+//!
+//! A block, with offsets in octets; all numbers are little endian (draft-ietf-opsawg-pcapng section 3.1). The length of a
+//! body is a multiple of 4:
+//!
+//! ```text
+//! offset  octets
+//!  0      4   block type
+//!  4      4   length of the whole block: the body and 12
+//!  8      n   body
+//!  8 + n  4   the length again
+//! ```
+//!
+//! Bodies, with offsets in the body. Each ends with options, which `octets` has drawn:
+//!
+//! ```text
+//! section header (4.1), type 0A0D0D0A
+//!  0      4   1A2B3C4D, which tells the order of octets
+//!  4      2   major version 1
+//!  6      2   minor version 0
+//!  8      8   length of the section: all ones, so unknown
+//! 16      ..  option 4, the program (shb_userappl); end of options
+//!
+//! interface description (4.2), type 1
+//!  0      2   link type 1, Ethernet
+//!  2      2   reserved, 0
+//!  4      4   most octets that are captured of a packet: 0, so no bound
+//!  8      ..  option 2, the name (if_name); option 3, the description (if_description);
+//!             option 9, the unit of moments (if_tsresol), 6 for microseconds; end of options
+//!
+//! enhanced packet (4.3), type 6
+//!  0      4   number of the interface, from 0 in the order of their descriptions
+//!  4      4   upper half of the moment, in microseconds
+//!  8      4   lower half of the moment
+//! 12      4   octets that were captured
+//! 16      4   octets of the packet
+//! 20      n   the octets, with zeros up to a multiple of 4
+//! ..      ..  option 1, a comment (opt_comment); end of options
+//! ```
 ghost use Rattle.std.specs.Prelude.{◌≡◌, ◌+◌, ◌++◌, ◌≤◌, ◌<◌, ◌^◌, length, IfErr, IfOk, OnOk};
 ghost use Rattle.hsr_pcapng.specs.Blocks.{FitsInterface, FitsPacket, FitsSection, block, interface, interface_body, packet, packet_body, section_body, section_header};
 ghost use Rattle.hsr_pcapng.specs.Faults.{IfTooLong};
@@ -17,12 +55,14 @@ fn put_block(text: &mut Vec<u8>, kind: u32, body: &[u8]) -> Result<(), BlockFaul
     let Ok(length) = u32::try_from(body.len()) else {
         return Err(BlockFault::TooLong);
     };
+    // Type and both lengths are 12 octets, which the length counts too.
     let Some(length) = length.checked_add(12) else {
         return Err(BlockFault::TooLong);
     };
     put_u32(text, kind)?;
     put_u32(text, length)?;
     text.extend_from_slice(body)?;
+    // The length stands at the end too, so that a reader can walk backwards (section 3.1).
     put_u32(text, length)?;
     Ok(())
 }
@@ -37,6 +77,7 @@ pub fn put_section_header(
     ensures fits { OnOk result (FitsSection program.now) }
     ensures too_long { IfErr result (IfTooLong (FitsSection program.now → ⊥)) }
 {
+    // A body is formed by itself, since its length stands before it.
     let body = section_body(alloc, program)?;
     put_block(text, 0x0A0D_0D0A, body.as_slice())
 }
@@ -52,6 +93,7 @@ fn section_body(alloc: Global, program: &[u8]) -> Result<Vec<u8>, BlockFault>
     put_u32(&mut body, 0x1A2B_3C4D)?;
     put_u16(&mut body, 1)?;
     put_u16(&mut body, 0)?;
+    // How long the section is isn't known yet, and all ones say so (section 4.1).
     body.extend_from_slice(b"\xFF\xFF\xFF\xFF\xFF\xFF\xFF\xFF")?;
     put_option(&mut body, 4, program)?;
     put_end_of_options(&mut body)?;
@@ -64,7 +106,8 @@ fn interface_body(alloc: Global, name: &[u8], description: &[u8]) -> Result<Vec<
     ensures bytes { IfOk result (λ body. body.items ≡ interface_body name.now description.now) }
     ensures name { OnOk result (length name.now < 2 ^ 16) }
     ensures description { OnOk result (length description.now < 2 ^ 16) }
-    ensures too_long { IfErr result (IfTooLong (length name.now < 2 ^ 16 → length description.now < 2 ^ 16 → ⊥)) }
+    ensures too_long { IfErr result (IfTooLong
+        (length name.now < 2 ^ 16 → length description.now < 2 ^ 16 → ⊥)) }
 {
     let mut body = Vec::new(alloc);
     put_u16(&mut body, 1)?;
@@ -85,7 +128,8 @@ pub fn put_interface(
     name: &[u8],
     description: &[u8],
 ) -> Result<(), BlockFault>
-    ensures bytes { OnOk result (text.new.items ≡ text.old.items ++ interface name.now description.now) }
+    ensures bytes { OnOk result (text.new.items
+        ≡ text.old.items ++ interface name.now description.now) }
     ensures fits { OnOk result (FitsInterface name.now description.now) }
     ensures too_long { IfErr result (IfTooLong (FitsInterface name.now description.now → ⊥)) }
 {
@@ -102,15 +146,19 @@ fn packet_body(
     octets: &[u8],
     comment: &[u8],
 ) -> Result<Vec<u8>, BlockFault>
-    ensures bytes { IfOk result (λ body. body.items ≡ packet_body interface moment octets.now comment.now) }
+    ensures bytes { IfOk result (λ body. body.items
+        ≡ packet_body interface moment octets.now comment.now) }
     ensures fits { OnOk result (length comment.now < 2 ^ 16) }
-    ensures too_long { IfErr result (IfTooLong (FitsPacket interface moment octets.now comment.now → ⊥)) }
+    ensures too_long { IfErr result (IfTooLong
+        (FitsPacket interface moment octets.now comment.now → ⊥)) }
 {
+    // Both lengths are the same: each copy is captured whole.
     let Ok(length) = u32::try_from(octets.len()) else {
         return Err(BlockFault::TooLong);
     };
     let mut body = Vec::new(alloc);
     put_u32(&mut body, interface)?;
+    // Two numbers of 32 bits and not one of 64: the upper half comes first, though octets are little endian.
     put_u32(&mut body, (moment >> 32) as u32)?;
     put_u32(&mut body, (moment & 0xFFFF_FFFF) as u32)?;
     put_u32(&mut body, length)?;
@@ -131,9 +179,11 @@ pub fn put_packet(
     octets: &[u8],
     comment: &[u8],
 ) -> Result<(), BlockFault>
-    ensures bytes { OnOk result (text.new.items ≡ text.old.items ++ packet interface moment octets.now comment.now) }
+    ensures bytes { OnOk result (text.new.items
+        ≡ text.old.items ++ packet interface moment octets.now comment.now) }
     ensures fits { OnOk result (FitsPacket interface moment octets.now comment.now) }
-    ensures too_long { IfErr result (IfTooLong (FitsPacket interface moment octets.now comment.now → ⊥)) }
+    ensures too_long { IfErr result (IfTooLong
+        (FitsPacket interface moment octets.now comment.now → ⊥)) }
 {
     let body = packet_body(alloc, interface, moment, octets, comment)?;
     put_block(text, 6, body.as_slice())

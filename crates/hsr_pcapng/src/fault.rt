@@ -11,6 +11,7 @@ pub enum BlockFault {
     NoMemory,
 }
 
+// `from_gives` says which fault `?` makes, so that no clause takes want of memory for `TooLong`.
 impl From<AllocError> for BlockFault {
     ghost use Rattle.std.specs.Prelude.{◌≡◌};
     ghost use Rattle.hsr_pcapng.specs.declared.fault.BlockFault.TheVariants.{NoMemory as NoRoom};

@@ -1,4 +1,13 @@
 //! Numbers, padding and options.
+//!
+//! An option, with offsets in octets (draft-ietf-opsawg-pcapng section 3.5). The last one has code 0 and length 0:
+//!
+//! ```text
+//! offset  octets
+//!  0      2   code
+//!  2      2   length of the value, without the padding
+//!  4      n   value, with zeros up to a multiple of 4
+//! ```
 ghost use Rattle.std.specs.Prelude.{◌≡◌, ◌++◌, ◌≤◌, ◌<◌, ◌^◌, length, IfErr, OnOk};
 ghost use Rattle.hsr_pcapng.specs.Blocks.{end_of_options, number16, number32, option_of, padded};
 ghost use Rattle.hsr_pcapng.specs.Faults.{IfTooLong};
@@ -58,6 +67,7 @@ pub(crate) fn put_option(text: &mut Vec<u8>, code: u16, value: &[u8]) -> Result<
 pub(crate) fn put_end_of_options(text: &mut Vec<u8>) -> Result<(), NoMemory>
     ensures { OnOk result (text.new.items ≡ text.old.items ++ end_of_options) }
 {
+    // Code 0 and length 0.
     text.extend_from_slice(b"\0\0\0\0")?;
     Ok(())
 }

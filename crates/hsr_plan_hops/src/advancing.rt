@@ -24,6 +24,7 @@ fn comes_first(us: u64, now: u64, told: &[Order], flight: Flight) -> bool
     ensures { result ≡ comes_first us now told.now flight }
 {
     match told.first() {
+        // At one moment a copy comes to its end before what is told there.
         Some(Order::Step(Step::Clock { at })) => us <= elapsed(*at, flight),
         Some(_) => us <= elapsed(now, flight),
         None => true,
@@ -67,6 +68,7 @@ fn behind_moment(at: u64, told: &[Order]) -> &[Order]
     ensures { result.now ≡ behind_moment at told.now }
 {
     match told.split_first() {
+        // The moment is told too: it is set once.
         Some((Order::Step(Step::Clock { at: next }), more)) if *next == at => more,
         _ => told,
     }
@@ -88,6 +90,7 @@ fn waits<const C: usize>(
     ensures ok { OnOk result (Advances C us told.now weaving.old weaving.new) }
     ensures err { IfErr result (IsUnmovedByHops C us told.now) }
 {
+    // A hop that ends behind the last moment of 64 bits never does.
     let Some(at) = copy.moment.checked_add(us) else {
         return Err(Unmoved::Differs);
     };
@@ -121,6 +124,7 @@ fn may_be_told(now: u64, order: &Order) -> bool
     ensures { result ≡ may_be_told now order.now }
 {
     match order {
+        // Copies move by hops, so no order that is told may move one.
         Order::Drain => false,
         Order::Step(Step::Clock { at }) => now < *at,
         Order::Step(Step::Put { .. } | Step::Take { .. } | Step::Judge { .. }) => false,
@@ -147,6 +151,7 @@ fn follows<'a, const C: usize>(
         Order::Step(step) if may_be_told(weaving.stage.moment, order) => {
             obeys(told, us, step, more, weaving)
         }
+        // So a refusal is true of the plan: the order that comes next can't be done.
         _ => Err(Unmoved::Differs),
     }
 }
@@ -187,6 +192,7 @@ fn goes_on<const C: usize>(
     ensures err { IfErr result (IsUnmovedByHops C us told.now) }
 {
     if advances(told, us, weaving)? {
+        // Behind each step at once, so that a copy is put at the moment at which it was passed.
         settles(told, us, weaving)?;
         Ok(true)
     } else {
@@ -206,6 +212,7 @@ fn does_all<const C: usize>(
     ensures ok { OnOk result (DoesAll C us told.now weaving.new.orders weaving.new.stage) }
     ensures err { IfErr result (IsUnmovedByHops C us told.now) }
 {
+    // It ends, since orders are counted: over 2^20 of them are `Endless`.
     'orders: loop {
         if !goes_on(told, us, weaving)? {
             return Ok(());

@@ -1,4 +1,7 @@
 //! Copies on their way.
+//!
+//! The hop is the same for all copies, so they come to their ends in the order in which they were put: a queue says
+//! which is next.
 ghost use Rattle.std.specs.Prelude.{◌≡◌, ◌≤◌, drop, length, option_map, slice_get};
 ghost use Rattle.hsr_topology.specs.Links.{link_from};
 ghost use Rattle.hsr_plan_hops.specs.Flights.{elapsed, is_on_way, leaving, on_way, put_by, rows_at};
@@ -44,6 +47,7 @@ fn is_on_way<const C: usize>(world: &World<C>, flight: Flight) -> bool
 pub(crate) fn landed<const C: usize>(world: &World<C>, flights: &VecDeque<Flight>) -> usize
     ensures { drop result flights.now.items ≡ on_way world.now flights.now.items }
 {
+    // Copies that were taken, or lost by a cut, stand in front until they are forgotten.
     for place in 0..flights.len() {
         if let Some(flight) = flights.get(place)
             && is_on_way(world, *flight)
@@ -58,6 +62,7 @@ pub(crate) fn landed<const C: usize>(world: &World<C>, flights: &VecDeque<Flight
 pub(crate) fn forget(flights: &mut VecDeque<Flight>, count: usize)
     ensures { flights.new.items ≡ drop count flights.old.items }
 {
+    // Only the number of turns matters: each gives up the front.
     for gone in 0..count {
         flights.pop_front();
     }
@@ -82,6 +87,7 @@ fn leaving<const C: usize>(
 {
     let (link, is_first) = topology.link_at(end)?;
     let dir = if is_first { Dir::Forth } else { Dir::Back };
+    // The row that the put is about to make.
     let row = rows_at(world, link).len();
     Some(Flight {
         link,

@@ -37,6 +37,7 @@ fn check_end<const C: usize>(alloc: Global, us: u64, world: World<C>) -> Result<
     ensures ok { OnOk result (EndsWell C us world.entry) }
     ensures err { IfErr result (EndsBadly C us world.entry) }
 {
+    // No proof says that the run ends well, so it is looked at.
     let run = closed(world)?;
     if are_in_time(alloc, &run, us)? {
         Ok(())
@@ -51,6 +52,7 @@ fn ordered<const C: usize>(alloc: Global, told: &Meaning, us: u64) -> Result<Vec
     ensures ok { IfOk result (λ orders. MovesByHops C us told.now orders.items) }
     ensures err { IfErr result (IsUnmovedByHops C us told.now) }
 {
+    // With a hop of 0 all would happen at one moment, in an order that nobody chose.
     if us == 0 || told.capacity < 1 || told.capacity > CAPACITY_LIMIT {
         return Err(Unmoved::Differs);
     }

@@ -57,6 +57,7 @@ impl<'a, const C: usize> Stage<'a, C> {
     ) -> Result<Option<WorldFault>, NoMemory>
         ensures { IfOk result (IsTried C topology.now.links self.old step.now more.now self.new) }
     {
+        // Told before the step, which makes the row that is counted here.
         let copy = put_by(&self.world, topology, self.moment, step);
         let count = landed(&self.world, &self.flights);
         match self.world.step(step) {
@@ -64,6 +65,7 @@ impl<'a, const C: usize> Stage<'a, C> {
             Err(WorldFault::NoMemory) => return Err(NoMemory),
             Err(fault) => return Ok(Some(fault)),
         }
+        // Only behind a step that was done, so that a refused one leaves the stage as it was.
         forget(&mut self.flights, count);
         if let Some(copy) = copy {
             self.flights.push_back(copy)?;

@@ -38,6 +38,7 @@ fn is_later_by(us: u64, from: Option<u64>, to: Option<u64>) -> bool
     ensures { result ≡ is_later_by us from to }
 {
     match (from, to) {
+        // An overflow is no later moment.
         (Some(from), Some(to)) => from.checked_add(us) == Some(to),
         _ => false,
     }
@@ -48,6 +49,7 @@ fn is_in_time<const C: usize>(closed: &Closed<C>, us: u64, hop: &Hop) -> bool
     ensures { result ≡ is_in_time us closed.now.run hop.now }
 {
     match hop.judged {
+        // A lost copy has no end.
         None => true,
         Some(_) => {
             let passed = moment_at(closed, hop.passed);

@@ -63,6 +63,7 @@ fn tries<'a, const C: usize>(
     if let Some(fault) = weaving.stage.tries(&told.topology, step, more)? {
         return Ok(Some(fault));
     }
+    // Written down only once it was done, so that the orders are those that the world obeys.
     note(&mut weaving.orders, step)?;
     if weaving.orders.len() > ORDER_LIMIT {
         return Err(Unmoved::Endless(ORDER_LIMIT));
@@ -95,6 +96,7 @@ fn is_unknown(step: &Step, fault: WorldFault) -> bool
     ensures { result ≡ is_unknown step.now fault }
 {
     match step {
+        // What a RedBox knows depends on the copies that have come, so it is tried.
         Step::Supervise {
             about: About::Proxied(_),
             ..
@@ -144,6 +146,7 @@ fn puts<const C: usize>(
     let more = weaving.stage.told;
     match tries(told, us, &Step::Put { node, port }, more, weaving)? {
         None => Ok(true),
+        // A world doesn't show its outboxes: that one is empty is told by a put that is refused.
         Some(_) => Ok(false),
     }
 }
@@ -163,6 +166,7 @@ fn puts_all<const C: usize>(
     let mut port = 0;
     while port < PORT_LIMIT {
         if puts(told, us, node, port, weaving)? {
+            // The lowest port puts first, so what comes next is determined.
             port = 0;
         } else {
             port += 1;
@@ -183,6 +187,7 @@ fn judges<const C: usize>(
     ensures ok { IfOk result (IsJudged C us told.now weaving.old weaving.new) }
     ensures err { IfErr result (IsUnmovedByHops C us told.now) }
 {
+    // No copy comes from a link that isn't there.
     let Some(End { node, port }) = end else {
         return Err(Unmoved::Differs);
     };

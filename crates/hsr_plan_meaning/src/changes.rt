@@ -1,4 +1,7 @@
 //! Events that change something.
+//!
+//! A mend or an on that changes nothing is a fault: its planner has named another link, or another moment. A cut or
+//! an off isn't, since sweeps cut links that the plan cuts too.
 ghost use Rattle.std.specs.Prelude.{◌≡◌, ◌<◌, ◌+◌, ◌≤◌, length};
 ghost use Rattle.hsr_plan_text.specs.Fallible.{GivesAt, at_spot};
 ghost use Rattle.hsr_plan_text.specs.declared.fault.Refusal.TheVariants.{Idle as IsIdle};
@@ -65,6 +68,7 @@ fn is_no_earlier(last: Option<Last>, at: u64) -> bool
 {
     match last {
         None => true,
+        // Of two at one moment the one that is listed later is the last.
         Some(last) => last.at <= at,
     }
 }
@@ -106,6 +110,7 @@ fn last_before(all: &[Occasion], number: usize, event: &Occasion) -> Option<Last
     requires { number < length all.now }
     ensures { result ≡ last_before all.now number event.now }
 {
+    // Of one moment the events before this one count, and those behind it don't: they happen as they are listed.
     let before = last_of(event.at, true, &event.what, None, &all[..number]);
     last_of(event.at, false, &event.what, before, &all[number + 1..])
 }
@@ -117,6 +122,7 @@ fn is_down(last: Option<Last>) -> bool
     ensures { result ≡ is_down last }
 {
     match last {
+        // All links are up and all nodes on at first.
         None => false,
         Some(last) => last.is_down,
     }
@@ -129,6 +135,7 @@ fn is_felt(all: &[Occasion], number: usize, event: &Occasion) -> bool
 {
     match event.what {
         Happening::Mend { .. } | Happening::On { .. } => is_down(last_before(all, number, event)),
+        // A cut or an off is never idle, so that a sweep's variant isn't refused for one.
         _ => true,
     }
 }
@@ -146,7 +153,9 @@ fn idle_key(what: &Happening) -> Key
 /// Refuses the event of that number, unless it changes something.
 fn felt_at(all: &[Occasion], number: usize, event: &Occasion) -> Result<(), PlanFault>
     requires { number < length all.now }
-    ensures { GivesAt (λ u. u) result (at_spot (spot.Event number) (unless_held (is_felt event.now.what (last_before all.now number event.now)) (IsIdle (idle_key event.now.what)))) }
+    ensures { GivesAt (λ u. u) result (at_spot (spot.Event number)
+        (unless_held (is_felt event.now.what (last_before all.now number event.now))
+        (IsIdle (idle_key event.now.what)))) }
 {
     if is_felt(all, number, event) {
         return Ok(());

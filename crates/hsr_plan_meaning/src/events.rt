@@ -24,6 +24,7 @@ fn no_node(alloc: Global, nodes: &[Node], name: &[u8]) -> Result<usize, What>
 {
     let word = Word::of(alloc, name)?;
     match station_of(nodes, name) {
+        // A station's name is there, but stands for no node that can be cut off or set on.
         Some(_) => Err(What::Refused(Refusal::OfStation(word))),
         None => Err(What::Refused(Refusal::NoSuchName(word))),
     }
@@ -93,6 +94,7 @@ fn joins(first: Asked, second: Asked, link: &[End; 2]) -> bool
     ensures { result ≡ joins first second link.now }
 {
     let [one, other] = *link;
+    // Ends are said in either order.
     (fits(first, one) && fits(second, other)) || (fits(first, other) && fits(second, one))
 }
 
@@ -157,6 +159,7 @@ fn in_time(until: Option<u64>, at: u64) -> bool
 {
     match until {
         None => true,
+        // An event at the end itself still counts, unlike a start.
         Some(until) => at <= until,
     }
 }

@@ -1,4 +1,7 @@
 //! What RedBoxes hear of the stations behind them.
+//!
+//! A RedBox sends supervision about stations that it knows. Here each has a `ProxyTable`, the table of a RedBox
+//! itself, so "knows" is its own word, and no step of the scenario is refused for it.
 ghost use Rattle.std.specs.Prelude.{◌≡◌, position, slice_get, IfOk, OnOk};
 ghost use Rattle.hsr_plan_meaning.specs.Hearing.{begins_at, has_room, heard_on, interlink_to, knows, leads_to, macs_behind, macs_beyond, macs_if, macs_in, nothing_heard, settled, with_known};
 
@@ -119,6 +122,7 @@ fn learn(known: &mut [ProxyTable], nodes: &[Node], now: u64, node: usize, mac: M
     ensures { known.new ≡ with_known nodes.now now node mac known.old }
 {
     if node < known.len() && !is_own(nodes, node, mac) {
+        // A table takes no moment before its last one.
         let at = now.max(known[node].last());
         known[node].learn(mac, at);
     }
@@ -140,6 +144,7 @@ impl Heard {
     pub(crate) fn has_room(&self, capacity: usize, station: usize) -> bool
         ensures { result ≡ has_room capacity station self.now }
     {
+        // What finds no room on the interlink is lost, and never heard.
         self.waits.iter().filter(|waits| **waits == station).count() < capacity
     }
 
@@ -163,6 +168,7 @@ impl Heard {
     pub(crate) fn settle(&mut self)
         ensures { self.new ≡ settled self.old }
     {
+        // A drain brings all to the RedBox, so all have room again.
         self.waits.clear();
     }
 
@@ -171,6 +177,7 @@ impl Heard {
         ensures { result ≡ knows now node mac self.now }
     {
         match self.known.get(node) {
+            // A table is asked for no moment before its last one.
             Some(table) => table.knows(mac, now.max(table.last())),
             None => false,
         }

@@ -1,7 +1,17 @@
 //! What a plan means: a topology, a capacity, and orders.
 //!
-//! Its modules, in the order to read them: `occasion`, `senders`, `events`, `changes`, `lives`, `sends`, `occasions`, `setting`,
-//! `hearing`, `orders`, `meaning`.
+//! Its modules, in the order in which to read them:
+//! - `occasion`: what happens at the moments of a plan
+//! - `senders`: who sends, and to whom
+//! - `events`: the events of a plan as occasions
+//! - `changes`: events that change something
+//! - `lives`: when supervision frames are sent
+//! - `sends`: when the frames of streams are sent
+//! - `occasions`: all that happens in a plan
+//! - `setting`: where the occasions of a plan take place
+//! - `hearing`: what RedBoxes hear of the stations behind them
+//! - `orders`: the orders of a scenario that tell what happens in a plan
+//! - `meaning`: what a plan means
 #![tactic(auto)]
 
 mod changes;

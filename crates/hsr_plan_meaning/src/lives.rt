@@ -59,6 +59,7 @@ fn rounds(alloc: Global, every: u64, until: u64, nodes: &[Node]) -> Result<Vec<O
             return Ok(occasions);
         }
         add_round(&mut occasions, at, nodes)?;
+        // Saturating, so that the last round ends the loop and doesn't begin anew.
         at = at.saturating_add(every);
     }
     Ok(occasions)
@@ -76,6 +77,7 @@ fn lives_until(
     let Some(until) = until else {
         return Err(What::Refused(Refusal::Endless(Key::Until)));
     };
+    // Counted before it is listed, so that a short plan can't ask for a long list.
     if until > every.saturating_mul(ROUNDS) {
         return Err(What::Refused(Refusal::TooMany(Key::Life)));
     }
@@ -87,6 +89,7 @@ fn lives_until(
 pub(crate) fn lives(alloc: Global, outline: &Outline, nodes: &[Node]) -> Result<Vec<Occasion>, What>
     ensures { Gives (λ v. v.items) result (lives outline.now nodes.now) }
 {
+    // A period of 0 says that there is no supervision.
     if outline.life == 0 {
         return Ok(Vec::new(alloc));
     }

@@ -40,6 +40,7 @@ impl Model for Meaning {
 fn sort(occasions: &mut Vec<Occasion>) -> Result<(), NoMemory>
     ensures { OnOk result (AreInOrder occasions.old.items occasions.new.items) }
 {
+    // A stable sort: occasions of one moment stay as they are listed.
     occasions.sort_by_key(|occasion| occasion.at)?;
     Ok(())
 }
@@ -100,6 +101,7 @@ fn told_in_order(alloc: Global, plan: &Plan, listed: Listed) -> Result<Meaning, 
     ensures { IfOk result (λ m. Tells plan.now listed m) }
 {
     let wired = listed.wired;
+    // Listed and in order are two functions, so that each owns one list that it may have to drop.
     let mut occasions = listed.occasions;
     sort(&mut occasions)?;
     let orders = told(alloc, plan, &wired, occasions.as_slice())?;

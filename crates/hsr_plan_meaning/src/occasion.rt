@@ -25,6 +25,7 @@ pub struct Sent {
 
 impl Sent {
     /// The frame of that number since the same start.
+    /// All else stays as it is.
     pub(crate) fn with_count(&self, count: usize) -> Sent
         ensures { result ≡ record self.now { count = count } }
     {

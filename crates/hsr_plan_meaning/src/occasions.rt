@@ -53,7 +53,8 @@ fn event_at(
     number: usize,
     one: &Event,
 ) -> Result<Occasion, PlanFault>
-    ensures { GivesAt (λ o. o) result (at_spot (spot.Event number) (event until nodes.now links.now one.now)) }
+    ensures { GivesAt (λ o. o) result (at_spot (spot.Event number)
+        (event until nodes.now links.now one.now)) }
 {
     at_spot(Spot::Event(number), event(alloc, until, nodes, links, one))
 }
@@ -92,7 +93,8 @@ fn sends_at(
     number: usize,
     stream: &Stream,
 ) -> Result<Vec<Occasion>, PlanFault>
-    ensures { GivesAt (λ v. v.items) result (at_spot (spot.Stream number) (sends nodes.now until room number stream.now)) }
+    ensures { GivesAt (λ v. v.items) result
+        (at_spot (spot.Stream number) (sends nodes.now until room number stream.now)) }
 {
     at_spot(
         Spot::Stream(number),
@@ -104,6 +106,7 @@ fn sends_at(
 fn room_behind(occasions: &[Occasion]) -> usize
     ensures { result ≡ room_behind occasions.now }
 {
+    // Room that is left when none is left counts as none.
     MOST.saturating_sub(occasions.len())
 }
 
@@ -153,6 +156,7 @@ fn events_in(
 ) -> Result<Vec<Occasion>, PlanFault>
     ensures { GivesAt (λ v. v.items) result (events_in plan.now nodes.now links.now) }
 {
+    // Each event is compared with each, so their number is bounded first.
     at_spot(Spot::Top, few_events(plan.events.as_slice()))?;
     let until = plan.outline.until;
     let occasions = events(alloc, until, nodes, links, plan.events.as_slice())?;
@@ -201,6 +205,7 @@ pub(crate) fn occasions(
 ) -> Result<Vec<Occasion>, PlanFault>
     ensures { GivesAt (λ v. v.items) result (occasions plan.now nodes.now links.now) }
 {
+    // Supervision of many nodes may be over the bound alone, before any stream.
     let first = not_too_many(events_and_lives(alloc, plan, nodes, links)?)?;
     let until = plan.outline.until;
     add_sends(alloc, first, nodes, until, plan.streams.as_slice())

@@ -80,6 +80,7 @@ fn downs(
 {
     let mut downs = Vec::new(alloc);
     for (number, link) in links.iter().enumerate() {
+        // A link is down for two reasons, a cut and a node that is off; only a change of both together is an order.
         downs.push(is_down(off, cut, number, link))?;
     }
     Ok(downs)
@@ -141,6 +142,7 @@ fn is_to_speak(moves: Moves, is_known: bool) -> bool
 {
     match moves {
         Moves::EachSendDrains | Moves::EachMomentDrains => is_known,
+        // By hops it isn't known yet what has come: each station is tried when the run is played.
         Moves::Hop(_) => true,
     }
 }
@@ -157,7 +159,8 @@ fn name_of(stream: &Stream, place: usize) -> &[u8]
 
 /// The send of a frame of a stream.
 fn named_send(alloc: Global, stream: &Stream, sent: Sent) -> Result<Order, NoMemory>
-    ensures { IfOk result (λ o. o ≡ named_send stream.now sent (name_if (slice_get stream.now.from sent.place))) }
+    ensures { IfOk result (λ o. o ≡ named_send stream.now sent
+        (name_if (slice_get stream.now.from sent.place))) }
 {
     let framing = &stream.framing;
     // no plan that is read comes near these
@@ -211,8 +214,10 @@ impl Told {
         node: usize,
         off: bool,
     ) -> Result<(), NoMemory>
-        ensures { OnOk result (self.new ≡ changed links.now (slice_set self.old.off node off) self.old.cut self.old) }
+        ensures { OnOk result (self.new ≡ changed links.now
+            (slice_set self.old.off node off) self.old.cut self.old) }
     {
+        // Compared before and after: so a link that is down already is cut no second time.
         let before = downs(alloc, self.off.as_slice(), self.cut.as_slice(), links)?;
         set_flag(self.off.as_mut_slice(), node, off);
         let after = downs(alloc, self.off.as_slice(), self.cut.as_slice(), links)?;
@@ -227,7 +232,8 @@ impl Told {
         link: usize,
         cut: bool,
     ) -> Result<(), NoMemory>
-        ensures { OnOk result (self.new ≡ changed links.now self.old.off (slice_set self.old.cut link cut) self.old) }
+        ensures { OnOk result (self.new ≡ changed links.now self.old.off
+            (slice_set self.old.cut link cut) self.old) }
     {
         let before = downs(alloc, self.off.as_slice(), self.cut.as_slice(), links)?;
         set_flag(self.cut.as_mut_slice(), link, cut);
@@ -240,6 +246,7 @@ impl Told {
         ensures { OnOk result (self.new ≡ drain self.old) }
     {
         self.orders.push(Order::Drain)?;
+        // A drain brings to RedBoxes what waited on interlinks.
         self.heard.settle();
         self.sent = false;
         Ok(())
@@ -257,6 +264,7 @@ impl Told {
         ensures { OnOk result (self.new ≡ clocked at self.old) }
     {
         if self.now != at {
+            // Before the moment goes on: what was sent at a moment comes to its end at it.
             self.drain_sent()?;
             self.orders.push(Order::Step(Step::Clock { at }))?;
             self.now = at;
@@ -272,6 +280,7 @@ impl Told {
         match moves {
             Moves::EachSendDrains => self.drain()?,
             Moves::EachMomentDrains => self.sent = true,
+            // Copies are moved later, when the run is played.
             Moves::Hop(_) => {}
         }
         Ok(())
@@ -294,7 +303,8 @@ impl Told {
         number: usize,
         sender: Sender,
     ) -> Result<(), NoMemory>
-        ensures { OnOk result (self.new ≡ hear_on setting.now number sender (slice_get setting.now.links number) self.old) }
+        ensures { OnOk result (self.new ≡ hear_on setting.now number sender
+            (slice_get setting.now.links number) self.old) }
     {
         let mac = sender.mac;
         match setting.links.get(number) {
@@ -357,11 +367,13 @@ impl Told {
         setting: &Setting<'_>,
         sent: Sent,
     ) -> Result<(), NoMemory>
-        ensures { OnOk result (self.new ≡ send_if setting.now (slice_get setting.now.streams sent.stream) sent self.old) }
+        ensures { OnOk result (self.new ≡ send_if setting.now
+            (slice_get setting.now.streams sent.stream) sent self.old) }
     {
         let sender = sent.sender;
         match setting.streams.get(sent.stream) {
             Some(stream) => {
+                // Room for the order comes first, so that nothing is heard of a frame that isn't sent.
                 let order = named_send(alloc, stream, sent)?;
                 self.hear(setting, sender)?;
                 self.send(setting.moves, order)
@@ -385,6 +397,7 @@ impl Told {
             Happening::Off { node } => self.turn(alloc, setting.links, node, true),
             Happening::On { node } => self.turn(alloc, setting.links, node, false),
             Happening::Life { node } => {
+                // A node that is off sends nothing, and isn't asked again later.
                 if flag(self.off.as_slice(), node) {
                     return Ok(());
                 }
@@ -439,6 +452,7 @@ pub(crate) fn orders_of(
 {
     let mut told = Told::start(alloc, setting)?;
     tell_all(alloc, &mut told, setting, occasions)?;
+    // What was sent at the last moment comes to its end too.
     told.drain_sent()?;
     Ok(told.orders)
 }

@@ -38,6 +38,7 @@ fn station_mac(place: &Place, at: usize) -> Option<Mac>
 {
     match place {
         Place::Station { macs } => {
+            // A Station has 16 addresses at most, so its place fits 8 bits.
             if at < 16 {
                 macs.as_slice().get(at).copied()
             } else {
@@ -96,7 +97,8 @@ pub(crate) fn station_of(nodes: &[Node], name: &[u8]) -> Option<usize>
 
 /// The sender of a station's name.
 fn station_named(nodes: &[Node], name: &[u8]) -> Option<Sender>
-    ensures { result ≡ as_station nodes.now (position (λ node. is_in name.now node.stations) nodes.now) name.now }
+    ensures { result ≡ as_station nodes.now
+        (position (λ node. is_in name.now node.stations) nodes.now) name.now }
 {
     match station_of(nodes, name) {
         Some(at) => as_station(nodes, at, name),
@@ -156,6 +158,7 @@ fn some_has(nodes: &[Node], mac: Mac) -> bool
 fn is_somebody(nodes: &[Node], mac: Mac) -> bool
     ensures { result ≡ is_somebody nodes.now mac }
 {
+    // A group may have no member here: who hears it isn't the plan's matter.
     mac.is_group() || some_has(nodes, mac)
 }
 

@@ -1,4 +1,6 @@
 //! When the frames of streams are sent.
+//!
+//! Frames are counted before they are listed: a short plan may ask for 4096 senders of a million frames each.
 ghost use Rattle.std.specs.Prelude.{◌≡◌, ◌++◌, ◌+◌, ◌*◌, ◌≤◌, ◌<◌, ◌^◌, min, nat_le, nat_lt, length, slice_get, IfOk, OnOk};
 ghost use Rattle.std.specs.List.{list_all};
 ghost use Rattle.hsr_plan_text.specs.Fallible.{Gives};
@@ -18,6 +20,7 @@ use std::alloc::Global;
 /// The most occasions of a plan.
 const MOST: u64 = 1 << 20;
 
+// A stream with a count and no end goes on so far at most.
 /// Behind the last moment that a plan may name.
 const BEHIND: u64 = 1 << 41;
 
@@ -49,6 +52,7 @@ fn most_sent(count: Option<u64>) -> u64
     ensures most { result ≤ 2 ^ 20 + 1 }
 {
     match count {
+        // One more than may be, so that too many are told from just enough.
         None => MOST + 1,
         Some(count) => count.min(MOST + 1),
     }
@@ -56,7 +60,14 @@ fn most_sent(count: Option<u64>) -> u64
 
 /// The first frame of the sender at a place among those of a stream.
 fn first(stream: usize, place: usize, sender: Sender, dst: Mac) -> Sent
-    ensures { result ≡ record { stream = stream; place = place; sender = sender; dst = dst; state = 0; count = 0 } }
+    ensures { result ≡ record {
+      stream = stream;
+      place = place;
+      sender = sender;
+      dst = dst;
+      state = 0;
+      count = 0;
+    } }
 {
     Sent {
         stream,
@@ -72,6 +83,7 @@ fn first(stream: usize, place: usize, sender: Sender, dst: Mac) -> Sent
 fn next_gap(gap: u64, timing: &Timing) -> u64
     ensures { result ≡ min (gap * timing.now.grow) timing.now.most }
 {
+    // Saturating, since the longest gap bounds it anyway.
     gap.saturating_mul(timing.grow).min(timing.most)
 }
 
@@ -99,7 +111,9 @@ fn left_by_run(
     until: u64,
     sent: &Sent,
 ) -> Option<usize>
-    ensures { result ≡ left room (length (run most 0 start (min timing.now.every timing.now.most) timing.now until sent.now)) }
+    ensures { result
+        ≡ left room (length (run most 0 start
+        (min timing.now.every timing.now.most) timing.now until sent.now)) }
 {
     let mut at = start;
     let mut gap = timing.every.min(timing.most);
@@ -107,6 +121,7 @@ fn left_by_run(
         if at >= until {
             return left(room, count);
         }
+        // Given up at once: how many there would be beyond the room isn't counted.
         if count >= room {
             return None;
         }
@@ -182,7 +197,9 @@ fn check_room(
     until: u64,
     dst: Mac,
 ) -> Result<(), What>
-    ensures { Gives (λ u. u) result (unless_held (nat_le (length (sent_by stream 0 senders.now timing.now until dst)) room) (IsTooMany key.Stream)) }
+    ensures { Gives (λ u. u) result (unless_held
+        (nat_le (length (sent_by stream 0 senders.now timing.now until dst)) room)
+        (IsTooMany key.Stream)) }
 {
     match left_by_all(room, stream, senders, timing, until, dst) {
         Some(_) => Ok(()),
@@ -202,7 +219,9 @@ fn add_run(
     until: u64,
     sent: &Sent,
 ) -> Result<(), NoMemory>
-    ensures { OnOk result (occasions.new.items ≡ occasions.old.items ++ run most 0 start (min timing.now.every timing.now.most) timing.now until sent.now) }
+    ensures { OnOk result (occasions.new.items
+        ≡ occasions.old.items ++ run most 0 start
+        (min timing.now.every timing.now.most) timing.now until sent.now) }
 {
     let mut at = start;
     let mut gap = timing.every.min(timing.most);
@@ -223,6 +242,7 @@ fn next_end(starts: &[u64], next: usize, until: u64) -> u64
     ensures { result ≡ next_end (slice_get starts.now next) until }
 {
     match starts.get(next) {
+        // The next start ends this one: a new state begins (IEC 61850-8-1, stNum).
         Some(start) => (*start).min(until),
         None => until,
     }
@@ -254,7 +274,8 @@ fn add_runs(
     until: u64,
     sent: &Sent,
 ) -> Result<(), NoMemory>
-    ensures { OnOk result (occasions.new.items ≡ occasions.old.items ++ runs 0 timing.now.starts timing.now until sent.now) }
+    ensures { OnOk result (occasions.new.items
+        ≡ occasions.old.items ++ runs 0 timing.now.starts timing.now until sent.now) }
 {
     for (state, start) in timing.starts.iter().enumerate() {
         add_state(occasions, timing, state, *start, until, sent)?;
@@ -296,6 +317,7 @@ fn check_size(alloc: Global, framing: &Framing, name: &Word) -> Result<(), What>
     ensures { Gives (λ u. u) result (fits framing.now name.now) }
 {
     let least = shortest(alloc, framing.kind, name.as_bytes())?;
+    // 0 asks for the shortest, so it is always enough.
     if framing.size == 0 || least <= framing.size {
         Ok(())
     } else {

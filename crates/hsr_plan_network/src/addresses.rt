@@ -24,6 +24,7 @@ fn others_have(nodes: &[Node], address: &Addressed) -> bool
 {
     let name = address.name.as_bytes();
     let mac = address.mac;
+    // Two given addresses were compared before: here it is one that is another's default.
     nodes
         .iter()
         .any(|node| !is_of(node, name) && node.place.owns(mac))

@@ -1,4 +1,7 @@
 //! What names a plan may not have.
+//!
+//! Each refusal is a function of one test. So the proof has one clause for each, and the order of `check` is that of
+//! the faults.
 ghost use Rattle.std.specs.Prelude.{◌≡◌, ◌++◌, codes, length, nat_le, IfOk, OnOk};
 ghost use Rattle.hsr_toml.specs.Fallible.{guard};
 ghost use Rattle.hsr_plan_text.specs.Fallible.{Gives};
@@ -29,6 +32,7 @@ fn once(alloc: Global, is_once: bool, name: &[u8]) -> Result<(), What>
     if is_once {
         return Ok(());
     }
+    // The name goes into the fault, so that its line can name it and point at it.
     let name = Word::of(alloc, name)?;
     Err(What::Refused(Refusal::NameTwice(name)))
 }
@@ -63,6 +67,7 @@ fn each_once(alloc: Global, names: &[Word]) -> Result<(), What>
     for (i, name) in names.iter().enumerate() {
         once(
             alloc,
+            // Each with those behind it: so the name of the fault is the first that stands again.
             !is_in(name.as_bytes(), &names[i + 1..]),
             name.as_bytes(),
         )?;
@@ -79,6 +84,7 @@ fn list_at_most(most: usize, rings: &[Ring]) -> bool
 {
     let mut left = most;
     for ring in rings.iter() {
+        // Counted down, so that no sum can overflow.
         if ring.nodes.len() > left {
             return false;
         }
@@ -128,6 +134,7 @@ fn check_ring(alloc: Global, rings: &[Ring], ring: &Ring) -> Result<(), What>
 {
     each_once(alloc, ring.nodes.as_slice())?;
     fit(ring.nodes.len() >= 2)?;
+    // A node in two rings is a QuadBox, which has two ports for each.
     each_in_two(alloc, rings, ring.nodes.as_slice())
 }
 
@@ -179,7 +186,8 @@ fn each_new(alloc: Global, rings: &[Ring], names: &[Word]) -> Result<(), What>
 
 /// Refuses a number of stations behind a RedBox.
 fn some_sixteen(names: &[Word]) -> Result<(), What>
-    ensures { Gives (λ u. u) result (unless_held (some_sixteen names.now) (why.TooMany key.RedBox)) }
+    ensures { Gives (λ u. u) result (unless_held (some_sixteen names.now)
+        (why.TooMany key.RedBox)) }
 {
     if !names.is_empty() && names.len() <= 16 {
         Ok(())
@@ -214,6 +222,7 @@ fn check_redbox(alloc: Global, rings: &[Ring], redbox: &Behind) -> Result<(), Wh
 {
     let name = redbox.redbox.as_bytes();
     there(alloc, in_one(rings, name), name)?;
+    // Its Station's name is formed from it, so its length comes before that.
     short(&redbox.redbox)?;
     new_station(alloc, rings, &redbox.redbox)?;
     some_sixteen(redbox.stations.as_slice())?;
@@ -279,6 +288,7 @@ fn check_address(alloc: Global, network: &Network, address: &Addressed) -> Resul
     ensures { Gives (λ u. u) result (address_passes network.now address.now) }
 {
     let name = address.name.as_bytes();
+    // A QuadBox, which is in two rings, has no address.
     let is_there = in_one(network.rings.as_slice(), name)
         || is_station(network.redboxes.as_slice(), name);
     there(alloc, is_there, name)
@@ -311,6 +321,7 @@ fn own_addresses(addresses: &[Addressed]) -> Result<(), What>
     ensures { Gives (λ u. u) result (own_addresses addresses.now) }
 {
     for (i, address) in addresses.iter().enumerate() {
+        // Two nodes with one address are no fault of a name, so it is told as one of the topology.
         fit(!has_mac(&addresses[i + 1..], address.mac))?;
     }
     Ok(())
@@ -345,6 +356,7 @@ pub(crate) fn check(alloc: Global, network: &Network) -> Result<(), What>
     ensures { Gives (λ u. u) result (passes network.now) }
 {
     let rings = network.rings.as_slice();
+    // Counted before names are compared, so that long texts are refused in a time that grows with them alone.
     few_enough(rings)?;
     check_rings(alloc, rings)?;
     check_redboxes(alloc, rings, network.redboxes.as_slice())?;

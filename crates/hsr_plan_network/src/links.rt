@@ -13,6 +13,7 @@ fn side(rings: &[Ring], ring: usize, name: &[u8]) -> u8
     ensures value { result ≡ side rings.now ring name.now }
     ensures most { result ≤ 2 }
 {
+    // A node begins at A in the ring in which it is met first; a QuadBox at C in its other ring.
     if met_first(rings, name) == ring { 0 } else { 2 }
 }
 
@@ -33,6 +34,7 @@ fn next<'a>(ring: &'a [Word], name: &[u8]) -> &'a [u8]
 {
     match ring.get((number(ring, name) + 1) % ring.len()) {
         Some(next) => next.as_bytes(),
+        // Never so: the number is below the length of the ring.
         None => &[],
     }
 }
@@ -45,6 +47,7 @@ fn ring_link(rings: &[Ring], names: &[Word], number: usize, ring: &[Word], name:
 {
     let next = next(ring, name);
     [
+        // From B (or D) of a node to A (or C) of the next one.
         end_at(names, side(rings, number, name) + 1, name),
         end_at(names, side(rings, number, next), next),
     ]
@@ -58,7 +61,8 @@ fn add_ring(
     number: usize,
     ring: &[Word],
 ) -> Result<(), NoMemory>
-    ensures { OnOk result (links.new.items ≡ links.old.items ++ map (ring_link rings.now names.now number ring.now) ring.now) }
+    ensures { OnOk result (links.new.items
+        ≡ links.old.items ++ map (ring_link rings.now names.now number ring.now) ring.now) }
 {
     for name in ring.iter() {
         links.push(ring_link(rings, names, number, ring, name.as_bytes()))?;
@@ -89,6 +93,7 @@ fn interlink(names: &[Word], boxes: &[Word], name: &[u8]) -> [End; 2]
     [
         end_at(names, 2, name),
         End {
+            // Stations stand behind all nodes of rings, one for each RedBox, in the same order.
             node: names.len() + number(boxes, name),
             port: 0,
         },
@@ -101,7 +106,8 @@ pub(crate) fn add_interlinks(
     names: &[Word],
     boxes: &[Word],
 ) -> Result<(), NoMemory>
-    ensures { OnOk result (links.new.items ≡ links.old.items ++ map (interlink names.now boxes.now) boxes.now) }
+    ensures { OnOk result (links.new.items
+        ≡ links.old.items ++ map (interlink names.now boxes.now) boxes.now) }
 {
     for name in boxes.iter() {
         links.push(interlink(names, boxes, name.as_bytes()))?;

@@ -28,6 +28,7 @@ pub fn number(names: &[Word], name: &[u8]) -> usize
 {
     match place(names, name) {
         Some(place) => place,
+        // Total, since callers ask for names that are there: so no proof has to say that again.
         None => 0,
     }
 }
@@ -65,6 +66,7 @@ pub(crate) fn met_first(rings: &[Ring], name: &[u8]) -> usize
 fn join_one(alloc: Global, seen: &mut Vec<Word>, name: &Word) -> Result<(), NoMemory>
     ensures { OnOk result (seen.new.items ≡ joined seen.old.items (name.now ∷ [])) }
 {
+    // A QuadBox is in two rings, and is one node.
     if !is_in(name.as_bytes(), seen.as_slice()) {
         let name = name.copy(alloc)?;
         seen.push(name)?;

@@ -55,6 +55,7 @@ pub(crate) fn station_name(alloc: Global, redbox: &[u8]) -> Result<Word, NoMemor
 {
     let mut name = Vec::new(alloc);
     name.extend_from_slice(redbox)?;
+    // Stations behind a RedBox are SANs, singly attached nodes (IEC 62439-3).
     name.extend_from_slice(b"-sans")?;
     Word::of(alloc, name.as_slice())
 }
@@ -69,6 +70,7 @@ fn station_node(
     ensures { IfOk result (λ n. n ≡ station_node network.now boxes.now redbox.now) }
 {
     let stations = behind(network.redboxes.as_slice(), redbox.as_bytes());
+    // More than 16 were refused by `check`, so this isn't met.
     let Some(macs) = station_macs(network, boxes, redbox.as_bytes(), stations) else {
         return Err(NoMemory);
     };
@@ -116,7 +118,8 @@ fn add_stations(
     network: &Network,
     boxes: &[Word],
 ) -> Result<(), NoMemory>
-    ensures { OnOk result (nodes.new.items ≡ nodes.old.items ++ map (station_node network.now boxes.now) boxes.now) }
+    ensures { OnOk result (nodes.new.items
+        ≡ nodes.old.items ++ map (station_node network.now boxes.now) boxes.now) }
 {
     for redbox in boxes.iter() {
         nodes.push(station_node(alloc, network, boxes, redbox)?)?;
@@ -131,7 +134,8 @@ pub(crate) fn nodes_of(
     names: &[Word],
     boxes: &[Word],
 ) -> Result<Vec<Node>, NoMemory>
-    ensures { IfOk result (λ v. v.items ≡ map (ring_node network.now) names.now ++ map (station_node network.now boxes.now) boxes.now) }
+    ensures { IfOk result (λ v. v.items ≡ map (ring_node network.now) names.now
+        ++ map (station_node network.now boxes.now) boxes.now) }
 {
     let mut nodes = ring_nodes(alloc, network, names)?;
     add_stations(alloc, &mut nodes, network, boxes)?;

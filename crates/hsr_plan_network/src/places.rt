@@ -14,6 +14,7 @@ use hsr_plan_text::{Addressed, Behind, InMode, Network, Ring, Word};
 fn octet_after(number: usize) -> u8
     ensures { result ≡ (number + 1) % 256 }
 {
+    // Numbers in an address begin at 1: the first node of the first ring is 02-00-00-00-01-01.
     ((number % 256 + 1) % 256) as u8
 }
 
@@ -21,6 +22,7 @@ fn octet_after(number: usize) -> u8
 fn usual_mac(of: u8, first: usize, second: usize) -> Mac
     ensures { result ≡ usual_mac of first second }
 {
+    // The 2 in the first octet says that the address is locally administered (IEEE 802 clause 8).
     Mac::new([2, 0, 0, of, octet_after(first), octet_after(second)])
 }
 
@@ -100,6 +102,7 @@ pub(crate) fn place_of(network: &Network, name: &[u8]) -> Place
     ensures { result ≡ place_of network.now name.now }
 {
     if !in_one(network.rings.as_slice(), name) {
+        // A name in two rings joins them, so it is a QuadBox.
         return Place::QuadBox;
     }
     let mac = node_mac(network, name);
@@ -151,7 +154,8 @@ pub(crate) fn station_macs(
     redbox: &[u8],
     stations: &[Word],
 ) -> Option<ArrayVec<Mac, 16>>
-    ensures { MatchOption result (16 < length stations.now) (λ macs. macs.items ≡ map (station_mac network.now boxes.now redbox.now) stations.now) }
+    ensures { MatchOption result (16 < length stations.now)
+        (λ macs. macs.items ≡ map (station_mac network.now boxes.now redbox.now) stations.now) }
 {
     if stations.len() > 16 {
         return None;

@@ -52,7 +52,8 @@ fn links_in(
     names: &[Word],
     boxes: &[Word],
 ) -> Result<Vec<[End; 2]>, NoMemory>
-    ensures { IfOk result (λ v. v.items ≡ ring_links network.now.rings names.now 0 network.now.rings ++ map (interlink names.now boxes.now) boxes.now) }
+    ensures { IfOk result (λ v. v.items ≡ ring_links network.now.rings names.now 0 network.now.rings
+        ++ map (interlink names.now boxes.now) boxes.now) }
 {
     let mut links = ring_links(alloc, network.rings.as_slice(), names)?;
     add_interlinks(&mut links, names, boxes)?;
@@ -73,7 +74,8 @@ fn parts_of(alloc: Global, network: &Network) -> Result<(Vec<Node>, Vec<[End; 2]
 
 /// The topology of nodes and links.
 fn topology_of(alloc: Global, nodes: &[Node], links: Vec<[End; 2]>) -> Result<Topology, What>
-    ensures { Gives (λ t. t) result (topology_in (made (map (λ node. node.place) nodes.now) links.items)) }
+    ensures { Gives (λ t. t) result (topology_in
+        (made (map (λ node. node.place) nodes.now) links.items)) }
 {
     let places = places_of(alloc, nodes)?;
     match Topology::new(places, links) {
@@ -93,6 +95,7 @@ pub fn wire(alloc: Global, network: &Network) -> Result<Wired, What>
 {
     check(alloc, network)?;
     let (nodes, links) = parts_of(alloc, network)?;
+    // Defaults are known only once nodes are, so this comes behind `check`.
     check_owners(alloc, nodes.as_slice(), network.addresses.as_slice())?;
     let topology = topology_of(alloc, nodes.as_slice(), links)?;
     Ok(Wired { nodes, topology })

@@ -1,4 +1,6 @@
 //! The text of a plan's scenario, checked against what the plan means.
+//!
+//! The text is read back before it is answered: so it is by the reader's own contract that it says what the plan means.
 ghost use Rattle.std.specs.Prelude.{ℕ, ◌≡◌, ◌≢◌, ◌≤◌, IfErr, IfOk, OnOk, Ok};
 ghost use Rattle.hsr_scenario.specs.Meaning.{meaning};
 ghost use Rattle.hsr_scenario.specs.Names.{names_meant};
@@ -43,7 +45,8 @@ fn no_memory() -> Trouble
 
 /// The trouble where a plan means nothing, once its copies move.
 fn trouble_of(unmoved: Unmoved) -> Trouble
-    ensures { (capacity : ℕ) (plan : PlanOf) → IsUnmovedThere capacity plan unmoved → IsUnmoved capacity plan result }
+    ensures { (capacity : ℕ) (plan : PlanOf) → IsUnmovedThere capacity plan unmoved
+        → IsUnmoved capacity plan result }
 {
     match unmoved {
         Unmoved::Plan(fault) => Trouble::Plan(fault),
@@ -71,6 +74,7 @@ fn unread(fault: &ScenarioFault) -> Trouble
     ensures { result ≡ unread fault.now.what }
 {
     match fault.what {
+        // Want of memory says nothing of the text.
         ScenarioWhat::NoMemory => no_memory(),
         _ => Trouble::Differs,
     }
@@ -91,7 +95,8 @@ fn check_meaning(alloc: Global, text: &str, meant: &Meaning) -> Result<(), Troub
 /// Refuses a text of which the nodes haven't the names that a plan means.
 fn check_names(alloc: Global, text: &str, meant: &Meaning) -> Result<(), Trouble>
     ensures named { OnOk result (names_meant text.now ≡ Ok (names_meant_by meant.now)) }
-    ensures differs { IfErr result (IfDiffers (names_meant text.now ≢ Ok (names_meant_by meant.now))) }
+    ensures differs { IfErr result (IfDiffers
+        (names_meant text.now ≢ Ok (names_meant_by meant.now))) }
 {
     match read_names(alloc, text) {
         Ok(names) if is_named(&names, meant) => Ok(()),
@@ -106,6 +111,7 @@ fn check(alloc: Global, text: &[u8], outline: &Outline, meant: &Meaning) -> Resu
     ensures tells { OnOk result (Tells outline.now meant.now text.now) }
     ensures differs { IfErr result (IfDiffers (IsMisread outline.now meant.now)) }
 {
+    // The reader takes a text; what is formed here are octets.
     let Ok(words) = str::from_utf8(text) else {
         return Err(Trouble::Differs);
     };
@@ -146,6 +152,7 @@ fn checked(alloc: Global, plan: &Plan, meant: &Meaning) -> Result<Vec<u8>, Troub
     ensures untold { IfErr result (IsUntold plan.now.outline meant.now) }
 {
     let outline = &plan.outline;
+    // Measured before it is formed, one line at a time: so a text that is too long takes no memory of its size.
     match check_length(alloc, outline, meant) {
         Ok(()) => match formed(alloc, outline, meant) {
             Ok(text) => Ok(text),

@@ -39,6 +39,7 @@ pub enum Wrong {
 fn line_of_order(alloc: Global, text: &str, place: usize, fault: &DrainFault) -> Line
     ensures { IsOk result → fault.now ≢ InWorld NoRoom }
 {
+    // Refused room is no fault of the text, so it has no place there.
     if matches!(fault, DrainFault::World(WorldFault::NoMemory)) {
         return Err(NoMemory);
     }
@@ -52,6 +53,7 @@ fn played(alloc: Global, text: &str, scenario: Scenario) -> Result<(), Wrong>
     ensures right { OnOk result (IsPlayed (scenario_view scenario)) }
     ensures wrong { IfErr result (IsWrong text.now) }
 {
+    // A text without nodes is read as a scenario too, an empty one for example: it is told what it lacks.
     if scenario.topology.places().is_empty() {
         return Err(Wrong::Told(words(
             alloc,
@@ -111,6 +113,7 @@ fn tell_open<E: Write>(errors: &mut E, number: &[u8], why: &[u8]) -> io::Result<
     errors.write_all(b"\nexplain: ")?;
     errors.write_all(why)?;
     errors.write_all(b"\n")?;
+    // Flushed here, since nothing is written behind it.
     errors.flush()
 }
 

@@ -1,6 +1,13 @@
 //! The scenario that a plan means, as a text, and the whole way there from the plan's own text; and whether a text is a scenario.
 //!
-//! Its modules, in the order to read them: `sends`, `spelling`, `same`, `checking`, `input`, `planning`, `judging`.
+//! Its modules, in the order in which to read them:
+//! - `sends`: when a scenario's orders send
+//! - `spelling`: how a scenario is spelled in TOML
+//! - `same`: whether a scenario is what a plan means
+//! - `checking`: the text of a plan's scenario, checked against what the plan means
+//! - `input`: the line that tells why a text isn't read
+//! - `planning`: the whole way from a plan's text to its scenario's
+//! - `judging`: whether a text is a scenario that can be played to its end
 #![tactic(auto)]
 
 mod checking;

@@ -46,6 +46,7 @@ impl Ending {
 pub type Line = Result<Vec<u8>, NoMemory>;
 
 /// The line of words alone.
+/// `Err` where room for them is refused.
 pub fn words(alloc: Global, words: &str) -> Line {
     let mut line = Vec::new(alloc);
     line.extend_from_slice(words.as_bytes())?;
@@ -117,6 +118,7 @@ fn scenario_of<const C: usize>(alloc: Global, octets: &[u8]) -> Result<Vec<u8>, 
 fn shown(octet: u8) -> u8
     ensures { (nat_le 32 result && not (result == 127)) ≡ true }
 {
+    // A fault has one line, and a terminal is to obey nothing that stands in a text.
     if octet < 32 || octet == 127 {
         b'?'
     } else {
@@ -132,6 +134,7 @@ pub(crate) fn reason(alloc: Global, line: Line) -> Line
     let line = line?;
     let octets = line.as_slice();
     let mut why = Vec::new(alloc);
+    // `tell` puts these words in front itself, so that no line lacks them.
     for octet in octets.strip_prefix(b"fault: ").unwrap_or(octets).iter() {
         why.push(shown(*octet))?;
     }
@@ -140,7 +143,8 @@ pub(crate) fn reason(alloc: Global, line: Line) -> Line
 
 /// Writes a fault's line.
 fn tell<E: Write>(errors: &mut E, why: &[u8]) -> io::Result<()>
-    ensures { OnOk result (Appends (E.contents errors.old) (E.contents errors.new) (codes "fault: " ++ why.now ++ codes "\n")) }
+    ensures { OnOk result (Appends (E.contents errors.old) (E.contents errors.new)
+        (codes "fault: " ++ why.now ++ codes "\n")) }
 {
     errors.write_all(b"fault: ")?;
     errors.write_all(why)?;
@@ -183,6 +187,7 @@ pub fn complain<E: Write>(alloc: Global, errors: &mut E, line: Line) -> io::Resu
 pub fn deliver<W: Write>(writer: &mut W, text: &[u8]) -> Ending
     ensures { IsDelivered (W.contents writer.old) (W.contents writer.new) text.now result }
 {
+    // A flush that fails is a failed write: what stood in a buffer isn't there.
     if writer.write_all(text).is_err() || writer.flush().is_err() {
         return Ending::Unwritten;
     }
@@ -197,7 +202,8 @@ fn answer<W: Write, E: Write, const C: usize>(
     errors: &mut E,
 ) -> io::Result<Ending>
     requires { (1 ≤ C) × (C ≤ 65535) }
-    ensures { IfOk result (Ends C octets.now (W.contents writer.old) (W.contents writer.new) (E.contents errors.old) (E.contents errors.new)) }
+    ensures { IfOk result (Ends C octets.now (W.contents writer.old) (W.contents writer.new)
+        (E.contents errors.old) (E.contents errors.new)) }
 {
     match scenario_of::<C>(alloc, octets) {
         Ok(text) => Ok(deliver(writer, text.as_slice())),

@@ -9,6 +9,7 @@ use hsr_plan_network::Node;
 use hsr_scenario::{Names, Order, Scenario};
 use hsr_topology::is_same_topology;
 
+/// Whether two orders are equal.
 fn is_same_order(a: &Order, b: &Order) -> bool
     ensures { IsTrue result ↔ (a.now ≡ b.now) }
 {
@@ -19,6 +20,7 @@ fn is_same_order(a: &Order, b: &Order) -> bool
 fn are_same_orders(a: &[Order], b: &[Order]) -> bool
     ensures { IsTrue result ↔ (a.now ≡ b.now) }
 {
+    // A loop over two lists, whose rest says what is still to be compared.
     let mut left = b;
     for order in a.iter() {
         let Some((other, more)) = left.split_first() else {
@@ -44,7 +46,8 @@ pub(crate) fn is_meant(scenario: &Scenario, meaning: &Meaning) -> bool
 /// Whether names are those of nodes, one by one.
 #[tactic(auto, using(crate::proofs::Names::names_step))]
 fn are_same_names(names: &[Vec<u8>], nodes: &[Node]) -> bool
-    ensures { IsTrue result ↔ (map (λ name. name.items) names.now ≡ map (λ node. node.name) nodes.now) }
+    ensures { IsTrue result ↔ (map (λ name. name.items) names.now
+        ≡ map (λ node. node.name) nodes.now) }
 {
     let mut left = nodes;
     for name in names.iter() {

@@ -23,6 +23,7 @@ fn moment_behind(now: u64, order: &Order) -> u64
     ensures { result ≡ moment_behind now order.now }
 {
     match order {
+        // An earlier moment counts as the last one, as for nodes (RULES, Sending).
         Order::Step(Step::Clock { at }) => now.max(*at),
         _ => now,
     }
@@ -30,7 +31,8 @@ fn moment_behind(now: u64, order: &Order) -> u64
 
 /// Puts a moment last, if it is a send's.
 fn push_if(sends: &mut Vec<u64>, is_send: bool, moment: u64) -> Result<(), NoMemory>
-    ensures { OnOk result (sends.new.items ≡ sends.old.items ++ (if is_send then moment ∷ [] else [])) }
+    ensures { OnOk result (sends.new.items
+        ≡ sends.old.items ++ (if is_send then moment ∷ [] else [])) }
 {
     if is_send {
         sends.push(moment)?;
@@ -46,6 +48,7 @@ fn moments_of(alloc: Global, orders: &[Order]) -> Result<Vec<u64>, NoMemory>
     let mut moments = Vec::new(alloc);
     let mut now = 0_u64;
     let mut left = orders;
+    // The rest is a variable, since the loop's invariant speaks of the moment before it.
     while let Some((order, rest)) = left.split_first() {
         push_if(&mut moments, is_sending(order), now)?;
         now = moment_behind(now, order);

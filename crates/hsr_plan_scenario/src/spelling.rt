@@ -1,4 +1,7 @@
 //! How a scenario is spelled in TOML.
+//!
+//! Each piece of a line is a function with a clause of its own. A literal of more than a few letters at the head of a
+//! text keeps search from the rest of it, so words are handed on as arguments.
 ghost use Rattle.std.specs.Prelude.{◌≡◌, ◌++◌, IfOk, OnOk, codes, length, min, option_map, slice_get, string_bytes};
 ghost use Rattle.std.specs.List.Sorted.{IsNonDecreasing};
 ghost use Rattle.std.specs.Fmt.{decimal};
@@ -26,6 +29,7 @@ use std::io::Write;
 fn put(text: &mut Vec<u8>, words: &str) -> Result<(), NoMemory>
     ensures { OnOk result (text.new.items ≡ text.old.items ++ words.now) }
 {
+    // In a function of its own: so each caller's proof has one clause about the text.
     text.extend_from_slice(words.as_bytes())?;
     Ok(())
 }
@@ -68,6 +72,7 @@ fn put_address(text: &mut Vec<u8>, mac: Mac) -> Result<(), NoMemory>
 {
     match write!(text, "{mac}") {
         Ok(()) => Ok(()),
+        // A list of octets refuses a write for memory alone.
         Err(_) => Err(NoMemory),
     }
 }
@@ -88,6 +93,7 @@ fn name_of(nodes: &[Node], number: usize) -> &[u8]
 {
     match nodes.get(number) {
         Some(node) => node.name.as_bytes(),
+        // Never so: orders name nodes that are there. It is no name, so such a text wouldn't be read.
         None => b"-",
     }
 }
@@ -108,6 +114,7 @@ fn letter_of(nodes: &[Node], number: usize, port: u8) -> u8
 {
     match nodes.get(number) {
         Some(node) => node.place.letter(port),
+        // Never so: orders name nodes that are there.
         None => b'?',
     }
 }
@@ -141,6 +148,7 @@ fn put_mode(text: &mut Vec<u8>, mode: Mode) -> Result<(), NoMemory>
     ensures { OnOk result (text.new.items ≡ text.old.items ++ mode_text mode) }
 {
     match mode {
+        // H is what a scenario means where it says none.
         Mode::H => Ok(()),
         Mode::N => put(text, ", mode=\"N\""),
         Mode::U => put(text, ", mode=\"U\""),
@@ -288,7 +296,8 @@ fn put_at_port(
     node: usize,
     port: u8,
 ) -> Result<(), NoMemory>
-    ensures { OnOk result (text.new.items ≡ text.old.items ++ at_port does.now nodes.now node port) }
+    ensures { OnOk result (text.new.items ≡ text.old.items
+        ++ at_port does.now nodes.now node port) }
 {
     put_does(text, does)?;
     put(text, ", port=")?;
@@ -331,6 +340,7 @@ fn put_octets_at(text: &mut Vec<u8>, key: &str, octets: &[u8]) -> Result<(), NoM
 fn put_from(text: &mut Vec<u8>, from: u8) -> Result<(), NoMemory>
     ensures { OnOk result (text.new.items ≡ text.old.items ++ from_text from) }
 {
+    // 0 is what a scenario means where it says none.
     if from > 0 {
         put(text, ", from=")?;
         put_number(text, u64::from(from))?;
@@ -492,7 +502,8 @@ fn put_links(text: &mut Vec<u8>, nodes: &[Node], links: &[[End; 2]]) -> Result<(
 /// Puts the lines of orders last.
 #[tactic(auto, using(crate::proofs::Growing::grown))]
 fn put_orders(text: &mut Vec<u8>, nodes: &[Node], orders: &[Order]) -> Result<(), NoMemory>
-    ensures { OnOk result (text.new.items ≡ text.old.items ++ flat_map (order_line nodes.now) orders.now) }
+    ensures { OnOk result (text.new.items ≡ text.old.items
+        ++ flat_map (order_line nodes.now) orders.now) }
 {
     for order in orders.iter() {
         put_order(text, nodes, order)?;
@@ -504,6 +515,7 @@ fn put_orders(text: &mut Vec<u8>, nodes: &[Node], orders: &[Order]) -> Result<()
 fn measured_order(line: &mut Vec<u8>, nodes: &[Node], order: &Order) -> Result<usize, NoMemory>
     ensures { IfOk result (λ octets. octets ≡ length (order_line nodes.now order.now)) }
 {
+    // The same room for each line, so that measuring needs no more than the longest.
     line.clear();
     put_order(line, nodes, order)?;
     Ok(line.len())
@@ -511,11 +523,13 @@ fn measured_order(line: &mut Vec<u8>, nodes: &[Node], order: &Order) -> Result<u
 
 /// How many octets the lines of orders have, or `usize::MAX` where they have more. One of them is kept at a time.
 fn measured_orders(alloc: Global, nodes: &[Node], orders: &[Order]) -> Result<usize, NoMemory>
-    ensures { IfOk result (λ octets. octets ≡ min (length (flat_map (order_line nodes.now) orders.now)) usize.MAX) }
+    ensures { IfOk result (λ octets. octets
+        ≡ min (length (flat_map (order_line nodes.now) orders.now)) usize.MAX) }
 {
     let mut octets = 0usize;
     let mut line = Vec::new(alloc);
     for order in orders.iter() {
+        // Saturating: a number that is too great is only compared with 16 MiB.
         octets = octets.saturating_add(measured_order(&mut line, nodes, order)?);
     }
     Ok(octets)
@@ -523,14 +537,16 @@ fn measured_orders(alloc: Global, nodes: &[Node], orders: &[Order]) -> Result<us
 
 /// How many octets the lines of a scenario's orders have, or `usize::MAX` where they have more.
 fn measured_steps(alloc: Global, meaning: &Meaning) -> Result<usize, NoMemory>
-    ensures { IfOk result (λ octets. octets ≡ min (length (flat_map (order_line meaning.now.nodes) meaning.now.orders)) usize.MAX) }
+    ensures { IfOk result (λ octets. octets
+        ≡ min (length (flat_map (order_line meaning.now.nodes) meaning.now.orders)) usize.MAX) }
 {
     measured_orders(alloc, meaning.nodes.as_slice(), meaning.orders.as_slice())
 }
 
 /// Puts the title as a comment last, if there is one.
 fn put_title(text: &mut Vec<u8>, title: &Option<String>) -> Result<(), NoMemory>
-    ensures { OnOk result (text.new.items ≡ text.old.items ++ title_text (option_map string_bytes title.now)) }
+    ensures { OnOk result (text.new.items ≡ text.old.items
+        ++ title_text (option_map string_bytes title.now)) }
 {
     match title {
         Some(title) => {
@@ -572,7 +588,8 @@ fn put_two_counts(
     second: usize,
     others: &str,
 ) -> Result<(), NoMemory>
-    ensures { OnOk result (text.new.items ≡ text.old.items ++ (decimal first ++ words.now ++ decimal second ++ others.now)) }
+    ensures { OnOk result (text.new.items ≡ text.old.items
+        ++ (decimal first ++ words.now ++ decimal second ++ others.now)) }
 {
     put_count(text, first, words)?;
     put_count(text, second, others)
@@ -613,7 +630,8 @@ fn put_counts(
     moves: Moves,
 ) -> Result<(), NoMemory>
     requires { IsNonDecreasing sends.now }
-    ensures { OnOk result (text.new.items ≡ text.old.items ++ counts_text nodes links sends.now moves) }
+    ensures { OnOk result (text.new.items ≡ text.old.items
+        ++ counts_text nodes links sends.now moves) }
 {
     put_sizes(text, nodes, links)?;
     put_sends(text, sends)?;
@@ -649,6 +667,7 @@ fn begun(alloc: Global, outline: &Outline, meaning: &Meaning) -> Result<Vec<u8>,
     let mut text = Vec::new(alloc);
     put_title(&mut text, &outline.title)?;
     put_summary(alloc, &mut text, outline.moves, meaning)?;
+    // Plans tell microseconds, and a scenario without a unit would mean milliseconds.
     put(&mut text, "unit = \"us\"\ncapacity = ")?;
     put_number(&mut text, meaning.capacity as u64)?;
     put(&mut text, "\n")?;
@@ -664,7 +683,8 @@ pub(crate) fn measured(
     outline: &Outline,
     meaning: &Meaning,
 ) -> Result<usize, NoMemory>
-    ensures { IfOk result (λ octets. octets ≡ min (length (scenario_text outline.now meaning.now)) usize.MAX) }
+    ensures { IfOk result (λ octets. octets
+        ≡ min (length (scenario_text outline.now meaning.now)) usize.MAX) }
 {
     let front = begun(alloc, outline, meaning)?
         .len()

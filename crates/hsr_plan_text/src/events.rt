@@ -23,6 +23,7 @@ fn letter_of(letter: Option<&[u8]>) -> Option<Option<u8>>
     match letter {
         None => Some(None),
         Some([letter]) => {
+            // Any port's letter: whether the node has that port is asked when its kind is known.
             if is_port_letter(*letter) {
                 Some(Some(*letter))
             } else {
@@ -73,6 +74,7 @@ fn two_ends(alloc: Global, key: Key, value: &Value) -> Result<(LinkEnd, LinkEnd)
     ensures { Gives (λ e. e) result (two_ends key (view value.now)) }
 {
     let mut ends = ends(alloc, key, value)?;
+    // The third is asked for too, so that a list of more than two is refused. They come out last first.
     match (ends.pop(), ends.pop(), ends.pop()) {
         (Some(second), Some(first), None) => Ok((first, second)),
         _ => Err(What::BadValue(key)),
@@ -81,7 +83,8 @@ fn two_ends(alloc: Global, key: Key, value: &Value) -> Result<(LinkEnd, LinkEnd)
 
 /// A link that is cut.
 fn cut(alloc: Global, table: &Table, value: &Value) -> Result<Deed, What>
-    ensures { Gives (λ d. d) result (alone key.Cut (between_ends deed.Cut) (view value.now) (table_view table.now)) }
+    ensures { Gives (λ d. d) result (alone key.Cut (between_ends deed.Cut) (view value.now)
+        (table_view table.now)) }
 {
     only(alloc, table, &[Key::At, Key::Cut])?;
     let (first, second) = two_ends(alloc, Key::Cut, value)?;
@@ -90,7 +93,8 @@ fn cut(alloc: Global, table: &Table, value: &Value) -> Result<Deed, What>
 
 /// A link that is mended.
 fn mend(alloc: Global, table: &Table, value: &Value) -> Result<Deed, What>
-    ensures { Gives (λ d. d) result (alone key.Mend (between_ends deed.Mend) (view value.now) (table_view table.now)) }
+    ensures { Gives (λ d. d) result (alone key.Mend (between_ends deed.Mend) (view value.now)
+        (table_view table.now)) }
 {
     only(alloc, table, &[Key::At, Key::Mend])?;
     let (first, second) = two_ends(alloc, Key::Mend, value)?;
@@ -99,7 +103,8 @@ fn mend(alloc: Global, table: &Table, value: &Value) -> Result<Deed, What>
 
 /// A node that goes off.
 fn off(alloc: Global, table: &Table, value: &Value) -> Result<Deed, What>
-    ensures { Gives (λ d. d) result (alone key.Off (at_node deed.Off) (view value.now) (table_view table.now)) }
+    ensures { Gives (λ d. d) result (alone key.Off (at_node deed.Off) (view value.now)
+        (table_view table.now)) }
 {
     only(alloc, table, &[Key::At, Key::Off])?;
     let name = name(alloc, Key::Off, value)?;
@@ -108,7 +113,8 @@ fn off(alloc: Global, table: &Table, value: &Value) -> Result<Deed, What>
 
 /// A node that comes on again.
 fn on(alloc: Global, table: &Table, value: &Value) -> Result<Deed, What>
-    ensures { Gives (λ d. d) result (alone key.On (at_node deed.On) (view value.now) (table_view table.now)) }
+    ensures { Gives (λ d. d) result (alone key.On (at_node deed.On) (view value.now)
+        (table_view table.now)) }
 {
     only(alloc, table, &[Key::At, Key::On])?;
     let name = name(alloc, Key::On, value)?;
@@ -120,6 +126,7 @@ fn nothing(alloc: Global, table: &Table) -> Result<Deed, What>
     ensures { Gives (λ d. d) result (nothing (table_view table.now)) }
 {
     only(alloc, table, &[Key::At])?;
+    // One of four has to be there, and the first is named.
     Err(What::Missing(Key::Cut))
 }
 
@@ -127,6 +134,7 @@ fn nothing(alloc: Global, table: &Table) -> Result<Deed, What>
 fn deed(alloc: Global, table: &Table) -> Result<Deed, What>
     ensures { Gives (λ d. d) result (deed_in (table_view table.now)) }
 {
+    // The first of the four keys says what happens; another beside it is then a key that the table doesn't have.
     if let Some(value) = value(table, Key::Cut) {
         return cut(alloc, table, value);
     }

@@ -189,6 +189,7 @@ pub struct PlanFault {
     pub what: What,
 }
 
+// `from_gives` says which fault `?` makes, so that no clause takes want of memory for another fault.
 impl From<NoMemory> for What {
     ghost from_gives = { λ _ what. what ≡ NoRoom };
 

@@ -1,6 +1,15 @@
 //! Plans: rings, streams and events in a planner's words, written in TOML.
 //!
-//! Its modules, in the order to read them: `word`, `fault`, `plan`, `table`, `words`, `network`, `streams`, `events`, `reading`.
+//! Its modules, in the order in which to read them:
+//! - `word`: a word of a plan
+//! - `fault`: why a text is no plan
+//! - `plan`: what a plan says
+//! - `table`: which keys a table may have, and the times of a plan
+//! - `words`: the words that texts of a plan spell
+//! - `network`: what the keys of a plan say of its nodes
+//! - `streams`: the streams of a plan
+//! - `events`: the events of a plan
+//! - `reading`: how a text is read as a plan
 #![tactic(auto)]
 
 mod events;

@@ -1,4 +1,6 @@
 //! What the keys of a plan say of its nodes.
+//!
+//! Loops hand a fault on by `match` and not by `?`, which gets no proof there: a clause says which fault comes first.
 ghost use Rattle.std.specs.Prelude.{◌≡◌, [], Err};
 ghost use Rattle.toml.specs.View.{items_view, view, table_view};
 ghost use Rattle.hsr_frame.specs.Words.{mode_of};
@@ -25,6 +27,7 @@ use toml::{Table, Value};
 fn no_name(alloc: Global, key: Key, text: &[u8]) -> Result<Word, What>
     ensures { Gives (λ w. w) result (Err (BadName key text.now)) }
 {
+    // The word goes into the fault, so that its line can name it and point at it.
     let word = Word::of(alloc, text)?;
     Err(What::BadName(key, word))
 }
@@ -95,6 +98,7 @@ fn rings_of(alloc: Global, members: &Table) -> Result<Vec<Ring>, What>
     ensures { Gives (λ v. v.items) result (each_member ring [] (table_view members.now)) }
 {
     let mut rings = Vec::new(alloc);
+    // The names of rings only give their order: nothing refers to them.
     for (_word, member) in members.iter() {
         match ring(alloc, Key::Rings, member) {
             Ok(ring) => rings.push(ring)?,
@@ -116,6 +120,7 @@ fn named_rings(alloc: Global, value: &Value) -> Result<Vec<Ring>, What>
     ensures { Gives (λ v. v.items) result (named_rings key.Rings (view value.now)) }
 {
     let rings = rings(alloc, Key::Rings, value)?;
+    // An empty table says as much as none.
     if rings.is_empty() {
         return Err(What::Missing(Key::Ring));
     }
@@ -130,6 +135,7 @@ fn rings_in(alloc: Global, table: &Table) -> Result<Vec<Ring>, What>
         (None, None) => Err(What::Missing(Key::Ring)),
         (Some(ring), None) => only_ring(alloc, ring),
         (None, Some(rings)) => named_rings(alloc, rings),
+        // Two ways to say one thing: which of them holds isn't guessed.
         (Some(_), Some(_)) => Err(What::Refused(Refusal::Together(Key::Rings))),
     }
 }
@@ -169,7 +175,8 @@ fn redboxes(alloc: Global, key: Key, value: &Value) -> Result<Vec<Behind>, What>
 
 /// The RedBoxes of a plan.
 fn redboxes_in(alloc: Global, table: &Table) -> Result<Vec<Behind>, What>
-    ensures { Gives (λ v. v.items) result (optional faults key.RedBox [] redboxes (table_view table.now)) }
+    ensures { Gives (λ v. v.items) result (optional faults key.RedBox [] redboxes
+        (table_view table.now)) }
 {
     match value(table, Key::RedBox) {
         None => Ok(Vec::new(alloc)),
@@ -210,7 +217,8 @@ fn addresses(alloc: Global, key: Key, value: &Value) -> Result<Vec<Addressed>, W
 
 /// The addresses of a plan.
 fn addresses_in(alloc: Global, table: &Table) -> Result<Vec<Addressed>, What>
-    ensures { Gives (λ v. v.items) result (optional faults key.Address [] addresses (table_view table.now)) }
+    ensures { Gives (λ v. v.items) result (optional faults key.Address [] addresses
+        (table_view table.now)) }
 {
     match value(table, Key::Address) {
         None => Ok(Vec::new(alloc)),
@@ -261,7 +269,8 @@ fn modes(alloc: Global, key: Key, value: &Value) -> Result<Vec<InMode>, What>
 
 /// The modes of a plan.
 fn modes_in(alloc: Global, table: &Table) -> Result<Vec<InMode>, What>
-    ensures { Gives (λ v. v.items) result (optional faults key.Mode [] modes (table_view table.now)) }
+    ensures { Gives (λ v. v.items) result (optional faults key.Mode [] modes
+        (table_view table.now)) }
 {
     match value(table, Key::Mode) {
         None => Ok(Vec::new(alloc)),

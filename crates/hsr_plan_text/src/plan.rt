@@ -123,6 +123,7 @@ impl Model for Timing {
 }
 
 /// Frames that each of some nodes sends again and again.
+/// `from` are the senders, each of which sends all frames.
 #[derive(Debug, Drop)]
 pub struct Stream {
     pub from: Vec<Word>,
@@ -169,6 +170,7 @@ pub struct Outline {
     /// How many copies wait in each direction of a link.
     pub capacity: usize,
     /// The period of supervision in microseconds; 0 for none.
+    // Microseconds, though the text says milliseconds: no crate below knows another unit.
     pub life: u64,
     /// Where streams and supervision end, in microseconds.
     pub until: Option<u64>,

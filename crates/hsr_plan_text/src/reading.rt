@@ -56,7 +56,8 @@ fn no_memory_at(spot: Spot) -> PlanFault
 /// The stream of the table of that number.
 #[tactic(auto, using(crate::proofs::Lists::spotted))]
 fn stream_at(alloc: Global, number: usize, table: &Table) -> Result<Stream, PlanFault>
-    ensures { GivesAt (λ s. s) result (at_spot (spot.Stream number) (stream_in (table_view table.now))) }
+    ensures { GivesAt (λ s. s) result (at_spot (spot.Stream number)
+        (stream_in (table_view table.now))) }
 {
     at_spot(Spot::Stream(number), stream(alloc, table))
 }
@@ -64,12 +65,14 @@ fn stream_at(alloc: Global, number: usize, table: &Table) -> Result<Stream, Plan
 /// The streams of tables.
 #[tactic(auto, using(crate::proofs::Lists::streams_step, crate::proofs::Lists::streams_fail))]
 fn streams_of(alloc: Global, tables: &[&Table]) -> Result<Vec<Stream>, PlanFault>
-    ensures { GivesAt (λ v. v.items) result (each spot.Stream stream_in [] (map (λ t. table_view t.now) tables.now)) }
+    ensures { GivesAt (λ v. v.items) result
+        (each spot.Stream stream_in [] (map (λ t. table_view t.now) tables.now)) }
 {
     let mut streams = Vec::new(alloc);
     for table in tables.iter() {
         match stream_at(alloc, streams.len(), table) {
             Ok(stream) => {
+                // The place of the fault is read before the push, which borrows the list.
                 let spot = Spot::Stream(streams.len());
                 streams.push(stream).or(Err(no_memory_at(spot)))?;
             }
@@ -82,7 +85,8 @@ fn streams_of(alloc: Global, tables: &[&Table]) -> Result<Vec<Stream>, PlanFault
 /// The event of the table of that number.
 #[tactic(auto, using(crate::proofs::Lists::spotted))]
 fn event_at(alloc: Global, number: usize, table: &Table) -> Result<Event, PlanFault>
-    ensures { GivesAt (λ e. e) result (at_spot (spot.Event number) (event_in (table_view table.now))) }
+    ensures { GivesAt (λ e. e) result (at_spot (spot.Event number)
+        (event_in (table_view table.now))) }
 {
     at_spot(Spot::Event(number), event(alloc, table))
 }
@@ -90,7 +94,8 @@ fn event_at(alloc: Global, number: usize, table: &Table) -> Result<Event, PlanFa
 /// The events of tables.
 #[tactic(auto, using(crate::proofs::Lists::events_step, crate::proofs::Lists::events_fail))]
 fn events_of(alloc: Global, tables: &[&Table]) -> Result<Vec<Event>, PlanFault>
-    ensures { GivesAt (λ v. v.items) result (each spot.Event event_in [] (map (λ t. table_view t.now) tables.now)) }
+    ensures { GivesAt (λ v. v.items) result
+        (each spot.Event event_in [] (map (λ t. table_view t.now) tables.now)) }
 {
     let mut events = Vec::new(alloc);
     for table in tables.iter() {
@@ -112,6 +117,7 @@ fn title_of(alloc: Global, key: Key, value: &Value) -> Result<String, What>
     ensures { Gives string_bytes result (word faults title_of key (view value.now)) }
 {
     let title = text(key, value)?;
+    // The title stands in the scenario's first comment, where a control character would end the line.
     if !is_title(title.as_bytes()) {
         return Err(What::BadValue(key));
     }
@@ -123,7 +129,8 @@ fn title_of(alloc: Global, key: Key, value: &Value) -> Result<String, What>
 
 /// The title of a document.
 fn title(alloc: Global, table: &Table) -> Result<Option<String>, What>
-    ensures { Gives (option_map string_bytes) result (optional faults key.Title None (perhaps (word faults title_of)) (table_view table.now)) }
+    ensures { Gives (option_map string_bytes) result
+        (optional faults key.Title None (perhaps (word faults title_of)) (table_view table.now)) }
 {
     match value(table, Key::Title) {
         None => Ok(None),
@@ -136,7 +143,8 @@ fn title(alloc: Global, table: &Table) -> Result<Option<String>, What>
 
 /// The capacity of a document.
 fn capacity(table: &Table) -> Result<usize, What>
-    ensures { Gives (λ n. n) result (optional faults key.Capacity 64 (between faults 1 4096) (table_view table.now)) }
+    ensures { Gives (λ n. n) result (optional faults key.Capacity 64 (between faults 1 4096)
+        (table_view table.now)) }
 {
     let capacity = number_or(CAPACITY, 1, CAPACITY_LIMIT, table, Key::Capacity)?;
     Ok(capacity as usize)
@@ -144,12 +152,14 @@ fn capacity(table: &Table) -> Result<usize, What>
 
 /// The period of supervision of a document, in microseconds: that of the standard, where it doesn't say.
 fn life(table: &Table) -> Result<u64, What>
-    ensures { Gives (λ n. n) result (optional faults key.Life 2000000 milliseconds (table_view table.now)) }
+    ensures { Gives (λ n. n) result (optional faults key.Life 2000000 milliseconds
+        (table_view table.now)) }
 {
     match value(table, Key::Life) {
         None => Ok(LIFE_CHECK),
         Some(value) => {
             let life = between(0, LIFE_LIMIT, Key::Life, value)?;
+            // No overflow: the longest period is 2^30 milliseconds.
             Ok(life * 1000)
         }
     }
@@ -157,7 +167,8 @@ fn life(table: &Table) -> Result<u64, What>
 
 /// How copies move, by a document.
 fn moves(table: &Table) -> Result<Moves, What>
-    ensures { Gives (λ m. m) result (optional faults key.Moves EachSendDrains (word faults moves_of) (table_view table.now)) }
+    ensures { Gives (λ m. m) result (optional faults key.Moves EachSendDrains (word faults moves_of)
+        (table_view table.now)) }
 {
     match value(table, Key::Moves) {
         None => Ok(Moves::EachSendDrains),
@@ -189,6 +200,7 @@ const TOP_KEYS: [Key; 12] = [
 fn outline(alloc: Global, table: &Table) -> Result<Outline, What>
     ensures { Gives (λ o. o) result (outline (table_view table.now)) }
 {
+    // A key that the document doesn't have comes before the values of those that it has.
     only(alloc, table, &TOP_KEYS)?;
     let title = title(alloc, table)?;
     let capacity = capacity(table)?;

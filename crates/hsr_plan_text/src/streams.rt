@@ -45,7 +45,8 @@ fn only_name(alloc: Global, key: Key, text: &str) -> Result<Vec<Word>, What>
 /// Refuses a list with no item, or with more than there may be senders.
 #[tactic(auto, using(crate::proofs::Senders::counted))]
 fn few(key: Key, items: &[Value]) -> Result<(), What>
-    ensures { Gives (λ u. u) result (guard (some_few (how_many (items_view items.now))) (BadValue key)) }
+    ensures { Gives (λ u.
+        u) result (guard (some_few (how_many (items_view items.now))) (BadValue key)) }
 {
     if !items.is_empty() && items.len() <= SENDER_LIMIT {
         Ok(())
@@ -77,7 +78,8 @@ fn senders(alloc: Global, key: Key, value: &Value) -> Result<Vec<Word>, What>
 
 /// The node or the station that a text names.
 fn named_target(alloc: Global, text: &str) -> Result<Target, What>
-    ensures { Gives (λ t. t) result (ok_or (option_map (λ n. Named n) (name_of text.now)) (BadValue key.To)) }
+    ensures { Gives (λ t. t) result (ok_or (option_map (λ n. Named n) (name_of text.now))
+        (BadValue key.To)) }
 {
     if !is_name(text.as_bytes()) {
         return Err(What::BadValue(Key::To));
@@ -90,6 +92,7 @@ fn named_target(alloc: Global, text: &str) -> Result<Target, What>
 fn target_of(alloc: Global, text: &str) -> Result<Target, What>
     ensures { Gives (λ t. t) result (ok_or (target_of text.now) (BadValue key.To)) }
 {
+    // An address in small digits has the form of a name too: it is read as an address.
     match Mac::from_text(text) {
         Ok(mac) => Ok(Target::Address(mac)),
         Err(_) => named_target(alloc, text),
@@ -98,7 +101,8 @@ fn target_of(alloc: Global, text: &str) -> Result<Target, What>
 
 /// Whom a stream is for.
 fn target(alloc: Global, table: &Table) -> Result<Target, What>
-    ensures { Gives (λ t. t) result (needed faults key.To (word faults target_of) (table_view table.now)) }
+    ensures { Gives (λ t. t) result (needed faults key.To (word faults target_of)
+        (table_view table.now)) }
 {
     target_of(alloc, text(Key::To, needed(table, Key::To)?)?)
 }
@@ -107,6 +111,7 @@ fn target(alloc: Global, table: &Table) -> Result<Target, What>
 fn numbered(key: Key, number: u16) -> Result<Kind, What>
     ensures { Gives (λ k. k) result (numbered key number) }
 {
+    // These are the types of the HSR tag and of a VLAN tag, with which no send is accepted.
     if number == 0x892F || number == 0x8100 {
         return Err(What::BadValue(key));
     }
@@ -117,6 +122,7 @@ fn numbered(key: Key, number: u16) -> Result<Kind, What>
 fn kind_of(key: Key, value: &Value) -> Result<Kind, What>
     ensures { Gives (λ k. k) result (kind key (view value.now)) }
 {
+    // A word names a kind of payload, a number is the type itself.
     match value.as_str() {
         Some(word) => match kind_named(word) {
             Some(kind) => Ok(kind),
@@ -141,6 +147,7 @@ fn usual_size(kind: Kind) -> usize
     ensures { result ≡ usual_size kind }
 {
     match kind {
+        // The least length of a payload (IEEE 802.3 clause 4).
         Kind::Number(_) => 46,
         Kind::Goose | Kind::SampledValues => 0,
     }
@@ -153,13 +160,15 @@ fn least_size(kind: Kind) -> u64
 {
     match kind {
         Kind::Number(_) => 0,
+        // 0 stands for the shortest, which depends on the sender's name, so it can't be said.
         Kind::Goose | Kind::SampledValues => 1,
     }
 }
 
 /// How many octets of payload a stream's frames of a kind have; 0 for the shortest.
 fn size(kind: Kind, table: &Table) -> Result<usize, What>
-    ensures { Gives (λ n. n) result (optional faults key.Size (usual_size kind) (between faults (least_size kind) 1500) (table_view table.now)) }
+    ensures { Gives (λ n. n) result (optional faults key.Size (usual_size kind)
+        (between faults (least_size kind) 1500) (table_view table.now)) }
 {
     match value(table, Key::Size) {
         None => Ok(usual_size(kind)),
@@ -172,7 +181,8 @@ fn size(kind: Kind, table: &Table) -> Result<usize, What>
 
 /// A number that may be left out.
 fn perhaps(table: &Table, key: Key, least: u64, most: u64) -> Result<Option<u64>, What>
-    ensures value { Gives (λ n. n) result (optional faults key None (perhaps (between faults least most)) (table_view table.now)) }
+    ensures value { Gives (λ n. n) result (optional faults key None
+        (perhaps (between faults least most)) (table_view table.now)) }
     ensures most { IfOk result (λ n. IfSome n (λ n. n ≤ most)) }
 {
     match value(table, key) {
@@ -193,6 +203,7 @@ fn tag_of(vlan: Option<u64>, priority: Option<u64>) -> Option<u16>
     match (vlan, priority) {
         (None, None) => None,
         (vlan, priority) => {
+            // Priority in the upper 3 bits, the VLAN in the lower 12; the bit between them is 0 (IEEE 802.1Q clause 9).
             let tag = 8192 * priority.unwrap_or(0) + vlan.unwrap_or(0);
             Some(tag as u16)
         }
@@ -273,6 +284,7 @@ fn rises(moments: &[u64]) -> bool
 fn rising(key: Key, moments: Vec<u64>) -> Result<Vec<u64>, What>
     ensures { Gives (λ v. v.items) result (rising key moments.items) }
 {
+    // A start ends what the start before it began, so starts have to come one after another.
     if !moments.is_empty() && rises(moments.as_slice()) {
         Ok(moments)
     } else {
@@ -285,6 +297,7 @@ fn some_moments(alloc: Global, key: Key, value: &Value) -> Result<Vec<u64>, What
     ensures { Gives (λ v. v.items) result (some_moments key (view value.now)) }
 {
     match value.as_integer() {
+        // A number is one start, anything else has to be a list.
         Some(_) => {
             let at = moment(key, value)?;
             let mut moments = Vec::new(alloc);
@@ -297,7 +310,8 @@ fn some_moments(alloc: Global, key: Key, value: &Value) -> Result<Vec<u64>, What
 
 /// The moments from which on a stream sends.
 fn starts(alloc: Global, table: &Table) -> Result<Vec<u64>, What>
-    ensures { Gives (λ v. v.items) result (optional faults key.Start (0 ∷ []) some_moments (table_view table.now)) }
+    ensures { Gives (λ v. v.items) result (optional faults key.Start (0 ∷ []) some_moments
+        (table_view table.now)) }
 {
     match value(table, Key::Start) {
         None => {
@@ -318,7 +332,8 @@ fn every(table: &Table) -> Result<u64, What>
 
 /// By how much a stream's gaps grow.
 fn grow(table: &Table) -> Result<u64, What>
-    ensures { Gives (λ n. n) result (optional faults key.Grow 1 (between faults 1 1000) (table_view table.now)) }
+    ensures { Gives (λ n. n) result (optional faults key.Grow 1 (between faults 1 1000)
+        (table_view table.now)) }
 {
     number_or(1, 1, 1000, table, Key::Grow)
 }
@@ -332,7 +347,8 @@ fn most(table: &Table) -> Result<u64, What>
 
 /// The moment of a key that may be left out.
 pub(crate) fn until(table: &Table) -> Result<Option<u64>, What>
-    ensures { Gives (λ n. n) result (optional faults key.Until None (perhaps moment) (table_view table.now)) }
+    ensures { Gives (λ n. n) result (optional faults key.Until None (perhaps moment)
+        (table_view table.now)) }
 {
     perhaps(table, Key::Until, 0, LAST)
 }

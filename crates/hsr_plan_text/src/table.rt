@@ -11,6 +11,7 @@ use hsr_toml::{between, other_key};
 use std::alloc::Global;
 use toml::{Table, Value};
 
+// 2^40 microseconds are almost 13 days; sums of such moments don't overflow.
 /// The last moment that a plan may name, in microseconds.
 const LAST: u64 = 1 << 40;
 

@@ -37,6 +37,7 @@ impl Word {
         Word::of(alloc, self.as_bytes())
     }
 
+    /// The octets of the word, as they stand in the text.
     pub fn as_bytes(&self) -> &[u8]
         ensures { result.now ≡ self.now }
     {

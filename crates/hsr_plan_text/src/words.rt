@@ -13,6 +13,7 @@ const HOP_LIMIT: u64 = 1_000_000;
 pub(crate) fn is_title(text: &[u8]) -> bool
     ensures { result ≡ is_title text.now }
 {
+    // Octets from 128 on are parts of letters, and stay.
     text.iter().all(|b| *b >= 32 && *b != 127)
 }
 
@@ -56,6 +57,7 @@ pub(crate) fn moves_of(word: &str) -> Option<Moves>
     ensures { result ≡ moves_of word.now }
 {
     match word {
+        // Whole phrases, so that a plan reads as a sentence and no other spelling is taken.
         "each send drains" => Some(Moves::EachSendDrains),
         "each moment drains" => Some(Moves::EachMomentDrains),
         _ => moves_by_hops(word.as_bytes()),

@@ -13,6 +13,7 @@ use hsr_topology::Topology;
 use std::alloc::Global;
 
 /// Why orders lead to no finished run.
+/// Places are counted from 0.
 #[derive(Clone, Copy, Debug, PartialEq, Eq)]
 pub enum Unfinished {
     /// The order at this place is refused.
@@ -32,7 +33,8 @@ fn played<const C: usize>(
 ) -> Result<World<C>, Unfinished>
     requires entries { (1 ≤ C) × (C ≤ 65535) }
     requires room { (1 ≤ capacity) × (capacity ≤ 4096) }
-    ensures ok { IfOk result (λ w. Plays C orders.now (new_world capacity topology.places topology.links) w) }
+    ensures ok { IfOk result (λ w. Plays C orders.now
+        (new_world capacity topology.places topology.links) w) }
     ensures err { IfErr result (λ u. IsUnfinishedBy C topology capacity orders.now u) }
 {
     let Ok(mut world) = World::<C>::new(alloc, topology, capacity) else {
@@ -61,6 +63,7 @@ pub fn finished<const C: usize>(
     let world = played::<C>(alloc, topology, capacity, orders)?;
     match world.close() {
         Ok(closed) => Ok(closed),
+        // The world is let go: it was made here, and nobody else has it.
         Err((_world, fault)) => Err(Unfinished::Check(fault)),
     }
 }

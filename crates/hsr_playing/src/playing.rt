@@ -12,6 +12,7 @@ use hsr_step::DrainFault;
 fn drain_limit() -> u64
     ensures { result ≡ drain_limit }
 {
+    // Copies may circle without an end, so a drain has one of its own (RULES, Scenarios).
     1_000_000
 }
 
@@ -21,6 +22,7 @@ fn drain<const C: usize>(world: &mut World<C>) -> Result<(), DrainFault>
     ensures err { IfErr result (λ f. Refuses C Drain world.old world.new f) }
 {
     match world.drain(drain_limit()) {
+        // How many steps it took is nobody's question here.
         Ok(_steps) => Ok(()),
         Err(fault) => Err(fault),
     }
@@ -50,6 +52,7 @@ pub fn play<const C: usize>(
 {
     for (place, order) in orders.iter().enumerate() {
         match obey(world, order) {
+            // A `match` and no `?`: the place of the order is told with its fault.
             Ok(()) => {}
             Err(fault) => return Err((place, fault)),
         }

@@ -1,4 +1,6 @@
 //! What a world hands over where it is closed.
+//!
+//! All is handed over by value and comes back where the world isn't closed, so the caller has the same world as before.
 ghost use Rattle.std.specs.Prelude.{◌≡◌, IfErr, IfOk, map};
 ghost use Rattle.hsr_closing.specs.Checked.{IfDisagree};
 ghost use Rattle.hsr_ring.specs.Ending.{IsToldClosed, IsToldOpen};
@@ -33,13 +35,18 @@ pub(crate) fn closed_of<const C: usize>(
     rest: Rest<C>,
     spans: Vec<Span>,
 ) -> Result<Closed<C>, Open<C>>
-    ensures closed { IfOk result (λ closed. IsToldClosed C rest.entry.topology rest.entry.nodes.items rest.entry.plan.items (map span_view spans.items) closed) }
-    ensures open { IfErr result (λ e. IfDisagree e.fault (IsToldOpen C rest.entry.topology rest.entry.nodes.items rest.entry.plan.items (map span_view spans.items))) }
+    ensures closed { IfOk result (λ closed.
+        IsToldClosed C rest.entry.topology rest.entry.nodes.items rest.entry.plan.items
+        (map span_view spans.items) closed) }
+    ensures open { IfErr result (λ e. IfDisagree e.fault
+        (IsToldOpen C rest.entry.topology rest.entry.nodes.items rest.entry.plan.items
+        (map span_view spans.items))) }
     ensures rest { IfErr result (λ e. e.rest ≡ rest.entry) }
     ensures spans { IfErr result (λ e. map span_view e.spans.items ≡ map span_view spans.items) }
 {
     let Parted { rows, bares, home } = match part(alloc, spans) {
         Ok(parted) => parted,
+        // Room for the parts was refused before any link was taken apart.
         Err(spans) => {
             return Err(Open {
                 rest,

@@ -17,6 +17,7 @@ fn world_fault(fault: StepFault) -> WorldFault
     ensures { result ≡ world_fault fault }
 {
     match fault {
+        // Want of memory is no refusal by the node, so it is told in the same way wherever it comes.
         StepFault::NoMemory => WorldFault::NoMemory,
         _ => WorldFault::Node(fault),
     }
@@ -33,9 +34,13 @@ fn step_at<const C: usize>(
     requires below { node < length nodes.old }
     requires numbered { AreNumbered nodes.old }
     ensures numbered { AreNumbered nodes.new }
-    ensures ok { IfOk result (λ a. IsStepped C worker node at event nodes.old nodes.new (receipt_of (record { node = node; place = a.place }) (record { worker = worker; at = at; event = event; outcome = a.outcome }))) }
-    ensures there { IfOk result (λ a. IsThere nodes.new node a.place (record { worker = worker; at = at; event = event; outcome = a.outcome })) }
-    ensures err { IfErr result (λ e. (nodes.new ≡ nodes.old) × (e.0 ≡ event) × ((e.1 ≡ NoMemory) ⊎ IsRefusal C nodes.old node at event e.1)) }
+    ensures ok { IfOk result (λ a. IsStepped C worker node at event nodes.old nodes.new
+        (receipt_of (record { node = node; place = a.place })
+        (record { worker = worker; at = at; event = event; outcome = a.outcome }))) }
+    ensures there { IfOk result (λ a. IsThere nodes.new node a.place
+        (record { worker = worker; at = at; event = event; outcome = a.outcome })) }
+    ensures err { IfErr result (λ e. (nodes.new ≡ nodes.old) × (e.0 ≡ event)
+        × ((e.1 ≡ NoMemory) ⊎ IsRefusal C nodes.old node at event e.1)) }
 {
     match nodes[node].enter(worker, at, event) {
         Ok(answer) => Ok(answer),
@@ -48,6 +53,7 @@ fn entry_at<const C: usize>(kept: &Kept<C>, place: usize) -> &Entry
     requires { place < length kept.now.entries }
     ensures { result.now ≡ slice_index_or kept.now.entries place result.now }
 {
+    // In a function of its own: so the caller's proof has one clause about the entry.
     &kept.entries()[place]
 }
 
@@ -67,12 +73,18 @@ pub(crate) fn enter<const C: usize>(
     requires numbered { AreNumbered nodes.old }
     requires touching { links.now ≡ touching_from node 0 (map span_view spans.old) }
     ensures numbered { AreNumbered nodes.new }
-    ensures ok { OnOk result (IsEntered C worker node at event nodes.old nodes.new (map span_view spans.old) (map span_view spans.new)) }
-    ensures err { IfErr result (λ e. (nodes.new ≡ nodes.old) × (map span_view spans.new ≡ map span_view spans.old) × (e.0 ≡ event) × ((e.1 ≡ NoMemory) ⊎ IsNotEntered C worker node at event nodes.old (map span_view spans.old) e.1)) }
+    ensures ok { OnOk result (IsEntered C worker node at event nodes.old nodes.new
+        (map span_view spans.old) (map span_view spans.new)) }
+    ensures err { IfErr result (λ e. (nodes.new ≡ nodes.old)
+        × (map span_view spans.new ≡ map span_view spans.old) × (e.0 ≡ event)
+        × ((e.1 ≡ NoMemory) ⊎ IsNotEntered C worker node at event nodes.old
+        (map span_view spans.old) e.1)) }
 {
+    // Room first: after the node's step nothing may fail.
     if prepare(spans, links, node).is_err() {
         return Err((event, WorldFault::NoMemory));
     }
+    // The node grows before it changes, so a refusal here leaves only unused room.
     let place = match step_at(nodes, node, worker, at, event) {
         Ok(answer) => answer.place,
         Err(refusal) => return Err(refusal),

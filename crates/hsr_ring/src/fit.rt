@@ -1,4 +1,6 @@
 //! What the types of the code tell of steps and nodes: addresses have six octets, VLAN tags and types 16 bits.
+//!
+//! None of these functions does anything when it runs. The clause of each call tells the proof what the types keep true.
 ghost use Rattle.std.specs.Prelude.{◌<◌, ◌^◌, ◌≡◌, length, IfSome};
 ghost use Rattle.std.specs.List.{All};
 ghost use Rattle.hsr_world.specs.Fit.{FitsPlace, FitsStep, IsFit};
@@ -12,6 +14,7 @@ fn number_fits(n: u16)
     ensures { n < 2 ^ 16 }
 {}
 
+/// The control information of a VLAN tag has 16 bits.
 fn tag_fits(vlan: Option<u16>)
     ensures { IfSome vlan (λ control. control < 2 ^ 16) }
 {
@@ -21,9 +24,11 @@ fn tag_fits(vlan: Option<u16>)
     }
 }
 
+/// A send's address has six octets, and its VLAN tag and its type 16 bits.
 fn send_fits(dst: &Mac, vlan: Option<u16>, kind: u16)
     ensures { IsFit dst.now vlan kind }
 {
+    // The clause of `octets` says that there are six.
     let _ = dst.octets();
     tag_fits(vlan);
     number_fits(kind);
@@ -46,12 +51,15 @@ pub(crate) fn step_fits(step: &Step)
     }
 }
 
+/// An address has six octets.
 fn address_fits(mac: &Mac)
     ensures { length mac.now ≡ 6 }
 {
+    // The clause of `octets` says that there are six.
     let _ = mac.octets();
 }
 
+/// Each address has six octets.
 fn addresses_fit(macs: &[Mac])
     ensures { All (λ mac. length mac ≡ 6) macs.now }
 {
@@ -60,6 +68,7 @@ fn addresses_fit(macs: &[Mac])
     }
 }
 
+/// A node's addresses have six octets.
 fn place_fits(place: &Place)
     ensures { FitsPlace place.now }
 {

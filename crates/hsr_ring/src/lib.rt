@@ -1,4 +1,5 @@
-//! A ring of nodes in one world: what a step makes of it, and what holds of it after any steps.
+//! A world of any nodes and links, a ring or any other network: what a step makes of it, and what holds of it after
+//! any steps.
 //!
 //! Its modules, in the order in which to read them:
 //! - `entering`: an event that a worker brings to a node

@@ -1,4 +1,8 @@
 //! What is left to do in a world.
+//!
+//! A drain does up to a million steps, so what is left isn't searched for. Three sets say it, and after each step they are
+//! looked at again where that step may have changed them. The step itself doesn't touch them, so its definition stays the
+//! one account of it.
 ghost use Rattle.std.specs.Prelude.{◌≡◌, ◌==◌, ◌<◌, ◌≤◌, ◌/◌, ℕ, [], is_some, map, not, option_map};
 ghost use Rattle.hsr_topology.specs.Links.{is_same_end};
 ghost use Rattle.hsr_world.specs.Spans.{lane_of};
@@ -95,8 +99,10 @@ fn dir_at(number: usize) -> Dir
 
 /// Looks whether the port at an end holds a copy.
 fn look_at_hand(held: &mut Numbers, ports: &[Port], spans: &[Span], end: End)
-    ensures { Has held.new (looked (λ k. is_same_end (end_at k) end) (is_held ports.now (map span_view spans.now)) held.old) }
+    ensures { Has held.new (looked (λ k. is_same_end (end_at k) end)
+        (is_held ports.now (map span_view spans.now)) held.old) }
 {
+    // Past these the number would be another port's, or none of the set.
     if end.node < 64 && end.port < 8 {
         let number = 8 * end.node + usize::from(end.port);
         held.put(number, is_held(spans, port_in(ports, number).into));
@@ -105,8 +111,10 @@ fn look_at_hand(held: &mut Numbers, ports: &[Port], spans: &[Span], end: End)
 
 /// Looks whether the port at an end has a copy to put.
 fn look_at_box(waiting: &mut Numbers, ports: &[Port], spans: &[Span], end: End)
-    ensures { Has waiting.new (looked (λ k. is_same_end (end_at k) end) (is_waiting ports.now (map span_view spans.now)) waiting.old) }
+    ensures { Has waiting.new (looked (λ k. is_same_end (end_at k) end)
+        (is_waiting ports.now (map span_view spans.now)) waiting.old) }
 {
+    // Past these the number would be another port's, or none of the set.
     if end.node < 64 && end.port < 8 {
         let number = 8 * end.node + usize::from(end.port);
         waiting.put(number, is_waiting(spans, port_in(ports, number).out));
@@ -115,7 +123,8 @@ fn look_at_box(waiting: &mut Numbers, ports: &[Port], spans: &[Span], end: End)
 
 /// Looks which ports of a node have a copy to put.
 fn look_at_node(waiting: &mut Numbers, ports: &[Port], spans: &[Span], node: usize)
-    ensures { Has waiting.new (looked (λ k. k / 8 == node) (is_waiting ports.now (map span_view spans.now)) waiting.old) }
+    ensures { Has waiting.new (looked (λ k. k / 8 == node)
+        (is_waiting ports.now (map span_view spans.now)) waiting.old) }
 {
     if node >= 64 {
         return;
@@ -127,8 +136,10 @@ fn look_at_node(waiting: &mut Numbers, ports: &[Port], spans: &[Span], node: usi
 
 /// Looks in which directions of a link a copy waits.
 fn look_at_link(ready: &mut Numbers, spans: &[Span], link: usize)
-    ensures { Has ready.new (looked (λ k. k / 2 == link) (is_ready (map span_view spans.now)) ready.old) }
+    ensures { Has ready.new (looked (λ k. k / 2 == link)
+        (is_ready (map span_view spans.now)) ready.old) }
 {
+    // 512 numbers, two for each link. No topology has over 128 links.
     if link < 256 {
         ready.put(2 * link, is_ready(spans, 2 * link));
         ready.put(2 * link + 1, is_ready(spans, 2 * link + 1));
@@ -137,7 +148,8 @@ fn look_at_link(ready: &mut Numbers, spans: &[Span], link: usize)
 
 /// Looks at the link in a direction of which a port sends.
 fn look_at_out(ready: &mut Numbers, spans: &[Span], out: Option<Spot>)
-    ensures { Has ready.new (looked (λ k. is_by (link_at (option_map spot_view out)) (k / 2)) (is_ready (map span_view spans.now)) ready.old) }
+    ensures { Has ready.new (looked (λ k. is_by (link_at (option_map spot_view out)) (k / 2))
+        (is_ready (map span_view spans.now)) ready.old) }
 {
     if let Some(spot) = out {
         look_at_link(ready, spans, spot.link);
@@ -160,7 +172,8 @@ fn received_at(spans: &[Span], link: usize, dir: Dir) -> Option<End>
 
 /// Looks whether the port at an end, if there is one, holds a copy.
 fn look_at_receiver(held: &mut Numbers, ports: &[Port], spans: &[Span], end: Option<End>)
-    ensures { Has held.new (looked (λ k. is_at end k) (is_held ports.now (map span_view spans.now)) held.old) }
+    ensures { Has held.new (looked (λ k. is_at end k)
+        (is_held ports.now (map span_view spans.now)) held.old) }
 {
     if let Some(end) = end {
         look_at_hand(held, ports, spans, end);
@@ -187,6 +200,7 @@ impl Pending {
     {
         match step {
             Step::Send { node, .. } | Step::Supervise { node, .. } | Step::Age { node } => {
+                // A send may leave by each port of the node.
                 look_at_node(&mut self.waiting, ports, spans, *node);
             }
             Step::Put { node, port } => {
@@ -207,12 +221,15 @@ impl Pending {
                     node: *node,
                     port: *port,
                 };
+                // The hand is empty after a judgement, and what passed waits in the node's outboxes.
                 look_at_hand(&mut self.held, ports, spans, end);
                 look_at_node(&mut self.waiting, ports, spans, *node);
             }
             Step::Cut { link } | Step::Inject { link, .. } => {
+                // A cut takes what waits in both directions; an injected copy may be lost at once.
                 look_at_link(&mut self.ready, spans, *link);
             }
+            // Neither moves a copy.
             Step::Clock { .. } | Step::Mend { .. } => {}
         }
     }
@@ -222,6 +239,7 @@ impl Pending {
     pub(crate) fn next(&self) -> Option<Step>
         ensures { IsNext self.now result }
     {
+        // Hands first, then outboxes, then links, each by the lowest number (RULES, Worlds): so a drain has one order.
         if let Some(number) = self.held.lowest() {
             return Some(Step::Judge {
                 node: number / 8,

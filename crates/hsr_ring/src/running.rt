@@ -1,4 +1,6 @@
 //! A world in code, and its steps.
+//!
+//! A fault of a call below is handed on by `match` and not by `?`, which gets no proof at these ways out.
 ghost use Rattle.std.specs.Prelude.{◌≡◌, ◌⊎◌, ◌<◌, ◌≤◌, ◌^◌, Ok, Err, OnOk, IfErr, IfNone, IfOk, map, length, option_map, reverse};
 ghost use Rattle.hsr_ring.specs.Views.{in_world};
 ghost use Rattle.hsr_spans.specs.Ports.{port_fault, AreTold};
@@ -53,6 +55,7 @@ fn port_worker(end: End) -> u16
     requires { end.node < 64 }
     ensures { result ≡ port_worker end }
 {
+    // Worker 0 is the main one. Each node has 8 numbers, so that node and port tell the worker.
     (1 + 8 * end.node) as u16 + u16::from(end.port)
 }
 
@@ -67,7 +70,8 @@ impl<const C: usize> Running<C> {
     ) -> Result<Running<C>, hsr_frame::NoMemory>
         requires entries { (1 ≤ C) × (C ≤ 65535) }
         requires room { (1 ≤ capacity) × (capacity ≤ 4096) }
-        ensures { IfOk result (λ running. running ≡ new_world capacity topology.now.places topology.now.links) }
+        ensures { IfOk result (λ running. running
+            ≡ new_world capacity topology.now.places topology.now.links) }
     {
         let nodes = new_nodes(alloc, topology.places())?;
         let spans = new_spans(alloc, capacity, topology.links())?;
@@ -88,6 +92,7 @@ impl<const C: usize> Running<C> {
     ghost use Rattle.hsr_step.specs.declared.step.Step.TheVariants.{Age, Clock, Cut, Inject, Judge, Mend, Put, Send, Supervise, Take};
     ghost use Rattle.hsr_step.specs.declared.step.WorldFault.TheVariants.{NoMemory};
 
+    /// Sets the moment, earlier ones too.
     #[tactic(auto, unfolding(hsr_world::specs::World::tried))]
     fn clock(&mut self, at: u64)
         ensures { tried C self.old (Clock at) ≡ Ok self.new }
@@ -95,10 +100,12 @@ impl<const C: usize> Running<C> {
         self.moment = at;
     }
 
+    /// Mends a link. `NoSuchLink` where there is none of this number.
     #[tactic(auto, unfolding(hsr_world::specs::World::tried))]
     fn mend(&mut self, link: usize) -> Result<(), WorldFault>
         ensures ok { OnOk result (tried C self.old (Mend link) ≡ Ok self.new) }
-        ensures err { IfErr result (λ f. (self.new ≡ self.old) × (tried C self.old (Mend link) ≡ Err f)) }
+        ensures err { IfErr result (λ f. (self.new ≡ self.old)
+            × (tried C self.old (Mend link) ≡ Err f)) }
     {
         if link >= self.spans.len() {
             return Err(WorldFault::NoSuchLink);
@@ -107,10 +114,12 @@ impl<const C: usize> Running<C> {
         Ok(())
     }
 
+    /// Cuts a link. `NoSuchLink` where there is none of this number.
     #[tactic(auto, unfolding(hsr_world::specs::World::tried))]
     fn cut(&mut self, link: usize) -> Result<(), WorldFault>
         ensures ok { OnOk result (tried C self.old (Cut link) ≡ Ok self.new) }
-        ensures err { IfErr result (λ f. (self.new ≡ self.old) × (tried C self.old (Cut link) ≡ Err f)) }
+        ensures err { IfErr result (λ f. (self.new ≡ self.old)
+            × (tried C self.old (Cut link) ≡ Err f)) }
     {
         if link >= self.spans.len() {
             return Err(WorldFault::NoSuchLink);
@@ -119,10 +128,12 @@ impl<const C: usize> Running<C> {
         Ok(())
     }
 
+    /// Puts octets that no port sent on a link. `NoSuchLink`, then `TooLong` over `INJECT_LIMIT` octets.
     #[tactic(auto, unfolding(hsr_world::specs::World::tried))]
     fn inject(&mut self, link: usize, dir: Dir, octets: &Octets) -> Result<(), WorldFault>
         ensures ok { OnOk result (tried C self.old (Inject link dir octets.now) ≡ Ok self.new) }
-        ensures err { IfErr result (λ f. (self.new ≡ self.old) × ((f ≡ NoMemory) ⊎ (tried C self.old (Inject link dir octets.now) ≡ Err f))) }
+        ensures err { IfErr result (λ f. (self.new ≡ self.old)
+            × ((f ≡ NoMemory) ⊎ (tried C self.old (Inject link dir octets.now) ≡ Err f))) }
     {
         if link >= self.spans.len() {
             return Err(WorldFault::NoSuchLink);
@@ -136,10 +147,12 @@ impl<const C: usize> Running<C> {
         }
     }
 
+    /// The oldest copy that waits in a direction comes into the hand. `NoSuchLink`, then `Busy`, then `Nothing`.
     #[tactic(auto, unfolding(hsr_world::specs::World::tried))]
     fn take(&mut self, link: usize, dir: Dir) -> Result<(), WorldFault>
         ensures ok { OnOk result (tried C self.old (Take link dir) ≡ Ok self.new) }
-        ensures err { IfErr result (λ f. (self.new ≡ self.old) × (tried C self.old (Take link dir) ≡ Err f)) }
+        ensures err { IfErr result (λ f. (self.new ≡ self.old)
+            × (tried C self.old (Take link dir) ≡ Err f)) }
     {
         if link >= self.spans.len() {
             return Err(WorldFault::NoSuchLink);
@@ -155,12 +168,18 @@ impl<const C: usize> Running<C> {
         ensures exact { result ≡ port_fault self.now.places node port }
         ensures there { IfNone result ((node < length self.now.places) × (node < 64)) }
     {
+        // A call of its own for its second clause: a port that is there has a node below 64.
         port_fault(&self.nodes, node, port)
     }
 
+    /// The oldest copy of an outbox goes onto its link.
     fn put_out(&mut self, spot: Option<Spot>) -> Result<(), WorldFault>
-        ensures ok { OnOk result (in_world self.old (put_at_spot self.old.spans (option_map spot_view spot)) ≡ Ok self.new) }
-        ensures err { IfErr result (λ f. (self.new ≡ self.old) × ((f ≡ NoMemory) ⊎ (in_world self.old (put_at_spot self.old.spans (option_map spot_view spot)) ≡ Err f))) }
+        ensures ok { OnOk result (in_world self.old
+            (put_at_spot self.old.spans (option_map spot_view spot)) ≡ Ok self.new) }
+        ensures err { IfErr result (λ f. (self.new ≡ self.old)
+            × ((f ≡ NoMemory)
+            ⊎ (in_world self.old (put_at_spot self.old.spans (option_map spot_view spot))
+            ≡ Err f))) }
     {
         match put_at_spot(&mut self.spans, spot) {
             Ok(()) => Ok(()),
@@ -168,10 +187,12 @@ impl<const C: usize> Running<C> {
         }
     }
 
+    /// The oldest copy in the outbox of a port goes onto its link. `NoSuchNode`, `NoSuchPort`, then `Nothing`.
     fn put(&mut self, ports: &[Port], node: usize, port: u8) -> Result<(), WorldFault>
         requires { AreTold self.old.places self.old.spans ports.now }
         ensures ok { OnOk result (tried C self.old (Put node port) ≡ Ok self.new) }
-        ensures err { IfErr result (λ f. (self.new ≡ self.old) × ((f ≡ NoMemory) ⊎ (tried C self.old (Put node port) ≡ Err f))) }
+        ensures err { IfErr result (λ f. (self.new ≡ self.old)
+            × ((f ≡ NoMemory) ⊎ (tried C self.old (Put node port) ≡ Err f))) }
     {
         if let Some(fault) = self.fault_of_port(node, port) {
             return Err(fault);
@@ -190,7 +211,8 @@ impl<const C: usize> Running<C> {
         requires below { node < length self.old.places }
         requires touching { links.now ≡ touching_from node 0 self.old.spans }
         ensures ok { OnOk result (entered C self.old worker node event ≡ Ok self.new) }
-        ensures err { IfErr result (λ e. (self.new ≡ self.old) × (e.0 ≡ event) × ((e.1 ≡ NoMemory) ⊎ (entered C self.old worker node event ≡ Err e.1))) }
+        ensures err { IfErr result (λ e. (self.new ≡ self.old) × (e.0 ≡ event)
+            × ((e.1 ≡ NoMemory) ⊎ (entered C self.old worker node event ≡ Err e.1))) }
     {
         let at = self.moment;
         match enter(
@@ -208,10 +230,12 @@ impl<const C: usize> Running<C> {
         }
     }
 
+    /// Puts an event of the main worker last in the plan, at the world's moment.
     fn plan_for(&mut self, node: usize, event: &Event) -> Result<(), WorldFault>
         ensures ok { OnOk result (self.new ≡ planned self.old node event.now) }
         ensures err { IfErr result (λ f. (self.new ≡ self.old) × (f ≡ NoMemory)) }
     {
+        // A copy, since the node takes the event itself.
         let Ok(event) = event.copy() else {
             return Err(WorldFault::NoMemory);
         };
@@ -222,25 +246,31 @@ impl<const C: usize> Running<C> {
         }
     }
 
+    /// Takes the last event out of the plan again.
     fn plan_no_more(&mut self)
         ensures { IsUnplanned self.old self.new }
     {
+        // What was planned last is dropped with the step that was refused.
         let _last = self.plan.pop();
     }
 
+    /// Lets an event of the main worker happen at a node, and puts it into the plan. `NoSuchNode` first.
     fn by_main(
         &mut self,
         touching: &[Vec<usize>],
         node: usize,
         event: Event,
     ) -> Result<(), WorldFault>
-        requires { AreTouching self.old.places self.old.spans (map (λ links. links.items) touching.now) }
+        requires { AreTouching self.old.places self.old.spans
+            (map (λ links. links.items) touching.now) }
         ensures ok { OnOk result (by_main C self.old node event ≡ Ok self.new) }
-        ensures err { IfErr result (λ f. (self.new ≡ self.old) × ((f ≡ NoMemory) ⊎ (by_main C self.old node event ≡ Err f))) }
+        ensures err { IfErr result (λ f. (self.new ≡ self.old)
+            × ((f ≡ NoMemory) ⊎ (by_main C self.old node event ≡ Err f))) }
     {
         if node >= self.nodes.len() {
             return Err(WorldFault::NoSuchNode);
         }
+        // Planned first, since this may be refused for memory, and a plan is shortened without any.
         match self.plan_for(node, &event) {
             Ok(()) => {}
             Err(fault) => return Err(fault),
@@ -254,6 +284,7 @@ impl<const C: usize> Running<C> {
         }
     }
 
+    /// Another hand where a port receives; the answer is what was in it.
     fn change_hand(&mut self, spot: Option<Spot>, hand: Option<Carried>) -> Option<Carried>
         ensures was { result ≡ hand_in self.old.spans (option_map spot_view spot) }
         ensures now { self.new ≡ in_hand hand self.old (option_map spot_view spot) }
@@ -266,10 +297,12 @@ impl<const C: usize> Running<C> {
         ensures { self.new ≡ given_back event self.old (option_map spot_view spot) }
     {
         if let Event::Arrive { port: _, carried } = event {
+            // The hand was emptied before, so nothing is in it.
             let _nothing = self.change_hand(spot, Some(carried));
         }
     }
 
+    /// What the port at an end holds leaves its hand.
     fn clear_at(&mut self, links: &[usize], end: End)
         requires { links.now ≡ touching_from end.node 0 self.old.spans }
         ensures { self.new ≡ cleared self.old end }
@@ -277,6 +310,7 @@ impl<const C: usize> Running<C> {
         clear(&mut self.spans, links, end);
     }
 
+    /// A node judges the copy in the hand of a port. `NoSuchNode`, `NoSuchPort`, then `Nothing`.
     fn judge(
         &mut self,
         ports: &[Port],
@@ -285,9 +319,11 @@ impl<const C: usize> Running<C> {
         port: u8,
     ) -> Result<(), WorldFault>
         requires told { AreTold self.old.places self.old.spans ports.now }
-        requires touching { AreTouching self.old.places self.old.spans (map (λ links. links.items) touching.now) }
+        requires touching { AreTouching self.old.places self.old.spans
+            (map (λ links. links.items) touching.now) }
         ensures ok { OnOk result (tried C self.old (Judge node port) ≡ Ok self.new) }
-        ensures err { IfErr result (λ f. (self.new ≡ self.old) × ((f ≡ NoMemory) ⊎ (tried C self.old (Judge node port) ≡ Err f))) }
+        ensures err { IfErr result (λ f. (self.new ≡ self.old)
+            × ((f ≡ NoMemory) ⊎ (tried C self.old (Judge node port) ≡ Err f))) }
     {
         if let Some(fault) = self.fault_of_port(node, port) {
             return Err(fault);
@@ -295,6 +331,7 @@ impl<const C: usize> Running<C> {
         let end = End { node, port };
         let spot = port_of(ports, end).into;
         let links = touching_of(touching, node);
+        // The copy is moved out of the hand and into the event, so that judging needs no copy of its octets.
         let Some(carried) = self.change_hand(spot, None) else {
             return Err(WorldFault::Nothing);
         };
@@ -315,15 +352,19 @@ impl<const C: usize> Running<C> {
         }
     }
 
+    /// A node gives up what is expired.
     #[tactic(auto, unfolding(hsr_world::specs::World::tried))]
     fn age(&mut self, touching: &[Vec<usize>], node: usize) -> Result<(), WorldFault>
-        requires { AreTouching self.old.places self.old.spans (map (λ links. links.items) touching.now) }
+        requires { AreTouching self.old.places self.old.spans
+            (map (λ links. links.items) touching.now) }
         ensures ok { OnOk result (tried C self.old (Age node) ≡ Ok self.new) }
-        ensures err { IfErr result (λ f. (self.new ≡ self.old) × ((f ≡ NoMemory) ⊎ (tried C self.old (Age node) ≡ Err f))) }
+        ensures err { IfErr result (λ f. (self.new ≡ self.old)
+            × ((f ≡ NoMemory) ⊎ (tried C self.old (Age node) ≡ Err f))) }
     {
         self.by_main(touching, node, Event::Age)
     }
 
+    /// A node sends a supervision frame.
     #[tactic(auto, unfolding(hsr_world::specs::World::tried))]
     fn supervise(
         &mut self,
@@ -331,13 +372,16 @@ impl<const C: usize> Running<C> {
         node: usize,
         about: About,
     ) -> Result<(), WorldFault>
-        requires { AreTouching self.old.places self.old.spans (map (λ links. links.items) touching.now) }
+        requires { AreTouching self.old.places self.old.spans
+            (map (λ links. links.items) touching.now) }
         ensures ok { OnOk result (tried C self.old (Supervise node about) ≡ Ok self.new) }
-        ensures err { IfErr result (λ f. (self.new ≡ self.old) × ((f ≡ NoMemory) ⊎ (tried C self.old (Supervise node about) ≡ Err f))) }
+        ensures err { IfErr result (λ f. (self.new ≡ self.old)
+            × ((f ≡ NoMemory) ⊎ (tried C self.old (Supervise node about) ≡ Err f))) }
     {
         self.by_main(touching, node, Event::Supervise(about))
     }
 
+    /// A node sends a frame of its own.
     #[tactic(auto, unfolding(hsr_world::specs::World::tried))]
     fn send(
         &mut self,
@@ -349,10 +393,15 @@ impl<const C: usize> Running<C> {
         kind: u16,
         payload: &Octets,
     ) -> Result<(), WorldFault>
-        requires { AreTouching self.old.places self.old.spans (map (λ links. links.items) touching.now) }
-        ensures ok { OnOk result (tried C self.old (Send node from dst vlan kind payload.now) ≡ Ok self.new) }
-        ensures err { IfErr result (λ f. (self.new ≡ self.old) × ((f ≡ NoMemory) ⊎ (tried C self.old (Send node from dst vlan kind payload.now) ≡ Err f))) }
+        requires { AreTouching self.old.places self.old.spans
+            (map (λ links. links.items) touching.now) }
+        ensures ok { OnOk result (tried C self.old (Send node from dst vlan kind payload.now)
+            ≡ Ok self.new) }
+        ensures err { IfErr result (λ f. (self.new ≡ self.old)
+            × ((f ≡ NoMemory) ⊎ (tried C self.old (Send node from dst vlan kind payload.now)
+            ≡ Err f))) }
     {
+        // A copy, since the step is borrowed and the event owns its payload.
         let Ok(payload) = Octets::from_slice(self.alloc, payload.as_slice()) else {
             return Err(WorldFault::NoMemory);
         };
@@ -377,9 +426,11 @@ impl<const C: usize> Running<C> {
         step: &Step,
     ) -> Result<(), WorldFault>
         requires told { AreTold self.old.places self.old.spans ports.now }
-        requires touching { AreTouching self.old.places self.old.spans (map (λ links. links.items) touching.now) }
+        requires touching { AreTouching self.old.places self.old.spans
+            (map (λ links. links.items) touching.now) }
         ensures ok { OnOk result (tried C self.old step.now ≡ Ok self.new) }
-        ensures err { IfErr result (λ f. (self.new ≡ self.old) × ((f ≡ NoMemory) ⊎ (tried C self.old step.now ≡ Err f))) }
+        ensures err { IfErr result (λ f. (self.new ≡ self.old)
+            × ((f ≡ NoMemory) ⊎ (tried C self.old step.now ≡ Err f))) }
     {
         match step {
             Step::Clock { at } => {
@@ -461,7 +512,8 @@ impl<const C: usize> Running<C> {
 
     /// The links that touch each node.
     pub(crate) fn touching(&self) -> Result<Vec<Vec<usize>>, hsr_frame::NoMemory>
-        ensures { IfOk result (λ all. map (λ links. links.items) all.items ≡ touching_in (length self.now.places) self.now.spans) }
+        ensures { IfOk result (λ all. map (λ links. links.items) all.items
+            ≡ touching_in (length self.now.places) self.now.spans) }
     {
         new_touching(self.alloc, self.nodes.len(), &self.spans)
     }
@@ -495,8 +547,10 @@ impl<const C: usize> Running<C> {
         ensures no_storm { IfOk result (λ closed. IsCalm closed.run) }
         ensures whole { IfErr result (λ e. (e.0 ≡ topology) × (e.1 ≡ self.entry)) }
         ensures refused { IfErr result (λ e. IfDisagree e.2 (λ d. ¬ IsEnded self.entry)) }
-        ensures first { IfErr result (λ e. IfDisagree e.2 (λ d. IsOpen (finished_of C self.entry).run d)) }
+        ensures first { IfErr result (λ e. IfDisagree e.2
+            (λ d. IsOpen (finished_of C self.entry).run d)) }
     {
+        // The clause of this call says that nodes and links are a topology, which the proof needs from here on.
         let _ = topology.places();
         let Running {
             alloc,

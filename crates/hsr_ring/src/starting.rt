@@ -18,6 +18,7 @@ pub(crate) fn new_nodes<const C: usize>(
 {
     let mut nodes = Vec::new(alloc);
     for (number, place) in places.iter().enumerate() {
+        // A copy, since the topology keeps its own.
         let kept = Kept::new(alloc, number, place.copy()?)?;
         nodes.push(kept)?;
     }

@@ -1,4 +1,7 @@
 //! Nodes and links in one world, and what is done with them, step by step.
+//!
+//! A world is two layers. `Running` steps exactly as the definition says. `World` keeps in its type that it was reached
+//! from the first world of its topology by steps, so what holds of every such world holds of it.
 ghost use Rattle.std.specs.Prelude.{◌≡◌, ◌≤◌, ◌<◌, ◌⊎◌, ◌^◌, Ok, Err, None, OnOk, IfErr, IfOk, length, reverse};
 ghost use Rattle.hsr_step.specs.declared.step.WorldFault.TheVariants.{NoMemory as NoRoom};
 
@@ -21,6 +24,7 @@ use std::marker::Model;
 pub struct World<const C: usize> {
     topology: Topology,
     running: Running<C>,
+    // Where ports lead and which links touch a node never change, so they are found once.
     ports: Vec<Port>,
     touching: Vec<Vec<usize>>,
     pending: Pending,
@@ -55,6 +59,7 @@ impl<const C: usize> World<C> {
         requires room { (1 ≤ capacity) × (capacity ≤ 4096) }
         ensures { IfOk result (λ world. world ≡ new_world capacity topology.places topology.links) }
     {
+        // Nothing is done here: its clause tells the proof that addresses have six octets.
         places_fit(topology.places());
         let running = Running::new(alloc, &topology, capacity)?;
         let ports = running.ports()?;
@@ -69,10 +74,13 @@ impl<const C: usize> World<C> {
     }
 
     /// Does a step, or refuses it for the first reason that applies; a refusal changes nothing.
+    /// The reasons are tried in the order of `WorldFault`; `NoMemory` comes where room is refused.
     pub fn step(&mut self, step: &Step) -> Result<(), WorldFault>
         ensures ok { OnOk result (tried C self.old step.now ≡ Ok self.new) }
-        ensures err { IfErr result (λ f. (self.new ≡ self.old) × ((f ≡ NoRoom) ⊎ (tried C self.old step.now ≡ Err f))) }
+        ensures err { IfErr result (λ f. (self.new ≡ self.old)
+            × ((f ≡ NoRoom) ⊎ (tried C self.old step.now ≡ Err f))) }
     {
+        // Nothing is done here: its clause tells the proof that the step fits its types.
         step_fits(step);
         match self.running.step(&self.ports, &self.touching, step) {
             Ok(()) => {
@@ -108,7 +116,8 @@ impl<const C: usize> World<C> {
     /// and those on links taken, in this order, by the lowest node and port, or link. The answer is how many steps.
     /// `Unsettled` after `limit` steps with something left; `World` where a step is refused. The steps before it stand.
     pub fn drain(&mut self, limit: u64) -> Result<u64, DrainFault>
-        ensures ok { IfOk result (λ n. (n ≤ limit) × (next_step self.new ≡ None) × Drains C n self.old self.new) }
+        ensures ok { IfOk result (λ n. (n ≤ limit) × (next_step self.new ≡ None)
+            × Drains C n self.old self.new) }
         ensures err { IfErr result (λ f. IsDrainFault C self.old self.new limit f) }
     {
         for done in 0..limit {
@@ -120,6 +129,7 @@ impl<const C: usize> World<C> {
                 Err(fault) => return Err(DrainFault::World(fault)),
             }
         }
+        // After the last allowed step something may be left, or nothing.
         let Some(_) = self.next() else {
             return Ok(limit);
         };
@@ -171,6 +181,7 @@ impl<const C: usize> World<C> {
     pub fn is_lawful(&self)
         ensures { IsLawful C self.now }
     {
+        // The clause of this call says that nodes and links are a topology, which the laws need.
         let _ = self.topology.places();
     }
 
@@ -185,7 +196,8 @@ impl<const C: usize> World<C> {
         ensures no_storm { IfOk result (λ closed. IsCalm closed.run) }
         ensures whole { IfErr result (λ e. e.0 ≡ self.entry) }
         ensures refused { IfErr result (λ e. IfDisagree e.1 (λ d. ¬ IsEnded self.entry)) }
-        ensures first { IfErr result (λ e. IfDisagree e.1 (λ d. IsOpen (finished_of C self.entry).run d)) }
+        ensures first { IfErr result (λ e. IfDisagree e.1
+            (λ d. IsOpen (finished_of C self.entry).run d)) }
     {
         let World {
             topology,

@@ -19,6 +19,7 @@ pub(crate) fn age<const C: usize>(
 {
     let mut seen = 0;
     for _ in rt.forever() {
+        // "Stop" is read before the clock: so the last moment that was set is still seen after it.
         let stops = cells.flight.is_stopped();
         let now = cells.moment();
         if now != seen {
@@ -32,5 +33,6 @@ pub(crate) fn age<const C: usize>(
         }
         seat.ager.park(rt);
     }
+    // `forever` has no last turn.
     unreachable!()
 }

@@ -49,6 +49,7 @@ fn alien_of<const C: usize>(closed: &Closed<C>) -> Option<u16>
 fn injected_link(orders: &[Order]) -> Option<usize>
     ensures { result ≡ first_injected orders.now }
 {
+    // The index is used by the loop's invariant alone.
     for (place, order) in orders.iter().enumerate() {
         if let Order::Step(Step::Inject { link, .. }) = order {
             return Some(*link);
@@ -60,9 +61,11 @@ fn injected_link(orders: &[Order]) -> Option<usize>
 /// What the closing check can't see, since it knows no scenario: that an injection was passed over, whose row it would have refused;
 /// or that an entry was brought by another worker than its own.
 pub(crate) fn unlike<const C: usize>(closed: &Closed<C>, orders: &[Order]) -> Option<Disagree>
-    ensures { MatchOption result (InjectsNothing orders.now × NoneIsAlien closed.now.run) (IsUnlike closed.now.run orders.now) }
+    ensures { MatchOption result (InjectsNothing orders.now × NoneIsAlien closed.now.run)
+        (IsUnlike closed.now.run orders.now) }
 {
     if let Some(link) = injected_link(orders) {
+        // No row can be named: the injection was passed over, so it has none.
         return Some(Disagree::Stranger { link, row: 0 });
     }
     match alien_of(closed) {

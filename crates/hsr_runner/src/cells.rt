@@ -90,6 +90,7 @@ fn links_of(alloc: Global, count: usize, capacity: usize) -> Result<Vec<LinkCell
 /// The nodes with their records, out of their locks.
 fn kept_of<const C: usize>(alloc: Global, seats: Vec<Seat<C>>) -> Result<Vec<Kept<C>>, NoMemory> {
     let mut kept = Vec::new(alloc);
+    // Locks are opened only here, when all threads are joined: nobody holds one.
     for seat in seats {
         kept.push(seat.cell.into_kept())?;
     }
@@ -134,6 +135,7 @@ impl<const C: usize> Cells<C> {
 
     /// Sets the clock word, and gives each ager a turn.
     pub(crate) fn set_clock(&self, at: u64) {
+        // The word is set before the agers wake, so that they see the new moment.
         self.clock.store(at, Ordering::SeqCst);
         self.wake_agers();
     }
@@ -146,6 +148,7 @@ impl<const C: usize> Cells<C> {
 
     /// Says "stop" to all: the agers get their last turn, and nobody waits for a copy any more.
     pub(crate) fn close(&self, rt: &impl Wait) {
+        // "Stop" is said first, so that who wakes finds it.
         self.flight.stop();
         self.wake_agers();
         for link in self.links.iter() {

@@ -65,6 +65,7 @@ fn bring<const C: usize>(
     };
     let receipt = match seat.cell.step(rt, pass, planned.at, planned.event) {
         Ok(receipt) => receipt,
+        // The event is let go: the run ends here.
         Err((_event, fault)) => return Err(own_fault(fault)),
     };
     match put_all(rt, alloc, cells, seat, &receipt) {
@@ -110,6 +111,7 @@ fn cut<const C: usize>(
     let Some(cell) = cells.links.get(link) else {
         return Err(WorldFault::NoSuchLink);
     };
+    // What waited there would else be waited for at the next drain.
     cells.flight.fall(cell.cut(rt) as u64);
     Ok(())
 }
@@ -144,8 +146,10 @@ fn inject_on<const C: usize>(
 ) -> Result<(), WorldFault>
     requires { vec_len cells.now.links ≡ length topology.now.links }
     ensures fits { IfOk result (λ u. if_link topology.now link (too_long octets.now) ≡ None) }
-    ensures fault { IfErr result (λ fault. (fault ≡ NoRoom) ⊎ (if_link topology.now link (too_long octets.now) ≡ Some fault)) }
+    ensures fault { IfErr result (λ fault.
+        (fault ≡ NoRoom) ⊎ (if_link topology.now link (too_long octets.now) ≡ Some fault)) }
 {
+    // Both are asked before the lock, so that a refused step changes nothing.
     if link >= cells.links.len() {
         return Err(WorldFault::NoSuchLink);
     }
@@ -174,6 +178,7 @@ fn obey<const C: usize>(
     ensures fits { IfOk result (λ more. misfit topology.now order.now ≡ None) }
     ensures fault { IfErr result (λ fault. IsOrderEnd C topology.now order.now fault) }
 {
+    // A drain is waited for: the workers move the copies by themselves.
     let Order::Step(step) = order else {
         return Ok(cells.flight.settles(rt));
     };
@@ -210,6 +215,7 @@ pub(crate) fn conduct<const C: usize, G: Gate>(
     requires links { vec_len cells.now.links ≡ length scenario.now.topology.links }
     ensures { IsConducted C G.may_shut (scenario_view scenario.now) result }
 {
+    // The main worker's own moment: the clock word is for the other threads.
     let mut at = 0;
     for (step, order) in scenario.steps.iter().enumerate() {
         if !gate.before(rt, step) {

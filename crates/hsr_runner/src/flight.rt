@@ -3,6 +3,7 @@ use std::sync::Wait;
 use std::sync::atomic::{AtomicU64, Ordering};
 use std::thread::Parker;
 
+// One word for the count and for "stop", so that the main worker waits for both at once. Links hold 2^20 copies at most.
 /// Added to the count where a worker gives up, and at the main worker's end: a count of as much or more says "stop".
 const STOP: u64 = 1 << 48;
 
@@ -29,6 +30,7 @@ impl Flight {
 
     /// So many copies are on their way no more.
     pub(crate) fn fall(&self, copies: u64) {
+        // Only who takes the last copy wakes the main worker.
         if self.count.fetch_sub(copies, Ordering::SeqCst) == copies {
             self.main.unpark();
         }
@@ -47,6 +49,7 @@ impl Flight {
 
     /// Waits until no copy is on its way or "stop" was said, and tells whether it wasn't. Only the main worker may wait here.
     pub(crate) fn settles(&self, rt: &impl Wait) -> bool {
+        // A parker may wake without a cause, so the count is looked at each time.
         for _ in rt.forever() {
             let count = self.count.load(Ordering::SeqCst);
             if count >= STOP {

@@ -20,11 +20,13 @@ pub trait Gate: Sync {
     fn before(&self, _rt: &impl Wait, _step: usize) -> bool
         ensures { result ≡ false → may_shut ≡ true }
     {
+        // A gate that holds back only copies needs no step of its own.
         true
     }
 }
 
 /// A gate that is always open.
+/// It is that of the program: only tests hold threads back.
 #[derive(Clone, Copy, Debug)]
 pub struct OpenGate;
 

@@ -35,6 +35,7 @@ fn put<const C: usize>(
     let Some(link) = cells.links.get(wire.link) else {
         return Ok(());
     };
+    // Counted before it is put: else another worker could take it, and the count would fall below 0.
     cells.flight.rise();
     landed(&cells.flight, link.put(rt, wire.out, carried))
 }
@@ -56,6 +57,7 @@ pub(crate) fn inject<const C: usize>(
         probe: None,
         octets,
     };
+    // Counted before it is put: else another worker could take it, and the count would fall below 0.
     cells.flight.rise();
     landed(&cells.flight, link.inject(rt, dir, carried))
 }
@@ -92,6 +94,7 @@ pub(crate) fn put_all<const C: usize>(
     seat: &Seat<C>,
     receipt: &Receipt,
 ) -> Result<(), NoMemory> {
+    // No lock of the node is held here: what leaves is spelled from the receipt.
     for (port, wire) in seat.wires.iter().enumerate() {
         if let Some(wire) = *wire {
             put_out(rt, alloc, cells, &seat.place, receipt, port as u8, wire)?;

@@ -52,6 +52,7 @@ pub(crate) fn planned_at(at: u64, order: &Order) -> Result<Option<Planned>, NoMe
                 dst: *dst,
                 vlan: *vlan,
                 kind: *kind,
+                // A copy, since the scenario keeps its own.
                 payload: payload.clone()?,
             },
         })),
@@ -87,6 +88,7 @@ pub fn plan_of(alloc: Global, orders: &[Order]) -> Result<Vec<Planned>, NoMemory
     let mut plan = Vec::new(alloc);
     let mut at = 0;
     let mut rest = orders;
+    // The rest is a variable, since the loop's invariant speaks of the moment before it.
     while let Some((order, more)) = rest.split_first() {
         if let Some(planned) = planned_at(at, order)? {
             plan.push(planned)?;

@@ -34,6 +34,7 @@ fn role_at(topology: &Topology, number: usize) -> Option<Role>
     let worker = (number + 1) as u16;
     let node = number / 8;
     let port = (number % 8) as u8;
+    // The ager has the eighth number of its node; ports take the first four.
     let task = if port == 7 {
         Task::Age
     } else {

@@ -41,8 +41,10 @@ fn run_unchecked<const C: usize, G: Gate, R: Threads + Wait + Sync>(
 ) -> Result<Left<C>, RunFault>
     requires entries { (1 ≤ C) × (C ≤ 65535) }
     ensures fits { IfOk result (λ left. AllFit scenario.now.topology scenario.now.steps.items) }
-    ensures fault { IfErr result (λ fault. IsPlayFault C G.may_shut (scenario_view scenario.now) fault) }
+    ensures fault { IfErr result (λ fault.
+        IsPlayFault C G.may_shut (scenario_view scenario.now) fault) }
 {
+    // Roles and cells are made before any thread is started, so that want of memory here starts none.
     let Ok(roles) = roles_of(alloc, &scenario.topology) else {
         return Err(RunFault::NoMemory);
     };
@@ -67,11 +69,13 @@ fn checked<const C: usize>(
     left: Left<C>,
 ) -> Result<Closed<C>, RunFault>
     ensures ok { IfOk result (λ closed. IsRunWith C topology plan.items closed) }
-    ensures err { IfErr result (λ fault. IsCheckFault C topology left.entry.kept.items left.entry.rows.items left.entry.passes.items plan.items fault) }
+    ensures err { IfErr result
+        (λ fault. IsCheckFault C topology left.entry.kept.items left.entry.rows.items left.entry.passes.items plan.items fault) }
 {
     let Left { kept, rows, passes } = left;
     match Closed::check(alloc, topology, plan, kept, rows, passes) {
         Ok(closed) => {
+            // The clause of this call says that the run is finished, which the proof needs here.
             let _finished = closed.topology();
             Ok(closed)
         }
@@ -103,13 +107,15 @@ pub fn run_threads<const C: usize, G: Gate, R: Threads + Wait + Sync>(
     ensures fits { IfOk result (λ closed. AllFit scenario.now.topology scenario.now.steps.items) }
     ensures injected { IfOk result (λ closed. InjectsNothing scenario.now.steps.items) }
     ensures brought { IfOk result (λ closed. NoneIsAlien closed.run) }
-    ensures fine { MatchOption (position is_fine scenario.now.steps.items) (IfErr result (λ fault. is_fine_step fault ≡ false)) (λ k. result ≡ Err (FineStep k)) }
+    ensures fine { MatchOption (position is_fine scenario.now.steps.items)
+        (IfErr result (λ fault. is_fine_step fault ≡ false)) (λ k. result ≡ Err (FineStep k)) }
     ensures shut { result ≡ Err Shut → G.may_shut ≡ true }
     ensures fault { IfErr result (λ fault. IsRunFault C (scenario_view scenario.now) fault) }
 {
     if let Some(step) = first_fine(scenario.steps.as_slice()) {
         return Err(RunFault::FineStep { step });
     }
+    // The plan is told before the run, from the scenario alone: it is what the run is compared with.
     let Ok(plan) = plan_of(alloc, scenario.steps.as_slice()) else {
         return Err(RunFault::NoMemory);
     };
@@ -120,6 +126,7 @@ pub fn run_threads<const C: usize, G: Gate, R: Threads + Wait + Sync>(
         Ok(left) => checked(alloc, topology, plan, left)?,
         Err(fault) => return Err(fault),
     };
+    // What the closing check can't see is looked at behind it, at the price of one walk over the entries.
     match unlike(&closed, scenario.steps.as_slice()) {
         Some(disagree) => Err(RunFault::Check(CheckFault::Disagree(disagree))),
         None => Ok(closed),

@@ -31,6 +31,7 @@ struct Done {
 /// A thread ends by its gate only where that may shut, and by its node only where that refused a copy.
 #[derive(Clone, Copy)]
 struct EndsAsItMay<const C: usize, G: Gate> {
+    // A promise holds nothing: it only names the gate, whose type says whether it may shut.
     of: PhantomData<G>,
 }
 
@@ -52,6 +53,7 @@ fn work<const C: usize, G: Gate>(
 ) -> Ending
     ensures { IsEnding C G.may_shut result }
 {
+    // Never so: roles are of the same topology as the seats.
     let Some(seat) = cells.seats.get(role.node) else {
         return Ending::Stopped;
     };
@@ -83,6 +85,7 @@ fn live<const C: usize, G: Gate>(
 {
     let mut pass = Pass::new(alloc, role.worker);
     let ending = work(rt, alloc, cells, gate, role, &mut pass);
+    // All others have to end too, since a copy that nobody judges would be waited for.
     if ending != Ending::Stopped {
         cells.flight.stop();
     }
@@ -98,12 +101,14 @@ fn join_all<const C: usize, G: Gate, R: Threads>(
     ensures { IsEnding C G.may_shut result }
 {
     let mut first = Ending::Stopped;
+    // Each is joined, also after a fault: no thread may outlive the run.
     for handle in handles {
         let Done { pass, ending } = handle.join(rt);
         let ending = match passes.push(pass) {
             Ok(()) => ending,
             Err(_full) => Ending::NoMemory,
         };
+        // Handles stand by the numbers of their workers, so this is the lowest that gave up.
         if first == Ending::Stopped {
             first = ending;
         }
@@ -156,15 +161,18 @@ fn finish<const C: usize, G: Gate, R: Threads + Wait>(
 ) -> Result<Vec<Pass>, RunFault>
     requires nodes { vec_len cells.now.seats ≡ length scenario.now.topology.places }
     requires links { vec_len cells.now.links ≡ length scenario.now.topology.links }
-    requires unstarted { IfSome unstarted (λ c. IsConducted C G.may_shut (scenario_view scenario.now) c) }
+    requires unstarted { IfSome unstarted (λ c.
+        IsConducted C G.may_shut (scenario_view scenario.now) c) }
     ensures fits { IfOk result (λ passes. AllFit scenario.now.topology scenario.now.steps.items) }
-    ensures fault { IfErr result (λ fault. IsPlayFault C G.may_shut (scenario_view scenario.now) fault) }
+    ensures fault { IfErr result (λ fault.
+        IsPlayFault C G.may_shut (scenario_view scenario.now) fault) }
 {
     let mut main = Pass::new(alloc, 0);
     let conducted = match unstarted {
         Some(unstarted) => unstarted,
         None => conduct(rt, alloc, cells, scenario, gate, &mut main),
     };
+    // Closed before the join, or workers would wait for copies for ever.
     cells.close(rt);
     let mut passes = Vec::new(alloc);
     let conducted = match passes.push(main) {
@@ -190,7 +198,8 @@ pub(crate) fn play<const C: usize, G: Gate, R: Threads + Wait + Sync>(
     requires nodes { vec_len cells.now.seats ≡ length scenario.now.topology.places }
     requires links { vec_len cells.now.links ≡ length scenario.now.topology.links }
     ensures fits { IfOk result (λ passes. AllFit scenario.now.topology scenario.now.steps.items) }
-    ensures fault { IfErr result (λ fault. IsPlayFault C G.may_shut (scenario_view scenario.now) fault) }
+    ensures fault { IfErr result (λ fault.
+        IsPlayFault C G.may_shut (scenario_view scenario.now) fault) }
 {
     thread::scope(
         thread::scope_env(),
@@ -198,8 +207,10 @@ pub(crate) fn play<const C: usize, G: Gate, R: Threads + Wait + Sync>(
         |scope| -> Result<Vec<Pass>, RunFault>
             requires nodes { vec_len cells.now.seats ≡ length scenario.now.topology.places }
             requires links { vec_len cells.now.links ≡ length scenario.now.topology.links }
-            ensures fits { IfOk result (λ passes. AllFit scenario.entry.now.topology scenario.entry.now.steps.items) }
-            ensures fault { IfErr result (λ fault. IsPlayFault C G.may_shut (scenario_view scenario.entry.now) fault) }
+            ensures fits { IfOk result
+                (λ passes. AllFit scenario.entry.now.topology scenario.entry.now.steps.items) }
+            ensures fault { IfErr result (λ fault.
+                IsPlayFault C G.may_shut (scenario_view scenario.entry.now) fault) }
         {
             let Ok(mut handles) = Vec::with_capacity(alloc, roles.len()) else {
                 return Err(RunFault::NoMemory);
@@ -213,6 +224,7 @@ pub(crate) fn play<const C: usize, G: Gate, R: Threads + Wait + Sync>(
                 { live(rt, alloc, cells, gate, role) };
                 match scope.spawn_with(promise, life) {
                     Ok(handle) => {
+                        // Room was made for all; the case stands since a push answers so.
                         if handles.push(handle).is_err() {
                             unstarted = Some(Conducted::NoMemory);
                             break;

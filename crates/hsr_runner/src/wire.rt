@@ -36,7 +36,8 @@ pub(crate) fn wire_at(topology: &Topology, node: usize, port: u8) -> Option<Wire
 
 /// Where the ports of a node lead, by their numbers.
 pub(crate) fn wires_of(topology: &Topology, node: usize) -> [Option<Wire>; 4]
-    ensures { result ≡ wire_at topology.now node 0 ∷ wire_at topology.now node 1 ∷ wire_at topology.now node 2 ∷ wire_at topology.now node 3 ∷ [] }
+    ensures { result ≡ wire_at topology.now node 0 ∷ wire_at topology.now node 1
+        ∷ wire_at topology.now node 2 ∷ wire_at topology.now node 3 ∷ [] }
 {
     [
         wire_at(topology, node, 0),

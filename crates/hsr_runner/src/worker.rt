@@ -46,6 +46,7 @@ fn judge_copy<const C: usize, G: Gate>(
     if !gate.pass(rt, post.node, post.port, carried.probe) {
         return Err(Ending::Shut);
     }
+    // The moment is read behind the gate, so that a gate can bring about an order of events.
     let at = cells.moment();
     let event = Event::Arrive {
         port: post.port,
@@ -80,6 +81,7 @@ pub(crate) fn judge<const C: usize, G: Gate>(
             return Ending::Stopped;
         };
         match judge_copy(rt, alloc, cells, seat, gate, post, pass, carried) {
+            // The copy counts until what it gave is put, so that the count never shows a rest too early.
             Ok(()) => cells.flight.fall(1),
             Err(ending) => return ending,
         }

@@ -190,6 +190,7 @@ impl fmt::Display for What {
     }
 }
 
+// `from_gives` says which fault `?` makes, so that no clause takes want of memory for another fault.
 impl From<NoMemory> for What {
     ghost from_gives = { λ _ what. what ≡ NoRoom };
 

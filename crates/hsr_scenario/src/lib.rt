@@ -1,7 +1,17 @@
 //! Scenarios: the nodes and links of a bench and the steps that it takes, written in TOML.
 //!
-//! Its modules, in the order to read them: `fault`, `table`, `words`, `name`, `nodes`, `links`, `steps`, `scenario`, `reading`,
-//! `naming`, `law`.
+//! Its modules, in the order in which to read them:
+//! - `fault`: why a text is no scenario
+//! - `table`: which keys a table may have
+//! - `words`: the words that texts of a scenario spell
+//! - `name`: the names of nodes
+//! - `nodes`: the nodes of a scenario
+//! - `links`: the links of a scenario, and the names of nodes and ends that are used
+//! - `steps`: the steps of a scenario
+//! - `scenario`: scenarios
+//! - `reading`: how a text is read as a scenario
+//! - `naming`: the names of a scenario's nodes
+//! - `law`: what a scenario lists, and which of its tables has its fault
 #![tactic(auto)]
 
 mod fault;

@@ -20,6 +20,7 @@ use toml::{Table, Value};
 fn node_named(nodes: &[Named], name: &[u8]) -> Option<usize>
     ensures { result ≡ node_named nodes.now name.now }
 {
+    // A search, since no topology has over 64 nodes.
     nodes.iter().position(|node| node.name.as_bytes() == name)
 }
 
@@ -44,6 +45,7 @@ fn used_name(nodes: &[Named], key: Key, value: &Value) -> Result<usize, What>
     ensures { Gives (λ n. n) result (used_name nodes.now key (view value.now)) }
 {
     let name = text(key, value)?.as_bytes();
+    // A text that can't be a name is a bad value, and no name that is missing.
     if !is_name(name) {
         return Err(What::BadValue(key));
     }
@@ -55,7 +57,8 @@ fn used_name(nodes: &[Named], key: Key, value: &Value) -> Result<usize, What>
 
 /// The number of the node that a step names.
 pub(crate) fn used_node(nodes: &[Named], table: &Table) -> Result<usize, What>
-    ensures { Gives (λ n. n) result (needed faults key.Node (used_name nodes.now) (table_view table.now)) }
+    ensures { Gives (λ n. n) result (needed faults key.Node (used_name nodes.now)
+        (table_view table.now)) }
 {
     used_name(nodes, Key::Node, needed(table, Key::Node)?)
 }
@@ -75,7 +78,8 @@ fn used_end(nodes: &[Named], key: Key, value: &Value) -> Result<End, What>
 
 /// The end that a step names.
 pub(crate) fn used_port(nodes: &[Named], table: &Table) -> Result<End, What>
-    ensures { Gives (λ e. e) result (needed faults key.Port (used_end nodes.now) (table_view table.now)) }
+    ensures { Gives (λ e. e) result (needed faults key.Port (used_end nodes.now)
+        (table_view table.now)) }
 {
     used_end(nodes, Key::Port, needed(table, Key::Port)?)
 }
@@ -84,6 +88,7 @@ pub(crate) fn used_port(nodes: &[Named], table: &Table) -> Result<End, What>
 fn ends_of(nodes: &[Named], key: Key, first: &str, second: &str) -> Result<[End; 2], What>
     ensures { Gives (λ l. l) result (ends_of nodes.now key (first.now ∷ second.now ∷ [])) }
 {
+    // The form of both comes before either name: a bad value is told before a name that isn't there.
     let (Some((first, p)), Some((second, q))) = (
         end_of(first.as_bytes()),
         end_of(second.as_bytes()),

@@ -27,6 +27,7 @@ impl Name {
     {
         match String::from_str(alloc, text) {
             Ok(text) => Ok(Name { text }),
+            // A text is refused for memory alone.
             Err(_) => Err(What::NoMemory),
         }
     }

@@ -45,7 +45,8 @@ fn names_of(alloc: Global, nodes: &[Named]) -> Result<Vec<Vec<u8>>, What>
 /// The topology and the names, where there are these nodes.
 #[tactic(auto, unfolding(crate::specs::Names::named_by), using(crate::proofs::Lists::spotted))]
 fn named_by(alloc: Global, nodes: &[Named], links: &[&Table]) -> Result<Names, ScenarioFault>
-    ensures { GivesAt names_view result (named_by nodes.now (map (λ t. table_view t.now) links.now)) }
+    ensures { GivesAt names_view result (named_by nodes.now
+        (map (λ t. table_view t.now) links.now)) }
 {
     let links = links_of(alloc, nodes, links)?;
     let topology = at_spot(Spot::Top, topology_of(alloc, nodes, links))?;
@@ -58,6 +59,7 @@ fn named_by(alloc: Global, nodes: &[Named], links: &[&Table]) -> Result<Names, S
 fn named_in(alloc: Global, table: &Table) -> Result<Names, ScenarioFault>
     ensures { GivesAt names_view result (named_in (table_view table.now)) }
 {
+    // Keys that a scenario doesn't have are passed over here, since only nodes and links are asked for.
     let nodes = at_spot(Spot::Top, tables_at(alloc, table, Key::Node))?;
     let links = at_spot(Spot::Top, tables_at(alloc, table, Key::Link))?;
     let nodes = nodes_of(alloc, nodes.as_slice())?;

@@ -39,7 +39,8 @@ fn is_taken(nodes: &[Named], name: &str) -> bool
 
 /// The name of a node that follows others.
 fn new_name(alloc: Global, nodes: &[Named], table: &Table) -> Result<Name, What>
-    ensures { Gives (λ n. n) result (needed faults key.Name (new_name nodes.now) (table_view table.now)) }
+    ensures { Gives (λ n. n) result (needed faults key.Name (new_name nodes.now)
+        (table_view table.now)) }
 {
     let name = text(Key::Name, needed(table, Key::Name)?)?;
     if !is_name(name.as_bytes()) {
@@ -53,14 +54,16 @@ fn new_name(alloc: Global, nodes: &[Named], table: &Table) -> Result<Name, What>
 
 /// The address of a node.
 fn own_mac(table: &Table) -> Result<Mac, What>
-    ensures { Gives (λ m. m) result (needed faults key.Mac (word faults mac_of) (table_view table.now)) }
+    ensures { Gives (λ m. m) result (needed faults key.Mac (word faults mac_of)
+        (table_view table.now)) }
 {
     mac(Key::Mac, needed(table, Key::Mac)?)
 }
 
 /// The mode of a node.
 fn mode(table: &Table) -> Result<Mode, What>
-    ensures { Gives (λ m. m) result (optional faults key.Mode H (word faults mode_of) (table_view table.now)) }
+    ensures { Gives (λ m. m) result (optional faults key.Mode H (word faults mode_of)
+        (table_view table.now)) }
 {
     match value(table, Key::Mode) {
         None => Ok(Mode::H),
@@ -75,6 +78,7 @@ fn mode(table: &Table) -> Result<Mode, What>
 fn macs_of(texts: &[&str]) -> Option<ArrayVec<Mac, 16>>
     ensures { option_map (λ v. v.items) result ≡ macs_of (map (λ s. s.now) texts.now) }
 {
+    // The count comes first, so that the list below has room for all.
     if texts.len() > 16 {
         return None;
     }
@@ -116,6 +120,7 @@ const RING_KEYS: [Key; 4] = [Key::Name, Key::Role, Key::Mac, Key::Mode];
 fn danh(alloc: Global, nodes: &[Named], table: &Table) -> Result<Named, What>
     ensures { Gives (λ n. n) result (ring_node place.Danh nodes.now (table_view table.now)) }
 {
+    // Keys that the table doesn't have come before the values of those that it has (RULES, Scenarios).
     only(table, &RING_KEYS)?;
     let name = new_name(alloc, nodes, table)?;
     let mac = own_mac(table)?;
@@ -162,7 +167,8 @@ fn station(alloc: Global, nodes: &[Named], table: &Table) -> Result<Named, What>
 
 /// The role of a node.
 fn role(table: &Table) -> Result<Role, What>
-    ensures { Gives (λ r. r) result (needed faults key.Role (word faults role_of) (table_view table.now)) }
+    ensures { Gives (λ r. r) result (needed faults key.Role (word faults role_of)
+        (table_view table.now)) }
 {
     match Role::from_word(text(Key::Role, needed(table, Key::Role)?)?.as_bytes()) {
         Some(role) => Ok(role),
@@ -175,6 +181,7 @@ fn role(table: &Table) -> Result<Role, What>
 pub(crate) fn node(alloc: Global, nodes: &[Named], table: &Table) -> Result<Named, What>
     ensures { Gives (λ n. n) result (node_in nodes.now (table_view table.now)) }
 {
+    // The role comes first, since it says which keys the table may have.
     match role(table)? {
         Role::Danh => danh(alloc, nodes, table),
         Role::RedBox => redbox(alloc, nodes, table),

@@ -55,7 +55,8 @@ fn no_memory_at(spot: Spot) -> ScenarioFault
 /// The node of a table that follows others.
 #[tactic(auto, using(crate::proofs::Lists::spotted))]
 fn node_at(alloc: Global, nodes: &[Named], table: &Table) -> Result<Named, ScenarioFault>
-    ensures { GivesAt (λ n. n) result (at_spot (spot.Node (length nodes.now)) (node_in nodes.now (table_view table.now))) }
+    ensures { GivesAt (λ n. n) result (at_spot (spot.Node (length nodes.now))
+        (node_in nodes.now (table_view table.now))) }
 {
     at_spot(Spot::Node(nodes.len()), node(alloc, nodes, table))
 }
@@ -63,12 +64,14 @@ fn node_at(alloc: Global, nodes: &[Named], table: &Table) -> Result<Named, Scena
 /// The nodes of tables.
 #[tactic(auto, using(crate::proofs::Lists::nodes_step, crate::proofs::Lists::nodes_fail))]
 pub(crate) fn nodes_of(alloc: Global, tables: &[&Table]) -> Result<Vec<Named>, ScenarioFault>
-    ensures { GivesAt (λ v. v.items) result (each spot.Node node_in [] (map (λ t. table_view t.now) tables.now)) }
+    ensures { GivesAt (λ v. v.items) result
+        (each spot.Node node_in [] (map (λ t. table_view t.now) tables.now)) }
 {
     let mut nodes = Vec::new(alloc);
     for table in tables.iter() {
         match node_at(alloc, nodes.as_slice(), table) {
             Ok(node) => {
+                // The place of the fault is read before the push, which borrows the list.
                 let spot = Spot::Node(nodes.len());
                 nodes.push(node).or(Err(no_memory_at(spot)))?;
             }
@@ -86,7 +89,8 @@ fn link_at(
     number: usize,
     table: &Table,
 ) -> Result<[End; 2], ScenarioFault>
-    ensures { GivesAt (λ l. l) result (at_spot (spot.Link number) (link_in nodes.now (table_view table.now))) }
+    ensures { GivesAt (λ l. l) result (at_spot (spot.Link number)
+        (link_in nodes.now (table_view table.now))) }
 {
     at_spot(Spot::Link(number), link(alloc, nodes, table))
 }
@@ -98,7 +102,8 @@ pub(crate) fn links_of(
     nodes: &[Named],
     tables: &[&Table],
 ) -> Result<Vec<[End; 2]>, ScenarioFault>
-    ensures { GivesAt (λ v. v.items) result (each spot.Link (λ _. link_in nodes.now) [] (map (λ t. table_view t.now) tables.now)) }
+    ensures { GivesAt (λ v. v.items) result
+        (each spot.Link (λ _. link_in nodes.now) [] (map (λ t. table_view t.now) tables.now)) }
 {
     let mut links = Vec::new(alloc);
     for table in tables.iter() {
@@ -123,7 +128,8 @@ fn order_at(
     number: usize,
     table: &Table,
 ) -> Result<Order, ScenarioFault>
-    ensures { GivesAt (λ o. o) result (at_spot (spot.Step number) (order_in unit nodes.now links (table_view table.now))) }
+    ensures { GivesAt (λ o. o) result (at_spot (spot.Step number)
+        (order_in unit nodes.now links (table_view table.now))) }
 {
     at_spot(
         Spot::Step(number),
@@ -140,7 +146,9 @@ fn orders_of(
     links: usize,
     tables: &[&Table],
 ) -> Result<Vec<Order>, ScenarioFault>
-    ensures { GivesAt (λ v. v.items) result (each spot.Step (λ _. order_in unit nodes.now links) [] (map (λ t. table_view t.now) tables.now)) }
+    ensures { GivesAt (λ v. v.items) result
+        (each spot.Step (λ _. order_in unit nodes.now links) []
+        (map (λ t. table_view t.now) tables.now)) }
 {
     let mut orders = Vec::new(alloc);
     for table in tables.iter() {
@@ -197,7 +205,9 @@ fn with_steps(
 ) -> Result<Scenario, ScenarioFault>
     requires some { 1 ≤ capacity }
     requires most { capacity ≤ 4096 }
-    ensures { GivesAt scenario_view result (with_steps capacity unit topology nodes.now links (map (λ t. table_view t.now) step_tables.now)) }
+    ensures { GivesAt scenario_view result
+        (with_steps capacity unit topology nodes.now links
+        (map (λ t. table_view t.now) step_tables.now)) }
 {
     let steps = orders_of(alloc, unit, nodes, links, step_tables)?;
     Ok(Scenario {
@@ -219,9 +229,12 @@ fn joined(
 ) -> Result<Scenario, ScenarioFault>
     requires some { 1 ≤ capacity }
     requires most { capacity ≤ 4096 }
-    ensures { GivesAt scenario_view result (joined capacity unit nodes.now (map (λ t. table_view t.now) link_tables.now) (map (λ t. table_view t.now) step_tables.now)) }
+    ensures { GivesAt scenario_view result
+        (joined capacity unit nodes.now (map (λ t. table_view t.now) link_tables.now)
+        (map (λ t. table_view t.now) step_tables.now)) }
 {
     let links = links_of(alloc, nodes, link_tables)?;
+    // The links are moved into the topology, and steps name them by number.
     let count = links.len();
     let topology = at_spot(Spot::Top, topology_of(alloc, nodes, links))?;
     with_steps(alloc, capacity, unit, topology, nodes, count, step_tables)
@@ -239,7 +252,10 @@ fn content(
 ) -> Result<Scenario, ScenarioFault>
     requires some { 1 ≤ capacity }
     requires most { capacity ≤ 4096 }
-    ensures { GivesAt scenario_view result (content capacity unit (map (λ t. table_view t.now) node_tables.now) (map (λ t. table_view t.now) link_tables.now) (map (λ t. table_view t.now) step_tables.now)) }
+    ensures { GivesAt scenario_view result
+        (content capacity unit (map (λ t. table_view t.now) node_tables.now)
+        (map (λ t. table_view t.now) link_tables.now)
+        (map (λ t. table_view t.now) step_tables.now)) }
 {
     let nodes = nodes_of(alloc, node_tables)?;
     joined(
@@ -254,7 +270,8 @@ fn content(
 
 /// The capacity of a document.
 fn capacity(table: &Table) -> Result<usize, What>
-    ensures value { Gives (λ n. n) result (optional faults key.Capacity 64 (between faults 1 4096) (table_view table.now)) }
+    ensures value { Gives (λ n. n) result (optional faults key.Capacity 64 (between faults 1 4096)
+        (table_view table.now)) }
     ensures some { IfOk result (λ n. 1 ≤ n) }
     ensures most { IfOk result (λ n. n ≤ 4096) }
 {
@@ -264,7 +281,8 @@ fn capacity(table: &Table) -> Result<usize, What>
 
 /// The unit of the moments of a document.
 fn unit(table: &Table) -> Result<TimeUnit, What>
-    ensures { Gives (λ u. u) result (optional faults key.TimeUnit Milliseconds (word faults unit_of) (table_view table.now)) }
+    ensures { Gives (λ u. u) result (optional faults key.TimeUnit Milliseconds (word faults unit_of)
+        (table_view table.now)) }
 {
     match value(table, Key::TimeUnit) {
         None => Ok(TimeUnit::Milliseconds),
@@ -292,6 +310,7 @@ fn document(alloc: Global, table: &Table) -> Result<Scenario, ScenarioFault>
     at_spot(Spot::Top, only(table, &TOP_KEYS))?;
     let capacity = at_spot(Spot::Top, capacity(table))?;
     let unit = at_spot(Spot::Top, unit(table))?;
+    // All three lists are asked for before any table in them: a key of the wrong type is a fault at the top.
     let nodes = at_spot(Spot::Top, tables_at(alloc, table, Key::Node))?;
     let links = at_spot(Spot::Top, tables_at(alloc, table, Key::Link))?;
     let steps = at_spot(Spot::Top, tables_at(alloc, table, Key::Step))?;

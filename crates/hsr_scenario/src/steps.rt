@@ -42,6 +42,7 @@ pub enum Order {
 fn natural(number: i64) -> Option<u64>
     ensures { result ≡ natural number }
 {
+    // TOML has signed numbers.
     if number < 0 {
         return None;
     }
@@ -72,7 +73,8 @@ fn link_numbered(links: usize, number: i64) -> Option<usize>
 
 /// The link that a step names.
 fn used_link(links: usize, table: &Table) -> Result<usize, What>
-    ensures { Gives (λ n. n) result (needed faults key.Link (used_link links) (table_view table.now)) }
+    ensures { Gives (λ n. n) result (needed faults key.Link (used_link links)
+        (table_view table.now)) }
 {
     match link_numbered(links, integer(Key::Link, needed(table, Key::Link)?)?) {
         Some(link) => Ok(link),
@@ -82,7 +84,8 @@ fn used_link(links: usize, table: &Table) -> Result<usize, What>
 
 /// The direction of a step.
 fn dir(table: &Table) -> Result<Dir, What>
-    ensures { Gives (λ d. d) result (needed faults key.Dir (word faults dir_of) (table_view table.now)) }
+    ensures { Gives (λ d. d) result (needed faults key.Dir (word faults dir_of)
+        (table_view table.now)) }
 {
     match Dir::from_word(text(Key::Dir, needed(table, Key::Dir)?)?.as_bytes()) {
         Some(dir) => Ok(dir),
@@ -103,14 +106,16 @@ fn octets(alloc: Global, key: Key, value: &Value) -> Result<Octets, What>
 
 /// The octets of an inject.
 fn injected(alloc: Global, table: &Table) -> Result<Octets, What>
-    ensures { Gives (λ o. o) result (needed faults key.Octets (word faults octets_of) (table_view table.now)) }
+    ensures { Gives (λ o. o) result (needed faults key.Octets (word faults octets_of)
+        (table_view table.now)) }
 {
     octets(alloc, Key::Octets, needed(table, Key::Octets)?)
 }
 
 /// The destination of a send.
 fn destination(table: &Table) -> Result<Mac, What>
-    ensures { Gives (λ m. m) result (needed faults key.To (word faults mac_of) (table_view table.now)) }
+    ensures { Gives (λ m. m) result (needed faults key.To (word faults mac_of)
+        (table_view table.now)) }
 {
     mac(Key::To, needed(table, Key::To)?)
 }
@@ -125,14 +130,16 @@ fn pair(key: Key, value: &Value) -> Result<u16, What>
 
 /// The type of a send.
 fn kind(table: &Table) -> Result<u16, What>
-    ensures { Gives (λ n. n) result (needed faults key.Kind (between faults 0 65535) (table_view table.now)) }
+    ensures { Gives (λ n. n) result (needed faults key.Kind (between faults 0 65535)
+        (table_view table.now)) }
 {
     pair(Key::Kind, needed(table, Key::Kind)?)
 }
 
 /// The payload of a send.
 fn payload(alloc: Global, table: &Table) -> Result<Octets, What>
-    ensures { Gives (λ o. o) result (optional faults key.Payload [] (word faults octets_of) (table_view table.now)) }
+    ensures { Gives (λ o. o) result (optional faults key.Payload [] (word faults octets_of)
+        (table_view table.now)) }
 {
     match value(table, Key::Payload) {
         None => Ok(Octets::new(Vec::new(alloc))),
@@ -142,7 +149,8 @@ fn payload(alloc: Global, table: &Table) -> Result<Octets, What>
 
 /// The control information of a send's VLAN tag, if it has one.
 fn vlan(table: &Table) -> Result<Option<u16>, What>
-    ensures { Gives (λ v. v) result (optional faults key.Vlan None (perhaps (between faults 0 65535)) (table_view table.now)) }
+    ensures { Gives (λ v. v) result (optional faults key.Vlan None
+        (perhaps (between faults 0 65535)) (table_view table.now)) }
 {
     match value(table, Key::Vlan) {
         None => Ok(None),
@@ -155,7 +163,8 @@ fn vlan(table: &Table) -> Result<Option<u16>, What>
 
 /// The place of a send's source among the addresses of its node.
 fn from(table: &Table) -> Result<u8, What>
-    ensures { Gives (λ n. n) result (optional faults key.From 0 (between faults 0 15) (table_view table.now)) }
+    ensures { Gives (λ n. n) result (optional faults key.From 0 (between faults 0 15)
+        (table_view table.now)) }
 {
     let from = number_or(0, 0, 15, table, Key::From)?;
     Ok(from as u8)
@@ -163,7 +172,8 @@ fn from(table: &Table) -> Result<u8, What>
 
 /// The address that a supervision frame is about, if it isn't the node itself.
 fn about(table: &Table) -> Result<Option<Mac>, What>
-    ensures { Gives (λ m. m) result (optional faults key.About None (perhaps (word faults mac_of)) (table_view table.now)) }
+    ensures { Gives (λ m. m) result (optional faults key.About None (perhaps (word faults mac_of))
+        (table_view table.now)) }
 {
     match value(table, Key::About) {
         None => Ok(None),
@@ -176,6 +186,7 @@ fn about(table: &Table) -> Result<Option<Mac>, What>
 
 // ---- steps
 
+/// The moment is set.
 #[tactic(auto, unfolding(crate::specs::Steps::clock))]
 fn clock(unit: TimeUnit, table: &Table) -> Result<Step, What>
     ensures { Gives (λ s. s) result (clock unit (table_view table.now)) }
@@ -196,6 +207,7 @@ const SEND_KEYS: [Key; 7] = [
     Key::From,
 ];
 
+/// A node sends a frame of its own.
 #[tactic(auto, unfolding(crate::specs::Steps::send))]
 fn send(alloc: Global, nodes: &[Named], table: &Table) -> Result<Step, What>
     ensures { Gives (λ s. s) result (send nodes.now (table_view table.now)) }
@@ -217,6 +229,7 @@ fn send(alloc: Global, nodes: &[Named], table: &Table) -> Result<Step, What>
     })
 }
 
+/// A node sends a supervision frame.
 #[tactic(auto, unfolding(crate::specs::Steps::life))]
 fn life(nodes: &[Named], table: &Table) -> Result<Step, What>
     ensures { Gives (λ s. s) result (life nodes.now (table_view table.now)) }
@@ -235,6 +248,7 @@ fn life(nodes: &[Named], table: &Table) -> Result<Step, What>
     }
 }
 
+/// A node gives up what is expired.
 #[tactic(auto, unfolding(crate::specs::Steps::age))]
 fn age(nodes: &[Named], table: &Table) -> Result<Step, What>
     ensures { Gives (λ s. s) result (age nodes.now (table_view table.now)) }
@@ -244,6 +258,7 @@ fn age(nodes: &[Named], table: &Table) -> Result<Step, What>
     Ok(Step::Age { node })
 }
 
+/// The oldest copy in an outbox goes onto its link.
 #[tactic(auto, unfolding(crate::specs::Steps::at_port))]
 fn put(nodes: &[Named], table: &Table) -> Result<Step, What>
     ensures { Gives (λ s. s) result (at_port step.Put nodes.now (table_view table.now)) }
@@ -256,6 +271,7 @@ fn put(nodes: &[Named], table: &Table) -> Result<Step, What>
     })
 }
 
+/// A node judges what a port holds.
 #[tactic(auto, unfolding(crate::specs::Steps::at_port))]
 fn judge(nodes: &[Named], table: &Table) -> Result<Step, What>
     ensures { Gives (λ s. s) result (at_port step.Judge nodes.now (table_view table.now)) }
@@ -268,6 +284,7 @@ fn judge(nodes: &[Named], table: &Table) -> Result<Step, What>
     })
 }
 
+/// The oldest copy that waits in a direction comes into the hand.
 #[tactic(auto, unfolding(crate::specs::Steps::take))]
 fn take(links: usize, table: &Table) -> Result<Step, What>
     ensures { Gives (λ s. s) result (take links (table_view table.now)) }
@@ -278,6 +295,7 @@ fn take(links: usize, table: &Table) -> Result<Step, What>
     Ok(Step::Take { link, dir })
 }
 
+/// A link is cut.
 #[tactic(auto, unfolding(crate::specs::Steps::at_link))]
 fn cut(links: usize, table: &Table) -> Result<Step, What>
     ensures { Gives (λ s. s) result (at_link step.Cut links (table_view table.now)) }
@@ -287,6 +305,7 @@ fn cut(links: usize, table: &Table) -> Result<Step, What>
     Ok(Step::Cut { link })
 }
 
+/// A link is mended.
 #[tactic(auto, unfolding(crate::specs::Steps::at_link))]
 fn mend(links: usize, table: &Table) -> Result<Step, What>
     ensures { Gives (λ s. s) result (at_link step.Mend links (table_view table.now)) }
@@ -296,6 +315,7 @@ fn mend(links: usize, table: &Table) -> Result<Step, What>
     Ok(Step::Mend { link })
 }
 
+/// Octets that no port sent go onto a link.
 #[tactic(auto, unfolding(crate::specs::Steps::inject))]
 fn inject(alloc: Global, links: usize, table: &Table) -> Result<Step, What>
     ensures { Gives (λ s. s) result (inject links (table_view table.now)) }
@@ -307,6 +327,7 @@ fn inject(alloc: Global, links: usize, table: &Table) -> Result<Step, What>
     Ok(Step::Inject { link, dir, octets })
 }
 
+/// What is on its way is brought to its end.
 #[tactic(auto, unfolding(crate::specs::Steps::drain))]
 fn drain(table: &Table) -> Result<Order, What>
     ensures { Gives (λ o. o) result (drain (table_view table.now)) }
@@ -319,7 +340,8 @@ fn drain(table: &Table) -> Result<Order, What>
 
 /// What a step does.
 fn deed(table: &Table) -> Result<Deed, What>
-    ensures { Gives (λ d. d) result (needed faults key.Do (word faults deed_of) (table_view table.now)) }
+    ensures { Gives (λ d. d) result (needed faults key.Do (word faults deed_of)
+        (table_view table.now)) }
 {
     match deed_of(text(Key::Do, needed(table, Key::Do)?)?) {
         Some(deed) => Ok(deed),
@@ -374,6 +396,7 @@ pub(crate) fn order_in(
 ) -> Result<Order, What>
     ensures { Gives (λ o. o) result (order_in unit nodes.now links (table_view table.now)) }
 {
+    // `do` comes first, since it says which keys the table may have.
     let deed = deed(table)?;
     order_of(deed, alloc, unit, nodes, links, table)
 }

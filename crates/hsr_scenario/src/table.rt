@@ -14,6 +14,7 @@ pub(crate) fn only(table: &Table, keys: &[Key]) -> Result<(), What>
 {
     match other_key(table, keys) {
         None => Ok(()),
+        // Which key it is isn't told here: who writes the fault's line looks for it again in the text.
         Some(_) => Err(What::Unknown),
     }
 }

@@ -48,6 +48,7 @@ pub(crate) fn end_of(text: &[u8]) -> Option<(&[u8], u8)>
     let (name, rest) = split_at(text, b'.');
     match rest {
         Some([letter]) => {
+            // Any port's letter: whether the node has that port is asked when its role is known.
             if is_name(name) && is_port_letter(*letter) {
                 Some((name, *letter))
             } else {

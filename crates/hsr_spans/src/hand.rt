@@ -28,14 +28,17 @@ fn change(span: &mut Span, dir: Dir, hand: Option<Carried>) -> Option<Carried>
 /// Another hand where a port receives; the answer is what was in it. Where it receives nowhere nothing changes.
 pub fn change_hand(spans: &mut [Span], spot: Option<Spot>, hand: Option<Carried>) -> Option<Carried>
     ensures was { result ≡ hand_in (map span_view spans.old) (option_map spot_view spot) }
-    ensures now { map span_view spans.new ≡ with_hand hand (map span_view spans.old) (option_map spot_view spot) }
+    ensures now { map span_view spans.new ≡ with_hand hand (map span_view spans.old)
+        (option_map spot_view spot) }
 {
     match spot {
+        // The guard is for the index: a spot of another world changes nothing.
         Some(spot) if spot.link < spans.len() => change(&mut spans[spot.link], spot.dir, hand),
         _ => None,
     }
 }
 
+/// The hand of a direction is emptied, where it is that of this port.
 fn clear_lane(lane: &mut Lane, end: End)
     ensures { lane_view lane.new ≡ emptied end (lane_view lane.old) }
 {
@@ -44,6 +47,7 @@ fn clear_lane(lane: &mut Lane, end: End)
     }
 }
 
+/// The hands of this port are emptied in both directions.
 fn clear_span(span: &mut Span, end: End)
     ensures { span_view span.new ≡ emptied_span end span.old }
 {
@@ -56,6 +60,7 @@ pub fn clear(spans: &mut [Span], links: &[usize], end: End)
     requires { links.now ≡ touching_from end.node 0 (map span_view spans.old) }
     ensures { map span_view spans.new ≡ map (on_lanes (emptied end)) (map span_view spans.old) }
 {
+    // Only the links of the node: at all others the change does nothing.
     for link in links.iter() {
         clear_span(&mut spans[*link], end);
     }

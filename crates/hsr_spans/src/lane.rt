@@ -19,6 +19,7 @@ pub struct Lane {
     pub to: End,
     pub outbox: VecDeque<Carried>,
     pub hand: Option<Carried>,
+    // Kept apart from the outbox, so that a copy finds room once its node has done the step.
     pub room: Vec<u8>,
 }
 
@@ -42,6 +43,7 @@ fn fitted(alloc: Global, room: &mut Vec<u8>, copy: &Spelled<'_>) -> Octets
 {
     match Octets::from_spelled(alloc, copy) {
         Ok(fit) => fit,
+        // A refused fit is no fault: `prepare_lane` made room for the longest frame.
         Err(_refused) => Octets::spelled_in(mem::replace(room, Vec::new(alloc)), copy),
     }
 }
@@ -50,7 +52,8 @@ fn fitted(alloc: Global, room: &mut Vec<u8>, copy: &Spelled<'_>) -> Octets
 fn add_copy(alloc: Global, lane: &mut Lane, place: &Place, here: Probe, entry: &Entry)
     requires node { lane.old.from.node ≡ here.node }
     requires ready { IsReady here.node lane.old }
-    ensures { lane_view lane.new ≡ given_lane place.now (receipt_of here entry.now) (lane_view lane.old) }
+    ensures { lane_view lane.new ≡ given_lane place.now (receipt_of here entry.now)
+        (lane_view lane.old) }
 {
     let Some(copy) = spelled_out(place, &entry.event, &entry.outcome, lane.from.port) else {
         return;
@@ -59,6 +62,7 @@ fn add_copy(alloc: Global, lane: &mut Lane, place: &Place, here: Probe, entry: &
         probe: entry.event.probe(here),
         octets: fitted(alloc, &mut lane.room, &copy),
     };
+    // `prepare_lane` made room for one more.
     let Ok(()) = lane.outbox.push_back(carried) else {
         unreachable!()
     };
@@ -67,7 +71,8 @@ fn add_copy(alloc: Global, lane: &mut Lane, place: &Place, here: Probe, entry: &
 /// The copy that leaves by a lane joins its outbox, if the lane is one of its node; `here` names the entry.
 pub(crate) fn commit_lane(alloc: Global, lane: &mut Lane, place: &Place, here: Probe, entry: &Entry)
     requires { IsReady here.node lane.old }
-    ensures { lane_view lane.new ≡ given_lane place.now (receipt_of here entry.now) (lane_view lane.old) }
+    ensures { lane_view lane.new ≡ given_lane place.now (receipt_of here entry.now)
+        (lane_view lane.old) }
 {
     if lane.from.node == here.node {
         add_copy(alloc, lane, place, here, entry);

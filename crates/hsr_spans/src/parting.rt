@@ -1,4 +1,6 @@
 //! Links apart from their rows, and with them again.
+//!
+//! A world that is closed hands its rows over and gets them back if it isn't finished. So they are moved, and not copied.
 ghost use Rattle.std.specs.Prelude.{◌≡◌, ◌≤◌, [], IfErr, IfOk, map, vec_capacity, vec_len};
 ghost use Rattle.hsr_link.specs.Parts.{link_of, queues_of};
 ghost use Rattle.hsr_closing.specs.Finished.{items_of};
@@ -23,6 +25,7 @@ pub struct Bare {
 pub struct Parted {
     pub rows: Vec<Vec<Row>>,
     pub bares: Vec<Bare>,
+    // Made before any link is taken apart, so that the way back needs no memory.
     pub home: Vec<Span>,
 }
 
@@ -60,13 +63,16 @@ fn whole(rows: Vec<Row>, bare: Bare) -> Span
 
 /// Moves the rows of each link, and all else.
 fn part_into(spans: Vec<Span>, rows: &mut Vec<Vec<Row>>, bares: &mut Vec<Bare>)
-    requires rows { (rows.old.items ≡ []) × (vec_len rows.old ≡ 0) × (vec_len spans ≤ vec_capacity rows.old) }
-    requires bares { (bares.old.items ≡ []) × (vec_len bares.old ≡ 0) × (vec_len spans ≤ vec_capacity bares.old) }
+    requires rows { (rows.old.items ≡ []) × (vec_len rows.old ≡ 0)
+        × (vec_len spans ≤ vec_capacity rows.old) }
+    requires bares { (bares.old.items ≡ []) × (vec_len bares.old ≡ 0)
+        × (vec_len spans ≤ vec_capacity bares.old) }
     ensures rows { map items_of rows.new.items ≡ map rows_in (map span_view spans.items) }
     ensures bares { map bare_view bares.new.items ≡ map bare_of (map span_view spans.items) }
     ensures len { vec_len bares.new ≡ vec_len spans }
 {
     let mut rest = spans.into_iter();
+    // Links are moved out one by one: each is used up, and both lists have room already.
     while let Some(span) = rest.next() {
         let (own, bare) = part_of(span);
         rows.push_reserved(own);
@@ -97,12 +103,14 @@ pub fn part(alloc: Global, spans: Vec<Span>) -> Result<Parted, Vec<Span>>
 pub fn join(rows: Vec<Vec<Row>>, bares: Vec<Bare>, home: Vec<Span>) -> Vec<Span>
     requires whole { AreWhole (map items_of rows.items) (map bare_view bares.items) }
     requires room { (home.items ≡ []) × (vec_len home ≡ 0) × (vec_len bares ≤ vec_capacity home) }
-    ensures { map span_view result.items ≡ joined (map items_of rows.items) (map bare_view bares.items) }
+    ensures { map span_view result.items ≡ joined (map items_of rows.items)
+        (map bare_view bares.items) }
 {
     let mut spans = home;
     let mut of_links = rows.into_iter();
     let mut rest = bares.into_iter();
     while let Some(bare) = rest.next() {
+        // There are as many rows as links, by the first clause.
         let Some(rows) = of_links.next() else {
             unreachable!()
         };

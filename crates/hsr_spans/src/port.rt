@@ -37,6 +37,7 @@ pub fn port_fault<const C: usize>(nodes: &[Kept<C>], node: usize, port: u8) -> O
 }
 
 /// Where the port at an end receives.
+/// None where no link ends there.
 fn find_into(spans: &[Span], end: End) -> Option<Spot>
     ensures { option_map spot_view result ≡ spot_to end 0 (map span_view spans.now) }
 {
@@ -78,6 +79,7 @@ fn port_if(fault: Option<WorldFault>, spans: &[Span], end: End) -> Port
 fn port_at<const C: usize>(nodes: &[Kept<C>], spans: &[Span], number: usize) -> Port
     ensures { result ≡ port_at (places_of nodes.now) (map span_view spans.now) number }
 {
+    // 8 numbers for each node, though none has over 4 ports: so a division tells node and port.
     let node = number / 8;
     let port = (number % 8) as u8;
     port_if(port_fault(nodes, node, port), spans, End { node, port })
@@ -90,7 +92,8 @@ pub fn new_ports<const C: usize>(
     spans: &[Span],
 ) -> Result<Vec<Port>, NoMemory>
     requires { length nodes.now ≤ 64 }
-    ensures { IfOk result (λ all. all.items ≡ ports_in (places_of nodes.now) (map span_view spans.now)) }
+    ensures { IfOk result (λ all. all.items
+        ≡ ports_in (places_of nodes.now) (map span_view spans.now)) }
 {
     let mut all = Vec::new(alloc);
     for number in 0..8 * nodes.len() {
@@ -116,6 +119,7 @@ pub fn port_in(ports: &[Port], number: usize) -> Port
 pub fn port_of(ports: &[Port], end: End) -> Port
     ensures { result ≡ port_of ports.now end }
 {
+    // Past these the number would be another port's, or overflow.
     if end.node < 64 && end.port < 8 {
         port_in(ports, 8 * end.node + usize::from(end.port))
     } else {

@@ -31,6 +31,7 @@ pub fn cut_at(spans: &mut [Span], link: usize)
     requires { link < length spans.old }
     ensures { map span_view spans.new ≡ on_span cut_span link (map span_view spans.old) }
 {
+    // How many were lost isn't told here: each has a row that says so.
     let _lost = spans[link].link.cut();
 }
 
@@ -44,17 +45,22 @@ pub fn inject_at(
     octets: &Octets,
 ) -> Result<(), WorldFault>
     requires { link < length spans.old }
-    ensures ok { OnOk result (map span_view spans.new ≡ on_span (inject_span dir octets.now) link (map span_view spans.old)) }
-    ensures err { IfErr result (λ f. (map span_view spans.new ≡ map span_view spans.old) × (f ≡ NoMemory)) }
+    ensures ok { OnOk result (map span_view spans.new
+        ≡ on_span (inject_span dir octets.now) link (map span_view spans.old)) }
+    ensures err { IfErr result (λ f. (map span_view spans.new ≡ map span_view spans.old)
+        × (f ≡ NoMemory)) }
 {
+    // A copy, since the step is borrowed and the row keeps its octets.
     let Ok(octets) = Octets::from_slice(alloc, octets.as_slice()) else {
         return Err(WorldFault::NoMemory);
     };
     let carried = Carried {
+        // No port sent it, so it is of no send.
         probe: None,
         octets,
     };
     match spans[link].link.inject(dir, carried) {
+        // A copy that is lost at once is no refusal: its row tells its fate.
         Ok(_fate) => Ok(()),
         Err(_refused) => Err(WorldFault::NoMemory),
     }
@@ -62,9 +68,13 @@ pub fn inject_at(
 
 /// The oldest copy that waits in a direction comes into the hand.
 fn take_into(link: &mut Link, lane: &mut Lane, dir: Dir) -> Result<(), WorldFault>
-    ensures ok { OnOk result (take_lane dir link.old (lane_view lane.old) ≡ Ok (link.new, lane_view lane.new)) }
-    ensures err { IfErr result (λ f. (link.new ≡ link.old) × (lane_view lane.new ≡ lane_view lane.old) × (take_lane dir link.old (lane_view lane.old) ≡ Err f)) }
+    ensures ok { OnOk result (take_lane dir link.old (lane_view lane.old)
+        ≡ Ok (link.new, lane_view lane.new)) }
+    ensures err { IfErr result (λ f. (link.new ≡ link.old)
+        × (lane_view lane.new ≡ lane_view lane.old)
+        × (take_lane dir link.old (lane_view lane.old) ≡ Err f)) }
 {
+    // `Busy` comes before `Nothing`, and before the queue is touched, so that a refusal changes nothing.
     if lane.hand.is_some() {
         return Err(WorldFault::Busy);
     }
@@ -75,9 +85,11 @@ fn take_into(link: &mut Link, lane: &mut Lane, dir: Dir) -> Result<(), WorldFaul
     Ok(())
 }
 
+/// The oldest copy that waits in a direction of a link comes into the hand there. `Busy`, then `Nothing`: nothing changes.
 fn take(span: &mut Span, dir: Dir) -> Result<(), WorldFault>
     ensures ok { OnOk result (take_span dir (span_view span.old) ≡ Ok (span_view span.new)) }
-    ensures err { IfErr result (λ f. (span_view span.new ≡ span_view span.old) × (take_span dir (span_view span.old) ≡ Err f)) }
+    ensures err { IfErr result (λ f. (span_view span.new ≡ span_view span.old)
+        × (take_span dir (span_view span.old) ≡ Err f)) }
 {
     match dir {
         Dir::Forth => take_into(&mut span.link, &mut span.forth, Dir::Forth),
@@ -89,23 +101,30 @@ fn take(span: &mut Span, dir: Dir) -> Result<(), WorldFault>
 /// hand isn't empty, `Nothing` where no copy waits; then nothing changes.
 pub fn take_at(spans: &mut [Span], link: usize, dir: Dir) -> Result<(), WorldFault>
     requires { link < length spans.old }
-    ensures ok { OnOk result (take_spans dir link (map span_view spans.old) ≡ Ok (map span_view spans.new)) }
-    ensures err { IfErr result (λ f. (map span_view spans.new ≡ map span_view spans.old) × (take_spans dir link (map span_view spans.old) ≡ Err f)) }
+    ensures ok { OnOk result (take_spans dir link (map span_view spans.old)
+        ≡ Ok (map span_view spans.new)) }
+    ensures err { IfErr result (λ f. (map span_view spans.new ≡ map span_view spans.old)
+        × (take_spans dir link (map span_view spans.old) ≡ Err f)) }
 {
     take(&mut spans[link], dir)
 }
 
 /// The oldest copy of the outbox goes onto the link.
 fn put_from(link: &mut Link, lane: &mut Lane, dir: Dir) -> Result<(), WorldFault>
-    ensures ok { OnOk result (put_lane dir link.old (lane_view lane.old) ≡ Ok (link.new, lane_view lane.new)) }
-    ensures err { IfErr result (λ f. (link.new ≡ link.old) × (lane_view lane.new ≡ lane_view lane.old) × ((f ≡ NoMemory) ⊎ (put_lane dir link.old (lane_view lane.old) ≡ Err f))) }
+    ensures ok { OnOk result (put_lane dir link.old (lane_view lane.old)
+        ≡ Ok (link.new, lane_view lane.new)) }
+    ensures err { IfErr result (λ f. (link.new ≡ link.old)
+        × (lane_view lane.new ≡ lane_view lane.old)
+        × ((f ≡ NoMemory) ⊎ (put_lane dir link.old (lane_view lane.old) ≡ Err f))) }
 {
+    // The copy is moved out and not copied; where room is refused it goes back to the front, into the place that it left.
     let Some(copy) = lane.outbox.pop_front() else {
         return Err(WorldFault::Nothing);
     };
     match link.put(dir, copy) {
         Ok(_fate) => Ok(()),
         Err((copy, _refused)) => {
+            // Its own place is free again.
             let Ok(()) = lane.outbox.push_front(copy) else {
                 unreachable!()
             };
@@ -114,9 +133,11 @@ fn put_from(link: &mut Link, lane: &mut Lane, dir: Dir) -> Result<(), WorldFault
     }
 }
 
+/// The oldest copy of the outbox of a direction goes onto the link. `Nothing`, or `NoMemory`: nothing changes.
 fn put(span: &mut Span, dir: Dir) -> Result<(), WorldFault>
     ensures ok { OnOk result (put_span dir (span_view span.old) ≡ Ok (span_view span.new)) }
-    ensures err { IfErr result (λ f. (span_view span.new ≡ span_view span.old) × ((f ≡ NoMemory) ⊎ (put_span dir (span_view span.old) ≡ Err f))) }
+    ensures err { IfErr result (λ f. (span_view span.new ≡ span_view span.old)
+        × ((f ≡ NoMemory) ⊎ (put_span dir (span_view span.old) ≡ Err f))) }
 {
     match dir {
         Dir::Forth => put_from(&mut span.link, &mut span.forth, Dir::Forth),
@@ -128,8 +149,10 @@ fn put(span: &mut Span, dir: Dir) -> Result<(), WorldFault>
 /// for the copy is refused; then nothing changes.
 pub(crate) fn put_at(spans: &mut [Span], link: usize, dir: Dir) -> Result<(), WorldFault>
     requires { link < length spans.old }
-    ensures ok { OnOk result (put_spans dir link (map span_view spans.old) ≡ Ok (map span_view spans.new)) }
-    ensures err { IfErr result (λ f. (map span_view spans.new ≡ map span_view spans.old) × ((f ≡ NoMemory) ⊎ (put_spans dir link (map span_view spans.old) ≡ Err f))) }
+    ensures ok { OnOk result (put_spans dir link (map span_view spans.old)
+        ≡ Ok (map span_view spans.new)) }
+    ensures err { IfErr result (λ f. (map span_view spans.new ≡ map span_view spans.old)
+        × ((f ≡ NoMemory) ⊎ (put_spans dir link (map span_view spans.old) ≡ Err f))) }
 {
     put(&mut spans[link], dir)
 }

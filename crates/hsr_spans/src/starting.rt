@@ -11,6 +11,7 @@ use hsr_topology::End;
 use std::alloc::Global;
 use std::collections::VecDeque;
 
+/// A direction from one port to another, with an empty outbox and an empty hand.
 fn new_lane(alloc: Global, from: End, to: End) -> Lane
     ensures { lane_view result ≡ new_lane from to }
 {
@@ -23,6 +24,7 @@ fn new_lane(alloc: Global, from: End, to: End) -> Lane
     }
 }
 
+/// A link with nothing on it, and its two directions.
 fn new_span(alloc: Global, capacity: usize, link: &[End; 2]) -> Result<Span, NoMemory>
     requires { (1 ≤ capacity) × (capacity ≤ 4096) }
     ensures { IfOk result (λ span. span_view span ≡ new_span capacity link.now) }

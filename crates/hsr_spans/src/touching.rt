@@ -11,6 +11,7 @@ use std::alloc::Global;
 fn touches(span: &Span, node: usize) -> bool
     ensures { result ≡ touches node (span_view span.now) }
 {
+    // All four ends are asked, since no clause says here that the way back has the same ends.
     span.forth.from.node == node
         || span.forth.to.node == node
         || span.back.from.node == node
@@ -37,7 +38,8 @@ pub fn new_touching(
     nodes: usize,
     spans: &[Span],
 ) -> Result<Vec<Vec<usize>>, NoMemory>
-    ensures { IfOk result (λ all. map (λ links. links.items) all.items ≡ touching_in nodes (map span_view spans.now)) }
+    ensures { IfOk result (λ all. map (λ links. links.items) all.items
+        ≡ touching_in nodes (map span_view spans.now)) }
 {
     let mut all = Vec::new(alloc);
     for node in 0..nodes {

@@ -1,4 +1,8 @@
 //! The steps of a world, and why one is refused.
+//!
+//! Its modules, in the order in which to read them:
+//! - `step`: what may happen in a world, and why it doesn't
+//! - `refusal`: why a step is refused or a drain doesn't end, as a word
 #![tactic(auto)]
 
 mod refusal;

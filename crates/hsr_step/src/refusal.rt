@@ -10,6 +10,7 @@ impl fmt::Display for WorldFault {
 
     fn fmt<W: fmt::Write>(&self, f: &mut fmt::Formatter<W>) -> fmt::Result {
         match self {
+            // No scenario reaches the first three, nor `memory`: a fault's line has a word for each all the same.
             WorldFault::NoSuchNode => write!(f, "no-such-node"),
             WorldFault::NoSuchLink => write!(f, "no-such-link"),
             WorldFault::NoSuchPort => write!(f, "no-such-port"),

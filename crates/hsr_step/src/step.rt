@@ -62,6 +62,7 @@ pub enum Step {
     },
 }
 
+// `NoMemory` stands last, though it may come at any point: no clause says when memory is refused.
 /// Why a step is refused, in the order in which the reasons are tried.
 #[derive(Clone, Copy, Debug, PartialEq, Eq)]
 pub enum WorldFault {
@@ -84,6 +85,7 @@ pub enum WorldFault {
 }
 
 /// Why a drain ends early.
+/// The steps before it stand.
 #[derive(Clone, Copy, Debug, PartialEq, Eq)]
 pub enum DrainFault {
     /// As many steps as allowed were done, and something is left.

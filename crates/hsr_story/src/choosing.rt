@@ -37,6 +37,7 @@ pub fn check_choice<const C: usize>(closed: &Closed<C>, choice: Choice) -> Resul
     if let Some(link) = choice.link
         && link >= closed.topology().links().len()
     {
+        // A fault and no empty answer: a slip of the pen isn't to look like a quiet link.
         return Err(ChoiceFault::NoLink);
     }
     match choice.send {
@@ -80,7 +81,8 @@ pub fn is_wanted<const C: usize>(closed: &Closed<C>, choice: Choice, shown: &Sho
 
 /// Puts a row last, if it is wanted.
 fn add_if(rows: &mut Vec<Shown>, is_wanted: bool, row: Shown) -> Result<(), NoMemory>
-    ensures { OnOk result (rows.new.items ≡ rows.old.items ++ (if is_wanted then row ∷ [] else [])) }
+    ensures { OnOk result (rows.new.items ≡ rows.old.items
+        ++ (if is_wanted then row ∷ [] else [])) }
 {
     if is_wanted {
         rows.push(row)?;
@@ -98,7 +100,9 @@ pub fn chosen<const C: usize>(
     ensures { IfOk result (λ list. list.items ≡ filter (is_wanted closed.now.run choice) rows.now) }
 {
     let mut list = Vec::new(alloc);
+    // The index is used by the loop's invariant alone.
     for (i, row) in rows.iter().enumerate() {
+        // A filter of the list, so that a part has the order and the moments of the whole.
         add_if(&mut list, is_wanted(closed, choice, row), *row)?;
     }
     Ok(list)

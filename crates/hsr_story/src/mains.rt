@@ -28,6 +28,7 @@ fn main_places(alloc: Global, entries: &[Entry]) -> Result<Vec<usize>, NoMemory>
 }
 
 /// Puts the places of one more record last.
+/// In a function of its own: so the loop's proof has one clause about the list.
 fn add_record(records: &mut Vec<Vec<usize>>, places: Vec<usize>) -> Result<(), NoMemory>
     ensures { OnOk result (records.new.items ≡ records.old.items ++ places ∷ []) }
 {
@@ -41,7 +42,8 @@ fn all_places<const C: usize>(
     closed: &Closed<C>,
 ) -> Result<Vec<Vec<usize>>, NoMemory>
     ensures finished { IsFinished closed.now }
-    ensures places { IfOk result (λ records. lists_of records.items ≡ map mains_of closed.now.run.records) }
+    ensures places { IfOk result (λ records.
+        lists_of records.items ≡ map mains_of closed.now.run.records) }
 {
     let mut records = Vec::new(alloc);
     for node in 0..closed.topology().places().len() {
@@ -78,7 +80,9 @@ pub(crate) fn main_pairs<const C: usize>(
     let mut counts = Places::new(alloc);
     let mut pairs = Vec::new(alloc);
     let mut before = None;
+    // The index is used by the loop's invariant alone.
     for (i, x) in plan.iter().enumerate() {
+        // The plan names nodes and no places: the k-th of a node is the k-th entry of worker 0 in its record.
         let count = counts.at(x.node);
         let entry = main_by(records.as_slice(), x.node, count);
         list_pair(&mut pairs, entry, before)?;

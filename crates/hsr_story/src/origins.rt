@@ -21,7 +21,9 @@ fn add(
     spot: Spot,
     entry: &Entry,
 ) -> Result<(), NoMemory>
-    ensures { OnOk result (origins.new.items ≡ origins.old.items ++ origin_at (value_of planned.now) (value_of passed.now) spot entry.now ∷ []) }
+    ensures { OnOk result (origins.new.items
+        ≡ origins.old.items ++ origin_at (value_of planned.now)
+        (value_of passed.now) spot entry.now ∷ []) }
 {
     origins.push(Origin {
         at: entry.at,
@@ -39,7 +41,8 @@ fn origins_of(
     node: usize,
     entries: &[Entry],
 ) -> Result<Vec<Origin>, NoMemory>
-    ensures { IfOk result (λ origins. origins.items ≡ origins_from (value_of planned.now) (value_of passed.now) node 0 entries.now) }
+    ensures { IfOk result (λ origins. origins.items
+        ≡ origins_from (value_of planned.now) (value_of passed.now) node 0 entries.now) }
 {
     let mut origins = Vec::new(alloc);
     for (i, entry) in entries.iter().enumerate() {
@@ -64,10 +67,13 @@ pub(crate) fn all_origins<const C: usize>(
     planned: &Causes,
     passed: &Causes,
 ) -> Result<Vec<Vec<Origin>>, NoMemory>
-    ensures { IfOk result (λ records. lists_of records.items ≡ origins_below closed.now.run (value_of planned.now) (value_of passed.now) (length closed.now.run.places)) }
+    ensures { IfOk result (λ records. lists_of records.items
+        ≡ origins_below closed.now.run (value_of planned.now) (value_of passed.now)
+        (length closed.now.run.places)) }
 {
     let mut records = Vec::new(alloc);
     for node in 0..closed.topology().places().len() {
+        // One record at a time, so that a function owns one list that it may have to drop.
         let origins = origins_of(alloc, planned, passed, node, closed.entries(node))?;
         add_record(&mut records, origins)?;
     }

@@ -23,8 +23,11 @@ pub(crate) fn cause_of(causes: &Causes, spot: Spot) -> Option<Spot>
 
 /// Keeps one more pair; the last of an effect counts.
 fn keep(causes: &mut Causes, effect: Spot, cause: Spot) -> Result<(), NoMemory>
-    ensures { OnOk result ((other : spec.Spot) → value_of causes.new other ≡ (if is_spot effect other then Some cause else value_of causes.old other)) }
+    ensures { OnOk result ((other : spec.Spot)
+        → value_of causes.new other ≡ (if is_spot effect other then Some cause
+        else value_of causes.old other)) }
 {
+    // The older cause, if there is one, is let go: the last of an effect counts.
     match causes.insert((effect.node, effect.place), cause) {
         Ok(_) => Ok(()),
         Err(_) => Err(NoMemory),
@@ -33,9 +36,11 @@ fn keep(causes: &mut Causes, effect: Spot, cause: Spot) -> Result<(), NoMemory>
 
 /// The cause of each effect of some pairs.
 pub(crate) fn causes_of(alloc: Global, pairs: &[(Spot, Spot)]) -> Result<Causes, NoMemory>
-    ensures { IfOk result (λ causes. (spot : spec.Spot) → value_of causes spot ≡ cause_in pairs.now spot) }
+    ensures { IfOk result (λ causes. (spot : spec.Spot)
+        → value_of causes spot ≡ cause_in pairs.now spot) }
 {
     let mut causes = IndexMap::new(alloc);
+    // The index is used by the loop's invariant alone.
     for (i, pair) in pairs.iter().enumerate() {
         keep(&mut causes, pair.0, pair.1)?;
     }
@@ -48,7 +53,8 @@ pub(crate) fn list_pair(
     effect: Option<Spot>,
     cause: Option<Spot>,
 ) -> Result<(), NoMemory>
-    ensures { OnOk result (pairs.new.items ≡ pairs.old.items ++ cons_option (pair_of effect cause) []) }
+    ensures { OnOk result (pairs.new.items
+        ≡ pairs.old.items ++ cons_option (pair_of effect cause) []) }
 {
     let (Some(effect), Some(cause)) = (effect, cause) else {
         return Ok(());
@@ -62,6 +68,7 @@ pub(crate) fn hop_pairs(alloc: Global, hops: &[Hop]) -> Result<Vec<(Spot, Spot)>
     ensures { IfOk result (λ pairs. pairs.items ≡ filter_map hop_pair hops.now) }
 {
     let mut pairs = Vec::new(alloc);
+    // The index is used by the loop's invariant alone.
     for (i, hop) in hops.iter().enumerate() {
         list_pair(&mut pairs, hop.judged, hop.passed)?;
     }

@@ -27,6 +27,7 @@ pub enum StoryFault {
     NoMemory,
 }
 
+// `from_gives` says which fault `?` makes, so that no clause takes want of memory for a circle.
 impl From<NoMemory> for StoryFault {
     ghost use Rattle.std.specs.Prelude.{◌≡◌};
     ghost use Rattle.hsr_story.specs.declared.telling.StoryFault.TheVariants.{NoMemory as NoRoom};
@@ -42,6 +43,7 @@ impl From<NoMemory> for StoryFault {
 fn shown_at(times: &[Vec<Time>], hop: &Hop) -> Option<Shown>
     ensures { result ≡ shown_at (at_spot (lists_of times.now)) hop.now }
 {
+    // A lost copy was judged by none, so it stands where it was passed.
     let spot = hop.judged.or(hop.passed)?;
     let time = time_at(times, spot)?;
     Some(Shown {
@@ -65,10 +67,13 @@ fn add(rows: &mut Vec<Shown>, row: Shown) -> Result<(), NoMemory>
 
 /// Where the rows of hops stand, one after another.
 fn all_shown(alloc: Global, times: &[Vec<Time>], hops: &[Hop]) -> Result<Vec<Shown>, StoryFault>
-    ensures shown { IfOk result (λ rows. AreShown (at_spot (lists_of times.now)) hops.now rows.items) }
-    ensures circle { IfErr result (IfCircle ((rows : List spec.Shown) → AreShown (at_spot (lists_of times.now)) hops.now rows → ⊥)) }
+    ensures shown { IfOk result (λ rows. AreShown
+        (at_spot (lists_of times.now)) hops.now rows.items) }
+    ensures circle { IfErr result (IfCircle
+        ((rows : List spec.Shown) → AreShown (at_spot (lists_of times.now)) hops.now rows → ⊥)) }
 {
     let mut rows = Vec::new(alloc);
+    // The index is used by the loop's invariant alone.
     for (i, hop) in hops.iter().enumerate() {
         let Some(row) = shown_at(times, hop) else {
             return Err(StoryFault::Circle);
@@ -83,6 +88,7 @@ fn sort(rows: &mut Vec<Shown>)
     ensures rise { IsSorted shown_cmp rows.new.items }
     ensures same { IsPermutation rows.old.items rows.new.items }
 {
+    // No two rows are equal, since link and number are part of them: so the order is one.
     rows.sort_unstable();
 }
 
@@ -93,7 +99,8 @@ fn origins<const C: usize>(
     list: &[Hop],
 ) -> Result<Vec<Vec<Origin>>, NoMemory>
     requires { list.now ≡ hops closed.now.run }
-    ensures { IfOk result (λ records. lists_of records.items ≡ origins closed.now.run closed.now.plan) }
+    ensures { IfOk result (λ records. lists_of records.items
+        ≡ origins closed.now.run closed.now.plan) }
 {
     let mains = main_pairs(alloc, closed)?;
     let planned = causes_of(alloc, mains.as_slice())?;
@@ -104,7 +111,8 @@ fn origins<const C: usize>(
 
 /// The times of all entries.
 fn times_of(alloc: Global, origins: &[Vec<Origin>]) -> Result<Vec<Vec<Time>>, StoryFault>
-    ensures times { IfOk result (λ times. AreTimes (lists_of origins.now) (at_spot (lists_of times.items))) }
+    ensures times { IfOk result (λ times. AreTimes (lists_of origins.now)
+        (at_spot (lists_of times.items))) }
     ensures circle { IfErr result (IfCircle (HasNoTimes (lists_of origins.now))) }
 {
     match times(alloc, origins) {
@@ -138,7 +146,8 @@ pub fn entry_times<const C: usize>(
     alloc: Global,
     closed: &Closed<C>,
 ) -> Result<Vec<Vec<Time>>, StoryFault>
-    ensures times { IfOk result (λ times. AreTimes (origins closed.now.run closed.now.plan) (at_spot (lists_of times.items))) }
+    ensures times { IfOk result (λ times. AreTimes (origins closed.now.run closed.now.plan)
+        (at_spot (lists_of times.items))) }
     ensures circle { IfErr result (IfCircle (HasNoTimes (origins closed.now.run closed.now.plan))) }
 {
     let hops = hops(alloc, closed)?;

@@ -1,4 +1,20 @@
 //! The payload of a supervision frame.
+//!
+//! A payload, with offsets in octets (IEC 62439-3 clause 5.7; the sizes are this profile's). Without a RedBox the zeros
+//! begin at 12:
+//!
+//! ```text
+//! offset  octets
+//!  0      2   path (upper 4 bits), version (lower 12 bits)
+//!  2      2   supervision sequence number, the high octet first
+//!  4      1   TLV1 type: 20 or 21 (PRP), 23 (HSR)
+//!  5      1   TLV1 length: 6
+//!  6      6   address of the node that the frame is about
+//! 12      1   TLV type: 30, a RedBox
+//! 13      1   TLV length: 6
+//! 14      6   address of the RedBox
+//! 20      26  zeros up to 46 octets: the first two are the end TLV, of type 0
+//! ```
 ghost use Rattle.std.specs.Prelude.{[], ◌∷◌, ◌≡◌, ◌==◌, ◌<◌, ◌≤◌, length, take, drop, if◌then◌else◌, IfErr, IfNone, IfOk, IfSome};
 ghost use Rattle.hsr_supervision.specs.Payload.{Fields, IsSaid, kind_code, kind_of, lacks_address, name_len, onto, read_of, redbox_among, redbox_type, result_map, spelling, tlvs_past};
 
@@ -95,6 +111,7 @@ const FIRST_LEN: usize = 12;
 /// The shortest payload (IEC 62439-3 clause 5.7).
 pub const MIN_PAYLOAD: usize = 46;
 
+// Both numbers of zeros are constants, since an array of zeros needs its length as one.
 /// The zeros behind TLV1.
 const ZEROS: usize = MIN_PAYLOAD - FIRST_LEN;
 
@@ -137,18 +154,23 @@ struct FirstTlv<'a> {
 fn first_tlv(octets: &[u8]) -> Result<Option<FirstTlv<'_>>, SupFault>
     ensures fault { IfErr result (λ e. tlvs_past 0 octets.now ≡ Err e) }
     ensures end { IfOk result (λ o. IfNone o (tlvs_past 0 octets.now ≡ Ok [])) }
-    ensures tlv { IfOk result (λ o. IfSome o (λ t. tlvs_past 0 octets.now ≡ onto t.kind t.value.now (tlvs_past 0 t.behind.now))) }
-    ensures redbox { IfOk result (λ o. IfSome o (λ t. t.kind ≡ redbox_type → length t.value.now ≡ name_len)) }
+    ensures tlv { IfOk result (λ o. IfSome o
+        (λ t. tlvs_past 0 octets.now ≡ onto t.kind t.value.now (tlvs_past 0 t.behind.now))) }
+    ensures redbox { IfOk result (λ o. IfSome o
+        (λ t. t.kind ≡ redbox_type → length t.value.now ≡ name_len)) }
     ensures shorter { IfOk result (λ o. IfSome o (λ t. length t.behind.now < length octets.now)) }
 {
     let (kind, len) = match octets {
         [] => return Ok(None),
+        // One octet is no TLV, even a zero: a TLV has a type and a length.
         [_] => return Err(SupFault::Truncated),
         [kind, len, ..] => (*kind, *len),
     };
+    // The length of the end TLV isn't looked at, nor is what follows it.
     if kind == END {
         return Ok(None);
     }
+    // The wrong length of a RedBox is told before a value that is cut off (RULES, Supervision).
     if is_wrong_redbox(kind, len) {
         return Err(SupFault::RedBoxLength);
     }
@@ -185,6 +207,7 @@ fn redbox_in(octets: &[u8]) -> Result<Option<Mac>, SupFault>
     let mut found = None;
     let mut left = octets;
     while let Some(tlv) = first_tlv(left)? {
+        // The first RedBox counts. All TLVs are read all the same, since each may have the first fault.
         found = found.or(redbox_of(tlv));
         left = tlv.behind;
     }
@@ -196,6 +219,7 @@ fn redbox_in(octets: &[u8]) -> Result<Option<Mac>, SupFault>
 fn read_said(octets: &[u8]) -> Result<Supervision, SupFault>
     ensures { result ≡ read_of octets.now }
 {
+    // Type and length of TLV1 are looked at before its value, so only these have to be there yet.
     if octets.len() < 6 {
         return Err(SupFault::Truncated);
     }
@@ -224,6 +248,7 @@ fn octets_of(said: &Supervision) -> ArrayVec<u8, MIN_PAYLOAD>
     ensures well_formed { IsSaid said.now }
 {
     let mut out = ArrayVec::new();
+    // Both fit: by the type's invariant path is below 16 and version below 4096.
     put_u16(&mut out, u16::from(said.path) * 4096 + said.version);
     put_u16(&mut out, said.seq);
     put(&mut out, &[code_of(said.kind), NAME_LEN]);

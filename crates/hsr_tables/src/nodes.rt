@@ -62,6 +62,7 @@ impl NodeTable {
         requires { self.old.last ≤ at }
         ensures { self.new ≡ heard self.old (record { said = said.now; port = port; at = at }) }
     {
+        // Looked up before it is removed: the new row keeps what was heard on the other port.
         let earlier = find_known(self.rows.as_slice(), said.about, at);
         let row = row_of(said, port, at, earlier);
         keep_others(&mut self.rows, row.mac);
@@ -82,6 +83,7 @@ impl NodeTable {
                 self.hear(&said, port, at);
                 true
             }
+            // Which fault it is isn't told: a node only counts unreadable payloads.
             Err(_) => false,
         }
     }
@@ -93,6 +95,7 @@ impl NodeTable {
     {
         let mut list = ArrayVec::new();
         for row in self.rows.as_slice() {
+            // Forgotten rows stay until `hear` needs their place, so they are left out here.
             if is_known_at(row.1, at) {
                 list.push(row.0);
             }
@@ -108,6 +111,7 @@ fn find_known(rows: &[(NodeRow, u64)], mac: Mac, at: u64) -> Option<(NodeRow, u6
     ensures { result ≡ known_row at mac rows.now }
 {
     for row in rows {
+        // A forgotten row counts for nothing: its address begins anew (RULES, Supervision).
         if row.0.mac == mac && is_known_at(row.1, at) {
             return Some(*row);
         }
@@ -115,7 +119,7 @@ fn find_known(rows: &[(NodeRow, u64)], mac: Mac, at: u64) -> Option<(NodeRow, u6
     None
 }
 
-/// Removes the row of an address.
+/// Keeps the rows of all other addresses, in their order.
 fn keep_others(rows: &mut ArrayVec<(NodeRow, u64), ROW_LIMIT>, mac: Mac)
     ensures { rows.new.items ≡ others (λ r. r.0.mac) mac rows.old.items }
 {

@@ -49,6 +49,7 @@ impl ProxyTable {
         requires { self.old.last ≤ at }
         ensures { self.new ≡ learned self.old (mac, at) }
     {
+        // An address has one row, so its older one goes before it is put first.
         keep_others(&mut self.rows, mac);
         // One place is left for the new row.
         self.rows.truncate(ROW_LIMIT - 1);
@@ -72,6 +73,7 @@ impl ProxyTable {
     {
         let mut list = ArrayVec::new();
         for row in self.rows.as_slice() {
+            // Forgotten rows stay until `learn` needs their place, so they are left out here.
             if is_known_at(row.1, at) {
                 list.push(*row);
             }
@@ -80,7 +82,7 @@ impl ProxyTable {
     }
 }
 
-/// Removes the row of an address.
+/// Keeps the rows of all other addresses, in their order.
 fn keep_others(rows: &mut ArrayVec<(Mac, u64), ROW_LIMIT>, mac: Mac)
     ensures { rows.new.items ≡ others (λ h. h.0) mac rows.old.items }
 {

@@ -17,5 +17,6 @@ pub const ROW_LIMIT: usize = 64;
 pub fn is_known_at(heard: u64, at: u64) -> bool
     ensures { result ≡ is_young at heard }
 {
+    // A difference and no sum: `heard + NODE_FORGET` may overflow.
     at.saturating_sub(heard) < NODE_FORGET
 }

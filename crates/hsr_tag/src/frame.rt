@@ -1,4 +1,18 @@
 //! Frames with and without an HSR tag.
+//!
+//! A tagged frame without a VLAN tag, with offsets in octets (IEC 62439-3 clause 5.6). A VLAN tag stands before the HSR
+//! tag, and moves all from 12 on by 4 octets:
+//!
+//! ```text
+//! offset  octets
+//!  0      6       destination
+//!  6      6       source
+//! 12      2       type 892F
+//! 14      2       path (upper 4 bits), size (lower 12 bits): the payload and 6
+//! 16      2       sequence number
+//! 18      2       the frame's own type
+//! 20      0-1500  payload
+//! ```
 ghost use Rattle.std.specs.Prelude.{◌≡◌, ◌+◌, ◌*◌, ◌<◌, ◌≤◌, ◌++◌, length};
 ghost use Rattle.hsr_frame.specs.Grammar.{spelling};
 ghost use Rattle.hsr_tag.specs.Tag.{tag_of, untag_of, IsPlain, IsTagged, tagged_spelling};
@@ -71,6 +85,7 @@ impl Frame {
             src: self.src,
             vlan: self.vlan,
             path,
+            // The size counts the tag's six octets too. It is 1506 at most, so 12 bits hold it.
             size: (self.payload.len() + TAG_LEN) as u16,
             seq,
             kind: self.kind,
@@ -93,6 +108,7 @@ impl Frame {
 
 impl Tagged {
     /// The frame without its tag.
+    /// Its payload is copied: a `Frame` owns its octets. Path, size and number are gone.
     pub fn untag(&self) -> Frame
         ensures { result ≡ untag_of self.now }
     {
@@ -113,6 +129,7 @@ impl Tagged {
         let mut out = ArrayVec::new();
         put_head(&mut out, &self.dst, &self.src, self.vlan);
         put_u16(&mut out, ETHERTYPE_HSR);
+        // Path and size are written as they came: neither is checked (RULES, Frames).
         put_u16(&mut out, u16::from(self.path) * 4096 + self.size);
         put_u16(&mut out, self.seq);
         put_u16(&mut out, self.kind);

@@ -15,8 +15,10 @@ pub const SHORT_PAYLOAD: usize = 46;
 #[derive(Drop)]
 enum Held<'a> {
     /// They stand elsewhere.
+    // What came and what is sent stand in events already, so they aren't copied.
     There(&'a [u8]),
     /// They are held here.
+    // A supervision payload is made by the node itself, so it stands nowhere else.
     Here(ArrayVec<u8, SHORT_PAYLOAD>),
 }
 
@@ -87,6 +89,7 @@ impl<'a> Payload<'a> {
         match &self.held {
             Held::There(octets) => Spelled::joined(head, octets),
             Held::Here(octets) => {
+                // A short payload joins the head, and nothing stands behind: `HEAD_ROOM` is for both.
                 let mut head = head;
                 put(&mut head, octets.as_slice());
                 Spelled::joined(head, b"")

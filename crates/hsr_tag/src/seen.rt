@@ -1,4 +1,6 @@
 //! What octets are.
+//!
+//! `frame` has the drawing of a tag. Here its offsets are counted from behind the type 892F.
 ghost use Rattle.std.specs.Prelude.{List, ℕ, ◌≡◌, ◌<◌, ◌≤◌, ◌+◌, ◌*◌, length, IfOk, IfErr, MatchResult, Ok, Some, None};
 ghost use Rattle.hsr_frame.specs.Grammar.{Fields, spelling, IsRaw};
 ghost use Rattle.hsr_tag.specs.Tag.{TaggedFields, IsPlain, IsTagged, tagged_spelling};
@@ -26,6 +28,7 @@ fn seen_of<'a>(head: &Head<'a>, rest: &'a [u8]) -> Result<SeenView<'a>, FrameFau
     ensures fault { IfErr result (λ e. tag_fault head.now ≡ Some e) }
 {
     if head.kind != ETHERTYPE_HSR {
+        // A `Head` allows `TAG_LEN` octets more, since it doesn't know yet whether they are a tag.
         if rest.len() > MAX_PAYLOAD {
             return Err(FrameFault::Long);
         }
@@ -43,6 +46,7 @@ fn seen_of<'a>(head: &Head<'a>, rest: &'a [u8]) -> Result<SeenView<'a>, FrameFau
     }
     let first = u16_at(rest, 0);
     let kind = u16_at(rest, 4);
+    // A second HSR tag is told before a VLAN tag behind the first (RULES, Frames).
     if kind == ETHERTYPE_HSR {
         return Err(FrameFault::NestedTag);
     }
@@ -66,8 +70,10 @@ fn seen_of<'a>(head: &Head<'a>, rest: &'a [u8]) -> Result<SeenView<'a>, FrameFau
 fn read_seen(octets: &[u8]) -> Result<SeenView<'_>, FrameFault>
     ensures exact { result ≡ classified octets.now }
     ensures found { IfOk result (λ s. Spells octets.now s) }
-    ensures only_plain { (f : Fields) → IsPlain f → octets.now ≡ spelling f → result ≡ Ok (Seen.Plain f) }
-    ensures only_tagged { (t : TaggedFields) → IsTagged t → octets.now ≡ tagged_spelling t → result ≡ Ok (Seen.Tagged t) }
+    ensures only_plain { (f : Fields) → IsPlain f → octets.now ≡ spelling f
+        → result ≡ Ok (Seen.Plain f) }
+    ensures only_tagged { (t : TaggedFields) → IsTagged t → octets.now ≡ tagged_spelling t
+        → result ≡ Ok (Seen.Tagged t) }
 {
     let head = Head::parse(octets)?;
     seen_of(&head, head.rest)
@@ -81,8 +87,10 @@ pub fn look_at(octets: &[u8]) -> Result<SeenView<'_>, FrameFault>
     // What is read is spelled so.
     ensures found { IfOk result (λ s. Spells octets.now s) }
     // What is spelled so is read.
-    ensures only_plain { (f : Fields) → IsPlain f → octets.now ≡ spelling f → result ≡ Ok (Seen.Plain f) }
-    ensures only_tagged { (t : TaggedFields) → IsTagged t → octets.now ≡ tagged_spelling t → result ≡ Ok (Seen.Tagged t) }
+    ensures only_plain { (f : Fields) → IsPlain f → octets.now ≡ spelling f
+        → result ≡ Ok (Seen.Plain f) }
+    ensures only_tagged { (t : TaggedFields) → IsTagged t → octets.now ≡ tagged_spelling t
+        → result ≡ Ok (Seen.Tagged t) }
     // Whatever the octets are, they are read in one way.
     ensures one_way { IsReadOneWay octets.now }
 {
@@ -97,11 +105,14 @@ pub fn classify(octets: &[u8]) -> Result<Seen, FrameFault>
     // What is read is spelled so.
     ensures found { IfOk result (λ s. Spells octets.now s) }
     // What is spelled so is read.
-    ensures only_plain { (f : Fields) → IsPlain f → octets.now ≡ spelling f → result ≡ Ok (Seen.Plain f) }
-    ensures only_tagged { (t : TaggedFields) → IsTagged t → octets.now ≡ tagged_spelling t → result ≡ Ok (Seen.Tagged t) }
+    ensures only_plain { (f : Fields) → IsPlain f → octets.now ≡ spelling f
+        → result ≡ Ok (Seen.Plain f) }
+    ensures only_tagged { (t : TaggedFields) → IsTagged t → octets.now ≡ tagged_spelling t
+        → result ≡ Ok (Seen.Tagged t) }
     // Whatever the octets are, they are read in one way.
     ensures one_way { IsReadOneWay octets.now }
 {
+    // One reading for both: this one only copies, so both know the same frames.
     let seen = look_at(octets)?;
     Ok(seen.to_seen())
 }

@@ -70,6 +70,7 @@ impl<'a> Spelled<'a> {
     pub fn is_same(&self, octets: &[u8]) -> bool
         ensures { IsTrue result ↔ (self.now ≡ octets.now) }
     {
+        // Compared in two pieces, so that nothing has to be joined.
         match octets.strip_prefix(self.head.as_slice()) {
             Some(rest) => rest == self.rest,
             None => false,

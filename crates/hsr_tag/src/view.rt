@@ -96,6 +96,7 @@ impl<'a> FrameView<'a> {
             src: self.src,
             vlan: self.vlan,
             path,
+            // The size counts the tag's six octets too. It is 1506 at most, so 12 bits hold it.
             size: (self.payload.as_slice().len() + TAG_LEN) as u16,
             seq,
             kind: self.kind,
@@ -166,6 +167,7 @@ impl<'a> TaggedView<'a> {
         let mut head = ArrayVec::new();
         put_head(&mut head, &self.dst, &self.src, self.vlan);
         put_u16(&mut head, ETHERTYPE_HSR);
+        // Path and size are written as they came: neither is checked (RULES, Frames).
         put_u16(&mut head, u16::from(self.path) * 4096 + self.size);
         put_u16(&mut head, self.seq);
         put_u16(&mut head, self.kind);
@@ -175,6 +177,7 @@ impl<'a> TaggedView<'a> {
 
 impl<'a> SeenView<'a> {
     /// The frame, with a copy of its payload.
+    /// For who keeps the frame longer than the octets that it was read from.
     pub fn to_seen(&self) -> Seen
         ensures { result ≡ self.now }
     {

@@ -24,12 +24,14 @@ pub enum NoDocument {
 pub fn document_of(alloc: Global, text: &str) -> Result<Table, NoDocument>
     ensures { Gives is_memory table_view result (ok_or (document_of text.now) NoToml) }
 {
+    // The length comes first, so that a text that is too long costs no parse.
     if text.len() > TEXT_LIMIT {
         return Err(NoDocument::NoToml);
     }
     match toml::table_from_str(alloc, text) {
         Ok(table) => Ok(table),
         Err(error) => {
+            // Want of memory is told from bad TOML, as everywhere.
             if error.is_memory() {
                 Err(NoDocument::NoMemory)
             } else {

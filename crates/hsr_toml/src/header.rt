@@ -49,12 +49,14 @@ pub fn table_header(text: &[u8], name: &[u8], number: usize) -> Option<usize>
     }
     let mut from = 0;
     let mut seen: usize = 0;
+    // A loop with a bound has an end by its form: each turn moves on by an octet at least.
     for _turn in 0..text.len() {
         let at = whole_word(text, name, from)?;
         if is_bracketed(text, at, name.len()) {
             if seen == number {
                 return Some(at);
             }
+            // Saturating, since no clause bounds the count here.
             seen = seen.saturating_add(1);
         }
         from = at + 1;

@@ -1,4 +1,7 @@
 //! The keys of tables.
+//!
+//! Each text makes its own fault at the place where it is met. So no type of faults is turned into another, and
+//! scenarios and plans read their tables by the same functions.
 ghost use Rattle.std.specs.Prelude.{◌≡◌, true};
 ghost use Rattle.hsr_toml.specs.Faults.{Faults};
 

@@ -1,4 +1,7 @@
 //! A text of TOML without what its comments and strings say.
+//!
+//! The crate `toml` says where a text isn't TOML, and not where a key of a read one stands. So faults find their
+//! words by this walk. Octets keep their places, so a place in the bare text is one in the text.
 ghost use Rattle.std.specs.Prelude.{◌≡◌, IfOk};
 ghost use Rattle.hsr_toml.specs.Lexing.{bare, empty, ending, lexed, line, long, opened, plain, shown};
 ghost use Rattle.hsr_toml.specs.declared.lexing.Lexing.TheVariants as lexing;
@@ -44,6 +47,7 @@ fn line(quote: u8, b: u8) -> Lexing
     if b == quote {
         Lexing::Plain
     } else if b == b'\\' && quote == b'"' {
+        // In a string of single quotes a backslash stands for itself.
         Lexing::LineEscape
     } else {
         Lexing::Line(quote)
@@ -65,6 +69,7 @@ fn opened(quote: u8, b: u8) -> Lexing
 fn empty(quote: u8, b: u8) -> Lexing
     ensures { result ≡ empty quote b }
 {
+    // Three quotes begin a string of several lines; two that anything else follows were an empty string.
     if b == quote {
         Lexing::Long(quote, 0)
     } else {
@@ -86,6 +91,7 @@ fn long(quote: u8, quotes: u8, b: u8) -> Lexing
     if b == quote {
         Lexing::Long(quote, ending(quotes))
     } else if quotes == 3 {
+        // The string ended with the quotes before.
         plain(b)
     } else if b == b'\\' && quote == b'"' {
         Lexing::LongEscape
@@ -122,6 +128,7 @@ impl Lexing {
         ensures { result ≡ shown self b }
     {
         match self {
+            // A quote stands for itself as `"`, so that both kinds of string look alike.
             Lexing::Plain => { if b == b'\'' { b'"' } else { b } }
             Lexing::Comment => b' ',
             _ => b'"',

@@ -1,8 +1,18 @@
 //! What texts of TOML say: the document that a text is, the values at a table's keys with the fault of each that isn't as it has to
 //! be, and the names that they spell; and where in the text, by line and column, a key, a table or a name stands.
 //!
-//! Its modules, in the order to read them: `document`, `key`, `table`, `names`, `lexing`, `position`, `header`, `walk`, `source`,
-//! `line`, `words`.
+//! Its modules, in the order in which to read them:
+//! - `document`: the document that a text is
+//! - `key`: the keys of tables
+//! - `table`: what stands in a table
+//! - `names`: the names and addresses that texts spell
+//! - `lexing`: a text of TOML without what its comments and strings say
+//! - `position`: where a word stands in a text
+//! - `header`: where words and the headers of tables stand in a text
+//! - `walk`: how deep in brackets the octets of a bare text are
+//! - `source`: where keys, tables and names stand in a text
+//! - `line`: a fault's one line
+//! - `words`: the words of a fault that name its place, and of a text that isn't TOML
 #![tactic(auto)]
 
 mod document;

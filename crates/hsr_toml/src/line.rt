@@ -9,10 +9,12 @@ use std::alloc::Global;
 fn shown(b: u8) -> u8
     ensures { result ≡ shown b }
 {
+    // A fault has one line, and a terminal is to obey nothing that stands in a text.
     if b < 32 || b == 127 { b'?' } else { b }
 }
 
 /// Puts words last, each control octet of which is a question mark.
+/// `NoMemory` where room is refused; a front of the words may stand there then.
 pub fn put_shown(line: &mut Vec<u8>, words: &[u8]) -> Result<(), NoMemory>
     ensures { OnOk result (line.new.items ≡ line.old.items ++ map shown words.now) }
 {

@@ -43,6 +43,8 @@ pub fn is_port_letter(letter: u8) -> bool
 }
 
 /// The address that a value spells.
+/// Six pairs of hexadecimal digits of either case, parted by hyphens. `wrong_kind` where the value is no text,
+/// `bad_value` where the text spells no address.
 #[tactic(auto, using(crate::proofs::Fallible::fails, crate::proofs::Fallible::stays))]
 pub fn mac<K: TableKey>(key: K, value: &Value) -> Result<Mac, K::Fault>
     ensures { Gives K.faults.is_memory (λ m. m) result (word K.faults mac_of key (view value.now)) }

@@ -21,6 +21,7 @@ fn is_edge(b: Option<u8>) -> bool
     ensures { result ≡ is_edge b }
 {
     match b {
+        // The start and the end of a text part words too.
         None => true,
         Some(b) => !is_word_octet(b),
     }

@@ -38,13 +38,15 @@ fn stands(source: Source<'_>, word: &[u8], at: usize) -> bool
     requires bare { at ≤ length source.bare.now }
     ensures { result ≡ stands source.entry.text.now source.entry.bare.now word.now at }
 {
+    // Asked of both: the bare text says where it is no comment, the text what it says.
     is_whole(source.text, word, at)
         && (is_whole(source.bare, word, at) || (at > 0 && begins_string(source.bare, at - 1)))
 }
 
 /// A place, if the word stands there.
 fn place_if(source: Source<'_>, word: &[u8], at: usize) -> Option<usize>
-    ensures { IfSome result (λ at. stands source.entry.text.now source.entry.bare.now word.now at ≡ true) }
+    ensures { IfSome result (λ at.
+        stands source.entry.text.now source.entry.bare.now word.now at ≡ true) }
 {
     if at <= source.text.len() && at <= source.bare.len() && stands(source, word, at) {
         Some(at)
@@ -55,7 +57,8 @@ fn place_if(source: Source<'_>, word: &[u8], at: usize) -> Option<usize>
 
 /// Where a word stands in the string that begins at a place, whole or up to a dot.
 fn named_at(source: Source<'_>, word: &[u8], at: usize) -> Option<usize>
-    ensures { IfSome result (λ at. stands source.entry.text.now source.entry.bare.now word.now at ≡ true) }
+    ensures { IfSome result (λ at.
+        stands source.entry.text.now source.entry.bare.now word.now at ≡ true) }
 {
     let start = at.checked_add(1)?;
     let end = start.checked_add(word.len())?;
@@ -68,7 +71,8 @@ fn named_at(source: Source<'_>, word: &[u8], at: usize) -> Option<usize>
 
 /// Where a word stands that begins at a place, by itself or as a string.
 fn word_at(source: Source<'_>, word: &[u8], at: usize) -> Option<usize>
-    ensures { IfSome result (λ at. stands source.entry.text.now source.entry.bare.now word.now at ≡ true) }
+    ensures { IfSome result (λ at.
+        stands source.entry.text.now source.entry.bare.now word.now at ≡ true) }
 {
     if at < source.bare.len() && is_whole(source.bare, word, at) {
         place_if(source, word, at)
@@ -111,7 +115,8 @@ fn behind_octet(bare: &[u8], from: usize, b: u8) -> Option<usize> {
 
 /// Where a key of the table stands that begins at a place.
 pub fn key_at(source: Source<'_>, word: &[u8], start: usize) -> Option<usize>
-    ensures { IfSome result (λ at. stands source.entry.text.now source.entry.bare.now word.now at ≡ true) }
+    ensures { IfSome result (λ at.
+        stands source.entry.text.now source.entry.bare.now word.now at ≡ true) }
 {
     let mut walk = Walk::start();
     for at in start..source.bare.len() {
@@ -131,7 +136,8 @@ pub fn key_at(source: Source<'_>, word: &[u8], start: usize) -> Option<usize>
 
 /// Where a key of the document stands first.
 pub fn top_key(source: Source<'_>, word: &[u8]) -> Option<usize>
-    ensures { IfSome result (λ at. stands source.entry.text.now source.entry.bare.now word.now at ≡ true) }
+    ensures { IfSome result (λ at.
+        stands source.entry.text.now source.entry.bare.now word.now at ≡ true) }
 {
     let mut walk = Walk::start();
     for at in 0..source.bare.len() {
@@ -147,7 +153,8 @@ pub fn top_key(source: Source<'_>, word: &[u8]) -> Option<usize>
 
 /// Where a key stands in the table that is the value of what stands before a place.
 fn member_behind(source: Source<'_>, word: &[u8], place: usize) -> Option<usize>
-    ensures { IfSome result (λ at. stands source.entry.text.now source.entry.bare.now word.now at ≡ true) }
+    ensures { IfSome result (λ at.
+        stands source.entry.text.now source.entry.bare.now word.now at ≡ true) }
 {
     let sign = next_place(source.bare, place)?;
     let next = sign.checked_add(1)?;
@@ -161,7 +168,8 @@ fn member_behind(source: Source<'_>, word: &[u8], place: usize) -> Option<usize>
 
 /// Where a key stands in the table that is the value of a key of the document.
 pub fn member_at(source: Source<'_>, key: &[u8], word: &[u8]) -> Option<usize>
-    ensures { IfSome result (λ at. stands source.entry.text.now source.entry.bare.now word.now at ≡ true) }
+    ensures { IfSome result (λ at.
+        stands source.entry.text.now source.entry.bare.now word.now at ≡ true) }
 {
     let mut walk = Walk::start();
     for at in 0..source.bare.len() {
@@ -181,7 +189,8 @@ pub fn member_at(source: Source<'_>, key: &[u8], word: &[u8]) -> Option<usize>
 
 /// Where the word of the header `[[name]]` of that number stands, counted from 0.
 fn header_at(source: Source<'_>, name: &[u8], number: usize) -> Option<usize>
-    ensures { IfSome result (λ at. stands source.entry.text.now source.entry.bare.now name.now at ≡ true) }
+    ensures { IfSome result (λ at.
+        stands source.entry.text.now source.entry.bare.now name.now at ≡ true) }
 {
     let mut walk = Walk::start();
     let mut seen: usize = 0;
@@ -201,7 +210,8 @@ fn header_at(source: Source<'_>, name: &[u8], number: usize) -> Option<usize>
 
 /// Where a word stands that begins at a place and ends its header.
 fn header_word(source: Source<'_>, name: &[u8], at: usize) -> Option<usize>
-    ensures { IfSome result (λ at. stands source.entry.text.now source.entry.bare.now name.now at ≡ true) }
+    ensures { IfSome result (λ at.
+        stands source.entry.text.now source.entry.bare.now name.now at ≡ true) }
 {
     let place = word_at(source, name, at)?;
     match behind_octet(source.bare, behind(source, name, place), b']') {
@@ -238,6 +248,7 @@ fn inline_table(source: Source<'_>, name: &[u8], number: usize) -> Option<usize>
 pub fn table_at(source: Source<'_>, name: &[u8], number: usize) -> Option<usize> {
     match header_at(source, name, number) {
         Some(at) => Some(at),
+        // A list of tables may also be written as an array in one line.
         None => inline_table(source, name, number),
     }
 }
@@ -254,7 +265,8 @@ fn keys_from(bare: &[u8], table: usize) -> usize {
 
 /// Where a key stands in the table that begins at a place.
 pub fn key_in(source: Source<'_>, word: &[u8], table: usize) -> Option<usize>
-    ensures { IfSome result (λ at. stands source.entry.text.now source.entry.bare.now word.now at ≡ true) }
+    ensures { IfSome result (λ at.
+        stands source.entry.text.now source.entry.bare.now word.now at ≡ true) }
 {
     key_at(source, word, keys_from(source.bare, table))
 }
@@ -263,7 +275,8 @@ pub fn key_in(source: Source<'_>, word: &[u8], table: usize) -> Option<usize>
 
 /// Where a name stands in the value of a key of the table that begins at a place.
 pub fn name_in(source: Source<'_>, key: &[u8], name: &[u8], table: usize) -> Option<usize>
-    ensures { IfSome result (λ at. stands source.entry.text.now source.entry.bare.now name.now at ≡ true) }
+    ensures { IfSome result (λ at.
+        stands source.entry.text.now source.entry.bare.now name.now at ≡ true) }
 {
     let start = behind(source, key, key_in(source, key, table)?);
     let mut walk = Walk::start();
@@ -292,7 +305,8 @@ pub fn is_list(source: Source<'_>, word: &[u8], place: usize) -> bool {
 
 /// Where a name stands as a string in what is said under a key of the document.
 fn string_under(source: Source<'_>, key: &[u8], name: &[u8]) -> Option<usize>
-    ensures { IfSome result (λ at. stands source.entry.text.now source.entry.bare.now name.now at ≡ true) }
+    ensures { IfSome result (λ at.
+        stands source.entry.text.now source.entry.bare.now name.now at ≡ true) }
 {
     let mut walk = Walk::start();
     let mut is_here = false;
@@ -312,7 +326,8 @@ fn string_under(source: Source<'_>, key: &[u8], name: &[u8]) -> Option<usize>
 
 /// Where a name stands under a key of the document: as a key of its table, or else as a string.
 pub fn name_under(source: Source<'_>, key: &[u8], name: &[u8]) -> Option<usize>
-    ensures { IfSome result (λ at. stands source.entry.text.now source.entry.bare.now name.now at ≡ true) }
+    ensures { IfSome result (λ at.
+        stands source.entry.text.now source.entry.bare.now name.now at ≡ true) }
 {
     match member_at(source, key, name) {
         Some(at) => Some(at),
@@ -327,16 +342,19 @@ fn is_one_of(source: Source<'_>, keys: &[&[u8]], at: usize) -> bool {
 
 /// Where a name stands the second time in a list under one of these keys of the document, or else where it stands last there.
 pub fn name_again(source: Source<'_>, keys: &[&[u8]], name: &[u8]) -> Option<usize>
-    ensures { IfSome result (λ at. stands source.entry.text.now source.entry.bare.now name.now at ≡ true) }
+    ensures { IfSome result (λ at.
+        stands source.entry.text.now source.entry.bare.now name.now at ≡ true) }
 {
     let mut walk = Walk::start();
     let mut is_here = false;
     let mut is_in_list = false;
+    // No place of any text, so that nothing is found where the name isn't there.
     let mut last = usize::MAX;
     for at in 0..source.bare.len() {
         if walk.is_top_key() {
             is_here = is_one_of(source, keys, at);
         }
+        // Each list is counted by itself: one name may stand in two rings.
         if source.bare[at] == b'[' {
             is_in_list = false;
         }

@@ -19,6 +19,7 @@ pub(crate) fn is_blank(b: u8) -> bool {
 }
 
 impl Walk {
+    /// At the first octet of a text, or of a part of one.
     pub(crate) fn start() -> Walk {
         Walk {
             depth: 0,
@@ -37,6 +38,7 @@ impl Walk {
     fn depth_behind(self, b: u8) -> usize {
         match b {
             b'[' | b'{' => self.depth.saturating_add(1),
+            // Saturating: a walk that begins inside brackets meets their end.
             b']' | b'}' => self.depth.saturating_sub(1),
             _ => self.depth,
         }
@@ -44,6 +46,7 @@ impl Walk {
 
     /// The walk behind an octet.
     pub(crate) fn behind(self, b: u8) -> Walk {
+        // Blanks change nothing, so that `before` is what stands before a word, however far.
         if is_blank(b) {
             return self;
         }

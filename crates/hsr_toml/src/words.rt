@@ -6,12 +6,14 @@ use hsr_text::put_decimal;
 use std::alloc::Global;
 
 /// Puts words last.
+/// `NoMemory` where room is refused.
 pub fn put(line: &mut Vec<u8>, words: &str) -> Result<(), NoMemory> {
     line.extend_from_slice(words.as_bytes())?;
     Ok(())
 }
 
 /// Puts line and column of a place last, or those of the end of the text where it has no such place.
+/// Both are counted from 1, columns in octets. `NoMemory` where room is refused.
 pub fn put_place(line: &mut Vec<u8>, text: &[u8], at: usize) -> Result<(), NoMemory> {
     let position = position_of(text, at.min(text.len()));
     put_decimal(line, position.line as u64)?;
@@ -23,6 +25,7 @@ pub fn put_place(line: &mut Vec<u8>, text: &[u8], at: usize) -> Result<(), NoMem
 /// Puts where a text of at most 16 MiB isn't TOML last, and why; of a text that is, its start.
 fn put_broken(alloc: Global, line: &mut Vec<u8>, text: &str) -> Result<(), NoMemory> {
     match toml::table_from_str(alloc, text) {
+        // Only a text that isn't TOML is asked about.
         Ok(_) => put_place(line, text.as_bytes(), 0),
         Err(error) => match error.span() {
             Some(span) => {
@@ -30,12 +33,14 @@ fn put_broken(alloc: Global, line: &mut Vec<u8>, text: &str) -> Result<(), NoMem
                 put(line, "no TOML: ")?;
                 put(line, error.message())
             }
+            // Only want of memory has no place in the text.
             None => Err(NoMemory),
         },
     }
 }
 
 /// Puts where a text isn't TOML last, and why.
+/// A text of over 16 MiB isn't read for it. `NoMemory` where room is refused.
 pub fn put_no_toml(alloc: Global, line: &mut Vec<u8>, text: &str) -> Result<(), NoMemory> {
     if text.len() > TEXT_LIMIT {
         return put(line, "1:1 over 16 MiB of text");

@@ -5,6 +5,7 @@ ghost use Rattle.hsr_topology.specs.Links.{faces_wrongly, has_port, is_interlink
 use hsr_node::Place;
 
 /// An end of a link: a port of a node, each by its number.
+/// A and B are 0 and 1, a RedBox's interlink is 2, a QuadBox's C and D are 2 and 3, and a Station's port is 0.
 #[derive(Clone, Copy, Debug, PartialEq, Eq)]
 pub struct End {
     pub node: usize,
@@ -12,6 +13,7 @@ pub struct End {
 }
 
 /// Whether two ends are one port.
+/// Nodes and ports are compared by their numbers, whether they are there or not.
 pub fn is_same_end(a: End, b: End) -> bool
     ensures { result ≡ is_same_end a b }
 {
@@ -33,6 +35,7 @@ fn is_interlink(places: &[Place], end: End) -> bool
     ensures { result ≡ is_interlink places.now end }
 {
     match places.get(end.node) {
+        // A RedBox has ports 0 (A), 1 (B) and 2 (I), its interlink.
         Some(Place::RedBox { .. }) => end.port == 2,
         _ => false,
     }

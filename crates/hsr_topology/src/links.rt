@@ -26,6 +26,7 @@ fn link_fault(places: &[Place], earlier: &[[End; 2]], link: [End; 2]) -> Option<
     ensures { result ≡ link_fault places.now earlier.now link }
 {
     let [a, b] = link;
+    // The order is that of the faults' numbers (RULES, Links and topologies).
     if !has_port(places, a) || !has_port(places, b) {
         return Some(TopologyFault::NoSuchPort);
     }
@@ -43,6 +44,7 @@ pub(crate) fn links_fault(places: &[Place], links: &[[End; 2]]) -> Option<Topolo
     ensures { result ≡ links_fault places.now [] links.now }
 {
     for (i, link) in links.iter().enumerate() {
+        // A link is judged against earlier ones alone, so the fault is that of the second of two that share a port.
         if let Some(fault) = link_fault(places, &links[..i], *link) {
             return Some(fault);
         }

@@ -12,6 +12,7 @@ fn is_bad_node(place: &Place) -> bool
 {
     match place {
         Place::Danh { mac, .. } | Place::RedBox { mac, .. } => mac.is_group(),
+        // A QuadBox has no address.
         Place::QuadBox => false,
         Place::Station { macs } => {
             let macs = macs.as_slice();
@@ -27,6 +28,7 @@ pub(crate) fn has_bad_node(places: &[Place]) -> bool
     places.iter().any(|place| is_bad_node(place))
 }
 
+/// Whether one of these addresses is a group's.
 fn has_group(macs: &[Mac]) -> bool
     ensures { result ≡ has_group macs.now }
 {

@@ -6,6 +6,7 @@ use crate::topology::Topology;
 use hsr_frame::Mac;
 use hsr_node::Place;
 
+/// Whether addresses are the same, one by one.
 fn are_same_macs(a: &[Mac], b: &[Mac]) -> bool
     ensures { IsTrue result ↔ (a.now ≡ b.now) }
 {
@@ -57,6 +58,7 @@ fn are_same_places(a: &[Place], b: &[Place]) -> bool
     left.is_empty()
 }
 
+/// Whether two links join the same ends, in the same order.
 fn is_same_link(a: &[End; 2], b: &[End; 2]) -> bool
     ensures { IsTrue result ↔ (a.now ≡ b.now) }
 {

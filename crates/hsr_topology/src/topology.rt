@@ -43,6 +43,7 @@ impl Model for Topology {
 fn topology_fault(places: &[Place], links: &[[End; 2]]) -> Option<TopologyFault>
     ensures { result ≡ topology_fault places.now links.now }
 {
+    // The counts come first: so few nodes and links are compared each with each.
     if places.len() > NODE_LIMIT || links.len() > LINK_LIMIT {
         return Some(TopologyFault::TooMany);
     }
@@ -86,6 +87,7 @@ impl Topology {
 
     /// The link of a port, by its number, and whether the port is its first end; `None` for a port without a link, or
     /// that isn't there.
+    /// A search over all links, of which there are 128 at most.
     #[tactic(auto, using(crate::proofs::Lookup::is_link_of, crate::proofs::Lookup::none_from))]
     pub fn link_at(&self, end: End) -> Option<(usize, bool)>
         ensures exact { result ≡ link_from 0 self.now.links end }
@@ -100,6 +102,7 @@ impl Topology {
     pub fn copy(&self) -> Result<Topology, NoMemory>
         ensures { IfOk result (λ topology. topology ≡ self.now) }
     {
+        // A call of our own in place of a derived `Clone`: its clause says that the copy is equal.
         let places = self.places.clone()?;
         let links = self.links.clone()?;
         Ok(Topology { places, links })

@@ -19,6 +19,7 @@ pub(crate) fn judge<const C: usize>(alloc: Global, plain: Plain) -> Result<Recor
     ensures { Judged C (plain_view plain) (seen (standing_of C) result) }
 {
     let Plain {
+        // Moments are microseconds by now, so the unit of the text is no longer needed.
         unit: _,
         nodes,
         links,
@@ -26,10 +27,12 @@ pub(crate) fn judge<const C: usize>(alloc: Global, plain: Plain) -> Result<Recor
         mut records,
         carried,
     } = plain;
+    // Behind the version, the table, and the two lines that say how many nodes and links there are.
     let links_end = 4 + nodes.len() as u64 + links.len() as u64;
     let Ok(topology) = Topology::new(nodes, links) else {
         return Err(ReadFault::BadLine { number: links_end });
     };
+    // The order is judged before entries are replayed, since its line comes before theirs.
     let plan = match plan_of(alloc, main.as_slice(), records.as_slice()) {
         Ok(Some(plan)) => plan,
         Ok(None) => {

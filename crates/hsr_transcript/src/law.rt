@@ -16,7 +16,8 @@ use hsr_node::same_in_finer_unit;
 pub fn earlier_is_read()
     ensures same { (run : Run) → IsClosedBy usual run ↔ IsClosed run }
     ensures finished { (f : Finished) → IsEarlier f → IsFinished (in_microseconds f) }
-    ensures told { (capacity : ℕ) (f : Finished) (text : List ℕ) → IsEarlierText capacity f text → Fits (in_microseconds f) × IsTextOf capacity (in_microseconds f) text }
+    ensures told { (capacity : ℕ) (f : Finished) (text : List ℕ) → IsEarlierText capacity f text
+        → Fits (in_microseconds f) × IsTextOf capacity (in_microseconds f) text }
 {
     same_in_finer_unit();
 }

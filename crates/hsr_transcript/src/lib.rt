@@ -1,6 +1,11 @@
 //! A finished run as text, written and read again.
 //!
-//! Its modules, in the order to read them: `reading`, `order`, `replay`, `judge`, `law`.
+//! Its modules, in the order in which to read them:
+//! - `reading`: the closed run whose text a text is
+//! - `order`: the plan of the main worker, by the order of its entries
+//! - `replay`: records that are replayed, entry by entry
+//! - `judge`: what a text says that is in form, judged
+//! - `law`: what holds of the texts of earlier releases
 #![tactic(auto)]
 
 mod judge;

@@ -34,6 +34,7 @@ fn take_turn(
         return Ok(None);
     };
     let entry = &entries[place];
+    // A copy: the entry's own event is moved to the node when it is replayed.
     let event = entry.event.copy()?;
     passed[node] = place + 1;
     Ok(Some(Planned {
@@ -64,9 +65,11 @@ pub(crate) fn plan_of(
     main: &[u64],
     records: &[Vec<Entry>],
 ) -> Result<Option<Vec<Planned>>, NoMemory>
-    ensures { IfOk result (λ plan. OrderTold main.now (map entry_items records.now) (option_map (λ p. p.items) plan)) }
+    ensures { IfOk result (λ plan. OrderTold main.now (map entry_items records.now)
+        (option_map (λ p. p.items) plan)) }
 {
     let mut plan = Vec::new(alloc);
+    // For each node the place behind its last turn, so that all turns together are one walk over the records.
     let mut passed = vec![in alloc; 0usize; records.len()]?;
     let slots = passed.as_mut_slice();
     for turn in main {

@@ -16,10 +16,12 @@ use std::io::Read;
 
 /// The closed run that a topology, replayed nodes, rows and a plan are, if they agree.
 fn close<const C: usize>(alloc: Global, records: Records<C>) -> Result<Closed<C>, ReadFault>
-    ensures { Closes C (standing_of C records.entry) records.entry.rows.items (seen (λ c. c) result) }
+    ensures { Closes C (standing_of C records.entry) records.entry.rows.items
+        (seen (λ c. c) result) }
 {
     match Closed::of_records(alloc, records) {
         Ok(closed) => Ok(closed),
+        // The records are let go: nobody else has them.
         Err((_records, fault)) => match fault {
             CheckFault::Disagree(cause) => Err(ReadFault::Disagrees(cause)),
             CheckFault::NoMemory => Err(ReadFault::NoMemory),
@@ -37,8 +39,12 @@ fn close<const C: usize>(alloc: Global, records: Records<C>) -> Result<Closed<C>
 pub fn read<const C: usize, R: Read>(alloc: Global, reader: &mut R) -> Result<Closed<C>, ReadFault>
     requires entries { (1 ≤ C) × (C ≤ 65535) }
     ensures exact { IfSome (R.remaining reader.old) (Answers C (seen (λ c. c) result)) }
-    ensures again { IfSome (R.remaining reader.old) (λ text. (f : Finished) → IsFinished f → Fits f → IsTextOf C f text → IsReadAs f (seen (λ c. c) result)) }
-    ensures earlier { IfSome (R.remaining reader.old) (λ text. (f : Finished) → IsEarlierText C f text → IsReadAs (in_microseconds f) (seen (λ c. c) result)) }
+    ensures again { IfSome (R.remaining reader.old)
+        (λ text. (f : Finished) → IsFinished f → Fits f → IsTextOf C f text
+        → IsReadAs f (seen (λ c. c) result)) }
+    ensures earlier { IfSome (R.remaining reader.old)
+        (λ text. (f : Finished) → IsEarlierText C f text
+        → IsReadAs (in_microseconds f) (seen (λ c. c) result)) }
 {
     // Its clause says that a run of an earlier release is a finished run.
     earlier_is_read();

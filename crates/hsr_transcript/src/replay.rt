@@ -20,10 +20,12 @@ fn again<const C: usize>(kept: &mut Kept<C>, entry: &mut Entry) -> Result<bool, 
 {
     // Its clause says that the record is legal.
     let _legal = kept.entries();
+    // Moved and not copied. An age stands in its place, since it owns no octets.
     let event = mem::replace(&mut entry.event, Event::Age);
     match kept.enter(entry.worker, entry.at, event) {
         Ok(answer) => Ok(answer.outcome.is_same(&entry.outcome)),
         Err((_, StepFault::NoMemory)) => Err(NoMemory),
+        // A refused event is in no record, so the entry isn't one of a run.
         Err((_, _)) => Ok(false),
     }
 }
@@ -71,7 +73,8 @@ pub(crate) fn replay_all<const C: usize>(
     requires paired { length records.old ≡ length places.now }
     requires capacity { (1 ≤ C) × (C ≤ 65535) }
     requires lines { first + line_count (map entry_items records.old) < 2 ^ 64 }
-    ensures { ReplayedAll C places.now (map entry_items records.old) first (seen (λ v. v.items) result) }
+    ensures { ReplayedAll C places.now (map entry_items records.old) first
+        (seen (λ v. v.items) result) }
 {
     let mut kept = Vec::new(alloc);
     let mut line = first;
@@ -81,6 +84,7 @@ pub(crate) fn replay_all<const C: usize>(
         };
         let entries = records[i].as_mut_slice();
         let count = entries.len() as u64;
+        // One line for the count of the record, which stands before its entries.
         match replay::<C>(alloc, i, place, entries, line + 1) {
             Ok(node) => {
                 kept.push(node)?;

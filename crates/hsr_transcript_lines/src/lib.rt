@@ -1,6 +1,12 @@
 //! How each line of a transcript is spelled and read: nodes, links, entries and rows.
 //!
-//! Its modules, in the order to read them: `words`, `parsing`, `lines`, `places`, `records`, `rows`.
+//! Its modules, in the order in which to read them:
+//! - `words`: the words of lines, written
+//! - `parsing`: the words of lines, read
+//! - `lines`: kinds of line, and sections of lines
+//! - `places`: the lines of nodes, links and the main worker's order
+//! - `records`: the lines of entries
+//! - `rows`: the lines of rows
 #![tactic(auto)]
 
 mod lines;

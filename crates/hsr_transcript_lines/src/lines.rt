@@ -1,4 +1,8 @@
 //! Kinds of line, each with its writer and its reader, and sections of lines.
+//!
+//! A line has one spelling. A reader is lenient, and `read_line` then spells the value again and compares. So "in
+//! form" is said once, by the writer, and no reader has to know it. Where the words tell already that they are that
+//! spelling, the second one is spared.
 ghost use Rattle.std.specs.Prelude.{◌≡◌, ◌<◌, ◌^◌, ◌++◌, ◌∷◌, [], ℕ, List, Option, OnOk, IfOk, length, true};
 ghost use Rattle.std.specs.List.{AllByRecursion};
 ghost use Rattle.std.specs.Str.{bytes_eq};
@@ -22,7 +26,8 @@ pub trait LineKind {
 
     /// Puts the line of a value, without its line feed.
     fn put(&self, text: &mut Vec<u8>, value: &Self::Value) -> Result<(), AllocError>
-        ensures written { OnOk result (text.new.items ≡ text.old.items ++ spelled self.now value.now) }
+        ensures written { OnOk result (text.new.items
+            ≡ text.old.items ++ spelled self.now value.now) }
         ensures fits { OnOk result (fits self.now value.now) };
 
     /// Reads what a line says, which may be spelled otherwise, and tells whether it surely isn't. There is room to spell a
@@ -66,6 +71,7 @@ pub fn read_line<K: LineKind>(
         Ok(read) => read,
         Err(fault) => return Err(fault),
     };
+    // Long lines are mostly sure, so their octets aren't spelled a second time.
     if sure {
         return Ok(value);
     }
@@ -77,6 +83,7 @@ pub fn read_line<K: LineKind>(
 }
 
 /// Puts a line of a name and a number, `<name> <count>`, behind what the text holds.
+/// The line ends with a line feed. `AllocError` where room is refused; a front of the line may stand there then.
 pub fn put_head(text: &mut Vec<u8>, name: &[u8], count: usize) -> Result<(), AllocError>
     ensures { OnOk result (text.new.items ≡ text.old.items ++ text_of (head name.now count ∷ [])) }
 {
@@ -87,6 +94,7 @@ pub fn put_head(text: &mut Vec<u8>, name: &[u8], count: usize) -> Result<(), All
 }
 
 /// Puts a section behind what the text holds: a line that says how many values there are, and the line of each.
+/// Each line ends with a line feed. `AllocError` where room is refused; a front of the section may stand there then.
 #[tactic(auto, unfolding(crate::specs::Lines::section))]
 pub fn put_section<K: LineKind>(
     kind: &K,
@@ -94,10 +102,12 @@ pub fn put_section<K: LineKind>(
     name: &[u8],
     values: &[K::Value],
 ) -> Result<(), AllocError>
-    ensures written { OnOk result (text.new.items ≡ text.old.items ++ text_of (section name.now (K.spelled kind.now) values.now)) }
+    ensures written { OnOk result (text.new.items
+        ≡ text.old.items ++ text_of (section name.now (K.spelled kind.now) values.now)) }
     ensures fit { OnOk result (AllByRecursion (K.fits kind.now) values.now) }
     ensures few { length values.now < 2 ^ 64 }
 {
+    // The count comes first, so that a reader knows where the section ends.
     put_head(text, name, values.len())?;
     for value in values {
         kind.put(text, value)?;

@@ -24,6 +24,7 @@ pub(crate) fn read_number(word: &[u8]) -> Option<u16>
     ensures { result ≡ below (2 ^ 16) word.now }
 {
     let n = decimal(word)?;
+    // A number that is too great is no number here: it isn't cut to 16 bits.
     if n < 65536 { Some(n as u16) } else { None }
 }
 
@@ -40,6 +41,7 @@ pub(crate) fn read_fate(word: &[u8]) -> Option<Fate>
     ensures { result ≡ read_fate word.now }
 {
     match Fate::from_word(word)? {
+        // In a finished run no copy waits, so no row says it.
         Fate::Queued => None,
         fate => Some(fate),
     }
@@ -143,6 +145,7 @@ pub(crate) fn read_ports(place: &Place, text: &[u8]) -> [bool; 4]
     ensures { result ≡ read_ports place.now text.now }
 {
     [
+        // Only the letters are looked for: whether their order and spaces are right is told by spelling them again.
         has_letter(place, text, 0),
         has_letter(place, text, 1),
         has_letter(place, text, 2),

@@ -54,9 +54,11 @@ fn put_ring_node(
     mac: Mac,
     mode: Mode,
 ) -> Result<(), AllocError>
-    ensures written { OnOk result (text.new.items ≡ text.old.items ++ spaced (role_word role) (mac_text mac ∷ mode_word mode ∷ [])) }
+    ensures written { OnOk result (text.new.items
+        ≡ text.old.items ++ spaced (role_word role) (mac_text mac ∷ mode_word mode ∷ [])) }
     ensures fits { IsAddress mac }
 {
+    // Nothing is done here: its clause tells the proof that an address has six octets.
     mac_fits(mac);
     text.extend_from_slice(role.word().as_bytes())?;
     put_next_mac(alloc, text, mac)?;
@@ -70,11 +72,13 @@ fn put_station(
     word: &[u8],
     macs: &[Mac],
 ) -> Result<(), AllocError>
-    ensures written { OnOk result (text.new.items ≡ text.old.items ++ spaced word.now (map mac_text macs.now)) }
+    ensures written { OnOk result (text.new.items
+        ≡ text.old.items ++ spaced word.now (map mac_text macs.now)) }
     ensures fit { OnOk result (AllByRecursion IsAddress macs.now) }
 {
     text.extend_from_slice(word)?;
     for mac in macs {
+        // Nothing is done here: its clause tells the proof that an address has six octets.
         mac_fits(*mac);
         put_next_mac(alloc, text, *mac)?;
     }
@@ -106,6 +110,7 @@ fn end_letter(places: &[Place], end: End) -> u8
 {
     match places.get(end.node) {
         Some(place) => place.letter(end.port),
+        // Never so in a topology. A letter stands there all the same, so that the line is total.
         None => Place::QuadBox.letter(end.port),
     }
 }
@@ -137,11 +142,14 @@ fn put_link(text: &mut Vec<u8>, places: &[Place], ends: &[End; 2]) -> Result<(),
 
 /// An address and a mode.
 fn read_ring_node(rest: Option<&[u8]>) -> Option<(Mac, Mode)>
-    ensures danh { option_map (λ n. Danh n.0 n.1) result ≡ read_ring_node Danh (option_map (λ s. s.now) rest.entry) }
-    ensures redbox { option_map (λ n. RedBox n.0 n.1) result ≡ read_ring_node RedBox (option_map (λ s. s.now) rest.entry) }
+    ensures danh { option_map (λ n. Danh n.0 n.1) result
+        ≡ read_ring_node Danh (option_map (λ s. s.now) rest.entry) }
+    ensures redbox { option_map (λ n. RedBox n.0 n.1) result
+        ≡ read_ring_node RedBox (option_map (λ s. s.now) rest.entry) }
 {
     let (address, rest) = word(rest)?;
     let mac = Mac::from_ascii(address).ok()?;
+    // What follows the mode isn't looked at: `read_line` spells the line again and compares.
     let (mode, _) = word(rest)?;
     let mode = Mode::from_word(mode)?;
     Some((mac, mode))
@@ -149,11 +157,13 @@ fn read_ring_node(rest: Option<&[u8]>) -> Option<(Mac, Mode)>
 
 /// Addresses, at most sixteen.
 fn read_macs(rest: Option<&[u8]>) -> Option<ArrayVec<Mac, 16>>
-    ensures { option_map (λ macs. macs.items) result ≡ read_macs 16 (option_map (λ s. s.now) rest.entry) }
+    ensures { option_map (λ macs. macs.items) result
+        ≡ read_macs 16 (option_map (λ s. s.now) rest.entry) }
 {
     let mut macs = ArrayVec::<Mac, 16>::new();
     let mut left = rest;
     while let Some((address, rest)) = word(left) {
+        // A Station has 16 addresses at most (RULES, Stations).
         if macs.is_full() {
             return None;
         }
@@ -212,6 +222,7 @@ fn read_link(places: &[Place], line: &[u8]) -> Option<[End; 2]>
 {
     let (first, rest) = word(Some(line))?;
     let a = read_end(places, first)?;
+    // What follows isn't looked at: `read_line` spells the line again and compares.
     let (second, _) = word(rest)?;
     let b = read_end(places, second)?;
     Some([a, b])
@@ -221,6 +232,7 @@ fn read_link(places: &[Place], line: &[u8]) -> Option<[End; 2]>
 fn number_behind(line: &[u8]) -> Option<u64>
     ensures { result ≡ number_in (cut 32 line.now).1 }
 {
+    // The name isn't looked at: `read_line` spells the line again and compares.
     let (_, rest) = word(Some(line))?;
     decimal(rest?)
 }
@@ -309,6 +321,7 @@ impl LineKind for NumberLine {
         _room: &mut Vec<u8>,
     ) -> Result<(u64, bool), WordFault> {
         let value = decimal(line).ok_or(WordFault::Bad)?;
+        // A decimal number has one spelling, which is all that `decimal` reads.
         Ok((value, true))
     }
 }

@@ -73,6 +73,7 @@ fn put_port(
 ) -> Result<(), AllocError>
     ensures { OnOk result (text.new.items ≡ text.old.items ++ port_text place.now ports.now port) }
 {
+    // A node has four ports at most, so a port past them let nothing out.
     if ports.get(usize::from(port)).copied().unwrap_or(false) {
         put_word(text, &[place.letter(port)])
     } else {
@@ -163,8 +164,11 @@ struct Leading<'a> {
 
 /// What the words of a send say, `<from> <dst> <vlan4> <type4> <payload>`; surely so where their digits are in upper case.
 fn read_send<'a>(alloc: Global, rest: Option<&'a [u8]>) -> Result<Leading<'a>, WordFault>
-    ensures said { Gives (λ e. (e.event, option_map (λ s. s.now) e.rest)) result (read_send (option_map (λ s. s.now) rest.entry)) }
-    ensures sure { IfOk result (λ e. e.sure ≡ true → (place : Place) → codes "send" ++ after (option_map (λ s. s.now) rest.entry) ≡ event_text place e.event ++ after (option_map (λ s. s.now) e.rest)) }
+    ensures said { Gives (λ e. (e.event, option_map (λ s. s.now) e.rest)) result
+        (read_send (option_map (λ s. s.now) rest.entry)) }
+    ensures sure { IfOk result (λ e. e.sure ≡ true → (place : Place)
+        → codes "send" ++ after (option_map (λ s. s.now) rest.entry)
+        ≡ event_text place e.event ++ after (option_map (λ s. s.now) e.rest)) }
 {
     let (from, rest) = word(rest).ok_or(WordFault::Bad)?;
     let from = read_octet(from).ok_or(WordFault::Bad)?;
@@ -176,6 +180,7 @@ fn read_send<'a>(alloc: Global, rest: Option<&'a [u8]>) -> Result<Leading<'a>, W
     let kind = hex_pair(pair).ok_or(WordFault::Bad)?;
     let (digits, rest) = word(rest).ok_or(WordFault::Bad)?;
     let payload = Octets::new(hex_octets(alloc, digits)?);
+    // `&` and not `&&`: all are looked at, so that there are no branches.
     let sure = is_upper(address) & is_upper(control) & is_upper(pair) & is_upper(digits);
     let event = Event::Send {
         from,
@@ -189,7 +194,8 @@ fn read_send<'a>(alloc: Global, rest: Option<&'a [u8]>) -> Result<Leading<'a>, W
 
 /// What the word of a supervision says, `own` or an address. It is short, and spelled again.
 fn read_life<'a>(rest: Option<&'a [u8]>) -> Option<Leading<'a>>
-    ensures said { option_map (λ e. (e.event, option_map (λ s. s.now) e.rest)) result ≡ read_life (option_map (λ s. s.now) rest.entry) }
+    ensures said { option_map (λ e. (e.event, option_map (λ s. s.now) e.rest)) result
+        ≡ read_life (option_map (λ s. s.now) rest.entry) }
     ensures unsure { IfSome result (λ e. e.sure ≡ false) }
 {
     let (about, rest) = word(rest)?;
@@ -197,6 +203,7 @@ fn read_life<'a>(rest: Option<&'a [u8]>) -> Option<Leading<'a>>
     Some(Leading {
         event: Event::Supervise(about),
         rest,
+        // It is short, so spelling it again costs little.
         sure: false,
     })
 }
@@ -208,8 +215,11 @@ fn read_arrive<'a>(
     place: &Place,
     rest: Option<&'a [u8]>,
 ) -> Result<Leading<'a>, WordFault>
-    ensures said { Gives (λ e. (e.event, option_map (λ s. s.now) e.rest)) result (read_arrive place.now (option_map (λ s. s.now) rest.entry)) }
-    ensures sure { IfOk result (λ e. e.sure ≡ true → codes "arrive" ++ after (option_map (λ s. s.now) rest.entry) ≡ event_text place.now e.event ++ after (option_map (λ s. s.now) e.rest)) }
+    ensures said { Gives (λ e. (e.event, option_map (λ s. s.now) e.rest)) result
+        (read_arrive place.now (option_map (λ s. s.now) rest.entry)) }
+    ensures sure { IfOk result (λ e. e.sure ≡ true
+        → codes "arrive" ++ after (option_map (λ s. s.now) rest.entry)
+        ≡ event_text place.now e.event ++ after (option_map (λ s. s.now) e.rest)) }
 {
     let (name, rest) = word(rest).ok_or(WordFault::Bad)?;
     let port = read_port(place, name).ok_or(WordFault::Bad)?;
@@ -218,6 +228,7 @@ fn read_arrive<'a>(
     let (digits, rest) = word(rest).ok_or(WordFault::Bad)?;
     let octets = Octets::new(hex_octets(alloc, digits)?);
     let letter = [place.letter(port)];
+    // `read_port` looks at the first letter alone.
     let sure = (name == letter.as_slice()) & is_upper(digits);
     let carried = Carried { probe, octets };
     let event = Event::Arrive { port, carried };
@@ -231,8 +242,11 @@ fn read_event<'a>(
     place: &Place,
     rest: Option<&'a [u8]>,
 ) -> Result<Leading<'a>, WordFault>
-    ensures said { Gives (λ e. (e.event, option_map (λ s. s.now) e.rest)) result (read_event place.now (option_map (λ s. s.now) rest.entry)) }
-    ensures sure { IfOk result (λ e. e.sure ≡ true → after (option_map (λ s. s.now) rest.entry) ≡ 32 ∷ (event_text place.now e.event ++ after (option_map (λ s. s.now) e.rest))) }
+    ensures said { Gives (λ e. (e.event, option_map (λ s. s.now) e.rest)) result
+        (read_event place.now (option_map (λ s. s.now) rest.entry)) }
+    ensures sure { IfOk result (λ e. e.sure ≡ true
+        → after (option_map (λ s. s.now) rest.entry)
+        ≡ 32 ∷ (event_text place.now e.event ++ after (option_map (λ s. s.now) e.rest))) }
 {
     let (verb, rest) = word(rest).ok_or(WordFault::Bad)?;
     if verb == b"send".as_slice() {
@@ -285,6 +299,7 @@ fn read_judged(place: &Place, rest: Option<&[u8]>) -> Option<Outcome>
     let (seq, rest) = word(rest)?;
     let seq = read_seq(seq)?;
     let tail = tail_of(rest);
+    // No port has the letter `u`, so it is enough to find it: the spelling is compared afterwards.
     let up = has_octet(b'u', tail);
     let ports = read_ports(place, tail);
     Some(Outcome::Judged {
@@ -323,11 +338,13 @@ fn is_text_of(
     outcome: &Outcome,
     rest: Option<&[u8]>,
 ) -> Result<bool, AllocError>
-    ensures { IfOk result (λ same. same ≡ true → after (option_map (λ s. s.now) rest.entry) ≡ 32 ∷ outcome_text place.now outcome.now) }
+    ensures { IfOk result (λ same. same ≡ true
+        → after (option_map (λ s. s.now) rest.entry) ≡ 32 ∷ outcome_text place.now outcome.now) }
 {
     let Some(words) = rest else {
         return Ok(false);
     };
+    // The same room for each line, so that comparing takes no new memory.
     room.clear();
     put_outcome(room, place, outcome)?;
     Ok(room.as_slice() == words)
@@ -352,6 +369,7 @@ fn read_entry(
     let Leading { event, rest, sure } = read_event(alloc, place, rest)?;
     let (equals, rest) = word(rest).ok_or(WordFault::Bad)?;
     let outcome = read_outcome(place, rest).ok_or(WordFault::Bad)?;
+    // Only the short outcome is spelled again: the event's octets are most of a line.
     let Ok(spelled) = is_text_of(room, place, &outcome, rest) else {
         return Err(WordFault::Memory);
     };
@@ -405,7 +423,9 @@ fn outcome_fits(outcome: Outcome)
 fn entry_fits(entry: &Entry)
     ensures { IsEntryFit entry.now }
 {
+    // Nothing is done with it: naming it tells the proof the bounds of its type.
     let _worker = entry.worker;
+    // As above.
     let _at = entry.at;
     event_fits(&entry.event);
     outcome_fits(entry.outcome);
@@ -425,6 +445,7 @@ impl<'a> LineKind for EntryLine<'a> {
     ghost fits = { λ _. IsEntryFit };
 
     fn put(&self, text: &mut Vec<u8>, entry: &Entry) -> Result<(), AllocError> {
+        // Nothing is done here: its clause tells the proof what the types keep.
         entry_fits(entry);
         put_entry(self.alloc, text, self.unit, self.place, entry)
     }

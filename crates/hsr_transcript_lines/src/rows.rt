@@ -43,6 +43,7 @@ fn read_row(alloc: Global, line: &[u8]) -> Result<(Row, bool), WordFault>
     let row = Row {
         dir,
         carried: Carried { probe, octets },
+        // A finished run has no injected copies, so no line says it.
         injected: false,
         fate,
     };
@@ -66,6 +67,7 @@ impl LineKind for RowLine {
     ghost fits = { λ _. IsRowFit };
 
     fn put(&self, text: &mut Vec<u8>, row: &Row) -> Result<(), AllocError> {
+        // Nothing is done here: its clause tells the proof what the types keep.
         carried_fits(&row.carried);
         put_row(text, row)
     }

@@ -15,6 +15,7 @@ use hsr_text::{put_decimal, put_hex, put_mac};
 use std::alloc::{AllocError, Global};
 
 /// Puts a space and a number, in decimal, behind what the text holds.
+/// `AllocError` where room is refused; a front of it may stand there then.
 pub fn put_number(text: &mut Vec<u8>, n: u64) -> Result<(), AllocError>
     ensures { OnOk result (text.new.items ≡ text.old.items ++ 32 ∷ decimal n) }
 {
@@ -43,6 +44,7 @@ pub(crate) fn put_octets(text: &mut Vec<u8>, octets: &[u8]) -> Result<(), AllocE
     ensures { OnOk result (text.new.items ≡ text.old.items ++ 32 ∷ octets_text octets.now) }
 {
     if octets.is_empty() {
+        // A hyphen, since each word of a line has a letter at least.
         return text.extend_from_slice(b" -");
     }
     text.push(b' ')?;
@@ -130,6 +132,7 @@ pub(crate) fn put_cause(text: &mut Vec<u8>, cause: Cause) -> Result<(), AllocErr
 pub(crate) fn mac_fits(mac: Mac)
     ensures { IsAddress mac }
 {
+    // The clause of `octets` says that there are six.
     let _ = mac.octets();
 }
 

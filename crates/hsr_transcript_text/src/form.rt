@@ -1,4 +1,8 @@
 //! The form of a whole text, read section by section.
+//!
+//! Each function reads one section and hands what it has to the next one, so that each loop and each way out has a
+//! proof of its own. Faults are handed on by `match` and not by `?`, which gets no proof where a clause says which
+//! fault comes first.
 ghost use Rattle.std.specs.Prelude.{◌≡◌, ◌+◌, ◌≤◌, ◌<◌, ◌^◌, ℕ, List, IfOk, length};
 ghost use Rattle.hsr_transcript_text.specs.Form.{carried_on, end_on, form_of, links_on, main_on, nodes_on, records_at, records_on, rows_at, said_at, table_on};
 ghost use Rattle.hsr_transcript_lines.specs.Lines.{head, line_count};
@@ -26,12 +30,17 @@ fn records<R: BufRead>(
     progress: &mut Progress,
 ) -> Result<Vec<Vec<Entry>>, ReadFault>
     requires { progress.old.number + progress.old.reads < 2 ^ 64 }
-    ensures given { Gives entries_of (R.remaining reader.old) (R.remaining reader.new) progress.old.number progress.new.number result (records_at unit nodes.now) }
-    ensures counts { progress.new.number + progress.new.reads ≤ progress.old.number + progress.old.reads }
+    ensures given { Gives entries_of (R.remaining reader.old)
+        (R.remaining reader.new) progress.old.number progress.new.number result
+        (records_at unit nodes.now) }
+    ensures counts { progress.new.number + progress.new.reads
+        ≤ progress.old.number + progress.old.reads }
     ensures paired { IfOk result (λ v. length v.items ≡ length nodes.now) }
-    ensures numbered { IfOk result (λ v. progress.new.number ≡ progress.old.number + line_count (entries_of v)) }
+    ensures numbered { IfOk result (λ v. progress.new.number
+        ≡ progress.old.number + line_count (entries_of v)) }
 {
     let mut records = Vec::new(alloc);
+    // By index, since the place of a node and its record go together.
     for i in 0..nodes.len() {
         let place = &nodes[i];
         match record(unit, place, alloc, reader, progress) {
@@ -54,9 +63,13 @@ fn record<R: BufRead>(
     progress: &mut Progress,
 ) -> Result<Vec<Entry>, ReadFault>
     requires { progress.old.number + progress.old.reads < 2 ^ 64 }
-    ensures given { Gives (λ v. v.items) (R.remaining reader.old) (R.remaining reader.new) progress.old.number progress.new.number result (record_at unit place.now) }
-    ensures counts { progress.new.number + progress.new.reads ≤ progress.old.number + progress.old.reads }
-    ensures numbered { IfOk result (λ v. progress.new.number ≡ progress.old.number + 1 + length v.items) }
+    ensures given { Gives (λ v. v.items) (R.remaining reader.old)
+        (R.remaining reader.new) progress.old.number progress.new.number result
+        (record_at unit place.now) }
+    ensures counts { progress.new.number + progress.new.reads
+        ≤ progress.old.number + progress.old.reads }
+    ensures numbered { IfOk result (λ v. progress.new.number
+        ≡ progress.old.number + 1 + length v.items) }
 {
     section(
         b"record",
@@ -79,8 +92,11 @@ fn carried<R: BufRead>(
     progress: &mut Progress,
 ) -> Result<Vec<Row>, ReadFault>
     requires { progress.old.number + progress.old.reads < 2 ^ 64 }
-    ensures given { Gives (λ v. v.items) (R.remaining reader.old) (R.remaining reader.new) progress.old.number progress.new.number result (section_at (codes "carried") row_of) }
-    ensures counts { progress.new.number + progress.new.reads ≤ progress.old.number + progress.old.reads }
+    ensures given { Gives (λ v. v.items) (R.remaining reader.old)
+        (R.remaining reader.new) progress.old.number progress.new.number result
+        (section_at (codes "carried") row_of) }
+    ensures counts { progress.new.number + progress.new.reads
+        ≤ progress.old.number + progress.old.reads }
 {
     section(b"carried", &RowLine, alloc, reader, progress)
 }
@@ -93,8 +109,11 @@ fn rows<R: BufRead>(
     progress: &mut Progress,
 ) -> Result<Vec<Vec<Row>>, ReadFault>
     requires { progress.old.number + progress.old.reads < 2 ^ 64 }
-    ensures given { Gives rows_of (R.remaining reader.old) (R.remaining reader.new) progress.old.number progress.new.number result (rows_at links.now) }
-    ensures counts { progress.new.number + progress.new.reads ≤ progress.old.number + progress.old.reads }
+    ensures given { Gives rows_of (R.remaining reader.old)
+        (R.remaining reader.new) progress.old.number progress.new.number result
+        (rows_at links.now) }
+    ensures counts { progress.new.number + progress.new.reads
+        ≤ progress.old.number + progress.old.reads }
 {
     let mut rows = Vec::new(alloc);
     for _ in links {
@@ -117,8 +136,11 @@ fn end<R: BufRead>(
     progress: &mut Progress,
 ) -> Result<Plain, ReadFault>
     requires { progress.old.number + progress.old.reads < 2 ^ 64 }
-    ensures given { Gives plain_view (R.remaining reader.old) (R.remaining reader.new) progress.old.number progress.new.number result (end_on (plain_view plain)) }
-    ensures counts { progress.new.number + progress.new.reads ≤ progress.old.number + progress.old.reads }
+    ensures given { Gives plain_view (R.remaining reader.old)
+        (R.remaining reader.new) progress.old.number progress.new.number result
+        (end_on (plain_view plain)) }
+    ensures counts { progress.new.number + progress.new.reads
+        ≤ progress.old.number + progress.old.reads }
 {
     match fixed(b"end", alloc, reader, progress) {
         Ok(()) => Ok(plain),
@@ -139,10 +161,14 @@ fn behind_records<R: BufRead>(
     progress: &mut Progress,
 ) -> Result<Plain, ReadFault>
     requires reads { progress.old.number + progress.old.reads ≤ 2 ^ 40 + 1 }
-    requires lines { 6 + length nodes.items + length links.items + length main.items + line_count (entries_of records) ≤ progress.old.number }
+    requires lines { 6 + length nodes.items + length links.items + length main.items + line_count
+        (entries_of records) ≤ progress.old.number }
     requires paired { length records.items ≡ length nodes.items }
-    ensures given { Gives plain_view (R.remaining reader.old) (R.remaining reader.new) progress.old.number progress.new.number result (carried_on unit nodes.items links.items main.items (entries_of records)) }
-    ensures counts { progress.new.number + progress.new.reads ≤ progress.old.number + progress.old.reads }
+    ensures given { Gives plain_view (R.remaining reader.old)
+        (R.remaining reader.new) progress.old.number progress.new.number result
+        (carried_on unit nodes.items links.items main.items (entries_of records)) }
+    ensures counts { progress.new.number + progress.new.reads
+        ≤ progress.old.number + progress.old.reads }
 {
     match rows(links.as_slice(), alloc, reader, progress) {
         Ok(carried) => {
@@ -172,9 +198,13 @@ fn behind_main<R: BufRead>(
     progress: &mut Progress,
 ) -> Result<Plain, ReadFault>
     requires reads { progress.old.number + progress.old.reads ≤ 2 ^ 40 + 1 }
-    requires lines { 6 + length nodes.items + length links.items + length main.items ≤ progress.old.number }
-    ensures given { Gives plain_view (R.remaining reader.old) (R.remaining reader.new) progress.old.number progress.new.number result (records_on unit nodes.items links.items main.items) }
-    ensures counts { progress.new.number + progress.new.reads ≤ progress.old.number + progress.old.reads }
+    requires lines { 6 + length nodes.items + length links.items + length main.items
+        ≤ progress.old.number }
+    ensures given { Gives plain_view (R.remaining reader.old)
+        (R.remaining reader.new) progress.old.number progress.new.number result
+        (records_on unit nodes.items links.items main.items) }
+    ensures counts { progress.new.number + progress.new.reads
+        ≤ progress.old.number + progress.old.reads }
 {
     match records(unit, nodes.as_slice(), alloc, reader, progress) {
         Ok(records) => behind_records(unit, nodes, links, main, records, alloc, reader, progress),
@@ -194,8 +224,11 @@ fn behind_links<R: BufRead>(
 ) -> Result<Plain, ReadFault>
     requires reads { progress.old.number + progress.old.reads ≤ 2 ^ 40 + 1 }
     requires lines { 5 + length nodes.items + length links.items ≤ progress.old.number }
-    ensures given { Gives plain_view (R.remaining reader.old) (R.remaining reader.new) progress.old.number progress.new.number result (main_on unit nodes.items links.items) }
-    ensures counts { progress.new.number + progress.new.reads ≤ progress.old.number + progress.old.reads }
+    ensures given { Gives plain_view (R.remaining reader.old)
+        (R.remaining reader.new) progress.old.number progress.new.number result
+        (main_on unit nodes.items links.items) }
+    ensures counts { progress.new.number + progress.new.reads
+        ≤ progress.old.number + progress.old.reads }
 {
     match section(b"main", &NumberLine, alloc, reader, progress) {
         Ok(main) => behind_main(unit, nodes, links, main, alloc, reader, progress),
@@ -214,8 +247,11 @@ fn behind_nodes<R: BufRead>(
 ) -> Result<Plain, ReadFault>
     requires reads { progress.old.number + progress.old.reads ≤ 2 ^ 40 + 1 }
     requires lines { 4 + length nodes.items ≤ progress.old.number }
-    ensures given { Gives plain_view (R.remaining reader.old) (R.remaining reader.new) progress.old.number progress.new.number result (links_on unit nodes.items) }
-    ensures counts { progress.new.number + progress.new.reads ≤ progress.old.number + progress.old.reads }
+    ensures given { Gives plain_view (R.remaining reader.old)
+        (R.remaining reader.new) progress.old.number progress.new.number result
+        (links_on unit nodes.items) }
+    ensures counts { progress.new.number + progress.new.reads
+        ≤ progress.old.number + progress.old.reads }
 {
     let places = nodes.as_slice();
     match section(b"links", &LinkLine { places }, alloc, reader, progress) {
@@ -234,8 +270,10 @@ fn behind_table<R: BufRead>(
 ) -> Result<Plain, ReadFault>
     requires reads { progress.old.number + progress.old.reads ≤ 2 ^ 40 + 1 }
     requires lines { 3 ≤ progress.old.number }
-    ensures given { Gives plain_view (R.remaining reader.old) (R.remaining reader.new) progress.old.number progress.new.number result (nodes_on unit) }
-    ensures counts { progress.new.number + progress.new.reads ≤ progress.old.number + progress.old.reads }
+    ensures given { Gives plain_view (R.remaining reader.old)
+        (R.remaining reader.new) progress.old.number progress.new.number result (nodes_on unit) }
+    ensures counts { progress.new.number + progress.new.reads
+        ≤ progress.old.number + progress.old.reads }
 {
     match section(b"nodes", &PlaceLine { alloc }, alloc, reader, progress) {
         Ok(nodes) => behind_nodes(unit, nodes, alloc, reader, progress),
@@ -248,6 +286,7 @@ fn table_line(alloc: Global, capacity: usize) -> Result<Vec<u8>, AllocError>
     ensures { IfOk result (λ line. line.items ≡ head (codes "table") capacity) }
 {
     let mut line = Vec::new(alloc);
+    // The reader knows the size of its tables, so the line is formed and compared, and not read.
     line.extend_from_slice(b"table")?;
     put_number(&mut line, capacity as u64)?;
     Ok(line)
@@ -264,8 +303,11 @@ fn behind_version<R: BufRead>(
 ) -> Result<Plain, ReadFault>
     requires reads { progress.old.number + progress.old.reads ≤ 2 ^ 40 + 1 }
     requires lines { 2 ≤ progress.old.number }
-    ensures given { Gives plain_view (R.remaining reader.old) (R.remaining reader.new) progress.old.number progress.new.number result (table_on capacity unit) }
-    ensures counts { progress.new.number + progress.new.reads ≤ progress.old.number + progress.old.reads }
+    ensures given { Gives plain_view (R.remaining reader.old)
+        (R.remaining reader.new) progress.old.number progress.new.number result
+        (table_on capacity unit) }
+    ensures counts { progress.new.number + progress.new.reads
+        ≤ progress.old.number + progress.old.reads }
 {
     let Ok(line) = table_line(alloc, capacity) else {
         return Err(ReadFault::NoMemory);
@@ -286,8 +328,10 @@ fn all_lines<R: BufRead>(
 ) -> Result<Plain, ReadFault>
     requires reads { progress.old.number + progress.old.reads ≤ 2 ^ 40 + 1 }
     requires lines { 1 ≤ progress.old.number }
-    ensures given { Gives plain_view (R.remaining reader.old) (R.remaining reader.new) progress.old.number progress.new.number result (said_at capacity) }
-    ensures counts { progress.new.number + progress.new.reads ≤ progress.old.number + progress.old.reads }
+    ensures given { Gives plain_view (R.remaining reader.old)
+        (R.remaining reader.new) progress.old.number progress.new.number result (said_at capacity) }
+    ensures counts { progress.new.number + progress.new.reads
+        ≤ progress.old.number + progress.old.reads }
 {
     match version(alloc, reader, progress) {
         Ok(unit) => behind_version(capacity, unit, alloc, reader, progress),
@@ -302,6 +346,7 @@ fn whole<R: BufRead>(capacity: usize, alloc: Global, reader: &mut R) -> Result<P
 {
     let mut progress = Progress::new(alloc);
     match all_lines(capacity, alloc, reader, &mut progress) {
+        // What follows `end` is a fault too, so that a text is the one text of its run.
         Ok(plain) => match nothing_more(reader, &mut progress) {
             Ok(()) => Ok(plain),
             Err(fault) => Err(fault),
@@ -311,6 +356,10 @@ fn whole<R: BufRead>(capacity: usize, alloc: Global, reader: &mut R) -> Result<P
 }
 
 /// Reads what a whole text says that is in form, of tables with so many entries.
+/// Lines have at most 8192 octets, and a text takes at most 2^40 reads. `Version` where the first line is another
+/// one; `BadLine` with the number, from 1, of the lowest line that is out of form, or names another size of tables;
+/// `End` where the text breaks off; `Read` where the reader fails or takes too many reads; `NoMemory` where room is
+/// refused. Whether the values fit together isn't asked.
 pub fn read_plain<R: Read>(
     capacity: usize,
     alloc: Global,

@@ -7,6 +7,8 @@ ghost use Rattle.hsr_transcript_text.specs.Transcript.{Said, said_lines};
 
 /// A text that is in form is the one text of what it says; and what has such lines is read again from them.
 pub fn one_text()
-    ensures only { (capacity : ℕ) (text : List ℕ) (t : Said) → form_of capacity text ≡ Ok t → text ≡ text_of (said_lines capacity t) }
-    ensures again { (capacity : ℕ) (t : Said) → AreLines capacity t → form_of capacity (text_of (said_lines capacity t)) ≡ Ok t }
+    ensures only { (capacity : ℕ) (text : List ℕ) (t : Said) → form_of capacity text ≡ Ok t
+        → text ≡ text_of (said_lines capacity t) }
+    ensures again { (capacity : ℕ) (t : Said) → AreLines capacity t
+        → form_of capacity (text_of (said_lines capacity t)) ≡ Ok t }
 {}

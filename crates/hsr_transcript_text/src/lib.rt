@@ -1,6 +1,13 @@
 //! The whole text of a finished run in form, written and read line by line.
 //!
-//! Its modules, in the order to read them: `fault`, `version`, `writing`, `sections`, `plain`, `form`, `law`.
+//! Its modules, in the order in which to read them:
+//! - `fault`: why a run isn't written, and why a text isn't read
+//! - `version`: the first line of a text
+//! - `writing`: the text of a closed run, written
+//! - `sections`: sections of lines, read
+//! - `plain`: what a text says that is in form
+//! - `form`: the form of a whole text, read section by section
+//! - `law`: what holds of texts
 #![tactic(auto)]
 
 mod fault;

@@ -45,8 +45,10 @@ impl Progress {
 #[tactic(auto, using(crate::proofs::Parts::line_given, crate::proofs::Parts::line_ends, crate::proofs::Parts::line_long))]
 fn next<R: BufRead>(reader: &mut R, progress: &mut Progress) -> Result<(), ReadFault>
     requires { progress.old.number + progress.old.reads < 2 ^ 64 }
-    ensures given { Gives (λ _. progress.new.line.items) (R.remaining reader.old) (R.remaining reader.new) progress.old.number progress.new.number result (line_at BadLine) }
-    ensures counted { progress.new.number + progress.new.reads ≤ progress.old.number + progress.old.reads }
+    ensures given { Gives (λ _. progress.new.line.items) (R.remaining reader.old)
+        (R.remaining reader.new) progress.old.number progress.new.number result (line_at BadLine) }
+    ensures counted { progress.new.number + progress.new.reads
+        ≤ progress.old.number + progress.old.reads }
     ensures numbered { OnOk result (progress.new.number ≡ progress.old.number + 1) }
 {
     match next_line(reader, &mut progress.reads, &mut progress.line) {
@@ -57,6 +59,7 @@ fn next<R: BufRead>(reader: &mut R, progress: &mut Progress) -> Result<(), ReadF
             Ok(())
         }
         Ok(Front::Rest) => {
+            // Its clause bounds the length of what was read.
             let _text = progress.line.as_slice();
             Err(ReadFault::End)
         }
@@ -76,10 +79,14 @@ pub(crate) fn one<R: BufRead, K: LineKind>(
     progress: &mut Progress,
 ) -> Result<K::Value, ReadFault>
     requires { progress.old.number + progress.old.reads < 2 ^ 64 }
-    ensures given { Gives (λ v. v) (R.remaining reader.old) (R.remaining reader.new) progress.old.number progress.new.number result (line_of (exactly (K.spelled kind.now) (K.said kind.now))) }
-    ensures counted { progress.new.number + progress.new.reads ≤ progress.old.number + progress.old.reads }
+    ensures given { Gives (λ v. v) (R.remaining reader.old)
+        (R.remaining reader.new) progress.old.number progress.new.number result
+        (line_of (exactly (K.spelled kind.now) (K.said kind.now))) }
+    ensures counted { progress.new.number + progress.new.reads
+        ≤ progress.old.number + progress.old.reads }
     ensures numbered { OnOk result (progress.new.number ≡ progress.old.number + 1) }
 {
+    // Kept from before the read, which counts on.
     let number = progress.number;
     match next(reader, progress) {
         Ok(()) => match read_line(kind, alloc, progress.line.as_slice(), &mut progress.spelled) {
@@ -100,10 +107,15 @@ pub(crate) fn many<R: BufRead, K: LineKind>(
     count: u64,
 ) -> Result<Vec<K::Value>, ReadFault>
     requires { progress.old.number + progress.old.reads < 2 ^ 64 }
-    ensures given { Gives (λ v. v.items) (R.remaining reader.old) (R.remaining reader.new) progress.old.number progress.new.number result (many_at (line_of (exactly (K.spelled kind.now) (K.said kind.now))) count) }
-    ensures counted { progress.new.number + progress.new.reads ≤ progress.old.number + progress.old.reads }
-    ensures numbered { IfOk result (λ v. progress.new.number ≡ progress.old.number + length v.items) }
+    ensures given { Gives (λ v. v.items) (R.remaining reader.old)
+        (R.remaining reader.new) progress.old.number progress.new.number result
+        (many_at (line_of (exactly (K.spelled kind.now) (K.said kind.now))) count) }
+    ensures counted { progress.new.number + progress.new.reads
+        ≤ progress.old.number + progress.old.reads }
+    ensures numbered { IfOk result (λ v. progress.new.number
+        ≡ progress.old.number + length v.items) }
 {
+    // Room grows with the lines that are there: a text may claim any count.
     let mut values = Vec::new(alloc);
     let mut left = count;
     while left > 0 {
@@ -128,9 +140,13 @@ pub(crate) fn section<R: BufRead, K: LineKind>(
     progress: &mut Progress,
 ) -> Result<Vec<K::Value>, ReadFault>
     requires { progress.old.number + progress.old.reads < 2 ^ 64 }
-    ensures given { Gives (λ v. v.items) (R.remaining reader.old) (R.remaining reader.new) progress.old.number progress.new.number result (section_at name.now (exactly (K.spelled kind.now) (K.said kind.now))) }
-    ensures counts { progress.new.number + progress.new.reads ≤ progress.old.number + progress.old.reads }
-    ensures numbered { IfOk result (λ v. progress.new.number ≡ progress.old.number + 1 + length v.items) }
+    ensures given { Gives (λ v. v.items) (R.remaining reader.old)
+        (R.remaining reader.new) progress.old.number progress.new.number result
+        (section_at name.now (exactly (K.spelled kind.now) (K.said kind.now))) }
+    ensures counts { progress.new.number + progress.new.reads
+        ≤ progress.old.number + progress.old.reads }
+    ensures numbered { IfOk result (λ v. progress.new.number
+        ≡ progress.old.number + 1 + length v.items) }
 {
     match one(&CountLine { name }, alloc, reader, progress) {
         Ok(count) => many(kind, alloc, reader, progress, count),
@@ -147,8 +163,10 @@ pub(crate) fn fixed<R: BufRead>(
     progress: &mut Progress,
 ) -> Result<(), ReadFault>
     requires { progress.old.number + progress.old.reads < 2 ^ 64 }
-    ensures given { Gives (λ v. v) (R.remaining reader.old) (R.remaining reader.new) progress.old.number progress.new.number result (only_at line.now) }
-    ensures counts { progress.new.number + progress.new.reads ≤ progress.old.number + progress.old.reads }
+    ensures given { Gives (λ v. v) (R.remaining reader.old)
+        (R.remaining reader.new) progress.old.number progress.new.number result (only_at line.now) }
+    ensures counts { progress.new.number + progress.new.reads
+        ≤ progress.old.number + progress.old.reads }
     ensures numbered { OnOk result (progress.new.number ≡ progress.old.number + 1) }
 {
     one(&FixedLine { line }, alloc, reader, progress)
@@ -159,6 +177,7 @@ fn as_version(fault: ReadFault) -> ReadFault
     ensures { result ≡ as_version fault }
 {
     match fault {
+        // A first line of another form is one of another version, whatever it says.
         ReadFault::BadLine { .. } => ReadFault::Version,
         _ => fault,
     }
@@ -174,8 +193,10 @@ pub(crate) fn version<R: BufRead>(
     progress: &mut Progress,
 ) -> Result<TimeUnit, ReadFault>
     requires { progress.old.number + progress.old.reads < 2 ^ 64 }
-    ensures given { Gives (λ v. v) (R.remaining reader.old) (R.remaining reader.new) progress.old.number progress.new.number result version_at }
-    ensures counts { progress.new.number + progress.new.reads ≤ progress.old.number + progress.old.reads }
+    ensures given { Gives (λ v. v) (R.remaining reader.old)
+        (R.remaining reader.new) progress.old.number progress.new.number result version_at }
+    ensures counts { progress.new.number + progress.new.reads
+        ≤ progress.old.number + progress.old.reads }
     ensures numbered { OnOk result (progress.new.number ≡ progress.old.number + 1) }
 {
     match one(&VersionLine, alloc, reader, progress) {
@@ -192,6 +213,7 @@ pub(crate) fn nothing_more<R: BufRead>(
     ensures { Ends (R.remaining reader.old) progress.old.number result }
 {
     let number = progress.number;
+    // One octet is enough to tell that something is left.
     let mut line = ArrayVec::<u8, 1>::new();
     match next_line(reader, &mut progress.reads, &mut line) {
         Ok(Front::Rest) => {

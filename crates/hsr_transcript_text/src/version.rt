@@ -16,6 +16,7 @@ fn version_text(unit: TimeUnit) -> &'static str
     ensures { result.now ≡ version_text unit }
 {
     match unit {
+        // Version 1 is what earlier releases wrote. It is still read, and no longer written.
         TimeUnit::Milliseconds => "hsr-bench 1",
         TimeUnit::Microseconds => "hsr-bench 2",
     }

@@ -35,7 +35,9 @@ fn put_front<const C: usize>(
     text: &mut Vec<u8>,
     closed: &Closed<C>,
 ) -> Result<(), AllocError>
-    ensures written { OnOk result (text.new.items ≡ text.old.items ++ text_of (said_front closed.now.run.capacity (said_in Microseconds closed.now))) }
+    ensures written { OnOk result (text.new.items
+        ≡ text.old.items
+        ++ text_of (said_front closed.now.run.capacity (said_in Microseconds closed.now))) }
     ensures places { OnOk result (AllByRecursion IsPlaceFit closed.now.run.places) }
     ensures plan { OnOk result (length closed.now.plan < 2 ^ 64) }
 {
@@ -58,10 +60,15 @@ fn put_records<const C: usize>(
     text: &mut Vec<u8>,
     closed: &Closed<C>,
 ) -> Result<(), AllocError>
-    ensures written { OnOk result (text.new.items ≡ text.old.items ++ text_of (lines_each (record_lines Microseconds) closed.now.run.places closed.now.run.records)) }
-    ensures fit { OnOk result ((k : ℕ) → k < length closed.now.run.places → AreEntriesFit (record_of closed.now.run k)) }
+    ensures written { OnOk result (text.new.items
+        ≡ text.old.items
+        ++ text_of (lines_each
+        (record_lines Microseconds) closed.now.run.places closed.now.run.records)) }
+    ensures fit { OnOk result ((k : ℕ) → k < length closed.now.run.places
+        → AreEntriesFit (record_of closed.now.run k)) }
 {
     let places = closed.topology().places();
+    // By index, since the place of a node and its record go together.
     for i in 0..places.len() {
         let place = &places[i];
         put_section(
@@ -80,8 +87,11 @@ fn put_records<const C: usize>(
 
 /// Puts the rows of each link.
 fn put_carried<const C: usize>(text: &mut Vec<u8>, closed: &Closed<C>) -> Result<(), AllocError>
-    ensures written { OnOk result (text.new.items ≡ text.old.items ++ text_of (lines_each (λ _. carried_lines) closed.now.run.links closed.now.run.rows)) }
-    ensures fit { OnOk result ((l : ℕ) → l < length closed.now.run.links → AreRowsFit (rows_of closed.now.run l)) }
+    ensures written { OnOk result (text.new.items
+        ≡ text.old.items
+        ++ text_of (lines_each (λ _. carried_lines) closed.now.run.links closed.now.run.rows)) }
+    ensures fit { OnOk result ((l : ℕ) → l < length closed.now.run.links
+        → AreRowsFit (rows_of closed.now.run l)) }
 {
     let links = closed.topology().links();
     for i in 0..links.len() {
@@ -112,9 +122,11 @@ pub fn write<const C: usize, W: Write>(
     closed: &Closed<C>,
     writer: &mut W,
 ) -> Result<(), WriteFault>
-    ensures written { Written (W.contents writer.old) (W.contents writer.new) (run_text closed.now) result }
+    ensures written { Written (W.contents writer.old) (W.contents writer.new)
+        (run_text closed.now) result }
     ensures fits { OnOk result (Fits closed.now) }
 {
+    // Formed whole before the first octet is written, so that a refused growth leaves the writer as it was.
     let Ok(text) = whole_text(alloc, closed) else {
         return Err(WriteFault::NoMemory);
     };

@@ -10,10 +10,12 @@ use hsr_duptable::ENTRY_FORGET;
 const WINDOW: u64 = 2 * ENTRY_FORGET;
 
 /// How many of these moments come before one.
+/// The moments rise.
 fn count_before(moments: &[u64], start: u64) -> usize
     requires { IsNonDecreasing moments.now }
     ensures { result ≡ count_by (λ m. nat_lt m start) moments.now }
 {
+    // Moments rise, so a search finds the border, where a count would look at each.
     moments.partition_point(|moment| *moment < start)
 }
 
@@ -61,6 +63,7 @@ pub fn most_of(moments: &[u64]) -> usize
     ensures any { (start : ℕ) → crowd_in moments.now start ≤ result }
 {
     let mut most = 0;
+    // Windows that begin at a moment are enough: any other holds no more than the next one that does.
     for start in moments {
         most = most.max(crowd_in(moments, *start));
     }

@@ -1,4 +1,6 @@
 //! What holds of every world.
+//!
+//! Each law is a function with no body: its clause is the statement, of which nothing is done when it is called.
 ghost use Rattle.hsr_world.specs.Closing.{AlwaysCloses, AlwaysFinishes, AlwaysNumberedFirst, AlwaysOfSend, AlwaysPlaced, AlwaysPlanned, OnlyQuietCloses, StepPlaced};
 ghost use Rattle.hsr_world.specs.Fitting.{AlwaysFrames, FitFrames};
 ghost use Rattle.hsr_world.specs.Law.{AlwaysSound, FirstSound};
