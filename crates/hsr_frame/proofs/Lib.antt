@@ -4,3 +4,4 @@ pub mod Texts
 pub mod Raws
 pub mod Counting
 mod Spelled
+pub mod Below
