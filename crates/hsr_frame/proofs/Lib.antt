@@ -4,4 +4,4 @@ pub mod Texts
 pub mod Raws
 pub mod Counting
 mod Spelled
-pub mod Below
+pub mod OneMore

@@ -4,4 +4,3 @@ pub mod Cuts
 pub mod LineCuts
 pub mod Pieces
 pub mod Units
-pub mod Growing
