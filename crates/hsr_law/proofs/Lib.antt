@@ -11,6 +11,8 @@ pub mod NotedOnce
 pub mod Arrived
 pub mod Danh
 pub mod DanhSends
+pub mod Unnumbered
+pub mod Delivering
 pub mod Passed
 pub mod Sends
 pub mod RingWants

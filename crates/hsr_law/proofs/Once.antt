@@ -23,18 +23,20 @@ use Rattle.hsr_node.specs.declared.event.Outcome.TheVariants.{Sent, Life, Judged
 use Rattle.hsr_node.specs.declared.event.Probe.{Probe}
 use Rattle.hsr_node.specs.declared.place.Place.TheVariants.{Danh}
 use Rattle.hsr_law.specs.Closed.{IsClosed, IsOfSend, IsSend}
-use Rattle.hsr_law.specs.Once.{ExactlyOnce, GoesUp, IsExactlyOnce, delivers, is_addressed}
+use Rattle.hsr_law.specs.Once.{ExactlyOnce, GoesUp, delivers, is_addressed}
 use Rattle.hsr_law.specs.Premises.{IsRing, NothingForgotten, NumbersFirst, is_note_of, mac_at}
 use Rattle.hsr_law.specs.Run.{Run, owner_of, past_of, record_of}
 use Rattle.hsr_law.proofs.Danh.{by_a, by_b, danh, mode_at}
+use Rattle.hsr_law.proofs.Delivering.{delivers_is}
 use Rattle.hsr_law.proofs.Keys.{each_of_send, tagged_of_send}
 use Rattle.hsr_law.proofs.Lists.{count_positive, count_zero}
 use Rattle.hsr_law.proofs.NotedOnce.{noted_once}
-use Rattle.hsr_law.proofs.Passed.{danh_numbers, delivered_counts, delivers_is}
+use Rattle.hsr_law.proofs.Passed.{delivered_counts}
 use Rattle.hsr_law.proofs.Records.{Answered, OfArrival, each_so, legal_each}
 use Rattle.hsr_law.proofs.Ring.{IsGood, each_arrival, good_at, legal, owner_is, places}
 use Rattle.hsr_law.proofs.RingWants.{wants_not_up}
 use Rattle.hsr_law.proofs.Same.{other_address}
+use Rattle.hsr_law.proofs.Unnumbered.{record_numbers_none}
 use Rattle.hsr_law.proofs.Views.{Came, knows_at, leaves_wanted}
 use Rattle.hsr_law.proofs.Walk.{delivered, sent}
 
@@ -73,7 +75,7 @@ none_delivered capacity number mac mode send P (x ∷ past) legal all never =
     none_more : (b : Bool) → delivers send x ≡ b → list_any (delivers send) past ≡ false → (b || list_any (delivers send) past) ≡ false
     none_more false is rest = rest
     none_more true is rest =
-        let d = delivers_is capacity number mac mode x past send legal.0 is in
+        let d = delivers_is capacity (danh number mac mode) x past send legal.0 is in
         let A : Event → Type 0 = OfArrival P in
         let good = subst A d.is all.0 in
         let wanted = leaves_wanted capacity (danh number mac mode) past (now (x ∷ past)) d.port d.copy x.outcome up d.ok d.left in
@@ -91,7 +93,7 @@ module _ (run : Run) (macs : List (List ℕ)) (closed : IsClosed run) (ring : Is
       let owner = owner_is run macs closed ring k below in
       let N : Owner → Type 0 = λ o. Each (λ x past. NumbersFirst run o past x.event x.outcome) (past_of run k) in
       let C : Owner → Type 0 = λ o. count_by (delivers send) (past_of run k) ≤ count_by (is_note_of (Some send)) (notes o up (past_of run k)) in
-      let first = subst N (sym owner) (danh_numbers run k (mac_at macs k) (mode_at run k) (past_of run k) (legal run macs closed ring k below)) in
+      let first = subst N (sym owner) (record_numbers_none run (danh k (mac_at macs k) (mode_at run k)) (past_of run k) refl (legal run macs closed ring k below)) in
       let less = subst C (sym owner) (delivered_counts run.capacity k (mac_at macs k) (mode_at run k) send (past_of run k) (legal run macs closed ring k below)) in
       let most = (noted_once run k send up (past_of run k) (legal_each run.capacity (owner_of run k) (past_of run k) (closed.legal k in_range)) (each_of_send run closed k in_range) first (remembers k in_range)).once in
       omega arith

@@ -3,69 +3,44 @@
 use Rattle.std.proofs.Common.{◌≡◌, ◌⊎◌, ℕ, ◌+◌, ◌≤◌, Bool, true, false, if◌then◌else◌, List, [], ◌∷◌, length, count_by, Option, Some, None, Ok, refl, sym, ap, ◌∙◌, subst, arith, inl, inr, ⊎_elim}
 use Rattle.std.specs.Prelude.{option_map}
 use Rattle.std.specs.List.{list_any, cons_option}
-use Rattle.std.proofs.lemmas.Bool.{or_left, or_right, and_from, and_parts, false≢true, cases_Bool}
+use Rattle.std.proofs.lemmas.Bool.{or_left, or_right, and_from}
 use Rattle.hsr_frame.specs.Address.{is_group}
 use Rattle.hsr_frame.specs.Egress.{Egress, up}
 use Rattle.hsr_frame.specs.declared.node.Cause.{Cause}
 use Rattle.hsr_frame.specs.declared.node.Mode.{Mode}
-use Rattle.hsr_frame.specs.declared.node.RingPort.{RingPort}
 use Rattle.hsr_tag.specs.declared.seen.Seen.TheVariants.{Tagged}
 use Rattle.hsr_role.specs.Arrival.{key_of}
 use Rattle.hsr_danh.specs.Wanted as of_danh
-use Rattle.hsr_redbox.specs.Step.{number_of}
-use Rattle.hsr_redbox.specs.Wanted.{unnumbered}
-use Rattle.hsr_redbox.specs.declared.wanted.Handling.{Handling}
 use Rattle.hsr_node.specs.Copies.{as_came}
 use Rattle.hsr_node.specs.Flow.{pass_of, passes, sent_by}
 use Rattle.hsr_node.specs.declared.sending.Sending.{Sending}
-use Rattle.hsr_node.specs.Record.{Each, Noted, Owner, answer, leaves, next_number, note_of, notes, now, probe_handled}
-use Rattle.hsr_node.specs.Step.{ring_port}
+use Rattle.hsr_node.specs.Record.{Each, Noted, Owner, answer, leaves, note_of, notes, now, probe_handled}
 use Rattle.hsr_node.specs.declared.entry.Entry.{Entry}
 use Rattle.hsr_node.specs.declared.event.Carried.{Carried}
 use Rattle.hsr_node.specs.declared.event.Event.{Event}
 use Rattle.hsr_node.specs.declared.event.Event.TheVariants.{Send, Supervise, Arrive, Age}
 use Rattle.hsr_node.specs.declared.event.Outcome.{Outcome}
-use Rattle.hsr_node.specs.declared.event.Outcome.TheVariants.{Sent, Life, Judged, Aged}
+use Rattle.hsr_node.specs.declared.event.Outcome.TheVariants.{Judged}
 use Rattle.hsr_node.specs.declared.event.Probe.{Probe}
 use Rattle.hsr_node.specs.declared.place.Place.TheVariants.{Danh}
 use Rattle.hsr_law.specs.Once.{delivers, delivers_by, is_copy}
-use Rattle.hsr_law.specs.Premises.{NumbersFirst, is_note_of}
-use Rattle.hsr_law.specs.Run.{Run, is_of}
+use Rattle.hsr_law.specs.Premises.{is_note_of}
+use Rattle.hsr_law.specs.Run.{is_of}
 use Rattle.hsr_law.proofs.Danh.{IsTagged, RingExit, danh, danh_pass, danh_tagged, egress, exit_port}
 use Rattle.hsr_law.proofs.DanhSends.{IsOwnSend, SendsOrNot, danh_lives, danh_sends}
-use Rattle.hsr_law.proofs.Lists.{count_more, one_if, zero_if}
-use Rattle.hsr_law.proofs.Records.{Answered}
+use Rattle.hsr_law.proofs.Delivering.{Delivers, delivered_below, notes_grow}
+use Rattle.hsr_law.proofs.Lists.{count_more, one_if}
+use Rattle.hsr_law.proofs.Records.{Answered, each_so}
 use Rattle.hsr_law.proofs.Same.{any_one_more, probe_is}
-use Rattle.hsr_law.proofs.Views.{came, judged, knows_at, leaves_wanted}
+use Rattle.hsr_law.proofs.Views.{came, knows_at, leaves_wanted}
 use Rattle.hsr_law.proofs.Noting.{IsNoteOf, new_note, note_from, tagged_note}
+use Rattle.hsr_law.proofs.Unnumbered.{numbers_none}
 use Rattle.hsr_law.proofs.Written.{came_fits}
 
 -- a DANH numbers nothing that comes
 pub danh_numbers_none : (capacity number : ℕ) (mac : List ℕ) (mode : Mode) (past : List Entry) (at port : ℕ) (copy : Carried) (up_too : Bool) (out_ports : List Bool) (seq : ℕ) (why : Cause) →
     answer capacity (danh number mac mode) past at (Arrive port copy) ≡ Ok (Judged up_too out_ports (Some seq) why) → ⊥
-danh_numbers_none capacity number mac mode past at port copy up_too out_ports seq why ok =
-    let j = judged capacity (danh number mac mode) past at port copy (Judged up_too out_ports (Some seq) why) ok in
-    let none : number_of j.h.source (next_number past) ≡ None = ap (λ s. number_of s (next_number past)) (by_port (ring_port port) j.h j.is) in
-    let some : Some seq ≡ number_of j.h.source (next_number past) = let e = j.out in cc in
-    absurd cc
-  where
-    by_port : (o : Option RingPort) (h : Handling) → option_map (λ x. unnumbered (of_danh.wanted mac mode x (came copy))) o ≡ Some h → h.source ≡ None
-    by_port None h e = absurd cc
-    by_port (Some x) h e = let same : unnumbered (of_danh.wanted mac mode x (came copy)) ≡ h = cc in sym (ap (λ (g : Handling). g.source) same)
-
-pub danh_numbers : (run : Run) (number : ℕ) (mac : List ℕ) (mode : Mode) (h : List Entry) → Each (Answered run.capacity (danh number mac mode)) h → Each (λ x past. NumbersFirst run (danh number mac mode) past x.event x.outcome) h
-danh_numbers run number mac mode [] legal = tt
-danh_numbers run number mac mode (x ∷ past) legal = (step x.event x.outcome legal.0, danh_numbers run number mac mode past legal.1)
-  where
-    step : (event : Event) (outcome : Outcome) → answer run.capacity (danh number mac mode) past (now (x ∷ past)) event ≡ Ok outcome → NumbersFirst run (danh number mac mode) past event outcome
-    step (Arrive port copy) (Judged up_too ports (Some seq) why) ok = absurd (danh_numbers_none run.capacity number mac mode past (now (x ∷ past)) port copy up_too ports seq why ok)
-    step (Arrive port copy) (Judged up_too ports None why) ok = tt
-    step (Arrive port copy) (Sent seq ports) ok = tt
-    step (Arrive port copy) (Life seq life ports) ok = tt
-    step (Arrive port copy) Aged ok = tt
-    step (Send from dst vlan kind payload) outcome ok = tt
-    step (Supervise about) outcome ok = tt
-    step Age outcome ok = tt
+danh_numbers_none capacity number mac mode past at port copy up_too out_ports seq why ok = numbers_none capacity (danh number mac mode) past at port copy up_too out_ports seq why refl ok
 
 module _ (capacity number : ℕ) (mac : List ℕ) (mode : Mode) where
   abbrev me : Owner
@@ -146,60 +121,26 @@ module _ (capacity number : ℕ) (mac : List ℕ) (mode : Mode) where
           ⊎_elim (λ mine. left (came_here x past up send note legal.0 n other mine)) (λ later. or_right _ _ (rest later))
           (Rattle.std.proofs.lemmas.Bool.or_cases (is_note_of (Some send) note) (list_any (is_note_of (Some send)) (notes me up past)) (subst N is some))
 
-  -- an arrival of a send that went up
-  pub record Delivers (x : Entry) (past : List Entry) (send : Probe) : Type 0 where
-    pub port : ℕ
-    pub copy : Carried
-    pub is : x.event ≡ Arrive port copy
-    pub ok : answer capacity me past (now (x ∷ past)) (Arrive port copy) ≡ Ok x.outcome
-    pub mine : is_copy send copy ≡ true
-    pub left : leaves x.outcome up ≡ true
-
-  pub delivers_is : (x : Entry) (past : List Entry) (send : Probe) → Answered capacity me x past → delivers send x ≡ true → Delivers x past send
-  delivers_is x past send ok yes_it = by_event x.event refl yes_it
-    where
-      by_event : (event : Event) → x.event ≡ event → delivers_by send event x.outcome ≡ true → Delivers x past send
-      by_event (Send from dst vlan kind payload) is h = absurd (false≢true h)
-      by_event (Supervise about) is h = absurd (false≢true h)
-      by_event Age is h = absurd (false≢true h)
-      by_event (Arrive port copy) is h =
-          let parts = and_parts (is_of send copy.probe) (leaves x.outcome up) h in
-          let A : Event → Type 0 = λ ev. answer capacity me past (now (x ∷ past)) ev ≡ Ok x.outcome in
-          record { port = port; copy = copy; is = is; ok = subst A is ok; mine = parts.0; left = parts.1 }
-
-  delivered_tagged : (x : Entry) (past : List Entry) (send : Probe) (d : Delivers x past send) → IsTagged d.copy
+  delivered_tagged : (x : Entry) (past : List Entry) (send : Probe) (d : Delivers capacity me x past send) → IsTagged d.copy
   delivered_tagged x past send d =
       danh_tagged mac mode (knows_at me past (now (x ∷ past)) d.port d.copy) d.port (came d.copy) up
       (leaves_wanted capacity me past (now (x ∷ past)) d.port d.copy x.outcome up d.ok d.left)
 
+  noted : (send : Probe) (x : Entry) (past : List Entry) → Delivers capacity me x past send → count_by (is_note_of (Some send)) (notes me up (x ∷ past)) ≡ 1 + count_by (is_note_of (Some send)) (notes me up past)
+  noted send x past d =
+      let t = delivered_tagged x past send d in
+      let note = tagged_note capacity me up x past d.port d.copy t.0 d.is d.ok t.1 d.left in
+      let Q : Option Noted → Type 0 = λ o. count_by (is_note_of (Some send)) (cons_option o (notes me up past)) ≡ 1 + count_by (is_note_of (Some send)) (notes me up past) in
+      let more = count_more (is_note_of (Some send)) (record { key = key_of t.0; moment = now (x ∷ past); probe = d.copy.probe }) (notes me up past) in
+      let one = one_if (is_of send d.copy.probe) d.mine in
+      subst Q (sym note) (omega arith)
+
   -- what was delivered was noted
   pub delivered_counts : (send : Probe) (h : List Entry) → Each (Answered capacity me) h → count_by (delivers send) h ≤ count_by (is_note_of (Some send)) (notes me up h)
-  delivered_counts send [] legal = omega arith
-  delivered_counts send (x ∷ past) legal =
-      let rest = delivered_counts send past legal.1 in
-      let more = count_more (delivers send) x past in
-      ⊎_elim
-      (λ it. let one = one_if (delivers send x) it in
-      let n = noted (delivers_is x past send legal.0 it) in
-      omega arith)
-      (λ other. let zero = zero_if (delivers send x) other in
-      let n = more_notes (note_of me up x past) in
-      omega arith)
-      (cases_Bool (delivers send x))
-    where
-      more_notes : (o : Option Noted) → count_by (is_note_of (Some send)) (notes me up past) ≤ count_by (is_note_of (Some send)) (cons_option o (notes me up past))
-      more_notes None = omega arith
-      more_notes (Some note) = let more = count_more (is_note_of (Some send)) note (notes me up past) in omega arith
-
-      noted : Delivers x past send → count_by (is_note_of (Some send)) (notes me up (x ∷ past)) ≡ 1 + count_by (is_note_of (Some send)) (notes me up past)
-      noted d =
-          let t = delivered_tagged x past send d in
-          let note = tagged_note capacity me up x past d.port d.copy t.0 d.is d.ok t.1 d.left in
-          let Q : Option Noted → Type 0 = λ o. count_by (is_note_of (Some send)) (cons_option o (notes me up past)) ≡ 1 + count_by (is_note_of (Some send)) (notes me up past) in
-          let new : Noted = record { key = key_of t.0; moment = now (x ∷ past); probe = d.copy.probe } in
-          let more = count_more (is_note_of (Some send)) (record { key = key_of t.0; moment = now (x ∷ past); probe = d.copy.probe }) (notes me up past) in
-          let one = one_if (is_of send d.copy.probe) d.mine in
-          subst Q (sym note) (omega arith)
+  delivered_counts send h legal =
+      let count : List Entry → ℕ = λ past. count_by (is_note_of (Some send)) (notes me up past) in
+      let One : Entry → List Entry → Type 0 = λ x past. Delivers capacity me x past send → count (x ∷ past) ≡ 1 + count past in
+      delivered_below capacity me send count h legal (notes_grow (is_note_of (Some send)) me up) (each_so (Answered capacity me) One h (λ x past ok d. noted send x past d) legal)
 
   -- each send left by both ring ports
   pub record SentByBoth (place : ℕ) (s : Sending) (h : List Entry) : Type 0 where

@@ -38,7 +38,7 @@ abbrev pub IsGood : Run → Carried → Type 0
 IsGood run copy = IsTagged copy × IsOfSend run copy
 
 -- what is the frame of a send, and isn't read plain, is tagged
-tagged_or_plain : (run : Run) (copy : Carried) → IsOfSend run copy → ((f : Fields) → came copy ≡ Ok (Plain f) → ⊥) → IsTagged copy
+pub tagged_or_plain : (run : Run) (copy : Carried) → IsOfSend run copy → ((f : Fields) → came copy ≡ Ok (Plain f) → ⊥) → IsTagged copy
 tagged_or_plain run copy o never = by_came (came copy) refl o.frame
   where
     by_came : (seen : Came) → came copy ≡ seen → plain_in seen ≡ Some o.sending.frame → IsTagged copy

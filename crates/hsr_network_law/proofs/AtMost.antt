@@ -32,7 +32,8 @@ use Rattle.hsr_law.proofs.Records.{Answered, OfArrival, each_from_ports, each_so
 use Rattle.hsr_law.proofs.Same.{address_same, probe_is, same_address}
 use Rattle.hsr_law.proofs.Views.{Came, came, judged, knows_at, leaves_wanted}
 use Rattle.hsr_network_law.specs.Network.{HasAddress, IsNetwork, is_edge, is_station}
-use Rattle.hsr_network_law.proofs.Counts.{Delivers, IsNotOwn, delivered_came, delivered_noted, no_fault_up}
+use Rattle.hsr_law.proofs.Delivering.{Delivers}
+use Rattle.hsr_network_law.proofs.Counts.{IsNotOwn, delivered_came, delivered_noted, no_fault_up}
 use Rattle.hsr_network_law.proofs.Fits.{legal}
 use Rattle.hsr_network_law.proofs.Hops.{IsByStation, IsGoodAt, all_by_station, all_fit, comes_once}
 use Rattle.hsr_network_law.proofs.Late.{all_none, gives_none, number_is, numbered_came}

@@ -1,11 +1,11 @@
 -- How often a send went up at a node of any kind: as often as it was noted, or as it came.
-use Rattle.std.proofs.Common.{◌≡◌, ℕ, ◌+◌, ◌≤◌, Bool, true, false, if◌then◌else◌, List, [], ◌∷◌, length, count_by, Option, Some, None, Ok, Err, refl, sym, ap, ◌∙◌, subst, arith, ⊎_elim, eq-eqb}
+use Rattle.std.proofs.Common.{◌≡◌, ℕ, ◌+◌, ◌≤◌, Bool, true, false, if◌then◌else◌, List, [], ◌∷◌, length, count_by, Option, Some, None, Ok, Err, refl, sym, ap, ◌∙◌, subst, arith, eq-eqb}
 use Rattle.std.specs.Prelude.{option_map}
 use Rattle.std.specs.List.{cons_option}
-use Rattle.std.proofs.lemmas.Bool.{false≢true, and_parts, cases_Bool}
+use Rattle.std.proofs.lemmas.Bool.{false≢true}
 use Rattle.hsr_frame.specs.Address.{is_group, is_same_address}
 use Rattle.hsr_frame.specs.Cases.{first_of}
-use Rattle.hsr_frame.specs.Egress.{Egress, has_exit, nowhere, to, up}
+use Rattle.hsr_frame.specs.Egress.{has_exit, nowhere, to, up}
 use Rattle.hsr_frame.specs.Egress as out
 use Rattle.hsr_frame.specs.Grammar.{Fields}
 use Rattle.hsr_frame.specs.declared.egress.Exits.{Exits}
@@ -28,19 +28,20 @@ use Rattle.hsr_node.specs.Step.{box_port, quad_port, ring_port}
 use Rattle.hsr_node.specs.declared.entry.Entry.{Entry}
 use Rattle.hsr_node.specs.declared.event.Carried.{Carried}
 use Rattle.hsr_node.specs.declared.event.Event.{Event}
-use Rattle.hsr_node.specs.declared.event.Event.TheVariants.{Send, Supervise, Arrive, Age}
+use Rattle.hsr_node.specs.declared.event.Event.TheVariants.{Arrive}
 use Rattle.hsr_node.specs.declared.event.Outcome.{Outcome}
 use Rattle.hsr_node.specs.declared.event.Probe.{Probe}
 use Rattle.hsr_node.specs.declared.place.Place.{Place}
 use Rattle.hsr_node.specs.declared.place.Place.TheVariants.{Danh, RedBox, QuadBox, Station}
 use Rattle.hsr_network_law.specs.Network.{HasAddress, is_station}
-use Rattle.hsr_law.specs.Once.{delivers, delivers_by, is_copy}
+use Rattle.hsr_law.specs.Once.{delivers, is_copy}
 use Rattle.hsr_law.specs.Premises.{is_note_of, is_redbox}
 use Rattle.hsr_law.specs.Run.{is_of}
-use Rattle.hsr_law.proofs.Lists.{count_more, one_if, zero_if}
+use Rattle.hsr_law.proofs.Delivering.{Delivers, delivered_below, notes_grow}
+use Rattle.hsr_law.proofs.Lists.{count_more, one_if}
 use Rattle.hsr_law.proofs.Noting.{tagged_note}
 use Rattle.hsr_network_law.proofs.Unwanted.{fault_unwanted}
-use Rattle.hsr_law.proofs.Records.{Answered, OfArrival}
+use Rattle.hsr_law.proofs.Records.{Answered, OfArrival, each_so}
 use Rattle.hsr_law.proofs.Same.{address_other, is_of_itself, probe_is}
 use Rattle.hsr_law.proofs.Views.{Came, IsJudged, came, judged, knows_at, leaves-judged, leaves_wanted, passing-wanted}
 use Rattle.hsr_law.proofs.Wanted.{no_exit}
@@ -88,27 +89,6 @@ up_numbered (Station macs) station known port f h is w other = absurd (false≢t
 -- ---- what was delivered
 
 module _ (capacity : ℕ) (owner : Owner) where
-  -- an arrival of a send that went up
-  pub record Delivers (x : Entry) (past : List Entry) (send : Probe) : Type 0 where
-    pub port : ℕ
-    pub copy : Carried
-    pub is : x.event ≡ Arrive port copy
-    pub ok : answer capacity owner past (now (x ∷ past)) (Arrive port copy) ≡ Ok x.outcome
-    pub mine : is_copy send copy ≡ true
-    pub left : leaves x.outcome up ≡ true
-
-  pub delivers_is : (x : Entry) (past : List Entry) (send : Probe) → Answered capacity owner x past → delivers send x ≡ true → Delivers x past send
-  delivers_is x past send ok yes_it = by_event x.event refl yes_it
-    where
-      by_event : (event : Event) → x.event ≡ event → delivers_by send event x.outcome ≡ true → Delivers x past send
-      by_event (Send from dst vlan kind data') is h = absurd (false≢true h)
-      by_event (Supervise about) is h = absurd (false≢true h)
-      by_event Age is h = absurd (false≢true h)
-      by_event (Arrive port copy) is h =
-          let parts = and_parts (is_of send copy.probe) (leaves x.outcome up) h in
-          let A : Event → Type 0 = λ ev. answer capacity owner past (now (x ∷ past)) ev ≡ Ok x.outcome in
-          record { port = port; copy = copy; is = is; ok = subst A is ok; mine = parts.0; left = parts.1 }
-
   -- what has no frame doesn't go up
   pub no_fault_up : (past : List Entry) (at port : ℕ) (copy : Carried) (outcome : Outcome) (fault : FrameFault) → answer capacity owner past at (Arrive port copy) ≡ Ok outcome → came copy ≡ Err fault → leaves outcome up ≡ true → ⊥
   no_fault_up past at port copy outcome fault ok is left =
@@ -140,77 +120,60 @@ module _ (capacity : ℕ) (owner : Owner) where
   IsNotOwn send copy = is_copy send copy ≡ true → (f : Fields) → came copy ≡ Ok (Plain f) → is_redbox owner.place ≡ true → HasAddress owner.place f.dst → ⊥
 
   -- what was delivered was noted
-  pub delivered_noted : is_station owner.place ≡ false → (send : Probe) (h : List Entry) → Each (Answered capacity owner) h → Each (λ x past. OfArrival (IsNotOwn send) x.event) h → count_by (delivers send) h ≤ count_by (is_note_of (Some send)) (notes owner up h)
-  delivered_noted station send [] legal all = omega arith
-  delivered_noted station send (x ∷ past) legal all =
-      let rest = delivered_noted station send past legal.1 all.1 in
-      let more = count_more (delivers send) x past in
-      ⊎_elim
-      (λ it. let one = one_if (delivers send x) it in
-      let n = noted (delivers_is x past send legal.0 it) in
-      omega arith)
-      (λ other. let zero_more = zero_if (delivers send x) other in
-      let n = more_notes (note_of owner up x past) in
-      omega arith)
-      (cases_Bool (delivers send x))
+  a_note : is_station owner.place ≡ false → (send : Probe) (x : Entry) (past : List Entry) → OfArrival (IsNotOwn send) x.event → Delivers capacity owner x past send →
+      (note : Noted) × (note_of owner up x past ≡ Some note) × (note.probe ≡ Some send)
+  a_note station send x past not_own d = by_came (came d.copy) refl
     where
-      more_notes : (o : Option Noted) → count_by (is_note_of (Some send)) (notes owner up past) ≤ count_by (is_note_of (Some send)) (cons_option o (notes owner up past))
-      more_notes None = omega arith
-      more_notes (Some note) = let more = count_more (is_note_of (Some send)) note (notes owner up past) in omega arith
+      probe : d.copy.probe ≡ Some send
+      probe = probe_is send d.copy.probe d.mine
 
-      a_note : Delivers x past send → (note : Noted) × (note_of owner up x past ≡ Some note) × (note.probe ≡ Some send)
-      a_note d = by_came (came d.copy) refl
-        where
-          probe : d.copy.probe ≡ Some send
-          probe = probe_is send d.copy.probe d.mine
+      by_came : (seen : Came) → came d.copy ≡ seen → (note : Noted) × (note_of owner up x past ≡ Some note) × (note.probe ≡ Some send)
+      by_came (Ok (Tagged t)) is = (record { key = key_of t; moment = now (x ∷ past); probe = d.copy.probe }, tagged_note capacity owner up x past d.port d.copy t d.is d.ok is d.left, probe)
+      by_came (Err fault) is = absurd (no_fault_up past (now (x ∷ past)) d.port d.copy x.outcome fault d.ok is d.left)
+      by_came (Ok (Plain f)) is =
+          let j = judged capacity owner past (now (x ∷ past)) d.port d.copy x.outcome d.ok in
+          let C : Came → Type 0 = λ s. handling owner.place (knows_at owner past (now (x ∷ past)) d.port d.copy) d.port s ≡ Some j.h in
+          let O : Event → Type 0 = OfArrival (IsNotOwn send) in
+          let passes' : has_exit (passing (remembers capacity owner past (now (x ∷ past))) j.h.wants.exits (came d.copy)) up ≡ true =
+          sym (leaves-judged j.h (passing (remembers capacity owner past (now (x ∷ past))) j.h.wants.exits (came d.copy)) (next_number past) up) ∙ (ap (λ o. leaves o up) (sym j.out) ∙ d.left) in
+          let source = up_numbered owner.place station (knows_at owner past (now (x ∷ past)) d.port d.copy) d.port f j.h (subst C is j.is)
+          (passing-wanted (remembers capacity owner past (now (x ∷ past))) j.h.wants.exits (came d.copy) up passes') ((subst O d.is not_own) d.mine f is) in
+          let n = numbered_note x past d.port d.copy f d.is is j source d.left in
+          (n.0, n.1, n.2 ∙ probe)
 
-          by_came : (seen : Came) → came d.copy ≡ seen → (note : Noted) × (note_of owner up x past ≡ Some note) × (note.probe ≡ Some send)
-          by_came (Ok (Tagged t)) is = (record { key = key_of t; moment = now (x ∷ past); probe = d.copy.probe }, tagged_note capacity owner up x past d.port d.copy t d.is d.ok is d.left, probe)
-          by_came (Err fault) is = absurd (no_fault_up past (now (x ∷ past)) d.port d.copy x.outcome fault d.ok is d.left)
-          by_came (Ok (Plain f)) is =
-              let j = judged capacity owner past (now (x ∷ past)) d.port d.copy x.outcome d.ok in
-              let C : Came → Type 0 = λ s. handling owner.place (knows_at owner past (now (x ∷ past)) d.port d.copy) d.port s ≡ Some j.h in
-              let O : Event → Type 0 = OfArrival (IsNotOwn send) in
-              let passes' : has_exit (passing (remembers capacity owner past (now (x ∷ past))) j.h.wants.exits (came d.copy)) up ≡ true =
-              sym (leaves-judged j.h (passing (remembers capacity owner past (now (x ∷ past))) j.h.wants.exits (came d.copy)) (next_number past) up) ∙ (ap (λ o. leaves o up) (sym j.out) ∙ d.left) in
-              let source = up_numbered owner.place station (knows_at owner past (now (x ∷ past)) d.port d.copy) d.port f j.h (subst C is j.is)
-              (passing-wanted (remembers capacity owner past (now (x ∷ past))) j.h.wants.exits (came d.copy) up passes') ((subst O d.is all.0) d.mine f is) in
-              let n = numbered_note x past d.port d.copy f d.is is j source d.left in
-              (n.0, n.1, n.2 ∙ probe)
+  noted : is_station owner.place ≡ false → (send : Probe) (x : Entry) (past : List Entry) → OfArrival (IsNotOwn send) x.event → Delivers capacity owner x past send →
+      count_by (is_note_of (Some send)) (notes owner up (x ∷ past)) ≡ 1 + count_by (is_note_of (Some send)) (notes owner up past)
+  noted station send x past not_own d =
+      let n = a_note station send x past not_own d in
+      let Q : Option Noted → Type 0 = λ o. count_by (is_note_of (Some send)) (cons_option o (notes owner up past)) ≡ 1 + count_by (is_note_of (Some send)) (notes owner up past) in
+      let more = count_more (is_note_of (Some send)) n.0 (notes owner up past) in
+      let P : Option Probe → Type 0 = λ o. is_of send o ≡ true in
+      let it : is_note_of (Some send) n.0 ≡ true = subst P (sym n.2) (is_of_itself send) in
+      let one = one_if (is_note_of (Some send) n.0) it in
+      subst Q (sym n.1) (omega arith)
 
-      noted : Delivers x past send → count_by (is_note_of (Some send)) (notes owner up (x ∷ past)) ≡ 1 + count_by (is_note_of (Some send)) (notes owner up past)
-      noted d =
-          let n = a_note d in
-          let Q : Option Noted → Type 0 = λ o. count_by (is_note_of (Some send)) (cons_option o (notes owner up past)) ≡ 1 + count_by (is_note_of (Some send)) (notes owner up past) in
-          let more = count_more (is_note_of (Some send)) n.0 (notes owner up past) in
-          let P : Option Probe → Type 0 = λ o. is_of send o ≡ true in
-          let it : is_note_of (Some send) n.0 ≡ true = subst P (sym n.2) (is_of_itself send) in
-          let one = one_if (is_note_of (Some send) n.0) it in
-          subst Q (sym n.1) (omega arith)
+  pub delivered_noted : is_station owner.place ≡ false → (send : Probe) (h : List Entry) → Each (Answered capacity owner) h → Each (λ x past. OfArrival (IsNotOwn send) x.event) h → count_by (delivers send) h ≤ count_by (is_note_of (Some send)) (notes owner up h)
+  delivered_noted station send h legal all =
+      let count : List Entry → ℕ = λ past. count_by (is_note_of (Some send)) (notes owner up past) in
+      let One : Entry → List Entry → Type 0 = λ x past. Delivers capacity owner x past send → count (x ∷ past) ≡ 1 + count past in
+      delivered_below capacity owner send count h legal (notes_grow (is_note_of (Some send)) owner up) (each_so (λ x past. OfArrival (IsNotOwn send) x.event) One h (noted station send) all)
+
+  came_here : (n : ℕ) (send : Probe) (x : Entry) (past : List Entry) → ((d : Delivers capacity owner x past send) → d.port ≡ n) → Delivers capacity owner x past send →
+      count_by (is_copy send) (arrivals n (x ∷ past)) ≡ 1 + count_by (is_copy send) (arrivals n past)
+  came_here n send x past by d =
+      let A : Event → Type 0 = λ ev. count_by (is_copy send) (cons_option (copy_at n ev) (arrivals n past)) ≡ 1 + count_by (is_copy send) (arrivals n past) in
+      let B : Bool → Type 0 = λ b. count_by (is_copy send) (cons_option (if b then Some d.copy else None) (arrivals n past)) ≡ 1 + count_by (is_copy send) (arrivals n past) in
+      let more = count_more (is_copy send) d.copy (arrivals n past) in
+      let one = one_if (is_copy send d.copy) d.mine in
+      subst A (sym d.is) (subst B (sym (eq-eqb d.port n (by d))) (omega arith))
 
   -- where all that went up came by one port, no more went up than came there
-  pub delivered_came : (n : ℕ) (send : Probe) (h : List Entry) → Each (Answered capacity owner) h → Each (λ x past. (d : Delivers x past send) → d.port ≡ n) h → count_by (delivers send) h ≤ count_by (is_copy send) (arrivals n h)
-  delivered_came n send [] legal by = omega arith
-  delivered_came n send (x ∷ past) legal by =
-      let rest = delivered_came n send past legal.1 by.1 in
-      let more = count_more (delivers send) x past in
-      ⊎_elim
-      (λ it. let one = one_if (delivers send x) it in
-      let here = came_here (delivers_is x past send legal.0 it) in
-      omega arith)
-      (λ other. let zero_more = zero_if (delivers send x) other in
-      let here = more_came (copy_at n x.event) in
-      omega arith)
-      (cases_Bool (delivers send x))
+  pub delivered_came : (n : ℕ) (send : Probe) (h : List Entry) → Each (Answered capacity owner) h → Each (λ x past. (d : Delivers capacity owner x past send) → d.port ≡ n) h → count_by (delivers send) h ≤ count_by (is_copy send) (arrivals n h)
+  delivered_came n send h legal by =
+      let count : List Entry → ℕ = λ past. count_by (is_copy send) (arrivals n past) in
+      let One : Entry → List Entry → Type 0 = λ x past. Delivers capacity owner x past send → count (x ∷ past) ≡ 1 + count past in
+      delivered_below capacity owner send count h legal (λ x past. grows (copy_at n x.event) past) (each_so (λ x past. (d : Delivers capacity owner x past send) → d.port ≡ n) One h (came_here n send) by)
     where
-      more_came : (o : Option Carried) → count_by (is_copy send) (arrivals n past) ≤ count_by (is_copy send) (cons_option o (arrivals n past))
-      more_came None = omega arith
-      more_came (Some c) = let more = count_more (is_copy send) c (arrivals n past) in omega arith
-
-      came_here : Delivers x past send → count_by (is_copy send) (arrivals n (x ∷ past)) ≡ 1 + count_by (is_copy send) (arrivals n past)
-      came_here d =
-          let A : Event → Type 0 = λ ev. count_by (is_copy send) (cons_option (copy_at n ev) (arrivals n past)) ≡ 1 + count_by (is_copy send) (arrivals n past) in
-          let B : Bool → Type 0 = λ b. count_by (is_copy send) (cons_option (if b then Some d.copy else None) (arrivals n past)) ≡ 1 + count_by (is_copy send) (arrivals n past) in
-          let more = count_more (is_copy send) d.copy (arrivals n past) in
-          let one = one_if (is_copy send d.copy) d.mine in
-          subst A (sym d.is) (subst B (sym (eq-eqb d.port n (by.0 d))) (omega arith))
+      grows : (o : Option Carried) (past : List Entry) → count_by (is_copy send) (arrivals n past) ≤ count_by (is_copy send) (cons_option o (arrivals n past))
+      grows None past = omega arith
+      grows (Some c) past = let more = count_more (is_copy send) c (arrivals n past) in omega arith

@@ -30,7 +30,8 @@ use Rattle.hsr_law.specs.Run.{Run, owner_of, past_of, place_of}
 use Rattle.hsr_topology.specs.declared.end.End.{End}
 use Rattle.hsr_law.proofs.Arrived.{Knowing, MayKnow, WouldGo, arrived_noted}
 use Rattle.hsr_network_law.proofs.AtMost.{at_most_once}
-use Rattle.hsr_network_law.proofs.Counts.{delivers_is, no_fault_up}
+use Rattle.hsr_law.proofs.Delivering.{delivers_is}
+use Rattle.hsr_network_law.proofs.Counts.{no_fault_up}
 use Rattle.hsr_network_law.proofs.Covered.{all_unknown, all_unknown_before, has_source, no_station_has}
 use Rattle.hsr_network_law.proofs.Unknown.{Unknown, UnknownBefore}
 use Rattle.hsr_network_law.proofs.Unwanted.{at_among, own_plain_unwanted, quad_not_up, single_plain, single_tagged}

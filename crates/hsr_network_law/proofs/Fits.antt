@@ -32,6 +32,7 @@ use Rattle.hsr_network_law.proofs.Unwanted.{ring_tagged}
 use Rattle.hsr_network_law.proofs.PlainReads.{never_tagged}
 use Rattle.hsr_law.proofs.Keys.{each_of_send, same_sending}
 use Rattle.hsr_law.proofs.Records.{Answered, IsAtPlace, OfArrival, all_at_place, legal_each}
+use Rattle.hsr_law.proofs.Ring.{tagged_or_plain}
 use Rattle.hsr_law.proofs.Same.{is_of_itself}
 use Rattle.hsr_law.proofs.Views.{Came, came, knows_at, leaves_wanted}
 use Rattle.hsr_law.proofs.Written.{came_fits, never_plain}
@@ -83,15 +84,6 @@ pub record IsFit (run : Run) (edge : Bool) (copy : Carried) : Type 0 where
 -- the frame of the send that a copy is of
 abbrev FrameIs : Run → Carried → Fields → Type 0
 FrameIs run copy f = (o : IsOfSend run copy) → o.sending.frame ≡ f
-
--- what is the frame of a send, and isn't read plain, is tagged
-tagged_or_plain : (run : Run) (copy : Carried) → IsOfSend run copy → ((f : Fields) → came copy ≡ Ok (Plain f) → ⊥) → IsTagged copy
-tagged_or_plain run copy o never = by_came (came copy) refl o.frame
-  where
-    by_came : (seen : Came) → came copy ≡ seen → plain_in seen ≡ Some o.sending.frame → IsTagged copy
-    by_came (Ok (Tagged t)) is e = (t, is)
-    by_came (Ok (Plain f)) is e = absurd (never f is)
-    by_came (Err fault) is e = absurd cc
 
 read_ring : (run : Run) (copy : Carried) (f : Fields) (path number : ℕ) → copy.octets ≡ tagged_spelling (tag_of f path number) → FrameIs run copy f → IsOfSend run copy → IsTagged copy
 read_ring run copy f path number octets frame o =

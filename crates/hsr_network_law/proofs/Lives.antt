@@ -56,7 +56,8 @@ use Rattle.hsr_law.proofs.Views.{Came, came, knows_at, leaves_wanted}
 use Rattle.hsr_law.proofs.Wanted.{no_exit}
 use Rattle.hsr_network_law.specs.Lives.{LivesStay, is_joined_with_station, joins_stations}
 use Rattle.hsr_network_law.specs.Network.{IsNetwork, IsPortOf, Way, is_edge, is_edge_of, is_station, is_station_of, start_of, stop_of}
-use Rattle.hsr_network_law.proofs.Counts.{Delivers, delivered_came}
+use Rattle.hsr_law.proofs.Delivering.{Delivers}
+use Rattle.hsr_network_law.proofs.Counts.{delivered_came}
 use Rattle.hsr_network_law.proofs.Covered.{all_unknown_before}
 use Rattle.hsr_network_law.proofs.Fits.{legal}
 use Rattle.hsr_network_law.proofs.Hops.{IsFrom, station_own}

@@ -150,15 +150,7 @@ pub is_closed : IsClosed answered
 is_closed = record { tables = (omega arith, omega arith); records = refl; rows = refl; legal = legal_at; put = put_at; taken = taken_at; settled = settled_at; linked = linked_at }
 
 pub is_network : IsNetwork answered
-is_network = record {
-  modes = box.is_network.modes;
-  single = box.is_network.single;
-  differ = box.is_network.differ;
-  ends = λ way h. let there = box.is_network.ends way h in record { node = there.node; port = there.port };
-  sides = box.is_network.sides;
-  faces = box.is_network.faces;
-  apart = box.is_network.apart;
-}
+is_network = box.network_with answered.records answered.rows
 
 -- ---- the RedBox numbers first
 

@@ -9,10 +9,12 @@ use Rattle.hsr_frame.specs.declared.node.Cause.TheVariants.{Passed}
 use Rattle.hsr_tag.specs.Seen.{classified}
 use Rattle.hsr_duptable.specs.Key.{Key, is_same_key}
 use Rattle.hsr_node.specs.Record.{Noted, notes, remembered}
+use Rattle.hsr_node.specs.declared.entry.Entry.{Entry}
 use Rattle.hsr_node.specs.declared.event.Event.TheVariants.{Arrive}
 use Rattle.hsr_node.specs.declared.event.Outcome.TheVariants.{Judged}
 use Rattle.hsr_link.specs.declared.row.Dir.{Dir}
 use Rattle.hsr_link.specs.declared.row.Dir.TheVariants.{Forth, Back}
+use Rattle.hsr_link.specs.declared.row.Row.{Row}
 use Rattle.hsr_law.specs.Closed.{IsSend}
 use Rattle.hsr_law.specs.Once.{delivers}
 use Rattle.hsr_law.specs.Premises.{NothingMistaken, is_mistaken, is_note_of}
@@ -157,6 +159,18 @@ is_network = record {
   where
     single_at' : (k : ℕ) (address : List ℕ) → k < 3 → HasAddress (place_of red k) address → is_group address ≡ false
     single_at' k address h e = single_at k address h e
+
+-- so are the same nodes and links, whatever happened there
+pub network_with : (records : List (List Entry)) (rows : List (List Row)) → IsNetwork (record red { records = records; rows = rows })
+network_with records rows = record {
+  modes = is_network.modes;
+  single = is_network.single;
+  differ = is_network.differ;
+  ends = λ way h. let there = is_network.ends way h in record { node = there.node; port = there.port };
+  sides = is_network.sides;
+  faces = is_network.faces;
+  apart = is_network.apart;
+}
 
 -- ---- the send reaches the RedBox, and over it the DANH
 

@@ -119,15 +119,7 @@ is_closed = record { tables = (omega arith, omega arith); records = refl; rows =
 -- ---- it is a network, with nothing forgotten and nothing mistaken
 
 pub is_network : IsNetwork late
-is_network = record {
-  modes = box.is_network.modes;
-  single = box.is_network.single;
-  differ = box.is_network.differ;
-  ends = λ way h. let there = box.is_network.ends way h in record { node = there.node; port = there.port };
-  sides = box.is_network.sides;
-  faces = box.is_network.faces;
-  apart = box.is_network.apart;
-}
+is_network = box.network_with late.records late.rows
 
 pub remembers : NothingForgotten late
 remembers zero h = ((λ ring e wanted before. absurd (false≢true before)), tt)
