@@ -112,8 +112,8 @@ fn is_same_copy(copy: &Carried, other: &Carried) -> bool
     copy == other
 }
 
-/// The copy that came to a port with an entry.
-fn came_by<'a>(port: u8, entry: &'a Entry) -> Option<&'a Carried>
+/// The copy that came to a port with an entry, if one did.
+pub fn came_by<'a>(port: u8, entry: &'a Entry) -> Option<&'a Carried>
     ensures { option_map (λ c. c.now) result ≡ came_by port entry.now }
 {
     match &entry.event {

@@ -16,7 +16,7 @@ mod numbers;
 mod places;
 mod turns;
 
-pub use agreement::{Passage, passed_by, puts_fit, takens_fit};
+pub use agreement::{Passage, came_by, passed_by, puts_fit, takens_fit};
 pub use counts::{Counts, Key, count_of, count_one, key_of};
 pub use ends::Ends;
 pub use numbers::Numbers;
