@@ -1,5 +1,5 @@
 -- The stations that are known are those that the record lets know.
-use Rattle.std.proofs.Common.{◌≡◌, ◌⊎◌, inl, inr, ⊎_elim, ℕ, ◌≤◌, Bool, true, false, cond, List, [], ◌∷◌, ◌++◌, reverse, Option, Some, None, Result, Ok, Err, refl, sym, ap, ◌∙◌, subst, arith}
+use Rattle.std.proofs.Common.{◌≡◌, ◌⊎◌, inl, inr, ⊎_elim, ℕ, ◌≤◌, max, Bool, true, false, cond, List, [], ◌∷◌, ◌++◌, reverse, Option, Some, None, Result, Ok, Err, refl, sym, ap, ◌∙◌, subst, arith}
 use Rattle.std.specs.Prelude.{fold}
 use Rattle.std.specs.List.{list_any}
 use Rattle.std.proofs.lemmas.List.{reverse-append, reverse-reverse}
@@ -88,3 +88,15 @@ heard_last place m at event stations before later =
 pub stations_last : (place : Place) (past : List Entry) → (stations_of place past).last ≤ now past
 stations_last place [] = omega arith
 stations_last place (x ∷ past) = heard_last place (now past) (now (x ∷ past)) x.event (stations_of place past) (stations_last place past) (le-max_left (now past) x.at)
+
+-- the stations that are kept tell of a past after one more entry too, at its effective moment
+pub stations_after : (place : Place) (past : List Entry) (x : Entry) (moment : ℕ) (stations : Proxies) → moment ≡ now past → stations ≡ stations_of place past →
+    heard_in place (max moment x.at) x.event stations ≡ stations_of place (x ∷ past)
+stations_after place past x moment stations is_now is_told =
+    ap (λ n. heard_in place (max n x.at) x.event stations) is_now ∙ ap (heard_in place (now (x ∷ past)) x.event) is_told
+
+pub known_after : (place : Place) (past : List Entry) (x : Entry) (moment : ℕ) (stations : Proxies) → moment ≡ now past → stations ≡ stations_of place past →
+    is_known (max moment x.at) (heard_in place (max moment x.at) x.event stations).heard ≡ knows place past (now (x ∷ past)) x.event
+known_after place past x moment stations is_now is_told =
+    ap (λ n. is_known (max n x.at) (heard_in place (max moment x.at) x.event stations).heard) is_now
+    ∙ (ap (λ (s : Proxies). is_known (now (x ∷ past)) s.heard) (stations_after place past x moment stations is_now is_told) ∙ known_same place x past)

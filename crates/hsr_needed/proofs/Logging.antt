@@ -9,12 +9,12 @@ use Rattle.hsr_node.specs.Record.{Noted, Owner, is_noted, key_handled, knows, no
 use Rattle.hsr_node.specs.declared.entry.Entry.{Entry}
 use Rattle.hsr_node.specs.declared.event.Outcome.{Outcome}
 use Rattle.hsr_node.specs.declared.event.Probe.{Probe}
-use Rattle.hsr_tables.specs.Proxies.{Proxies, is_known}
+use Rattle.hsr_tables.specs.Proxies.{Proxies}
 use Rattle.hsr_needed.specs.Logged.{HasRoom, IsLogOf, IsLoggedAfter, IsNotedAfter, moment_of, needs_by, needs_of, read_by, tally_at, widest}
-use Rattle.hsr_needed.specs.Read.{Reading, heard_in, noted_at, stations_of, wanted_in}
+use Rattle.hsr_needed.specs.Read.{Reading, noted_at, wanted_in}
 use Rattle.hsr_needed.specs.Tallied.{IsTalliedAfter, Tells, reach_of}
 use Rattle.hsr_needed.specs.declared.log.Log.{Log}
-use Rattle.hsr_needed.proofs.Hearing.{known_same, stations_last}
+use Rattle.hsr_needed.proofs.Hearing.{known_after, stations_after, stations_last}
 use Rattle.hsr_needed.proofs.Latest.{reach_told, told_more}
 
 -- ---- the widest
@@ -27,21 +27,12 @@ widest_same exits f g same = λ i. widest exits (λ e. same e i)
 abbrev here_of : Owner → List Entry → Probe
 here_of owner past = record { node = owner.number; place = length past }
 
-stations_same : (owner : Owner) (past : List Entry) (log : Log) (x : Entry) → IsLogOf owner past log →
-    heard_in owner.place (moment_of log x) x.event log.stations ≡ stations_of owner.place (x ∷ past)
-stations_same owner past log x is =
-    ap (λ n. heard_in owner.place (max n x.at) x.event log.stations) is.moment
-    ∙ ap (heard_in owner.place (now (x ∷ past)) x.event) is.stations
-
 pub needs_same : (owner : Owner) (past : List Entry) (log : Log) (here : Probe) (x : Entry) → IsLogOf owner past log → here ≡ record { node = owner.number; place = length past } →
     needs_by log (read_by log owner.place here x) (moment_of log x) ≡ needs_of owner (x ∷ past)
 needs_same owner past log here x is at_here =
     let at = now (x ∷ past) in
     let moment : moment_of log x ≡ at = ap (λ n. max n x.at) is.moment in
-    let known : is_known (moment_of log x) (heard_in owner.place (moment_of log x) x.event log.stations).heard ≡ knows owner.place past at x.event =
-    ap (λ n. is_known n (heard_in owner.place (moment_of log x) x.event log.stations).heard) moment
-    ∙ (ap (λ (s : Proxies). is_known at s.heard) (stations_same owner past log x is) ∙ known_same owner.place x past) in
-    ap (λ k. widest (wanted_in owner.place k x.event) (λ e. reach_of (tally_at log e) (moment_of log x) (probe_handled here x.event))) known
+    ap (λ k. widest (wanted_in owner.place k x.event) (λ e. reach_of (tally_at log e) (moment_of log x) (probe_handled here x.event))) (known_after owner.place past x log.moment log.stations is.moment is.stations)
     ∙ (ap (λ n. widest (wanted_in owner.place (knows owner.place past at x.event) x.event) (λ e. reach_of (tally_at log e) n (probe_handled here x.event))) moment
     ∙ (ap (λ p. widest (wanted_in owner.place (knows owner.place past at x.event) x.event) (λ e. reach_of (tally_at log e) at (probe_handled p x.event))) at_here
     ∙ widest_same (wanted_in owner.place (knows owner.place past at x.event) x.event) (λ e. reach_of (tally_at log e) at (probe_handled (here_of owner past) x.event)) _
@@ -80,7 +71,7 @@ pub log_more : (owner : Owner) (past : List Entry) (old new : Log) (here : Probe
     IsLoggedAfter old owner.place here x new → IsLogOf owner (x ∷ past) new
 log_more owner past old new here x is at_here after = record {
   moment = after.moment ∙ moment;
-  stations = after.stations ∙ stations_same owner past old x is;
+  stations = after.stations ∙ stations_after owner.place past x old.moment old.stations is.moment is.stations;
   tells = tells;
 }
   where

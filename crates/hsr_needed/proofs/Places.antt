@@ -4,6 +4,7 @@ use Rattle.std.proofs.lemmas.Bool.{cases_lt}
 use Rattle.std.proofs.lemmas.List.{reverse-append, length-reverse, length-take, take_more}
 use Rattle.hsr_node.specs.Record.{Each}
 use Rattle.hsr_node.specs.declared.entry.Entry.{Entry}
+use Rattle.hsr_node.specs.declared.event.Probe.{Probe}
 use Rattle.hsr_node.specs.declared.event.Event.TheVariants.{Age}
 use Rattle.hsr_node.specs.declared.event.Outcome.TheVariants.{Aged}
 
@@ -16,6 +17,17 @@ past_more xs i d below = ap reverse (take_more xs i d below) ∙ reverse-append 
 
 pub past_length : (xs : List Entry) (i : ℕ) → i ≤ length xs → length (reverse (take i xs)) ≡ i
 past_length xs i below = let taken = length-take i xs in length-reverse (take i xs) ∙ (let e : length (take i xs) ≡ i = omega (arith, taken, below) in e)
+
+-- an entry that stands here stands after its past
+pub here_is : (xs : List Entry) (k i : ℕ) (here : Probe) → i < length xs → here ≡ record { node = k; place = i } → here ≡ record { node = k; place = length (reverse (take i xs)) }
+here_is xs k i here below at_here =
+    let long = past_length xs i (omega (arith, below)) in
+    let P : ℕ → Type 0 = λ n. here ≡ record { node = k; place = n } in
+    subst P (sym long) at_here
+
+-- the past with the entry at a place
+pub past_with : (xs : List Entry) (i : ℕ) (x : Entry) → i < length xs → x ≡ slice_index_or xs i x → reverse (take (i + 1) xs) ≡ x ∷ reverse (take i xs)
+past_with xs i x below x_is = past_more xs i x below ∙ ap (λ y. y ∷ reverse (take i xs)) (sym x_is)
 
 -- P of the entry at a place and its past
 abbrev pub HoldsAt : (Entry → List Entry → Type 0) → List Entry → ℕ → Type 0

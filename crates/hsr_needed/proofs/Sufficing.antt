@@ -14,18 +14,13 @@ use Rattle.hsr_node.specs.declared.event.Probe.{Probe}
 use Rattle.hsr_law.specs.Premises.{NothingForgotten, Remembers, is_note_of}
 use Rattle.hsr_law.specs.Run.{Run, owner_of, past_of, record_of}
 use Rattle.hsr_law.proofs.Records.{each_so, notes_more}
-use Rattle.hsr_needed.specs.Needs.{IsLatest, IsJustEnough, IsMet, IsMost, IsWanted, IsYoung, Needs, NothingExpired, is_unexpired}
+use Rattle.hsr_needed.specs.Needs.{AreUpTo, IsLatest, IsJustEnough, IsMet, IsMost, IsWanted, IsYoung, Needs, NothingExpired, is_unexpired}
 use Rattle.hsr_needed.specs.declared.most.Needed.{Needed}
 use Rattle.hsr_needed.proofs.Places.{from_each, no_entry}
 
 -- ---- moments
 
--- no note is younger than a moment, nor than a note after it
-abbrev pub AreUpTo : ℕ → List Noted → Type 0
-AreUpTo at [] = Unit {0}
-AreUpTo at (note ∷ past) = (note.moment ≤ at) × AreUpTo note.moment past
-
-up_to_later : (m at : ℕ) (noted : List Noted) → m ≤ at → AreUpTo m noted → AreUpTo at noted
+pub up_to_later : (m at : ℕ) (noted : List Noted) → m ≤ at → AreUpTo m noted → AreUpTo at noted
 up_to_later m at [] low aged = tt
 up_to_later m at (note ∷ past) low aged = let h = aged.0 in (omega (arith, h, low), aged.1)
 
@@ -46,7 +41,7 @@ up_to_older at [] note older aged = aged.1
 up_to_older at (y ∷ ys) note older aged = up_to_older y.moment ys note older aged.1
 
 -- no note is remembered that isn't younger than one that is too old
-none_young : (test : Noted → Bool) (at m : ℕ) (noted : List Noted) (c : ℕ) → nat_lt (at - m) entry_forget ≡ false → AreUpTo m noted →
+pub none_young : (test : Noted → Bool) (at m : ℕ) (noted : List Noted) (c : ℕ) → nat_lt (at - m) entry_forget ≡ false → AreUpTo m noted →
     list_any test (filter (is_unexpired at) (take c noted)) ≡ false
 none_young test at m [] zero old aged = refl
 none_young test at m [] (suc c) old aged = refl

@@ -27,7 +27,7 @@ use Rattle.hsr_needed.specs.declared.log.Log.{Log}
 use Rattle.hsr_needed.specs.declared.most.Needed.{Needed}
 use Rattle.hsr_needed.proofs.Latest.{reach_latest, reached}
 use Rattle.hsr_needed.proofs.Logging.{has_room, is_aged, log_more, needs_same}
-use Rattle.hsr_needed.proofs.Places.{each_from, no_entry, past_length, past_more}
+use Rattle.hsr_needed.proofs.Places.{each_from, here_is, no_entry, past_length, past_more, past_with}
 
 -- ---- one entry
 
@@ -154,25 +154,19 @@ module _ (run : Run) (k i : ℕ) (x : Entry) (below : i < length (record_of run 
   abbrev before : List Entry
   before = reverse (take i (record_of run k))
 
-  here_is : (here : Probe) → here ≡ record { node = k; place = i } → here ≡ record { node = k; place = length (reverse (take i (record_of run k))) }
-  here_is here at_here =
-      let long = past_length (record_of run k) i (omega (arith, below)) in
-      let P : ℕ → Type 0 = λ n. here ≡ record { node = k; place = n } in
-      subst P (sym long) at_here
-
   more_is : reverse (take (i + 1) (record_of run k)) ≡ x ∷ reverse (take i (record_of run k))
-  more_is = past_more (record_of run k) i x below ∙ ap (λ y. y ∷ reverse (take i (record_of run k))) (sym x_is)
+  more_is = past_with (record_of run k) i x below x_is
 
   pub walk_more : (old new : Log) (here : Probe) → here ≡ record { node = k; place = i } → IsLogOf (owner_of run k) (reverse (take i (record_of run k))) old →
       IsLoggedAfter old (place_of run k) here x new → IsLogOf (owner_of run k) (reverse (take (i + 1) (record_of run k))) new
   walk_more old new here at_here is after =
       let P : List Entry → Type 0 = λ past. IsLogOf (owner_of run k) past new in
-      subst P (sym more_is) (log_more (owner_of run k) before old new here x is (here_is here at_here) after)
+      subst P (sym more_is) (log_more (owner_of run k) before old new here x is (here_is (record_of run k) k i here below at_here) after)
 
   pub walk_needs : (old : Log) (here : Probe) → here ≡ record { node = k; place = i } → IsLogOf (owner_of run k) (reverse (take i (record_of run k))) old →
       needs_by old (read_by old (place_of run k) here x) (moment_of old x) ≡ needs_at run k i
   walk_needs old here at_here is =
-      needs_same (owner_of run k) before old here x is (here_is here at_here) ∙ sym (ap (needs_of (owner_of run k)) more_is)
+      needs_same (owner_of run k) before old here x is (here_is (record_of run k) k i here below at_here) ∙ sym (ap (needs_of (owner_of run k)) more_is)
 
   pub walk_room : (old : Log) → IsLogOf (owner_of run k) (reverse (take i (record_of run k))) old → i + 1 < 2 ^ 64 → HasRoom old
   walk_room old is few =

@@ -11,7 +11,7 @@ use Rattle.hsr_node.specs.Record.{Owner, knows, notes, now, probe_handled}
 use Rattle.hsr_node.specs.declared.entry.Entry.{Entry}
 use Rattle.hsr_node.specs.declared.event.Probe.{Probe}
 use Rattle.hsr_node.specs.declared.place.Place.{Place}
-use Rattle.hsr_needed.specs.Read.{Reading, heard_in, reading, stations_of, wanted_in}
+use Rattle.hsr_needed.specs.Read.{Reading, heard_in, read_after, stations_of, wanted_in}
 use Rattle.hsr_needed.specs.Tallied.{IsTalliedAfter, Tells, reach_in, reach_of}
 use Rattle.hsr_needed.specs.declared.log.Log.{Log}
 use Rattle.hsr_needed.specs.declared.tally.Tally.{Tally}
@@ -42,7 +42,7 @@ moment_of log x = max log.moment x.at
 
 -- an entry that stands here, read by what is kept before it
 abbrev pub read_by : Log → Place → Probe → Entry → Reading
-read_by log place here x = let at = moment_of log x in reading place (heard_in place at x.event log.stations) at here x
+read_by log = read_after log.moment log.stations
 
 abbrev pub needs_by : Log → Reading → ℕ → ℕ
 needs_by log r at = widest r.wanted (λ e. reach_of (tally_at log e) at r.send)

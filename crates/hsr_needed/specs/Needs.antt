@@ -5,7 +5,7 @@
 --     NothingExpired    nothing was forgotten by age
 --     LegalWithNeeded   the same records are legal with all tables that are as large
 --     IsJustEnough      nothing that was needed was forgotten where tables have so many entries
-use Rattle.std.specs.Prelude.{ℕ, ◌+◌, ◌-◌, ◌<◌, ◌≤◌, ◌≡◌, ◌↔◌, nat_lt, Bool, true, false, max, List, ◌∷◌, ◌++◌, length, reverse, take, slice_index_or, Option, Some, None}
+use Rattle.std.specs.Prelude.{ℕ, ◌+◌, ◌-◌, ◌<◌, ◌≤◌, ◌≡◌, ◌↔◌, nat_lt, Bool, true, false, max, List, [], ◌∷◌, ◌++◌, length, reverse, take, slice_index_or, Option, Some, None}
 use Rattle.std.specs.List.{list_any}
 use Rattle.hsr_frame.specs.Egress.{Egress}
 use Rattle.hsr_duptable.specs.Notes.{entry_forget}
@@ -33,6 +33,11 @@ pub record IsLatest (send : Option Probe) (noted younger : List Noted) (note : N
 
 abbrev pub is_unexpired : ℕ → Noted → Bool
 is_unexpired at note = nat_lt (at - note.moment) entry_forget
+
+-- no note is younger than a moment, nor than a note after it
+abbrev pub AreUpTo : ℕ → List Noted → Type 0
+AreUpTo at [] = Unit {0}
+AreUpTo at (note ∷ past) = (note.moment ≤ at) × AreUpTo note.moment past
 
 -- what comes from a ring wants an egress
 pub record IsWanted (owner : Owner) (past : List Entry) (at port : ℕ) (copy : Carried) (e : Egress) : Type 0 where

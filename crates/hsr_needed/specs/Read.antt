@@ -3,7 +3,7 @@
 --     wanted_from  where what comes from a ring is wanted
 --     noted_in     where an entry is noted
 --     Reading      all of it
-use Rattle.std.specs.Prelude.{ℕ, Bool, if◌then◌else◌, List, [], ◌∷◌, fold, Option, Some, None, is_some, option_map, Result}
+use Rattle.std.specs.Prelude.{ℕ, max, Bool, if◌then◌else◌, List, [], ◌∷◌, fold, Option, Some, None, is_some, option_map, Result}
 use Rattle.hsr_frame.specs.Egress.{up, a, b, c, d, no_exits}
 use Rattle.hsr_frame.specs.declared.egress.Exits.{Exits}
 use Rattle.hsr_frame.specs.declared.fault.FrameFault.{FrameFault}
@@ -75,3 +75,7 @@ reading place stations at here x = record {
   send = probe_handled here x.event;
   noted = noted_in place x.event x.outcome;
 }
+
+-- the same, by the moment and the stations of the node before it
+abbrev pub read_after : ℕ → Proxies → Place → Probe → Entry → Reading
+read_after moment stations place here x = let at = max moment x.at in reading place (heard_in place at x.event stations) at here x
