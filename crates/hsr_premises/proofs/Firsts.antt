@@ -1,13 +1,13 @@
 -- The first places of a record, and of all records.
-use Rattle.std.proofs.Common.{◌≡◌, ℕ, ◌+◌, ◌<◌, ◌≤◌, Bool, true, false, if◌then◌else◌, List, [], ◌∷◌, length, reverse, take, slice_index_or, Option, Some, None, refl, sym, ap, ◌∙◌, subst, arith, ⊎_elim}
+use Rattle.std.proofs.Common.{◌≡◌, ℕ, ◌+◌, ◌<◌, ◌≤◌, Bool, true, false, if◌then◌else◌, List, ◌∷◌, length, reverse, take, slice_index_or, Option, Some, None, sym, ap, ◌∙◌, subst, arith, ⊎_elim}
 use Rattle.std.specs.Option.{option_or}
 use Rattle.std.proofs.lemmas.Bool.{cases_lt, false≢true}
 use Rattle.hsr_node.specs.Record.{now}
 use Rattle.hsr_node.specs.declared.entry.Entry.{Entry}
 use Rattle.hsr_law.specs.Premises.{KnowsOwn, NothingForgotten, NothingMistaken, Remembers}
 use Rattle.hsr_law.specs.Run.{Run, owner_of, place_of, record_of}
-use Rattle.hsr_needed.proofs.Places.{each_from, no_entry, past_length, past_more}
-use Rattle.hsr_premises.specs.Flaws.{ClearBelow, IsFirstAt, IsFirstNot, IsFirstOf, IsFirstPlace, IsFirstPlaceOf, IsInTimeAt, KnowsOwnAt, NoneBelow, RemembersAt, Test, first_after, test_at}
+use Rattle.hsr_needed.proofs.Places.{each_from, here_is, no_entry, past_more, past_with}
+use Rattle.hsr_premises.specs.Flaws.{ClearBelow, IsFirstAt, IsFirstNot, IsFirstPlace, IsFirstPlaceOf, IsInTimeAt, KnowsOwnAt, NoneBelow, RemembersAt, Test, first_after, test_at}
 use Rattle.hsr_premises.specs.Looked.{IsLogOf, IsLoggedAfter, came_in, forgets_by, forgets_of, is_late_by, lates_of, mistakes_by, mistakes_of, moment_of, read_by}
 use Rattle.hsr_premises.specs.declared.log.Log.{Log}
 use Rattle.hsr_node.specs.declared.event.Probe.{Probe}
@@ -35,30 +35,24 @@ module _ (run : Run) (k i : ℕ) (x : Entry) (below : i < length (record_of run 
   abbrev before : List Entry
   before = reverse (take i (record_of run k))
 
-  here_is : (here : Probe) → here ≡ record { node = k; place = i } → here ≡ record { node = k; place = length (reverse (take i (record_of run k))) }
-  here_is here at_here =
-      let long = past_length (record_of run k) i (omega (arith, below)) in
-      let P : ℕ → Type 0 = λ n. here ≡ record { node = k; place = n } in
-      subst P (sym long) at_here
-
   more_is : reverse (take (i + 1) (record_of run k)) ≡ x ∷ reverse (take i (record_of run k))
-  more_is = past_more (record_of run k) i x below ∙ ap (λ y. y ∷ reverse (take i (record_of run k))) (sym x_is)
+  more_is = past_with (record_of run k) i x below x_is
 
   pub walk_more : (old new : Log) (here : Probe) → here ≡ record { node = k; place = i } → IsLogOf (owner_of run k) (reverse (take i (record_of run k))) old →
       IsLoggedAfter old (place_of run k) here x new → IsLogOf (owner_of run k) (reverse (take (i + 1) (record_of run k))) new
   walk_more old new here at_here is after =
       let P : List Entry → Type 0 = λ past. IsLogOf (owner_of run k) past new in
-      subst P (sym more_is) (log_more (owner_of run k) before old new here x is (here_is here at_here) after)
+      subst P (sym more_is) (log_more (owner_of run k) before old new here x is (here_is (record_of run k) k i here below at_here) after)
 
   pub walk_forgets : (old : Log) (here : Probe) → here ≡ record { node = k; place = i } → IsLogOf (owner_of run k) (reverse (take i (record_of run k))) old →
       forgets_by run.capacity old (read_by old (place_of run k) here x) (moment_of old x) ≡ test_at forgets_of run k i
   walk_forgets old here at_here is =
-      forgets_same run.capacity (owner_of run k) before old here x is (here_is here at_here) ∙ sym (ap (forgets_of run.capacity (owner_of run k)) more_is)
+      forgets_same run.capacity (owner_of run k) before old here x is (here_is (record_of run k) k i here below at_here) ∙ sym (ap (forgets_of run.capacity (owner_of run k)) more_is)
 
   pub walk_mistakes : (old : Log) (here : Probe) → here ≡ record { node = k; place = i } → IsLogOf (owner_of run k) (reverse (take i (record_of run k))) old →
       mistakes_by run.capacity old (read_by old (place_of run k) here x) (came_in x.event) (moment_of old x) ≡ test_at mistakes_of run k i
   walk_mistakes old here at_here is =
-      mistakes_same run.capacity (owner_of run k) before old here x is (here_is here at_here) ∙ sym (ap (mistakes_of run.capacity (owner_of run k)) more_is)
+      mistakes_same run.capacity (owner_of run k) before old here x is (here_is (record_of run k) k i here below at_here) ∙ sym (ap (mistakes_of run.capacity (owner_of run k)) more_is)
 
   pub walk_late : (old : Log) → IsLogOf (owner_of run k) (reverse (take i (record_of run k))) old → is_late_by old x.event x.outcome ≡ test_at lates_of run k i
   walk_late old is = late_same (owner_of run k) before old is x ∙ sym (ap (lates_of run.capacity (owner_of run k)) more_is)
@@ -119,38 +113,27 @@ module _ (run : Run) where
   nothing_late n all clear = λ k below.
       each_from (λ x past. is_numbered_late (owner_of run k) past x.event x.outcome ≡ false) (record_of run k) (λ i under. in_time_at k i under (clear k (omega (arith, below, all)) i under))
 
-  pub first_forgotten : (n k i : ℕ) → n ≤ length run.places → IsFirstPlace forgets_of run n k i → IsFirstNot run (RemembersAt run) k i
-  first_forgotten n k i most f =
+  -- the first place where a test holds is the first where the fact fails that it tests
+  first_not : (test : Test) (P : ℕ → ℕ → Type 0) →
+      ((k i : ℕ) → i < length (record_of run k) → test_at test run k i ≡ false → P k i) →
+      ((k i : ℕ) → i < length (record_of run k) → test_at test run k i ≡ true → P k i → ⊥) →
+      (n k i : ℕ) → n ≤ length run.places → IsFirstPlace test run n k i → IsFirstNot run P k i
+  first_not test P holds fails n k i most f =
       let low = f.node in
       let under = f.first.below in
       record {
         node = omega (arith, low, most);
         place = under;
-        fails = not_remembers k i under f.first.here;
-        before = λ j lower. remembers_at k j (omega (arith, lower, under)) (f.first.before j lower);
-        nodes = λ l j lower in_record. remembers_at l j in_record (f.nodes l lower j in_record);
+        fails = fails k i under f.first.here;
+        before = λ j lower. holds k j (omega (arith, lower, under)) (f.first.before j lower);
+        nodes = λ l j lower in_record. holds l j in_record (f.nodes l lower j in_record);
       }
+
+  pub first_forgotten : (n k i : ℕ) → n ≤ length run.places → IsFirstPlace forgets_of run n k i → IsFirstNot run (RemembersAt run) k i
+  first_forgotten = first_not forgets_of (RemembersAt run) remembers_at not_remembers
 
   pub first_mistaken : (n k i : ℕ) → n ≤ length run.places → IsFirstPlace mistakes_of run n k i → IsFirstNot run (KnowsOwnAt run) k i
-  first_mistaken n k i most f =
-      let low = f.node in
-      let under = f.first.below in
-      record {
-        node = omega (arith, low, most);
-        place = under;
-        fails = not_knows k i under f.first.here;
-        before = λ j lower. knows_at k j (omega (arith, lower, under)) (f.first.before j lower);
-        nodes = λ l j lower in_record. knows_at l j in_record (f.nodes l lower j in_record);
-      }
+  first_mistaken = first_not mistakes_of (KnowsOwnAt run) knows_at not_knows
 
   pub first_late : (n k i : ℕ) → n ≤ length run.places → IsFirstPlace lates_of run n k i → IsFirstNot run (IsInTimeAt run) k i
-  first_late n k i most f =
-      let low = f.node in
-      let under = f.first.below in
-      record {
-        node = omega (arith, low, most);
-        place = under;
-        fails = not_in_time k i under f.first.here;
-        before = λ j lower. in_time_at k j (omega (arith, lower, under)) (f.first.before j lower);
-        nodes = λ l j lower in_record. in_time_at l j in_record (f.nodes l lower j in_record);
-      }
+  first_late = first_not lates_of (IsInTimeAt run) in_time_at not_in_time

@@ -1,5 +1,5 @@
 -- What is kept of a node tells of its past, entry by entry.
-use Rattle.std.proofs.Common.{◌≡◌, ℕ, ◌≤◌, Bool, true, false, max, if◌then◌else◌, List, [], ◌∷◌, length, reverse, Option, Some, None, refl, sym, ap, ◌∙◌, subst, arith}
+use Rattle.std.proofs.Common.{◌≡◌, ℕ, ◌≤◌, Bool, max, if◌then◌else◌, List, [], ◌∷◌, length, reverse, Option, Some, None, refl, sym, ap, ◌∙◌, subst, arith}
 use Rattle.std.specs.Prelude.{is_some}
 use Rattle.std.specs.List.{cons_option, list_any}
 use Rattle.std.proofs.lemmas.List.{reverse-append, reverse-reverse}
@@ -14,27 +14,22 @@ use Rattle.hsr_node.specs.declared.event.Event.TheVariants.{Age, Arrive, Send, S
 use Rattle.hsr_node.specs.declared.event.Outcome.{Outcome}
 use Rattle.hsr_node.specs.declared.event.Outcome.TheVariants.{Aged, Judged, Life, Sent}
 use Rattle.hsr_node.specs.declared.event.Probe.{Probe}
-use Rattle.hsr_node.specs.declared.place.Place.{Place}
 use Rattle.hsr_tables.specs.Proxies.{Proxies, is_known, no_proxies}
 use Rattle.hsr_law.specs.Premises.{is_note_of}
 use Rattle.hsr_network_law.specs.Late.{is_numbered_late, was_noted}
-use Rattle.hsr_needed.specs.Read.{heard_in, noted_at, stations_of, wanted_in}
-use Rattle.hsr_needed.proofs.Hearing.{heard_last, known_same}
-use Rattle.hsr_premises.specs.Looked.{IsAged, IsLogOf, IsLoggedAfter, IsReadyFor, any_wanted, came_in, forgets_by, forgets_of, is_late_by, lates_of, marks_at, mistakes_by, mistakes_of, moment_of, read_by, was_marked}
-use Rattle.hsr_premises.specs.Places.{AreUpTo, is_gone, is_mixed_up, noted_after}
+use Rattle.hsr_needed.specs.Read.{heard_in, noted_at, wanted_in}
+use Rattle.hsr_needed.proofs.Hearing.{heard_last, known_after, stations_after}
+use Rattle.hsr_needed.proofs.Sufficing.{up_to_later}
+use Rattle.hsr_premises.specs.Looked.{IsLogOf, IsLoggedAfter, IsReadyFor, any_wanted, came_in, forgets_by, forgets_of, is_late_by, lates_of, marks_at, mistakes_by, mistakes_of, moment_of, read_by, was_marked}
+use Rattle.hsr_needed.specs.Needs.{AreUpTo}
+use Rattle.hsr_premises.specs.Places.{is_gone, is_mixed_up, noted_after}
 use Rattle.hsr_premises.specs.declared.log.Log.{Log}
-use Rattle.hsr_premises.proofs.Placing.{noted_up_to, up_to_later}
+use Rattle.hsr_premises.proofs.Placing.{noted_up_to}
 
 -- ---- one more entry
 
 abbrev here_of : Owner → List Entry → Probe
 here_of owner past = record { node = owner.number; place = length past }
-
-stations_same : (owner : Owner) (past : List Entry) (log : Log) (x : Entry) → IsLogOf owner past log →
-    heard_in owner.place (moment_of log x) x.event log.stations ≡ stations_of owner.place (x ∷ past)
-stations_same owner past log x is =
-    ap (λ n. heard_in owner.place (max n x.at) x.event log.stations) is.moment
-    ∙ ap (heard_in owner.place (now (x ∷ past)) x.event) is.stations
 
 -- what has no number isn't noted
 note_same : (o : Option Key) (outcome : Outcome) (e : Egress) (m : ℕ) (p : Option Probe) →
@@ -57,20 +52,23 @@ ready_at log m r b = r.at_b
 ready_at log m r c = r.at_c
 ready_at log m r d = r.at_d
 
-pub ready_later : (log : Log) (m n : ℕ) → IsReadyFor log m → IsReadyFor log (max m n)
-ready_later log m n r = record {
-  at_up = up_to_later m n (reverse log.up) r.at_up;
-  at_a = up_to_later m n (reverse log.a) r.at_a;
-  at_b = up_to_later m n (reverse log.b) r.at_b;
-  at_c = up_to_later m n (reverse log.c) r.at_c;
-  at_d = up_to_later m n (reverse log.d) r.at_d;
-}
+-- what is kept goes on to be up to the effective moment of the next entry
+pub ready_later : (log : Log) (stations : Proxies) (at moment : ℕ) → moment ≡ max log.moment at → IsReadyFor log log.moment → IsReadyFor (record log { moment = moment; stations = stations }) moment
+ready_later log stations at moment is r =
+    let later : log.moment ≤ moment = omega (arith, is) in
+    record {
+      at_up = up_to_later log.moment moment (reverse log.up) later r.at_up;
+      at_a = up_to_later log.moment moment (reverse log.a) later r.at_a;
+      at_b = up_to_later log.moment moment (reverse log.b) later r.at_b;
+      at_c = up_to_later log.moment moment (reverse log.c) later r.at_c;
+      at_d = up_to_later log.moment moment (reverse log.d) later r.at_d;
+    }
 
 pub log_more : (owner : Owner) (past : List Entry) (old new : Log) (here : Probe) (x : Entry) → IsLogOf owner past old → here ≡ record { node = owner.number; place = length past } →
     IsLoggedAfter old owner.place here x new → IsLogOf owner (x ∷ past) new
 log_more owner past old new here x is at_here after = record {
   moment = after.moment ∙ moment;
-  stations = after.stations ∙ stations_same owner past old x is;
+  stations = after.stations ∙ stations_after owner.place past x old.moment old.stations is.moment is.stations;
   marks = marks;
   aged = record {
     stations =
@@ -112,9 +110,7 @@ module _ (capacity : ℕ) (owner : Owner) (past : List Entry) (log : Log) (here 
   moment_is = ap (λ n. max n x.at) is.moment
 
   known_is : is_known (moment_of log x) (heard_in owner.place (moment_of log x) x.event log.stations).heard ≡ knows owner.place past (now (x ∷ past)) x.event
-  known_is =
-      ap (λ n. is_known n (heard_in owner.place (moment_of log x) x.event log.stations).heard) moment_is
-      ∙ (ap (λ (s : Proxies). is_known (now (x ∷ past)) s.heard) (stations_same owner past log x is) ∙ known_same owner.place x past)
+  known_is = known_after owner.place past x log.moment log.stations is.moment is.stations
 
   marks_back : (e : Egress) → reverse (marks_at log e) ≡ notes owner e past
   marks_back e = ap reverse (is.marks e) ∙ reverse-reverse (notes owner e past)

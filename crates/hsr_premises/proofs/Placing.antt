@@ -1,19 +1,20 @@
 -- What stands at the places that an index has, against a walk over all notes.
-use Rattle.std.proofs.Common.{◌≡◌, ℕ, zero, suc, ◌-◌, ◌<◌, Bool, true, false, ◌&&◌, ◌||◌, not, cond, max, nat_le, nat_lt, List, [], ◌∷◌, ◌++◌, length, take, reverse, filter, slice_get, Option, Some, None, is_some, unwrap_or, refl, sym, ap, ◌∙◌, subst, arith}
+use Rattle.std.proofs.Common.{◌≡◌, ℕ, zero, suc, ◌-◌, ◌<◌, Bool, true, false, ◌&&◌, ◌||◌, not, cond, max, nat_le, List, [], ◌∷◌, ◌++◌, length, take, reverse, filter, slice_get, Option, Some, None, is_some, unwrap_or, refl, sym, ap, ◌∙◌, subst, arith}
 use Rattle.std.specs.List.{list_any}
-use Rattle.std.proofs.lemmas.Bool.{false≢true, ltb-false, le-leb, le-ltb, and_right, or_parts}
+use Rattle.std.proofs.lemmas.Bool.{false≢true, le-leb, and_right, or_parts}
 use Rattle.std.proofs.lemmas.Bool.Decides.{nat_tests}
 use Rattle.std.proofs.lemmas.List.{reverse-append, reverse-reverse, length-reverse}
 use Rattle.std.proofs.lemmas.Option.{none-some, slice_get_within}
 use Rattle.std.proofs.Math.Nat.{le-max_left}
 use Rattle.hsr_duptable.specs.Key.{Key, is_same_key}
-use Rattle.hsr_duptable.specs.Notes.{entry_forget}
 use Rattle.hsr_node.specs.Record.{Noted, note_if, remembered}
 use Rattle.hsr_node.specs.declared.event.Probe.{Probe}
 use Rattle.hsr_law.specs.Premises.{is_mistaken, is_note_of}
 use Rattle.hsr_law.specs.Run.{is_same_send}
 use Rattle.hsr_law.proofs.Same.{probe_is, same_key}
-use Rattle.hsr_premises.specs.Places.{AreUpTo, is_gone, is_kept, is_kept_note, is_young, latest_in, noted_after, other_in, place_in}
+use Rattle.hsr_needed.specs.Needs.{AreUpTo, is_unexpired}
+use Rattle.hsr_needed.proofs.Sufficing.{none_young, up_to_later}
+use Rattle.hsr_premises.specs.Places.{is_gone, is_kept, is_kept_note, latest_in, noted_after, other_in, place_in}
 use Rattle.hsr_premises.specs.declared.marks.Latest.{Latest}
 
 -- ---- one more note
@@ -96,75 +97,62 @@ other_placed key send (note ∷ past) = by_key (is_same_key note.key key) refl (
 
 -- ---- what is remembered
 
--- no note is remembered that isn't younger than one that is too old
-none_young : (test : Noted → Bool) (at m : ℕ) (past : List Noted) (c : ℕ) → nat_lt (at - m) entry_forget ≡ false → AreUpTo m past →
-    list_any test (filter (is_young at) (take c past)) ≡ false
-none_young test at m [] zero old aged = refl
-none_young test at m [] (suc c) old aged = refl
-none_young test at m (note ∷ past) zero old aged = refl
-none_young test at m (note ∷ past) (suc c) old aged =
-    let h = ltb-false (at - m) entry_forget old in
-    let earlier = aged.0 in
-    let too_old : is_young at note ≡ false = le-ltb (at - note.moment) entry_forget (omega (arith, h, earlier)) in
-    ap (λ b. list_any test (cond b (note ∷ filter (is_young at) (take c past)) (filter (is_young at) (take c past)))) too_old
-    ∙ none_young test at note.moment past c too_old aged.1
-
-never : (test : Noted → Bool) (at : ℕ) (past : List Noted) (c : ℕ) → list_any test past ≡ false → list_any test (filter (is_young at) (take c past)) ≡ false
+never : (test : Noted → Bool) (at : ℕ) (past : List Noted) (c : ℕ) → list_any test past ≡ false → list_any test (filter (is_unexpired at) (take c past)) ≡ false
 never test at [] zero none = refl
 never test at [] (suc c) none = refl
 never test at (note ∷ past) zero none = refl
 never test at (note ∷ past) (suc c) none =
     let parts = or_parts (test note) (list_any test past) none in
-    by_age (is_young at note) parts.0 (never test at past c parts.1)
+    by_age (is_unexpired at note) parts.0 (never test at past c parts.1)
   where
-    by_age : (b : Bool) → test note ≡ false → list_any test (filter (is_young at) (take c past)) ≡ false →
-        list_any test (cond b (note ∷ filter (is_young at) (take c past)) (filter (is_young at) (take c past))) ≡ false
-    by_age true off rest = ap (λ b. b || list_any test (filter (is_young at) (take c past))) off ∙ rest
+    by_age : (b : Bool) → test note ≡ false → list_any test (filter (is_unexpired at) (take c past)) ≡ false →
+        list_any test (cond b (note ∷ filter (is_unexpired at) (take c past)) (filter (is_unexpired at) (take c past))) ≡ false
+    by_age true off rest = ap (λ b. b || list_any test (filter (is_unexpired at) (take c past))) off ∙ rest
     by_age false off rest = rest
 
 -- the latest note that passes a test is remembered where any that passes it is
 latest_kept : (test : Noted → Bool) (at m : ℕ) (past : List Noted) (c i : ℕ) → AreUpTo m past → place_in test past ≡ Some i →
-    list_any test (filter (is_young at) (take c past)) ≡ is_kept_note c at (length past - i) (slice_get (reverse past) i)
+    list_any test (filter (is_unexpired at) (take c past)) ≡ is_kept_note c at (length past - i) (slice_get (reverse past) i)
 latest_kept test at m [] c i aged is = absurd (none-some i is)
 latest_kept test at m (note ∷ past) c i aged is = by_head (test note) refl is (λ n. latest_kept test at note.moment past n i aged.1)
   where
-    here_kept : (n : ℕ) → test note ≡ true → list_any test (filter (is_young at) (take n (note ∷ past))) ≡ (nat_le 1 n && is_young at note)
+    here_kept : (n : ℕ) → test note ≡ true → list_any test (filter (is_unexpired at) (take n (note ∷ past))) ≡ (nat_le 1 n && is_unexpired at note)
     here_kept zero on = refl
-    here_kept (suc n) on = by_age (is_young at note) refl
+    here_kept (suc n) on = by_age (is_unexpired at note) refl
       where
-        by_age : (b : Bool) → is_young at note ≡ b →
-            list_any test (cond b (note ∷ filter (is_young at) (take n past)) (filter (is_young at) (take n past))) ≡ (nat_le 1 (suc n) && b)
-        by_age true age = ap (λ b. b || list_any test (filter (is_young at) (take n past))) on ∙ sym (ap (λ b. b && true) (le-leb 1 (suc n) (omega arith)))
+        by_age : (b : Bool) → is_unexpired at note ≡ b →
+            list_any test (cond b (note ∷ filter (is_unexpired at) (take n past)) (filter (is_unexpired at) (take n past))) ≡ (nat_le 1 (suc n) && b)
+        by_age true age = ap (λ b. b || list_any test (filter (is_unexpired at) (take n past))) on ∙ sym (ap (λ b. b && true) (le-leb 1 (suc n) (omega arith)))
         by_age false age = none_young test at note.moment past n age aged.1 ∙ sym (and_right (nat_le 1 (suc n)) false refl)
 
     further : (n : ℕ) (o : Option Noted) → i < length past →
         is_kept_note n at (length past - i) o ≡ is_kept_note (suc n) at (suc (length past) - i) o
     further n None below = refl
     further n (Some other) below =
-        let same : nat_le (length past - i) n ≡ nat_le (suc (length past) - i) (suc n) = grind (arith, nat_tests, below) in ap (λ b. b && is_young at other) same
+        let same : nat_le (length past - i) n ≡ nat_le (suc (length past) - i) (suc n) = grind (arith, nat_tests, below) in ap (λ b. b && is_unexpired at other) same
 
     nearest : (o : Option Noted) → i < length past → false ≡ is_kept_note zero at (suc (length past) - i) o
     nearest None below = refl
     nearest (Some other) below =
-        let same : false ≡ nat_le (suc (length past) - i) zero = grind (arith, nat_tests, below) in ap (λ b. b && is_young at other) same
+        let same : false ≡ nat_le (suc (length past) - i) zero = grind (arith, nat_tests, below) in ap (λ b. b && is_unexpired at other) same
 
-    skips : (n : ℕ) → test note ≡ false → list_any test (filter (is_young at) (take (suc n) (note ∷ past))) ≡ list_any test (filter (is_young at) (take n past))
-    skips n off = by_age (is_young at note)
+    skips : (n : ℕ) → test note ≡ false → list_any test (filter (is_unexpired at) (take (suc n) (note ∷ past))) ≡ list_any test (filter (is_unexpired at) (take n past))
+    skips n off = by_age (is_unexpired at note)
       where
-        by_age : (b : Bool) → list_any test (cond b (note ∷ filter (is_young at) (take n past)) (filter (is_young at) (take n past))) ≡ list_any test (filter (is_young at) (take n past))
-        by_age true = ap (λ b. b || list_any test (filter (is_young at) (take n past))) off
+        by_age : (b : Bool) → list_any test (cond b (note ∷ filter (is_unexpired at) (take n past)) (filter (is_unexpired at) (take n past))) ≡ list_any test (filter (is_unexpired at) (take n past))
+        by_age true = ap (λ b. b || list_any test (filter (is_unexpired at) (take n past))) off
         by_age false = refl
 
     there_kept : (n : ℕ) → test note ≡ false → place_in test past ≡ Some i →
-        ((k : ℕ) → list_any test (filter (is_young at) (take k past)) ≡ is_kept_note k at (length past - i) (slice_get (reverse past) i)) →
-        list_any test (filter (is_young at) (take n (note ∷ past))) ≡ is_kept_note n at (suc (length past) - i) (slice_get (reverse past) i)
+        ((k : ℕ) → list_any test (filter (is_unexpired at) (take k past)) ≡ is_kept_note k at (length past - i) (slice_get (reverse past) i)) →
+        list_any test (filter (is_unexpired at) (take n (note ∷ past))) ≡ is_kept_note n at (suc (length past) - i) (slice_get (reverse past) i)
     there_kept zero off is_there before = nearest (slice_get (reverse past) i) (placed test past i is_there).0
     there_kept (suc n) off is_there before =
         skips n off ∙ (before n ∙ further n (slice_get (reverse past) i) (placed test past i is_there).0)
 
     by_head : (b : Bool) → test note ≡ b → cond b (Some (length past)) (place_in test past) ≡ Some i →
-        ((k : ℕ) → place_in test past ≡ Some i → list_any test (filter (is_young at) (take k past)) ≡ is_kept_note k at (length past - i) (slice_get (reverse past) i)) →
-        list_any test (filter (is_young at) (take c (note ∷ past))) ≡ is_kept_note c at (suc (length past) - i) (slice_get (reverse (note ∷ past)) i)
+        ((k : ℕ) → place_in test past ≡ Some i → list_any test (filter (is_unexpired at) (take k past)) ≡ is_kept_note k at (length past - i) (slice_get (reverse past) i)) →
+        list_any test (filter (is_unexpired at) (take c (note ∷ past))) ≡ is_kept_note c at (suc (length past) - i) (slice_get (reverse (note ∷ past)) i)
     by_head true on h before =
         let same = ap (λ o. unwrap_or o 0) h in
         let one : 1 ≡ suc (length past) - i = omega (arith, same) in
@@ -213,16 +201,12 @@ not_gone capacity at send notes none =
 
 -- ---- moments
 
-pub up_to_later : (m at : ℕ) (past : List Noted) → AreUpTo m past → AreUpTo (max m at) past
-up_to_later m at [] aged = tt
-up_to_later m at (note ∷ past) aged = let h = aged.0 in (omega (arith, h, le-max_left m at), aged.1)
-
 pub noted_up_to : (m at : ℕ) (notes : List Noted) (is : Bool) (key : Option Key) (probe : Option Probe) → AreUpTo m (reverse notes) →
     AreUpTo (max m at) (reverse (noted_after notes (note_if is key (max m at) probe)))
 noted_up_to m at notes is key probe aged = by_note is key
   where
     later : AreUpTo (max m at) (reverse notes)
-    later = up_to_later m at (reverse notes) aged
+    later = up_to_later m (max m at) (reverse notes) (le-max_left m at) aged
 
     by_note : (b : Bool) (k : Option Key) → AreUpTo (max m at) (reverse (noted_after notes (note_if b k (max m at) probe)))
     by_note true None = later

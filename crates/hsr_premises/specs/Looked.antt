@@ -11,7 +11,6 @@ use Rattle.hsr_frame.specs.Egress.{Egress, up, a, b, c, d, has_exit}
 use Rattle.hsr_frame.specs.declared.egress.Exits.{Exits}
 use Rattle.hsr_duptable.specs.Key.{Key}
 use Rattle.hsr_tag.specs.Seen.{classified}
-use Rattle.hsr_tables.specs.Proxies.{Proxies, is_known}
 use Rattle.hsr_node.specs.Record.{Noted, Owner, key_handled, key_in, knows, note_if, notes, now, probe_handled}
 use Rattle.hsr_node.specs.declared.entry.Entry.{Entry}
 use Rattle.hsr_node.specs.declared.event.Event.{Event}
@@ -22,8 +21,9 @@ use Rattle.hsr_node.specs.declared.event.Probe.{Probe}
 use Rattle.hsr_node.specs.declared.place.Place.{Place}
 use Rattle.hsr_law.specs.Premises.{is_note_of}
 use Rattle.hsr_network_law.specs.Late.{is_numbered_late}
-use Rattle.hsr_needed.specs.Read.{Reading, heard_in, reading, stations_of, wanted_in}
-use Rattle.hsr_premises.specs.Places.{AreUpTo, is_gone, is_mixed_up, noted_after}
+use Rattle.hsr_needed.specs.Read.{Reading, heard_in, read_after, stations_of, wanted_in}
+use Rattle.hsr_needed.specs.Needs.{AreUpTo}
+use Rattle.hsr_premises.specs.Places.{is_gone, is_mixed_up, noted_after}
 use Rattle.hsr_premises.specs.declared.log.Log.{Log}
 
 abbrev pub any_wanted : Exits → (Egress → Bool) → Bool
@@ -66,7 +66,7 @@ moment_of log x = max log.moment x.at
 
 -- an entry that stands here, read by what is kept before it
 abbrev pub read_by : Log → Place → Probe → Entry → Reading
-read_by log place here x = let at = moment_of log x in reading place (heard_in place at x.event log.stations) at here x
+read_by log = read_after log.moment log.stations
 
 abbrev pub forgets_by : ℕ → Log → Reading → ℕ → Bool
 forgets_by capacity log r at = any_wanted r.wanted (λ e. is_gone capacity at r.send (reverse (marks_at log e)))

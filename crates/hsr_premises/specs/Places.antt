@@ -4,17 +4,16 @@
 --     is_kept      the note at a place is remembered
 --     is_gone      a send was noted, and no such note is remembered
 --     is_mixed_up  a note with a source and number is remembered, and is of another send
---     AreUpTo      no note is younger than a moment, nor than a note after it
-use Rattle.std.specs.Prelude.{ℕ, ◌-◌, ◌≤◌, ◌++◌, nat_eq, nat_le, nat_lt, ◌&&◌, not, Bool, false, if◌then◌else◌, List, [], ◌∷◌, length, reverse, slice_get, Option, Some, None}
+use Rattle.std.specs.Prelude.{ℕ, ◌-◌, ◌++◌, nat_eq, nat_le, ◌&&◌, not, Bool, false, if◌then◌else◌, List, [], ◌∷◌, length, slice_get, Option, Some, None}
 use Rattle.std.specs.List.{list_any}
 use Rattle.indexmap.specs.IndexMap.{IndexMap, get}
 use Rattle.hsr_frame.specs.Address.{is_same_address}
 use Rattle.hsr_duptable.specs.Key.{Key, is_same_key}
-use Rattle.hsr_duptable.specs.Notes.{entry_forget}
 use Rattle.hsr_node.specs.Record.{Noted, remembered}
 use Rattle.hsr_node.specs.declared.event.Probe.{Probe}
 use Rattle.hsr_law.specs.Premises.{is_mistaken, is_note_of}
 use Rattle.hsr_law.specs.Run.{is_same_send}
+use Rattle.hsr_needed.specs.Needs.{is_unexpired}
 use Rattle.hsr_premises.specs.declared.marks.Latest.{Latest}
 
 -- ---- places
@@ -46,9 +45,6 @@ latest_of keys key = get (λ x y. is_same_address x.0 y.0 && nat_eq x.1 y.1) key
 
 -- ---- what is remembered
 
-abbrev pub is_young : ℕ → Noted → Bool
-is_young at note = nat_lt (at - note.moment) entry_forget
-
 -- the send was noted, and no such note is remembered
 abbrev pub is_gone : ℕ → ℕ → Option Probe → List Noted → Bool
 is_gone capacity at probe notes = not (list_any (is_note_of probe) (remembered capacity at notes)) && list_any (is_note_of probe) notes
@@ -65,15 +61,9 @@ noted_after notes (Some note) = notes ++ note ∷ []
 
 abbrev pub is_kept_note : ℕ → ℕ → ℕ → Option Noted → Bool
 is_kept_note capacity at count None = false
-is_kept_note capacity at count (Some note) = nat_le count capacity && is_young at note
+is_kept_note capacity at count (Some note) = nat_le count capacity && is_unexpired at note
 
 -- of notes with the oldest first, the one at a place is remembered
 abbrev pub is_kept : ℕ → ℕ → List Noted → Option ℕ → Bool
 is_kept capacity at notes None = false
 is_kept capacity at notes (Some place) = is_kept_note capacity at (length notes - place) (slice_get notes place)
-
--- ---- moments
-
-abbrev pub AreUpTo : ℕ → List Noted → Type 0
-AreUpTo at [] = Unit {0}
-AreUpTo at (note ∷ past) = (note.moment ≤ at) × AreUpTo note.moment past

@@ -4,7 +4,8 @@ ghost use Rattle.std.specs.Prelude.{◌≡◌, ◌<◌, ◌++◌, ◌∷◌, [],
 ghost use Rattle.indexmap.specs.IndexMap.{spare};
 ghost use Rattle.hsr_duptable.specs.Key as spec;
 ghost use Rattle.hsr_duptable.specs.Key.{is_same_key};
-ghost use Rattle.hsr_premises.specs.Places.{AreUpTo, is_kept, is_young, latest_of, other_in, place_in, place_of};
+ghost use Rattle.hsr_needed.specs.Needs.{AreUpTo, is_unexpired};
+ghost use Rattle.hsr_premises.specs.Places.{is_kept, latest_of, other_in, place_in, place_of};
 ghost use Rattle.hsr_node.specs.declared.event.Probe.{Probe};
 ghost use Rattle.hsr_law.specs.Premises.{is_mistaken, is_note_of};
 ghost use Rattle.hsr_law.specs.Run.{is_same_send};
@@ -108,8 +109,8 @@ fn other_of(latest: Option<Latest>, send: Option<Probe>) -> Option<usize>
 }
 
 /// Whether a mark is younger than frames are remembered.
-fn is_young(at: u64, mark: &Mark) -> bool
-    ensures { result ≡ is_young at mark.now }
+fn is_unexpired(at: u64, mark: &Mark) -> bool
+    ensures { result ≡ is_unexpired at mark.now }
 {
     at.saturating_sub(mark.moment) < ENTRY_FORGET
 }
@@ -125,7 +126,7 @@ fn is_kept(capacity: usize, at: u64, place: Option<usize>, marks: &[Mark]) -> bo
     let Some(mark) = marks.get(place) else {
         return false;
     };
-    marks.len() - place <= capacity && is_young(at, mark)
+    marks.len() - place <= capacity && is_unexpired(at, mark)
 }
 
 /// Makes room for one more mark.
