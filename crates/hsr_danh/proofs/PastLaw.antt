@@ -26,7 +26,7 @@ use Rattle.hsr_role.specs.Tables.{AreWithin, aged, copies_of, counted_with, judg
 use Rattle.hsr_role.specs.declared.judged.Judged.{Judged}
 use Rattle.hsr_role.proofs.Counts.{counted-plus, counts_plus}
 use Rattle.hsr_role.proofs.Keeping.{AreWithin-aged, AreWithin-new, AreWithin-passed, AreWithin-passes, last-earlier, passed-logged, passed-shut, stands-aged, stands-new, stands-passed, stands-passes, stands-same}
-use Rattle.hsr_role.proofs.Pasts.{answers-same, heard-same, heard-told, later-max}
+use Rattle.hsr_role.proofs.Pasts.{answers-same-as, heard-same, heard-told, later-max}
 use Rattle.hsr_role.proofs.Wants.{wanted-c, wanted-d}
 use Rattle.hsr_danh.specs.Machine.{Machine, new_machine}
 use Rattle.hsr_danh.specs.Step.{after_arrival, after_numbered, age_step, arrive_or_spent, arrive_step, life_or_spent, life_step, now_at, send_or_refuse, send_step, verdict_of}
@@ -197,18 +197,6 @@ kept capacity machine past (deeds.arriving at x octets) r =
     (arrive-case capacity machine past at x octets (machine.accepted == step_limit) r)
 kept capacity machine past (deeds.ageing at) r = (refl, age-case capacity machine past at r, refl, refl)
 
--- a machine of this address and mode, and its past
-abbrev IsRunOf : ℕ → List ℕ → Mode → Machine → List Deed → Type 0
-IsRunOf capacity own mode machine past = IsPastOf capacity machine past × (machine.own ≡ own) × (machine.mode ≡ mode)
-
-runs-on : (capacity : ℕ) (own : List ℕ) (mode : Mode) (machine : Machine) (past : List Deed) (call : Call) → IsRunOf capacity own mode machine past
-    → let s = step capacity machine call in let p = past_step capacity own mode past call in (s.0 ≡ p.0) × IsRunOf capacity own mode s.1 p.1
-runs-on capacity own mode machine past call r =
-    let after = step capacity machine call in
-    let one = subst (λ o. Kept capacity machine after (past_step capacity o mode past call)) r.1
-    (subst (λ m. Kept capacity machine after (past_step capacity machine.own m past call)) r.2 (kept capacity machine past call r.0)) in
-    (one.0, (one.1, one.2 ∙ r.1, one.3 ∙ r.2))
-
 pub begins : (capacity : ℕ) (own : List ℕ) (mode : Mode) → IsPastOf capacity (new_machine own mode) []
 begins capacity own mode = record {
   logs = stands-new capacity egresses;
@@ -220,13 +208,19 @@ begins capacity own mode = record {
   accepted = refl;
 }
 
+-- what a machine stays
+abbrev address_mode : Machine → List ℕ × Mode
+address_mode machine = (machine.own, machine.mode)
+
 pub answers_as_past : (capacity : ℕ) → deeds.AnswersAsPast capacity
 answers_as_past capacity own mode calls =
-    let ran = answers-same (IsRunOf capacity own mode) (step capacity) (past_step capacity own mode) (runs-on capacity own mode) (new_machine own mode) [] calls (begins capacity own mode, refl, refl) in
+    let ran = answers-same-as address_mode (IsPastOf capacity) (step capacity) (λ am. past_step capacity am.0 am.1) (λ machine past call r. let k = kept capacity machine past call r in (k.0, k.1, λ i. (k.2 i, k.3 i)))
+    (new_machine own mode) [] calls (begins capacity own mode) in
     let past = (answers_of (past_step capacity own mode) [] calls).1 in
-    let held = ran.1.0 in (
+    let held = ran.1 in
+    let same : (answers_of (step capacity) (new_machine own mode) calls).1.own ≡ own = ap (λ (am : List ℕ × Mode). am.0) ran.2 in (
       ran.0,
-      held.counters ∙ ap (λ (o : List ℕ). counters_of o past) ran.1.1,
-      λ at. ap (λ (n : Nodes). map (λ r. r.0) (known at n.rows)) held.nodes ∙ ap (λ (o : List ℕ). map (λ r. r.0) (known at (fold heard no_nodes (hearings_of o past)).rows)) ran.1.1
+      held.counters ∙ ap (λ (o : List ℕ). counters_of o past) same,
+      λ at. ap (λ (n : Nodes). map (λ r. r.0) (known at n.rows)) held.nodes ∙ ap (λ (o : List ℕ). map (λ r. r.0) (known at (fold heard no_nodes (hearings_of o past)).rows)) same
           ∙ rows_of_latest (hearings_of own past) at,
     )

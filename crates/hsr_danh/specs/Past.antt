@@ -1,5 +1,5 @@
 -- The machine that keeps its whole past, and answers by filtering it.
-use Rattle.std.specs.Prelude.{◌≡◌, ℕ, ◌+◌, ◌%◌, ◌==◌, max, Bool, true, false, List, [], ◌∷◌, ◌++◌, map, reverse, Option, Some, None, Result, Ok, Err, if◌then◌else◌}
+use Rattle.std.specs.Prelude.{◌≡◌, ℕ, ◌+◌, ◌%◌, ◌==◌, max, Bool, true, false, List, [], ◌∷◌, map, reverse, Option, Some, None, Result, Ok, Err}
 use Rattle.hsr_frame.specs.Counters.{step_limit}
 use Rattle.hsr_frame.specs.Cause.{is_duplicate, is_returned, is_foreign, is_local, is_untagged, is_tagged, is_malformed}
 use Rattle.hsr_frame.specs.Egress.{Egress, up, a, b, c, d, exits_of, has_exit}
@@ -19,7 +19,9 @@ use Rattle.hsr_tables.specs.Known.{known}
 use Rattle.hsr_tables.specs.Nodes.{Hearing, rows_known}
 use Rattle.hsr_tables.specs.declared.nodes.NodeRow.{NodeRow}
 use Rattle.hsr_danh.specs.Machine.{Machine, new_machine}
-use Rattle.hsr_role.specs.Past.{answers_of, hearing_in, is_bad_life, note_of, passes_from}
+use Rattle.hsr_role.specs.Past.{answers_of, hearing_in, is_bad_life, left_by, note_of, passes_from}
+use Rattle.hsr_role.specs.Past as of_role
+pub use Rattle.hsr_role.specs.Past.{count_of, moment_of}
 use Rattle.hsr_role.specs.Numbers.{number_range}
 use Rattle.hsr_role.specs.Tables.{judged_as}
 use Rattle.hsr_danh.specs.Step.{age_step, arrive_step, life_step, send_step, verdict_of}
@@ -56,42 +58,25 @@ pub data Did : Type 0 where
   judged_frame : (x : RingPort) → (seen : Result Seen FrameFault) → (verdict : Verdict) → Did
   gave_up : Did
 
-pub record Deed : Type 0 where
-  pub now : ℕ
-  pub did : Did
-
-abbrev pub count_of : (Did → Bool) → List Deed → ℕ
-count_of p [] = 0
-count_of p (deed ∷ past) = if p deed.did then count_of p past + 1 else count_of p past
-
--- the greatest moment so far
-abbrev pub moment_of : List Deed → ℕ
-moment_of [] = 0
-moment_of (deed ∷ past) = deed.now
+abbrev pub Deed : Type 0
+Deed = of_role.Deed Did
 
 abbrev pub is_step : Did → Bool
-is_step (sent_frame seq) = true
-is_step (sent_life seq) = true
-is_step (judged_frame x seen verdict) = true
 is_step gave_up = false
+is_step _ = true
 
 abbrev pub is_sent : Did → Bool
 is_sent (sent_frame seq) = true
-is_sent (sent_life seq) = false
-is_sent (judged_frame x seen verdict) = false
-is_sent gave_up = false
+is_sent _ = false
 
 abbrev pub is_life : Did → Bool
-is_life (sent_frame seq) = false
 is_life (sent_life seq) = true
-is_life (judged_frame x seen verdict) = false
-is_life gave_up = false
+is_life _ = false
 
 abbrev pub is_numbered : Did → Bool
 is_numbered (sent_frame seq) = true
 is_numbered (sent_life seq) = true
-is_numbered (judged_frame x seen verdict) = false
-is_numbered gave_up = false
+is_numbered _ = false
 
 -- the number of the next frame
 abbrev pub number_after : List Deed → ℕ
@@ -113,26 +98,20 @@ noted_by own egress now (judged_frame x seen verdict) = note_of seen (passed ver
 noted_by own egress now gave_up = []
 
 abbrev pub log_of : List ℕ → Egress → List Deed → List Note
-log_of own egress [] = []
-log_of own egress (deed ∷ past) = log_of own egress past ++ noted_by own egress deed.now deed.did
+log_of own egress = left_by (noted_by own egress)
 
 -- ---- hearings: readable tagged supervision frames of other nodes, the earliest first
 
 abbrev pub heard_by : List ℕ → ℕ → Did → List Hearing
-heard_by own now (sent_frame seq) = []
-heard_by own now (sent_life seq) = []
 heard_by own now (judged_frame x seen verdict) = hearing_in own x now seen
-heard_by own now gave_up = []
+heard_by own now _ = []
 
 abbrev pub hearings_of : List ℕ → List Deed → List Hearing
-hearings_of own [] = []
-hearings_of own (deed ∷ past) = hearings_of own past ++ heard_by own deed.now deed.did
+hearings_of own = left_by (heard_by own)
 
 abbrev pub is_unreadable : List ℕ → Did → Bool
-is_unreadable own (sent_frame seq) = false
-is_unreadable own (sent_life seq) = false
 is_unreadable own (judged_frame x seen verdict) = is_bad_life own seen
-is_unreadable own gave_up = false
+is_unreadable own _ = false
 
 -- the rows of the nodes that are known at a moment
 abbrev pub rows_of : List ℕ → List Deed → ℕ → List NodeRow
@@ -141,10 +120,8 @@ rows_of own past at = rows_known (reverse (hearings_of own past)) at
 -- ---- counters: how often each thing was done
 
 abbrev pub has : (Verdict → Bool) → Did → Bool
-has p (sent_frame seq) = false
-has p (sent_life seq) = false
 has p (judged_frame x seen verdict) = p verdict
-has p gave_up = false
+has p _ = false
 
 abbrev pub counters_of : List ℕ → List Deed → Counters
 counters_of own past = record {

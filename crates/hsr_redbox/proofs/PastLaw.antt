@@ -1,5 +1,5 @@
 -- The stepping machine answers as its whole past.
-use Rattle.std.proofs.Common.{◌≡◌, ℕ, ◌+◌, ◌%◌, ◌≤◌, ◌==◌, not, Bool, true, false, if◌then◌else◌, List, [], ◌∷◌, ◌++◌, map, Option, Some, None, Result, Ok, Err, refl, sym, ap, ap₂, subst, ◌∙◌, arith, add-zero}
+use Rattle.std.proofs.Common.{◌≡◌, ℕ, ◌+◌, ◌%◌, ◌≤◌, ◌==◌, not, Bool, true, false, if◌then◌else◌, List, [], ◌∷◌, ◌++◌, map, Option, Some, None, Result, Ok, refl, sym, ap, ap₂, subst, ◌∙◌, arith, add-zero}
 use Rattle.std.specs.Prelude.{max, fold, is_some}
 use Rattle.std.specs.List.{list_any}
 use Rattle.std.proofs.lemmas.List.{append-nil}
@@ -18,7 +18,6 @@ use Rattle.hsr_frame.specs.declared.node.RingPort.{RingPort}
 use Rattle.hsr_frame.specs.declared.node.RingPort.TheVariants as ring
 use Rattle.hsr_tag.specs.Seen.{classified}
 use Rattle.hsr_tag.specs.declared.seen.Seen.{Seen}
-use Rattle.hsr_tag.specs.declared.seen.Seen.TheVariants.{Plain, Tagged}
 use Rattle.hsr_duptable.specs.Log.{StandsFor}
 use Rattle.hsr_duptable.specs.declared.note.Note.{Note}
 use Rattle.hsr_tables.specs.Known.{known}
@@ -33,13 +32,13 @@ use Rattle.hsr_role.specs.Tables.{AreWithin, Notes, aged, copies_of, counted_wit
 use Rattle.hsr_role.specs.declared.judged.Judged.{Judged}
 use Rattle.hsr_role.proofs.Counts.{counted-plus, counts_plus}
 use Rattle.hsr_role.proofs.Keeping.{AreWithin-aged, AreWithin-new, AreWithin-passed, last-earlier, passed-logged, passed-shut, stands-aged, stands-new, stands-passed, stands-passes, stands-same}
-use Rattle.hsr_role.proofs.Pasts.{answers-same, heard-same, heard-told, later-max}
+use Rattle.hsr_role.proofs.Pasts.{answers-same-as, heard-same, heard-told, later-max}
 use Rattle.hsr_role.proofs.Wants.{wanted-d}
 use Rattle.hsr_redbox.specs.Machine.{Machine, new_machine}
 use Rattle.hsr_redbox.specs.Step.{after_arrival, after_frame, after_interlink, after_marks, after_ring, age_step, arrive_or_spent, arrive_step, heard_from, life_or_refuse, life_refusal, life_step, now_at, number_of, send_or_refuse, send_step, sent_of, verdict_of}
 use Rattle.hsr_redbox.specs.Wanted.{egresses, handling_interlink, handling_send, interlink, wanted}
 use Rattle.hsr_redbox.specs.Past as deeds
-use Rattle.hsr_redbox.specs.Past.{Answer, Call, Deed, Did, count_of, counters_of, done, gave_up, hearings_of, is_step, is_unreadable, judged_interlink, judged_ring, knows_among, known_among, linked, log_of, mark_if, moment_of, noted_by, now_after, number_after, past_step, sent_frame, sent_life, source_in, sources_of, step}
+use Rattle.hsr_redbox.specs.Past.{Call, Deed, Did, count_of, counters_of, done, gave_up, hearings_of, is_step, judged_interlink, judged_ring, knows_among, linked, log_of, mark_if, moment_of, noted_by, number_after, past_step, sent_frame, sent_life, source_in, sources_of, step}
 use Rattle.hsr_redbox.specs.declared.wanted.Handling.{Handling}
 use Rattle.hsr_redbox.specs.declared.call.BoxPort.{BoxPort}
 use Rattle.hsr_redbox.specs.declared.call.BoxPort.TheVariants.{A, B, I}
@@ -106,17 +105,10 @@ knows-latest table sources now e =
     ap {B = List ℕ → Bool} (λ (rows : List (List ℕ × ℕ)) mac. list_any (λ h. is_same_address h.0 mac) rows) (ap (λ (p : Proxies). known now p.heard) e ∙ knows_latest sources now)
 
 -- the hearing of a frame of the interlink
-source-same : (own : List ℕ) (table : Proxies) (seen : Result Seen FrameFault) (now : ℕ) → heard_from own table seen now ≡ fold learned table (source_in own now seen)
-source-same own table (Err fault) now = refl
-source-same own table (Ok (Tagged frame)) now = refl
-source-same own table (Ok (Plain frame)) now =
-    elim (is_same_address frame.src own) as (λ t. (if t then table else learned table (frame.src, now)) ≡ fold learned table (if t then [] else (frame.src, now) ∷ [])) [ true ↦ refl | false ↦ refl ]
-
 sources-same : (own : List ℕ) (table : Proxies) (sources : List (List ℕ × ℕ)) (seen : Result Seen FrameFault) (now : ℕ) → table ≡ fold learned no_proxies sources
     → heard_from own table seen now ≡ fold learned no_proxies (sources ++ source_in own now seen)
 sources-same own table sources seen now e =
-    source-same own table seen now
-    ∙ ap (λ (t : Proxies). fold learned t (source_in own now seen)) e
+    ap (λ (t : Proxies). fold learned t (source_in own now seen)) e
     ∙ sym (fold-append learned no_proxies sources (source_in own now seen))
 
 learned-same : (table : Proxies) (sources : List (List ℕ × ℕ)) → table ≡ fold learned no_proxies sources → table ≡ fold learned no_proxies (sources ++ [])
@@ -288,18 +280,6 @@ kept capacity machine past (deeds.arriving at port octets) r =
 kept capacity machine past (deeds.ageing at) r =
     (refl, subst (λ m. IsPastOf capacity (age_step machine at) (done past (max m at) gave_up)) r.moment (age-case capacity machine past (now_at machine at) (later-max machine.moment at) r), refl, refl)
 
--- a machine of this address and mode, and its past
-abbrev IsRunOf : ℕ → List ℕ → Mode → Machine → List Deed → Type 0
-IsRunOf capacity own mode machine past = IsPastOf capacity machine past × (machine.own ≡ own) × (machine.mode ≡ mode)
-
-runs-on : (capacity : ℕ) (own : List ℕ) (mode : Mode) (machine : Machine) (past : List Deed) (call : Call) → IsRunOf capacity own mode machine past
-    → let s = step capacity machine call in let p = past_step capacity own mode past call in (s.0 ≡ p.0) × IsRunOf capacity own mode s.1 p.1
-runs-on capacity own mode machine past call r =
-    let after = step capacity machine call in
-    let one = subst (λ o. Kept capacity machine after (past_step capacity o mode past call)) r.1
-    (subst (λ m. Kept capacity machine after (past_step capacity machine.own m past call)) r.2 (kept capacity machine past call r.0)) in
-    (one.0, (one.1, one.2 ∙ r.1, one.3 ∙ r.2))
-
 pub begins : (capacity : ℕ) (own : List ℕ) (mode : Mode) → IsPastOf capacity (new_machine own mode) []
 begins capacity own mode = record {
   logs = stands-new capacity egresses;
@@ -312,15 +292,21 @@ begins capacity own mode = record {
   accepted = refl;
 }
 
+-- what a machine stays
+abbrev address_mode : Machine → List ℕ × Mode
+address_mode machine = (machine.own, machine.mode)
+
 pub answers_as_past : (capacity : ℕ) → deeds.AnswersAsPast capacity
 answers_as_past capacity own mode calls =
-    let ran = answers-same (IsRunOf capacity own mode) (step capacity) (past_step capacity own mode) (runs-on capacity own mode) (new_machine own mode) [] calls (begins capacity own mode, refl, refl) in
+    let ran = answers-same-as address_mode (IsPastOf capacity) (step capacity) (λ am. past_step capacity am.0 am.1) (λ machine past call r. let k = kept capacity machine past call r in (k.0, k.1, λ i. (k.2 i, k.3 i)))
+    (new_machine own mode) [] calls (begins capacity own mode) in
     let past = (answers_of (past_step capacity own mode) [] calls).1 in
-    let held = ran.1.0 in (
+    let held = ran.1 in
+    let same : (answers_of (step capacity) (new_machine own mode) calls).1.own ≡ own = ap (λ (am : List ℕ × Mode). am.0) ran.2 in (
       ran.0,
-      held.counters ∙ ap (λ (o : List ℕ). counters_of o past) ran.1.1,
-      (λ at. ap (λ (n : Nodes). map (λ r. r.0) (known at n.rows)) held.nodes ∙ ap (λ (o : List ℕ). map (λ r. r.0) (known at (fold heard no_nodes (hearings_of o past)).rows)) ran.1.1
+      held.counters ∙ ap (λ (o : List ℕ). counters_of o past) same,
+      (λ at. ap (λ (n : Nodes). map (λ r. r.0) (known at n.rows)) held.nodes ∙ ap (λ (o : List ℕ). map (λ r. r.0) (known at (fold heard no_nodes (hearings_of o past)).rows)) same
           ∙ rows_of_latest (hearings_of own past) at),
-      (λ at. ap (λ (p : Proxies). known at p.heard) held.proxies ∙ ap (λ (o : List ℕ). known at (fold learned no_proxies (sources_of o past)).heard) ran.1.1
+      (λ at. ap (λ (p : Proxies). known at p.heard) held.proxies ∙ ap (λ (o : List ℕ). known at (fold learned no_proxies (sources_of o past)).heard) same
           ∙ knows_latest (sources_of own past) at),
     )

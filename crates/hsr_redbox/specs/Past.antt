@@ -1,5 +1,5 @@
 -- The machine that keeps its whole past, and answers by filtering it.
-use Rattle.std.specs.Prelude.{◌≡◌, ℕ, ◌+◌, ◌%◌, ◌==◌, max, Bool, true, false, List, [], ◌∷◌, ◌++◌, map, reverse, Option, Some, None, is_some, Result, Ok, Err, if◌then◌else◌}
+use Rattle.std.specs.Prelude.{◌≡◌, ℕ, ◌+◌, ◌%◌, ◌==◌, max, Bool, true, false, List, [], ◌∷◌, ◌++◌, map, reverse, Option, Some, None, is_some, Result, Ok, Err}
 use Rattle.std.specs.List.{list_any}
 use Rattle.hsr_frame.specs.Counters.{bit, step_limit}
 use Rattle.hsr_frame.specs.Address.{is_same_address}
@@ -16,14 +16,16 @@ use Rattle.hsr_frame.specs.declared.node.RingPort.{RingPort}
 use Rattle.hsr_frame.specs.declared.node.RingPort.TheVariants as ring
 use Rattle.hsr_tag.specs.Seen.{classified}
 use Rattle.hsr_tag.specs.declared.seen.Seen.{Seen}
-use Rattle.hsr_tag.specs.declared.seen.Seen.TheVariants.{Plain, Tagged}
 use Rattle.hsr_duptable.specs.Notes.{note_if}
 use Rattle.hsr_duptable.specs.declared.note.Note.{Note}
 use Rattle.hsr_tables.specs.Known.{known, latest_heard}
 use Rattle.hsr_tables.specs.Nodes.{Hearing, rows_known}
 use Rattle.hsr_tables.specs.declared.nodes.NodeRow.{NodeRow}
 use Rattle.hsr_redbox.specs.Machine.{Machine, new_machine}
-use Rattle.hsr_role.specs.Past.{answers_of, hearing_in, is_bad_life, note_of, passes_from}
+use Rattle.hsr_role.specs.Past.{answers_of, hearing_in, is_bad_life, left_by, note_of, passes_from}
+pub use Rattle.hsr_role.specs.Arrival.{source_in}
+use Rattle.hsr_role.specs.Past as of_role
+pub use Rattle.hsr_role.specs.Past.{count_of, moment_of, sum_of}
 use Rattle.hsr_role.specs.Numbers.{number_range}
 use Rattle.hsr_role.specs.Tables.{judged_as}
 use Rattle.hsr_redbox.specs.Step.{age_step, arrive_step, life_refusal, life_step, number_of, send_step, sent_of, verdict_of}
@@ -67,22 +69,8 @@ pub data Did : Type 0 where
   judged_interlink : (seen : Result Seen FrameFault) → (handling : Handling) → (seq : ℕ) → Did
   gave_up : Did
 
-pub record Deed : Type 0 where
-  pub now : ℕ
-  pub did : Did
-
-abbrev pub count_of : (Did → Bool) → List Deed → ℕ
-count_of p [] = 0
-count_of p (deed ∷ past) = if p deed.did then count_of p past + 1 else count_of p past
-
-abbrev pub sum_of : (Did → ℕ) → List Deed → ℕ
-sum_of f [] = 0
-sum_of f (deed ∷ past) = sum_of f past + f deed.did
-
--- the greatest moment so far
-abbrev pub moment_of : List Deed → ℕ
-moment_of [] = 0
-moment_of (deed ∷ past) = deed.now
+abbrev pub Deed : Type 0
+Deed = of_role.Deed Did
 
 abbrev pub is_step : Did → Bool
 is_step gave_up = false
@@ -129,8 +117,7 @@ noted_by own egress now (judged_interlink seen handling seq) = mark_if handling.
 noted_by own egress now gave_up = []
 
 abbrev pub log_of : List ℕ → Egress → List Deed → List Note
-log_of own egress [] = []
-log_of own egress (deed ∷ past) = log_of own egress past ++ noted_by own egress deed.now deed.did
+log_of own egress = left_by (noted_by own egress)
 
 -- ---- hearings on the ring: readable tagged supervision frames of other nodes, the earliest first
 
@@ -139,8 +126,7 @@ heard_by own now (judged_ring x seen verdict) = hearing_in own x now seen
 heard_by own now _ = []
 
 abbrev pub hearings_of : List ℕ → List Deed → List Hearing
-hearings_of own [] = []
-hearings_of own (deed ∷ past) = hearings_of own past ++ heard_by own deed.now deed.did
+hearings_of own = left_by (heard_by own)
 
 abbrev pub is_unreadable : List ℕ → Did → Bool
 is_unreadable own (judged_ring x seen verdict) = is_bad_life own seen
@@ -152,18 +138,12 @@ rows_of own past at = rows_known (reverse (hearings_of own past)) at
 
 -- ---- hearings on the interlink: the sources of plain frames but the own address, with their moments, the earliest first
 
-abbrev pub source_in : List ℕ → ℕ → Result Seen FrameFault → List (List ℕ × ℕ)
-source_in own now (Err fault) = []
-source_in own now (Ok (Tagged frame)) = []
-source_in own now (Ok (Plain frame)) = if is_same_address frame.src own then [] else (frame.src, now) ∷ []
-
 abbrev pub source_by : List ℕ → ℕ → Did → List (List ℕ × ℕ)
 source_by own now (judged_interlink seen handling seq) = source_in own now seen
 source_by own now _ = []
 
 abbrev pub sources_of : List ℕ → List Deed → List (List ℕ × ℕ)
-sources_of own [] = []
-sources_of own (deed ∷ past) = sources_of own past ++ source_by own deed.now deed.did
+sources_of own = left_by (source_by own)
 
 -- the addresses that are known at a moment, of the `row_limit` heard latest, the latest first
 abbrev pub known_among : List (List ℕ × ℕ) → ℕ → List (List ℕ × ℕ)

@@ -1,6 +1,5 @@
 -- One step of a RedBox: the answer to a call, and what the node holds after it.
-use Rattle.std.specs.Prelude.{ℕ, ◌+◌, ◌%◌, ◌==◌, not, max, Bool, true, false, List, [], ◌∷◌, Option, Some, None, option_map, is_some, Result, Ok, Err, if◌then◌else◌}
-use Rattle.hsr_frame.specs.Address.{is_same_address}
+use Rattle.std.specs.Prelude.{ℕ, ◌+◌, ◌%◌, ◌==◌, not, max, Bool, true, false, List, [], ◌∷◌, Option, Some, None, option_map, is_some, Result, Ok, Err}
 use Rattle.hsr_frame.specs.Cases.{first_of}
 use Rattle.hsr_frame.specs.Counters.{bit, step_limit}
 use Rattle.hsr_frame.specs.Egress.{a, b, exits_of, with_exit}
@@ -15,9 +14,9 @@ use Rattle.hsr_frame.specs.declared.node.RingPort.{RingPort}
 use Rattle.hsr_frame.specs.declared.node.RingPort.TheVariants as ring
 use Rattle.hsr_tag.specs.Seen.{classified}
 use Rattle.hsr_tag.specs.declared.seen.Seen.{Seen}
-use Rattle.hsr_tag.specs.declared.seen.Seen.TheVariants.{Plain, Tagged}
-use Rattle.hsr_tables.specs.Proxies.{Proxies, is_known, learned}
+use Rattle.hsr_tables.specs.Proxies.{is_known}
 use Rattle.hsr_role.specs.Arrival.{heard_of}
+pub use Rattle.hsr_role.specs.Arrival.{heard_from}
 use Rattle.hsr_role.specs.Numbers.{number_range}
 use Rattle.hsr_role.specs.Tables.{Notes, after_passes, aged, counted_with, judged, judged_as}
 use Rattle.hsr_role.specs.declared.judged.Judged.{Judged}
@@ -130,12 +129,6 @@ after_ring capacity machine now x seen =
     )
 
 -- ---- an arrival at the interlink
-
--- the source of a plain frame is heard, but for the own address
-abbrev pub heard_from : List ℕ → Proxies → Result Seen FrameFault → ℕ → Proxies
-heard_from own proxies (Err fault) now = proxies
-heard_from own proxies (Ok (Tagged frame)) now = proxies
-heard_from own proxies (Ok (Plain frame)) now = if is_same_address frame.src own then proxies else learned proxies (frame.src, now)
 
 -- a frame that is handled so passes wherever it is wanted; one with a number is noted on the interlink too, so that no copy of it is given back
 abbrev pub after_handling : ℕ → Machine → ℕ → Handling → BoxVerdict × Machine

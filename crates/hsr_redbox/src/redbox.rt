@@ -11,9 +11,9 @@ use hsr_frame::{
     About, Counters, Exits, FrameFault, Life, Mac, Mode, NoMemory, RingPort, STEP_LIMIT, SendFault,
     Spent, send_fault,
 };
-use hsr_role::{EgressTables, Judged, NUMBER_RANGE, count, hear, ring_wants};
+use hsr_role::{EgressTables, Judged, NUMBER_RANGE, count, hear, learn, ring_wants};
 use hsr_tables::{NodeRow, NodeTable, ProxyTable, ROW_LIMIT};
-use hsr_tag::{EitherView, SeenView, look_at};
+use hsr_tag::{SeenView, look_at};
 use std::alloc::Global;
 use std::marker::Model;
 
@@ -253,7 +253,7 @@ impl<const C: usize> RedBox<C> {
 }
 
 ghost use Rattle.hsr_tables.specs.Proxies.{is_known};
-ghost use Rattle.hsr_redbox.specs.Step.{heard_from, life_refusal, number_of, speaks_for, verdict_of};
+ghost use Rattle.hsr_redbox.specs.Step.{life_refusal, number_of, speaks_for, verdict_of};
 
 /// The number that a frame gets, if it has a source to get it for.
 fn number_of(source: Option<Mac>, next: u16) -> Option<u16>
@@ -303,20 +303,5 @@ fn verdict_of(judged: Judged, seq: Option<u16>) -> BoxVerdict
         interlink: judged.passes.c,
         seq,
         cause: judged.cause,
-    }
-}
-
-/// Hears the source of a plain frame, but for the own address.
-fn learn(proxies: &mut ProxyTable, own: Mac, seen: &Result<SeenView<'_>, FrameFault>, now: u64)
-    requires { proxies.old.last ≤ now }
-    ensures heard { proxies.new ≡ heard_from own proxies.old seen.now now }
-    ensures later { proxies.new.last ≤ now }
-{
-    let Ok(seen) = seen else {
-        return;
-    };
-    match &seen.frame {
-        EitherView::Plain(frame) if frame.src != own => proxies.learn(frame.src, now),
-        _ => {}
     }
 }

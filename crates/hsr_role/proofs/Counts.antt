@@ -30,30 +30,29 @@ counts_plus k why up copies bad = record {
   bad_life = if bad then k.bad_life + 1 else k.bad_life;
 }
 
-pub counted-plus : (k : Counters) (judged : Judged) (readable bad : Bool) → not readable ≡ bad → counted_with k judged readable ≡ counts_plus k judged.cause judged.passes.up (copies_of judged.passes) bad
-counted-plus k judged readable bad e = by_cause judged.cause
+-- what is counted of an arrival, count by count
+pub counted-as : (k : Counters) (why : Cause) (up : Bool) (copies : ℕ) → counted k why up copies ≡ counts_plus k why up copies false
+counted-as k why up copies = by_cause why
   where
-    up : Bool
-    up = judged.passes.up
-
-    copies : ℕ
-    copies = copies_of judged.passes
-
     ups : k.up + bit up ≡ (if up then k.up + 1 else k.up)
     ups = one-more up k.up
 
-    bads : k.bad_life + bit (not readable) ≡ (if bad then k.bad_life + 1 else k.bad_life)
-    bads = ap (λ p. k.bad_life + bit p) e ∙ one-more bad k.bad_life
+    by_cause : (w : Cause) → counted k w up copies ≡ counts_plus k w up copies false
+    by_cause (cause.Malformed fault) = λ i. record (counted_cause k (cause.Malformed fault)) { up = ups i; forwarded = k.forwarded + copies }
+    by_cause cause.Passed = λ i. record (counted_cause k cause.Passed) { up = ups i; forwarded = k.forwarded + copies }
+    by_cause cause.Duplicate = λ i. record (counted_cause k cause.Duplicate) { up = ups i; forwarded = k.forwarded + copies }
+    by_cause cause.Returned = λ i. record (counted_cause k cause.Returned) { up = ups i; forwarded = k.forwarded + copies }
+    by_cause cause.Foreign = λ i. record (counted_cause k cause.Foreign) { up = ups i; forwarded = k.forwarded + copies }
+    by_cause cause.Local = λ i. record (counted_cause k cause.Local) { up = ups i; forwarded = k.forwarded + copies }
+    by_cause cause.Untagged = λ i. record (counted_cause k cause.Untagged) { up = ups i; forwarded = k.forwarded + copies }
+    by_cause cause.Tagged = λ i. record (counted_cause k cause.Tagged) { up = ups i; forwarded = k.forwarded + copies }
 
-    by_cause : (w : Cause) → (let arrived = counted k w up copies in record arrived { bad_life = arrived.bad_life + bit (not readable) }) ≡ counts_plus k w up copies bad
-    by_cause (cause.Malformed fault) = λ i. record (counted_cause k (cause.Malformed fault)) { up = ups i; forwarded = k.forwarded + copies; bad_life = bads i }
-    by_cause cause.Passed = λ i. record (counted_cause k cause.Passed) { up = ups i; forwarded = k.forwarded + copies; bad_life = bads i }
-    by_cause cause.Duplicate = λ i. record (counted_cause k cause.Duplicate) { up = ups i; forwarded = k.forwarded + copies; bad_life = bads i }
-    by_cause cause.Returned = λ i. record (counted_cause k cause.Returned) { up = ups i; forwarded = k.forwarded + copies; bad_life = bads i }
-    by_cause cause.Foreign = λ i. record (counted_cause k cause.Foreign) { up = ups i; forwarded = k.forwarded + copies; bad_life = bads i }
-    by_cause cause.Local = λ i. record (counted_cause k cause.Local) { up = ups i; forwarded = k.forwarded + copies; bad_life = bads i }
-    by_cause cause.Untagged = λ i. record (counted_cause k cause.Untagged) { up = ups i; forwarded = k.forwarded + copies; bad_life = bads i }
-    by_cause cause.Tagged = λ i. record (counted_cause k cause.Tagged) { up = ups i; forwarded = k.forwarded + copies; bad_life = bads i }
+-- the same, with a supervision payload that could be read or not
+pub counted-plus : (k : Counters) (judged : Judged) (readable bad : Bool) → not readable ≡ bad → counted_with k judged readable ≡ counts_plus k judged.cause judged.passes.up (copies_of judged.passes) bad
+counted-plus k judged readable bad e =
+    let bads : k.bad_life + bit (not readable) ≡ (if bad then k.bad_life + 1 else k.bad_life) = ap (λ p. k.bad_life + bit p) e ∙ one-more bad k.bad_life in
+    ap (λ (arrived : Counters). record arrived { bad_life = arrived.bad_life + bit (not readable) }) (counted-as k judged.cause judged.passes.up (copies_of judged.passes))
+    ∙ (λ i. record (counts_plus k judged.cause judged.passes.up (copies_of judged.passes) false) { bad_life = bads i })
 
 -- an arrival that at most three ports passed
 pub AreWithin-arrived : (counters : Counters) (judged : Judged) (readable : Bool) (accepted : ℕ) → copies_of judged.passes ≤ 3 → AreWithin counters accepted

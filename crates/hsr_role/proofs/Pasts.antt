@@ -1,5 +1,5 @@
 -- A stepping machine beside one that keeps its whole past.
-use Rattle.std.proofs.Common.{◌≡◌, ℕ, ◌≤◌, not, List, [], ◌∷◌, ◌++◌, Result, refl, ap, ◌∙◌, arith}
+use Rattle.std.proofs.Common.{◌≡◌, ℕ, ◌≤◌, not, List, [], ◌∷◌, ◌++◌, Result, refl, ap, subst, ◌∙◌, arith}
 use Rattle.std.specs.Prelude.{max, fold}
 use Rattle.std.proofs.lemmas.List.{append-nil}
 use Rattle.hsr_frame.specs.declared.fault.FrameFault.{FrameFault}
@@ -27,6 +27,22 @@ answers-same R step past_step keeps s p (call ∷ calls) r =
     let first = keeps s p call r in
     let rest = answers-same R step past_step keeps (step s call).1 (past_step p call).1 calls first.1 in
     ((λ i. first.0 i ∷ rest.0 i), rest.1)
+
+-- the same where the past machine goes by what the stepping one is, and a call leaves that as it is
+pub answers-same-as : {O S P C A : Type 0} (who : S → O) (R : S → P → Type 0) (step : S → C → A × S) (past_step : O → P → C → A × P)
+    → ((s : S) (p : P) (call : C) → R s p → let after = step s call in let past = past_step (who s) p call in (after.0 ≡ past.0) × R after.1 past.1 × (who after.1 ≡ who s))
+    → (s : S) (p : P) (calls : List C) → R s p
+    → let after = answers_of step s calls in let past = answers_of (past_step (who s)) p calls in (after.0 ≡ past.0) × R after.1 past.1 × (who after.1 ≡ who s)
+answers-same-as {O} {S} {P} {C} {A} who R step past_step keeps first p calls r =
+    let all = answers-same (λ s p. R s p × (who s ≡ who first)) step (past_step (who first)) on first p calls (r, refl) in
+    (all.0, all.1.0, all.1.1)
+  where
+    on : (s : S) (p : P) (call : C) → R s p × (who s ≡ who first)
+        → let after = step s call in let past = past_step (who first) p call in (after.0 ≡ past.0) × (R after.1 past.1 × (who after.1 ≡ who first))
+    on s p call held =
+        let after = step s call in
+        let one = subst (λ o. let past = past_step o p call in (after.0 ≡ past.0) × R after.1 past.1 × (who after.1 ≡ who s)) held.1 (keeps s p call held.0) in
+        (one.0, (one.1, one.2 ∙ held.1))
 
 pub later-max : (m n : ℕ) → m ≤ max m n
 later-max m n = omega arith

@@ -1,5 +1,5 @@
 -- What the machines that keep the whole past of a DANH, a RedBox or a QuadBox have alike.
-use Rattle.std.specs.Prelude.{ℕ, Bool, false, List, [], ◌∷◌, is_err, Result, if◌then◌else◌}
+use Rattle.std.specs.Prelude.{ℕ, ◌+◌, Bool, false, List, [], ◌∷◌, ◌++◌, is_err, Result, if◌then◌else◌}
 use Rattle.hsr_frame.specs.Egress.{Egress}
 use Rattle.hsr_frame.specs.declared.egress.Exits.{Exits}
 use Rattle.hsr_frame.specs.declared.fault.FrameFault.{FrameFault}
@@ -23,6 +23,30 @@ answers_of call state (first ∷ calls) =
     let done = call state first in
     let rest = answers_of call done.1 calls in
     (done.0 ∷ rest.0, rest.1)
+
+-- ---- a past: all that was done, the latest first, each at its effective moment; a refusal does nothing
+
+pub record Deed (D : Type 0) : Type 0 where
+  pub now : ℕ
+  pub did : D
+
+-- the greatest moment so far
+abbrev pub moment_of : {D : Type 0} → List (Deed D) → ℕ
+moment_of [] = 0
+moment_of (deed ∷ past) = deed.now
+
+abbrev pub count_of : {D : Type 0} → (D → Bool) → List (Deed D) → ℕ
+count_of p [] = 0
+count_of p (deed ∷ past) = if p deed.did then count_of p past + 1 else count_of p past
+
+abbrev pub sum_of : {D : Type 0} → (D → ℕ) → List (Deed D) → ℕ
+sum_of f [] = 0
+sum_of f (deed ∷ past) = sum_of f past + f deed.did
+
+-- what the deeds left, the oldest first
+abbrev pub left_by : {D X : Type 0} → (ℕ → D → List X) → List (Deed D) → List X
+left_by f [] = []
+left_by f (deed ∷ past) = left_by f past ++ f deed.now deed.did
 
 -- ---- the log of an egress
 

@@ -1,10 +1,10 @@
 //! The key and the hearing of what came to a port.
 ghost use Rattle.std.specs.Prelude.{◌≡◌, ◌≤◌};
-ghost use Rattle.hsr_role.specs.Arrival.{heard_of, key_in};
+ghost use Rattle.hsr_role.specs.Arrival.{heard_from, heard_of, key_in};
 
 use hsr_duptable::Key;
 use hsr_frame::{FrameFault, Mac, RingPort, is_supervision};
-use hsr_tables::NodeTable;
+use hsr_tables::{NodeTable, ProxyTable};
 use hsr_tag::{EitherView, SeenView};
 
 /// The source and number of a tagged frame. Of what is none there is nothing to look for in a duplicate table.
@@ -43,5 +43,21 @@ pub fn hear(
             nodes.listen(frame.payload.as_slice(), port, now)
         }
         _ => true,
+    }
+}
+
+/// Hears the source of a plain frame on an interlink, but for the node's own address, at a moment in microseconds (IEC
+/// 62439-3 clause 5.3).
+pub fn learn(stations: &mut ProxyTable, own: Mac, seen: &Result<SeenView<'_>, FrameFault>, now: u64)
+    requires { stations.old.last ≤ now }
+    ensures heard { stations.new ≡ heard_from own stations.old seen.now now }
+    ensures later { stations.new.last ≤ now }
+{
+    let Ok(seen) = seen else {
+        return;
+    };
+    match &seen.frame {
+        EitherView::Plain(frame) if frame.src != own => stations.learn(frame.src, now),
+        _ => {}
     }
 }

@@ -16,7 +16,7 @@ mod slot;
 mod tables;
 mod wanted;
 
-pub use arrival::{hear, key_in};
+pub use arrival::{hear, key_in, learn};
 pub use judged::{Judged, count};
 pub use number::NUMBER_RANGE;
 pub use tables::EgressTables;
