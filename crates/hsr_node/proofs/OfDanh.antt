@@ -3,7 +3,6 @@ use Rattle.std.proofs.Common.{◌≡◌, ℕ, ◌+◌, ◌%◌, ◌^◌, ◌==�
 use Rattle.std.specs.Prelude.{max, is_some, option_map}
 use Rattle.std.specs.List.{cons_option}
 use Rattle.std.proofs.lemmas.List.{reverse-append}
-use Rattle.hsr_frame.specs.Cause.{is_duplicate, is_returned, is_foreign, is_local, is_untagged, is_tagged, is_malformed}
 use Rattle.hsr_frame.specs.Counters.{bit}
 use Rattle.hsr_frame.specs.Egress.{Egress, up, a, b, c, d, cause_of}
 use Rattle.hsr_frame.specs.Send.{send_refusal}
@@ -21,8 +20,7 @@ use Rattle.hsr_tag.specs.Seen.{classified, is_told, payload_in}
 use Rattle.hsr_tag.specs.declared.seen.Seen.{Seen}
 use Rattle.hsr_tag.specs.declared.seen.Seen.TheVariants.{Plain, Tagged}
 use Rattle.hsr_duptable.specs.Key.{Key}
-use Rattle.hsr_duptable.specs.Log.{remembered}
-use Rattle.hsr_duptable.specs.Notes.{has_key, entry_forget, note_if as noted_if}
+use Rattle.hsr_duptable.specs.Notes.{note_if as noted_if}
 use Rattle.hsr_supervision.specs.Payload.{read_of}
 use Rattle.hsr_tables.specs.Nodes.{Hearing}
 use Rattle.hsr_danh.specs.Machine.{Machine, new_machine}
@@ -30,6 +28,7 @@ use Rattle.hsr_danh.specs.Past as deeds
 use Rattle.hsr_danh.specs.Past.{Answer, Deed, done, gave_up, judged_frame, sent_frame, sent_life}
 use Rattle.hsr_role.specs.Arrival.{key_of}
 use Rattle.hsr_role.specs.Past.{log_remembers, passes_from}
+use Rattle.hsr_role.proofs.Counts.{counts_plus}
 use Rattle.hsr_role.proofs.Keeping.{passes-same, unwanted-shut}
 use Rattle.hsr_role.proofs.Wants.{wanted-c, wanted-d}
 use Rattle.hsr_danh.specs.Step.{arrive_step, life_step, send_step}
@@ -52,8 +51,8 @@ use Rattle.hsr_node.specs.declared.event.Outcome.{Outcome}
 use Rattle.hsr_node.specs.declared.event.Outcome.TheVariants as outcome
 use Rattle.hsr_node.specs.declared.event.StepFault.TheVariants as refused
 use Rattle.hsr_node.specs.declared.place.Place.TheVariants as place
-use Rattle.hsr_node.proofs.Remembering.{remembers-oldest}
-use Rattle.hsr_node.proofs.Told.{Call, Keeps, Stays, logged, unlogged, heard-same}
+use Rattle.hsr_node.proofs.Remembering.{log-remembers}
+use Rattle.hsr_node.proofs.Told.{Call, Keeps, Stays, answered-by, heard-same, logged, silent, unlogged}
 
 abbrev owner_of : ℕ → List ℕ → Mode → Owner
 owner_of number mac mode = record { number = number; place = place.Danh mac mode }
@@ -74,11 +73,6 @@ pub record Held (capacity number : ℕ) (mac : List ℕ) (mode : Mode) (machine 
   pub own : machine.own ≡ mac
   pub mode_is : machine.mode ≡ mode
   pub tells : Tells number mac mode did past
-
--- ---- hearings
-
-silent : (xs : List Hearing) → reverse (xs ++ []) ≡ reverse xs
-silent xs = reverse-append xs []
 
 -- ---- a frame of the node's own
 
@@ -175,20 +169,7 @@ judged-tells number mac mode did past worker at port x copy v is_x t = record {
       ∙ ap₂ (λ (xs ys : List Hearing). xs ++ ys)
       (heard-same x (max (deeds.moment_of did) at) (max (now past) at) (is_told mac (classified copy.octets)) (read_of (payload_in (classified copy.octets))) (ap (λ m. max m at) t.moment)) t.heard
       ∙ ap (λ (found : Option RingPort). hearing_by (Some mac) found (max (now past) at) (classified copy.octets) ++ hearings (place.Danh mac mode) past) (sym is_x);
-  counters = λ i. let k : Counters = t.counters i in record {
-    sent = k.sent;
-    life = k.life;
-    up = if v.up then k.up + 1 else k.up;
-    forwarded = forwards i;
-    duplicate = if is_duplicate v.cause then k.duplicate + 1 else k.duplicate;
-    returned = if is_returned v.cause then k.returned + 1 else k.returned;
-    foreign = if is_foreign v.cause then k.foreign + 1 else k.foreign;
-    local = if is_local v.cause then k.local + 1 else k.local;
-    untagged = if is_untagged v.cause then k.untagged + 1 else k.untagged;
-    tagged = if is_tagged v.cause then k.tagged + 1 else k.tagged;
-    malformed = if is_malformed v.cause then k.malformed + 1 else k.malformed;
-    bad_life = if unreadable i then k.bad_life + 1 else k.bad_life;
-  };
+  counters = λ i. record (counts_plus (t.counters i) v.cause v.up (copies (danh_judged v)) (unreadable i)) { forwarded = forwards i };
 }
   where
     forwards : (deeds.counters_of mac (done did at (judged_frame x (classified copy.octets) v))).forwarded ≡ sum_of (λ x. copies x.outcome) (arrival worker at port copy v ∷ past)
@@ -218,11 +199,6 @@ judged-tells number mac mode did past worker at port x copy v is_x t = record {
 
 -- ---- the verdict
 
-remembers-same : (capacity number : ℕ) (mac : List ℕ) (mode : Mode) (did : List Deed) (past : List Entry) (at : ℕ) (key : Key) (e : Egress) → Tells number mac mode did past
-    → log_remembers capacity (deeds.log_of mac e did) at key ≡ remembers capacity (owner_of number mac mode) past at key e
-remembers-same capacity number mac mode did past at key e t =
-    ap (λ log. has_key key (remembered capacity entry_forget log at)) (t.log e) ∙ remembers-oldest capacity at key (notes (owner_of number mac mode) e past)
-
 verdict-same : (capacity number : ℕ) (mac : List ℕ) (mode : Mode) (did : List Deed) (past : List Entry) (at next : ℕ) (x : RingPort) (seen : Result Seen FrameFault) → Tells number mac mode did past
     → judged_as (unnumbered (wanted mac mode x seen)) (passing (remembers capacity (owner_of number mac mode) past at) (wanted mac mode x seen).exits seen) next
     ≡ danh_judged (deeds.verdict_from capacity mac mode did at x seen)
@@ -237,7 +213,7 @@ verdict-same capacity number mac mode did past at next x (Ok (Tagged frame)) t =
     let no_c = unwanted-shut wants.exits.c (told c) (wanted-c mac mode x seen) in
     let no_d = unwanted-shut wants.exits.d (told d) (wanted-d mac mode None x seen) in
     ap (λ (p : Exits). judged_as (unnumbered wants) p next)
-    (passes-same wants.exits (remembers capacity (owner_of number mac mode) past at key) told (λ e. sym (remembers-same capacity number mac mode did past at key e t)))
+    (passes-same wants.exits (remembers capacity (owner_of number mac mode) past at key) told (λ e. sym (log-remembers capacity at key (deeds.log_of mac e did) (notes (owner_of number mac mode) e past) (t.log e))))
     ∙ λ i. outcome.Judged old.up (old.a ∷ old.b ∷ no_c i ∷ no_d i ∷ []) None (cause_of wants old)
 
 -- ---- one event
@@ -264,14 +240,12 @@ send-case : (capacity number worker at from : ℕ) (machine : Machine) (did : Li
     × Stays (HeldBy capacity number machine) past (record { worker = worker; at = at; event = Send from dst vlan kind payload }) (told danh_sent refused.Send s.0) s.1
 send-case capacity number worker at from machine did past dst vlan kind payload s (Some fault) t k =
     let call : Call = record { worker = worker; at = at; event = Send from dst vlan kind payload } in
-    subst (λ (r : Result DanhSent SendFault). (Err (refused.Send fault) ≡ told danh_sent refused.Send r) × Stays (HeldBy capacity number machine) past call (told danh_sent refused.Send r) s.1)
-    (sym (ap sent_in k.0))
+    answered-by danh_sent refused.Send (HeldBy capacity number machine) past call (Err (refused.Send fault)) s.1 s.0 _ (ap sent_in k.0)
     (refl, record { did = did; of_past = k.1; own = k.2; mode_is = k.3; tells = t })
 send-case capacity number worker at from machine did past dst vlan kind payload s None t k =
     let call : Call = record { worker = worker; at = at; event = Send from dst vlan kind payload } in
     let n : deeds.number_after did ≡ next_number past = ap (λ m. m % 65536) t.numbered in
-    subst (λ (r : Result DanhSent SendFault). (Ok (outcome.Sent (Some (next_number past)) (true ∷ true ∷ false ∷ false ∷ [])) ≡ told danh_sent refused.Send r) × Stays (HeldBy capacity number machine) past call (told danh_sent refused.Send r) s.1)
-    (sym (ap sent_in k.0)) (
+    answered-by danh_sent refused.Send (HeldBy capacity number machine) past call (Ok (outcome.Sent (Some (next_number past)) (true ∷ true ∷ false ∷ false ∷ []))) s.1 s.0 _ (ap sent_in k.0) (
       ap (λ m. Ok (outcome.Sent (Some m) (true ∷ true ∷ false ∷ false ∷ []))) (sym n),
       record {
         did = done did at (sent_frame (deeds.number_after did));
@@ -288,15 +262,13 @@ life-case : (capacity number worker at : ℕ) (machine : Machine) (did : List De
     × Stays (HeldBy capacity number machine) past (record { worker = worker; at = at; event = Supervise Own }) (told lived spent s.0) s.1
 life-case capacity number worker at machine did past s true t k =
     let call : Call = record { worker = worker; at = at; event = Supervise Own } in
-    subst (λ (r : Result Life IsSpent). (Err refused.Spent ≡ told lived spent r) × Stays (HeldBy capacity number machine) past call (told lived spent r) s.1)
-    (sym (ap lived_in k.0))
+    answered-by lived spent (HeldBy capacity number machine) past call (Err refused.Spent) s.1 s.0 _ (ap lived_in k.0)
     (refl, record { did = did; of_past = k.1; own = k.2; mode_is = k.3; tells = t })
 life-case capacity number worker at machine did past s false t k =
     let call : Call = record { worker = worker; at = at; event = Supervise Own } in
     let n : deeds.number_after did ≡ next_number past = ap (λ m. m % 65536) t.numbered in
     let l : deeds.count_of deeds.is_life did % 65536 ≡ lives past % 65536 = ap (λ (k : Counters). k.life % 65536) t.counters in
-    subst (λ (r : Result Life IsSpent). (lived_or_refused past None ≡ told lived spent r) × Stays (HeldBy capacity number machine) past call (told lived spent r) s.1)
-    (sym (ap lived_in k.0)) (
+    answered-by lived spent (HeldBy capacity number machine) past call (lived_or_refused past None) s.1 s.0 _ (ap lived_in k.0) (
       ap₂ (λ m k. Ok (outcome.Life m k (true ∷ true ∷ false ∷ false ∷ []))) (sym n) (sym l),
       record {
         did = done did at (sent_life (deeds.number_after did));
@@ -317,8 +289,7 @@ arrive-case : (capacity number worker at port : ℕ) (x : RingPort) (copy : Carr
     × Stays (HeldBy capacity number machine) past (record { worker = worker; at = at; event = Arrive port copy }) (told danh_judged spent s.0) s.1
 arrive-case capacity number worker at port x copy machine did past s true is_x t k =
     let call : Call = record { worker = worker; at = at; event = Arrive port copy } in
-    subst (λ (r : Result Verdict IsSpent). (Err refused.Spent ≡ told danh_judged spent r) × Stays (HeldBy capacity number machine) past call (told danh_judged spent r) s.1)
-    (sym (ap judged_in k.0))
+    answered-by danh_judged spent (HeldBy capacity number machine) past call (Err refused.Spent) s.1 s.0 _ (ap judged_in k.0)
     (refl, record { did = did; of_past = k.1; own = k.2; mode_is = k.3; tells = t })
 arrive-case capacity number worker at port x copy machine did past s false is_x t k =
     let call : Call = record { worker = worker; at = at; event = Arrive port copy } in
@@ -328,10 +299,7 @@ arrive-case capacity number worker at port x copy machine did past s false is_x 
     let m : max (deeds.moment_of did) at ≡ max (now past) at = ap (λ m. max m at) t.moment in
     let same = verdict-same capacity number machine.own machine.mode did past (max (now past) at) (next_number past) x seen t
     ∙ ap (λ n. danh_judged (deeds.verdict_from capacity machine.own machine.mode did n x seen)) (sym m) in
-    subst (λ (r : Result Verdict IsSpent).
-    (Ok (judged_as h (passing (remembers capacity (owner_of number machine.own machine.mode) past (max (now past) at)) h.wants.exits seen) (next_number past)) ≡ told danh_judged spent r)
-    × Stays (HeldBy capacity number machine) past call (told danh_judged spent r) s.1)
-    (sym (ap judged_in k.0)) (
+    answered-by danh_judged spent (HeldBy capacity number machine) past call (Ok (judged_as h (passing (remembers capacity (owner_of number machine.own machine.mode) past (max (now past) at)) h.wants.exits seen) (next_number past))) s.1 s.0 _ (ap judged_in k.0) (
       ap (λ (o : Outcome). Ok o) same,
       record {
         did = done did at (judged_frame x seen v);

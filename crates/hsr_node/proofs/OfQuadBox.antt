@@ -2,7 +2,6 @@
 use Rattle.std.proofs.Common.{◌≡◌, ℕ, ◌+◌, ◌==◌, ◌^◌, ◌&&◌, not, Bool, true, false, if◌then◌else◌, List, [], ◌∷◌, ◌++◌, length, Option, Some, None, Result, Ok, Err, refl, sym, ap, subst, ◌∙◌, arith, add-zero}
 use Rattle.std.specs.Prelude.{max, option_map}
 use Rattle.std.specs.List.{cons_option}
-use Rattle.hsr_frame.specs.Cause.{is_duplicate, is_returned, is_foreign, is_local, is_untagged, is_tagged, is_malformed}
 use Rattle.hsr_frame.specs.Counters.{counted}
 use Rattle.hsr_frame.specs.Egress.{Egress, up, a, b, c, d, cause_of}
 use Rattle.hsr_frame.specs.declared.counters.Counters.{Counters}
@@ -15,7 +14,6 @@ use Rattle.hsr_frame.specs.declared.node.Cause.TheVariants as cause
 use Rattle.hsr_tag.specs.Seen.{classified}
 use Rattle.hsr_tag.specs.declared.seen.Seen.{Seen}
 use Rattle.hsr_tag.specs.declared.seen.Seen.TheVariants.{Plain, Tagged}
-use Rattle.hsr_duptable.specs.Key.{Key}
 use Rattle.hsr_duptable.specs.Log.{remembered}
 use Rattle.hsr_duptable.specs.Notes.{has_key, entry_forget}
 use Rattle.hsr_redbox.specs.Wanted.{unnumbered}
@@ -24,6 +22,7 @@ use Rattle.hsr_quadbox.specs.Past as deeds
 use Rattle.hsr_quadbox.specs.Past.{Answer, Deed, IsTold, Judged, aged, egress_of, judged, judgement, verdict_on}
 use Rattle.hsr_role.specs.Arrival.{key_of}
 use Rattle.hsr_role.specs.Past.{note_of}
+use Rattle.hsr_role.proofs.Counts.{counted-as}
 use Rattle.hsr_role.specs.Tables.{copies_of}
 use Rattle.hsr_quadbox.specs.Step.{arrive_step}
 use Rattle.hsr_quadbox.specs.Wanted.{wanted}
@@ -42,8 +41,8 @@ use Rattle.hsr_node.specs.declared.event.Outcome.{Outcome}
 use Rattle.hsr_node.specs.declared.event.Outcome.TheVariants as outcome
 use Rattle.hsr_node.specs.declared.event.StepFault.TheVariants as refused
 use Rattle.hsr_node.specs.declared.place.Place.TheVariants as place
-use Rattle.hsr_node.proofs.Remembering.{remembers-oldest}
-use Rattle.hsr_node.proofs.Told.{Call, Keeps, Stays, logged, one-more, unlogged}
+use Rattle.hsr_node.proofs.Remembering.{log-remembers}
+use Rattle.hsr_node.proofs.Told.{Call, Keeps, Stays, answered-by, logged, unlogged}
 
 abbrev owner_of : ℕ → Owner
 owner_of number = record { number = number; place = place.QuadBox }
@@ -74,30 +73,6 @@ aged-tells number did past worker at t = record {
 
 -- ---- an arrival
 
--- an arrival is counted as an entry of a record is
-pub counted-entry : (k : Counters) (cause : Cause) (up_too : Bool) (n : ℕ) → counted k cause up_too n ≡ record {
-  sent = k.sent;
-  life = k.life;
-  up = if up_too then k.up + 1 else k.up;
-  forwarded = k.forwarded + n;
-  duplicate = if is_duplicate cause then k.duplicate + 1 else k.duplicate;
-  returned = if is_returned cause then k.returned + 1 else k.returned;
-  foreign = if is_foreign cause then k.foreign + 1 else k.foreign;
-  local = if is_local cause then k.local + 1 else k.local;
-  untagged = if is_untagged cause then k.untagged + 1 else k.untagged;
-  tagged = if is_tagged cause then k.tagged + 1 else k.tagged;
-  malformed = if is_malformed cause then k.malformed + 1 else k.malformed;
-  bad_life = k.bad_life;
-}
-counted-entry k cause.Passed up_too n = λ i. record (counted k cause.Passed up_too n) { up = sym (one-more up_too k.up) i }
-counted-entry k cause.Duplicate up_too n = λ i. record (counted k cause.Duplicate up_too n) { up = sym (one-more up_too k.up) i }
-counted-entry k cause.Returned up_too n = λ i. record (counted k cause.Returned up_too n) { up = sym (one-more up_too k.up) i }
-counted-entry k cause.Foreign up_too n = λ i. record (counted k cause.Foreign up_too n) { up = sym (one-more up_too k.up) i }
-counted-entry k cause.Local up_too n = λ i. record (counted k cause.Local up_too n) { up = sym (one-more up_too k.up) i }
-counted-entry k cause.Untagged up_too n = λ i. record (counted k cause.Untagged up_too n) { up = sym (one-more up_too k.up) i }
-counted-entry k cause.Tagged up_too n = λ i. record (counted k cause.Tagged up_too n) { up = sym (one-more up_too k.up) i }
-counted-entry k (cause.Malformed fault) up_too n = λ i. record (counted k (cause.Malformed fault) up_too n) { up = sym (one-more up_too k.up) i }
-
 abbrev arrival : ℕ → ℕ → ℕ → Carried → QuadVerdict → Entry
 arrival worker at port copy v = record { worker = worker; at = at; event = Arrive port copy; outcome = quad_judged v }
 
@@ -110,7 +85,7 @@ judged-tells number did past worker at port x copy passes t = record {
   log = λ q. by_seen q (classified copy.octets);
   counters = sym (law.counts-judged did j)
       ∙ ap (λ (k : Counters). counted k kind false (copies_of passes)) t.counters
-      ∙ counted-entry (counters place.QuadBox past) kind false (copies_of passes);
+      ∙ counted-as (counters place.QuadBox past) kind false (copies_of passes);
 }
   where
     j : Judged
@@ -148,11 +123,6 @@ judged-tells number did past worker at port x copy passes t = record {
 
 -- ---- the verdict
 
-remembers-same : (capacity number : ℕ) (did : List Deed) (past : List Entry) (at : ℕ) (key : Key) (port : QuadPort) → Tells number did past
-    → has_key key (remembered capacity entry_forget (deeds.log port did) at) ≡ remembers capacity (owner_of number) past at key (egress_of port)
-remembers-same capacity number did past at key port t =
-    ap (λ log. has_key key (remembered capacity entry_forget log at)) (t.log port) ∙ remembers-oldest capacity at key (notes (owner_of number) (egress_of port) past)
-
 verdict-same : (capacity number : ℕ) (did : List Deed) (past : List Entry) (at next : ℕ) (x : QuadPort) (seen : Result Seen FrameFault) → Tells number did past
     → judged_as (unnumbered (wanted x seen)) (passing (remembers capacity (owner_of number) past (max (now past) at)) (wanted x seen).exits seen) next
     ≡ quad_judged (verdict_on (judgement capacity did at x seen))
@@ -165,7 +135,7 @@ verdict-same capacity number did past at next x (Ok (Tagged frame)) t =
     let held : (e : Egress) → Bool = λ e. remembers capacity (owner_of number) past (max (now past) at) (key_of frame) e in
     let moment : max (deeds.greatest did) at ≡ max (now past) at = ap (λ m. max m at) t.moment in
     let same : (port : QuadPort) → held (egress_of port) ≡ has_key (key_of frame) (remembered capacity entry_forget (deeds.log port did) (max (deeds.greatest did) at)) = λ port.
-    sym (ap (λ m. has_key (key_of frame) (remembered capacity entry_forget (deeds.log port did) m)) moment ∙ remembers-same capacity number did past (max (now past) at) (key_of frame) port t) in
+    sym (ap (λ m. has_key (key_of frame) (remembered capacity entry_forget (deeds.log port did) m)) moment ∙ log-remembers capacity (max (now past) at) (key_of frame) (deeds.log port did) (notes (owner_of number) (egress_of port) past) (t.log port)) in
     let passed : Exits = deeds.passes_in capacity did exits (Ok (Tagged frame)) (max (deeds.greatest did) at) in
     let passes : record {
       up = exits.up && not (held up);
@@ -199,18 +169,14 @@ arrive-case : (capacity number worker at port : ℕ) (x : QuadPort) (copy : Carr
     × Stays (Held capacity number) past (record { worker = worker; at = at; event = Arrive port copy }) (told quad_judged spent s.0) s.1
 arrive-case capacity number worker at port x copy did past s true t k =
     let call : Call = record { worker = worker; at = at; event = Arrive port copy } in
-    subst (λ (r : Result QuadVerdict IsSpent). (Err refused.Spent ≡ told quad_judged spent r) × Stays (Held capacity number) past call (told quad_judged spent r) s.1)
-    (sym (ap judged_in k.0))
+    answered-by quad_judged spent (Held capacity number) past call (Err refused.Spent) s.1 s.0 _ (ap judged_in k.0)
     (refl, record { did = did; is_told = k.1; tells = t })
 arrive-case capacity number worker at port x copy did past s false t k =
     let call : Call = record { worker = worker; at = at; event = Arrive port copy } in
     let seen = classified copy.octets in
     let h = unnumbered (wanted x seen) in
     let j : Judged = judgement capacity did at x seen in
-    subst (λ (r : Result QuadVerdict IsSpent).
-    (Ok (judged_as h (passing (remembers capacity (owner_of number) past (max (now past) at)) h.wants.exits seen) (next_number past)) ≡ told quad_judged spent r)
-    × Stays (Held capacity number) past call (told quad_judged spent r) s.1)
-    (sym (ap judged_in k.0)) (
+    answered-by quad_judged spent (Held capacity number) past call (Ok (judged_as h (passing (remembers capacity (owner_of number) past (max (now past) at)) h.wants.exits seen) (next_number past))) s.1 s.0 _ (ap judged_in k.0) (
       ap (λ (o : Outcome). Ok o) (verdict-same capacity number did past at (next_number past) x seen t),
       record {
         did = judged j ∷ did;

@@ -4,8 +4,6 @@ use Rattle.std.specs.Prelude.{max, is_some, option_map}
 use Rattle.std.specs.List.{cons_option, list_any}
 use Rattle.std.proofs.lemmas.List.{reverse-append}
 use Rattle.hsr_frame.specs.Address.{is_group, is_same_address}
-use Rattle.hsr_frame.specs.Cause.{is_duplicate, is_returned, is_foreign, is_local, is_untagged, is_tagged, is_malformed}
-use Rattle.hsr_frame.specs.Counters.{bit}
 use Rattle.hsr_frame.specs.Egress.{Egress, up, a, b, c, d, cause_of, is_supervision, nowhere, to, with_exit, has_exit}
 use Rattle.hsr_frame.specs.Grammar.{Fields}
 use Rattle.hsr_frame.specs.Send.{send_refusal}
@@ -24,19 +22,18 @@ use Rattle.hsr_frame.specs.declared.node.RingPort.TheVariants as ring
 use Rattle.hsr_tag.specs.Seen.{classified, is_told, payload_in}
 use Rattle.hsr_tag.specs.declared.seen.Seen.{Seen}
 use Rattle.hsr_tag.specs.declared.seen.Seen.TheVariants.{Plain, Tagged}
-use Rattle.hsr_duptable.specs.Key.{Key}
-use Rattle.hsr_duptable.specs.Log.{remembered}
-use Rattle.hsr_duptable.specs.Notes.{has_key, entry_forget, note_if as noted_if}
+use Rattle.hsr_duptable.specs.Notes.{note_if as noted_if}
 use Rattle.hsr_supervision.specs.Payload.{read_of}
 use Rattle.hsr_tables.specs.Known.{known, latest_heard}
 use Rattle.hsr_tables.specs.Nodes.{Hearing}
 use Rattle.hsr_role.specs.Tables.{judged_as as verdict_as}
 use Rattle.hsr_role.specs.Past.{log_remembers, passes_from}
+use Rattle.hsr_role.proofs.Counts.{counts_plus}
 use Rattle.hsr_role.proofs.Keeping.{passes-same, unwanted-shut}
 use Rattle.hsr_role.proofs.Wants.{wanted-d}
 use Rattle.hsr_redbox.specs.Machine.{Machine, new_machine}
 use Rattle.hsr_redbox.specs.Past as deeds
-use Rattle.hsr_redbox.specs.Past.{Answer, Deed, Did, done, gave_up, judged_interlink, judged_ring, linked, sent_frame, sent_life, source_in}
+use Rattle.hsr_redbox.specs.Past.{Answer, Deed, done, gave_up, judged_interlink, judged_ring, linked, sent_frame, sent_life, source_in}
 use Rattle.hsr_role.specs.Arrival.{key_of}
 use Rattle.hsr_redbox.specs.Step.{arrive_step, life_refusal, life_step, number_of, send_step, sent_of, verdict_of}
 use Rattle.hsr_redbox.specs.Wanted.{handling_interlink, handling_plain, handling_send, interlink, numbered, unnumbered, wanted}
@@ -62,8 +59,8 @@ use Rattle.hsr_node.specs.declared.event.Outcome.TheVariants as outcome
 use Rattle.hsr_node.specs.declared.event.Probe.{Probe}
 use Rattle.hsr_node.specs.declared.event.StepFault.TheVariants as refused
 use Rattle.hsr_node.specs.declared.place.Place.TheVariants as place
-use Rattle.hsr_node.proofs.Remembering.{remembers-oldest}
-use Rattle.hsr_node.proofs.Told.{Call, Keeps, Stays, logged, unlogged, heard-same as hearing-same}
+use Rattle.hsr_node.proofs.Remembering.{log-remembers}
+use Rattle.hsr_node.proofs.Told.{Call, Keeps, Stays, answered-by, heard-same as hearing-same, logged, silent, unlogged}
 
 abbrev owner_of : ℕ → List ℕ → Mode → Owner
 owner_of number mac mode = record { number = number; place = place.RedBox mac mode }
@@ -85,16 +82,6 @@ pub record Held (capacity number : ℕ) (mac : List ℕ) (mode : Mode) (machine 
   pub own : machine.own ≡ mac
   pub mode_is : machine.mode ≡ mode
   pub tells : Tells number mac mode did past
-
--- ---- sources
-
-silent : (xs : List (List ℕ × ℕ)) → reverse (xs ++ []) ≡ reverse xs
-silent xs = reverse-append xs []
-
--- ---- hearings
-
-unheard-more : (xs : List Hearing) → reverse (xs ++ []) ≡ reverse xs
-unheard-more xs = reverse-append xs []
 
 -- ---- a frame of the node's own
 
@@ -132,7 +119,7 @@ sent-tells number mac mode did past worker at from seq h dst vlan kind payload o
   numbered = ap₂ (λ p n. if p then n + 1 else n) (is-numbered h.source seq) t.numbered;
   log = by_egress;
   sources = silent (deeds.sources_of mac did) ∙ t.sources;
-  hearing = unheard-more (deeds.hearings_of mac did) ∙ t.hearing;
+  hearing = silent (deeds.hearings_of mac did) ∙ t.hearing;
   counters = λ i. let k : Counters = t.counters i in record k { sent = k.sent + 1; forwarded = k.forwarded + 0 };
 }
   where
@@ -169,7 +156,7 @@ life-tells number mac mode did past worker at seq life about t = record {
   numbered = ap (λ n. n + 1) t.numbered;
   log = by_egress;
   sources = silent (deeds.sources_of mac did) ∙ t.sources;
-  hearing = unheard-more (deeds.hearings_of mac did) ∙ t.hearing;
+  hearing = silent (deeds.hearings_of mac did) ∙ t.hearing;
   counters = λ i. let k : Counters = t.counters i in record k { life = k.life + 1; forwarded = k.forwarded + 0 };
 }
   where
@@ -194,47 +181,18 @@ aged-tells number mac mode did past worker at t = record {
   numbered = t.numbered;
   log = λ e. unlogged (deeds.log_of mac e did) (notes (owner_of number mac mode) e past) (t.log e);
   sources = silent (deeds.sources_of mac did) ∙ t.sources;
-  hearing = unheard-more (deeds.hearings_of mac did) ∙ t.hearing;
+  hearing = silent (deeds.hearings_of mac did) ∙ t.hearing;
   counters = λ i. let k : Counters = t.counters i in record k { forwarded = k.forwarded + 0 };
 }
 
 -- ---- an arrival
 
--- the counters after an arrival with this verdict
-abbrev counted_on : Counters → BoxVerdict → Bool → Counters
-counted_on k v unreadable = record {
-  sent = k.sent;
-  life = k.life;
-  up = if v.up then k.up + 1 else k.up;
-  forwarded = k.forwarded + (bit v.a + bit v.b + bit v.interlink);
-  duplicate = if is_duplicate v.cause then k.duplicate + 1 else k.duplicate;
-  returned = if is_returned v.cause then k.returned + 1 else k.returned;
-  foreign = if is_foreign v.cause then k.foreign + 1 else k.foreign;
-  local = if is_local v.cause then k.local + 1 else k.local;
-  untagged = if is_untagged v.cause then k.untagged + 1 else k.untagged;
-  tagged = if is_tagged v.cause then k.tagged + 1 else k.tagged;
-  malformed = if is_malformed v.cause then k.malformed + 1 else k.malformed;
-  bad_life = if unreadable then k.bad_life + 1 else k.bad_life;
-}
-
+-- an arrival is counted as an entry of a record is
 counted-same : (mac : List ℕ) (mode : Mode) (past : List Entry) (worker at port : ℕ) (copy : Carried) (v : BoxVerdict) (unreadable : Bool)
     → unreadable ≡ is_unreadable_for (hears_at (place.RedBox mac mode) port) (classified copy.octets)
-    → counted_on (counters (place.RedBox mac mode) past) v unreadable
+    → counts_plus (counters (place.RedBox mac mode) past) v.cause v.up (deeds.copies_of v) unreadable
     ≡ counters (place.RedBox mac mode) (record { worker = worker; at = at; event = Arrive port copy; outcome = box_judged v } ∷ past)
-counted-same mac mode past worker at port copy v unreadable bad = λ i. let k : Counters = counters (place.RedBox mac mode) past in record {
-  sent = k.sent;
-  life = k.life;
-  up = if v.up then k.up + 1 else k.up;
-  forwarded = k.forwarded + sym (add-zero (bit v.a + bit v.b + bit v.interlink)) i;
-  duplicate = if is_duplicate v.cause then k.duplicate + 1 else k.duplicate;
-  returned = if is_returned v.cause then k.returned + 1 else k.returned;
-  foreign = if is_foreign v.cause then k.foreign + 1 else k.foreign;
-  local = if is_local v.cause then k.local + 1 else k.local;
-  untagged = if is_untagged v.cause then k.untagged + 1 else k.untagged;
-  tagged = if is_tagged v.cause then k.tagged + 1 else k.tagged;
-  malformed = if is_malformed v.cause then k.malformed + 1 else k.malformed;
-  bad_life = if bad i then k.bad_life + 1 else k.bad_life;
-}
+counted-same mac mode past worker at port copy v unreadable bad = λ i. counts_plus (counters (place.RedBox mac mode) past) v.cause v.up (sym (add-zero (deeds.copies_of v)) i) (bad i)
 
 ring-tells : (number : ℕ) (mac : List ℕ) (mode : Mode) (did : List Deed) (past : List Entry) (worker at port : ℕ) (y : BoxPort) (x : RingPort) (copy : Carried) (wants : Wants) (passes : Exits)
     → box_port port ≡ Some y → is_some_ring (Some y) ≡ true → ring_of (Some y) ≡ Some x → Tells number mac mode did past
@@ -252,7 +210,7 @@ ring-tells number mac mode did past worker at port y x copy wants passes is_y is
       hearing = reverse-append (deeds.hearings_of mac did) (deeds.heard_by mac (at_least did at) (judged_ring x (classified copy.octets) v))
           ∙ ap₂ (λ (xs ys : List Hearing). xs ++ ys) (hearing-same x (at_least did at) (max (now past) at) (is_told mac (classified copy.octets)) (read_of (payload_in (classified copy.octets))) (ap (λ m. max m at) t.moment)) t.hearing
           ∙ ap (λ (found : Option RingPort). hearing_by (Some mac) found (max (now past) at) (classified copy.octets) ++ hearings (place.RedBox mac mode) past) (sym (ap ring_of is_y ∙ is_x));
-      counters = ap (λ (k : Counters). counted_on k v (deeds.is_unreadable mac (judged_ring x (classified copy.octets) v))) t.counters
+      counters = ap (λ (k : Counters). counts_plus k v.cause v.up (deeds.copies_of v) (deeds.is_unreadable mac (judged_ring x (classified copy.octets) v))) t.counters
           ∙ counted-same mac mode past worker at port copy v (deeds.is_unreadable mac (judged_ring x (classified copy.octets) v)) unreadable;
     }
   where
@@ -322,9 +280,9 @@ interlink-tells number mac mode did past worker at port seq copy known is_i t =
       sources = reverse-append (deeds.sources_of mac did) (source_in mac (at_least did at) (classified copy.octets))
           ∙ ap₂ (λ (xs ys : List (List ℕ × ℕ)). xs ++ ys) (heard-same (classified copy.octets)) t.sources
           ∙ ap (λ (found : Option BoxPort). source_at found mac (max (now past) at) (classified copy.octets) ++ heard (place.RedBox mac mode) past) (sym is_i);
-      hearing = unheard-more (deeds.hearings_of mac did) ∙ t.hearing
+      hearing = silent (deeds.hearings_of mac did) ∙ t.hearing
           ∙ ap (λ (found : Option BoxPort). hearing_by (Some mac) (ring_of found) (max (now past) at) (classified copy.octets) ++ hearings (place.RedBox mac mode) past) (sym is_i);
-      counters = ap (λ (k : Counters). counted_on k (linked h seq) false) t.counters ∙ counted-same mac mode past worker at port copy (linked h seq) false unreadable;
+      counters = ap (λ (k : Counters). counts_plus k (linked h seq).cause (linked h seq).up (deeds.copies_of (linked h seq)) false) t.counters ∙ counted-same mac mode past worker at port copy (linked h seq) false unreadable;
     }
   where
     heard-same : (seen : Result Seen FrameFault) → reverse (source_in mac (at_least did at) seen) ≡ source_in mac (max (now past) at) seen
@@ -389,11 +347,6 @@ knows-same number mac mode did past at t =
 
 -- ---- verdicts
 
-remembers-same : (capacity number : ℕ) (mac : List ℕ) (mode : Mode) (did : List Deed) (past : List Entry) (at : ℕ) (key : Key) (e : Egress) → Tells number mac mode did past
-    → log_remembers capacity (deeds.log_of mac e did) at key ≡ remembers capacity (owner_of number mac mode) past at key e
-remembers-same capacity number mac mode did past at key e t =
-    ap (λ log. has_key key (remembered capacity entry_forget log at)) (t.log e) ∙ remembers-oldest capacity at key (notes (owner_of number mac mode) e past)
-
 -- by what is known
 abbrev ring_verdict : ℕ → List ℕ → Mode → List Deed → ℕ → (List ℕ → Bool) → RingPort → Result Seen FrameFault → BoxVerdict
 ring_verdict capacity mac mode did at knows x seen =
@@ -412,7 +365,7 @@ ring-same capacity number mac mode did past at next knows x (Ok (Tagged frame)) 
     let old : Exits = passes_from capacity (λ e. deeds.log_of mac e did) wants.exits seen at in
     let no_d = unwanted-shut wants.exits.d (told d) (wanted-d mac mode (Some knows) x seen) in
     ap (λ (p : Exits). judged_as (unnumbered wants) p next)
-    (passes-same wants.exits (remembers capacity (owner_of number mac mode) past at key) told (λ e. sym (remembers-same capacity number mac mode did past at key e t)))
+    (passes-same wants.exits (remembers capacity (owner_of number mac mode) past at key) told (λ e. sym (log-remembers capacity at key (deeds.log_of mac e did) (notes (owner_of number mac mode) e past) (t.log e))))
     ∙ λ i. outcome.Judged old.up (old.a ∷ old.b ∷ old.c ∷ no_d i ∷ []) None (cause_of wants old)
 
 -- what comes from the interlink passes wherever it is wanted
@@ -449,15 +402,13 @@ send-case : (capacity number worker at from : ℕ) (machine : Machine) (did : Li
     × Stays (HeldBy capacity number machine) past (record { worker = worker; at = at; event = Send from dst vlan kind payload }) (told box_sent refused.Send s.0) s.1
 send-case capacity number worker at from machine did past dst vlan kind payload s h (Some fault) own t k =
     let call : Call = record { worker = worker; at = at; event = Send from dst vlan kind payload } in
-    subst (λ (r : Result BoxSent SendFault). (Err (refused.Send fault) ≡ told box_sent refused.Send r) × Stays (HeldBy capacity number machine) past call (told box_sent refused.Send r) s.1)
-    (sym (ap sent_in k.0))
+    answered-by box_sent refused.Send (HeldBy capacity number machine) past call (Err (refused.Send fault)) s.1 s.0 _ (ap sent_in k.0)
     (refl, record { did = did; of_past = k.1; own = k.2; mode_is = k.3; tells = t })
 send-case capacity number worker at from machine did past dst vlan kind payload s h None own t k =
     let call : Call = record { worker = worker; at = at; event = Send from dst vlan kind payload } in
     let n : deeds.number_after did ≡ next_number past = ap (λ m. m % 65536) t.numbered in
     let e : Exits = h.wants.exits in
-    subst (λ (r : Result BoxSent SendFault). (Ok (sent_as h (next_number past)) ≡ told box_sent refused.Send r) × Stays (HeldBy capacity number machine) past call (told box_sent refused.Send r) s.1)
-    (sym (ap sent_in k.0)) (
+    answered-by box_sent refused.Send (HeldBy capacity number machine) past call (Ok (sent_as h (next_number past))) s.1 s.0 _ (ap sent_in k.0) (
       ap₂ (λ m p. Ok (outcome.Sent (number_of h.source m) (e.a ∷ e.b ∷ e.c ∷ p ∷ []))) (sym n) own.no_d,
       record {
         did = done did (at_least did at) (sent_frame h (deeds.number_after did));
@@ -474,15 +425,13 @@ life-case : (capacity number worker at : ℕ) (about : About) (machine : Machine
     × Stays (HeldBy capacity number machine) past (record { worker = worker; at = at; event = Supervise about }) (told lived life_fault s.0) s.1
 life-case capacity number worker at about machine did past s (Some fault) t k =
     let call : Call = record { worker = worker; at = at; event = Supervise about } in
-    subst (λ (r : Result Life LifeFault). (Err (life_fault fault) ≡ told lived life_fault r) × Stays (HeldBy capacity number machine) past call (told lived life_fault r) s.1)
-    (sym (ap lived_in k.0))
+    answered-by lived life_fault (HeldBy capacity number machine) past call (Err (life_fault fault)) s.1 s.0 _ (ap lived_in k.0)
     (refl, record { did = did; of_past = k.1; own = k.2; mode_is = k.3; tells = t })
 life-case capacity number worker at about machine did past s None t k =
     let call : Call = record { worker = worker; at = at; event = Supervise about } in
     let n : deeds.number_after did ≡ next_number past = ap (λ m. m % 65536) t.numbered in
     let l : deeds.count_of deeds.is_life did % 65536 ≡ lives past % 65536 = ap (λ (k : Counters). k.life % 65536) t.counters in
-    subst (λ (r : Result Life LifeFault). (lived_or_refused past None ≡ told lived life_fault r) × Stays (HeldBy capacity number machine) past call (told lived life_fault r) s.1)
-    (sym (ap lived_in k.0)) (
+    answered-by lived life_fault (HeldBy capacity number machine) past call (lived_or_refused past None) s.1 s.0 _ (ap lived_in k.0) (
       ap₂ (λ m k. Ok (outcome.Life m k (true ∷ true ∷ false ∷ false ∷ []))) (sym n) (sym l),
       record {
         did = done did (at_least did at) (sent_life (deeds.number_after did));
@@ -547,8 +496,7 @@ ring-case capacity number worker at port y x copy machine did past s is_y is_rin
     ∙ ring-same capacity number mac mode did past moment next (knows (place.RedBox mac mode) past moment Age) x seen t
     ∙ ap (λ (f : List ℕ → Bool). box_judged (ring_verdict capacity mac mode did moment f x seen)) (sym (knows-same number mac mode did past moment t))
     ∙ ap (λ n. box_judged (ring_verdict capacity mac mode did n (deeds.knows_among (deeds.sources_of mac did) n) x seen)) (sym m) in
-    subst (λ (r : Result BoxVerdict IsSpent). (Ok (judged (knows (place.RedBox mac mode) past moment (Arrive port copy))) ≡ told box_judged spent r) × Stays (HeldBy capacity number machine) past call (told box_judged spent r) s.1)
-    (sym (ap judged_in k.0)) (
+    answered-by box_judged spent (HeldBy capacity number machine) past call (Ok (judged (knows (place.RedBox mac mode) past moment (Arrive port copy)))) s.1 s.0 _ (ap judged_in k.0) (
       ap (λ (o : Outcome). Ok o) same,
       record {
         did = done did old (judged_ring x seen (ring_verdict capacity mac mode did old knew x seen));
@@ -583,8 +531,7 @@ interlink-case capacity number worker at port copy machine did past s is_i t k =
     = local-same capacity number mac mode past moment next knowing seen
     ∙ ap (λ (f : List ℕ → Bool). box_judged (linked (h f) next)) (sym (knows-interlink number mac mode did past moment port copy is_i t))
     ∙ ap₂ (λ n q. box_judged (linked (h (known_at n)) q)) (sym m) (sym n) in
-    subst (λ (r : Result BoxVerdict IsSpent). (Ok (judged_as (h knowing) (passing (remembers capacity (owner_of number mac mode) past moment) (h knowing).wants.exits seen) next) ≡ told box_judged spent r) × Stays (HeldBy capacity number machine) past call (told box_judged spent r) s.1)
-    (sym (ap judged_in k.0)) (
+    answered-by box_judged spent (HeldBy capacity number machine) past call (Ok (judged_as (h knowing) (passing (remembers capacity (owner_of number mac mode) past moment) (h knowing).wants.exits seen) next)) s.1 s.0 _ (ap judged_in k.0) (
       ap (λ (o : Outcome). Ok o) same,
       record {
         did = done did old (judged_interlink seen (h knew) (deeds.number_after did));
@@ -605,8 +552,7 @@ arrive-case : (capacity number worker at port : ℕ) (y : BoxPort) (copy : Carri
     × Stays (HeldBy capacity number machine) past (record { worker = worker; at = at; event = Arrive port copy }) (told box_judged spent s.0) s.1
 arrive-case capacity number worker at port y copy machine did past s true is_y t k =
     let call : Call = record { worker = worker; at = at; event = Arrive port copy } in
-    subst (λ (r : Result BoxVerdict IsSpent). (Err refused.Spent ≡ told box_judged spent r) × Stays (HeldBy capacity number machine) past call (told box_judged spent r) s.1)
-    (sym (ap judged_in k.0))
+    answered-by box_judged spent (HeldBy capacity number machine) past call (Err refused.Spent) s.1 s.0 _ (ap judged_in k.0)
     (refl, record { did = did; of_past = k.1; own = k.2; mode_is = k.3; tells = t })
 arrive-case capacity number worker at port A copy machine did past s false is_y t k = ring-case capacity number worker at port A ring.A copy machine did past s is_y refl refl t k
 arrive-case capacity number worker at port B copy machine did past s false is_y t k = ring-case capacity number worker at port B ring.B copy machine did past s is_y refl refl t k

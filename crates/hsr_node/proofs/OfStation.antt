@@ -30,7 +30,7 @@ use Rattle.hsr_node.specs.declared.event.Outcome.TheVariants as outcome
 use Rattle.hsr_node.specs.declared.event.StepFault.{StepFault}
 use Rattle.hsr_node.specs.declared.event.StepFault.TheVariants as refused
 use Rattle.hsr_node.specs.declared.place.Place.TheVariants as place
-use Rattle.hsr_node.proofs.OfQuadBox.{counted-entry}
+use Rattle.hsr_role.proofs.Counts.{counted-as}
 use Rattle.hsr_node.proofs.Told.{Call, Keeps, Stays}
 
 abbrev owner_of : ℕ → ArrayVec (List ℕ) → Owner
@@ -90,7 +90,7 @@ after-cause macs machine past worker at port copy cause h = record {
   own = h.own;
   moment = ap (λ m. max m at) h.moment;
   steps = ap (λ n. n + 1) h.steps;
-  counters = ap (λ (k : Counters). counted k cause (is_passed cause) 0) h.counters ∙ counted-entry (counters (place.Station macs) past) cause (is_passed cause) 0;
+  counters = ap (λ (k : Counters). counted k cause (is_passed cause) 0) h.counters ∙ counted-as (counters (place.Station macs) past) cause (is_passed cause) 0;
 }
 
 -- the answer to an arrival at the port, by whether all steps are spent

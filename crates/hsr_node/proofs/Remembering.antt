@@ -10,6 +10,7 @@ use Rattle.hsr_duptable.specs.Log as log
 use Rattle.hsr_duptable.specs.Notes as table
 use Rattle.hsr_duptable.specs.declared.note.Note.{Note}
 use Rattle.hsr_duptable.proofs.LogLaws.{last_notes-append, last_notes-none}
+use Rattle.hsr_role.specs.Past.{log_remembers}
 use Rattle.hsr_node.specs.Record.{Noted, has_key, oldest_first, remembered}
 
 pub oldest_first-cons : (noted : Bool) (n : Noted) (ns : List Noted)
@@ -75,3 +76,7 @@ pub remembers-oldest : (capacity at : ℕ) (key : Key) (ns : List Noted)
     → table.has_key key (log.remembered capacity entry_forget (oldest_first ns) at) ≡ has_key key (remembered capacity at ns)
 remembers-oldest capacity at key ns =
     ap (λ xs. table.has_key key (table.unexpired_notes entry_forget at xs)) (last-oldest capacity ns) ∙ young-oldest key at (take capacity ns)
+
+-- so does a log that is of it
+pub log-remembers : (capacity at : ℕ) (key : Key) (notes : List Note) (ns : List Noted) → notes ≡ oldest_first ns → log_remembers capacity notes at key ≡ has_key key (remembered capacity at ns)
+log-remembers capacity at key notes ns same = ap (λ xs. log_remembers capacity xs at key) same ∙ remembers-oldest capacity at key ns

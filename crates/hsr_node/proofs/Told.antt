@@ -1,7 +1,6 @@
 -- What is shown of each kind of node: it answers as its record does, and goes on to be told by it.
-use Rattle.std.proofs.Common.{◌≡◌, ℕ, ◌+◌, Bool, true, false, cond, List, [], ◌∷◌, ◌++◌, max, Option, Some, None, Result, Ok, Err, refl, ap₂, sym, ◌∙◌, arith, append-nil, if◌then◌else◌, ap, reverse}
+use Rattle.std.proofs.Common.{◌≡◌, ℕ, ◌+◌, Bool, true, false, cond, List, [], ◌∷◌, ◌++◌, max, Option, Some, None, Result, Ok, Err, refl, ap₂, sym, ◌∙◌, append-nil, if◌then◌else◌, ap, subst, reverse}
 use Rattle.std.specs.List.{cons_option}
-use Rattle.hsr_frame.specs.Counters.{bit}
 use Rattle.hsr_frame.specs.declared.node.RingPort.{RingPort}
 use Rattle.hsr_supervision.specs.Payload.{Fields as Said}
 use Rattle.hsr_supervision.specs.declared.payload.SupFault.{SupFault}
@@ -9,6 +8,7 @@ use Rattle.hsr_tables.specs.Nodes.{Hearing, hearing_if}
 use Rattle.hsr_duptable.specs.Key.{Key}
 use Rattle.hsr_duptable.specs.declared.note.Note.{Note}
 use Rattle.hsr_node.specs.Record.{Noted, Owner, answer, now, oldest_first}
+use Rattle.hsr_node.specs.Step.{told}
 use Rattle.hsr_node.specs.declared.entry.Entry.{Entry}
 use Rattle.hsr_node.specs.declared.event.Event.{Event}
 use Rattle.hsr_node.specs.declared.event.Outcome.{Outcome}
@@ -34,6 +34,13 @@ abbrev pub Keeps : {M : Type 0} → ℕ → Owner → (M → List Entry → Type
 Keeps capacity owner Held past call s =
     (answer capacity owner past (max (now past) call.at) call.event ≡ s.0) × Stays Held past call s.0 s.1
 
+-- the same of what a call gives that answers alike
+pub answered-by : {X E M : Type 0} (done : X → Outcome) (fault : E → StepFault) (Held : M → List Entry → Type 0) (past : List Entry) (call : Call) (asked : Result Outcome StepFault) (machine : M) (given said : Result X E) → given ≡ said
+    → (asked ≡ told done fault said) × Stays Held past call (told done fault said) machine
+    → (asked ≡ told done fault given) × Stays Held past call (told done fault given) machine
+answered-by done fault Held past call asked machine given said same =
+    subst (λ r. (asked ≡ told done fault r) × Stays Held past call (told done fault r) machine) (sym same)
+
 -- a note more, or none
 pub logged : (noted : Bool) (key : Key) (moment effective : ℕ) (probe : Option Probe) (log : List Note) (ns : List Noted) → moment ≡ effective → log ≡ oldest_first ns
     → log ++ cond noted (record { key = key; moment = moment } ∷ []) []
@@ -45,9 +52,9 @@ logged noted key moment effective probe log ns m l =
 pub unlogged : (log : List Note) (ns : List Noted) → log ≡ oldest_first ns → log ++ [] ≡ oldest_first ns
 unlogged log ns l = append-nil log ∙ l
 
-pub one-more : (p : Bool) (n : ℕ) → cond p (n + 1) n ≡ n + bit p
-one-more true n = refl
-one-more false n = omega arith
+-- nothing more is heard
+pub silent : {X : Type 0} (xs : List X) → reverse (xs ++ []) ≡ reverse xs
+silent xs = ap reverse (append-nil xs)
 
 -- one hearing, or none
 pub heard-same : (x : RingPort) (moment effective : ℕ) (told : Bool) (said : Result Said SupFault) → moment ≡ effective

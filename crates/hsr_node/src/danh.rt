@@ -1,21 +1,11 @@
 //! The events of a DANH.
 ghost use Rattle.std.specs.Prelude.{◌≡◌, length, Option};
-ghost use Rattle.hsr_node.specs.Step.{danh_arrive, danh_life, danh_send, danh_step, ring_port};
+ghost use Rattle.hsr_node.specs.Step.{danh_arrive, danh_life, danh_send, danh_step};
 
 use crate::event::{Event, Outcome, StepFault};
+use crate::port::ring_port;
 use hsr_danh::Danh;
 use hsr_frame::{About, Mac, RingPort};
-
-/// The ring port with this number.
-fn ring_port(number: u8) -> Option<RingPort>
-    ensures { result ≡ ring_port number }
-{
-    match number {
-        0 => Some(RingPort::A),
-        1 => Some(RingPort::B),
-        _ => None,
-    }
-}
 
 /// Sends a frame of the node's own.
 fn send<const C: usize>(

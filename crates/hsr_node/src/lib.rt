@@ -8,6 +8,7 @@
 //! - `refusal`: why a node refuses an event, as a word
 //! - `entry`: what a record holds
 //! - `station`: a node that sends plain frames
+//! - `port`: the ports of a node by their numbers
 //! - `danh`: the events of a DANH
 //! - `redbox`: the events of a RedBox
 //! - `quadbox`: the events of a QuadBox
@@ -31,6 +32,7 @@ mod node;
 mod octets;
 mod pass;
 mod place;
+mod port;
 mod quadbox;
 mod redbox;
 mod refusal;
@@ -51,7 +53,8 @@ pub use node::Node;
 pub use octets::Octets;
 pub use pass::Pass;
 pub use place::Place;
+pub use port::{quad_port, ring_port};
 pub use role::Role;
-pub use sending::{Sending, SentView, asked_frame, life_frame, sent_by, sent_view};
+pub use sending::{Sending, SentView, asked_frame, life_frame, ring_address, sent_by, sent_view};
 pub use station::Station;
 pub use units::same_in_finer_unit;

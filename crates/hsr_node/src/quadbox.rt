@@ -1,22 +1,10 @@
 //! The events of a QuadBox.
 ghost use Rattle.std.specs.Prelude.{◌≡◌, Option};
-ghost use Rattle.hsr_node.specs.Step.{quad_port, quadbox_arrive, quadbox_step};
+ghost use Rattle.hsr_node.specs.Step.{quadbox_arrive, quadbox_step};
 
 use crate::event::{Event, Outcome, StepFault};
+use crate::port::quad_port;
 use hsr_quadbox::{QuadBox, QuadPort};
-
-/// The port of a QuadBox with this number.
-fn quad_port(number: u8) -> Option<QuadPort>
-    ensures { result ≡ quad_port number }
-{
-    match number {
-        0 => Some(QuadPort::A),
-        1 => Some(QuadPort::B),
-        2 => Some(QuadPort::C),
-        3 => Some(QuadPort::D),
-        _ => None,
-    }
-}
 
 /// Judges what came to a port, if the node has it.
 fn arrive<const C: usize>(

@@ -1,22 +1,11 @@
 //! The events of a RedBox.
 ghost use Rattle.std.specs.Prelude.{◌≡◌, length, Option};
-ghost use Rattle.hsr_node.specs.Step.{box_port, life_fault, redbox_arrive, redbox_send, redbox_step, redbox_supervise};
+ghost use Rattle.hsr_node.specs.Step.{life_fault, redbox_arrive, redbox_send, redbox_step, redbox_supervise};
 
 use crate::event::{Event, Outcome, StepFault};
+use crate::port::box_port;
 use hsr_frame::Mac;
 use hsr_redbox::{About, BoxPort, LifeFault, RedBox};
-
-/// The port of a RedBox with this number.
-fn box_port(number: u8) -> Option<BoxPort>
-    ensures { result ≡ box_port number }
-{
-    match number {
-        0 => Some(BoxPort::A),
-        1 => Some(BoxPort::B),
-        2 => Some(BoxPort::I),
-        _ => None,
-    }
-}
 
 /// Why a node refuses what its RedBox refuses.
 fn step_fault(fault: LifeFault) -> StepFault

@@ -59,8 +59,8 @@ fn frame_of<'a>(
     })
 }
 
-/// The address of a node on a ring.
-fn ring_address(place: &Place) -> Option<Mac>
+/// The address of a node on a ring: that of a DANH or a RedBox.
+pub fn ring_address(place: &Place) -> Option<Mac>
     ensures { result ≡ ring_address place.now }
 {
     match place {
