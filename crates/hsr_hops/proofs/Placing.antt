@@ -1,14 +1,12 @@
 -- Where copies stand, gathered by an index.
-use Rattle.std.proofs.Common.{◌≡◌, ℕ, zero, suc, ◌+◌, ◌<◌, ◌&&◌, Bool, true, false, cond, nat_eq, List, [], ◌∷◌, ◌++◌, length, take, get_or, count_by, filter, Option, Some, None, unwrap_or, Bor, refl, sym, ap, ◌∙◌, subst, arith}
+use Rattle.std.proofs.Common.{◌≡◌, ℕ, ◌+◌, ◌&&◌, Bool, true, false, cond, nat_eq, List, [], ◌∷◌, ◌++◌, take, get_or, count_by, Option, Some, None, unwrap_or, Bor, refl, sym, ap, ◌∙◌, subst}
 use Rattle.std.specs.Prelude.{Vec, slice_get}
 use Rattle.std.specs.Global.{Global}
-use Rattle.std.specs.List.{range_with_len}
 use Rattle.std.specs.Option.{option_eq}
 use Rattle.std.specs.Str.{bytes_eq}
 use Rattle.std.proofs.lemmas.List.{append-nil}
-use Rattle.std.proofs.lemmas.List.Elements.{filter-append}
-use Rattle.std.proofs.lemmas.List.Sums.{count_by_more_no, count_by_more_yes}
 use Rattle.indexmap.specs.IndexMap.{IndexMap, Updates, get_by}
+use Rattle.hsr_frame.proofs.OneMore.{passing_more}
 use Rattle.hsr_node.specs.declared.event.Carried.{Carried}
 use Rattle.hsr_index.specs.Often.{count_of, is_key_of, is_same_carried, place_of}
 use Rattle.hsr_index.proofs.Counting.{is_same_key, keys_same}
@@ -46,31 +44,11 @@ found kept copy key place octets =
 
 -- ---- one more copy
 
-range_more : (a n : ℕ) → range_with_len a (n + 1) ≡ range_with_len a n ++ (a + n) ∷ []
-range_more a zero = let e : a ≡ a + 0 = omega arith in ap (λ m. m ∷ []) e
-range_more a (suc n) =
-    let more : suc n + 1 ≡ suc (n + 1) = omega arith in
-    let last : (a + 1) + n ≡ a + suc n = omega arith in
-    ap (range_with_len a) more ∙ ap (λ ns. a ∷ ns) (range_more (a + 1) n ∙ ap (λ m. range_with_len (a + 1) n ++ m ∷ []) last)
-
-pub range_push : (n : ℕ) → range_with_len 0 (n + 1) ≡ range_with_len 0 n ++ n ∷ []
-range_push n = let last : 0 + n ≡ n = omega arith in range_more 0 n ∙ ap (λ m. range_with_len 0 n ++ m ∷ []) last
-
 pub places_more : (copy : Carried) (xs : List (Option Carried)) (i : ℕ) →
     places_below copy xs (i + 1) ≡ places_below copy xs i ++ cond (is_at copy (get_or xs i None)) (i ∷ []) []
-places_more copy xs i =
-    ap (filter (λ k. is_at copy (get_or xs k None))) (range_push i)
-    ∙ filter-append (λ k. is_at copy (get_or xs k None)) (range_with_len 0 i) (i ∷ [])
+places_more copy xs i = passing_more (λ k. is_at copy (get_or xs k None)) i
 
 -- ---- one more row
-
-pub counted_more : (copy : Carried) (ys : List (Option Carried)) (j : ℕ) → j < length ys →
-    count_by (is_at copy) (take (j + 1) ys) ≡ count_by (is_at copy) (take j ys) + cond (is_at copy (get_or ys j None)) 1 0
-counted_more copy ys j below = by_same (is_at copy (get_or ys j None)) refl
-  where
-    by_same : (b : Bool) → is_at copy (get_or ys j None) ≡ b → count_by (is_at copy) (take (j + 1) ys) ≡ count_by (is_at copy) (take j ys) + cond b 1 0
-    by_same true is = count_by_more_yes (is_at copy) ys j None below is
-    by_same false is = let e = count_by_more_no (is_at copy) ys j None below is in omega (arith, e)
 
 pub found_partner : {S T : Type 0} (kept : IndexMap (Option (ℕ × ℕ) × Bor (List ℕ)) (Vec ℕ Global) S) (counts : IndexMap (Option (ℕ × ℕ) × Bor (List ℕ)) ℕ T) (xs ys : List (Option Carried)) (j : ℕ) →
     ((copy : Carried) → places_in kept copy ≡ places copy xs) → ((copy : Carried) → count_of counts copy ≡ count_by (is_at copy) (take j ys)) → (o : Option Carried) →

@@ -4,14 +4,13 @@ use Rattle.std.specs.Prelude.{filter_map, slice_get}
 use Rattle.std.specs.List.{cons_option, range_with_len}
 use Rattle.std.specs.Option.{option_and_then, option_or}
 use Rattle.std.proofs.Math.ListN.{get_or-map}
-use Rattle.std.proofs.lemmas.List.{length-take, take_more}
+use Rattle.std.proofs.lemmas.List.{take_more}
 use Rattle.std.proofs.lemmas.List.Elements.{filter_map-append}
-use Rattle.std.proofs.lemmas.List.Sums.{count_by-le-length, count_by_more_no, count_by_more_yes}
 use Rattle.std.proofs.lemmas.Option.{slice_get-get_or}
+use Rattle.hsr_frame.proofs.OneMore.{counted_more, numbers_more}
 use Rattle.hsr_law.specs.Run.{Run, record_of}
 use Rattle.hsr_closing.specs.declared.planned.Planned.{Planned}
 use Rattle.hsr_order.specs.declared.origin.Spot.{Spot}
-use Rattle.hsr_hops.proofs.Placing.{range_push}
 use Rattle.hsr_story.specs.Causes.{cause_if, cause_in, is_for, is_spot, main_at, main_before, main_next, main_pair}
 use Rattle.hsr_story.specs.Indexed.{main_by, mains_of}
 
@@ -35,20 +34,12 @@ cause_more xs i d spot below = ap (λ ys. cause_in ys spot) (take_more xs i d be
 
 -- ---- one more of the main worker's entries
 
-pub counted_more : (plan : List Planned) (i : ℕ) (d : Planned) (node : ℕ) → i < length plan →
-    count_by (is_for node) (take (i + 1) plan) ≡ count_by (is_for node) (take i plan) + cond (is_for node (get_or plan i d)) 1 0
-counted_more plan i d node below = by_same (is_for node (get_or plan i d)) refl
-  where
-    by_same : (b : Bool) → is_for node (get_or plan i d) ≡ b → count_by (is_for node) (take (i + 1) plan) ≡ count_by (is_for node) (take i plan) + cond b 1 0
-    by_same true is = count_by_more_yes (is_for node) plan i d below is
-    by_same false is = let e = count_by_more_no (is_for node) plan i d below is in omega (arith, e)
-
 pub counts_more : (plan : List Planned) (i : ℕ) (x : Planned) (node count old : ℕ) → i < length plan → x ≡ get_or plan i x → count ≡ count_by (is_for x.node) (take i plan) →
     old ≡ count_by (is_for node) (take i plan) → cond (nat_eq x.node node) (count + 1) old ≡ count_by (is_for node) (take (i + 1) plan)
 counts_more plan i x node count old below is counted was = by_same (nat_eq x.node node) refl
   where
     more : count_by (is_for node) (take (i + 1) plan) ≡ count_by (is_for node) (take i plan) + cond (nat_eq x.node node) 1 0
-    more = counted_more plan i x node below ∙ ap (λ (y : Planned). count_by (is_for node) (take i plan) + cond (is_for node y) 1 0) (sym is)
+    more = counted_more (is_for node) plan i x below ∙ ap (λ (y : Planned). count_by (is_for node) (take i plan) + cond (is_for node y) 1 0) (sym is)
 
     by_same : (b : Bool) → nat_eq x.node node ≡ b → cond b (count + 1) old ≡ count_by (is_for node) (take (i + 1) plan)
     by_same true e =
@@ -58,9 +49,6 @@ counts_more plan i x node count old below is counted was = by_same (nat_eq x.nod
     by_same false e =
         let m : count_by (is_for node) (take (i + 1) plan) ≡ count_by (is_for node) (take i plan) + 0 = more ∙ ap (λ b. count_by (is_for node) (take i plan) + cond b 1 0) e in
         omega (arith, m, was)
-
-pub count_fits : (plan : List Planned) (i n node : ℕ) → n ≡ count_by (is_for node) (take i plan) → i < length plan → n < length plan
-count_fits plan i n node is below = let most = count_by-le-length (is_for node) (take i plan) in let taken = length-take i plan in omega (arith, is, below, most, taken)
 
 pub main_is : (run : Run) (plan : List Planned) (i : ℕ) (x : Planned) (count : ℕ) (rows : List (List ℕ)) → i < length plan → x ≡ get_or plan i x → rows ≡ map mains_of run.records →
     count ≡ count_by (is_for x.node) (take i plan) → main_by rows x.node count ≡ main_at run plan i
@@ -79,7 +67,7 @@ before_more run plan i =
 pub pairs_more : (run : Run) (plan : List Planned) (i : ℕ) →
     filter_map (main_pair run plan) (range_with_len 0 (i + 1)) ≡ filter_map (main_pair run plan) (range_with_len 0 i) ++ cons_option (main_pair run plan i) []
 pairs_more run plan i =
-    ap (filter_map (main_pair run plan)) (range_push i) ∙ (filter_map-append (main_pair run plan) (range_with_len 0 i) (i ∷ []) ∙ ap (λ ps. filter_map (main_pair run plan) (range_with_len 0 i) ++ ps) (one (main_pair run plan i) refl))
+    ap (filter_map (main_pair run plan)) (numbers_more i) ∙ (filter_map-append (main_pair run plan) (range_with_len 0 i) (i ∷ []) ∙ ap (λ ps. filter_map (main_pair run plan) (range_with_len 0 i) ++ ps) (one (main_pair run plan i) refl))
   where
     one : (o : Option (Spot × Spot)) → main_pair run plan i ≡ o → filter_map (main_pair run plan) (i ∷ []) ≡ cons_option (main_pair run plan i) []
     one o is = refl

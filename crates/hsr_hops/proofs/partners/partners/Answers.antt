@@ -3,11 +3,12 @@ use Rattle.std.specs.List.{range_with_len}
 use Rattle.std.specs.Prelude.{option_map}
 use Rattle.std.proofs.lemmas.List.{get_or-map, length-map, length-take, map-append}
 use Rattle.std.proofs.lemmas.List.Sums.{count_by-le-length}
+use Rattle.hsr_frame.proofs.OneMore.{counted_more, numbers_more}
 use Rattle.hsr_node.specs.declared.event.Carried.{Carried}
 use Rattle.hsr_index.specs.InOrder.{told_copy}
 use Rattle.hsr_hops.specs.Indexed.{found_at}
 use Rattle.hsr_hops.specs.Partners.{is_at, partner}
-use Rattle.hsr_hops.proofs.Placing.{counted_more, found_partner, range_push}
+use Rattle.hsr_hops.proofs.Placing.{found_partner}
 use Rattle.hsr_hops.proofs.partners.partners.Goals as goal
 
 pub next_partner-requires : goal.next_partner-requires
@@ -39,10 +40,10 @@ loop-j-preserved c =
       counts = λ copy.
           c.in_ok-place.ensures.counts copy
           ∙ (ap (λ (n : ℕ). n + cond (is_at copy (option_map (λ r. r.now) c.told.result)) 1 0) (c.loop-j.invariant.counts copy)
-          ∙ (ap (λ (o : Option Carried). count_by (is_at copy) (take j ys) + cond (is_at copy o) 1 0) it ∙ sym (counted_more copy ys j below_ys)));
+          ∙ (ap (λ (o : Option Carried). count_by (is_at copy) (take j ys) + cond (is_at copy o) 1 0) it ∙ sym (counted_more (is_at copy) ys j None below_ys)));
       places =
           c.in_ok-push.ensures.items
           ∙ (ap (λ (ps : List (Option ℕ)). ps ++ c.in_ok-place.place ∷ []) c.loop-j.invariant.places
           ∙ (ap (λ (p : Option ℕ). map (partner c.args.copies.now ys) (range_with_len 0 j) ++ p ∷ []) placed
-          ∙ sym (ap (map (partner c.args.copies.now ys)) (range_push j) ∙ map-append (partner c.args.copies.now ys) (range_with_len 0 j) (j ∷ []))));
+          ∙ sym (ap (map (partner c.args.copies.now ys)) (numbers_more j) ∙ map-append (partner c.args.copies.now ys) (range_with_len 0 j) (j ∷ []))));
     }
