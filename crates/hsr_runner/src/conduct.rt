@@ -192,7 +192,13 @@ fn obey<const C: usize>(
         Step::Inject { link, dir, octets } => {
             inject_on(rt, alloc, cells, topology, *link, *dir, octets)
         }
-        _ => bring_order(rt, alloc, cells, topology, pass, at, order),
+        // Each kind is named, so that a new one does not pass for an event unseen. No put, take or judge comes here.
+        Step::Send { .. }
+        | Step::Supervise { .. }
+        | Step::Age { .. }
+        | Step::Put { .. }
+        | Step::Take { .. }
+        | Step::Judge { .. } => bring_order(rt, alloc, cells, topology, pass, at, order),
     };
     match done {
         Ok(()) => Ok(true),

@@ -66,7 +66,14 @@ pub(crate) fn planned_at(at: u64, order: &Order) -> Result<Option<Planned>, NoMe
             at,
             event: Event::Age,
         })),
-        _ => Ok(None),
+        // Each kind is named, so that a new one is not left out of the plan unseen.
+        Step::Clock { .. }
+        | Step::Put { .. }
+        | Step::Take { .. }
+        | Step::Judge { .. }
+        | Step::Cut { .. }
+        | Step::Mend { .. }
+        | Step::Inject { .. } => Ok(None),
     }
 }
 
