@@ -142,6 +142,21 @@ pub record NoteCame (capacity : ℕ) (owner : Owner) (e : Egress) (x : Entry) (p
   pub probe : note.probe ≡ copy.probe
   pub how : CameTagged capacity owner past (now (x ∷ past)) port copy e x.outcome note.key ⊎ CameNumbered port copy x.outcome note.key
 
+-- what an arrival left is made of it
+pub came_with : (capacity : ℕ) (owner : Owner) (e : Egress) (x : Entry) (past : List Entry) (note : Noted) (port : ℕ) (copy : Carried) → answer capacity owner past (now (x ∷ past)) x.event ≡ Ok x.outcome →
+    IsNoteOf owner e x past note → x.event ≡ Arrive port copy → NoteCame capacity owner e x past note
+came_with capacity owner e x past note port copy ok n is =
+    let A : Event → Type 0 = λ ev. answer capacity owner past (now (x ∷ past)) ev ≡ Ok x.outcome in
+    let K : Event → Type 0 = λ ev. key_handled owner.place ev x.outcome ≡ Some note.key in
+    record {
+      port = port;
+      copy = copy;
+      is = is;
+      ok = subst A is ok;
+      probe = n.probe ∙ ap (probe_handled (record { node = owner.number; place = length past })) is;
+      how = noted_came capacity owner past (now (x ∷ past)) port copy x.outcome e note.key (subst A is ok) n.noted (subst K is n.key);
+    }
+
 -- each note is of a send of the node's own, at this entry, or of what came
 pub note_from : (capacity : ℕ) (owner : Owner) (e : Egress) (x : Entry) (past : List Entry) (note : Noted) → answer capacity owner past (now (x ∷ past)) x.event ≡ Ok x.outcome →
     IsNoteOf owner e x past note → (note.probe ≡ Some (record { node = owner.number; place = length past })) ⊎ NoteCame capacity owner e x past note
@@ -154,17 +169,7 @@ note_from capacity owner e x past note ok n = by_event x.event refl
     by_event (Send from dst vlan kind payload) is = inl (n.probe ∙ ap (probe_handled (record { node = owner.number; place = length past })) is)
     by_event (Supervise about) is = inl (n.probe ∙ ap (probe_handled (record { node = owner.number; place = length past })) is)
     by_event Age is = inl (n.probe ∙ ap (probe_handled (record { node = owner.number; place = length past })) is)
-    by_event (Arrive port copy) is =
-        let A : Event → Type 0 = λ ev. answer capacity owner past (now (x ∷ past)) ev ≡ Ok x.outcome in
-        let K : Event → Type 0 = λ ev. key_handled owner.place ev x.outcome ≡ Some note.key in
-        inr (record {
-          port = port;
-          copy = copy;
-          is = is;
-          ok = subst A is ok;
-          probe = n.probe ∙ ap (probe_handled (record { node = owner.number; place = length past })) is;
-          how = noted_came capacity owner past (now (x ∷ past)) port copy x.outcome e note.key (subst A is ok) n.noted (subst K is n.key);
-        })
+    by_event (Arrive port copy) is = inr (came_with capacity owner e x past note port copy ok n is)
 
 -- what came with a tag and leaves is noted
 pub tagged_note : (capacity : ℕ) (owner : Owner) (e : Egress) (x : Entry) (past : List Entry) (port : ℕ) (copy : Carried) (t : TaggedFields) → x.event ≡ Arrive port copy →

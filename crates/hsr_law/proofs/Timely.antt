@@ -6,7 +6,7 @@ use Rattle.std.proofs.lemmas.Bool.{or_left, or_right, and_from, false≢true, ca
 use Rattle.hsr_frame.specs.Egress.{Egress}
 use Rattle.hsr_node.specs.Flow.{send_at, sent_by}
 use Rattle.hsr_node.specs.declared.sending.Sending.{Sending}
-use Rattle.hsr_node.specs.Record.{Each, Noted, Owner, answer, is_noted, notes, now, probe_handled}
+use Rattle.hsr_node.specs.Record.{Each, Noted, Owner, answer, is_noted, notes, now}
 use Rattle.hsr_node.specs.declared.entry.Entry.{Entry}
 use Rattle.hsr_node.specs.declared.event.Event.{Event}
 use Rattle.hsr_node.specs.declared.event.Event.TheVariants.{Send, Supervise, Arrive, Age}
@@ -20,7 +20,7 @@ use Rattle.hsr_law.specs.Closed.{IsOfSend, IsSend}
 use Rattle.hsr_law.specs.Run.{Run, is_of, owner_of, past_of, place_of}
 use Rattle.hsr_law.proofs.Records.{Answered, OfArrival, all_notes_more}
 use Rattle.hsr_law.proofs.Same.{any_one_more, is_of_itself}
-use Rattle.hsr_law.proofs.Noting.{IsNoteOf, NoteCame, note_from}
+use Rattle.hsr_law.proofs.Noting.{IsNoteOf, NoteCame, came_with, note_from}
 
 -- a note is of a send of the node's own, at this entry, or of what came
 pub note_kind : (capacity : ℕ) (owner : Owner) (e : Egress) (x : Entry) (past : List Entry) (note : Noted) → Answered capacity owner x past → IsNoteOf owner e x past note →
@@ -42,17 +42,7 @@ note_kind capacity owner e x past note ok n = by_event x.event refl (note_from c
         let aged : Ok Aged ≡ Ok x.outcome = subst A is ok in
         let same : Aged ≡ x.outcome = cc in
         absurd (false≢true (ap (λ o. is_noted o e) same ∙ n.noted))
-    by_event (Arrive port copy) is (inl own) =
-        let A : Event → Type 0 = λ ev. answer capacity owner past (now (x ∷ past)) ev ≡ Ok x.outcome in
-        let K : Event → Type 0 = λ ev. Rattle.hsr_node.specs.Record.key_handled owner.place ev x.outcome ≡ Some note.key in
-        inr (record {
-          port = port;
-          copy = copy;
-          is = is;
-          ok = subst A is ok;
-          probe = n.probe ∙ ap (probe_handled (record { node = owner.number; place = length past })) is;
-          how = Rattle.hsr_law.proofs.Noting.noted_came capacity owner past (now (x ∷ past)) port copy x.outcome e note.key (subst A is ok) n.noted (subst K is n.key);
-        })
+    by_event (Arrive port copy) is (inl own) = inr (came_with capacity owner e x past note port copy ok n is)
 
 -- whether the entry at a place is a send
 abbrev pub is_send_at : ℕ → List Entry → Bool

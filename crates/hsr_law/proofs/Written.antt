@@ -20,11 +20,11 @@ record IsRead (octets : List ℕ) (seen : Seen) : Type 0 where
   long : 14 ≤ length octets
   short : length octets ≤ 1524
 
-accepted : {A E : Type 0} (o : Option E) (x y : A) → unless o x ≡ Ok y → (o ≡ None) × (x ≡ y)
+pub accepted : {A E : Type 0} (o : Option E) (x y : A) → unless o x ≡ Ok y → (o ≡ None) × (x ≡ y)
 accepted None x y e = (refl, cc)
 accepted (Some fault) x y e = absurd cc
 
-none_before : {A : Type 0} (o other : Option A) → option_or o other ≡ None → o ≡ None
+pub none_before : {A : Type 0} (o other : Option A) → option_or o other ≡ None → o ≡ None
 none_before None other e = refl
 none_before (Some x) other e = absurd cc
 

@@ -3,23 +3,16 @@ use Rattle.std.proofs.Common.{◌≡◌, ℕ, ◌+◌, ◌-◌, ◌%◌, ◌≤�
 use Rattle.std.specs.Prelude.{slice_index, drop}
 use Rattle.std.specs.Option.{option_or}
 use Rattle.std.proofs.lemmas.Bool.{or_parts}
-use Rattle.hsr_frame.specs.Cases.{first_of, unless}
+use Rattle.hsr_frame.specs.Cases.{first_of}
 use Rattle.hsr_frame.specs.Grammar.{Fields, fields_of, has_vlan, head_len, number_at, raw_fault, spelling}
 use Rattle.hsr_frame.specs.declared.fault.FrameFault.{FrameFault}
 use Rattle.hsr_frame.specs.declared.fault.FrameFault.TheVariants.{DoubleVlan, GroupSource, Long, NestedTag, Short, ShortTag}
 use Rattle.hsr_tag.specs.Seen.{classified, frame_fault, seen_in, tag_fault, tagged_of}
 use Rattle.hsr_tag.specs.Tag.{TaggedFields, untag_of}
 use Rattle.hsr_tag.specs.declared.seen.Seen.TheVariants.{Plain, Tagged}
+use Rattle.hsr_law.proofs.Written.{accepted, none_before}
 
 -- ---- what is read
-
-accepted : {A E : Type 0} (o : Option E) (x y : A) → unless o x ≡ Ok y → (o ≡ None) × (x ≡ y)
-accepted None x y e = (refl, cc)
-accepted (Some fault) x y e = absurd cc
-
-none_before : {A : Type 0} (o other : Option A) → option_or o other ≡ None → o ≡ None
-none_before None other e = refl
-none_before (Some x) other e = absurd cc
 
 first_not : (b : Bool) (x : FrameFault) (rest : List (Bool × Option FrameFault)) → first_of ((b, Some x) ∷ rest) None ≡ None → b ≡ false
 first_not true x rest e = absurd cc
