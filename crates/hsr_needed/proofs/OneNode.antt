@@ -1,17 +1,14 @@
 -- The most that was needed at one node.
-use Rattle.std.proofs.Common.{◌≡◌, ⊎_elim, ℕ, zero, suc, ◌<◌, ◌≤◌, Bool, true, false, nat_lt, if◌then◌else◌, ◌∷◌, length, take, reverse, slice_index_or, Option, Some, None, Result, Ok, Err, refl, sym, ap, ◌∙◌, subst, arith}
+use Rattle.std.proofs.Common.{◌≡◌, ⊎_elim, ℕ, zero, suc, ◌<◌, ◌≤◌, Bool, true, false, nat_lt, if◌then◌else◌, length, Option, Some, None, Result, Ok, Err, refl, sym, ap, ◌∙◌, subst, arith}
 use Rattle.std.specs.Prelude.{IfOk}
 use Rattle.hsr_frame.specs.declared.fault.NoMemory.{NoMemory}
 use Rattle.std.proofs.lemmas.Bool.{cases_lt, ltb-false}
 use borrow.Author.Tests.{ltb-true}
-use Rattle.hsr_node.specs.Record.{now}
-use Rattle.hsr_law.specs.Run.{Run, owner_of, record_of}
-use Rattle.hsr_needed.specs.Logged.{needs_of}
-use Rattle.hsr_needed.specs.Needs.{IsMetAt, IsMostAt, Needs}
+use Rattle.hsr_law.specs.Run.{Run, record_of}
+use Rattle.hsr_needed.specs.Needs.{IsMetAt, IsMostAt}
 use Rattle.hsr_needed.specs.Walked.{needs_at, nothing_needed, or_more, walked}
 use Rattle.hsr_needed.specs.declared.most.Needed.{Needed}
-use Rattle.hsr_needed.proofs.Places.{each_from}
-use Rattle.hsr_needed.proofs.Walking.{needs_most, needs_there, there_met, there_most}
+use Rattle.hsr_needed.proofs.Walking.{each_needs, there_met, there_most}
 
 module _ (run : Run) (k : ℕ) where
   -- at this place below another so many are needed, and before it fewer
@@ -78,15 +75,7 @@ module _ (run : Run) (k : ℕ) where
       let P : Needed → Type 0 = λ w. IsTop (length (record_of run k)) w in
       let top = subst P (sym is) (all (length (record_of run k))) in
       record {
-        most = each_from (λ x past. (n : ℕ) → Needs (owner_of run k) past (now (x ∷ past)) x.event n → n ≤ m.entries) (record_of run k)
-            (λ i below other n needs.
-            let past = reverse (take i (record_of run k)) in
-            let x = slice_index_or (record_of run k) i other in
-            let most : n ≤ needs_of (owner_of run k) (x ∷ past) =
-            needs_most (owner_of run k) past (now (x ∷ past)) (record { node = k; place = length past }) x.event n needs in
-            let same = needs_there run k i other below in
-            let upper = top.most i below in
-            omega (arith, most, same, upper));
+        most = each_needs run k m.entries top.most;
         met = met m.entries m.at top.seen;
       }
 

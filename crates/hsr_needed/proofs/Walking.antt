@@ -8,7 +8,7 @@ use Rattle.hsr_frame.specs.declared.egress.Exits.{Exits}
 use Rattle.hsr_tag.specs.Seen.{classified}
 use Rattle.hsr_redbox.specs.declared.wanted.Handling.{Handling}
 use Rattle.hsr_node.specs.Flow.{wanted_at}
-use Rattle.hsr_node.specs.Record.{Owner, handling, knows, notes, now, probe_handled}
+use Rattle.hsr_node.specs.Record.{Each, Owner, handling, knows, notes, now, probe_handled}
 use Rattle.hsr_node.specs.declared.entry.Entry.{Entry}
 use Rattle.hsr_node.specs.declared.event.Carried.{Carried}
 use Rattle.hsr_node.specs.declared.event.Event.{Event}
@@ -269,14 +269,24 @@ most_start run = record { most = λ k i inside before. absurd (⊎_elim (λ low.
 
 module _ (run : Run) where
   -- a place needs what its entry needs
-  pub there_most : (k i n : ℕ) → i < length (record_of run k) → NeedsThere run k i n → n ≤ needs_at run k i
-  there_most k i n below needs =
+  entry_most : (k i n : ℕ) (other : Entry) → i < length (record_of run k) →
+      (let past = reverse (take i (record_of run k)) in let x = slice_index_or (record_of run k) i other in Needs (owner_of run k) past (now (x ∷ past)) x.event n) → n ≤ needs_at run k i
+  entry_most k i n other below needs =
       let past = reverse (take i (record_of run k)) in
-      let x = slice_index_or (record_of run k) i no_entry in
+      let x = slice_index_or (record_of run k) i other in
       let most : n ≤ needs_of (owner_of run k) (x ∷ past) =
-      needs_most (owner_of run k) past (now (x ∷ past)) (record { node = k; place = length past }) x.event n (needs no_entry) in
-      let same = needs_there run k i no_entry below in
+      needs_most (owner_of run k) past (now (x ∷ past)) (record { node = k; place = length past }) x.event n needs in
+      let same = needs_there run k i other below in
       omega (arith, most, same)
+
+  pub there_most : (k i n : ℕ) → i < length (record_of run k) → NeedsThere run k i n → n ≤ needs_at run k i
+  there_most k i n below needs = entry_most k i n no_entry below (needs no_entry)
+
+  -- where no place needs more than this, no entry does
+  pub each_needs : (k top : ℕ) → ((i : ℕ) → i < length (record_of run k) → needs_at run k i ≤ top) →
+      Each (λ x past. (n : ℕ) → Needs (owner_of run k) past (now (x ∷ past)) x.event n → n ≤ top) (reverse (record_of run k))
+  each_needs k top all = each_from (λ x past. (n : ℕ) → Needs (owner_of run k) past (now (x ∷ past)) x.event n → n ≤ top) (record_of run k)
+      (λ i below other n needs. let most = entry_most k i n other below needs in let upper = all i below in omega (arith, most, upper))
 
   pub there_met : (k i n : ℕ) → i < length (record_of run k) → 0 < n → needs_at run k i ≡ n → NeedsThere run k i n
   there_met k i n below some is other =
@@ -302,15 +312,7 @@ module _ (run : Run) where
 
   pub most_is : (l : ℕ) (m : Needed) → l ≡ length run.places → IsMostBefore run l 0 m → IsMost run m
   most_is l m all so_far = record {
-    most = λ k node. each_from (λ x past. (n : ℕ) → Needs (owner_of run k) past (now (x ∷ past)) x.event n → n ≤ m.entries) (record_of run k)
-        (λ i below other n needs.
-        let past = reverse (take i (record_of run k)) in
-        let x = slice_index_or (record_of run k) i other in
-        let most : n ≤ needs_of (owner_of run k) (x ∷ past) =
-        needs_most (owner_of run k) past (now (x ∷ past)) (record { node = k; place = length past }) x.event n needs in
-        let same = needs_there run k i other below in
-        let upper = so_far.most k i below (inl (omega (arith, node, all))) in
-        omega (arith, most, same, upper));
+    most = λ k node. each_needs k m.entries (λ i below. so_far.most k i below (inl (omega (arith, node, all))));
     met = met_is m.entries m.at so_far.met;
   }
     where
