@@ -1,4 +1,3 @@
-mod Growing
 mod Summing
 mod Hearing
 mod Needing

@@ -1,9 +1,7 @@
 -- What supervision told a node, entry by entry.
-use Rattle.std.proofs.Common.{◌≡◌, ℕ, zero, suc, ◌+◌, ◌||◌, Bool, true, false, cond, if◌then◌else◌, List, [], ◌∷◌, ◌++◌, reverse, Option, Some, None, Result, Ok, Err, refl, sym, ap, ◌∙◌, arith}
-use Rattle.std.specs.Prelude.{filter}
-use Rattle.std.specs.List.{list_any, range_with_len}
+use Rattle.std.proofs.Common.{◌≡◌, ℕ, ◌+◌, ◌||◌, Bool, true, false, cond, List, [], ◌∷◌, ◌++◌, reverse, Option, Some, None, Result, Ok, Err, refl, sym, ap, ◌∙◌}
+use Rattle.std.specs.List.{list_any}
 use Rattle.std.proofs.lemmas.List.{reverse-append}
-use Rattle.std.proofs.lemmas.List.Elements.{filter-append}
 use Rattle.hsr_frame.specs.declared.fault.FrameFault.{FrameFault}
 use Rattle.hsr_frame.specs.declared.node.RingPort.{RingPort}
 use Rattle.hsr_supervision.specs.Payload.{Fields, read_of}
@@ -81,17 +79,3 @@ module _ (mac : List ℕ) where
 
   pub told_same : (place : Place) (entries : List Entry) → list_any (λ (x : Entry). is_mac mac (told_by place x.event)) entries ≡ is_told_of place (reverse entries) mac
   told_same place entries = sym (by_past place (reverse entries) ∙ turned (λ (x : Entry). is_mac mac (told_by place x.event)) entries)
-
--- ---- one more node
-
-range_more : (a n : ℕ) → range_with_len a (n + 1) ≡ range_with_len a n ++ (a + n) ∷ []
-range_more a zero = let e : a ≡ a + 0 = omega arith in ap (λ m. m ∷ []) e
-range_more a (suc n) =
-    let more : suc n + 1 ≡ suc (n + 1) = omega arith in
-    let last : (a + 1) + n ≡ a + suc n = omega arith in
-    ap (range_with_len a) more ∙ ap (λ ns. a ∷ ns) (range_more (a + 1) n ∙ ap (λ m. range_with_len (a + 1) n ++ m ∷ []) last)
-
-pub passing_more : (test : ℕ → Bool) (k : ℕ) → filter test (range_with_len 0 (k + 1)) ≡ filter test (range_with_len 0 k) ++ (if test k then k ∷ [] else [])
-passing_more test k =
-    let last : 0 + k ≡ k = omega arith in
-    ap (filter test) (range_more 0 k ∙ ap (λ m. range_with_len 0 k ++ m ∷ []) last) ∙ filter-append test (range_with_len 0 k) (k ∷ [])

@@ -22,6 +22,8 @@ use Rattle.hsr_devices.specs.Known.{stations_known}
 use Rattle.hsr_devices.specs.Lines.{arrivals_text, departures_text}
 use Rattle.hsr_devices.specs.Port.{port_link}
 use Rattle.hsr_devices.specs.Unheard.{unheard}
+use Rattle.hsr_devices.specs.declared.listing.Amount.{Amount}
+use Rattle.hsr_devices.specs.declared.listing.Amount.TheVariants.{LostIn, LostOut, OctetsIn, OctetsOut}
 use Rattle.hsr_devices.specs.declared.port.PortLink.{PortLink}
 
 -- ---- links
@@ -29,21 +31,16 @@ use Rattle.hsr_devices.specs.declared.port.PortLink.{PortLink}
 unfoldable pub links_at : Run → ℕ → ℕ → List (Option PortLink)
 links_at run k n = map (λ port. port_link run (record { node = k; port = port })) (range_with_len 0 n)
 
-abbrev pub lost_in_of : Option PortLink → ℕ
-lost_in_of None = 0
-lost_in_of (Some link) = link.lost_in
+-- what is told of a link, and of the link of a port: 0 where it has none
+abbrev pub amount_in : Amount → PortLink → ℕ
+amount_in LostIn link = link.lost_in
+amount_in LostOut link = link.lost_out
+amount_in OctetsIn link = link.octets_in
+amount_in OctetsOut link = link.octets_out
 
-abbrev pub lost_out_of : Option PortLink → ℕ
-lost_out_of None = 0
-lost_out_of (Some link) = link.lost_out
-
-abbrev pub octets_in_of : Option PortLink → ℕ
-octets_in_of None = 0
-octets_in_of (Some link) = link.octets_in
-
-abbrev pub octets_out_of : Option PortLink → ℕ
-octets_out_of None = 0
-octets_out_of (Some link) = link.octets_out
+abbrev pub amount_at : Amount → Option PortLink → ℕ
+amount_at what None = 0
+amount_at what (Some link) = amount_in what link
 
 abbrev pub peer_text : List (List ℕ) → List Place → Option PortLink → List ℕ
 peer_text names places None = codes "-"
@@ -108,8 +105,8 @@ unheard_at names run k (Station macs) = []
 -- what came to the ports of a node and what left by them, in columns of this width
 unfoldable pub traffic_text : ℕ → Run → ℕ → Place → List (Option PortLink) → List ℕ
 traffic_text width run k place links =
-    arrivals_text width (record_of run k) (ports place) (counters place (past_of run k)) (map octets_in_of links) (map lost_in_of links)
-    ++ departures_text width (record_of run k) (ports place) (counters place (past_of run k)) (map octets_out_of links) (map lost_out_of links)
+    arrivals_text width (record_of run k) (ports place) (counters place (past_of run k)) (map (amount_at OctetsIn) links) (map (amount_at LostIn) links)
+    ++ departures_text width (record_of run k) (ports place) (counters place (past_of run k)) (map (amount_at OctetsOut) links) (map (amount_at LostOut) links)
 
 -- the ports of a node as columns
 unfoldable pub columns_text : List (List ℕ) → Run → ℕ → Place → List ℕ

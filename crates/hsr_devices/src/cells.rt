@@ -4,7 +4,7 @@ ghost use Rattle.std.specs.Fmt.{decimal};
 ghost use Rattle.hsr_devices.specs.Cells.{left, right};
 
 use hsr_frame::NoMemory;
-use hsr_text::put_decimal;
+use hsr_text::{put_number, put_octets};
 use std::alloc::Global;
 
 /// Puts so many spaces last.
@@ -23,7 +23,7 @@ fn put_spaces(text: &mut Vec<u8>, count: usize) -> Result<(), NoMemory>
 pub(crate) fn put_left(text: &mut Vec<u8>, width: usize, cell: &[u8]) -> Result<(), NoMemory>
     ensures { OnOk result (text.new.items ≡ text.old.items ++ left width cell.now) }
 {
-    text.extend_from_slice(cell)?;
+    put_octets(text, cell)?;
     put_spaces(text, width.saturating_sub(cell.len()))
 }
 
@@ -33,8 +33,7 @@ pub(crate) fn put_right(text: &mut Vec<u8>, width: usize, cell: &[u8]) -> Result
     ensures { OnOk result (text.new.items ≡ text.old.items ++ right width cell.now) }
 {
     put_spaces(text, width.saturating_sub(cell.len()))?;
-    text.extend_from_slice(cell)?;
-    Ok(())
+    put_octets(text, cell)
 }
 
 /// Puts a number last, with spaces before it up to a width.
@@ -47,6 +46,6 @@ pub(crate) fn put_count(
     ensures { OnOk result (text.new.items ≡ text.old.items ++ right width (decimal n)) }
 {
     let mut cell = Vec::new(alloc);
-    put_decimal(&mut cell, n)?;
+    put_number(&mut cell, n)?;
     put_right(text, width, cell.as_slice())
 }

@@ -1,6 +1,5 @@
 //! What a node is, and what it knows, in words.
 ghost use Rattle.std.specs.Prelude.{◌≡◌, ◌++◌, OnOk, codes};
-ghost use Rattle.std.specs.Fmt.{decimal};
 ghost use Rattle.std.specs.List.{flat_map};
 ghost use Rattle.hsr_order.specs.Fronts.{lists_of};
 ghost use Rattle.hsr_devices.specs.Describing.{addresses_text, heard_if, kind_text, known_text, macs_text, next_name, node_row_text, owner_if, owner_in, parted_names, redbox_if, station_text, unheard_text, who_text};
@@ -12,36 +11,20 @@ use hsr_names::put_name;
 use hsr_node::Place;
 use hsr_supervision::SupKind;
 use hsr_tables::NodeRow;
-use hsr_text::{put_decimal, put_mac};
+use hsr_text::{put, put_mac, put_number, put_octets};
 use std::alloc::Global;
-
-/// Puts words last.
-pub(crate) fn put(text: &mut Vec<u8>, words: &[u8]) -> Result<(), NoMemory>
-    ensures { OnOk result (text.new.items ≡ text.old.items ++ words.now) }
-{
-    text.extend_from_slice(words)?;
-    Ok(())
-}
-
-/// Puts a number last.
-pub(crate) fn put_number(text: &mut Vec<u8>, n: u64) -> Result<(), NoMemory>
-    ensures { OnOk result (text.new.items ≡ text.old.items ++ decimal n) }
-{
-    put_decimal(text, n)?;
-    Ok(())
-}
 
 /// Puts an address behind two spaces last.
 fn put_next_mac(alloc: Global, text: &mut Vec<u8>, mac: Mac) -> Result<(), NoMemory>
     ensures { OnOk result (text.new.items ≡ text.old.items ++ (codes "  " ++ mac_text mac)) }
 {
-    put(text, b"  ")?;
+    put(text, "  ")?;
     put_mac(alloc, text, mac)?;
     Ok(())
 }
 
 /// Puts addresses last, each behind two spaces.
-#[tactic(auto, using(crate::proofs::Growing::grown))]
+#[tactic(auto, using(hsr_frame::proofs::OneMore::grown))]
 fn put_macs(alloc: Global, text: &mut Vec<u8>, macs: &[Mac]) -> Result<(), NoMemory>
     ensures { OnOk result (text.new.items ≡ text.old.items ++ macs_text macs.now) }
 {
@@ -62,8 +45,8 @@ pub(crate) fn put_addresses(
     match place {
         Place::Danh { mac, mode } | Place::RedBox { mac, mode } => {
             put_next_mac(alloc, text, *mac)?;
-            put(text, b"  mode ")?;
-            put(text, mode.word().as_bytes())
+            put(text, "  mode ")?;
+            put(text, mode.word())
         }
         Place::QuadBox => Ok(()),
         Place::Station { macs } => put_macs(alloc, text, macs.as_slice()),
@@ -83,9 +66,9 @@ fn put_owner(text: &mut Vec<u8>, names: &[Vec<u8>], owner: Option<usize>) -> Res
 {
     match owner {
         Some(node) => {
-            put(text, b" (")?;
+            put(text, " (")?;
             put_name(text, names, node)?;
-            put(text, b")")
+            put(text, ")")
         }
         None => Ok(()),
     }
@@ -129,7 +112,7 @@ fn put_redbox(
 {
     match redbox {
         Some(mac) => {
-            put(text, b", behind ")?;
+            put(text, ", behind ")?;
             put_who(alloc, text, names, places, mac)
         }
         None => Ok(()),
@@ -142,11 +125,11 @@ fn put_heard(text: &mut Vec<u8>, port: &[u8], heard: Option<u64>) -> Result<(), 
 {
     match heard {
         Some(moment) => {
-            put(text, b", on ")?;
-            put(text, port)?;
-            put(text, b" at ")?;
+            put(text, ", on ")?;
+            put_octets(text, port)?;
+            put(text, " at ")?;
             put_number(text, moment)?;
-            put(text, b" us")
+            put(text, " us")
         }
         None => Ok(()),
     }
@@ -163,13 +146,13 @@ fn put_node_row(
 ) -> Result<(), NoMemory>
     ensures { OnOk result (text.new.items ≡ text.old.items ++ node_row_text (lists_of names.now) places.now row) }
 {
-    put(text, b"  knows ")?;
+    put(text, "  knows ")?;
     put_who(alloc, text, names, places, row.mac)?;
-    put(text, kind_text(row.kind))?;
+    put_octets(text, kind_text(row.kind))?;
     put_redbox(alloc, text, names, places, row.redbox)?;
     put_heard(text, b"A", row.heard_a)?;
     put_heard(text, b"B", row.heard_b)?;
-    put(text, b"\n")
+    put(text, "\n")
 }
 
 /// Puts the line of a station that is known last.
@@ -184,15 +167,15 @@ fn put_station(
 ) -> Result<(), NoMemory>
     ensures { OnOk result (text.new.items ≡ text.old.items ++ station_text (lists_of names.now) places.now (mac, moment)) }
 {
-    put(text, b"  knows ")?;
+    put(text, "  knows ")?;
     put_who(alloc, text, names, places, mac)?;
-    put(text, b"  station, at ")?;
+    put(text, "  station, at ")?;
     put_number(text, moment)?;
-    put(text, b" us\n")
+    put(text, " us\n")
 }
 
 /// Puts the lines of the nodes that are known last.
-#[tactic(auto, using(crate::proofs::Growing::grown))]
+#[tactic(auto, using(hsr_frame::proofs::OneMore::grown))]
 fn put_nodes(
     alloc: Global,
     text: &mut Vec<u8>,
@@ -209,7 +192,7 @@ fn put_nodes(
 }
 
 /// Puts the lines of the stations that are known last.
-#[tactic(auto, using(crate::proofs::Growing::grown))]
+#[tactic(auto, using(hsr_frame::proofs::OneMore::grown))]
 fn put_stations(
     alloc: Global,
     text: &mut Vec<u8>,
@@ -229,12 +212,12 @@ fn put_stations(
 fn put_next_name(text: &mut Vec<u8>, names: &[Vec<u8>], node: usize) -> Result<(), NoMemory>
     ensures { OnOk result (text.new.items ≡ text.old.items ++ next_name (lists_of names.now) node) }
 {
-    put(text, b", ")?;
+    put(text, ", ")?;
     put_name(text, names, node)
 }
 
 /// Puts the names of nodes last, each behind a comma.
-#[tactic(auto, using(crate::proofs::Growing::grown))]
+#[tactic(auto, using(hsr_frame::proofs::OneMore::grown))]
 fn put_next_names(text: &mut Vec<u8>, names: &[Vec<u8>], nodes: &[usize]) -> Result<(), NoMemory>
     ensures { OnOk result (text.new.items ≡ text.old.items ++ flat_map (next_name (lists_of names.now)) nodes.now) }
 {
@@ -267,9 +250,9 @@ fn put_names_line(
 ) -> Result<(), NoMemory>
     ensures { OnOk result (text.new.items ≡ text.old.items ++ (words.now ++ parted_names (lists_of names.now) node others.now ++ codes "\n")) }
 {
-    put(text, words)?;
+    put_octets(text, words)?;
     put_names(text, names, node, others)?;
-    put(text, b"\n")
+    put(text, "\n")
 }
 
 /// Puts the line of the nodes last of which supervision never told a node, if there are any.

@@ -7,6 +7,7 @@ use crate::cells::{put_count, put_left};
 use crate::counted::{Counted, count};
 use hsr_frame::{Counters, NoMemory};
 use hsr_node::Entry;
+use hsr_text::put;
 use std::alloc::Global;
 
 /// How wide the first column of a table is.
@@ -21,7 +22,7 @@ pub(crate) struct Columns<'a> {
 }
 
 /// Puts counts last, each in a column.
-#[tactic(auto, using(crate::proofs::Growing::grown))]
+#[tactic(auto, using(hsr_frame::proofs::OneMore::grown))]
 fn put_cells(alloc: Global, text: &mut Vec<u8>, width: usize, cells: &[u64]) -> Result<(), NoMemory>
     ensures { OnOk result (text.new.items ≡ text.old.items ++ flat_map (cell_text width) cells.now) }
 {
@@ -61,8 +62,7 @@ pub(crate) fn put_row(
     put_left(text, LABEL, label)?;
     put_cells(alloc, text, width, cells)?;
     put_node_cell(alloc, text, width, node)?;
-    text.extend_from_slice(b"\n")?;
-    Ok(())
+    put(text, "\n")
 }
 
 /// What is counted at each port.

@@ -4,11 +4,11 @@ ghost use Rattle.std.specs.Fmt.{decimal};
 ghost use Rattle.std.specs.List.{flat_map};
 ghost use Rattle.hsr_law.specs.Run.{place_of};
 ghost use Rattle.hsr_order.specs.Fronts.{lists_of};
-ghost use Rattle.hsr_devices.specs.Listing.{AreMost, AreSums, IsListing, columns_text, device_text, devices_below, head_text, known_at, letter_cell, links_at, lost_in_of, lost_out_of, needed_if, needed_text, octets_in_of, octets_out_of, peer_text, peers_row, ports_row, sent_text, table_text, traffic_text, unheard_at, unreadable_if, unreadable_line, wider};
+ghost use Rattle.hsr_devices.specs.Listing.{AreMost, AreSums, IsListing, amount_at, amount_in, columns_text, device_text, devices_below, head_text, known_at, letter_cell, links_at, needed_if, needed_text, peer_text, peers_row, ports_row, sent_text, table_text, traffic_text, unheard_at, unreadable_if, unreadable_line, wider};
 ghost use Rattle.hsr_devices.specs.Cells.{right};
 
 use crate::cells::{put_left, put_right};
-use crate::describing::{put, put_addresses, put_known, put_number, put_unheard};
+use crate::describing::{put_addresses, put_known, put_unheard};
 use crate::known::known_by;
 use crate::lines::{Columns, put_arrivals, put_departures};
 use crate::port::{PortLink, port_link};
@@ -18,6 +18,7 @@ use hsr_frame::{Counters, NoMemory};
 use hsr_names::{put_name, put_port};
 use hsr_needed::{Needed, needed_at};
 use hsr_node::Place;
+use hsr_text::{put, put_number, put_octets};
 use hsr_topology::End;
 use std::alloc::Global;
 
@@ -45,88 +46,50 @@ fn links_at<const C: usize>(
     Ok(links)
 }
 
-/// How many copies were lost on their way in at a port.
-fn lost_in_of(link: &Option<PortLink>) -> u64
-    ensures { result ≡ lost_in_of link.now }
+/// What is told of the link of a port.
+#[derive(Clone, Copy)]
+enum Amount {
+    /// Copies that were lost on their way in.
+    LostIn,
+    /// Copies that were lost on their way out.
+    LostOut,
+    /// The octets that came in.
+    OctetsIn,
+    /// The octets that were put on the link.
+    OctetsOut,
+}
+
+/// What is told of a link.
+fn amount_in(what: Amount, link: &PortLink) -> u64
+    ensures { result ≡ amount_in what link.now }
+{
+    match what {
+        Amount::LostIn => link.lost_in as u64,
+        Amount::LostOut => link.lost_out as u64,
+        Amount::OctetsIn => link.octets_in,
+        Amount::OctetsOut => link.octets_out,
+    }
+}
+
+/// What is told of the link of a port: 0 where it has none.
+fn amount_at(what: Amount, link: &Option<PortLink>) -> u64
+    ensures { result ≡ amount_at what link.now }
 {
     match link {
-        Some(link) => link.lost_in as u64,
+        Some(link) => amount_in(what, link),
         None => 0,
     }
 }
 
-/// How many copies were lost on their way out of a port.
-fn lost_out_of(link: &Option<PortLink>) -> u64
-    ensures { result ≡ lost_out_of link.now }
+/// What is told of the link of each port.
+fn amounts(alloc: Global, what: Amount, links: &[Option<PortLink>]) -> Result<Vec<u64>, NoMemory>
+    ensures { IfOk result (λ amounts. amounts.items ≡ map (amount_at what) links.now) }
 {
-    match link {
-        Some(link) => link.lost_out as u64,
-        None => 0,
-    }
-}
-
-/// How many copies were lost on their way in, at each port.
-fn lost_in(alloc: Global, links: &[Option<PortLink>]) -> Result<Vec<u64>, NoMemory>
-    ensures { IfOk result (λ lost. lost.items ≡ map lost_in_of links.now) }
-{
-    let mut lost = Vec::new(alloc);
+    let mut amounts = Vec::new(alloc);
     for link in links {
-        lost.push(lost_in_of(link))?;
+        amounts.push(amount_at(what, link))?;
     }
-    Ok(lost)
-}
-
-/// How many copies were lost on their way out, at each port.
-fn lost_out(alloc: Global, links: &[Option<PortLink>]) -> Result<Vec<u64>, NoMemory>
-    ensures { IfOk result (λ lost. lost.items ≡ map lost_out_of links.now) }
-{
-    let mut lost = Vec::new(alloc);
-    for link in links {
-        lost.push(lost_out_of(link))?;
-    }
-    Ok(lost)
-}
-
-/// The octets that came in at a port.
-fn octets_in_of(link: &Option<PortLink>) -> u64
-    ensures { result ≡ octets_in_of link.now }
-{
-    match link {
-        Some(link) => link.octets_in,
-        None => 0,
-    }
-}
-
-/// The octets that were put on the link of a port there.
-fn octets_out_of(link: &Option<PortLink>) -> u64
-    ensures { result ≡ octets_out_of link.now }
-{
-    match link {
-        Some(link) => link.octets_out,
-        None => 0,
-    }
-}
-
-/// The octets that came in, at each port.
-fn octets_in(alloc: Global, links: &[Option<PortLink>]) -> Result<Vec<u64>, NoMemory>
-    ensures { IfOk result (λ octets. octets.items ≡ map octets_in_of links.now) }
-{
-    let mut octets = Vec::new(alloc);
-    for link in links {
-        octets.push(octets_in_of(link))?;
-    }
-    Ok(octets)
-}
-
-/// The octets that were put on its link, at each port.
-fn octets_out(alloc: Global, links: &[Option<PortLink>]) -> Result<Vec<u64>, NoMemory>
-    ensures { IfOk result (λ octets. octets.items ≡ map octets_out_of links.now) }
-{
-    let mut octets = Vec::new(alloc);
-    for link in links {
-        octets.push(octets_out_of(link))?;
-    }
-    Ok(octets)
+    Ok(amounts)
 }
 
 /// The port to which a port leads, in words.
@@ -141,7 +104,7 @@ fn peer(
     let mut text = Vec::new(alloc);
     match link {
         Some(link) => put_port(&mut text, b".", names, places, link.peer)?,
-        None => put(&mut text, b"-")?,
+        None => put(&mut text, "-")?,
     }
     Ok(text)
 }
@@ -189,11 +152,11 @@ fn put_ports(text: &mut Vec<u8>, width: usize, place: &Place) -> Result<(), NoMe
     put_left(text, LABEL, b"  port")?;
     put_letters(text, width, place.letters())?;
     put_right(text, width, b"node")?;
-    put(text, b"\n")
+    put(text, "\n")
 }
 
 /// Puts letters last, each in a column.
-#[tactic(auto, using(crate::proofs::Growing::grown))]
+#[tactic(auto, using(hsr_frame::proofs::OneMore::grown))]
 fn put_letters(text: &mut Vec<u8>, width: usize, letters: &[u8]) -> Result<(), NoMemory>
     ensures { OnOk result (text.new.items ≡ text.old.items ++ flat_map (letter_cell width) letters.now) }
 {
@@ -204,7 +167,7 @@ fn put_letters(text: &mut Vec<u8>, width: usize, letters: &[u8]) -> Result<(), N
 }
 
 /// Puts texts last, each in a column.
-#[tactic(auto, using(crate::proofs::Growing::grown))]
+#[tactic(auto, using(hsr_frame::proofs::OneMore::grown))]
 fn put_each(text: &mut Vec<u8>, width: usize, texts: &[Vec<u8>]) -> Result<(), NoMemory>
     ensures { OnOk result (text.new.items ≡ text.old.items ++ flat_map (λ cell. right width cell.items) texts.now) }
 {
@@ -228,7 +191,7 @@ fn put_peers(text: &mut Vec<u8>, width: usize, peers: &[Vec<u8>]) -> Result<(), 
 {
     put_left(text, LABEL, b"  leads to")?;
     put_texts(text, width, peers)?;
-    put(text, b"\n")
+    put(text, "\n")
 }
 
 /// Puts the line of what a node is last.
@@ -243,10 +206,10 @@ fn put_head(
     ensures { OnOk result (text.new.items ≡ text.old.items ++ head_text (lists_of names.now) node place.now) }
 {
     put_name(text, names, node)?;
-    put(text, b"  ")?;
-    put(text, place.role().word().as_bytes())?;
+    put(text, "  ")?;
+    put(text, place.role().word())?;
     put_addresses(alloc, text, place)?;
-    put(text, b"\n")
+    put(text, "\n")
 }
 
 /// Puts the line of what a node sent last.
@@ -254,11 +217,11 @@ fn put_head(
 fn put_sent(text: &mut Vec<u8>, node: Counters) -> Result<(), NoMemory>
     ensures { OnOk result (text.new.items ≡ text.old.items ++ sent_text node) }
 {
-    put(text, b"  sent ")?;
+    put(text, "  sent ")?;
     put_number(text, node.sent)?;
-    put(text, b", supervision ")?;
+    put(text, ", supervision ")?;
     put_number(text, node.life)?;
-    put(text, b"\n")
+    put(text, "\n")
 }
 
 /// Puts how many entries of a table were needed last, and where first.
@@ -267,12 +230,12 @@ fn put_entries(text: &mut Vec<u8>, needed: Needed) -> Result<(), NoMemory>
 {
     match needed.at {
         Some((_, place)) => {
-            put(text, b", needed ")?;
+            put(text, ", needed ")?;
             put_number(text, needed.entries as u64)?;
-            put(text, b", at entry ")?;
+            put(text, ", at entry ")?;
             put_number(text, place as u64)
         }
-        None => put(text, b", needed 0"),
+        None => put(text, ", needed 0"),
     }
 }
 
@@ -281,10 +244,10 @@ fn put_entries(text: &mut Vec<u8>, needed: Needed) -> Result<(), NoMemory>
 fn put_table(text: &mut Vec<u8>, entries: usize, needed: Needed) -> Result<(), NoMemory>
     ensures { OnOk result (text.new.items ≡ text.old.items ++ table_text entries needed) }
 {
-    put(text, b"  table of ")?;
+    put(text, "  table of ")?;
     put_number(text, entries as u64)?;
     put_entries(text, needed)?;
-    put(text, b"\n")
+    put(text, "\n")
 }
 
 /// How many entries a duplicate table has.
@@ -315,9 +278,9 @@ fn put_needed(
 fn put_number_line(text: &mut Vec<u8>, words: &[u8], n: u64) -> Result<(), NoMemory>
     ensures { OnOk result (text.new.items ≡ text.old.items ++ (words.now ++ decimal n ++ codes "\n")) }
 {
-    put(text, words)?;
+    put_octets(text, words)?;
     put_number(text, n)?;
-    put(text, b"\n")
+    put(text, "\n")
 }
 
 /// Puts the line of how many supervision frames a node couldn't read last.
@@ -360,7 +323,8 @@ fn put_traffic<const C: usize>(
         ports: place.ports(),
         width,
     };
-    let (came, lost) = (octets_in(alloc, links)?, lost_in(alloc, links)?);
+    let came = amounts(alloc, Amount::OctetsIn, links)?;
+    let lost = amounts(alloc, Amount::LostIn, links)?;
     put_arrivals(
         alloc,
         text,
@@ -369,7 +333,8 @@ fn put_traffic<const C: usize>(
         came.as_slice(),
         lost.as_slice(),
     )?;
-    let (left, lost) = (octets_out(alloc, links)?, lost_out(alloc, links)?);
+    let left = amounts(alloc, Amount::OctetsOut, links)?;
+    let lost = amounts(alloc, Amount::LostOut, links)?;
     put_departures(
         alloc,
         text,
@@ -464,7 +429,7 @@ fn put_device<const C: usize>(
     put_unreadable_if(text, closed.counters(node).bad_life)?;
     put_knowledge(alloc, text, names, closed, node, place)?;
     put_never_heard(alloc, text, names, closed, node, place)?;
-    put(text, b"\n")
+    put(text, "\n")
 }
 
 /// How many entries the tables of each node needed.

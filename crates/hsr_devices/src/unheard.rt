@@ -111,7 +111,7 @@ fn push_if(nodes: &mut Vec<usize>, is_one: bool, node: usize) -> Result<(), NoMe
 }
 
 /// The DANHs and RedBoxes of which supervision never told a node, by number.
-#[tactic(auto, using(crate::proofs::Telling::passing_more))]
+#[tactic(auto, using(hsr_frame::proofs::OneMore::passing_more))]
 pub(crate) fn unheard<const C: usize>(
     alloc: Global,
     closed: &Closed<C>,

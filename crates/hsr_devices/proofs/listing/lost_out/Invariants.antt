@@ -1,6 +1,0 @@
-use Rattle.std.proofs.Common.{◌≡◌, map, take}
-use Rattle.hsr_devices.specs.Listing.{lost_out_of}
-use Rattle.hsr_devices.proofs.listing.lost_out.Given as goal
-
-abbrev pub invariant-loop-link : goal.invariant-loop-link
-invariant-loop-link l = l.lost.items ≡ map lost_out_of (take l.link-index l.links)
