@@ -1,18 +1,14 @@
 -- Texts that grow by what one more element says.
-use Rattle.std.proofs.Common.{◌≡◌, ℕ, ◌+◌, ◌<◌, List, [], ◌∷◌, ◌++◌, length, take, slice_index_or, ap, sym, ◌∙◌, add-one, append_assoc, append-nil}
+use Rattle.std.proofs.Common.{◌≡◌, ℕ, ◌+◌, ◌<◌, List, ◌++◌, length, take, slice_index_or, ap, sym, ◌∙◌, add-one, append_assoc}
 use Rattle.std.specs.List.{flat_map}
-use Rattle.std.proofs.lemmas.List.{take_more}
-use Rattle.std.proofs.lemmas.Grind.{flat_map-append}
+use Rattle.hsr_frame.proofs.OneMore.{grown}
 use Rattle.hsr_link.specs.declared.row.Dir.TheVariants.{Forth, Back}
 use Rattle.hsr_law.specs.Run.{Run}
 use Rattle.hsr_capture.specs.Capture.{interface_of, interfaces_below}
 
-pub grown : {X : Type 0} (text : X → List ℕ) (xs : List X) (i : ℕ) (d : X) (start old new : List ℕ) → i < length xs →
+pub told : {X : Type 0} (text : X → List ℕ) (xs : List X) (i : ℕ) (d : X) (start old new : List ℕ) → i < length xs →
     old ≡ start ++ flat_map text (take i xs) → new ≡ old ++ text (slice_index_or xs i d) → new ≡ start ++ flat_map text (take (i + 1) xs)
-grown text xs i d start old new below so_far more =
-    more ∙ ap (λ t. t ++ text (slice_index_or xs i d)) so_far ∙ append_assoc start (flat_map text (take i xs)) (text (slice_index_or xs i d))
-    ∙ ap (λ t. start ++ t) (ap (λ t. flat_map text (take i xs) ++ t) (sym (append-nil (text (slice_index_or xs i d))))
-    ∙ sym (flat_map-append text (take i xs) (slice_index_or xs i d ∷ [])) ∙ sym (ap (flat_map text) (take_more xs i d below)))
+told text xs i d start old new below so_far more = more ∙ ap (λ t. t ++ text (slice_index_or xs i d)) so_far ∙ grown text xs i d start below
 
 -- the interfaces of one more link
 pub links_grown : (names : List (List ℕ)) (run : Run) (l : ℕ) (start old new : List ℕ) → old ≡ start ++ interfaces_below names run l →

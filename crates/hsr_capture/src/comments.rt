@@ -1,6 +1,5 @@
 //! What a capture says of links and rows, in words.
 ghost use Rattle.std.specs.Prelude.{◌≡◌, ◌++◌, ◌∷◌, [], codes, if◌then◌else◌, slice_get, OnOk, Some};
-ghost use Rattle.std.specs.Fmt.{decimal};
 ghost use Rattle.hsr_frame.specs.declared.node.Cause.TheVariants.{Passed};
 ghost use Rattle.hsr_node.specs.Words.{letter};
 ghost use Rattle.hsr_tag.specs.Seen.{classified};
@@ -15,25 +14,8 @@ use hsr_names::{put_name, put_port};
 use hsr_node::{Entry, Outcome, Place, Probe};
 use hsr_story::Shown;
 use hsr_tag::{EitherView, look_at};
-use hsr_text::put_decimal;
+use hsr_text::{put, put_number, put_octets};
 use hsr_topology::End;
-
-/// Puts words last.
-fn put(text: &mut Vec<u8>, words: &[u8]) -> Result<(), NoMemory>
-    ensures { OnOk result (text.new.items ≡ text.old.items ++ words.now) }
-{
-    // In a function of its own: so each caller's proof has one clause about the text.
-    text.extend_from_slice(words)?;
-    Ok(())
-}
-
-/// Puts a number last.
-fn put_number(text: &mut Vec<u8>, n: u64) -> Result<(), NoMemory>
-    ensures { OnOk result (text.new.items ≡ text.old.items ++ decimal n) }
-{
-    put_decimal(text, n)?;
-    Ok(())
-}
 
 /// Puts the name of an interface last: the port from which its copies come, and the one to which they go.
 pub(crate) fn put_interface_name(
@@ -47,7 +29,7 @@ pub(crate) fn put_interface_name(
         ++ name_from (lists_of names.now) places.now from to) }
 {
     put_port(text, b".", names, places, from)?;
-    put(text, b">")?;
+    put(text, ">")?;
     put_port(text, b".", names, places, to)
 }
 
@@ -60,10 +42,10 @@ pub(crate) fn put_interface_description(
 ) -> Result<(), NoMemory>
     ensures { OnOk result (text.new.items ≡ text.old.items ++ interface_description link dir) }
 {
-    put(text, b"link ")?;
+    put(text, "link ")?;
     put_number(text, link as u64)?;
-    put(text, b" ")?;
-    put(text, dir.word().as_bytes())
+    put(text, " ")?;
+    put(text, dir.word())
 }
 
 /// Puts the words before a send last.
@@ -72,7 +54,7 @@ fn put_send_words(text: &mut Vec<u8>) -> Result<(), NoMemory>
     ensures { OnOk result (text.new.items ≡ text.old.items ++ send_words) }
 {
     // In a function of its own: a long literal at the head of a text keeps search from the rest of it.
-    put(text, b"; copy of send ")
+    put(text, "; copy of send ")
 }
 
 /// Puts an entry last: its node, and its place in that node's record.
@@ -87,7 +69,7 @@ fn put_spot(
         ++ entry_text (lists_of names.now) node place) }
 {
     put_name(text, names, node)?;
-    put(text, b":")?;
+    put(text, ":")?;
     put_number(text, place as u64)
 }
 
@@ -128,11 +110,11 @@ fn loss_reason(fate: Fate) -> &'static [u8]
 fn put_loss(text: &mut Vec<u8>, fate: Fate) -> Result<(), NoMemory>
     ensures { OnOk result (text.new.items ≡ text.old.items ++ loss_text fate) }
 {
-    put(text, b"lost (")?;
-    put(text, fate.word().as_bytes())?;
-    put(text, b": ")?;
-    put(text, loss_reason(fate))?;
-    put(text, b")")
+    put(text, "lost (")?;
+    put(text, fate.word())?;
+    put(text, ": ")?;
+    put_octets(text, loss_reason(fate))?;
+    put(text, ")")
 }
 
 /// Puts a port's letter behind a space, if a copy left by it.
@@ -141,7 +123,7 @@ fn put_left(text: &mut Vec<u8>, place: &Place, port: u8, leaves: bool) -> Result
         ++ (if leaves then codes " " ++ letter place.now port ∷ [] else [])) }
 {
     if leaves {
-        put(text, b" ")?;
+        put(text, " ")?;
         text.push(place.letter(port))?;
     }
     Ok(())
@@ -164,7 +146,7 @@ fn put_seq(text: &mut Vec<u8>, seq: Option<u16>) -> Result<(), NoMemory>
 {
     match seq {
         Some(seq) => {
-            put(text, b", numbered ")?;
+            put(text, ", numbered ")?;
             put_number(text, u64::from(seq))
         }
         None => Ok(()),
@@ -182,8 +164,8 @@ fn put_passed(
     ensures { OnOk result (text.new.items ≡ text.old.items
         ++ judgement place.now up ports seq Passed) }
 {
-    put(text, b"passed")?;
-    put(text, if up { b" up" } else { b"" })?;
+    put(text, "passed")?;
+    put(text, if up { " up" } else { "" })?;
     put_ports(text, place, ports)?;
     put_seq(text, seq)
 }
@@ -199,7 +181,7 @@ fn put_outcome(text: &mut Vec<u8>, place: &Place, outcome: &Outcome) -> Result<(
             seq,
             cause: Cause::Passed,
         } => put_passed(text, place, up, ports, seq),
-        Outcome::Judged { cause, .. } => put(text, cause.word().as_bytes()),
+        Outcome::Judged { cause, .. } => put(text, cause.word()),
         _ => Ok(()),
     }
 }
@@ -261,7 +243,7 @@ fn put_arrival<const C: usize>(
 {
     let places = closed.topology().places();
     put_port(text, b" ", names, places, end)?;
-    put(text, b": ")?;
+    put(text, ": ")?;
     put_judged(text, places, end.node, entries_at(closed, end.node), place)
 }
 
@@ -271,7 +253,7 @@ fn put_judge_words(text: &mut Vec<u8>) -> Result<(), NoMemory>
     ensures { OnOk result (text.new.items ≡ text.old.items ++ judge_words) }
 {
     // In a function of its own, as the words before a send.
-    put(text, b"; judged by entry ")
+    put(text, "; judged by entry ")
 }
 
 /// Puts last which entry judged a copy.
@@ -313,7 +295,7 @@ fn put_sequence(text: &mut Vec<u8>, octets: &[u8]) -> Result<(), NoMemory>
     match &seen.frame {
         EitherView::Plain(_) => Ok(()),
         EitherView::Tagged(tagged) => {
-            put(text, b"; sequence number ")?;
+            put(text, "; sequence number ")?;
             put_number(text, u64::from(tagged.seq))
         }
     }
