@@ -1,4 +1,4 @@
-"""Random plans, by the planner's program: what each scenario says against what docs/USING.md says that the plan means, in another language.
+"""Random plans, by the planner's program: what each scenario says against what docs/REFERENCE.md says that the plan means, in another language.
 
     python3 tests/second/random_plans.py PLANNER [COUNT [SEED [BENCH [SECONDS]]]]
 
