@@ -1,45 +1,59 @@
-"""Runs the commands that README.md, docs/GUIDE.md and docs/REFERENCE.md show, in their order: each prints what stands below it, and a file that
-it writes is the one of that name in docs/, if there is one. tests/README.md says how a document shows a command. Then tools/crates --check.
+"""Runs the commands that documents show, in their order: each prints what stands below it, and a file that it writes is the one of that name
+in docs/, if there is one. tests/README.md says how a document shows a command. Then tools/crates --check.
 
 The commands run in a folder of their own, in which bin/ has the programs that are tested."""
 import os
 import re
 import subprocess
+from dataclasses import dataclass, field
 
 from lib.case_files import ROOT
 from lib.running import SECONDS, Job, Tally, difference
 from parts.launcher import try_command
 
-DOCUMENTS = ("README.md", "docs/GUIDE.md", "docs/REFERENCE.md")
+DOCUMENTS = ("README.md", "docs/GUIDE.md", "docs/REFERENCE.md", "tests/README.md")
 INSET, PROMPT, MORE = "    ", "    $ ", "        "
 BY_HAND = ("./install", "tshark")  # commands that change the user's home, or need what the tests don't
 
 
+@dataclass
+class Shown:
+    """A command that a document shows: the number of its line, and the lines that it is to print."""
+
+    number: int
+    command: str
+    lines: list[str] = field(default_factory=list)
+
+
 def commands_of(text):
-    """The commands of a document, each with the number of its line and the lines that it is to print."""
-    found, open_command = [], None
+    """The commands of a document."""
+    found, last = [], None
     for number, line in enumerate(text.split("\n"), 1):
         if line.startswith(PROMPT):
-            open_command = (number, [line.removeprefix(PROMPT)], [])
-            found.append(open_command)
-        elif open_command and line.startswith(INSET):
-            goes_on = line.startswith(MORE) and not open_command[2] and open_command[1][-1].endswith("|")
-            open_command[1 if goes_on else 2].append(line.removeprefix(INSET))
+            last = Shown(number, line.removeprefix(PROMPT))
+            found.append(last)
+        elif not (last and line.startswith(INSET)):
+            last = None
+        elif line.startswith(MORE) and last.command.endswith("|"):
+            last.command += "\n" + line.removeprefix(INSET)
         else:
-            open_command = None
-    return [(number, "\n".join(words), "\n".join(shown)) for number, words, shown in found]
+            last.lines.append(line.removeprefix(INSET))
+    return found
 
 
-def pattern_of(shown):
-    """What a command may print where this is shown: two dots stand for the rest of a line or a part of it, and alone for any lines."""
-    lines = [r"(?:.*\n)*" if line == ".." else ".*".join(map(re.escape, line.split(".."))) + r"\n" for line in shown.split("\n")]
-    return re.compile("".join(lines) if shown else "")
+def pattern_of(lines):
+    """What a command may print where these lines are shown: two dots stand for a part of a line, and alone for any lines."""
+    return "".join(r"(?:.*\n)*" if line == ".." else ".*".join(map(re.escape, line.split(".."))) + r"\n" for line in lines)
 
 
-def run_shown(words, work):
-    """What a command prints, on both streams."""
-    ended = subprocess.run(["bash", "-c", words], stdin=subprocess.DEVNULL, stdout=subprocess.PIPE, stderr=subprocess.STDOUT, timeout=SECONDS, cwd=work)
-    return ended.stdout
+def wrong_with(shown, work):
+    """How what a command prints, on both streams, differs from what is shown."""
+    ended = subprocess.run(
+        ["bash", "-c", shown.command], stdin=subprocess.DEVNULL, stdout=subprocess.PIPE, stderr=subprocess.STDOUT, timeout=SECONDS, cwd=work
+    )
+    if re.fullmatch(pattern_of(shown.lines), ended.stdout.decode(errors="replace")):
+        return []
+    return difference("what it prints", ended.stdout, "".join(line + "\n" for line in shown.lines).encode())
 
 
 def prepared(setting, name):
@@ -61,13 +75,9 @@ def pictures_that_differ(work):
 def try_document(setting, name):
     """Runs the commands of one document."""
     tally, work = Tally(), prepared(setting, name)
-    for number, words, shown in commands_of((ROOT / name).read_text()):
-        if words.startswith(BY_HAND):
-            continue
-        printed = run_shown(words, work)
-        is_shown = pattern_of(shown).fullmatch(printed.decode(errors="replace"))
-        wanted = (shown + "\n" * bool(shown)).encode()
-        tally.count(f"{name}:{number}", "" if is_shown else "\n".join(difference("what it prints", printed, wanted)))
+    for shown in commands_of((ROOT / name).read_text()):
+        if not shown.command.startswith(BY_HAND):
+            tally.count(f"{name}:{shown.number}", "\n".join(wrong_with(shown, work)))
     tally.count(f"pictures of {name}", "\n".join(pictures_that_differ(work)))
     return tally
 
