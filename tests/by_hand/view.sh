@@ -23,7 +23,7 @@ rows() {
     awk '/^carried /{link = count++} /^(forth|back) /{print link, $2}' "$1"
 }
 
-# drawn WANTED WORDS..: whether a picture has so many arrows, and renders; over 400 it has to be refused
+# drawn WANTED WORDS..: whether a picture has as many arrows, and renders; over 400 it has to be refused
 drawn() {
     wanted=$1
     shift

@@ -35,19 +35,19 @@ def dotted_key():
 
 
 def padded(size):
-    """A ring and a send to all, drained, in so many octets: the last line is a comment."""
+    """A ring and a send to all, drained, in `size` octets: the last line is a comment."""
     text = ring(3, 64) + "step = [" + send(GROUP) + '{do="drain"}]\n#'
     return text.encode().ljust(size, b"x")
 
 
 def many_steps():
-    """Steps of the clock and of a node that gives up what is expired, one after the other."""
+    """Steps of the clock and of a node that drops what is expired, one after the other."""
     steps = "".join(f'{{do="clock", at={at}}},\n{{do="age", node="n1"}},\n' for at in range(100_000))
     return (ring(3, 64) + "step = [\n" + steps + "]\n").encode()
 
 
 def lines(size):
-    """So many octets of lines for `node`."""
+    """`size` octets of lines for `node`."""
     return (b"age 0\n" * (size // 6 + 1))[:size]
 
 

@@ -77,5 +77,5 @@ def slices(rows, setting, seconds):
 
 
 def moment_after(seconds):
-    """The moment so many seconds from now."""
+    """The moment that is `seconds` from now."""
     return None if seconds is None else time.monotonic() + seconds

@@ -17,7 +17,7 @@ def send(to):
 
 
 def storm(sends):
-    """So many sends to a group in two rings joined by two QuadBoxes, before one drain."""
+    """`sends` sends to a group in two rings joined by two QuadBoxes, before one drain."""
     return (
         """node = [
   {name="n0", role="danh", mac="02-00-00-00-00-01"}, {name="n1", role="danh", mac="02-00-00-00-00-02"},

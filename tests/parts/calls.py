@@ -1,6 +1,6 @@
 """Refuses each request for memory of single calls in turn: in the tests that were written for it, which the gate builds. A test passes only
-where a call says that room was refused, has changed nothing, handed back what it was given, and answers the same call, made again, as it does
-with room. All tests together have 90 seconds of one processor, or run to the end."""
+where a call says that an allocation failed, has changed nothing, handed back what it was given, and answers the same call, made again, as it does
+with memory. All tests together have 90 seconds of one processor, or run to the end."""
 import subprocess
 
 from lib.refusing import Refuser, moment_after, slices

@@ -1,4 +1,4 @@
-"""The worked cases of tests/cases: words, input, output, error and status of each."""
+"""The worked cases of tests/cases: arguments, input, output, error and status of each."""
 from lib import case_files
 from lib.running import Job, Tally, difference, run
 
@@ -6,7 +6,7 @@ USAGE = b"usage: --mac"
 
 
 def told_freely(error):
-    """What is wrong with the error of words that are refused: a text that says more than a line of a fault."""
+    """What is wrong with the error of arguments that are refused: a text that says more than a line of a fault."""
     is_fault = any(line.startswith(b"fault: ") or line == USAGE for line in error.split(b"\n"))
     return ["error: no text about the words"] if len(error) <= 20 or is_fault else []
 

@@ -12,7 +12,7 @@ FAULT = b"fault: write\n"
 
 
 def commands(setting):
-    """Each command with an input: program, words, input."""
+    """Each command with an input: program, arguments, input."""
     ring, line = (ROOT / "examples" / "scenarios" / "ring3.toml").read_bytes(), (ROOT / "examples" / "lines" / "one_send.txt").read_bytes()
     plan = (ROOT / "examples" / "plans" / "two_rings.toml").read_bytes()
     transcript = run(setting, "hsr_bench", ["run", "--transcript"], ring)[1]

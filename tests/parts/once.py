@@ -29,7 +29,7 @@ def wrong(what, whole, status, output, error):
 
 
 def try_command(setting, words, given, reads, writes):
-    """Lets each of the first so many reads and writes of a command fail."""
+    """Lets each of the first `reads` reads and `writes` writes of a command fail."""
     tally, whole = Tally(), run(setting, "hsr_bench", words, given)[1]
     places = [("read", place) for place in range(1, reads + 1)] + [("write", place) for place in range(1, writes + 1)]
     for what, place in places:

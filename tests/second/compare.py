@@ -52,7 +52,7 @@ def ring_or_line(chance, is_line):
 
 
 def chain(chance, count):
-    """So many rings, each coupled with the next one by one or two QuadBoxes."""
+    """`count` rings, each coupled with the next one by one or two QuadBoxes."""
     rings, nodes, links = [[f"{ring}{i}" for i in range(chance.randint(1, 2))] for ring in "abc"[:count]], [], []
     before = []
     for place, names in enumerate(rings):
@@ -65,7 +65,7 @@ def chain(chance, count):
 
 
 def redboxes(chance, count, is_coupled=False):
-    """A ring with so many RedBoxes, each with a Station; it may be coupled with a ring of one DANH."""
+    """A ring with `count` RedBoxes, each with a Station; it may be coupled with a ring of one DANH."""
     names = [f"n{i}" for i in range(chance.randint(1, 3))]
     nodes = [danh(chance, name, i + 1) for i, name in enumerate(names)]
     boxes, quads = [f"r{i}" for i in range(count)], ["q0"] * is_coupled

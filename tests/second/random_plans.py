@@ -1,4 +1,4 @@
-"""Random plans, by the planner's program: what each scenario says against what docs/USING.md says that the plan means, in another language.
+"""Random plans, by the planner's program: what each scenario says against what docs/REFERENCE.md says that the plan means, in another language.
 
     python3 tests/second/random_plans.py PLANNER [COUNT [SEED [BENCH [SECONDS]]]]
 
@@ -30,7 +30,7 @@ from collections import Counter
 import model
 
 PLANNER = BENCH = None
-EACH = 20  # of so many plans one is swept
+EACH = 20  # each 20th plan is swept
 GROUP = "01-0C-CD-01-00-01"
 TYPES = {"goose": 0x88B8, "sv": 0x88BA}
 SHORTEST = {"goose": lambda name: 75 + 3 * len(name), "sv": lambda name: 98 + len(name)}  # octets of a sender's first frame, for names to 20 octets
