@@ -1,15 +1,14 @@
 //! What an entry asks of the notes of its node, and what it adds to them.
-ghost use Rattle.std.specs.Prelude.{◌≡◌, ◌≤◌, if◌then◌else◌, is_some, fold};
+ghost use Rattle.std.specs.Prelude.{◌≡◌, ◌≤◌, if◌then◌else◌, is_some};
 ghost use Rattle.hsr_frame.specs.Egress.{no_exits};
 ghost use Rattle.hsr_needed.specs.Read.{heard_in, noted_at, noted_in, reading};
 ghost use Rattle.hsr_node.specs.Copies.{ring_address};
 ghost use Rattle.hsr_node.specs.Record.{key_handled, key_in, number_in, own_key};
-ghost use Rattle.hsr_redbox.specs.Past.{source_in};
-ghost use Rattle.hsr_tables.specs.Proxies.{learned};
 
 use crate::wanted::wanted_from;
-use hsr_frame::{Exits, FrameFault, Mac};
+use hsr_frame::{Exits, FrameFault};
 use hsr_node::{Entry, Event, Outcome, Place, Probe};
+use hsr_role::learn;
 use hsr_tables::ProxyTable;
 use hsr_tag::{EitherView, SeenView, look_at};
 use std::marker::Model;
@@ -32,32 +31,13 @@ impl Model for Reading {
     ghost inverse = { λ r. record { wanted = r.wanted; send = r.send; noted = r.noted } };
 }
 
-/// Hears the source of a plain frame, but not a RedBox's own address.
-fn hear_source(
-    stations: &mut ProxyTable,
-    own: Mac,
-    seen: &Result<SeenView<'_>, FrameFault>,
-    at: u64,
-)
-    requires { stations.old.last ≤ at }
-    ensures { stations.new ≡ fold learned stations.old (source_in own at seen.now) }
-{
-    let Ok(seen) = seen else {
-        return;
-    };
-    match &seen.frame {
-        EitherView::Plain(frame) if frame.src != own => stations.learn(frame.src, at),
-        _ => {}
-    }
-}
-
 /// Hears what came to the interlink of a RedBox, at an effective moment in microseconds.
 pub fn hear(stations: &mut ProxyTable, place: &Place, at: u64, event: &Event)
     requires { stations.old.last ≤ at }
     ensures { stations.new ≡ heard_in place.now at event.now stations.old }
 {
     if let (Place::RedBox { mac, .. }, Event::Arrive { port: 2, carried }) = (place, event) {
-        hear_source(stations, *mac, &look_at(carried.octets.as_slice()), at);
+        learn(stations, *mac, &look_at(carried.octets.as_slice()), at);
     }
 }
 

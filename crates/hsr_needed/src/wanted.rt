@@ -1,39 +1,14 @@
 //! Where what comes from a ring is wanted.
 ghost use Rattle.std.specs.Prelude.{◌≡◌, ◌≤◌, Option, Result};
 ghost use Rattle.hsr_needed.specs.Read.{quadbox_exits, wanted_from};
-ghost use Rattle.hsr_node.specs.Step.{quad_port, ring_port};
 ghost use Rattle.hsr_tables.specs.Proxies.{is_known};
 
-use hsr_frame::{Exits, FrameFault, RingPort};
-use hsr_node::Place;
-use hsr_quadbox::{QuadPort, arrival_wants};
+use hsr_frame::{Exits, FrameFault};
+use hsr_node::{Place, quad_port, ring_port};
+use hsr_quadbox::arrival_wants;
 use hsr_role::ring_wants;
 use hsr_tables::ProxyTable;
 use hsr_tag::SeenView;
-
-/// The ring port with this number.
-fn ring_port(number: u8) -> Option<RingPort>
-    ensures { result ≡ ring_port number }
-{
-    match number {
-        0 => Some(RingPort::A),
-        1 => Some(RingPort::B),
-        _ => None,
-    }
-}
-
-/// The port of a QuadBox with this number.
-fn quad_port(number: u8) -> Option<QuadPort>
-    ensures { result ≡ quad_port number }
-{
-    match number {
-        0 => Some(QuadPort::A),
-        1 => Some(QuadPort::B),
-        2 => Some(QuadPort::C),
-        3 => Some(QuadPort::D),
-        _ => None,
-    }
-}
 
 /// Where a QuadBox wants what came to a port.
 fn quadbox_exits(port: u8, seen: &Result<SeenView<'_>, FrameFault>) -> Exits

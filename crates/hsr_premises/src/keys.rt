@@ -5,8 +5,8 @@ ghost use Rattle.hsr_node.specs.Record.{key_handled, key_in, number_in, own_key}
 ghost use Rattle.hsr_premises.specs.Looked.{came_in};
 
 use hsr_duptable::Key;
-use hsr_frame::{FrameFault, Mac};
-use hsr_node::{Entry, Event, Outcome, Place};
+use hsr_frame::FrameFault;
+use hsr_node::{Entry, Event, Outcome, Place, ring_address};
 use hsr_tag::{EitherView, SeenView, look_at};
 
 /// The source and number of what came, with the number that it got where it had none.
@@ -38,16 +38,6 @@ pub(crate) fn came_in(event: &Event) -> Option<Key>
     match event {
         Event::Arrive { carried, .. } => key_in(&look_at(carried.octets.as_slice()), None),
         _ => None,
-    }
-}
-
-/// The address of a node on a ring.
-fn ring_address(place: &Place) -> Option<Mac>
-    ensures { result ≡ ring_address place.now }
-{
-    match place {
-        Place::Danh { mac, .. } | Place::RedBox { mac, .. } => Some(*mac),
-        Place::QuadBox | Place::Station { .. } => None,
     }
 }
 
