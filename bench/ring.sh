@@ -5,9 +5,9 @@ set -eu
 top=$(cd "$(dirname "${BASH_SOURCE[0]}")/.." && pwd)
 work=$(mktemp -d); trap 'rm -rf "$work"' EXIT
 mkdir -p "$work/crates/rings/src"
-for crate in $(grep -oE '^hsr_[a-z_]+' "$top/crates.txt" | sed '/^hsr_ring$/q'); do cp -r "$top/crates/$crate" "$work/crates"; done
+for crate in $(grep -oE '^hsr_[a-z_]+' "$top/crates.txt" | sed '/^hsr_audit$/q'); do cp -r "$top/crates/$crate" "$work/crates"; done
 cp "$top/bench/ring.rt.txt" "$work/crates/rings/src/main.rt" # the gate takes sources of crates alone
-{ sed '/^hsr_ring:/q' "$top/crates.txt"; echo "rings: hsr_frame hsr_node hsr_audit hsr_ring"; } > "$work/crates.txt"
+{ sed '/^hsr_audit:/q' "$top/crates.txt"; echo "rings: hsr_frame hsr_node hsr_audit hsr_ring"; } > "$work/crates.txt"
 cp "$top/HANDLES" "$work"
 cd "$work/crates/rings"
 rt run >/dev/null 2>&1

@@ -1,10 +1,11 @@
 -- From what is found in the records of a ring to its first doubt.
 use Rattle.std.proofs.Common.{◌≡◌, ℕ, false, List, ◌∷◌, Some, sym, subst}
 use Rattle.hsr_node.specs.Record.{now}
-use Rattle.hsr_audit.specs.Doubts.{IsFirstDoubt, IsFirstFault, IsPremised, IsRecordDoubt, IsRefused}
+use Rattle.hsr_audit.specs.Danhs.{HasPremises}
+use Rattle.hsr_audit.specs.Doubts.{IsFirst, IsFirstFault, IsRefused, doubt_at, of_ring}
 use Rattle.hsr_audit.specs.declared.doubt.AuditFault.{AuditFault}
-use Rattle.hsr_audit.specs.declared.doubt.AuditFault.TheVariants.{Doubt, NoMemory}
-use Rattle.hsr_audit.specs.declared.doubt.Doubt as doubts
+use Rattle.hsr_audit.specs.declared.doubt.AuditFault.TheVariants as fault
+use Rattle.hsr_audit.specs.declared.doubt.Doubt.{Doubt}
 use Rattle.hsr_audit.specs.declared.doubt.Doubt.TheVariants as doubt
 use Rattle.hsr_audit.specs.Certificate.{Certified, IsCertified, certified}
 use Rattle.hsr_law.specs.Closed.{IsClosed}
@@ -14,7 +15,9 @@ use Rattle.hsr_topology.specs.Wired.{IsWired}
 use Rattle.hsr_law.specs.Premises.{KnowsOwn, NothingForgotten, NothingMistaken, OneLossyLink, IsRing, Remembers}
 use Rattle.hsr_law.specs.Run.{Run, owner_of, record_of}
 use Rattle.hsr_network_law.specs.Late.{NothingLate, is_numbered_late}
-use Rattle.hsr_premises.specs.Flaws.{IsFirstNot, IsInTimeAt, KnowsOwnAt, RemembersAt}
+use Rattle.hsr_premises.specs.Flaws.{IsFirstFlaw, IsFirstNot, IsInTimeAt, KnowsOwnAt, RemembersAt}
+use Rattle.hsr_premises.specs.declared.flaw.Flaw.{Flaw}
+use Rattle.hsr_premises.specs.declared.flaw.Flaw.TheVariants.{Forgot, Late, Mistaken}
 use Rattle.hsr_needed.proofs.Places.{from_each}
 use Rattle.hsr_audit.proofs.Premised.{danhs_of_ring, modes_of_ring, own_of_ring, ring_of_own}
 
@@ -34,26 +37,30 @@ not_late run k i f all =
 
 -- ---- the first doubt
 
-pub record_doubt_is : (run : Run) (macs : List (List ℕ)) → IsOwnRing run macs → OneLossyLink run → (d : doubts.Doubt) → IsRecordDoubt run (Some d) → IsFirstDoubt run d
-record_doubt_is run macs own losses doubt.NotRing is = absurd is
-record_doubt_is run macs own losses doubt.Mode is = absurd is
-record_doubt_is run macs own losses doubt.SameAddress is = absurd is
-record_doubt_is run macs own losses doubt.TwoLinks is = absurd is
-record_doubt_is run macs own losses (doubt.Forgot k i) is = (own.ring, own.modes, own.own, losses, is)
-record_doubt_is run macs own losses (doubt.Mistaken k i) is = (own.ring, own.modes, own.own, losses, is.0, is.1)
+-- of what is found in the records of a ring, in which nothing is numbered late
+pub flaw_is : (run : Run) (macs : List (List ℕ)) → IsOwnRing run macs → OneLossyLink run → NothingLate run → (flaw : Flaw) → IsFirstFlaw run (Some flaw) → IsFirst of_ring run (doubt_at flaw)
+flaw_is run macs own losses in_time (Forgot k i) is = (own.ring, (own.modes, (own.own, (losses, is))))
+flaw_is run macs own losses in_time (Mistaken k i) is = (own.ring, (own.modes, (own.own, (losses, (is.0, is.1)))))
+flaw_is run macs own losses in_time (Late k i) is = absurd (not_late run k i is.2 in_time)
 
 -- a doubt refuses
-pub refuses : (run : Run) (d : doubts.Doubt) → IsFirstDoubt run d → ¬ ((macs : List (List ℕ)) × IsPremised run macs)
+refuses : (run : Run) (d : Doubt) → IsFirst of_ring run d → HasPremises run → ⊥
 refuses run doubt.NotRing first some = first (danhs_of_ring run some.0 some.1.ring)
+refuses run doubt.Empty first some = first.1.1.1.1.1.1
 refuses run doubt.Mode first some = first.1 (modes_of_ring run some.0 some.1.ring)
-refuses run doubt.SameAddress first some = first.2 (own_of_ring run some.0 some.1.ring)
-refuses run doubt.TwoLinks first some = first.3 some.1.losses
-refuses run (doubt.Forgot k i) first some = not_all_remembered run k i first.4 some.1.forgotten
-refuses run (doubt.Mistaken k i) first some = not_all_known run k i first.5 some.1.mistaken
+refuses run doubt.SameAddress first some = first.1.1 (own_of_ring run some.0 some.1.ring)
+refuses run (doubt.Side l) first some = first.1.1.1.1.1.1
+refuses run doubt.TwoLinks first some = first.1.1.1 some.1.losses
+refuses run (doubt.Forgot k i) first some = not_all_remembered run k i first.1.1.1.1 some.1.forgotten
+refuses run (doubt.Mistaken k i) first some = not_all_known run k i first.1.1.1.1.1 some.1.mistaken
+refuses run (doubt.NumberedLate k i) first some = first.1.1.1.1.1.1
+refuses run (doubt.CutOff k i n) first some = first.1.1.1.1.1.1
+refuses run (doubt.UnknownStation k i) first some = first.1.1.1.1.1.1
+refuses run (doubt.Uncovered k i) first some = first.1.1.1.1.1.1
 
-pub fault_refuses : (run : Run) (fault : AuditFault) → IsFirstFault run fault → IsRefused run fault
-fault_refuses run (Doubt d) first = refuses run d first
-fault_refuses run NoMemory first = tt
+pub fault_refuses : (run : Run) (f : AuditFault) → IsFirstFault of_ring run f → IsRefused (HasPremises run) f
+fault_refuses run (fault.Doubt d) first = refuses run d first
+fault_refuses run fault.NoMemory first = tt
 
 -- ---- the certificate
 

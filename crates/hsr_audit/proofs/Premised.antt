@@ -1,25 +1,25 @@
 -- What is asked of nodes and links, and of all places of all records, and what it is to be a ring without a doubt.
-use Rattle.std.proofs.Common.{◌≡◌, ◌⊎◌, ℕ, ◌+◌, ◌%◌, ◌<◌, ◌&&◌, Bool, true, List, [], ◌∷◌, length, map, filter_map, take, slice_index_or, refl, sym, ap, ◌∙◌, subst, arith, zero, suc, inl, inr, ⊎_elim}
+use Rattle.std.proofs.Common.{◌≡◌, ◌⊎◌, ℕ, ◌+◌, ◌%◌, ◌<◌, ◌&&◌, Bool, true, List, [], ◌∷◌, length, map, filter_map, slice_index_or, refl, sym, ap, ◌∙◌, subst, arith, zero, suc, inl, inr, ⊎_elim}
 use Rattle.std.specs.List.{list_all}
-use Rattle.std.proofs.lemmas.Bool.{and_from, and_parts, cases_Bool, cases_lt, false≢true, or_cases, or_left, or_right}
+use Rattle.std.proofs.lemmas.Bool.{and_from, and_parts, false≢true, or_cases, or_left, or_right}
 use Rattle.hsr_frame.specs.declared.node.Mode.TheVariants.{H, N, U}
 use Rattle.hsr_link.specs.declared.row.Dir.TheVariants.{Forth, Back}
 use Rattle.hsr_node.specs.declared.place.Place.{Place}
 use Rattle.hsr_node.specs.declared.place.Place.TheVariants.{Danh, RedBox, QuadBox, Station}
 use Rattle.hsr_topology.proofs.Ends.{end_is, end_same}
 use Rattle.hsr_topology.proofs.Faults.{no_group}
-use Rattle.hsr_audit.specs.Doubts.{AreForwarding, HaveOwnAddresses, IsDanhRing, is_danh, is_forwarding, mac_of, macs_of, mode_of}
+use Rattle.hsr_network_law.specs.Network.{HasAddress, is_in_h_or_u}
+use Rattle.hsr_ways.specs.Networks.{AreGoingRound, HaveOwnAddresses}
+use Rattle.hsr_audit.specs.Danhs.{IsDanhRing, is_danh, mac_of, macs_of, mode_of}
 use Rattle.hsr_topology.specs.Links.{is_same_end}
 use Rattle.hsr_law.specs.Premises.{IsRing, Joins, mac_at}
-use Rattle.hsr_audit.specs.Round.{DifferBelow, IsRound, address_of, is_again, is_joint, is_joint_of}
+use Rattle.hsr_audit.specs.Round.{IsRound, address_of, is_joint, is_joint_of}
 use Rattle.hsr_law.specs.Run.{Run, ends_of, from_end, place_of}
 use Rattle.hsr_topology.specs.declared.end.End.{End}
 use Rattle.std.proofs.lemmas.List.{length-map}
 use Rattle.std.proofs.lemmas.List.Elements.{All-get_or}
-use Rattle.hsr_frame.specs.Address.{is_same_address}
 use Rattle.hsr_node.specs.Place.{HasOwnAddress}
 use Rattle.hsr_topology.specs.Wired.{IsWired}
-use Rattle.hsr_law.proofs.Same.{address_same, same_address}
 
 -- ---- lists
 
@@ -48,7 +48,7 @@ place_is (RedBox mac mode) danh = absurd (false≢true danh)
 place_is QuadBox danh = absurd (false≢true danh)
 place_is (Station macs) danh = absurd (false≢true danh)
 
-forwards_is : (place : Place) → is_danh place ≡ true → is_forwarding place ≡ true → (place ≡ Danh (mac_of place) H) ⊎ (place ≡ Danh (mac_of place) U)
+forwards_is : (place : Place) → is_danh place ≡ true → is_in_h_or_u place ≡ true → (place ≡ Danh (mac_of place) H) ⊎ (place ≡ Danh (mac_of place) U)
 forwards_is (Danh mac H) danh on = inl refl
 forwards_is (Danh mac U) danh on = inr refl
 forwards_is (Danh mac N) danh on = absurd (false≢true on)
@@ -115,60 +115,12 @@ round_of_ring run ring =
           ap (λ ends. is_joint ends k ((k + 1) % length run.links)) (index_any run.links k d [] below) ∙ here;
     }
 
-pub modes_all : (run : Run) → list_all is_forwarding run.places ≡ true → AreForwarding run
-modes_all run h = λ k below. all_at is_forwarding run.places k QuadBox h below
-
-pub all_modes : (run : Run) → AreForwarding run → list_all is_forwarding run.places ≡ true
-all_modes run h = at_all is_forwarding run.places QuadBox h
-
--- ---- addresses
-
-any_before : (macs : List (List ℕ)) (n j : ℕ) (mac : List ℕ) → j < n → j < length macs → slice_index_or macs j [] ≡ mac → is_again mac (take n macs) ≡ true
-unfolding is_again
-any_before [] n j mac low below e = absurd (omega (arith, below))
-any_before (m ∷ macs) zero j mac low below e = absurd (omega (arith, low))
-any_before (m ∷ macs) (suc n) zero mac low below e = or_left _ _ (address_same m mac e)
-any_before (m ∷ macs) (suc n) (suc j) mac low below e = or_right _ _ (any_before macs n j mac (omega (arith, low)) (omega (arith, below)) e)
-
-before_any : (macs : List (List ℕ)) (n : ℕ) (mac : List ℕ) → is_again mac (take n macs) ≡ true → (j : ℕ) × (j < n) × (j < length macs) × (slice_index_or macs j [] ≡ mac)
-unfolding is_again
-before_any macs zero mac h = absurd (false≢true h)
-before_any [] (suc n) mac h = absurd (false≢true h)
-before_any (m ∷ macs) (suc n) mac h =
-    ⊎_elim (λ here. (zero, omega arith, omega arith, same_address m mac here))
-    (λ later. let at = before_any macs n mac later in let low = at.1 in let below = at.2 in (suc at.0, omega (arith, low), omega (arith, below), at.3))
-    (or_cases (is_same_address m mac) (is_again mac (take n macs)) h)
-
--- no address stands twice where the nodes' addresses are their own
-pub own_of_differ : (run : Run) → DifferBelow (macs_of run.places) (length (macs_of run.places)) → HaveOwnAddresses run
-own_of_differ run differ i j low high same =
-    ⊎_elim (λ lower. absurd (clash i j lower low high same)) (λ at_least. ⊎_elim (λ lower. absurd (clash j i lower high low (sym same))) (λ at_most. omega (arith, at_least, at_most)) (cases_lt j i)) (cases_lt i j)
-  where
-    clash : (i j : ℕ) → i < j → i < length run.places → j < length run.places → mac_of (place_of run i) ≡ mac_of (place_of run j) → ⊥
-    clash i j lower low high same =
-        let many = length-map run.places mac_of in
-        let e : slice_index_or (macs_of run.places) i [] ≡ slice_index_or (macs_of run.places) j [] = mac_is run i ∙ (same ∙ sym (mac_is run j)) in
-        false≢true (sym (differ j [] (omega (arith, high, many))) ∙ any_before (macs_of run.places) j i (slice_index_or (macs_of run.places) j []) lower (omega (arith, low, many)) e)
-
-pub differ_of_own : (run : Run) → HaveOwnAddresses run → DifferBelow (macs_of run.places) (length (macs_of run.places))
-differ_of_own run own k d below = ⊎_elim (λ again. absurd (clash again)) (λ no. no) (cases_Bool (is_again (slice_index_or (macs_of run.places) k d) (take k (macs_of run.places))))
-  where
-    clash : is_again (slice_index_or (macs_of run.places) k d) (take k (macs_of run.places)) ≡ true → ⊥
-    clash again =
-        let many = length-map run.places mac_of in
-        let at = before_any (macs_of run.places) k (slice_index_or (macs_of run.places) k d) again in
-        let low = at.1 in
-        let under = at.2 in
-        let e : mac_of (place_of run at.0) ≡ mac_of (place_of run k) = sym (mac_is run at.0) ∙ (at.3 ∙ (index_any (macs_of run.places) k d [] below ∙ mac_is run k)) in
-        let same = own at.0 k (omega (arith, under, many)) (omega (arith, below, many)) e in
-        omega (arith, low, same)
-
 -- ---- a ring, and a ring of DANHs in modes H and U with addresses of their own
 
 pub danh_at : (run : Run) → IsDanhRing run → (k : ℕ) → k < length run.places → place_of run k ≡ Danh (mac_at (macs_of run.places) k) (mode_of (place_of run k))
 danh_at run ring k below = place_is (place_of run k) (ring.danhs k below) ∙ ap (λ mac. Danh mac (mode_of (place_of run k))) (sym (mac_is run k))
 
-pub ring_of_own : (run : Run) → IsWired run.places run.links → IsDanhRing run → AreForwarding run → HaveOwnAddresses run → IsRing run (macs_of run.places)
+pub ring_of_own : (run : Run) → IsWired run.places run.links → IsDanhRing run → AreGoingRound run → HaveOwnAddresses run → IsRing run (macs_of run.places)
 ring_of_own run wired ring modes own =
     let many = length-map run.places mac_of in
     let two = ring.two in
@@ -184,7 +136,9 @@ ring_of_own run wired ring modes own =
           no_group (mac_at (macs_of run.places) k)
           (subst HasOwnAddress (danh_at run ring k under) (All-get_or HasOwnAddress run.places k QuadBox under wired.own));
       differ = λ i j low high same.
-          own i j (omega (arith, many, low)) (omega (arith, many, high)) (sym (mac_is run i) ∙ (same ∙ mac_is run j));
+          let P : ℕ → Place → Type 0 = λ k p. HasAddress p (mac_at (macs_of run.places) k) in
+          own i j (mac_at (macs_of run.places) i) (omega (arith, many, low)) (omega (arith, many, high))
+          (subst (P i) (sym (danh_at run ring i (omega (arith, many, low)))) refl) (subst (P i) (sym (danh_at run ring j (omega (arith, many, high)))) same);
       count = ring.count ∙ sym many;
       joined = λ k below.
           let P : ℕ → Type 0 = λ n. Joins (ends_of run k) k ((k + 1) % n) in
@@ -215,14 +169,13 @@ danhs_of_ring run macs ring =
           subst P (sym many) (ring.joined k (omega (arith, many, below)));
     }
 
-pub modes_of_ring : (run : Run) (macs : List (List ℕ)) → IsRing run macs → AreForwarding run
-modes_of_ring run macs ring = λ k below. of_node run macs ring (λ p. is_forwarding p ≡ true) k below refl refl
+pub modes_of_ring : (run : Run) (macs : List (List ℕ)) → IsRing run macs → AreGoingRound run
+modes_of_ring run macs ring = λ k below. of_node run macs ring (λ p. is_in_h_or_u p ≡ true) k below refl refl
 
 pub own_of_ring : (run : Run) (macs : List (List ℕ)) → IsRing run macs → HaveOwnAddresses run
-own_of_ring run macs ring = λ i j low high same.
+own_of_ring run macs ring = λ i j mac low high one other.
     let many = ring_many run macs ring in
-    ring.differ i j (omega (arith, many, low)) (omega (arith, many, high))
-    (sym (mac_there i low) ∙ (same ∙ mac_there j high))
+    ring.differ i j (omega (arith, many, low)) (omega (arith, many, high)) (sym (there i mac low one) ∙ there j mac high other)
   where
-    mac_there : (k : ℕ) → k < length run.places → mac_of (place_of run k) ≡ mac_at macs k
-    mac_there k below = of_node run macs ring (λ p. mac_of p ≡ mac_at macs k) k below refl refl
+    there : (k : ℕ) (mac : List ℕ) → k < length run.places → HasAddress (place_of run k) mac → mac ≡ mac_at macs k
+    there k mac below = of_node run macs ring (λ p. HasAddress p mac → mac ≡ mac_at macs k) k below (λ is. is) (λ is. is)

@@ -9,7 +9,7 @@ use Rattle.hsr_node.specs.declared.sending.Sending.{Sending}
 use Rattle.hsr_node.specs.Record.{Owner}
 use Rattle.hsr_node.specs.declared.entry.Entry.{Entry}
 use Rattle.hsr_node.specs.declared.event.Probe.{Probe}
-use Rattle.hsr_audit.specs.Doubts.{IsPremised}
+use Rattle.hsr_audit.specs.Danhs.{IsPremised}
 use Rattle.hsr_law.specs.Once.{IsExactlyOnce, is_addressed}
 use Rattle.hsr_law.specs.Run.{Run, owner_of, past_of}
 

@@ -1,109 +1,120 @@
--- Why a run can't be certified: the doubts in their order, and which is the first.
---     IsPremised      a ring, and all that exactly once rests on
---     IsFirstDoubt    the doubt holds, and none before it
-use Rattle.std.specs.Prelude.{ℕ, ◌+◌, ◌%◌, ◌<◌, ◌≤◌, ◌≡◌, Bool, true, false, List, [], length, map, Option, Some, None}
-use Rattle.hsr_frame.specs.declared.node.Mode.{Mode}
-use Rattle.hsr_frame.specs.declared.node.Mode.TheVariants.{H, N, U}
-use Rattle.hsr_node.specs.declared.place.Place.{Place}
-use Rattle.hsr_node.specs.declared.place.Place.TheVariants.{Danh, RedBox, QuadBox, Station}
-use Rattle.hsr_law.specs.Premises.{IsRing, Joins, NothingForgotten, NothingMistaken, OneLossyLink}
-use Rattle.hsr_law.specs.Run.{Run, ends_of, place_of}
-use Rattle.hsr_premises.specs.Flaws.{IsFirstNot, KnowsOwnAt, RemembersAt}
+-- Why a run can't be certified: when each doubt is so, and the doubts of each scope in their order.
+--     IsSo                  when a doubt is so
+--     Row                   a row of a table: the number of a kind of doubt, and what holds of a run that is clear of it
+--     of_ring, of_network   the table of each audit
+--     IsFirst               a doubt of a table is so, and the run is clear of those before it
+use Rattle.std.specs.Prelude.{ℕ, ◌<◌, ◌==◌, Bool, true, false, List, [], ◌∷◌, length}
+use Rattle.hsr_law.specs.Premises.{NothingForgotten, NothingMistaken, OneLossyLink}
+use Rattle.hsr_law.specs.Run.{Run}
+use Rattle.hsr_network_law.specs.Late.{NothingLate}
+use Rattle.hsr_network_law.specs.Network.{IsNetwork}
+use Rattle.hsr_premises.specs.Flaws.{IsFirstNot, IsInTimeAt, KnowsOwnAt, RemembersAt}
+use Rattle.hsr_premises.specs.declared.flaw.Flaw.{Flaw}
+use Rattle.hsr_premises.specs.declared.flaw.Flaw.TheVariants as flaw
+use Rattle.hsr_ways.specs.Networks.{AreGoingRound, HaveOwnAddresses, IsFirstUnlike}
+use Rattle.hsr_audit.specs.Danhs.{IsDanhRing}
+use Rattle.hsr_audit.specs.Sends.{AreKnown, ArePromised, AreServed, HasSend, IsCoveredAt, IsCutOff, IsKnownAt, IsServedAt}
 use Rattle.hsr_audit.specs.declared.doubt.AuditFault.{AuditFault}
-use Rattle.hsr_audit.specs.declared.doubt.AuditFault.TheVariants.{Doubt, NoMemory}
-use Rattle.hsr_audit.specs.declared.doubt.Doubt as doubts
-use Rattle.hsr_audit.specs.declared.doubt.Doubt.TheVariants as doubt
+use Rattle.hsr_audit.specs.declared.doubt.AuditFault.TheVariants as fault
+use Rattle.hsr_audit.specs.declared.doubt.Doubt.{Doubt}
+use Rattle.hsr_audit.specs.declared.doubt.Doubt.TheVariants.{NotRing, Empty, Mode, SameAddress, Side, TwoLinks, Forgot, Mistaken, NumberedLate, CutOff, UnknownStation, Uncovered}
 
--- ---- the ring
+-- ---- each doubt
 
-abbrev pub is_danh : Place → Bool
-is_danh (Danh mac mode) = true
-is_danh (RedBox mac mode) = false
-is_danh QuadBox = false
-is_danh (Station macs) = false
+-- its number in the order in which doubts are tried
+abbrev pub number : Doubt → ℕ
+number NotRing = 0
+number Empty = 1
+number Mode = 2
+number SameAddress = 3
+number (Side l) = 4
+number TwoLinks = 5
+number (Forgot k i) = 6
+number (Mistaken k i) = 7
+number (NumberedLate k i) = 8
+number (CutOff k i n) = 9
+number (UnknownStation k i) = 10
+number (Uncovered k i) = 11
 
--- in mode H or U a node forwards round the ring, in mode N it doesn't
-abbrev pub forwards : Mode → Bool
-forwards H = true
-forwards N = false
-forwards U = true
+-- when it is so
+abbrev pub IsSo : Run → Doubt → Type 0
+IsSo run NotRing = ¬ IsDanhRing run
+IsSo run Empty = ¬ HasSend run
+IsSo run Mode = ¬ AreGoingRound run
+IsSo run SameAddress = ¬ HaveOwnAddresses run
+IsSo run (Side l) = IsFirstUnlike run l
+IsSo run TwoLinks = ¬ OneLossyLink run
+IsSo run (Forgot k i) = IsFirstNot run (RemembersAt run) k i
+IsSo run (Mistaken k i) = IsFirstNot run (KnowsOwnAt run) k i
+IsSo run (NumberedLate k i) = IsFirstNot run (IsInTimeAt run) k i
+IsSo run (CutOff k i n) = IsFirstNot run (IsServedAt run) k i × IsCutOff run k i n
+IsSo run (UnknownStation k i) = IsFirstNot run (IsKnownAt run) k i
+IsSo run (Uncovered k i) = IsFirstNot run (IsCoveredAt run) k i
 
-abbrev pub is_forwarding : Place → Bool
-is_forwarding (Danh mac mode) = forwards mode
-is_forwarding (RedBox mac mode) = forwards mode
-is_forwarding QuadBox = false
-is_forwarding (Station macs) = false
+-- ---- tables
 
--- the address of a DANH
-abbrev pub mac_of : Place → List ℕ
-mac_of (Danh mac mode) = mac
-mac_of (RedBox mac mode) = []
-mac_of QuadBox = []
-mac_of (Station macs) = []
+-- the doubts of a number, and what holds of a run that gives none of them
+pub record Row : Type 1 where
+  pub number : ℕ
+  pub IsClear : Run → Type 0
 
--- the mode of a DANH
-abbrev pub mode_of : Place → Mode
-mode_of (Danh mac mode) = mode
-mode_of (RedBox mac mode) = N
-mode_of QuadBox = N
-mode_of (Station macs) = N
+abbrev pub row : ℕ → (Run → Type 0) → Row
+row n P = record { number = n; IsClear = P }
 
--- the addresses round a ring of DANHs
-abbrev pub macs_of : List Place → List (List ℕ)
-macs_of places = map mac_of places
+-- the doubts of a ring's audit
+abbrev pub of_ring : List Row
+of_ring = row 0 IsDanhRing ∷ row 2 AreGoingRound ∷ row 3 HaveOwnAddresses ∷ row 5 OneLossyLink ∷ row 6 NothingForgotten ∷ row 7 NothingMistaken ∷ []
 
--- There are two DANHs or more, and as many links: each joins B of its node with A of the next one round the ring.
-pub record IsDanhRing (run : Run) : Type 0 where
-  pub two : 2 ≤ length run.places
-  pub count : length run.links ≡ length run.places
-  pub danhs : (k : ℕ) → k < length run.places → is_danh (place_of run k) ≡ true
-  pub joined : (k : ℕ) → k < length run.places → Joins (ends_of run k) k ((k + 1) % length run.places)
+-- the doubts of a network's audit
+abbrev pub of_network : List Row
+of_network =
+    row 1 HasSend ∷ row 2 AreGoingRound ∷ row 3 HaveOwnAddresses ∷ row 4 IsNetwork ∷ row 6 NothingForgotten ∷ row 7 NothingMistaken
+    ∷ row 8 NothingLate ∷ row 9 AreServed ∷ row 10 AreKnown ∷ row 11 ArePromised ∷ []
 
--- no node is in mode N
-abbrev pub AreForwarding : Run → Type 0
-AreForwarding run = (k : ℕ) → k < length run.places → is_forwarding (place_of run k) ≡ true
+-- ---- the first doubt
 
--- no two nodes have one address
-abbrev pub HaveOwnAddresses : Run → Type 0
-HaveOwnAddresses run = (i j : ℕ) → i < length run.places → j < length run.places → mac_of (place_of run i) ≡ mac_of (place_of run j) → i ≡ j
+abbrev pub either : Bool → Type 0 → Type 0 → Type 0
+either true P Q = P
+either false P Q = Q
 
--- ---- doubts
+-- a doubt of a table is so, and the run is clear of all rows before its own
+abbrev pub IsFirst : List Row → Run → Doubt → Type 0
+IsFirst [] run doubt = ⊥
+IsFirst (r ∷ rows) run doubt = either (r.number == number doubt) (IsSo run doubt) (r.IsClear run × IsFirst rows run doubt)
 
--- the doubt holds, and none of those before it
-abbrev pub IsFirstDoubt : Run → doubts.Doubt → Type 0
-IsFirstDoubt run doubt.NotRing = ¬ IsDanhRing run
-IsFirstDoubt run doubt.Mode = IsDanhRing run × ¬ AreForwarding run
-IsFirstDoubt run doubt.SameAddress = IsDanhRing run × AreForwarding run × ¬ HaveOwnAddresses run
-IsFirstDoubt run doubt.TwoLinks = IsDanhRing run × AreForwarding run × HaveOwnAddresses run × ¬ OneLossyLink run
-IsFirstDoubt run (doubt.Forgot k i) =
-    IsDanhRing run × AreForwarding run × HaveOwnAddresses run × OneLossyLink run × IsFirstNot run (RemembersAt run) k i
-IsFirstDoubt run (doubt.Mistaken k i) =
-    IsDanhRing run × AreForwarding run × HaveOwnAddresses run × OneLossyLink run × NothingForgotten run × IsFirstNot run (KnowsOwnAt run) k i
+-- ---- premises
 
--- a ring, with losses on at most one link, nothing forgotten and nothing mistaken
-pub record IsPremised (run : Run) (macs : List (List ℕ)) : Type 0 where
-  pub ring : IsRing run macs
-  pub losses : OneLossyLink run
+-- something was sent, in a network, where nothing was forgotten that was needed, nothing mistaken, and nothing numbered late
+pub record IsSound (run : Run) : Type 0 where
+  pub sends : HasSend run
+  pub network : IsNetwork run
   pub forgotten : NothingForgotten run
   pub mistaken : NothingMistaken run
+  pub in_time : NothingLate run
+
+-- so it is; and each send comes to each node that it is due at, is known each time by the RedBox of a Station that it is to, and is
+-- covered
+pub record IsNetworkPremised (run : Run) : Type 0 where
+  pub sound : IsSound run
+  pub served : AreServed run
+  pub known : AreKnown run
+  pub covered : ArePromised run
 
 -- ---- answers
 
--- a doubt is the first one; no memory says nothing of the run
-abbrev pub IsFirstFault : Run → AuditFault → Type 0
-IsFirstFault run (Doubt d) = IsFirstDoubt run d
-IsFirstFault run NoMemory = Unit {0}
+-- a doubt is the first one of a table; no memory says nothing of the run
+abbrev pub IsFirstFault : List Row → Run → AuditFault → Type 0
+IsFirstFault rows run (fault.Doubt doubt) = IsFirst rows run doubt
+IsFirstFault rows run fault.NoMemory = Unit {0}
 
--- where there is a doubt, the run isn't that of a ring with all that exactly once rests on
-abbrev pub IsRefused : Run → AuditFault → Type 0
-IsRefused run (Doubt d) = ¬ ((macs : List (List ℕ)) × IsPremised run macs)
-IsRefused run NoMemory = Unit {0}
+-- where there is a doubt, these premises don't hold
+abbrev pub IsRefused : Type 0 → AuditFault → Type 0
+IsRefused P (fault.Doubt doubt) = ¬ P
+IsRefused P fault.NoMemory = Unit {0}
 
--- ---- what the records of a ring tell
+-- ---- as hsr_premises says it
 
--- nothing is forgotten and nothing mistaken, or this is the first doubt of that kind
-abbrev pub IsRecordDoubt : Run → Option doubts.Doubt → Type 0
-IsRecordDoubt run None = NothingForgotten run × NothingMistaken run
-IsRecordDoubt run (Some (doubt.Forgot k i)) = IsFirstNot run (RemembersAt run) k i
-IsRecordDoubt run (Some (doubt.Mistaken k i)) = NothingForgotten run × IsFirstNot run (KnowsOwnAt run) k i
-IsRecordDoubt run (Some _) = ⊥
+abbrev pub doubt_at : Flaw → Doubt
+doubt_at (flaw.Forgot k i) = Forgot k i
+doubt_at (flaw.Mistaken k i) = Mistaken k i
+doubt_at (flaw.Late k i) = NumberedLate k i

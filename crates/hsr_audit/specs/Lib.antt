@@ -1,6 +1,16 @@
+pub mod Danhs
+pub mod Coming
+pub mod Sends
 pub mod Doubts
+pub mod Words
 pub mod Round
 pub mod Certificate
 pub mod Listed
+pub mod Lossy
+pub mod Placed
+pub mod Reaching
+pub mod Shared
+pub mod Missed
+pub mod NetworkCertificate
 pub mod Budgeted
 pub mod Timed

@@ -1,11 +1,11 @@
 -- What the audit asks of nodes and links, as tests of lists.
-use Rattle.std.specs.Prelude.{ℕ, ◌+◌, ◌%◌, ◌<◌, ◌≤◌, ◌≡◌, ◌&&◌, ◌||◌, Bool, true, false, List, length, take, slice_index_or, Option, Some, None}
-use Rattle.std.specs.List.{list_all, list_any}
-use Rattle.hsr_frame.specs.Address.{is_same_address}
+use Rattle.std.specs.Prelude.{ℕ, ◌+◌, ◌%◌, ◌<◌, ◌≤◌, ◌≡◌, ◌&&◌, ◌||◌, Bool, true, List, length, slice_index_or, Option, Some, None}
+use Rattle.std.specs.List.{list_all}
 use Rattle.hsr_link.specs.declared.row.Dir.TheVariants.{Forth, Back}
 use Rattle.hsr_node.specs.declared.place.Place.{Place}
 use Rattle.hsr_node.specs.declared.place.Place.TheVariants.{Danh, RedBox, QuadBox, Station}
-use Rattle.hsr_audit.specs.Doubts.{AreForwarding, HaveOwnAddresses, IsDanhRing, is_danh, macs_of}
+use Rattle.hsr_audit.specs.Danhs.{IsDanhRing, is_danh, macs_of}
+use Rattle.hsr_ways.specs.Networks.{AreGoingRound, HaveOwnAddresses}
 use Rattle.hsr_topology.specs.Links.{is_same_end}
 use Rattle.hsr_law.specs.Premises.{NothingForgotten, NothingMistaken, OneLossyLink}
 use Rattle.hsr_law.specs.Run.{Run, from_end}
@@ -41,19 +41,12 @@ address_of (RedBox mac mode) = None
 address_of QuadBox = None
 address_of (Station macs) = None
 
--- an address stands among those before it
-unfoldable pub is_again : List ℕ → List (List ℕ) → Bool
-is_again mac before = list_any (λ other. is_same_address other mac) before
-
-abbrev pub DifferBelow : List (List ℕ) → ℕ → Type 0
-DifferBelow macs n = (k : ℕ) (d : List ℕ) → k < n → is_again (slice_index_or macs k d) (take k macs) ≡ false
-
 -- ---- what is found out in turn
 
 -- what is known of a ring whose addresses these are
 pub record IsOwnRing (run : Run) (macs : List (List ℕ)) : Type 0 where
   pub ring : IsDanhRing run
-  pub modes : AreForwarding run
+  pub modes : AreGoingRound run
   pub own : HaveOwnAddresses run
   pub macs_is : macs ≡ macs_of run.places
 

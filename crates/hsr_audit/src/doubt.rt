@@ -1,22 +1,61 @@
 //! Why a run can't be certified.
+ghost use Rattle.std.specs.Prelude.{◌≡◌};
+ghost use Rattle.hsr_audit.specs.Doubts.{doubt_at};
 
-/// Why a run can't be certified, in the order in which the reasons are tried. Of the two that name a place of a node's
-/// record the lowest node is named, and its lowest place.
+use hsr_frame::NoMemory;
+use hsr_premises::Flaw;
+use std::fmt;
+
+/// Why a run can't be certified, in the order in which the reasons are tried: each of a ring's audit or of a network's, or of both.
+/// Of those that name a place of a node's record the lowest node is named, and its lowest place.
 #[derive(Clone, Copy, Debug, PartialEq, Eq)]
 pub enum Doubt {
     /// The nodes and links aren't a ring of two DANHs or more, whatever their modes and addresses: link i joins B of node i with A
     /// of the next one.
     NotRing,
-    /// A node is in mode N.
+    /// Nothing was sent.
+    Empty,
+    /// A DANH or a RedBox is in mode N.
     Mode,
     /// Two nodes have one address.
     SameAddress,
+    /// A link joins a port on a ring and an edge, which is a Station's port or an interlink; the lowest such link.
+    Side {
+        link: usize,
+    },
     /// Copies were lost on more than one link.
     TwoLinks,
     /// An arrival wants an egress on which its send was noted before, and no such note was remembered.
-    Forgot { node: usize, place: usize },
+    Forgot {
+        node: usize,
+        place: usize,
+    },
     /// An arrival wants an egress that remembered its source and number by a note of another send.
-    Mistaken { node: usize, place: usize },
+    Mistaken {
+        node: usize,
+        place: usize,
+    },
+    /// A RedBox gives a frame of its Station a number, and had noted its send before.
+    NumberedLate {
+        node: usize,
+        place: usize,
+    },
+    /// A send is due at a node to which no way lost no copy of it; the lowest such node.
+    CutOff {
+        node: usize,
+        place: usize,
+        receiver: usize,
+    },
+    /// A send to one address is due at a Station whose RedBox didn't know that address each time that it handled the send.
+    UnknownStation {
+        node: usize,
+        place: usize,
+    },
+    /// A send isn't covered: a supervision frame of a Station that is joined with a Station.
+    Uncovered {
+        node: usize,
+        place: usize,
+    },
 }
 
 /// Why there is no certificate.
@@ -26,4 +65,54 @@ pub enum AuditFault {
     Doubt(Doubt),
     /// Room was refused.
     NoMemory,
+}
+
+impl From<NoMemory> for AuditFault {
+    ghost use Rattle.hsr_audit.specs.declared.doubt.AuditFault.TheVariants as spec;
+
+    ghost from_gives = { λ _ fault. fault ≡ spec.NoMemory };
+
+    fn from(_fault: NoMemory) -> AuditFault {
+        AuditFault::NoMemory
+    }
+}
+
+/// A word, and the numbers of what it names: a link, or a node and a place, and for a cut the node that the send doesn't come to.
+impl fmt::Display for Doubt {
+    ghost use Rattle.std.specs.Prelude.{Some};
+    ghost use Rattle.hsr_audit.specs.Words.{doubt_text};
+
+    ghost output = { λ doubt. Some (doubt_text doubt) };
+
+    fn fmt<W: fmt::Write>(&self, f: &mut fmt::Formatter<W>) -> fmt::Result {
+        match self {
+            Doubt::NotRing => write!(f, "not-ring"),
+            Doubt::Empty => write!(f, "empty"),
+            Doubt::Mode => write!(f, "mode"),
+            Doubt::SameAddress => write!(f, "same-address"),
+            Doubt::Side { link } => write!(f, "side {link}"),
+            Doubt::TwoLinks => write!(f, "two-links"),
+            Doubt::Forgot { node, place } => write!(f, "forgot {node} {place}"),
+            Doubt::Mistaken { node, place } => write!(f, "mistaken {node} {place}"),
+            Doubt::NumberedLate { node, place } => write!(f, "numbered-late {node} {place}"),
+            Doubt::CutOff {
+                node,
+                place,
+                receiver,
+            } => write!(f, "cut-off {node} {place} {receiver}"),
+            Doubt::UnknownStation { node, place } => write!(f, "unknown-station {node} {place}"),
+            Doubt::Uncovered { node, place } => write!(f, "uncovered {node} {place}"),
+        }
+    }
+}
+
+/// Where something was forgotten, mistaken or numbered late, as a doubt.
+pub(crate) fn doubt_at(flaw: Flaw) -> Doubt
+    ensures { result ≡ doubt_at flaw }
+{
+    match flaw {
+        Flaw::Forgot { node, place } => Doubt::Forgot { node, place },
+        Flaw::Mistaken { node, place } => Doubt::Mistaken { node, place },
+        Flaw::Late { node, place } => Doubt::NumberedLate { node, place },
+    }
 }

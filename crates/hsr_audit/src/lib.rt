@@ -1,28 +1,41 @@
-//! The audit of a finished run: a certificate of delivery, or the first reason for doubt; and its budget: whether duplicate
-//! tables are large enough for what was sent. What runs, their topologies and the laws over them are is offered again, and so is
-//! who got what and how many entries were needed, so that who audits needs this crate alone.
+//! The audit of a finished run: a certificate of delivery, or the first reason for doubt, of a ring of DANHs or of any network; and
+//! its budget: whether duplicate tables are large enough for what was sent. What runs, their topologies and the laws over them are is
+//! offered again, and so is who got what and how many entries were needed, so that who audits needs this crate alone.
 //!
 //! Its modules, in the order in which to read them:
-//! - `round`: whether nodes and links are a ring, and whether it lost copies on one link at most
 //! - `doubt`: why a run isn't certified
-//! - `certificate`: what a certificate lists
-//! - `auditing`: the audit, its call
+//! - `round`: whether nodes and links are a ring, and whether it lost copies on one link at most
+//! - `certificate`: what the certificate of a ring lists
+//! - `ring`: the audit of a ring of DANHs, its call
+//! - `sends`: whether there is a send, and the first that isn't covered
+//! - `covered`: which sends the law of networks covers, and which are to Stations
+//! - `lossy`: the ways on which a send lost copies
+//! - `shared`: what was found of sends that lost nothing, for those that are like them
+//! - `cutoff`: the first send that doesn't come to a node
+//! - `missed`: the lowest send to a Station that its RedBox didn't know each time
+//! - `network`: the audit of any network, its call
 //! - `moments`: the effective moments of a run's entries and sends
 //! - `late`: the first arrival that comes late
 //! - `breach`: what a budget is, and why a run isn't within it
 //! - `budgeting`: whether a run is within budget, its call
 #![tactic(auto)]
 
-mod auditing;
 mod breach;
 mod budgeting;
 mod certificate;
+mod covered;
+mod cutoff;
 mod doubt;
 mod late;
+mod lossy;
+mod missed;
 mod moments;
+mod network;
+mod ring;
 mod round;
+mod sends;
+mod shared;
 
-pub use auditing::audit;
 pub use breach::{Budget, BudgetFault};
 pub use budgeting::{budget, most_sends};
 pub use certificate::{Certificate, Certified};
@@ -34,3 +47,5 @@ pub use hsr_deliveries::{
 pub use hsr_law::{boxless, budget_keeps, budget_tells, exactly_once, no_storm, once_in_budget};
 pub use hsr_needed::{Needed, legal_with_needed, needed};
 pub use hsr_topology::{End, Topology, TopologyFault};
+pub use network::{NetworkCertificate, audit_network};
+pub use ring::audit;

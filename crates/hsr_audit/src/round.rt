@@ -1,12 +1,12 @@
 //! Whether nodes and links are a ring, and whether copies were lost on at most one link.
 ghost use Rattle.std.specs.Prelude.{◌≡◌, ◌↔◌, ◌<◌, [], ◌++◌, filter_map, length, IfOk, IsTrue, OnOk};
 ghost use Rattle.std.specs.List.{cons_option, list_all};
-ghost use Rattle.hsr_audit.specs.Doubts.{is_danh, is_forwarding};
+ghost use Rattle.hsr_audit.specs.Danhs.{is_danh};
 ghost use Rattle.hsr_law.specs.Premises.{OneLossyLink, any_lost};
-ghost use Rattle.hsr_audit.specs.Round.{DifferBelow, IsRound, JoinedBelow, address_of, is_again, is_joint, is_joint_of};
+ghost use Rattle.hsr_audit.specs.Round.{IsRound, JoinedBelow, address_of, is_joint, is_joint_of};
 
 use hsr_closing::Closed;
-use hsr_frame::{Mac, Mode, NoMemory};
+use hsr_frame::{Mac, NoMemory};
 use hsr_link::Row;
 use hsr_node::Place;
 use hsr_topology::{End, is_same_end};
@@ -18,26 +18,10 @@ fn is_danh(place: &Place) -> bool
     matches!(place, Place::Danh { .. })
 }
 
-fn is_forwarding(place: &Place) -> bool
-    ensures { result ≡ is_forwarding place.now }
-{
-    match place {
-        Place::Danh { mode, .. } | Place::RedBox { mode, .. } => *mode != Mode::N,
-        Place::QuadBox | Place::Station { .. } => false,
-    }
-}
-
 fn are_danhs(places: &[Place]) -> bool
     ensures { result ≡ list_all is_danh places.now }
 {
     places.iter().all(|place| is_danh(place))
-}
-
-/// Whether all nodes forward round the ring: each is in mode H or U.
-pub(crate) fn are_forwarding(places: &[Place]) -> bool
-    ensures { result ≡ list_all is_forwarding places.now }
-{
-    places.iter().all(|place| is_forwarding(place))
 }
 
 /// Whether a link joins B of a node with A of the next.
@@ -102,26 +86,6 @@ pub(crate) fn addresses(alloc: Global, places: &[Place]) -> Result<Vec<Mac>, NoM
         push_address(&mut macs, place)?;
     }
     Ok(macs)
-}
-
-/// Whether an address stands among those before it.
-#[tactic(auto, unfolding(crate::specs::Round::is_again))]
-fn is_again(mac: Mac, before: &[Mac]) -> bool
-    ensures { result ≡ is_again mac before.now }
-{
-    before.iter().any(|other| *other == mac)
-}
-
-/// Whether no address stands twice.
-pub(crate) fn are_different(macs: &[Mac]) -> bool
-    ensures { IsTrue result ↔ DifferBelow macs.now (length macs.now) }
-{
-    for (k, mac) in macs.iter().enumerate() {
-        if is_again(*mac, &macs[..k]) {
-            return false;
-        }
-    }
-    true
 }
 
 fn any_lost(rows: &[Row]) -> bool

@@ -24,7 +24,6 @@ IsShown scope (Report asked) f found text = IsReportOf scope asked f.run found t
 abbrev pub status_of : Finding → Status
 status_of (finding.Certified sends) = Certified
 status_of (finding.Doubt doubt) = Doubt
-status_of (finding.NetworkDoubt doubt) = Doubt
 
 -- a text was written, and the status tells what was found; or the writer failed
 abbrev pub IsDelivered : Option (List ℕ) → Option (List ℕ) → Finding → List ℕ → Status → Type 0

@@ -33,7 +33,7 @@ fn status_of(finding: Finding) -> Status
 {
     match finding {
         Finding::Certified(_) => Status::Certified,
-        Finding::Doubt(_) | Finding::NetworkDoubt(_) => Status::Doubt,
+        Finding::Doubt(_) => Status::Doubt,
     }
 }
 

@@ -4,43 +4,26 @@ use crate::losing::put_lossy;
 use crate::naming::{put_entry, put_link, put_node};
 use hsr_audit::Doubt;
 use hsr_closing::Closed;
-use hsr_frame::{Mac, Mode, NoMemory};
-use hsr_network_audit::Doubt as NetworkDoubt;
+use hsr_frame::NoMemory;
 use hsr_node::Place;
 use hsr_report::Finding;
 use hsr_toml::put;
+use hsr_ways::{is_in_h_or_u, share_address};
 use std::alloc::Global;
 
 // ---- nodes
-
-/// Whether a node is in mode N.
-fn is_silent(place: &Place) -> bool {
-    match place {
-        Place::Danh { mode, .. } | Place::RedBox { mode, .. } => matches!(mode, Mode::N),
-        Place::QuadBox | Place::Station { .. } => false,
-    }
-}
 
 /// Puts each node in mode N last.
 fn put_silent(line: &mut Vec<u8>, places: &[Place], names: &[Vec<u8>]) -> Result<(), NoMemory> {
     let mut parted = "";
     for (node, place) in places.iter().enumerate() {
-        if is_silent(place) {
+        if !is_in_h_or_u(place) {
             put(line, parted)?;
             put_node(line, names, node)?;
             parted = ", ";
         }
     }
     Ok(())
-}
-
-/// Whether two nodes have an address in common.
-fn share_address(one: &Place, other: &Place) -> bool {
-    match one {
-        Place::Danh { mac, .. } | Place::RedBox { mac, .. } => other.owns(*mac),
-        Place::QuadBox => false,
-        Place::Station { macs } => macs.iter().any(|mac| other.owns(*mac)),
-    }
 }
 
 /// The first node before another with an address in common.
@@ -180,6 +163,12 @@ fn of_cut_off<const C: usize>(
     Ok(line)
 }
 
+const NOT_RING: &str =
+    "the network isn't one ring of DANHs, link i from B of node i to A of the next: --network certifies any network";
+
+const EMPTY: &str =
+    "nothing was sent, so nothing is certified: look at what came here, a pipe whose first part failed gives an empty text";
+
 const FORGOT: &str =
     " is a copy whose frame was no longer remembered, so it may go round or up twice: where it came 400 ms or more after it was noted there, find what held it up; else take a larger table, or send less in 800 ms";
 
@@ -195,7 +184,7 @@ const UNKNOWN: &str =
 const UNCOVERED: &str =
     " is a supervision frame of a Station that is joined with a Station, of which nothing is certified: look at it by --deliveries";
 
-/// What a doubt of a ring's audit means.
+/// What a doubt means.
 fn of_doubt<const C: usize>(
     alloc: Global,
     closed: &Closed<C>,
@@ -203,55 +192,26 @@ fn of_doubt<const C: usize>(
     doubt: Doubt,
 ) -> Result<Vec<u8>, NoMemory> {
     match doubt {
-        Doubt::NotRing => of_words(
-            alloc,
-            "the network isn't one ring of DANHs, link i from B of node i to A of the next: --network certifies any network",
-        ),
+        Doubt::NotRing => of_words(alloc, NOT_RING),
+        Doubt::Empty => of_words(alloc, EMPTY),
         Doubt::Mode => of_mode(alloc, closed, names),
         Doubt::SameAddress => of_same_address(alloc, closed, names),
+        Doubt::Side { link } => of_side(alloc, closed, names, link),
         Doubt::TwoLinks => of_two_links(alloc, closed, names),
         Doubt::Forgot { node, place } => of_entry(alloc, closed, names, (node, place), FORGOT),
         Doubt::Mistaken { node, place } => of_entry(alloc, closed, names, (node, place), MISTAKEN),
-    }
-}
-
-/// What a doubt of a network's audit means.
-fn of_network_doubt<const C: usize>(
-    alloc: Global,
-    closed: &Closed<C>,
-    names: &[Vec<u8>],
-    doubt: NetworkDoubt,
-) -> Result<Vec<u8>, NoMemory> {
-    match doubt {
-        NetworkDoubt::Empty => of_words(
-            alloc,
-            "nothing was sent, so nothing is certified: look at what came here, a pipe whose first part failed gives an empty text",
-        ),
-        NetworkDoubt::Mode => of_mode(alloc, closed, names),
-        NetworkDoubt::SameAddress => of_same_address(alloc, closed, names),
-        NetworkDoubt::Side { link } => of_side(alloc, closed, names, link),
-        NetworkDoubt::CutOff {
+        Doubt::NumberedLate { node, place } => {
+            of_entry(alloc, closed, names, (node, place), NUMBERED_LATE)
+        }
+        Doubt::CutOff {
             node,
             place,
             receiver,
         } => of_cut_off(alloc, closed, names, (node, place), receiver),
-        NetworkDoubt::Forgot { node, place } => of_entry(
-            alloc,
-            closed,
-            names,
-            (node, place),
-            FORGOT,
-        ),
-        NetworkDoubt::Mistaken { node, place } => {
-            of_entry(alloc, closed, names, (node, place), MISTAKEN)
-        }
-        NetworkDoubt::NumberedLate { node, place } => {
-            of_entry(alloc, closed, names, (node, place), NUMBERED_LATE)
-        }
-        NetworkDoubt::UnknownStation { node, place } => {
+        Doubt::UnknownStation { node, place } => {
             of_entry(alloc, closed, names, (node, place), UNKNOWN)
         }
-        NetworkDoubt::Uncovered { node, place } => {
+        Doubt::Uncovered { node, place } => {
             of_entry(alloc, closed, names, (node, place), UNCOVERED)
         }
     }
@@ -269,9 +229,6 @@ pub fn explain_finding<const C: usize>(
     match finding {
         Finding::Certified(_) => {}
         Finding::Doubt(doubt) => explanation.add(of_doubt(alloc, closed, names, doubt)?)?,
-        Finding::NetworkDoubt(doubt) => {
-            explanation.add(of_network_doubt(alloc, closed, names, doubt)?)?
-        }
     }
     Ok(explanation)
 }

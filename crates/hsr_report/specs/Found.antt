@@ -6,7 +6,8 @@
 use Rattle.std.specs.Prelude.{ℕ, ◌≡◌, Bool, true, false, List, [], ◌++◌, length}
 use Rattle.hsr_audit.specs.Budgeted.{IsFirstBreach, IsMost}
 use Rattle.hsr_audit.specs.Certificate.{Certified as Entry, IsCertified}
-use Rattle.hsr_audit.specs.Doubts.{IsFirstDoubt}
+use Rattle.hsr_audit.specs.Doubts.{IsFirst, of_network, of_ring}
+use Rattle.hsr_audit.specs.NetworkCertificate.{IsNetworkCertified}
 use Rattle.hsr_audit.specs.declared.breach.BudgetFault.TheVariants as breach
 use Rattle.hsr_deliveries.specs.Delivered.{Delivery, deliveries}
 use Rattle.hsr_deliveries.specs.Lines.{delivery_lines}
@@ -14,8 +15,6 @@ use Rattle.hsr_law.specs.Budget.{IsBudgetHeld}
 use Rattle.hsr_law.specs.Run.{Run}
 use Rattle.hsr_needed.specs.Needs.{IsMost as IsMostNeeded}
 use Rattle.hsr_needed.specs.declared.most.Needed.{Needed}
-use Rattle.hsr_network_audit.specs.Certificate.{IsCertified as IsCertifiedNetwork}
-use Rattle.hsr_network_audit.specs.Doubts.{IsFirstDoubt as IsFirstNetworkDoubt}
 use Rattle.hsr_options.specs.declared.chosen.Asked.{Asked}
 use Rattle.hsr_options.specs.declared.chosen.Scope.{Scope}
 use Rattle.hsr_options.specs.declared.chosen.Scope.TheVariants.{Ring, Network}
@@ -28,11 +27,9 @@ use Rattle.hsr_report.specs.declared.spending.Spending.TheVariants.{Within, Late
 -- the chosen audit of a run found this: a certificate for so many sends, or its first doubt
 abbrev pub IsFound : Scope → Run → Finding → Type 0
 IsFound Ring run (finding.Certified sends) = (listed : List Entry) × IsCertified run listed × (sends ≡ length listed)
-IsFound Ring run (finding.Doubt doubt) = IsFirstDoubt run doubt
-IsFound Ring run (finding.NetworkDoubt doubt) = ⊥
-IsFound Network run (finding.Certified sends) = (listed : List Delivery) × IsCertifiedNetwork run listed × (sends ≡ length listed)
-IsFound Network run (finding.Doubt doubt) = ⊥
-IsFound Network run (finding.NetworkDoubt doubt) = IsFirstNetworkDoubt run doubt
+IsFound Ring run (finding.Doubt doubt) = IsFirst of_ring run doubt
+IsFound Network run (finding.Certified sends) = (listed : List Delivery) × IsNetworkCertified run listed × (sends ≡ length listed)
+IsFound Network run (finding.Doubt doubt) = IsFirst of_network run doubt
 
 -- a run is within budget, with so many sends at most in a window, or this breaks it first
 abbrev pub IsSpending : Run → Spending → Type 0

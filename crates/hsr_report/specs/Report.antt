@@ -15,10 +15,7 @@ use Rattle.hsr_topology.specs.Links.{is_used}
 use Rattle.hsr_law.specs.Run.{Run, past_of, place_of, rows_of}
 use Rattle.hsr_network_law.specs.Network.{is_edge}
 use Rattle.hsr_deliveries.specs.Delivered.{Delivery, deliveries, is_none}
-use Rattle.hsr_audit.specs.declared.doubt.Doubt.{Doubt}
-use Rattle.hsr_audit.specs.declared.doubt.Doubt.TheVariants.{NotRing, Mode, SameAddress, TwoLinks, Forgot, Mistaken}
-use Rattle.hsr_network_audit.specs.declared.doubt.Doubt.{Doubt as NetworkDoubt}
-use Rattle.hsr_network_audit.specs.declared.doubt.Doubt.TheVariants as network
+use Rattle.hsr_audit.specs.Words.{doubt_text}
 use Rattle.hsr_needed.specs.declared.most.Needed.{Needed}
 use Rattle.hsr_options.specs.declared.chosen.Scope.{Scope}
 use Rattle.hsr_options.specs.declared.chosen.Scope.TheVariants.{Ring, Network}
@@ -65,34 +62,9 @@ head_line run = head_text run.capacity (length run.places) (length run.links)
 
 -- ---- what was found
 
--- a word, and the node and place that it names
-abbrev pub at_text : List ℕ → ℕ → ℕ → List ℕ
-at_text word k place = word ++ decimal k ++ codes " " ++ decimal place
-
-abbrev pub doubt_text : Doubt → List ℕ
-doubt_text NotRing = codes "not-ring"
-doubt_text Mode = codes "mode"
-doubt_text SameAddress = codes "same-address"
-doubt_text TwoLinks = codes "two-links"
-doubt_text (Forgot k place) = at_text (codes "forgot ") k place
-doubt_text (Mistaken k place) = at_text (codes "mistaken ") k place
-
-abbrev pub network_doubt_text : NetworkDoubt → List ℕ
-network_doubt_text network.Empty = codes "empty"
-network_doubt_text network.Mode = codes "mode"
-network_doubt_text network.SameAddress = codes "same-address"
-network_doubt_text (network.Side link) = codes "side " ++ decimal link
-network_doubt_text (network.Forgot k place) = at_text (codes "forgot ") k place
-network_doubt_text (network.Mistaken k place) = at_text (codes "mistaken ") k place
-network_doubt_text (network.NumberedLate k place) = at_text (codes "numbered-late ") k place
-network_doubt_text (network.CutOff k place receiver) = at_text (codes "cut-off ") k place ++ codes " " ++ decimal receiver
-network_doubt_text (network.UnknownStation k place) = at_text (codes "unknown-station ") k place
-network_doubt_text (network.Uncovered k place) = at_text (codes "uncovered ") k place
-
 abbrev pub finding_line : Finding → List ℕ
 finding_line (finding.Certified sends) = codes "certified " ++ decimal sends ++ codes "\n"
 finding_line (finding.Doubt doubt) = codes "doubt " ++ doubt_text doubt ++ codes "\n"
-finding_line (finding.NetworkDoubt doubt) = codes "doubt " ++ network_doubt_text doubt ++ codes "\n"
 
 -- ---- needed entries
 

@@ -3,7 +3,6 @@ ghost use Rattle.std.specs.Prelude.{◌≡◌, ◌<◌, ◌++◌, length, OnOk};
 ghost use Rattle.std.specs.List.{flat_map};
 ghost use Rattle.hsr_deliveries.specs.Delivered.{deliveries};
 ghost use Rattle.hsr_law.specs.Run.{place_of};
-ghost use Rattle.hsr_network_law.specs.Network.{is_edge};
 ghost use Rattle.hsr_node.specs.Place.{ports};
 ghost use Rattle.hsr_report.specs.Report.{is_unlinked, network_lines, nobody_if, nobody_line, unlinked_if, unlinked_line, unlinked_lines, unlinked_ports};
 
@@ -14,18 +13,8 @@ use hsr_node::{Place, Probe};
 use hsr_node_text::put_count;
 use hsr_options::Scope;
 use hsr_topology::{End, is_used};
+use hsr_ways::is_edge;
 use std::alloc::{AllocError, Global};
-
-/// Whether frames carry no tag at a port: whether it is a Station's, or the interlink of a RedBox. The other ports are on rings.
-fn is_edge(place: &Place, port: u8) -> bool
-    ensures { result ≡ is_edge place.now port }
-{
-    match place {
-        Place::Danh { .. } | Place::QuadBox => false,
-        Place::RedBox { .. } => port == 2,
-        Place::Station { .. } => true,
-    }
-}
 
 /// Whether a port is on a ring, and has no link.
 fn is_unlinked<const C: usize>(closed: &Closed<C>, node: usize, place: &Place, port: u8) -> bool

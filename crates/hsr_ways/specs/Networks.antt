@@ -1,14 +1,12 @@
--- Why nodes and links are no network: the reasons in their order, and which is the first.
+-- What a network asks of nodes and links.
 --     AreGoingRound      all nodes are in mode H or U
 --     HaveOwnAddresses   no address is two nodes'
 --     HasLikeEnds        a link joins two ports on rings, or two edges
---     IsFirstReason      the reason holds, and none before it
+--     IsFirstUnlike      the lowest link that joins what is unlike
 use Rattle.std.specs.Prelude.{ℕ, ◌<◌, ◌≡◌, true, List, length}
 use Rattle.hsr_link.specs.declared.row.Dir.TheVariants.{Forth, Back}
 use Rattle.hsr_law.specs.Run.{Run, ends_of, from_end, place_of, to_end}
 use Rattle.hsr_network_law.specs.Network.{HasAddress, is_edge_of, is_in_h_or_u}
-use Rattle.hsr_ways.specs.declared.no_network.NoNetwork.{NoNetwork}
-use Rattle.hsr_ways.specs.declared.no_network.NoNetwork.TheVariants.{Mode, SameAddress, Side}
 
 abbrev pub AreGoingRound : Run → Type 0
 AreGoingRound run = (k : ℕ) → k < length run.places → is_in_h_or_u (place_of run k) ≡ true
@@ -26,9 +24,3 @@ pub record IsFirstUnlike (run : Run) (l : ℕ) : Type 0 where
   pub below : l < length run.links
   pub unlike : ¬ HasLikeEnds run l
   pub before : (m : ℕ) → m < l → HasLikeEnds run m
-
--- the reason holds, and none of those before it
-abbrev pub IsFirstReason : Run → NoNetwork → Type 0
-IsFirstReason run Mode = ¬ AreGoingRound run
-IsFirstReason run SameAddress = AreGoingRound run × ¬ HaveOwnAddresses run
-IsFirstReason run (Side l) = AreGoingRound run × HaveOwnAddresses run × IsFirstUnlike run l

@@ -14,8 +14,8 @@ fn owns_any(place: &Place, macs: &[Mac]) -> bool
     macs.iter().any(|mac| place.owns(*mac))
 }
 
-/// Whether an address is of both nodes.
-fn shares(place: &Place, other: &Place) -> bool
+/// Whether an address is both nodes' own.
+pub fn share_address(place: &Place, other: &Place) -> bool
     ensures { result ≡ shares place.now other.now }
 {
     match place {
@@ -30,7 +30,7 @@ fn shares(place: &Place, other: &Place) -> bool
 fn shares_any(place: &Place, before: &[Place]) -> bool
     ensures { result ≡ shares_any place.now before.now }
 {
-    before.iter().any(|other| shares(place, other))
+    before.iter().any(|other| share_address(place, other))
 }
 
 /// Whether no address is of two of these nodes.

@@ -1,10 +1,9 @@
 //! Whether the nodes and links of a finished run are a network, and which nodes a send of it reaches.
 //!
 //! Its modules, in the order in which to read them:
-//! - `no_network`: why nodes and links are no network
 //! - `addresses`: whether addresses are their owners' alone
 //! - `sides`: whether links join what is alike
-//! - `network`: whether all that is a network
+//! - `network`: what a network asks of nodes and links
 //! - `way`: a direction of a link, and its number
 //! - `starting`: the ways that start at each node
 //! - `follow`: which ways a send takes on
@@ -16,13 +15,13 @@ mod addresses;
 mod follow;
 mod front;
 mod network;
-mod no_network;
 mod search;
 mod sides;
 mod starting;
 mod way;
 
-pub use network::check_network;
-pub use no_network::NoNetwork;
+pub use addresses::share_address;
+pub use network::{are_going_round, first_unlike_link, have_own_addresses, is_in_h_or_u};
 pub use search::Ways;
+pub use sides::is_edge;
 pub use way::Way;

@@ -1,12 +1,10 @@
-//! Whether the nodes and links of a finished run are a network.
-ghost use Rattle.std.specs.Prelude.{◌≡◌, IfErr, IfOk};
+//! What a network asks of the nodes and links of a finished run.
+ghost use Rattle.std.specs.Prelude.{◌≡◌, ◌↔◌, IsTrue, MatchOption};
 ghost use Rattle.std.specs.List.{list_all};
-ghost use Rattle.hsr_closing.specs.Finished.{IsFinished};
 ghost use Rattle.hsr_network_law.specs.Network.{IsNetwork, goes_round, is_in_h_or_u};
-ghost use Rattle.hsr_ways.specs.Networks.{IsFirstReason};
+ghost use Rattle.hsr_ways.specs.Networks.{AreGoingRound, HaveOwnAddresses, IsFirstUnlike};
 
 use crate::addresses::are_own;
-use crate::no_network::NoNetwork;
 use crate::sides::first_unlike;
 use hsr_closing::Closed;
 use hsr_frame::Mode;
@@ -22,8 +20,9 @@ fn goes_round(mode: Mode) -> bool
     }
 }
 
-/// Whether a node is a DANH or a RedBox in mode H or U, a QuadBox or a Station.
-fn is_in_h_or_u(place: &Place) -> bool
+/// Whether a node is a DANH or a RedBox in mode H or U, in which frames go round a ring (IEC 62439-3 clause 5.3.2), a QuadBox or a
+/// Station.
+pub fn is_in_h_or_u(place: &Place) -> bool
     ensures { result ≡ is_in_h_or_u place.now }
 {
     match place {
@@ -38,23 +37,25 @@ fn are_in_h_or_u(places: &[Place]) -> bool
     places.iter().all(|place| is_in_h_or_u(place))
 }
 
-/// Whether the nodes and links of a finished run are a network: whether its DANHs and RedBoxes are in mode H or U, addresses
-/// are their owners' alone, and each link joins two ports on rings, or two edges (IEC 62439-3 clause 5). Else the first reason
-/// why they are none.
-pub fn check_network<const C: usize>(closed: &Closed<C>) -> Result<(), NoNetwork>
-    ensures finished { IsFinished closed.now }
-    ensures network { IfOk result (λ _. IsNetwork closed.now.run) }
-    ensures first { IfErr result (IsFirstReason closed.now.run) }
+/// Whether all DANHs and RedBoxes of a finished run are in mode H or U.
+pub fn are_going_round<const C: usize>(closed: &Closed<C>) -> bool
+    ensures { IsTrue result ↔ AreGoingRound closed.now.run }
+{
+    are_in_h_or_u(closed.topology().places())
+}
+
+/// Whether no address is two nodes' of a finished run.
+pub fn have_own_addresses<const C: usize>(closed: &Closed<C>) -> bool
+    ensures { IsTrue result ↔ HaveOwnAddresses closed.now.run }
+{
+    are_own(closed.topology().places())
+}
+
+/// The lowest link of a finished run that joins a port on a ring and an edge, which is a Station's port or an interlink. Where there is
+/// none, nodes in modes H and U with addresses that are theirs alone are a network (IEC 62439-3 clause 5).
+pub fn first_unlike_link<const C: usize>(closed: &Closed<C>) -> Option<usize>
+    ensures { MatchOption result (AreGoingRound closed.now.run → HaveOwnAddresses closed.now.run → IsNetwork closed.now.run) (IsFirstUnlike closed.now.run) }
 {
     let topology = closed.topology();
-    if !are_in_h_or_u(topology.places()) {
-        return Err(NoNetwork::Mode);
-    }
-    if !are_own(topology.places()) {
-        return Err(NoNetwork::SameAddress);
-    }
-    match first_unlike(topology.places(), topology.links()) {
-        Some(link) => Err(NoNetwork::Side { link }),
-        None => Ok(()),
-    }
+    first_unlike(topology.places(), topology.links())
 }

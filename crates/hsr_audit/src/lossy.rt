@@ -1,0 +1,34 @@
+//! The ways on which a send lost copies.
+ghost use Rattle.std.specs.Prelude.{◌≡◌, ◌<◌, ◌==◌, ◌&&◌, ◌||◌, if◌then◌else◌, true};
+ghost use Rattle.hsr_audit.specs.Lossy.{AreWaysOf, is_on};
+ghost use Rattle.hsr_network_law.specs.Network as law;
+ghost use Rattle.hsr_numbers.specs.Numbers.{has};
+ghost use Rattle.hsr_ways.specs.Numbered.{number_of};
+
+use hsr_deliveries::Loss;
+use hsr_numbers::Numbers;
+use hsr_ways::Way;
+
+/// Puts the way of a loss into a set, if its link is one of the first 256.
+fn put_way(set: &mut Numbers, loss: &Loss)
+    ensures { (way : law.Way) → way.link < 256 → has set.new (number_of way) ≡ (is_on way loss.now || has set.old (number_of way)) }
+{
+    if loss.link < 256 {
+        let way = Way {
+            link: loss.link,
+            dir: loss.dir,
+        };
+        set.put(way.number(), true);
+    }
+}
+
+/// The ways of losses, by their numbers.
+pub(crate) fn ways_of(losses: &[Loss]) -> Numbers
+    ensures { AreWaysOf losses.now result }
+{
+    let mut set = Numbers::new();
+    for loss in losses {
+        put_way(&mut set, loss);
+    }
+    set
+}

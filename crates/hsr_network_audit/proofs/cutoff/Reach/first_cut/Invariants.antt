@@ -1,6 +1,0 @@
-use Rattle.hsr_network_audit.specs.Doubts.{IsServedAt}
-use Rattle.hsr_network_audit.specs.Placed.{HoldsIn}
-use Rattle.hsr_network_audit.proofs.cutoff.Reach.first_cut.Given as goal
-
-abbrev pub invariant-loop-node : goal.invariant-loop-node
-invariant-loop-node g l = HoldsIn l.fn.self (IsServedAt l.fn.self) l.node

@@ -1,6 +1,0 @@
-use Rattle.hsr_network_audit.specs.Doubts.{IsCoveredAt}
-use Rattle.hsr_network_audit.specs.Placed.{HoldsIn}
-use Rattle.hsr_network_audit.proofs.sends.first_uncovered.Given as goal
-
-abbrev pub invariant-loop-node : goal.invariant-loop-node
-invariant-loop-node g l = HoldsIn l.closed.run (IsCoveredAt l.closed.run) l.node

@@ -1,4 +1,0 @@
-use Rattle.hsr_network_audit.proofs.shared.keep.Goals as goal
-
-pub returns : goal.returns
-returns c dst kind = rw (← c.frame.view_is) (c.in_ok-insert.ensures.updates.0 (dst, kind))
