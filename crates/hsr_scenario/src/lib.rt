@@ -2,6 +2,7 @@
 //!
 //! Its modules, in the order in which to read them:
 //! - `fault`: why a text is no scenario
+//! - `keys`: which keys each table of a scenario may have
 //! - `table`: which keys a table may have
 //! - `words`: the words that texts of a scenario spell
 //! - `name`: the names of nodes
@@ -15,6 +16,7 @@
 #![tactic(auto)]
 
 mod fault;
+mod keys;
 mod law;
 mod links;
 mod name;
@@ -28,6 +30,10 @@ mod words;
 
 pub use fault::{Key, ScenarioFault, Spot, What};
 pub use hsr_toml::TEXT_LIMIT;
+pub use keys::{
+    AGE_KEYS, AT_LINK_KEYS, AT_PORT_KEYS, CLOCK_KEYS, DRAIN_KEYS, INJECT_KEYS, LIFE_KEYS,
+    LINK_KEYS, QUADBOX_KEYS, RING_KEYS, SEND_KEYS, STATION_KEYS, TAKE_KEYS, TOP_KEYS,
+};
 pub use law::{fault_is_first, means_its_tables};
 pub use naming::{Names, read_names};
 pub use reading::read;

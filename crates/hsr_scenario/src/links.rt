@@ -8,6 +8,7 @@ ghost use Rattle.hsr_scenario.specs.Links.{end_named, ends, ends_of, link_in, no
 ghost use Rattle.hsr_scenario.specs.declared.fault.Key.TheVariants as key;
 
 use crate::fault::{Key, What};
+use crate::keys::LINK_KEYS;
 use crate::nodes::Named;
 use crate::table::only;
 use crate::words::end_of;
@@ -117,6 +118,6 @@ fn ends(alloc: Global, nodes: &[Named], key: Key, value: &Value) -> Result<[End;
 pub(crate) fn link(alloc: Global, nodes: &[Named], table: &Table) -> Result<[End; 2], What>
     ensures { Gives (λ l. l) result (link_in nodes.now (table_view table.now)) }
 {
-    only(table, &[Key::Ends])?;
+    only(table, &LINK_KEYS)?;
     ends(alloc, nodes, Key::Ends, needed(table, Key::Ends)?)
 }

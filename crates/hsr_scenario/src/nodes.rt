@@ -14,6 +14,7 @@ ghost use Rattle.hsr_node.specs.declared.place.Place.TheVariants as place;
 ghost use Rattle.hsr_frame.specs.declared.node.Mode.TheVariants.{H};
 
 use crate::fault::{Key, What};
+use crate::keys::{QUADBOX_KEYS, RING_KEYS, STATION_KEYS};
 use crate::name::Name;
 use crate::table::only;
 use arrayvec::ArrayVec;
@@ -112,9 +113,6 @@ fn macs(alloc: Global, table: &Table) -> Result<ArrayVec<Mac, 16>, What>
     }
 }
 
-/// The keys of a node with an address, on a ring.
-const RING_KEYS: [Key; 4] = [Key::Name, Key::Role, Key::Mac, Key::Mode];
-
 /// A DANH.
 #[tactic(auto, unfolding(crate::specs::Nodes::ring_node))]
 fn danh(alloc: Global, nodes: &[Named], table: &Table) -> Result<Named, What>
@@ -147,7 +145,7 @@ fn redbox(alloc: Global, nodes: &[Named], table: &Table) -> Result<Named, What>
 fn quadbox(alloc: Global, nodes: &[Named], table: &Table) -> Result<Named, What>
     ensures { Gives (λ n. n) result (quadbox nodes.now (table_view table.now)) }
 {
-    only(table, &[Key::Name, Key::Role])?;
+    only(table, &QUADBOX_KEYS)?;
     let name = new_name(alloc, nodes, table)?;
     let place = Place::QuadBox;
     Ok(Named { name, place })
@@ -158,7 +156,7 @@ fn quadbox(alloc: Global, nodes: &[Named], table: &Table) -> Result<Named, What>
 fn station(alloc: Global, nodes: &[Named], table: &Table) -> Result<Named, What>
     ensures { Gives (λ n. n) result (station nodes.now (table_view table.now)) }
 {
-    only(table, &[Key::Name, Key::Role, Key::Macs])?;
+    only(table, &STATION_KEYS)?;
     let name = new_name(alloc, nodes, table)?;
     let macs = macs(alloc, table)?;
     let place = Place::Station { macs };

@@ -15,6 +15,7 @@ ghost use Rattle.hsr_scenario.specs.declared.fault.Spot.TheVariants as spot;
 ghost use Rattle.hsr_scenario.specs.declared.fault.What.TheVariants.{NoMemory};
 
 use crate::fault::{Key, ScenarioFault, Spot, What};
+use crate::keys::TOP_KEYS;
 use crate::links::link;
 use crate::nodes::{Named, node};
 use crate::scenario::Scenario;
@@ -292,15 +293,6 @@ fn unit(table: &Table) -> Result<TimeUnit, What>
         },
     }
 }
-
-/// The keys of a document.
-const TOP_KEYS: [Key; 5] = [
-    Key::Capacity,
-    Key::TimeUnit,
-    Key::Node,
-    Key::Link,
-    Key::Step,
-];
 
 /// What a document says.
 #[tactic(auto, unfolding(crate::specs::Meaning::document), using(crate::proofs::Lists::spotted))]

@@ -13,6 +13,10 @@ ghost use Rattle.hsr_scenario.specs.declared.fault.Key.TheVariants as key;
 ghost use Rattle.hsr_step.specs.declared.step.Step.TheVariants as step;
 
 use crate::fault::{Key, What};
+use crate::keys::{
+    AGE_KEYS, AT_LINK_KEYS, AT_PORT_KEYS, CLOCK_KEYS, DRAIN_KEYS, INJECT_KEYS, LIFE_KEYS,
+    SEND_KEYS, TAKE_KEYS,
+};
 use crate::links::{used_node, used_port};
 use crate::nodes::Named;
 use crate::table::only;
@@ -191,21 +195,10 @@ fn about(table: &Table) -> Result<Option<Mac>, What>
 fn clock(unit: TimeUnit, table: &Table) -> Result<Step, What>
     ensures { Gives (λ s. s) result (clock unit (table_view table.now)) }
 {
-    only(table, &[Key::Do, Key::At])?;
+    only(table, &CLOCK_KEYS)?;
     let at = moment(unit, table)?;
     Ok(Step::Clock { at })
 }
-
-/// The keys of a send.
-const SEND_KEYS: [Key; 7] = [
-    Key::Do,
-    Key::Node,
-    Key::To,
-    Key::Kind,
-    Key::Payload,
-    Key::Vlan,
-    Key::From,
-];
 
 /// A node sends a frame of its own.
 #[tactic(auto, unfolding(crate::specs::Steps::send))]
@@ -234,7 +227,7 @@ fn send(alloc: Global, nodes: &[Named], table: &Table) -> Result<Step, What>
 fn life(nodes: &[Named], table: &Table) -> Result<Step, What>
     ensures { Gives (λ s. s) result (life nodes.now (table_view table.now)) }
 {
-    only(table, &[Key::Do, Key::Node, Key::About])?;
+    only(table, &LIFE_KEYS)?;
     let node = used_node(nodes, table)?;
     match about(table)? {
         None => Ok(Step::Supervise {
@@ -253,7 +246,7 @@ fn life(nodes: &[Named], table: &Table) -> Result<Step, What>
 fn age(nodes: &[Named], table: &Table) -> Result<Step, What>
     ensures { Gives (λ s. s) result (age nodes.now (table_view table.now)) }
 {
-    only(table, &[Key::Do, Key::Node])?;
+    only(table, &AGE_KEYS)?;
     let node = used_node(nodes, table)?;
     Ok(Step::Age { node })
 }
@@ -263,7 +256,7 @@ fn age(nodes: &[Named], table: &Table) -> Result<Step, What>
 fn put(nodes: &[Named], table: &Table) -> Result<Step, What>
     ensures { Gives (λ s. s) result (at_port step.Put nodes.now (table_view table.now)) }
 {
-    only(table, &[Key::Do, Key::Port])?;
+    only(table, &AT_PORT_KEYS)?;
     let end = used_port(nodes, table)?;
     Ok(Step::Put {
         node: end.node,
@@ -276,7 +269,7 @@ fn put(nodes: &[Named], table: &Table) -> Result<Step, What>
 fn judge(nodes: &[Named], table: &Table) -> Result<Step, What>
     ensures { Gives (λ s. s) result (at_port step.Judge nodes.now (table_view table.now)) }
 {
-    only(table, &[Key::Do, Key::Port])?;
+    only(table, &AT_PORT_KEYS)?;
     let end = used_port(nodes, table)?;
     Ok(Step::Judge {
         node: end.node,
@@ -289,7 +282,7 @@ fn judge(nodes: &[Named], table: &Table) -> Result<Step, What>
 fn take(links: usize, table: &Table) -> Result<Step, What>
     ensures { Gives (λ s. s) result (take links (table_view table.now)) }
 {
-    only(table, &[Key::Do, Key::Link, Key::Dir])?;
+    only(table, &TAKE_KEYS)?;
     let link = used_link(links, table)?;
     let dir = dir(table)?;
     Ok(Step::Take { link, dir })
@@ -300,7 +293,7 @@ fn take(links: usize, table: &Table) -> Result<Step, What>
 fn cut(links: usize, table: &Table) -> Result<Step, What>
     ensures { Gives (λ s. s) result (at_link step.Cut links (table_view table.now)) }
 {
-    only(table, &[Key::Do, Key::Link])?;
+    only(table, &AT_LINK_KEYS)?;
     let link = used_link(links, table)?;
     Ok(Step::Cut { link })
 }
@@ -310,7 +303,7 @@ fn cut(links: usize, table: &Table) -> Result<Step, What>
 fn mend(links: usize, table: &Table) -> Result<Step, What>
     ensures { Gives (λ s. s) result (at_link step.Mend links (table_view table.now)) }
 {
-    only(table, &[Key::Do, Key::Link])?;
+    only(table, &AT_LINK_KEYS)?;
     let link = used_link(links, table)?;
     Ok(Step::Mend { link })
 }
@@ -320,7 +313,7 @@ fn mend(links: usize, table: &Table) -> Result<Step, What>
 fn inject(alloc: Global, links: usize, table: &Table) -> Result<Step, What>
     ensures { Gives (λ s. s) result (inject links (table_view table.now)) }
 {
-    only(table, &[Key::Do, Key::Link, Key::Dir, Key::Octets])?;
+    only(table, &INJECT_KEYS)?;
     let link = used_link(links, table)?;
     let dir = dir(table)?;
     let octets = injected(alloc, table)?;
@@ -332,7 +325,7 @@ fn inject(alloc: Global, links: usize, table: &Table) -> Result<Step, What>
 fn drain(table: &Table) -> Result<Order, What>
     ensures { Gives (λ o. o) result (drain (table_view table.now)) }
 {
-    only(table, &[Key::Do])?;
+    only(table, &DRAIN_KEYS)?;
     Ok(Order::Drain)
 }
 
