@@ -1,5 +1,8 @@
 //! Which keys the tables of a scenario have.
-use hsr_scenario::{Key, Spot};
+use hsr_scenario::{
+    AGE_KEYS, AT_LINK_KEYS, AT_PORT_KEYS, CLOCK_KEYS, DRAIN_KEYS, INJECT_KEYS, Key, LIFE_KEYS,
+    LINK_KEYS, QUADBOX_KEYS, RING_KEYS, SEND_KEYS, STATION_KEYS, Spot, TAKE_KEYS, TOP_KEYS,
+};
 use toml::Table;
 
 /// What a table may have: its keys, and the words that say it.
@@ -13,15 +16,15 @@ pub(crate) struct Keys {
 fn of_node(role: &str) -> Keys {
     match role {
         "quadbox" => Keys {
-            keys: &[Key::Name, Key::Role],
+            keys: &QUADBOX_KEYS,
             words: "a QuadBox has name and role",
         },
         "station" => Keys {
-            keys: &[Key::Name, Key::Role, Key::Macs],
+            keys: &STATION_KEYS,
             words: "a Station has name, role and macs",
         },
         _ => Keys {
-            keys: &[Key::Name, Key::Role, Key::Mac, Key::Mode],
+            keys: &RING_KEYS,
             words: "a DANH or RedBox has name, role, mac and mode",
         },
     }
@@ -31,31 +34,23 @@ fn of_node(role: &str) -> Keys {
 fn of_own_step(word: &str) -> Keys {
     match word {
         "send" => Keys {
-            keys: &[
-                Key::Do,
-                Key::Node,
-                Key::To,
-                Key::Kind,
-                Key::Payload,
-                Key::Vlan,
-                Key::From,
-            ],
+            keys: &SEND_KEYS,
             words: "a send has do, node, to, type, payload, vlan and from",
         },
         "life" => Keys {
-            keys: &[Key::Do, Key::Node, Key::About],
+            keys: &LIFE_KEYS,
             words: "a life has do, node and about",
         },
         "age" => Keys {
-            keys: &[Key::Do, Key::Node],
+            keys: &AGE_KEYS,
             words: "an age has do and node",
         },
         "clock" => Keys {
-            keys: &[Key::Do, Key::At],
+            keys: &CLOCK_KEYS,
             words: "a clock has do and at",
         },
         _ => Keys {
-            keys: &[Key::Do],
+            keys: &DRAIN_KEYS,
             words: "a drain has do alone",
         },
     }
@@ -65,19 +60,19 @@ fn of_own_step(word: &str) -> Keys {
 fn of_step(word: &str) -> Keys {
     match word {
         "put" | "judge" => Keys {
-            keys: &[Key::Do, Key::Port],
+            keys: &AT_PORT_KEYS,
             words: "a put or judge has do and port",
         },
         "take" => Keys {
-            keys: &[Key::Do, Key::Link, Key::Dir],
+            keys: &TAKE_KEYS,
             words: "a take has do, link and dir",
         },
         "cut" | "mend" => Keys {
-            keys: &[Key::Do, Key::Link],
+            keys: &AT_LINK_KEYS,
             words: "a cut or mend has do and link",
         },
         "inject" => Keys {
-            keys: &[Key::Do, Key::Link, Key::Dir, Key::Octets],
+            keys: &INJECT_KEYS,
             words: "an inject has do, link, dir and octets",
         },
         _ => of_own_step(word),
@@ -96,18 +91,12 @@ pub(crate) fn text_at<'a>(table: &'a Table, key: &str) -> &'a str {
 pub(crate) fn keys_at(spot: Spot, table: &Table) -> Keys {
     match spot {
         Spot::Top => Keys {
-            keys: &[
-                Key::Capacity,
-                Key::TimeUnit,
-                Key::Node,
-                Key::Link,
-                Key::Step,
-            ],
+            keys: &TOP_KEYS,
             words: "a scenario has capacity, unit, node, link and step",
         },
         Spot::Node(_) => of_node(text_at(table, "role")),
         Spot::Link(_) => Keys {
-            keys: &[Key::Ends],
+            keys: &LINK_KEYS,
             words: "a link has ends",
         },
         Spot::Step(_) => of_step(text_at(table, "do")),
