@@ -29,6 +29,7 @@ mod words;
 
 pub use document::{NoDocument, TEXT_LIMIT, document_of};
 pub use header::{table_header, whole_word};
+pub use hsr_text::put;
 pub use key::TableKey;
 pub use lexing::{Lexing, bare};
 pub use line::{fault_line, put_shown};
@@ -41,4 +42,4 @@ pub use table::{
     between, integer, items, members, needed, number_or, other_key, tables, tables_at, text, texts,
     value,
 };
-pub use words::{put, put_no_toml, put_place};
+pub use words::{put_no_toml, put_place};

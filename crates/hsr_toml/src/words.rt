@@ -2,23 +2,16 @@
 use crate::document::TEXT_LIMIT;
 use crate::position::position_of;
 use hsr_frame::NoMemory;
-use hsr_text::put_decimal;
+use hsr_text::{put, put_number};
 use std::alloc::Global;
-
-/// Puts words last.
-/// `NoMemory` where room is refused.
-pub fn put(line: &mut Vec<u8>, words: &str) -> Result<(), NoMemory> {
-    line.extend_from_slice(words.as_bytes())?;
-    Ok(())
-}
 
 /// Puts line and column of a place last, or those of the end of the text where it has no such place.
 /// Both are counted from 1, columns in octets. `NoMemory` where room is refused.
 pub fn put_place(line: &mut Vec<u8>, text: &[u8], at: usize) -> Result<(), NoMemory> {
     let position = position_of(text, at.min(text.len()));
-    put_decimal(line, position.line as u64)?;
+    put_number(line, position.line as u64)?;
     put(line, ":")?;
-    put_decimal(line, position.column as u64)?;
+    put_number(line, position.column as u64)?;
     put(line, " ")
 }
 
