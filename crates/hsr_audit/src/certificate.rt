@@ -1,7 +1,8 @@
 //! What is certified of a run.
-ghost use Rattle.std.specs.Prelude.{◌≡◌, ◌++◌, ◌∷◌, [], if◌then◌else◌, length, IfOk, OnOk};
+ghost use Rattle.std.specs.Prelude.{◌≡◌, ◌++◌, length, IfOk, OnOk};
 ghost use Rattle.hsr_audit.specs.Listed.{is_for, listed_at, listed_by, receivers_below, sent_to};
 
+use hsr_deliveries::push_if;
 use hsr_frame::{Mac, NoMemory};
 use hsr_node::{Entry, Place, Probe, sent_view};
 use std::alloc::Global;
@@ -47,16 +48,6 @@ fn is_for(mac: Mac, dst: Mac, sender: usize, node: usize) -> bool
     } else {
         mac == dst
     }
-}
-
-/// Adds a node to others, if it is one of them.
-fn push_if(nodes: &mut Vec<usize>, is_one: bool, node: usize) -> Result<(), NoMemory>
-    ensures { OnOk result (nodes.new.items ≡ nodes.old.items ++ (if is_one then node ∷ [] else [])) }
-{
-    if is_one {
-        nodes.push(node)?;
-    }
-    Ok(())
 }
 
 /// The nodes that a frame is for.

@@ -14,7 +14,7 @@ use crate::lossy::ways_of;
 use crate::sends::send_at;
 use crate::shared::{Found, found_of, keep};
 use hsr_closing::Closed;
-use hsr_deliveries::{ByProbe, Loss, is_due, losses_by_send, losses_of};
+use hsr_deliveries::{Loss, Losses, is_due};
 use hsr_frame::NoMemory;
 use hsr_link::Dir;
 use hsr_node::{Place, Probe};
@@ -45,21 +45,18 @@ struct Spread {
 pub(crate) struct Reach<'a, const C: usize> {
     closed: &'a Closed<C>,
     ways: Ways<'a, C>,
-    losses: ByProbe,
+    losses: Losses<'a, C>,
 }
 
 impl<'a, const C: usize> Model for Reach<'a, C> {
     ghost use Rattle.std.specs.Prelude.{◌≡◌};
     ghost use Rattle.hsr_law.specs.Run.{Run};
-    ghost use Rattle.hsr_node.specs.declared.event.Probe as spec;
-    ghost use Rattle.hsr_deliveries.specs.Counted.{losses_in};
-    ghost use Rattle.hsr_deliveries.specs.Delivered.{lost};
 
     ghost Value = { Run };
 
     ghost view = { λ r. r.closed.now.run };
 
-    ghost invariant = { λ r. (r.ways ≡ r.closed.now.run) × ((send : spec.Probe) → losses_in r.losses send ≡ lost r.closed.now.run send) };
+    ghost invariant = { λ r. (r.ways ≡ r.closed.now.run) × (r.losses ≡ r.closed.now.run) };
 }
 
 impl<'a, const C: usize> Reach<'a, C> {
@@ -70,7 +67,7 @@ impl<'a, const C: usize> Reach<'a, C> {
         Ok(Reach {
             closed,
             ways: Ways::new(alloc, closed)?,
-            losses: losses_by_send(alloc, closed)?,
+            losses: Losses::new(alloc, closed)?,
         })
     }
 
@@ -137,7 +134,7 @@ impl<'a, const C: usize> Reach<'a, C> {
         ensures spread { IfOk result (IsSpreadOf self.now send frame.now) }
         ensures found { OnOk result (AreFound self.now send.node found.new) }
     {
-        let losses = losses_of(alloc, &self.losses, send)?;
+        let losses = self.losses.of_send(alloc, send)?;
         let lossy = self.lossy(send, losses.as_slice());
         let nodes = if losses.is_empty() {
             self.shared(found, send, frame, &lossy)?

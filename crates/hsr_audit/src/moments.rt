@@ -1,11 +1,12 @@
 //! The effective moments of a run.
-ghost use Rattle.std.specs.Prelude.{◌≡◌, ◌++◌, ◌∷◌, [], if◌then◌else◌, length, reverse, IfOk, OnOk, IsPermutation};
+ghost use Rattle.std.specs.Prelude.{◌≡◌, ◌++◌, ◌∷◌, [], length, reverse, IfOk, OnOk, IsPermutation};
 ghost use Rattle.std.specs.List.Sorted.{IsNonDecreasing};
 ghost use Rattle.hsr_law.specs.Budget.{is_sending};
 ghost use Rattle.hsr_closing.specs.Finished.{IsFinished};
 ghost use Rattle.hsr_audit.specs.Timed.{AreSendMoments, lists_of, moment_in, moments_of, moments_recorded, sent_moments_below, sent_moments};
 
 use hsr_closing::Closed;
+use hsr_deliveries::push_if;
 use hsr_frame::NoMemory;
 use hsr_node::{Entry, Event, Probe};
 use std::alloc::Global;
@@ -22,16 +23,6 @@ fn is_sending(event: &Event) -> bool
     ensures { result ≡ is_sending event.now }
 {
     matches!(event, Event::Send { .. } | Event::Supervise(_))
-}
-
-/// Puts a moment last, if it is a send's.
-fn push_if(sends: &mut Vec<u64>, is_send: bool, moment: u64) -> Result<(), NoMemory>
-    ensures { OnOk result (sends.new.items ≡ sends.old.items ++ (if is_send then moment ∷ [] else [])) }
-{
-    if is_send {
-        sends.push(moment)?;
-    }
-    Ok(())
 }
 
 /// The effective moment of each entry of a record. Those of its sends are put last among others.

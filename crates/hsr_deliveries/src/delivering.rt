@@ -11,7 +11,7 @@ use crate::delivery::{Deliveries, Delivery};
 use crate::due::is_due;
 use crate::law::once_is_complete;
 use crate::loss::Loss;
-use crate::losses::{ByProbe, losses_by_send, losses_of};
+use crate::losses::Losses;
 use crate::tally::Tally;
 use hsr_closing::Closed;
 use hsr_frame::{Mac, NoMemory};
@@ -24,21 +24,18 @@ use std::marker::Model;
 struct Traces<'a, const C: usize> {
     closed: &'a Closed<C>,
     tallies: Vec<Tally<'a>>,
-    losses: ByProbe,
+    losses: Losses<'a, C>,
 }
 
 impl<'a, const C: usize> Model for Traces<'a, C> {
     ghost use Rattle.std.specs.Prelude.{◌≡◌};
     ghost use Rattle.hsr_law.specs.Run.{Run};
-    ghost use Rattle.hsr_node.specs.declared.event.Probe as spec;
-    ghost use Rattle.hsr_deliveries.specs.Counted.{losses_in};
-    ghost use Rattle.hsr_deliveries.specs.Delivered.{lost};
 
     ghost Value = { Run };
 
     ghost view = { λ t. t.closed.now.run };
 
-    ghost invariant = { λ t. (t.tallies.items ≡ t.closed.now.run.records) × ((send : spec.Probe) → losses_in t.losses send ≡ lost t.closed.now.run send) };
+    ghost invariant = { λ t. (t.tallies.items ≡ t.closed.now.run.records) × (t.losses ≡ t.closed.now.run) };
 }
 
 /// Puts a tally last.
@@ -77,7 +74,7 @@ impl<'a, const C: usize> Traces<'a, C> {
         Ok(Traces {
             closed,
             tallies: tallies_of(alloc, closed)?,
-            losses: losses_by_send(alloc, closed)?,
+            losses: Losses::new(alloc, closed)?,
         })
     }
 
@@ -93,7 +90,7 @@ impl<'a, const C: usize> Traces<'a, C> {
     fn lost(&self, alloc: Global, send: Probe) -> Result<Vec<Loss>, NoMemory>
         ensures { IfOk result (λ losses. losses.items ≡ lost self.now send) }
     {
-        losses_of(alloc, &self.losses, send)
+        self.losses.of_send(alloc, send)
     }
 
     /// The nodes.

@@ -41,12 +41,12 @@ pub struct Deliveries {
     pub sends: Vec<Delivery>,
 }
 
-/// Adds a node to others, if it is one of them.
-fn push_if(nodes: &mut Vec<usize>, is_one: bool, node: usize) -> Result<(), NoMemory>
-    ensures { OnOk result (nodes.new.items ≡ nodes.old.items ++ (if is_one then node ∷ [] else [])) }
+/// Adds an item to others, if it is one of them. `NoMemory` where room is refused.
+pub fn push_if<T: Copy + Drop>(items: &mut Vec<T>, is_one: bool, item: T) -> Result<(), NoMemory>
+    ensures { OnOk result (items.new.items ≡ items.old.items ++ (if is_one then item ∷ [] else [])) }
 {
     if is_one {
-        nodes.push(node)?;
+        items.push(item)?;
     }
     Ok(())
 }

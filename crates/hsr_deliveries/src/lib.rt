@@ -22,9 +22,9 @@ mod losses;
 mod tally;
 
 pub use delivering::deliveries;
-pub use delivery::{Deliveries, Delivery};
+pub use delivery::{Deliveries, Delivery, push_if};
 pub use due::is_due;
 pub use law::once_is_complete;
 pub use lines::put_deliveries;
 pub use loss::Loss;
-pub use losses::{ByProbe, losses_by_send, losses_of};
+pub use losses::Losses;

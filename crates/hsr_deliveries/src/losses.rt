@@ -13,9 +13,10 @@ use hsr_link::Row;
 use hsr_node::Probe;
 use indexmap::IndexMap;
 use std::alloc::Global;
+use std::marker::Model;
 
 /// The losses of each send that lost copies, by its node and place.
-pub type ByProbe = IndexMap<(usize, usize), Vec<Loss>>;
+type ByProbe = IndexMap<(usize, usize), Vec<Loss>>;
 
 /// Keeps one more loss of a send.
 fn keep(alloc: Global, kept: &mut ByProbe, send: Probe, loss: Loss) -> Result<(), NoMemory>
@@ -54,11 +55,8 @@ fn keep_rows(alloc: Global, kept: &mut ByProbe, link: usize, rows: &[Row]) -> Re
     Ok(())
 }
 
-/// The losses of a run, by their sends. `NoMemory` where room is refused.
-pub fn losses_by_send<const C: usize>(
-    alloc: Global,
-    closed: &Closed<C>,
-) -> Result<ByProbe, NoMemory>
+/// The losses of a run, by their sends.
+fn losses_by_send<const C: usize>(alloc: Global, closed: &Closed<C>) -> Result<ByProbe, NoMemory>
     ensures { IfOk result (λ kept. (send : spec.Probe) → losses_in kept send ≡ lost closed.now.run send) }
 {
     let mut kept = IndexMap::new(alloc);
@@ -68,8 +66,8 @@ pub fn losses_by_send<const C: usize>(
     Ok(kept)
 }
 
-/// Those of a send, by link and place on the link. `NoMemory` where room is refused.
-pub fn losses_of(alloc: Global, kept: &ByProbe, send: Probe) -> Result<Vec<Loss>, NoMemory>
+/// Those of a send, by link and place on the link.
+fn losses_of(alloc: Global, kept: &ByProbe, send: Probe) -> Result<Vec<Loss>, NoMemory>
     ensures { IfOk result (λ losses. losses.items ≡ losses_in kept.now send) }
 {
     let mut losses = Vec::new(alloc);
@@ -77,4 +75,42 @@ pub fn losses_of(alloc: Global, kept: &ByProbe, send: Probe) -> Result<Vec<Loss>
         losses.extend_from_slice(kept.as_slice())?;
     }
     Ok(losses)
+}
+
+/// A finished run, and the losses of each of its sends, found in one walk over its rows.
+#[derive(Drop)]
+pub struct Losses<'a, const C: usize> {
+    closed: &'a Closed<C>,
+    by_send: ByProbe,
+}
+
+impl<'a, const C: usize> Model for Losses<'a, C> {
+    ghost use Rattle.std.specs.Prelude.{◌≡◌};
+    ghost use Rattle.hsr_law.specs.Run.{Run};
+    ghost use Rattle.hsr_node.specs.declared.event.Probe as spec;
+    ghost use Rattle.hsr_deliveries.specs.Counted.{losses_in};
+    ghost use Rattle.hsr_deliveries.specs.Delivered.{lost};
+
+    ghost Value = { Run };
+
+    ghost view = { λ l. l.closed.now.run };
+
+    ghost invariant = { λ l. (send : spec.Probe) → losses_in l.by_send send ≡ lost l.closed.now.run send };
+}
+
+impl<'a, const C: usize> Losses<'a, C> {
+    /// The losses of a run. `NoMemory` where room is refused.
+    pub fn new(alloc: Global, closed: &'a Closed<C>) -> Result<Losses<'a, C>, NoMemory>
+        ensures { IfOk result (λ losses. losses ≡ closed.now.run) }
+    {
+        let by_send = losses_by_send(alloc, closed)?;
+        Ok(Losses { closed, by_send })
+    }
+
+    /// Those of a send, by link and place on the link. `NoMemory` where room is refused.
+    pub fn of_send(&self, alloc: Global, send: Probe) -> Result<Vec<Loss>, NoMemory>
+        ensures { IfOk result (λ losses. losses.items ≡ lost self.now send) }
+    {
+        losses_of(alloc, &self.by_send, send)
+    }
 }
