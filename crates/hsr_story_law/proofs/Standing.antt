@@ -32,7 +32,8 @@ use Rattle.hsr_order.specs.declared.time.Time.{Time}
 use Rattle.hsr_hops.specs.declared.hop.Hop.{Hop}
 use Rattle.hsr_hops.specs.Hops.{came_at, hop_of, hops, hops_below, hops_from, judged_place, passed_at, passed_from, spot_at}
 use Rattle.hsr_hops.specs.Partners.{is_at, partner, partner_of, places, places_below}
-use Rattle.hsr_hops.proofs.Placing.{counted_more, places_more}
+use Rattle.hsr_frame.proofs.OneMore.{counted_more}
+use Rattle.hsr_hops.proofs.Placing.{places_more}
 use Rattle.hsr_story.specs.Causes.{cause_in, hop_pairs, main_pairs, origins, origins_below, origins_from}
 use Rattle.hsr_story.specs.Story.{AreShown, HasNoStory, shown_at, shown_by, shown_then, shown_where}
 use Rattle.hsr_story.specs.declared.shown.Shown.{Shown}
