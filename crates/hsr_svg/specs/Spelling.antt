@@ -7,6 +7,7 @@ use Rattle.std.specs.Fmt.{decimal}
 use Rattle.std.specs.List.{flat_map}
 use Rattle.hsr_picture.specs.declared.arrow.Look.{Look}
 use Rattle.hsr_svg.specs.declared.elements.Anchor.{Anchor}
+use Rattle.hsr_svg.specs.declared.elements.Area.{Area}
 use Rattle.hsr_svg.specs.declared.elements.Anchor.TheVariants as anchor
 use Rattle.hsr_svg.specs.declared.elements.Element.{Element}
 use Rattle.hsr_svg.specs.declared.elements.Element.TheVariants as element
@@ -32,6 +33,7 @@ label_size label.Kind = codes "7.5"
 label_size label.Link = codes "7.5"
 label_size (label.Copy look) = codes "7"
 label_size label.Mark = codes "8"
+label_size label.Change = codes "7"
 label_size (label.Sent is_complete) = codes "9"
 label_size label.Legend = codes "9"
 label_size label.Incomplete = codes "9"
@@ -55,6 +57,7 @@ label_colour label.Kind = codes "#555"
 label_colour label.Link = codes "#666"
 label_colour (label.Copy look) = look_colour look
 label_colour label.Mark = codes "#111"
+label_colour label.Change = codes "#333"
 label_colour (label.Sent is_complete) = complete_colour is_complete
 label_colour label.Legend = codes "#222"
 label_colour label.Incomplete = codes "#c8102e"
@@ -149,6 +152,14 @@ square_text x y =
     codes "<rect" ++ attribute_text X (decimal x) ++ attribute_text Y (decimal y) ++ attribute_text Width (codes "8") ++ attribute_text Height (codes "8")
     ++ attribute_text Fill (codes "#111") ++ codes "/>\n"
 
+unfoldable pub area_text : Area → List ℕ
+area_text area =
+    attribute_text X (decimal area.x) ++ attribute_text Y (decimal area.y) ++ attribute_text Width (decimal area.width) ++ attribute_text Height (decimal area.height)
+
+-- the time in which a link is down
+unfoldable pub shade_text : Area → List ℕ
+shade_text area = codes "<rect" ++ attribute_text Class (codes "down") ++ area_text area ++ attribute_text Fill (codes "#e3e3e3") ++ codes "/>\n"
+
 -- where texts and marks on a white ground begin
 unfoldable pub labels_text : List ℕ
 labels_text = codes "<g stroke=\"#fff\" stroke-width=\"2.6\" stroke-linejoin=\"round\" paint-order=\"stroke\">\n"
@@ -160,6 +171,7 @@ element_text (element.Arrow look title way) = arrow_text look title way
 element_text (element.Sample look way) = sample_text look way
 element_text (element.Line kind way) = line_text kind way
 element_text (element.Square x y) = square_text x y
+element_text (element.Shade area) = shade_text area
 element_text (element.Text tells words spot) = words_text tells words spot
 element_text element.LabelsBegin = labels_text
 element_text element.LabelsEnd = codes "</g>\n"

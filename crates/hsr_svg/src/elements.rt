@@ -1,6 +1,6 @@
 //! The elements of a picture: what each shows, and where it stands.
 ghost use Rattle.std.specs.Prelude.{◌≡◌, ◌++◌, ◌∷◌, [], OnOk};
-ghost use Rattle.hsr_svg.specs.Elements.{shapes, arrow as arrow_shape, sample as sample_shape, line as line_shape, square as square_shape, text as text_shape, labels_begin, labels_end};
+ghost use Rattle.hsr_svg.specs.Elements.{shapes, arrow as arrow_shape, sample as sample_shape, line as line_shape, square as square_shape, shade as shade_shape, text as text_shape, labels_begin, labels_end};
 
 use hsr_frame::NoMemory;
 use hsr_node::Octets;
@@ -24,6 +24,8 @@ pub enum Label {
     Copy { look: Look },
     /// Which send it is, beside its mark.
     Mark,
+    /// When a link was cut or mended.
+    Change,
     /// A send in the list at the right.
     Sent { is_complete: bool },
     /// What a mark or an arrow means.
@@ -52,6 +54,15 @@ pub struct Way {
     pub y1: u64,
     pub x2: u64,
     pub y2: u64,
+}
+
+/// Where something lies that has a width and a height.
+#[derive(Clone, Copy, Debug)]
+pub struct Area {
+    pub x: u64,
+    pub y: u64,
+    pub width: u64,
+    pub height: u64,
 }
 
 /// Which part of a text stands at its place.
@@ -100,6 +111,10 @@ pub enum Element {
     Square {
         x: u64,
         y: u64,
+    },
+    /// The time in which a link is down.
+    Shade {
+        area: Area,
     },
     Text {
         label: Label,
@@ -157,6 +172,15 @@ pub fn add_square(elements: &mut Vec<Element>, x: u64, y: u64) -> Result<(), NoM
         x: x.saturating_sub(4),
         y: y.saturating_sub(4),
     })?;
+    Ok(())
+}
+
+/// Adds the time in which a link is down.
+#[tactic(auto, unfolding(crate::specs::Elements::shapes))]
+pub fn add_shade(elements: &mut Vec<Element>, area: Area) -> Result<(), NoMemory>
+    ensures { OnOk result (shapes elements.new.items ≡ shapes elements.old.items ++ shade_shape ∷ []) }
+{
+    elements.push(Element::Shade { area })?;
     Ok(())
 }
 

@@ -14,8 +14,8 @@ mod spelling;
 mod style;
 
 pub use elements::{
-    Anchor, Element, Label, Line, Reading, Spot, Way, add_arrow, add_line, add_sample, add_square,
-    add_text, add_words, begin_labels, end_labels,
+    Anchor, Area, Element, Label, Line, Reading, Spot, Way, add_arrow, add_line, add_sample,
+    add_shade, add_square, add_text, add_words, begin_labels, end_labels,
 };
 pub use spelling::put_svg;
 pub use style::{looks, words_of};

@@ -2,10 +2,10 @@
 ghost use Rattle.std.specs.Prelude.{◌≡◌, ◌++◌, OnOk};
 ghost use Rattle.std.specs.Fmt.{decimal};
 ghost use Rattle.std.specs.List.{flat_map};
-ghost use Rattle.hsr_svg.specs.Spelling.{anchor_word, arrow_text, element_text, ground_text, head_text, label_colour, label_size, label_weight, labels_text, line_colour, line_dashes, line_text, line_width, marker_text, outline_text, place_text, point_box, point_text, points_text, quarter_text, rotation_text, sample_text, setting_text, square_text, stroke_text, svg_text, title_text, turn_text, view_text, way_text, words_text};
+ghost use Rattle.hsr_svg.specs.Spelling.{anchor_word, area_text, arrow_text, element_text, ground_text, head_text, label_colour, label_size, label_weight, labels_text, line_colour, line_dashes, line_text, line_width, marker_text, outline_text, place_text, point_box, point_text, points_text, quarter_text, rotation_text, sample_text, setting_text, shade_text, square_text, stroke_text, svg_text, title_text, turn_text, view_text, way_text, words_text};
 ghost use Rattle.hsr_svg.specs.Style.{looks};
 
-use crate::elements::{Anchor, Element, Label, Line, Reading, Spot, Way};
+use crate::elements::{Anchor, Area, Element, Label, Line, Reading, Spot, Way};
 use crate::parts::{Attribute, name_of, put, put_attribute, put_length, put_number, put_shown};
 use crate::style::{colour_of, dashes_of, looks, path_of, point_of};
 use hsr_frame::NoMemory;
@@ -23,7 +23,7 @@ fn size_of(label: Label) -> &'static str
         Label::Moment | Label::Sent { .. } | Label::Legend | Label::Incomplete => "9",
         Label::Mark => "8",
         Label::Kind | Label::Link | Label::Foot => "7.5",
-        Label::Copy { .. } => "7",
+        Label::Copy { .. } | Label::Change => "7",
     }
 }
 
@@ -37,7 +37,7 @@ fn ink_of(label: Label) -> &'static str
         | Label::Name { is_again: false }
         | Label::Sent { is_complete: true } => "#111",
         Label::Name { is_again: true } => "#777",
-        Label::Moment => "#333",
+        Label::Moment | Label::Change => "#333",
         Label::Kind => "#555",
         Label::Link | Label::Foot => "#666",
         Label::Copy { look } => colour_of(look),
@@ -265,6 +265,29 @@ fn put_square(text: &mut Vec<u8>, x: u64, y: u64) -> Result<(), NoMemory>
     put(text, "/>\n")
 }
 
+/// Puts where something lies last, and how wide and high it is.
+#[tactic(auto, unfolding(crate::specs::Spelling::area_text))]
+fn put_area(text: &mut Vec<u8>, area: Area) -> Result<(), NoMemory>
+    ensures { OnOk result (text.new.items ≡ text.old.items ++ area_text area) }
+{
+    put_length(text, Attribute::X, area.x)?;
+    put_length(text, Attribute::Y, area.y)?;
+    put_length(text, Attribute::Width, area.width)?;
+    put_length(text, Attribute::Height, area.height)
+}
+
+/// Puts the time in which a link is down last.
+#[tactic(auto, unfolding(crate::specs::Spelling::shade_text))]
+fn put_shade(text: &mut Vec<u8>, area: Area) -> Result<(), NoMemory>
+    ensures { OnOk result (text.new.items ≡ text.old.items ++ shade_text area) }
+{
+    put(text, "<rect")?;
+    put_attribute(text, Attribute::Class, "down")?;
+    put_area(text, area)?;
+    put_attribute(text, Attribute::Fill, "#e3e3e3")?;
+    put(text, "/>\n")
+}
+
 /// Puts where texts and marks on a white ground begin last.
 #[tactic(auto, unfolding(crate::specs::Spelling::labels_text))]
 fn put_labels(text: &mut Vec<u8>) -> Result<(), NoMemory>
@@ -287,6 +310,7 @@ fn put_element(text: &mut Vec<u8>, element: &Element) -> Result<(), NoMemory>
         Element::Sample { look, way } => put_sample(text, *look, *way),
         Element::Line { line, way } => put_line(text, *line, *way),
         Element::Square { x, y } => put_square(text, *x, *y),
+        Element::Shade { area } => put_shade(text, *area),
         Element::Text { label, words, spot } => put_words(text, *label, words.as_slice(), *spot),
         Element::LabelsBegin => put_labels(text),
         Element::LabelsEnd => put(text, "</g>\n"),
