@@ -1,9 +1,10 @@
--- Nodes, ports and links.
-use Rattle.std.specs.Prelude.{ℕ, List, [], ◌++◌, codes, Option, Some, None}
+-- Nodes, ports, links, and their changes.
+use Rattle.std.specs.Prelude.{ℕ, Bool, true, false, List, [], ◌++◌, codes, Option, Some, None}
 use Rattle.std.specs.Fmt.{decimal}
 use Rattle.hsr_node.specs.Words.{letter}
 use Rattle.hsr_node.specs.declared.place.Place.{Place}
 use Rattle.hsr_node.specs.declared.place.Place.TheVariants.{Danh, RedBox, QuadBox, Station}
+use Rattle.hsr_picture_text.specs.Moments.{moment_text}
 
 -- what kind of node it is; nothing of a DANH
 abbrev pub kind_word : Place → List ℕ
@@ -19,3 +20,11 @@ letter_at (Some place) port = letter place port
 
 abbrev pub link_words : ℕ → List ℕ
 link_words link = codes "link " ++ decimal link
+
+abbrev pub change_word : Bool → List ℕ
+change_word true = codes "cut"
+change_word false = codes "mend"
+
+-- that a link was cut or mended, and when
+abbrev pub change_words : Bool → ℕ → List ℕ
+change_words is_cut moment = change_word is_cut ++ codes " " ++ moment_text moment

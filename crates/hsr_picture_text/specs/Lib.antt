@@ -4,3 +4,4 @@ pub mod Labels
 pub mod Title
 pub mod Sent
 pub mod Told
+pub mod Wrapped

@@ -1,8 +1,8 @@
-//! Nodes, ports, links and moments.
+//! Nodes, ports, links and their changes, and moments.
 ghost use Rattle.std.specs.Prelude.{◌≡◌, slice_get, IfOk};
 ghost use Rattle.hsr_names.specs.Names.{name_of};
 ghost use Rattle.hsr_order.specs.Fronts.{lists_of};
-ghost use Rattle.hsr_picture_text.specs.Labels.{kind_word, letter_at, link_words};
+ghost use Rattle.hsr_picture_text.specs.Labels.{change_word, change_words, kind_word, letter_at, link_words};
 ghost use Rattle.hsr_picture_text.specs.Moments.{moment_text};
 
 use crate::moments::put_moment;
@@ -50,6 +50,24 @@ pub fn link_words(alloc: Global, link: usize) -> Result<Vec<u8>, NoMemory>
     let mut words = Vec::new(alloc);
     put(&mut words, "link ")?;
     put_number(&mut words, link as u64)?;
+    Ok(words)
+}
+
+/// What was done to a link, in a word.
+fn change_word(is_cut: bool) -> &'static str
+    ensures { result.now ≡ change_word is_cut }
+{
+    if is_cut { "cut" } else { "mend" }
+}
+
+/// That a link was cut or mended, and when. `NoMemory` where room is refused.
+pub fn change_words(alloc: Global, is_cut: bool, moment: u64) -> Result<Vec<u8>, NoMemory>
+    ensures { IfOk result (λ words. words.items ≡ change_words is_cut moment) }
+{
+    let mut words = Vec::new(alloc);
+    put(&mut words, change_word(is_cut))?;
+    put(&mut words, " ")?;
+    put_moment(&mut words, moment)?;
     Ok(words)
 }
 

@@ -3,10 +3,11 @@
 //! Its modules, in the order in which to read them:
 //! - `sends`: sends, and names of nodes
 //! - `moments`: moments in the unit that reads best
-//! - `labels`: nodes, ports, links and moments
+//! - `labels`: nodes, ports, links and their changes, and moments
 //! - `title`: the title
 //! - `sent`: sends as they are listed
 //! - `told`: sends that aren't complete
+//! - `wrapping`: long texts, line by line
 #![tactic(auto)]
 
 mod labels;
@@ -15,9 +16,11 @@ mod sends;
 mod sent;
 mod title;
 mod told;
+mod wrapping;
 
-pub use labels::{kind_word, letter_at, link_words, moment_words, name_words};
+pub use labels::{change_words, kind_word, letter_at, link_words, moment_words, name_words};
 pub use sends::send_words;
 pub use sent::sent_words;
 pub use title::title_words;
 pub use told::{more_words, told_words};
+pub use wrapping::wrapped;
