@@ -14,6 +14,7 @@ TEXT = re.compile(
     r'<text x="(\d+)" y="(\d+)" font-size="([\d.]+)" fill="[^"]*" text-anchor="(\w+)" font-weight="(\w+)"'
     r'( transform="rotate\(-90 \1 \2\)")?>(.*?)</text>'
 )
+SHADE = re.compile(r'<rect class="down" x="(\d+)" y="(\d+)" width="(\d+)" height="(\d+)" fill="#e3e3e3"/>')
 SIZE = re.compile(r'<svg [^>]*width="(\d+)" height="(\d+)"')
 
 
@@ -50,6 +51,17 @@ def boxes_of(picture):
 def size_of(picture):
     """Its width and height."""
     return tuple(map(int, SIZE.search(picture).groups()))
+
+
+def shades_of(picture):
+    """The places of all shades: left, top, width and height."""
+    return [tuple(map(int, match.groups())) for match in SHADE.finditer(picture)]
+
+
+def beyond(picture):
+    """The texts that run out of the picture."""
+    width, height = size_of(picture)
+    return [box.words for box in boxes_of(picture) if box.left < 0 or box.right > width or box.bottom > height]
 
 
 def collisions(picture):

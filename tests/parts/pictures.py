@@ -1,8 +1,11 @@
-"""Draws runs of large networks, of long names and of lost copies: each picture has an arrow for each copy, no text lies on another, and it is
-at most so wide."""
+"""Draws runs of large networks, of long names, of lost copies and of links that are down: each picture has an arrow for each copy, no text lies
+on another or beyond its edge, it is at most so wide, and links are shaded where the scenario of the run has them down."""
+import re
+
+from lib.case_files import ROOT
 from lib.running import Job, Tally, run
 from lib.scenarios import GROUP, ring
-from lib.svg_texts import collisions, size_of
+from lib.svg_texts import beyond, collisions, shades_of, size_of
 
 WIDTH = 2400
 
@@ -68,6 +71,7 @@ def try_picture(setting, name, scenario, *choice):
     width, found = size_of(text)[0], collisions(text)
     tally.count(f"width of {name}", f"{width}" if width > WIDTH else "")
     tally.count(f"texts of {name}", f"{found[0][0]} lies on {found[0][1]}, one of {len(found)}" if found else "")
+    tally.count(f"edges of {name}", f"{beyond(text)[0]} runs out of it" if beyond(text) else "")
     return tally
 
 
@@ -78,8 +82,52 @@ def try_joined(setting, moves, since, until):
     return try_picture(setting, name, scenario, "--from", str(since), "--until", str(until))
 
 
+def draw(setting, name, transcript, scenario):
+    """The picture of a transcript, with the names of a scenario."""
+    file = setting.work / f"picture-{name}.toml"
+    file.write_text(scenario)
+    return run(setting, "hsr_view", ["picture", "--names", str(file)], transcript)[1].decode()
+
+
+def without_changes(scenario):
+    return "".join(line for line in scenario.splitlines(True) if not re.search('do="(cut|mend)"', line))
+
+
+def try_downs(setting):
+    """Draws a link that is down: by the scenario of the run, also where nothing mends it; and by others, which have another plan."""
+    tally = Tally()
+    scenario = (ROOT / "examples/scenarios/sampled_values.toml").read_text()
+    unmended = scenario.replace('  {do="mend", link=0},\n', "")
+    cut, mend = "cut 1 ms", "mend 1.500 ms"
+    for name, ran, given, marks in (
+        ("a-cut-and-a-mend", scenario, scenario, [cut, mend]),
+        ("no-mend", unmended, unmended, [cut]),
+        ("another-moment", scenario, scenario.replace('"clock", at=1500', '"clock", at=1501'), []),
+        ("one-step-more", scenario, scenario.replace("step = [\n", 'step = [\n  {do="age", node="mu1"},\n'), []),
+        ("no-change", scenario, without_changes(scenario), []),
+    ):
+        _, transcript, _ = run(setting, "hsr_bench", ["run", "--transcript"], ran.encode())
+        picture = draw(setting, name, transcript, given)
+        told = sorted(re.findall(r">((?:cut|mend) [\d.]+ m?s)</text>", picture))
+        # one shade, and its sample in the legend
+        shades = 2 if marks else 0
+        tally.count(f"marks of {name}", f"{told}, and not {marks}" if told != marks else "")
+        tally.count(f"shades of {name}", f"{len(shades_of(picture))}, and not {shades}" if len(shades_of(picture)) != shades else "")
+        if not marks:
+            plain = draw(setting, name, transcript, without_changes(scenario))
+            tally.count(f"octets of {name}", "another picture than without cuts" if picture != plain else "")
+    return tally
+
+
+def try_told(setting):
+    """Draws a send that many nodes of long names missed: all of it can be read."""
+    text = large(long).replace("step = [\n", 'step = [\n  {do="cut", link=10}, {do="cut", link=50},\n')
+    return try_picture(setting, "missed", text.encode())
+
+
 def jobs(setting):
     rings = [Job(try_picture, (f"ring-{name.__name__}", large(name).encode()), 2) for name in (short, long)]
     drained = [Job(try_joined, (f"each {what} drains", moment, moment)) for what in ("send", "moment") for moment in (1000000, 3000000)]
     spans = [(1000000, 1000400), (2000000, 2000030), (2000030, 2000090), (3000000, 3000300)]
-    return rings + drained + [Job(try_joined, ("hop_us = 10", *span)) for span in spans]
+    downs = [Job(try_downs, (), 2), Job(try_told, (), 2)]
+    return rings + drained + downs + [Job(try_joined, ("hop_us = 10", *span)) for span in spans]

@@ -1,1 +1,2 @@
 mod Scenes
+pub mod Lines

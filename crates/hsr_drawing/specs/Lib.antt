@@ -4,6 +4,7 @@ pub mod Marks
 pub mod Moments
 pub mod Items
 pub mod Listing
+pub mod Shades
 pub mod Legend
 pub mod Telling
 pub mod Drawing

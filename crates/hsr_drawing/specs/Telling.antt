@@ -1,11 +1,12 @@
 -- The sends that aren't complete, below.
 --     incomplete    which are listed and aren't complete
 --     told_shapes   what is drawn of all
-use Rattle.std.specs.Prelude.{ℕ, ◌-◌, nat_lt, not, Bool, false, if◌then◌else◌, List, [], ◌∷◌, ◌++◌, length, slice_get, take, Option, Some, None}
+use Rattle.std.specs.Prelude.{ℕ, ◌-◌, nat_lt, not, Bool, false, if◌then◌else◌, List, [], ◌∷◌, ◌++◌, length, map, slice_get, take, Option, Some, None}
 use Rattle.std.specs.List.{flat_map}
 use Rattle.hsr_deliveries.specs.Delivered.{Delivery, is_complete}
 use Rattle.hsr_picture.specs.declared.sending.Sent.{Sent}
 use Rattle.hsr_picture_text.specs.Told.{more_words, told_words}
+use Rattle.hsr_picture_text.specs.Wrapped.{wrapped}
 use Rattle.hsr_svg.specs.Elements.{Shape, text}
 use Rattle.hsr_svg.specs.declared.elements.Label.TheVariants as label
 
@@ -28,15 +29,23 @@ incomplete deliveries sends = flat_map (incomplete_if deliveries) sends
 
 -- ---- the lines
 
+-- a line of a text
+abbrev pub line_shape : List ℕ → Shape
+line_shape line = text label.Incomplete line
+
+-- a text, line by line
+abbrev pub lines_of : List ℕ → List Shape
+lines_of words = map line_shape (wrapped words)
+
 abbrev pub told_if : List (List ℕ) → Option Delivery → List Shape
 told_if names None = []
-told_if names (Some d) = text label.Incomplete (told_words names d) ∷ []
+told_if names (Some d) = lines_of (told_words names d)
 
 abbrev pub told_at : List (List ℕ) → List Delivery → ℕ → List Shape
 told_at names deliveries n = told_if names (slice_get deliveries n)
 
 abbrev pub more_if : ℕ → List Shape
-more_if n = if nat_lt 12 n then text label.Incomplete (more_words (n - 12)) ∷ [] else []
+more_if n = if nat_lt 12 n then lines_of (more_words (n - 12)) else []
 
 -- twelve at most, and how many more there are
 unfoldable pub told_shapes : List (List ℕ) → List Delivery → List ℕ → List Shape

@@ -8,7 +8,7 @@ ghost use Rattle.hsr_drawing.specs.Frame.{frame_shapes, head_shapes, heads_below
 
 use crate::columns::Strip;
 use crate::heads::Heads;
-use crate::sheet::Sheet;
+use crate::sheet::{Sheet, TAIL};
 use hsr_frame::NoMemory;
 use hsr_node::Place;
 use hsr_panels::Lane;
@@ -41,7 +41,7 @@ fn add_stroke(
         x1: x,
         y1: sheet.heads.top.saturating_sub(8),
         x2: x,
-        y2: sheet.rows.bottom.saturating_add(16),
+        y2: sheet.rows.bottom.saturating_add(TAIL),
     };
     add_line(elements, Line::Node { is_again }, way)
 }

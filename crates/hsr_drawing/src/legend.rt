@@ -16,7 +16,7 @@ use std::alloc::Global;
 pub(crate) const LINE: u64 = 15;
 
 /// Where the words of a mark or an arrow of the legend stand.
-fn words_at(y: u64) -> Spot {
+pub(crate) fn words_at(y: u64) -> Spot {
     Spot {
         x: 56,
         y,

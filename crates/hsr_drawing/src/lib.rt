@@ -7,10 +7,12 @@
 //! - `heads`: what stands over them
 //! - `shelves`, `labels`: labels, so that none lies on another
 //! - `rows`: moments and steps, downwards
+//! - `falls`: between which rows links are down
 //! - `moments`, `items`: moments, and the sends that are listed, in their order
 //! - `sheet`: these, all places, and where arrows run
 //! - `frame`: node lines, their names, and moments
 //! - `arrows`, `marks`: arrows and their labels, and the marks of sends
+//! - `shades`: the times in which links are down
 //! - `listing`: the sends at the right
 //! - `legend`, `telling`: what stands below
 //! - `svg`: the whole, its call
@@ -18,6 +20,7 @@
 
 mod arrows;
 mod columns;
+mod falls;
 mod frame;
 mod heads;
 mod items;
@@ -27,6 +30,7 @@ mod listing;
 mod marks;
 mod moments;
 mod rows;
+mod shades;
 mod sheet;
 mod shelves;
 mod svg;

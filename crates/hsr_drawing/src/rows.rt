@@ -28,6 +28,39 @@ impl Times {
         }
     }
 
+    /// How many rows there are.
+    pub(crate) fn len(&self) -> usize {
+        self.times.len()
+    }
+
+    /// The first row of a moment behind one; the number of all, where there is none.
+    pub(crate) fn first_after(&self, moment: u64) -> usize {
+        self.times
+            .as_slice()
+            .iter()
+            .position(|(other, _)| moment < *other)
+            .unwrap_or(self.times.len())
+    }
+
+    /// The first row of a time, or behind it; the number of all, where there is none.
+    pub(crate) fn first_since(&self, time: Time) -> usize {
+        self.times
+            .as_slice()
+            .iter()
+            .position(|(moment, step)| {
+                time.moment < *moment || (time.moment == *moment && time.step <= *step)
+            })
+            .unwrap_or(self.times.len())
+    }
+
+    /// Whether a row is the first of its moment, and none stands before it.
+    fn begins_moment(&self, row: usize) -> bool {
+        match self.times.as_slice().get(row) {
+            Some((moment, _)) => self.first_of(*moment) == row,
+            None => false,
+        }
+    }
+
     /// The first row of a moment.
     fn first_of(&self, moment: u64) -> usize {
         self.times
@@ -81,8 +114,18 @@ pub(crate) struct Rows {
 }
 
 impl Rows {
+    /// The place over a row at which what stands before it ends, where labels take so much room between.
+    pub(crate) fn over(&self, row: usize, room: u64) -> u64 {
+        let least = if row > 0 && self.times.begins_moment(row) {
+            self.space
+        } else {
+            self.space / 2
+        };
+        self.at(row).saturating_sub(least.max(room))
+    }
+
     /// The place of a row.
-    fn at(&self, row: usize) -> u64 {
+    pub(crate) fn at(&self, row: usize) -> u64 {
         match self.places.as_slice().get(row) {
             Some(y) => *y,
             None => self.top,

@@ -7,21 +7,23 @@ ghost use Rattle.hsr_drawing.specs.Items.{AreListed};
 ghost use Rattle.hsr_drawing.specs.Moments.{AreMoments, all_moments};
 
 use crate::columns::{Columns, columns_of, lane_count};
+use crate::falls::{Edge, Fall, falls_of};
 use crate::heads::{Heads, heads_of};
 use crate::items::{Item, listed};
 use crate::labels::{foot_of, judged_at, mark_foot, shelves_of};
 use crate::listing::LETTER;
 use crate::moments::moments_of;
 use crate::rows::{Rows, rows_of, times_of};
-use crate::shelves::{Foot, SHELF, Shelves};
+use crate::shelves::{Foot, SHELF, Shelves, Side};
 use crate::widths::{MARK, NAME, width_of};
 use hsr_closing::Closed;
+use hsr_downs::Down;
 use hsr_frame::NoMemory;
 use hsr_names::put_name;
 use hsr_order::Time;
 use hsr_picture::{Arrow, Look, Picture};
 use hsr_picture_text::sent_words;
-use hsr_svg::{Reading, Spot, Way};
+use hsr_svg::{Anchor, Area, Reading, Spot, Way};
 use std::alloc::Global;
 
 /// The least width of a lane where there is room, and where there isn't.
@@ -44,6 +46,7 @@ pub(crate) struct Sheet {
     pub items: Vec<Item>,
     pub heads: Heads,
     shelves: Shelves,
+    falls: Vec<Fall>,
     pub left: u64,
     pub side: u64,
     pub list: u64,
@@ -190,6 +193,7 @@ pub(crate) fn sheet_of<const C: usize>(
     closed: &Closed<C>,
     names: &[Vec<u8>],
     picture: &Picture,
+    downs: &[Down],
 ) -> Result<Sheet, NoMemory>
     ensures nodes { IfOk result (λ sheet. sheet.columns.nodes.items ≡ nodes_of picture.now.panels) }
     ensures lanes { IfOk result (λ sheet. sheet.columns.lanes.items ≡ lanes_in picture.now.panels) }
@@ -202,9 +206,19 @@ pub(crate) fn sheet_of<const C: usize>(
     let Spaces { width, left, side } = spaces_of(longest, lane_count(panels), times.last_moment());
     let columns = columns_of(alloc, panels, left, width)?;
     let heads = heads_of(width, longest.name);
-    let shelves = shelves_of(alloc, closed, names, picture, &times, &columns)?;
-    let rows = rows_of(alloc, times, heads.top, &shelves)?;
     let moments = moments_of(alloc, picture)?;
+    let mut shelves = shelves_of(alloc, closed, names, picture, &times, &columns)?;
+    let falls = falls_of(
+        alloc,
+        closed,
+        downs,
+        picture.arrows.as_slice(),
+        &times,
+        &columns,
+        moments.as_slice(),
+        &mut shelves,
+    )?;
+    let rows = rows_of(alloc, times, heads.top, &shelves)?;
     let items = listed(alloc, picture.sends.as_slice())?;
     let list = list_at(&columns, longest.label);
     Ok(Sheet {
@@ -214,6 +228,7 @@ pub(crate) fn sheet_of<const C: usize>(
         items,
         heads,
         shelves,
+        falls,
         left,
         side,
         list,
@@ -228,7 +243,100 @@ pub(crate) struct Mark {
     pub label: Spot,
 }
 
+/// Where the marks of a time in which a link is down stand: that of the cut, and that of its end.
+#[derive(Clone, Copy)]
+pub(crate) struct Marked {
+    pub cut: Spot,
+    pub end: Spot,
+}
+
+/// How far node lines go on below the last row.
+pub(crate) const TAIL: u64 = 16;
+
+/// The least height of a shade.
+const THIN: u64 = 5;
+
 impl Sheet {
+    /// The time in which a link is down that has a number. Each has edges; one that hasn't would be drawn at the end all the same.
+    fn fall_at(&self, number: usize) -> Fall {
+        match self.falls.as_slice().get(number) {
+            Some(fall) => *fall,
+            None => Fall {
+                cut: Edge {
+                    row: self.rows.times.len(),
+                    shelf: 0,
+                },
+                end: None,
+            },
+        }
+    }
+
+    /// Where a change of a link stands, that takes place before a row: above it, with its labels, or below the last row.
+    fn edge_at(&self, row: usize) -> u64 {
+        if row < self.rows.times.len() {
+            self.rows.over(row, self.shelves.room(row, Side::Above))
+        } else {
+            self.rows.bottom.saturating_add(TAIL / 4)
+        }
+    }
+
+    /// Where the shade of a link lies that is down between two rows. Where nothing that is planned comes between, it reaches a little
+    /// beyond the row, so that it can be seen.
+    pub(crate) fn shade_at(&self, number: usize, link: usize) -> Area {
+        let fall = self.fall_at(number);
+        let strip = self.columns.strip_of(link);
+        let top = self.edge_at(fall.cut.row);
+        let end = match fall.end {
+            None => self.rows.bottom.saturating_add(TAIL),
+            Some(edge) if edge.row == fall.cut.row && edge.row < self.rows.times.len() => {
+                self.rows.at(edge.row).saturating_add(self.rows.drop)
+            }
+            Some(edge) => self.edge_at(edge.row),
+        };
+        Area {
+            x: strip.left,
+            y: top,
+            width: strip.right.saturating_sub(strip.left),
+            height: end.saturating_sub(top).max(THIN),
+        }
+    }
+
+    /// Where the mark of a change of a link stands, on its shelf.
+    fn change_at(&self, link: usize, edge: Edge) -> Spot {
+        let x = self.columns.strip_of(link).left.saturating_add(4);
+        let raised = edge.shelf.saturating_mul(SHELF);
+        let last = self.rows.times.len();
+        let y = if edge.row < last {
+            self.rows
+                .at(edge.row)
+                .saturating_sub(2)
+                .saturating_sub(raised)
+        } else {
+            self.rows
+                .at(last.saturating_sub(1))
+                .saturating_add(self.rows.drop)
+                .saturating_add(3)
+                .saturating_add(raised)
+        };
+        Spot {
+            x,
+            y,
+            anchor: Anchor::Start,
+            reading: Reading::Across,
+        }
+    }
+
+    /// Where the marks of a time in which a link is down stand.
+    pub(crate) fn marks_of_fall(&self, number: usize, link: usize) -> Marked {
+        let fall = self.fall_at(number);
+        let cut = self.change_at(link, fall.cut);
+        let end = match fall.end {
+            Some(edge) => self.change_at(link, edge),
+            None => cut,
+        };
+        Marked { cut, end }
+    }
+
     /// Where an arrow runs: from the line and the row of the entry that passed the copy to those of the entry that judged it. The
     /// arrow of a copy that was lost ends on its way.
     pub(crate) fn way_of(&self, arrow: &Arrow) -> Way {

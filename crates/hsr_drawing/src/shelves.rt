@@ -66,8 +66,8 @@ impl Shelves {
         })
     }
 
-    /// Puts a label of a width on the first shelf that is free. Of so many labels, one takes a shelf at most.
-    pub(crate) fn put(&mut self, foot: Foot, width: u64) -> Result<(), NoMemory> {
+    /// Puts a label of a width on the first shelf that is free: the number of that shelf. Of so many labels, one takes a shelf at most.
+    pub(crate) fn put(&mut self, foot: Foot, width: u64) -> Result<u64, NoMemory> {
         let (left, right) = span_of(foot, width);
         let mut label = Label {
             foot,
@@ -82,7 +82,7 @@ impl Shelves {
             }
         }
         self.labels.push(label)?;
-        Ok(())
+        Ok(label.shelf)
     }
 
     /// The shelf of a label; the first, where there is no such label.

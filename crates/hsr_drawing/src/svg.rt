@@ -2,6 +2,7 @@
 ghost use Rattle.std.specs.Prelude.{◌≡◌, ◌++◌, ◌∷◌, [], IfOk, OnOk};
 ghost use Rattle.hsr_order.specs.Fronts.{lists_of};
 ghost use Rattle.hsr_drawing.specs.Drawing.{IsDrawing, IsScene, above_shapes, below_shapes, picture_shapes};
+ghost use Rattle.hsr_drawing.specs.Shades.{sample_shade, shade_shapes};
 ghost use Rattle.hsr_svg.specs.Elements.{shapes, text as text_shape};
 ghost use Rattle.hsr_svg.specs.declared.elements.Label.TheVariants as labels;
 ghost use Rattle.hsr_picture_text.specs.Title.{title_words};
@@ -11,9 +12,11 @@ use crate::frame::add_frame;
 use crate::legend::{add_foot, add_legend};
 use crate::listing::{Ends, add_list};
 use crate::marks::add_marks;
+use crate::shades::{add_changes, add_sample_if, add_shades};
 use crate::sheet::{Sheet, sheet_of};
 use crate::telling::add_incomplete;
 use hsr_closing::Closed;
+use hsr_downs::Down;
 use hsr_frame::NoMemory;
 use hsr_picture::Picture;
 use hsr_picture_text::title_words;
@@ -57,9 +60,10 @@ fn add_above<const C: usize>(
     names: &[Vec<u8>],
     closed: &Closed<C>,
     picture: &Picture,
+    downs: &[Down],
     sheet: &Sheet,
 ) -> Result<Ends, NoMemory>
-    ensures { OnOk result (shapes elements.new.items ≡ shapes elements.old.items ++ above_shapes (lists_of names.now) closed.now.run picture.now sheet.now.columns.nodes.items sheet.now.items.items) }
+    ensures { OnOk result (shapes elements.new.items ≡ shapes elements.old.items ++ above_shapes (lists_of names.now) closed.now.run picture.now downs.now sheet.now.columns.nodes.items sheet.now.moments.items sheet.now.items.items) }
 {
     let arrows = picture.arrows.as_slice();
     let sends = picture.sends.as_slice();
@@ -69,6 +73,7 @@ fn add_above<const C: usize>(
     begin_labels(elements)?;
     add_labels(alloc, elements, names, closed, sheet, has_one, arrows)?;
     add_marks(alloc, elements, names, sheet, deliveries, sends)?;
+    add_changes(alloc, elements, sheet, sheet.moments.as_slice(), downs)?;
     end_labels(elements)?;
     let items = sheet.items.as_slice();
     add_list(alloc, elements, names, closed, sheet, deliveries, items)
@@ -81,22 +86,22 @@ fn add_below(
     elements: &mut Vec<Element>,
     names: &[Vec<u8>],
     picture: &Picture,
+    downs: &[Down],
+    moments: &[u64],
     y: u64,
-) -> Result<u64, NoMemory>
-    ensures { OnOk result (shapes elements.new.items ≡ shapes elements.old.items ++ below_shapes (lists_of names.now) picture.now) }
+) -> Result<Ends, NoMemory>
+    ensures { OnOk result (shapes elements.new.items ≡ shapes elements.old.items ++ below_shapes (lists_of names.now) picture.now downs.now moments.now) }
 {
     let deliveries = picture.deliveries.sends.as_slice();
+    let sends = picture.sends.as_slice();
     let y = add_legend(alloc, elements, picture.arrows.as_slice(), y)?;
-    let y = add_incomplete(
-        alloc,
-        elements,
-        names,
-        deliveries,
-        picture.sends.as_slice(),
-        y,
-    )?;
-    add_foot(alloc, elements, y)?;
-    Ok(y.saturating_add(12))
+    let y = add_sample_if(alloc, elements, moments, downs, y)?;
+    let ends = add_incomplete(alloc, elements, names, deliveries, sends, y)?;
+    add_foot(alloc, elements, ends.bottom)?;
+    Ok(Ends {
+        right: ends.right,
+        bottom: ends.bottom.saturating_add(12),
+    })
 }
 
 /// Adds all elements of a picture that has this sheet.
@@ -107,19 +112,22 @@ fn add_all<const C: usize>(
     names: &[Vec<u8>],
     closed: &Closed<C>,
     picture: &Picture,
+    downs: &[Down],
     sheet: &Sheet,
 ) -> Result<Size, NoMemory>
-    ensures { OnOk result (shapes elements.new.items ≡ shapes elements.old.items ++ picture_shapes (lists_of names.now) closed.now.run picture.now sheet.now.columns.nodes.items sheet.now.columns.lanes.items sheet.now.moments.items sheet.now.items.items) }
+    ensures { OnOk result (shapes elements.new.items ≡ shapes elements.old.items ++ picture_shapes (lists_of names.now) closed.now.run picture.now downs.now sheet.now.columns.nodes.items sheet.now.columns.lanes.items sheet.now.moments.items sheet.now.items.items) }
 {
     let places = closed.topology().places();
+    let moments = sheet.moments.as_slice();
     add_title(alloc, elements, closed, picture)?;
+    add_shades(elements, sheet, moments, downs)?;
     add_frame(alloc, elements, names, places, sheet)?;
-    let ends = add_above(alloc, elements, names, closed, picture, sheet)?;
+    let ends = add_above(alloc, elements, names, closed, picture, downs, sheet)?;
     let below = sheet.rows.bottom.max(ends.bottom).saturating_add(44);
-    let height = add_below(alloc, elements, names, picture, below)?;
+    let last = add_below(alloc, elements, names, picture, downs, moments, below)?;
     Ok(Size {
-        width: WIDTH.max(ends.right.saturating_add(10)),
-        height,
+        width: WIDTH.max(ends.right.max(last.right).saturating_add(10)),
+        height: last.bottom,
     })
 }
 
@@ -130,16 +138,18 @@ fn add_scene<const C: usize>(
     names: &[Vec<u8>],
     closed: &Closed<C>,
     picture: &Picture,
+    downs: &[Down],
 ) -> Result<Size, NoMemory>
     requires { elements.old.items ≡ [] }
-    ensures { OnOk result (IsScene (lists_of names.now) closed.now.run picture.now elements.new.items) }
+    ensures { OnOk result (IsScene (lists_of names.now) closed.now.run picture.now downs.now elements.new.items) }
 {
-    let sheet = sheet_of(alloc, closed, names, picture)?;
-    add_all(alloc, elements, names, closed, picture, &sheet)
+    let sheet = sheet_of(alloc, closed, names, picture, downs)?;
+    add_all(alloc, elements, names, closed, picture, downs, &sheet)
 }
 
 /// A picture as SVG: panels side by side, moments and steps downwards, an arrow for each copy with a hover text, the sends at the
-/// right, a legend and the sends that aren't complete below. A node without a name is `n` and its number. Each arrow of the picture is
+/// right, a legend and the sends that aren't complete below; behind all a shade for each of the times in which links are down, and marks of
+/// their cuts and mends, as far as their moments are shown. A node without a name is `n` and its number. Each arrow of the picture is
 /// drawn once, in order, and so is all else that is shown; where it stands on the paper is no part of the contract. `NoMemory` where
 /// room is refused.
 pub fn drawing<const C: usize>(
@@ -147,11 +157,12 @@ pub fn drawing<const C: usize>(
     closed: &Closed<C>,
     names: &[Vec<u8>],
     picture: &Picture,
+    downs: &[Down],
 ) -> Result<Vec<u8>, NoMemory>
-    ensures { IfOk result (λ text. IsDrawing (lists_of names.now) closed.now.run picture.now text.items) }
+    ensures { IfOk result (λ text. IsDrawing (lists_of names.now) closed.now.run picture.now downs.now text.items) }
 {
     let mut elements = Vec::new(alloc);
-    let size = add_scene(alloc, &mut elements, names, closed, picture)?;
+    let size = add_scene(alloc, &mut elements, names, closed, picture, downs)?;
     let mut text = Vec::new(alloc);
     put_svg(&mut text, size.width, size.height, elements.as_slice())?;
     Ok(text)

@@ -27,16 +27,16 @@ module _ (f : Finished) (t : Topology) (scenario : Option (List ℕ)) (names : N
   pub shown_devices : (what : What) (one : Names) (text : List ℕ) → what ≡ Devices → one ≡ names → IsListing (lists_of one) f.run text → IsShown f what scenario text
   shown_devices what one text is same listing =
       let P : Names → Type 0 = λ ns. IsListing (lists_of ns) f.run text in
-      let S : What → Type 0 = λ w. Shows (lists_of names) f w text in
+      let S : What → Type 0 = λ w. Shows (lists_of names) f scenario w text in
       record { names = lists_of names; named = named_there f t scenario names places links named; shows = subst S (sym is) (subst P same listing) }
 
   pub shown_picture : (what : What) (one : Names) (sends : Vec (Bor (List ℕ) × ℕ) Global) (list : List (Bor (List ℕ) × ℕ)) (span : Span) (r : Result (Vec ℕ Global) Fault) →
-      what ≡ Picture sends span → one ≡ names → list ≡ sends.items → IfOk r (λ octets. IsPictured (lists_of one) f list span octets.items) → IfOk r (λ octets. IsShown f what scenario octets.items)
+      what ≡ Picture sends span → one ≡ names → list ≡ sends.items → IfOk r (λ octets. IsPictured (lists_of one) f scenario list span octets.items) → IfOk r (λ octets. IsShown f what scenario octets.items)
   shown_picture what one sends list span (Err fault) is first second picture = tt
   shown_picture what one sends list span (Ok octets) is first second picture =
-      let P : Names → Type 0 = λ ns. IsPictured (lists_of ns) f list span octets.items in
-      let Q : List (Bor (List ℕ) × ℕ) → Type 0 = λ xs. IsPictured (lists_of names) f xs span octets.items in
-      let S : What → Type 0 = λ w. Shows (lists_of names) f w octets.items in
+      let P : Names → Type 0 = λ ns. IsPictured (lists_of ns) f scenario list span octets.items in
+      let Q : List (Bor (List ℕ) × ℕ) → Type 0 = λ xs. IsPictured (lists_of names) f scenario xs span octets.items in
+      let S : What → Type 0 = λ w. Shows (lists_of names) f scenario w octets.items in
       record { names = lists_of names; named = named_there f t scenario names places links named; shows = subst S (sym is) (subst Q second (subst P first picture)) }
 
   pub shown_capture : (what : What) (one two : Names) (link : Option ℕ) (send : Option (Bor (List ℕ) × ℕ)) (probe : Option Probe) (r : Result (Vec ℕ Global) Fault) →
@@ -46,5 +46,5 @@ module _ (f : Finished) (t : Topology) (scenario : Option (List ℕ)) (names : N
   shown_capture what one two link send probe (Ok octets) is first sends second capture =
       let P : Names → Type 0 = λ ns. IsSend (lists_of ns) (send_words send) probe in
       let Q : Names → Type 0 = λ ns. IsCaptureOf (lists_of ns) f (record { link = link; send = probe }) octets.items in
-      let S : What → Type 0 = λ w. Shows (lists_of names) f w octets.items in
+      let S : What → Type 0 = λ w. Shows (lists_of names) f scenario w octets.items in
       record { names = lists_of names; named = named_there f t scenario names places links named; shows = subst S (sym is) (probe, subst P first sends, subst Q second capture) }

@@ -21,10 +21,12 @@ use Rattle.hsr_story.specs.declared.shown.Shown.{Shown}
 use Rattle.hsr_capture.specs.Capture.{capture}
 use Rattle.hsr_capture.specs.Fits.{Fits}
 use Rattle.hsr_devices.specs.Listing.{IsListing}
+use Rattle.hsr_downs.specs.declared.downing.Down.{Down}
 use Rattle.hsr_drawing.specs.Drawing.{IsDrawing}
 use Rattle.hsr_law.specs.Run.{Run}
 use Rattle.hsr_transcript.specs.Answers.{IsTextOf}
 use Rattle.std.specs.Borrow.{Bor}
+use Rattle.hsr_viewing.specs.Agreeing.{AreDowns}
 use Rattle.hsr_viewing.specs.Given.{begins}
 use Rattle.hsr_viewing.specs.declared.asked.What.{What}
 use Rattle.hsr_viewing.specs.declared.asked.What.TheVariants as asked
@@ -78,14 +80,16 @@ pub record IsCaptureOf (names : List (List ℕ)) (f : Finished) (wanted : Choice
 
 -- ---- pictures
 
--- what is asked for is there, a picture shows some of it, and this is its drawing
-pub record IsPictured (names : List (List ℕ)) (f : Finished) (asked : List (Bor (List ℕ) × ℕ)) (span : Span) (octets : List ℕ) : Type 0 where
+-- what is asked for is there, a picture shows some of it, and this is its drawing, with the times in which a scenario has links down
+pub record IsPictured (names : List (List ℕ)) (f : Finished) (scenario : Option (List ℕ)) (asked : List (Bor (List ℕ) × ℕ)) (span : Span) (octets : List ℕ) : Type 0 where
   pub sends : List Probe
   pub meant : AreSends names asked sends
   pub picture : Picture
   pub shows : IsPicture f.run f.plan sends span picture
   pub some : 0 < length picture.arrows
-  pub drawn : IsDrawing names f.run picture octets
+  pub downs : List Down
+  pub are_downs : AreDowns f.plan scenario downs
+  pub drawn : IsDrawing names f.run picture downs octets
 
 -- ---- all that can be asked for
 
@@ -96,15 +100,15 @@ abbrev pub send_words : Option (Bor (List ℕ) × ℕ) → Option (List ℕ × �
 send_words send = option_map (λ s. (s.0.now, s.1)) send
 
 -- with these names this is the capture that is wanted, the drawing of the picture, or the list of devices
-abbrev pub Shows : List (List ℕ) → Finished → What → List ℕ → Type 0
-Shows names f (asked.Capture link send) octets = (probe : Option Probe) × IsSend names (send_words send) probe × IsCaptureOf names f (record { link = link; send = probe }) octets
-Shows names f (asked.Picture sends span) octets = IsPictured names f sends.items span octets
-Shows names f asked.Devices octets = IsListing names f.run octets
+abbrev pub Shows : List (List ℕ) → Finished → Option (List ℕ) → What → List ℕ → Type 0
+Shows names f scenario (asked.Capture link send) octets = (probe : Option Probe) × IsSend names (send_words send) probe × IsCaptureOf names f (record { link = link; send = probe }) octets
+Shows names f scenario (asked.Picture sends span) octets = IsPictured names f scenario sends.items span octets
+Shows names f scenario asked.Devices octets = IsListing names f.run octets
 
 pub record IsShown (f : Finished) (what : What) (scenario : Option (List ℕ)) (octets : List ℕ) : Type 0 where
   pub names : List (List ℕ)
   pub named : AreNames (topology_of f.run) scenario names
-  pub shows : Shows names f what octets
+  pub shows : Shows names f scenario what octets
 
 -- ---- texts
 

@@ -2,6 +2,7 @@
 //!
 //! Its modules, in the order in which to read them:
 //! - `asked`: what can be asked for
+//! - `agreeing`: when links are down, by the scenario of the run
 //! - `given`: what a text is that is no transcript
 //! - `unnamed`: what a text is that is no scenario of the run
 //! - `fault`: why nothing is shown, and the line that says it
@@ -10,6 +11,7 @@
 //! - `running`: the whole, its calls
 #![tactic(auto)]
 
+mod agreeing;
 mod asked;
 mod fault;
 mod given;

@@ -2,7 +2,6 @@
 ghost use Rattle.std.specs.Prelude.{◌≡◌, ◌≤◌, ◌⊎◌, ◌++◌, ◌∷◌, [], Err, None, IfErr, IfOk, IfSome, OnOk, option_map};
 ghost use Rattle.hsr_order.specs.Fronts.{lists_of};
 ghost use Rattle.hsr_options.specs.Tables.{capacity_of};
-ghost use Rattle.hsr_scenario.specs.Fault.{is_memory};
 ghost use Rattle.hsr_transcript.specs.Answers.{Answers, IsTextOf};
 ghost use Rattle.hsr_viewing.specs.Fault.{nothing_fault, told};
 ghost use Rattle.hsr_viewing.specs.Given.{given_of};
@@ -11,6 +10,7 @@ ghost use Rattle.hsr_viewing.specs.Refusals.{HasStray, IsBlank, IsMisnamed, IsSt
 ghost use Rattle.hsr_viewing.specs.Viewing.{AreNames, AreSends, IsCaptureOf, IsPictured, IsSend, IsShown, IsShownOf, leaves_none, probe_of, table_of};
 ghost use Rattle.hsr_viewing.specs.declared.fault.Fault.TheVariants.{Memory, Send};
 
+use crate::agreeing::{downs_of, is_memory};
 use crate::asked::What;
 use crate::fault::{Extent, Fault, Moments, told};
 use crate::given::{begins, given_of};
@@ -25,19 +25,12 @@ use hsr_names::node_called;
 use hsr_node::Probe;
 use hsr_options::Table;
 use hsr_picture::{Span, picture_run};
-use hsr_scenario::{What as Refused, read_names};
+use hsr_scenario::read_names;
 use hsr_story::{Choice, Shown, StoryFault, check_choice, chosen, story};
 use hsr_topology::{Topology, is_same_topology};
 use hsr_transcript::{ReadFault, read};
 use std::alloc::Global;
 use std::io::Read;
-
-/// Whether a scenario isn't read for want of room.
-fn is_memory(what: Refused) -> bool
-    ensures { result ≡ is_memory what }
-{
-    matches!(what, Refused::NoMemory)
-}
 
 /// The names of the nodes of a run, by the scenario from which it came; none without it. `Names` exactly where its names can't be read,
 /// or it has other nodes or links, with what it is.
@@ -161,7 +154,7 @@ fn blank_of<const C: usize>(alloc: Global, closed: &Closed<C>) -> Fault
     }
 }
 
-/// The picture of those rows of a run that are wanted, drawn: `Send` where the run hasn't one of the sends, `Moments` where the span ends
+/// The picture of those rows of a run that are wanted, drawn, with the times in which its scenario has links down: `Send` where the run hasn't one of the sends, `Moments` where the span ends
 /// before it begins, `Copies` where too many are wanted, `NoCopies` or `NoneAsked` where none is, `Circle` where its rows have no order of
 /// time.
 fn picture_of<const C: usize>(
@@ -170,8 +163,9 @@ fn picture_of<const C: usize>(
     names: &[Vec<u8>],
     sends: &[(&str, usize)],
     span: Span,
+    scenario: Option<&str>,
 ) -> Result<Vec<u8>, Fault>
-    ensures picture { IfOk result (λ octets. IsPictured (lists_of names.now) closed.now sends.now span octets.items) }
+    ensures picture { IfOk result (λ octets. IsPictured (lists_of names.now) closed.now (option_map (λ s. s.now) scenario.entry) sends.now span octets.items) }
     ensures undrawn { IfErr result (λ fault. (fault ≡ Memory) ⊎ (((fault ≡ Send) × HasStray (lists_of names.now) sends.now) ⊎
         (IsUndrawn (lists_of names.now) closed.now sends.now span fault ⊎ IsBlank (lists_of names.now) closed.now sends.now span fault))) }
 {
@@ -180,7 +174,9 @@ fn picture_of<const C: usize>(
     if picture.arrows.is_empty() {
         return Err(blank_of(alloc, closed));
     }
-    Ok(drawing(alloc, closed, names, &picture)?)
+    let downs = downs_of(alloc, closed.plan(), scenario)?;
+    let octets = drawing(alloc, closed, names, &picture, downs.as_slice())?;
+    Ok(octets)
 }
 
 /// The send that a node's name and a place mean; `Send` where no node has the name.
@@ -237,7 +233,14 @@ fn shown_of<const C: usize>(
             )
         }
         What::Picture { sends, span } => {
-            picture_of(alloc, closed, names.as_slice(), sends.as_slice(), *span)
+            picture_of(
+                alloc,
+                closed,
+                names.as_slice(),
+                sends.as_slice(),
+                *span,
+                scenario,
+            )
         }
     }
 }
