@@ -1,18 +1,10 @@
 -- Texts that grow by what one more element says.
 use Rattle.std.proofs.Common.{◌≡◌, ℕ, zero, suc, ◌+◌, ◌<◌, List, [], ◌∷◌, ◌++◌, codes, length, min, take, slice_index_or, arith, ap, sym, ◌∙◌, append_assoc, append-nil, add-one, zero-add}
 use Rattle.std.specs.List.{flat_map}
-use Rattle.std.proofs.lemmas.List.{length-append, take_more}
-use Rattle.std.proofs.lemmas.Grind.{flat_map-append}
+use Rattle.std.proofs.lemmas.List.{length-append}
 use Rattle.hsr_plan_text.specs.Plan.{Outline}
 use Rattle.hsr_plan_meaning.specs.Meaning.{Meaning}
 use Rattle.hsr_plan_scenario.specs.Spelled.{comma, front_text, listed, numbered, order_line, parted, scenario_text}
-
-pub grown : {X : Type 0} (text : X → List ℕ) (xs : List X) (i : ℕ) (d : X) (start : List ℕ) → i < length xs →
-    (start ++ flat_map text (take i xs)) ++ text (slice_index_or xs i d) ≡ start ++ flat_map text (take (i + 1) xs)
-grown text xs i d start below =
-    append_assoc start (flat_map text (take i xs)) (text (slice_index_or xs i d))
-    ∙ ap (λ t. start ++ t) (ap (λ t. flat_map text (take i xs) ++ t) (sym (append-nil (text (slice_index_or xs i d))))
-    ∙ sym (flat_map-append text (take i xs) (slice_index_or xs i d ∷ [])) ∙ sym (ap (flat_map text) (take_more xs i d below)))
 
 numbered-suc : {X : Type 0} (text : ℕ → X → List ℕ) (k i : ℕ) (xs : List X) (d : X) → i < length xs →
     numbered text k (take (suc i) xs) ≡ numbered text k (take i xs) ++ text (k + i) (slice_index_or xs i d)

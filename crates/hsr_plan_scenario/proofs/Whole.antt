@@ -19,7 +19,7 @@ use Rattle.hsr_plan_scenario.specs.declared.planning.Ending.{Ending}
 use Rattle.hsr_plan_scenario.specs.declared.planning.Ending.TheVariants.{Planned, Refused, Failed, Unwritten}
 
 -- a text that begins with one over 16 MiB has over 16 MiB
-longer : (front rest text : List ℕ) → 2 ^ 24 < length front → text ≡ front ++ rest → 2 ^ 24 < length text
+pub longer : (front rest text : List ℕ) → 2 ^ 24 < length front → text ≡ front ++ rest → 2 ^ 24 < length text
 longer front rest text h is = omega (arith, h, ap length is, length-append front rest)
 
 -- ---- plans

@@ -19,36 +19,11 @@ use hsr_plan_network::Node;
 use hsr_plan_text::{Moves, Outline, Word};
 use hsr_scenario::Order;
 use hsr_step::Step;
-use hsr_text::{put_decimal, put_hex};
+use hsr_text::{put, put_hex, put_number, put_octets};
 use hsr_topology::End;
 use hsr_windows::most_of;
 use std::alloc::Global;
 use std::io::Write;
-
-/// Puts words last.
-fn put(text: &mut Vec<u8>, words: &str) -> Result<(), NoMemory>
-    ensures { OnOk result (text.new.items ≡ text.old.items ++ words.now) }
-{
-    // In a function of its own: so each caller's proof has one clause about the text.
-    text.extend_from_slice(words.as_bytes())?;
-    Ok(())
-}
-
-/// Puts octets last.
-fn put_octets(text: &mut Vec<u8>, octets: &[u8]) -> Result<(), NoMemory>
-    ensures { OnOk result (text.new.items ≡ text.old.items ++ octets.now) }
-{
-    text.extend_from_slice(octets)?;
-    Ok(())
-}
-
-/// Puts a number last.
-fn put_number(text: &mut Vec<u8>, number: u64) -> Result<(), NoMemory>
-    ensures { OnOk result (text.new.items ≡ text.old.items ++ decimal number) }
-{
-    put_decimal(text, number)?;
-    Ok(())
-}
 
 /// Puts octets in hexadecimal last.
 fn put_digits(text: &mut Vec<u8>, octets: &[u8]) -> Result<(), NoMemory>
@@ -459,7 +434,7 @@ fn put_order(text: &mut Vec<u8>, nodes: &[Node], order: &Order) -> Result<(), No
 // ---- all
 
 /// Puts the lines of nodes last.
-#[tactic(auto, using(crate::proofs::Growing::grown))]
+#[tactic(auto, using(hsr_frame::proofs::OneMore::grown))]
 fn put_node_lines(text: &mut Vec<u8>, nodes: &[Node]) -> Result<(), NoMemory>
     ensures { OnOk result (text.new.items ≡ text.old.items ++ flat_map node_line nodes.now) }
 {
@@ -500,7 +475,7 @@ fn put_links(text: &mut Vec<u8>, nodes: &[Node], links: &[[End; 2]]) -> Result<(
 }
 
 /// Puts the lines of orders last.
-#[tactic(auto, using(crate::proofs::Growing::grown))]
+#[tactic(auto, using(hsr_frame::proofs::OneMore::grown))]
 fn put_orders(text: &mut Vec<u8>, nodes: &[Node], orders: &[Order]) -> Result<(), NoMemory>
     ensures { OnOk result (text.new.items ≡ text.old.items
         ++ flat_map (order_line nodes.now) orders.now) }

@@ -1,6 +1,5 @@
 -- A plan that is read whole, or up to a front that is too long, and what is told where nothing shows how far it is.
-use Rattle.std.proofs.Common.{◌≡◌, ℕ, Bool, ◌^◌, ◌<◌, ◌++◌, false, length, List, Option, Some, None, Result, Ok, Err, IfErr, IfOk, IfSome, IsOk, inl, inr, refl, sym, subst, ap, arith}
-use Rattle.std.proofs.lemmas.List.{length-append}
+use Rattle.std.proofs.Common.{◌≡◌, ℕ, Bool, ◌^◌, false, List, Option, Some, None, Result, Ok, Err, IfErr, IfOk, IfSome, IsOk, inl, inr, refl, sym, subst}
 use Rattle.std.specs.Prelude.{Vec}
 use Rattle.std.specs.Global.{Global}
 use Rattle.std.specs.Io.KnownBytes.{Keeps}
@@ -11,7 +10,7 @@ use Rattle.hsr_plan_scenario.specs.Ends.{TellsFault, TellsInput, TellsWhy}
 use Rattle.hsr_text.specs.Whole.{IsWhole}
 use Rattle.hsr_plan_scenario.specs.declared.planning.Ending.{Ending}
 use Rattle.hsr_plan_scenario.specs.declared.planning.Ending.TheVariants.{Planned, Refused, Failed, Unwritten}
-use Rattle.hsr_plan_scenario.proofs.Whole.{no_plan}
+use Rattle.hsr_plan_scenario.proofs.Whole.{longer, no_plan}
 use Rattle.hsr_plan_sweep.specs.Lines.{sweep_text}
 use Rattle.hsr_plan_sweep.specs.Refusals.{IsUnsweepable, IsUnsweptFrom, IsUnsweptIf}
 use Rattle.hsr_plan_sweep.specs.Sweep.{IsSweep, Sweep}
@@ -20,9 +19,6 @@ use Rattle.hsr_plan_sweep.specs.Swept.{IfHidden, IsSwept, SweepEnds, TellsSweep}
 -- a text over 16 MiB is no plan
 none_said : (said : Result Plan PlanFault) (fault : PlanFault) (plan : Plan) → said ≡ Err fault → said ≡ Ok plan → ⊥
 none_said said fault plan e is = absurd cc
-
-longer : (front rest text : List ℕ) → 2 ^ 24 < length front → text ≡ front ++ rest → 2 ^ 24 < length text
-longer front rest text h is = omega (arith, h, ap length is, length-append front rest)
 
 -- what is told of what was read is told of all
 swept_whole : (all front : List ℕ) (moment : ℕ) (shown : Bool) (held holds told tells : Option (List ℕ)) (ending : Ending) → IsWhole (2 ^ 24) all front

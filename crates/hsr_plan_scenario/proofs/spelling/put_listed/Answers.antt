@@ -6,4 +6,4 @@ pub loop-i-preserved : goal.loop-i-preserved
 loop-i-preserved c =
     let below : c.loop-i.i < length c.args.names.now = search rules in
     listed_more (λ n. n) c.loop-i.i c.args.names.now c.index-names-i.result c.args.text.now.items _ _ _ _ below c.loop-i.invariant c.in_ok-put_comma.ensures
-    (c.as_bytes.ensures ∙ c.index-names-i.is) c.in_ok-put_octets.ensures
+    (c.as_bytes.ensures ∙ c.index-names-i.is) c.in_ok-put_octets.ensures.ok
