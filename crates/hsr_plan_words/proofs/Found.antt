@@ -1,41 +1,20 @@
 -- What a parse found, by the walk of its command.
-use Rattle.std.proofs.Common.{◌≡◌, ◌≢◌, ⊎_elim, string_bytes, List, [], Option, Some, None, option_map, IfNone, IfSome, refl, sym, ap, ap₂, subst, ◌∙◌, codes, true}
+use Rattle.std.proofs.Common.{◌≡◌, ◌≢◌, ⊎_elim, string_bytes, List, [], Option, Some, None, IfNone, IfSome, refl, sym, ap, subst, ◌∙◌, codes, true}
 use Rattle.clap.specs.Kinds.{HasKind, IsAmong, Kinds}
 use Rattle.clap.specs.Words.{App, Row, Text, first_of, first_value, found_of, is_simple, is_simple_and_free, kind_of, matches_of, rows_of, subcommand_of, subcommand_rows_of}
 use Rattle.clap.specs.declared.error.Error.{Error}
 use Rattle.clap.specs.declared.error.kind.ErrorKind.TheVariants.{OutOfMemory}
 use Rattle.clap.specs.declared.parser.matches.ArgMatches.{ArgMatches}
 use Rattle.clap.proofs.WalkLemmas.{first_value-rows}
+use Rattle.hsr_options.proofs.Sizes.{table_again}
 use Rattle.hsr_options.specs.Tables.{table_of, table_word}
 use Rattle.hsr_options.specs.declared.chosen.Table.{Table}
-use Rattle.hsr_options.specs.declared.chosen.Table.TheVariants.{Small, Large}
 use Rattle.hsr_plan_words.specs.declared.task.Task.{Task}
 use Rattle.hsr_plan_words.specs.declared.task.WordsFault.{WordsFault}
 use Rattle.hsr_plan_words.specs.declared.task.WordsFault.TheVariants.{Usage, Memory}
 use Rattle.hsr_plan_words.specs.Choices.{Chooses, Chosen, ChosenAlone, ChosenBefore, IfUsage, IsPlanner, IsTable, sub_values, values}
 
 -- ---- a subcommand
-
--- a name and rows that a subcommand has
-pub joined : (found : Option (Text × List Row)) (name : Text) (rows : List Row) → Some name ≡ option_map (λ p. p.0) found → Some rows ≡ option_map (λ p. p.1) found
-    → found ≡ Some (name, rows)
-joined None name rows a b = cc
-joined (Some p) name rows a b =
-    let x : name ≡ p.0 = cc in
-    let y : rows ≡ p.1 = cc in
-    ap Some (ap₂ (λ u v. (u, v)) (sym x) (sym y))
-
-pub first_part : {X A B : Type 0} (n : X → A) (r : X → B) (o : Option X) → option_map (λ (p : A × B). p.0) (option_map (λ x. (n x, r x)) o) ≡ option_map n o
-first_part n r None = refl
-first_part n r (Some x) = refl
-
-pub some_weaker : {X : Type 0} (o : Option X) (P Q : X → Type 0) → ((x : X) → P x → Q x) → IfSome o P → IfSome o Q
-some_weaker None P Q f h = tt
-some_weaker (Some x) P Q f h = f x h
-
-pub none_weaker : {X : Type 0} (o : Option X) (P Q : Type 0) → (P → Q) → IfNone o P → IfNone o Q
-none_weaker None P Q f h = f h
-none_weaker (Some x) P Q f h = tt
 
 -- equal values choose the same
 before_same : (check check' table table' moment moment' : Option Text) (name : Text) (task : Task) → check ≡ check' → table ≡ table' → moment ≡ moment'
@@ -102,11 +81,7 @@ pub table_unread : (r : Option Table) (w : Text) → r ≡ table_of w → IfNone
 table_unread (Some t) w e = tt
 table_unread None w e = by_size
   where
-    of_word : (t : Table) → table_of (table_word t) ≡ Some t
-    of_word Small = refl
-    of_word Large = refl
-
     by_size : (t : Table) → ¬ IsTable (Some w) t
     by_size t h =
-        let none = e ∙ ap table_of h ∙ of_word t in
+        let none = e ∙ ap table_of h ∙ table_again t in
         cc

@@ -1,5 +1,5 @@
 -- What a parse found, by the walk of its command.
-use Rattle.std.proofs.Common.{◌≡◌, ◌≢◌, ◌<◌, inl, inr, ⊎_elim, string_bytes, List, [], ◌∷◌, length, Option, Some, None, option_map, IfNone, IfSome, refl, sym, ap, ap₂, subst, ◌∙◌, codes, arith, Bool, true, false}
+use Rattle.std.proofs.Common.{◌≡◌, ◌≢◌, ◌<◌, inl, inr, ⊎_elim, string_bytes, List, [], ◌∷◌, length, Option, Some, None, IfNone, IfSome, refl, sym, ap, subst, ◌∙◌, codes, arith, Bool, true, false}
 use Rattle.clap.specs.Kinds.{HasKind, IsAmong, Kinds}
 use Rattle.clap.specs.Words.{App, Row, Text, fault_of, first_of, is_simple, is_simple_and_free, kind_of, subcommand_of}
 use Rattle.clap.specs.declared.error.Error.{Error}
@@ -8,15 +8,15 @@ use Rattle.hsr_words.specs.Options.{Chosen, ChosenIn, IfUsage, IsAsked, IsBench,
 use Rattle.hsr_frame.specs.Words.{mode_of, mode_word}
 use Rattle.hsr_frame.specs.declared.node.Mode.{Mode}
 use Rattle.hsr_frame.specs.declared.node.Mode.TheVariants.{H, N, U}
+use Rattle.hsr_text.proofs.Units.{unit_again}
 use Rattle.hsr_text.specs.Moments.{unit_of, unit_word}
 use Rattle.hsr_text.specs.declared.time_unit.TimeUnit.{TimeUnit}
-use Rattle.hsr_text.specs.declared.time_unit.TimeUnit.TheVariants.{Milliseconds, Microseconds}
+use Rattle.hsr_options.proofs.Sizes.{table_again}
 use Rattle.hsr_options.specs.Tables.{table_of, table_word}
 use Rattle.hsr_options.specs.declared.chosen.Showing.{Showing}
 use Rattle.hsr_options.specs.declared.chosen.Form.{Form}
 use Rattle.hsr_options.specs.declared.chosen.Form.TheVariants.{Transcript, Report}
 use Rattle.hsr_options.specs.declared.chosen.Table.{Table}
-use Rattle.hsr_options.specs.declared.chosen.Table.TheVariants.{Small, Large}
 use Rattle.hsr_options.specs.declared.chosen.Asked.{Asked}
 use Rattle.hsr_words.specs.declared.fault.OptionFault.{OptionFault}
 use Rattle.hsr_words.specs.declared.fault.OptionFault.TheVariants.{Usage, Memory}
@@ -48,15 +48,6 @@ chosen_same name f g (Audit table scope asked explains) e h =
 pub no_form : (found : Text → Option Text) → ((b : Bool) → found (codes "transcript") ≢ Some (flag_text b)) → (form : Form) → ¬ IsForm found form
 no_form found none Transcript h = none true h
 no_form found none (Report asked) h = none false h.0
-
--- a name and rows that a subcommand has
-pub joined : (found : Option (Text × List Row)) (name : Text) (rows : List Row) → Some name ≡ option_map (λ p. p.0) found → Some rows ≡ option_map (λ p. p.1) found
-    → found ≡ Some (name, rows)
-joined None name rows a b = cc
-joined (Some p) name rows a b =
-    let x : name ≡ p.0 = cc in
-    let y : rows ≡ p.1 = cc in
-    ap Some (ap₂ (λ u v. (u, v)) (sym x) (sym y))
 
 pub chosen_from : (found : Option (Text × List Row)) (name : Text) (rows : List Row) (o : Options) → found ≡ Some (name, rows)
     → Chosen name (λ id. first_of id rows) o → ChosenIn found o
@@ -103,71 +94,39 @@ pub usage_weaker : (f : OptionFault) (P Q : Text → Type 0) → ((t : Text) →
 usage_weaker (Usage text) P Q f h = f (string_bytes text) h
 usage_weaker Memory P Q f h = tt
 
-pub some_weaker : {X : Type 0} (o : Option X) (P Q : X → Type 0) → ((x : X) → P x → Q x) → IfSome o P → IfSome o Q
-some_weaker None P Q f h = tt
-some_weaker (Some x) P Q f h = f x h
-
-pub none_weaker : {X : Type 0} (o : Option X) (P Q : Type 0) → (P → Q) → IfNone o P → IfNone o Q
-none_weaker None P Q f h = f h
-none_weaker (Some x) P Q f h = tt
-
-pub first_part : {X A B : Type 0} (n : X → A) (r : X → B) (o : Option X) → option_map (λ (p : A × B). p.0) (option_map (λ x. (n x, r x)) o) ≡ option_map n o
-first_part n r None = refl
-first_part n r (Some x) = refl
-
 -- ---- a mode, a size of tables and a unit, by their words
 
+word_found : {A : Type 0} (word : A → Text) (r : Option A) (w : Text) (found : Option Text) → IfSome r (λ a. w ≡ word a) → found ≡ Some w → IfSome r (λ a. found ≡ Some (word a))
+word_found word None w found h is = tt
+word_found word (Some a) w found h is = is ∙ ap Some h
+
+word_unread : {A : Type 0} (word : A → Text) (said : Text → Option A) → ((a : A) → said (word a) ≡ Some a) → (r : Option A) (w : Text) (found : Option Text) → r ≡ said w → found ≡ Some w
+    → IfNone r ((a : A) → found ≢ Some (word a))
+word_unread word said again (Some a) w found e is = tt
+word_unread word said again None w found e is = λ a h.
+    let same : w ≡ word a = cc in
+    let none = e ∙ ap said same ∙ again a in
+    cc
+
+mode_again : (m : Mode) → mode_of (mode_word m) ≡ Some m
+mode_again H = refl
+mode_again N = refl
+mode_again U = refl
+
 pub mode_found : (r : Option Mode) (w : Text) (found : Option Text) → IfSome r (λ m. w ≡ mode_word m) → found ≡ Some w → IfSome r (λ m. found ≡ Some (mode_word m))
-mode_found None w found h is = tt
-mode_found (Some m) w found h is = is ∙ ap Some h
+mode_found = word_found mode_word
 
 pub mode_unread : (r : Option Mode) (w : Text) (found : Option Text) → r ≡ mode_of w → found ≡ Some w → IfNone r ((m : Mode) → found ≢ Some (mode_word m))
-mode_unread (Some m) w found e is = tt
-mode_unread None w found e is = by_mode
-  where
-    of_word : (m : Mode) → mode_of (mode_word m) ≡ Some m
-    of_word H = refl
-    of_word N = refl
-    of_word U = refl
-
-    by_mode : (m : Mode) → found ≢ Some (mode_word m)
-    by_mode m h =
-        let same : w ≡ mode_word m = cc in
-        let none = e ∙ ap mode_of same ∙ of_word m in
-        cc
+mode_unread = word_unread mode_word mode_of mode_again
 
 pub table_found : (r : Option Table) (w : Text) (found : Option Text) → IfSome r (λ t. w ≡ table_word t) → found ≡ Some w → IfSome r (λ t. found ≡ Some (table_word t))
-table_found None w found h is = tt
-table_found (Some t) w found h is = is ∙ ap Some h
+table_found = word_found table_word
 
 pub table_unread : (r : Option Table) (w : Text) (found : Option Text) → r ≡ table_of w → found ≡ Some w → IfNone r ((t : Table) → found ≢ Some (table_word t))
-table_unread (Some t) w found e is = tt
-table_unread None w found e is = by_size
-  where
-    of_word : (t : Table) → table_of (table_word t) ≡ Some t
-    of_word Small = refl
-    of_word Large = refl
-
-    by_size : (t : Table) → found ≢ Some (table_word t)
-    by_size t h =
-        let same : w ≡ table_word t = cc in
-        let none = e ∙ ap table_of same ∙ of_word t in
-        cc
+table_unread = word_unread table_word table_of table_again
 
 pub unit_found : (r : Option TimeUnit) (w : Text) (found : Option Text) → IfSome r (λ u. w ≡ unit_word u) → found ≡ Some w → IfSome r (λ u. found ≡ Some (unit_word u))
-unit_found None w found h is = tt
-unit_found (Some u) w found h is = is ∙ ap Some h
+unit_found = word_found unit_word
 
 pub unit_unread : (r : Option TimeUnit) (w : Text) (found : Option Text) → r ≡ unit_of w → found ≡ Some w → IfNone r ((u : TimeUnit) → found ≢ Some (unit_word u))
-unit_unread (Some u) w found e is = tt
-unit_unread None w found e is = by_unit
-  where
-    of_word : (u : TimeUnit) → unit_of (unit_word u) ≡ Some u
-    of_word Milliseconds = refl
-    of_word Microseconds = refl
-
-    by_unit : (u : TimeUnit) → found ≢ Some (unit_word u)
-    by_unit u h =
-        let same : w ≡ unit_word u = cc in
-        let none = e ∙ ap unit_of same ∙ of_word u in
-        cc
+unit_unread = word_unread unit_word unit_of unit_again

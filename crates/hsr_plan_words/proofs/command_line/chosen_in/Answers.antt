@@ -1,7 +1,8 @@
 use Rattle.std.proofs.Common.{◌∙◌, sym}
 use Rattle.clap.specs.Words.{found_of, first_value, rows_of, subcommand_rows_of}
 use Rattle.clap.proofs.WalkLemmas.{first_value-rows}
-use Rattle.hsr_plan_words.proofs.Found.{chosen_from, chosen_to, first_part, joined, none_weaker, some_weaker}
+use Rattle.hsr_options.proofs.Found.{first_part, joined, none_weaker, some_weaker}
+use Rattle.hsr_plan_words.proofs.Found.{chosen_from, chosen_to}
 use Rattle.hsr_plan_words.proofs.command_line.chosen_in.Goals as goal
 
 pub returns-in-Some-clause-found : goal.returns-in-Some-clause-found

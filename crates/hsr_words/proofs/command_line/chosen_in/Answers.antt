@@ -1,7 +1,8 @@
 use Rattle.std.proofs.Common.{◌∙◌, sym}
 use Rattle.clap.specs.Words.{subcommand_rows_of, rows_of, found_of, first_of, first_value}
 use Rattle.clap.proofs.WalkLemmas.{first_value-rows}
-use Rattle.hsr_words.proofs.Found.{chosen_same, joined, chosen_from, chosen_to, none_weaker, some_weaker, first_part}
+use Rattle.hsr_options.proofs.Found.{first_part, joined, none_weaker, some_weaker}
+use Rattle.hsr_words.proofs.Found.{chosen_from, chosen_same, chosen_to}
 use Rattle.hsr_words.proofs.command_line.chosen_in.Goals as goal
 
 pub returns-clause-found : goal.returns-clause-found
