@@ -73,7 +73,7 @@ places_counted copy xs (suc n) le =
     ∙ (ap length (places_more copy xs n)
     ∙ (length-append (places_below copy xs n) (cond (is_at copy (get_or xs n None)) (n ∷ []) [])
     ∙ (by (is_at copy (get_or xs n None)) ∙ (ap (λ k. k + cond {A = ℕ} (is_at copy (get_or xs n None)) 1 0) so_far
-    ∙ (sym (counted_more copy xs n (omega arith)) ∙ ap (λ k. count_by (is_at copy) (take k xs)) (sym more))))))
+    ∙ (sym (counted_more (is_at copy) xs n None (omega arith)) ∙ ap (λ k. count_by (is_at copy) (take k xs)) (sym more))))))
   where
     by : (b : Bool) → length (places_below copy xs n) + length (cond b (n ∷ []) []) ≡ length (places_below copy xs n) + cond {A = ℕ} b 1 0
     by true = refl
@@ -105,7 +105,7 @@ pub partner_there : (xs ys : List (Option Carried)) (j : ℕ) (copy : Carried) �
 partner_there xs ys j copy below is same =
     let k : ℕ = count_by (is_at copy) (take j ys) in
     let here : is_at copy (get_or ys j None) ≡ true = ap (is_at copy) is ∙ carried_itself copy in
-    let more : count_by (is_at copy) (take (j + 1) ys) ≡ count_by (is_at copy) (take j ys) + 1 = counted_more copy ys j below ∙ ap (λ b. count_by (is_at copy) (take j ys) + cond {A = ℕ} b 1 0) here in
+    let more : count_by (is_at copy) (take (j + 1) ys) ≡ count_by (is_at copy) (take j ys) + 1 = counted_more (is_at copy) ys j None below ∙ ap (λ b. count_by (is_at copy) (take j ys) + cond {A = ℕ} b 1 0) here in
     let front = count_front copy ys (j + 1) in
     let long : length (places copy xs) ≡ count_by (is_at copy) xs = places_counted copy xs (length xs) (omega arith) ∙ ap (count_by (is_at copy)) (take_all xs) in
     let within : k < length (places copy xs) = omega (arith, more, front, long, same) in
