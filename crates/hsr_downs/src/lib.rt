@@ -1,12 +1,16 @@
-//! When links are down: from the steps of a scenario that cut a link to the next step that cuts or mends it.
+//! When links are down: from the steps of a scenario that cut a link to the next step that cuts or mends it. And when nodes are off: while
+//! none of their links is up.
 //!
 //! Its modules, in the order in which to read them:
 //! - `changing`: the steps that cut or mend a link, each with its moment
 //! - `downing`: from each cut to the next change
+//! - `switching`: the changes with which nodes go off and come on
 #![tactic(auto)]
 
 mod changing;
 mod downing;
+mod switching;
 
 pub use changing::Change;
 pub use downing::{Down, downs};
+pub use switching::{Switch, switches};
