@@ -28,3 +28,11 @@ change_word false = codes "mend"
 -- that a link was cut or mended, and when
 abbrev pub change_words : Bool → ℕ → List ℕ
 change_words is_cut moment = change_word is_cut ++ codes " " ++ moment_text moment
+
+abbrev pub switch_word : Bool → List ℕ
+switch_word true = codes "off"
+switch_word false = codes "on"
+
+-- that a node went off or came on, and when
+abbrev pub switch_words : Bool → ℕ → List ℕ
+switch_words is_off moment = switch_word is_off ++ codes " " ++ moment_text moment

@@ -1,8 +1,8 @@
-//! Nodes, ports, links and their changes, and moments.
+//! Nodes, ports, links, their changes, and moments.
 ghost use Rattle.std.specs.Prelude.{◌≡◌, slice_get, IfOk};
 ghost use Rattle.hsr_names.specs.Names.{name_of};
 ghost use Rattle.hsr_order.specs.Fronts.{lists_of};
-ghost use Rattle.hsr_picture_text.specs.Labels.{change_word, change_words, kind_word, letter_at, link_words};
+ghost use Rattle.hsr_picture_text.specs.Labels.{change_word, change_words, kind_word, letter_at, link_words, switch_word, switch_words};
 ghost use Rattle.hsr_picture_text.specs.Moments.{moment_text};
 
 use crate::moments::put_moment;
@@ -66,6 +66,24 @@ pub fn change_words(alloc: Global, is_cut: bool, moment: u64) -> Result<Vec<u8>,
 {
     let mut words = Vec::new(alloc);
     put(&mut words, change_word(is_cut))?;
+    put(&mut words, " ")?;
+    put_moment(&mut words, moment)?;
+    Ok(words)
+}
+
+/// Whether a node went off or came on, in a word.
+fn switch_word(is_off: bool) -> &'static str
+    ensures { result.now ≡ switch_word is_off }
+{
+    if is_off { "off" } else { "on" }
+}
+
+/// That a node went off or came on, and when. `NoMemory` where room is refused.
+pub fn switch_words(alloc: Global, is_off: bool, moment: u64) -> Result<Vec<u8>, NoMemory>
+    ensures { IfOk result (λ words. words.items ≡ switch_words is_off moment) }
+{
+    let mut words = Vec::new(alloc);
+    put(&mut words, switch_word(is_off))?;
     put(&mut words, " ")?;
     put_moment(&mut words, moment)?;
     Ok(words)

@@ -18,7 +18,9 @@ mod title;
 mod told;
 mod wrapping;
 
-pub use labels::{change_words, kind_word, letter_at, link_words, moment_words, name_words};
+pub use labels::{
+    change_words, kind_word, letter_at, link_words, moment_words, name_words, switch_words,
+};
 pub use sends::send_words;
 pub use sent::sent_words;
 pub use title::title_words;
