@@ -1,5 +1,6 @@
-"""Draws runs of large networks, of long names, of lost copies and of links that are down: each picture has an arrow for each copy, no text lies
-on another or beyond its edge, it is at most so wide, and links are shaded where the scenario of the run has them down."""
+"""Draws runs of large networks, of long names, of lost copies, and of links and nodes that are down: each picture has an arrow for each
+copy, no text lies on another or beyond its edge, it is at most so wide, links are shaded where the scenario of the run has them down, and
+nodes have marks where they go off and come on."""
 import re
 
 from lib.case_files import ROOT
@@ -119,6 +120,29 @@ def try_downs(setting):
     return tally
 
 
+def try_offs(setting):
+    """Draws a node that goes off: it has a mark on each of its lines where its last link goes down, and where one is up again."""
+    tally = Tally()
+    sent = [f'{{do="clock", at={at}}}, {{do="send", node="n0", to="{GROUP}", type=0x88B5}}, {{do="drain"}},' for at in (1000, 3000, 5000)]
+    cuts = '{do="cut", link=0}, {do="clock", at=2000}, {do="cut", link=1},'
+    mend = '{do="clock", at=4000}, {do="mend", link=1}, {do="mend", link=0},'
+    # the first node of a ring has two lines
+    first = cuts.replace("link=1", "link=2")
+    for name, changes, marks in (
+        ("off-and-on", (cuts, mend), ["off 2 ms", "on 4 ms"]),
+        ("off-for-good", (cuts, ""), ["off 2 ms"]),
+        ("one-link-up", ('{do="cut", link=0},', ""), []),
+        ("two-lines", (first, ""), ["off 2 ms", "off 2 ms"]),
+    ):
+        text = ring(3) + "step = [\n" + "\n".join((sent[0], changes[0], sent[1], changes[1], sent[2])) + "\n]\n"
+        _, transcript, _ = run(setting, "hsr_bench", ["run", "--transcript"], text.encode())
+        picture = draw(setting, name, transcript, text)
+        told, found = sorted(re.findall(r">((?:off|on) [\d.]+ m?s)</text>", picture)), collisions(picture)
+        tally.count(f"marks of {name}", f"{told}, and not {marks}" if told != marks else "")
+        tally.count(f"texts of {name}", f"{found[0][0]} lies on {found[0][1]}" if found else "")
+    return tally
+
+
 def try_told(setting):
     """Draws a send that many nodes of long names missed: all of it can be read."""
     text = large(long).replace("step = [\n", 'step = [\n  {do="cut", link=10}, {do="cut", link=50},\n')
@@ -129,5 +153,5 @@ def jobs(setting):
     rings = [Job(try_picture, (f"ring-{name.__name__}", large(name).encode()), 2) for name in (short, long)]
     drained = [Job(try_joined, (f"each {what} drains", moment, moment)) for what in ("send", "moment") for moment in (1000000, 3000000)]
     spans = [(1000000, 1000400), (2000000, 2000030), (2000030, 2000090), (3000000, 3000300)]
-    downs = [Job(try_downs, (), 2), Job(try_told, (), 2)]
+    downs = [Job(try_downs, (), 2), Job(try_offs, (), 2), Job(try_told, (), 2)]
     return rings + drained + downs + [Job(try_joined, ("hop_us = 10", *span)) for span in spans]

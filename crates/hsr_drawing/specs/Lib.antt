@@ -5,6 +5,7 @@ pub mod Moments
 pub mod Items
 pub mod Listing
 pub mod Shades
+pub mod Switches
 pub mod Legend
 pub mod Telling
 pub mod Drawing

@@ -8,10 +8,14 @@ use hsr_frame::NoMemory;
 use hsr_order::Spot;
 use hsr_panels::{Lane, Panel};
 use hsr_picture::{Arrow, Look};
+use hsr_svg::Anchor;
 use std::alloc::Global;
 
 /// The least length of the arrow of a lost copy.
 const STUB: u64 = 9;
+
+/// How far the mark of a change stands from its line.
+pub(crate) const BESIDE: u64 = 4;
 
 /// Where a lane stands, and the node at its left.
 #[derive(Clone, Copy)]
@@ -83,6 +87,17 @@ impl Columns {
         match self.lines.as_slice().get(number) {
             Some(x) => *x,
             None => self.next,
+        }
+    }
+
+    /// Where a text of a width stands beside the line that has a number: at its left, or at its right where it would reach beyond the first
+    /// line.
+    pub(crate) fn beside(&self, number: usize, width: u64) -> (u64, Anchor) {
+        let x = self.line_at(number);
+        if width.saturating_add(BESIDE) < x.saturating_sub(self.line_at(0)) {
+            (x.saturating_sub(BESIDE), Anchor::End)
+        } else {
+            (x.saturating_add(BESIDE), Anchor::Start)
         }
     }
 

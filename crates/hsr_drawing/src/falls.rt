@@ -1,17 +1,17 @@
-//! Between which rows links are down.
+//! Between which rows links are down, and where nodes go off and come on.
 use crate::arrows::rows_at;
-use crate::columns::Columns;
+use crate::columns::{BESIDE, Columns};
 use crate::rows::Times;
 use crate::shades::is_among;
 use crate::shelves::{Foot, Shelves, Side};
 use crate::widths::{COPY, width_of};
 use hsr_closing::{Closed, next_place};
-use hsr_downs::{Change, Down};
+use hsr_downs::{Change, Down, Switch};
 use hsr_frame::NoMemory;
 use hsr_link::Fate;
 use hsr_order::{Spot, Time, time_at};
 use hsr_picture::{Arrow, Look};
-use hsr_picture_text::change_words;
+use hsr_picture_text::{change_words, switch_words};
 use hsr_story::{StoryFault, entry_times};
 use hsr_svg::Anchor;
 use std::alloc::Global;
@@ -28,6 +28,30 @@ pub(crate) struct Edge {
 pub(crate) struct Fall {
     pub cut: Edge,
     pub end: Option<Edge>,
+}
+
+/// The mark of a node on one of its lines, by the number of the switch and that of the line; and where it stands.
+#[derive(Clone, Copy)]
+pub(crate) struct Flag {
+    pub number: usize,
+    pub line: usize,
+    pub x: u64,
+    pub anchor: Anchor,
+    pub edge: Edge,
+}
+
+/// The times in which links are down, and the marks of nodes.
+#[derive(Drop)]
+pub(crate) struct Falls {
+    pub falls: Vec<Fall>,
+    pub flags: Vec<Flag>,
+}
+
+/// What is told of a run's links and nodes.
+#[derive(Clone, Copy)]
+pub(crate) struct Told<'a> {
+    pub downs: &'a [Down],
+    pub switches: &'a [Switch],
 }
 
 // ---- times
@@ -141,9 +165,8 @@ fn row_of_cut<const C: usize>(
     row
 }
 
-/// Where the mark of a change begins, beside the left line of its lane; below the last row, where none stands behind it.
-fn change_foot(times: &Times, columns: &Columns, link: usize, row: usize) -> Foot {
-    let x = columns.strip_of(link).left.saturating_add(4);
+/// Where a mark before a row stands; below the last row, where none stands behind it.
+fn foot_before(times: &Times, row: usize, x: u64, anchor: Anchor) -> Foot {
     let (row, side) = if row < times.len() {
         (row, Side::Above)
     } else {
@@ -153,8 +176,14 @@ fn change_foot(times: &Times, columns: &Columns, link: usize, row: usize) -> Foo
         row,
         side,
         x,
-        anchor: Anchor::Start,
+        anchor,
     }
+}
+
+/// Where the mark of a change begins, beside the left line of its lane.
+fn change_foot(times: &Times, columns: &Columns, link: usize, row: usize) -> Foot {
+    let x = columns.strip_of(link).left.saturating_add(BESIDE);
+    foot_before(times, row, x, Anchor::Start)
 }
 
 /// What of a sheet is needed to find edges.
@@ -167,6 +196,20 @@ struct Grounds<'a> {
     arrows: &'a [Arrow],
 }
 
+/// The first row behind a change, from which a copy met a link that it cuts.
+fn row_of_change<const C: usize>(
+    closed: &Closed<C>,
+    grounds: &Grounds<'_>,
+    change: &Change,
+) -> usize {
+    let behind = row_behind(grounds.times, grounds.planned, change);
+    if change.is_cut {
+        row_of_cut(closed, grounds, change, behind)
+    } else {
+        behind
+    }
+}
+
 /// The edge of a change, with its mark on a shelf, if it has one.
 fn edge_of<const C: usize>(
     alloc: Global,
@@ -176,12 +219,7 @@ fn edge_of<const C: usize>(
     change: &Change,
     is_marked: bool,
 ) -> Result<Edge, NoMemory> {
-    let behind = row_behind(grounds.times, grounds.planned, change);
-    let row = if change.is_cut {
-        row_of_cut(closed, grounds, change, behind)
-    } else {
-        behind
-    };
+    let row = row_of_change(closed, grounds, change);
     if !is_marked || !is_among(grounds.moments, change) {
         return Ok(Edge { row, shelf: 0 });
     }
@@ -208,19 +246,103 @@ fn fall_of<const C: usize>(
 }
 
 /// The edges of all times in which links are down, with their marks on shelves.
+fn edges_of<const C: usize>(
+    alloc: Global,
+    closed: &Closed<C>,
+    grounds: &Grounds<'_>,
+    shelves: &mut Shelves,
+    downs: &[Down],
+) -> Result<Vec<Fall>, NoMemory> {
+    let mut falls = Vec::new(alloc);
+    for down in downs {
+        falls.push(fall_of(alloc, closed, grounds, shelves, down)?)?;
+    }
+    Ok(falls)
+}
+
+// ---- nodes
+
+/// Puts the mark of a node on its shelf, on the line that has a number.
+fn put_flag(
+    grounds: &Grounds<'_>,
+    shelves: &mut Shelves,
+    flags: &mut Vec<Flag>,
+    number: usize,
+    line: usize,
+    row: usize,
+    width: u64,
+) -> Result<(), NoMemory> {
+    let (x, anchor) = grounds.columns.beside(line, width);
+    let foot = foot_before(grounds.times, row, x, anchor);
+    let shelf = shelves.put(foot, width)?;
+    flags.push(Flag {
+        number,
+        line,
+        x,
+        anchor,
+        edge: Edge { row, shelf },
+    })?;
+    Ok(())
+}
+
+/// Puts the marks of a node that goes off or comes on, one on each of its lines, where its change is marked.
+fn put_flags<const C: usize>(
+    alloc: Global,
+    closed: &Closed<C>,
+    grounds: &Grounds<'_>,
+    shelves: &mut Shelves,
+    flags: &mut Vec<Flag>,
+    number: usize,
+    switch: &Switch,
+) -> Result<(), NoMemory> {
+    let change = &switch.change;
+    if !is_among(grounds.moments, change) {
+        return Ok(());
+    }
+    let row = row_of_change(closed, grounds, change);
+    let words = switch_words(alloc, switch.is_off, change.moment)?;
+    let width = width_of(words.as_slice(), COPY);
+    for (line, node) in grounds.columns.nodes.as_slice().iter().enumerate() {
+        if *node == switch.node {
+            put_flag(grounds, shelves, flags, number, line, row, width)?;
+        }
+    }
+    Ok(())
+}
+
+/// The marks of all nodes that go off or come on, on shelves.
+fn flags_of<const C: usize>(
+    alloc: Global,
+    closed: &Closed<C>,
+    grounds: &Grounds<'_>,
+    shelves: &mut Shelves,
+    switches: &[Switch],
+) -> Result<Vec<Flag>, NoMemory> {
+    let mut flags = Vec::new(alloc);
+    for (number, switch) in switches.iter().enumerate() {
+        put_flags(alloc, closed, grounds, shelves, &mut flags, number, switch)?;
+    }
+    Ok(flags)
+}
+
+// ---- all
+
+/// The edges of all times in which links are down, and the marks of nodes, with all marks on shelves.
 pub(crate) fn falls_of<const C: usize>(
     alloc: Global,
     closed: &Closed<C>,
-    downs: &[Down],
+    told: Told<'_>,
     arrows: &[Arrow],
     times: &Times,
     columns: &Columns,
     moments: &[u64],
     shelves: &mut Shelves,
-) -> Result<Vec<Fall>, NoMemory> {
-    let mut falls = Vec::new(alloc);
-    if downs.is_empty() {
-        return Ok(falls);
+) -> Result<Falls, NoMemory> {
+    if told.downs.is_empty() {
+        return Ok(Falls {
+            falls: Vec::new(alloc),
+            flags: Vec::new(alloc),
+        });
     }
     let planned = planned_times(alloc, closed)?;
     let grounds = Grounds {
@@ -230,8 +352,7 @@ pub(crate) fn falls_of<const C: usize>(
         planned: planned.as_slice(),
         arrows,
     };
-    for down in downs {
-        falls.push(fall_of(alloc, closed, &grounds, shelves, down)?)?;
-    }
-    Ok(falls)
+    let falls = edges_of(alloc, closed, &grounds, shelves, told.downs)?;
+    let flags = flags_of(alloc, closed, &grounds, shelves, told.switches)?;
+    Ok(Falls { falls, flags })
 }

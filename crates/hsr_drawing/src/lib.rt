@@ -7,12 +7,12 @@
 //! - `heads`: what stands over them
 //! - `shelves`, `labels`: labels, so that none lies on another
 //! - `rows`: moments and steps, downwards
-//! - `falls`: between which rows links are down
+//! - `falls`: between which rows links are down, and where nodes go off and come on
 //! - `moments`, `items`: moments, and the sends that are listed, in their order
 //! - `sheet`: these, all places, and where arrows run
 //! - `frame`: node lines, their names, and moments
 //! - `arrows`, `marks`: arrows and their labels, and the marks of sends
-//! - `shades`: the times in which links are down
+//! - `shades`, `switches`: the times in which links are down, and nodes that go off or come on
 //! - `listing`: the sends at the right
 //! - `legend`, `telling`: what stands below
 //! - `svg`: the whole, its call
@@ -34,6 +34,7 @@ mod shades;
 mod sheet;
 mod shelves;
 mod svg;
+mod switches;
 mod telling;
 mod widths;
 

@@ -6,8 +6,8 @@ ghost use Rattle.hsr_drawing.specs.Frame.{nodes_of};
 ghost use Rattle.hsr_drawing.specs.Items.{AreListed};
 ghost use Rattle.hsr_drawing.specs.Moments.{AreMoments, all_moments};
 
-use crate::columns::{Columns, columns_of, lane_count};
-use crate::falls::{Edge, Fall, falls_of};
+use crate::columns::{BESIDE, Columns, columns_of, lane_count};
+use crate::falls::{Edge, Fall, Falls, Told, falls_of};
 use crate::heads::{Heads, heads_of};
 use crate::items::{Item, listed};
 use crate::labels::{foot_of, judged_at, mark_foot, shelves_of};
@@ -17,7 +17,7 @@ use crate::rows::{Rows, rows_of, times_of};
 use crate::shelves::{Foot, SHELF, Shelves, Side};
 use crate::widths::{MARK, NAME, width_of};
 use hsr_closing::Closed;
-use hsr_downs::Down;
+use hsr_downs::{Down, Switch};
 use hsr_frame::NoMemory;
 use hsr_names::put_name;
 use hsr_order::Time;
@@ -46,7 +46,7 @@ pub(crate) struct Sheet {
     pub items: Vec<Item>,
     pub heads: Heads,
     shelves: Shelves,
-    falls: Vec<Fall>,
+    falls: Falls,
     pub left: u64,
     pub side: u64,
     pub list: u64,
@@ -194,6 +194,7 @@ pub(crate) fn sheet_of<const C: usize>(
     names: &[Vec<u8>],
     picture: &Picture,
     downs: &[Down],
+    switches: &[Switch],
 ) -> Result<Sheet, NoMemory>
     ensures nodes { IfOk result (λ sheet. sheet.columns.nodes.items ≡ nodes_of picture.now.panels) }
     ensures lanes { IfOk result (λ sheet. sheet.columns.lanes.items ≡ lanes_in picture.now.panels) }
@@ -211,7 +212,7 @@ pub(crate) fn sheet_of<const C: usize>(
     let falls = falls_of(
         alloc,
         closed,
-        downs,
+        Told { downs, switches },
         picture.arrows.as_slice(),
         &times,
         &columns,
@@ -259,7 +260,7 @@ const THIN: u64 = 5;
 impl Sheet {
     /// The time in which a link is down that has a number. Each has edges; one that hasn't would be drawn at the end all the same.
     fn fall_at(&self, number: usize) -> Fall {
-        match self.falls.as_slice().get(number) {
+        match self.falls.falls.as_slice().get(number) {
             Some(fall) => *fall,
             None => Fall {
                 cut: Edge {
@@ -301,9 +302,8 @@ impl Sheet {
         }
     }
 
-    /// Where the mark of a change of a link stands, on its shelf.
-    fn change_at(&self, link: usize, edge: Edge) -> Spot {
-        let x = self.columns.strip_of(link).left.saturating_add(4);
+    /// Where a mark stands that has a shelf before a row, beside a line.
+    fn spot_before(&self, edge: Edge, x: u64, anchor: Anchor) -> Spot {
         let raised = edge.shelf.saturating_mul(SHELF);
         let last = self.rows.times.len();
         let y = if edge.row < last {
@@ -321,8 +321,34 @@ impl Sheet {
         Spot {
             x,
             y,
-            anchor: Anchor::Start,
+            anchor,
             reading: Reading::Across,
+        }
+    }
+
+    /// Where the mark of a change of a link stands, on its shelf.
+    fn change_at(&self, link: usize, edge: Edge) -> Spot {
+        let x = self.columns.strip_of(link).left.saturating_add(BESIDE);
+        self.spot_before(edge, x, Anchor::Start)
+    }
+
+    /// Where the mark of a node stands, by the numbers of its switch and of its line. Each that is drawn has a place; one that hasn't would
+    /// be drawn at its line, below all.
+    pub(crate) fn flag_at(&self, number: usize, line: usize) -> Spot {
+        let flag = self
+            .falls
+            .flags
+            .as_slice()
+            .iter()
+            .find(|flag| flag.number == number && flag.line == line);
+        match flag {
+            Some(flag) => self.spot_before(flag.edge, flag.x, flag.anchor),
+            None => Spot {
+                x: self.columns.line_at(line),
+                y: self.rows.bottom,
+                anchor: Anchor::Start,
+                reading: Reading::Across,
+            },
         }
     }
 

@@ -14,9 +14,10 @@ use crate::listing::{Ends, add_list};
 use crate::marks::add_marks;
 use crate::shades::{add_changes, add_sample_if, add_shades};
 use crate::sheet::{Sheet, sheet_of};
+use crate::switches::add_switches;
 use crate::telling::add_incomplete;
 use hsr_closing::Closed;
-use hsr_downs::Down;
+use hsr_downs::{Down, Switch};
 use hsr_frame::NoMemory;
 use hsr_picture::Picture;
 use hsr_picture_text::title_words;
@@ -61,9 +62,10 @@ fn add_above<const C: usize>(
     closed: &Closed<C>,
     picture: &Picture,
     downs: &[Down],
+    switches: &[Switch],
     sheet: &Sheet,
 ) -> Result<Ends, NoMemory>
-    ensures { OnOk result (shapes elements.new.items ≡ shapes elements.old.items ++ above_shapes (lists_of names.now) closed.now.run picture.now downs.now sheet.now.columns.nodes.items sheet.now.moments.items sheet.now.items.items) }
+    ensures { OnOk result (shapes elements.new.items ≡ shapes elements.old.items ++ above_shapes (lists_of names.now) closed.now.run picture.now downs.now switches.now sheet.now.columns.nodes.items sheet.now.moments.items sheet.now.items.items) }
 {
     let arrows = picture.arrows.as_slice();
     let sends = picture.sends.as_slice();
@@ -73,7 +75,10 @@ fn add_above<const C: usize>(
     begin_labels(elements)?;
     add_labels(alloc, elements, names, closed, sheet, has_one, arrows)?;
     add_marks(alloc, elements, names, sheet, deliveries, sends)?;
-    add_changes(alloc, elements, sheet, sheet.moments.as_slice(), downs)?;
+    let moments = sheet.moments.as_slice();
+    add_changes(alloc, elements, sheet, moments, downs)?;
+    let nodes = sheet.columns.nodes.as_slice();
+    add_switches(alloc, elements, sheet, moments, nodes, switches)?;
     end_labels(elements)?;
     let items = sheet.items.as_slice();
     add_list(alloc, elements, names, closed, sheet, deliveries, items)
@@ -113,16 +118,19 @@ fn add_all<const C: usize>(
     closed: &Closed<C>,
     picture: &Picture,
     downs: &[Down],
+    switches: &[Switch],
     sheet: &Sheet,
 ) -> Result<Size, NoMemory>
-    ensures { OnOk result (shapes elements.new.items ≡ shapes elements.old.items ++ picture_shapes (lists_of names.now) closed.now.run picture.now downs.now sheet.now.columns.nodes.items sheet.now.columns.lanes.items sheet.now.moments.items sheet.now.items.items) }
+    ensures { OnOk result (shapes elements.new.items ≡ shapes elements.old.items ++ picture_shapes (lists_of names.now) closed.now.run picture.now downs.now switches.now sheet.now.columns.nodes.items sheet.now.columns.lanes.items sheet.now.moments.items sheet.now.items.items) }
 {
     let places = closed.topology().places();
     let moments = sheet.moments.as_slice();
     add_title(alloc, elements, closed, picture)?;
     add_shades(elements, sheet, moments, downs)?;
     add_frame(alloc, elements, names, places, sheet)?;
-    let ends = add_above(alloc, elements, names, closed, picture, downs, sheet)?;
+    let ends = add_above(
+        alloc, elements, names, closed, picture, downs, switches, sheet,
+    )?;
     let below = sheet.rows.bottom.max(ends.bottom).saturating_add(44);
     let last = add_below(alloc, elements, names, picture, downs, moments, below)?;
     Ok(Size {
@@ -139,17 +147,20 @@ fn add_scene<const C: usize>(
     closed: &Closed<C>,
     picture: &Picture,
     downs: &[Down],
+    switches: &[Switch],
 ) -> Result<Size, NoMemory>
     requires { elements.old.items ≡ [] }
-    ensures { OnOk result (IsScene (lists_of names.now) closed.now.run picture.now downs.now elements.new.items) }
+    ensures { OnOk result (IsScene (lists_of names.now) closed.now.run picture.now downs.now switches.now elements.new.items) }
 {
-    let sheet = sheet_of(alloc, closed, names, picture, downs)?;
-    add_all(alloc, elements, names, closed, picture, downs, &sheet)
+    let sheet = sheet_of(alloc, closed, names, picture, downs, switches)?;
+    add_all(
+        alloc, elements, names, closed, picture, downs, switches, &sheet,
+    )
 }
 
 /// A picture as SVG: panels side by side, moments and steps downwards, an arrow for each copy with a hover text, the sends at the
 /// right, a legend and the sends that aren't complete below; behind all a shade for each of the times in which links are down, and marks of
-/// their cuts and mends, as far as their moments are shown. A node without a name is `n` and its number. Each arrow of the picture is
+/// their cuts and mends, and of nodes that go off or come on, as far as their moments are shown. A node without a name is `n` and its number. Each arrow of the picture is
 /// drawn once, in order, and so is all else that is shown; where it stands on the paper is no part of the contract. `NoMemory` where
 /// room is refused.
 pub fn drawing<const C: usize>(
@@ -158,11 +169,20 @@ pub fn drawing<const C: usize>(
     names: &[Vec<u8>],
     picture: &Picture,
     downs: &[Down],
+    switches: &[Switch],
 ) -> Result<Vec<u8>, NoMemory>
-    ensures { IfOk result (λ text. IsDrawing (lists_of names.now) closed.now.run picture.now downs.now text.items) }
+    ensures { IfOk result (λ text. IsDrawing (lists_of names.now) closed.now.run picture.now downs.now switches.now text.items) }
 {
     let mut elements = Vec::new(alloc);
-    let size = add_scene(alloc, &mut elements, names, closed, picture, downs)?;
+    let size = add_scene(
+        alloc,
+        &mut elements,
+        names,
+        closed,
+        picture,
+        downs,
+        switches,
+    )?;
     let mut text = Vec::new(alloc);
     put_svg(&mut text, size.width, size.height, elements.as_slice())?;
     Ok(text)

@@ -13,6 +13,7 @@ use Rattle.hsr_node.specs.declared.event.Probe.{Probe}
 use Rattle.hsr_topology.specs.Topology.{Topology}
 use Rattle.hsr_closing.specs.Finished.{Finished}
 use Rattle.hsr_scenario.specs.Names.{NamesMeant, names_meant}
+use Rattle.hsr_scenario.specs.declared.steps.Order.{Order}
 use Rattle.hsr_names.specs.Names.{node_called}
 use Rattle.hsr_story.specs.Choice.{checked, is_wanted}
 use Rattle.hsr_story.specs.Story.{IsStory}
@@ -21,12 +22,13 @@ use Rattle.hsr_story.specs.declared.shown.Shown.{Shown}
 use Rattle.hsr_capture.specs.Capture.{capture}
 use Rattle.hsr_capture.specs.Fits.{Fits}
 use Rattle.hsr_devices.specs.Listing.{IsListing}
-use Rattle.hsr_downs.specs.declared.downing.Down.{Down}
+use Rattle.hsr_downs.specs.Downs.{downs}
+use Rattle.hsr_downs.specs.Switches.{switches}
 use Rattle.hsr_drawing.specs.Drawing.{IsDrawing}
 use Rattle.hsr_law.specs.Run.{Run}
 use Rattle.hsr_transcript.specs.Answers.{IsTextOf}
 use Rattle.std.specs.Borrow.{Bor}
-use Rattle.hsr_viewing.specs.Agreeing.{AreDowns}
+use Rattle.hsr_viewing.specs.Agreeing.{AreSteps}
 use Rattle.hsr_viewing.specs.Given.{begins}
 use Rattle.hsr_viewing.specs.declared.asked.What.{What}
 use Rattle.hsr_viewing.specs.declared.asked.What.TheVariants as asked
@@ -80,16 +82,17 @@ pub record IsCaptureOf (names : List (List ℕ)) (f : Finished) (wanted : Choice
 
 -- ---- pictures
 
--- what is asked for is there, a picture shows some of it, and this is its drawing, with the times in which a scenario has links down
+-- What is asked for is there, a picture shows some of it, and this is its drawing, with the times in which the steps of a scenario have
+-- links down, and with the nodes that go off or come on by them.
 pub record IsPictured (names : List (List ℕ)) (f : Finished) (scenario : Option (List ℕ)) (asked : List (Bor (List ℕ) × ℕ)) (span : Span) (octets : List ℕ) : Type 0 where
   pub sends : List Probe
   pub meant : AreSends names asked sends
   pub picture : Picture
   pub shows : IsPicture f.run f.plan sends span picture
   pub some : 0 < length picture.arrows
-  pub downs : List Down
-  pub are_downs : AreDowns f.plan scenario downs
-  pub drawn : IsDrawing names f.run picture downs octets
+  pub steps : List Order
+  pub are_steps : AreSteps f.plan scenario steps
+  pub drawn : IsDrawing names f.run picture (downs steps) (switches f.run.links steps) octets
 
 -- ---- all that can be asked for
 

@@ -1,10 +1,9 @@
-//! When links are down, by the scenario from which a run came.
+//! The steps of the scenario from which a run came.
 ghost use Rattle.std.specs.Prelude.{◌≡◌, ◌↔◌, IfOk, IsTrue, option_map};
 ghost use Rattle.hsr_scenario.specs.Fault.{is_memory};
-ghost use Rattle.hsr_viewing.specs.Agreeing.{AreDowns, AreDownsBy};
+ghost use Rattle.hsr_viewing.specs.Agreeing.{AreSteps, AreStepsBy};
 
 use hsr_closing::Planned;
-use hsr_downs::{Down, downs};
 use hsr_frame::NoMemory;
 use hsr_runner::plan_of;
 use hsr_scenario::{Order, What as Refused, read};
@@ -41,32 +40,32 @@ fn are_same(a: &[Planned], b: &[Planned]) -> bool
     left.is_empty()
 }
 
-/// The times in which steps have links down, where they have this plan; none otherwise.
-fn downs_by(alloc: Global, plan: &[Planned], orders: &[Order]) -> Result<Vec<Down>, NoMemory>
-    ensures { IfOk result (λ told. AreDownsBy plan.now orders.now told.items) }
+/// Steps, where they have this plan; none otherwise.
+fn steps_by(alloc: Global, plan: &[Planned], orders: Vec<Order>) -> Result<Vec<Order>, NoMemory>
+    ensures { IfOk result (λ told. AreStepsBy plan.now orders.items told.items) }
 {
-    let planned = plan_of(alloc, orders)?;
+    let planned = plan_of(alloc, orders.as_slice())?;
     if are_same(planned.as_slice(), plan) {
-        downs(alloc, orders)
+        Ok(orders)
     } else {
         Ok(Vec::new(alloc))
     }
 }
 
-/// The times in which the scenario of a run has links down, by the plan of the run; none without a scenario, or where it has steps that
-/// aren't read, or another plan.
-pub(crate) fn downs_of(
+/// The steps of the scenario of a run, by the plan of the run; none without a scenario, or where it has steps that aren't read, or another
+/// plan.
+pub(crate) fn steps_of(
     alloc: Global,
     plan: &[Planned],
     scenario: Option<&str>,
-) -> Result<Vec<Down>, NoMemory>
-    ensures { IfOk result (λ told. AreDowns plan.now (option_map (λ s. s.now) scenario.entry) told.items) }
+) -> Result<Vec<Order>, NoMemory>
+    ensures { IfOk result (λ told. AreSteps plan.now (option_map (λ s. s.now) scenario.entry) told.items) }
 {
     let Some(text) = scenario else {
         return Ok(Vec::new(alloc));
     };
     match read(alloc, text) {
-        Ok(scenario) => downs_by(alloc, plan, scenario.steps.as_slice()),
+        Ok(scenario) => steps_by(alloc, plan, scenario.steps),
         Err(fault) => {
             if is_memory(fault.what) {
                 Err(NoMemory)

@@ -10,7 +10,7 @@ ghost use Rattle.hsr_viewing.specs.Refusals.{HasStray, IsBlank, IsMisnamed, IsSt
 ghost use Rattle.hsr_viewing.specs.Viewing.{AreNames, AreSends, IsCaptureOf, IsPictured, IsSend, IsShown, IsShownOf, leaves_none, probe_of, table_of};
 ghost use Rattle.hsr_viewing.specs.declared.fault.Fault.TheVariants.{Memory, Send};
 
-use crate::agreeing::{downs_of, is_memory};
+use crate::agreeing::{is_memory, steps_of};
 use crate::asked::What;
 use crate::fault::{Extent, Fault, Moments, told};
 use crate::given::{begins, given_of};
@@ -19,6 +19,7 @@ use crate::unnamed::{other, unread};
 use hsr_capture::capture;
 use hsr_closing::Closed;
 use hsr_devices::devices;
+use hsr_downs::{downs, switches};
 use hsr_drawing::drawing;
 use hsr_frame::NoMemory;
 use hsr_names::node_called;
@@ -154,9 +155,9 @@ fn blank_of<const C: usize>(alloc: Global, closed: &Closed<C>) -> Fault
     }
 }
 
-/// The picture of those rows of a run that are wanted, drawn, with the times in which its scenario has links down: `Send` where the run hasn't one of the sends, `Moments` where the span ends
-/// before it begins, `Copies` where too many are wanted, `NoCopies` or `NoneAsked` where none is, `Circle` where its rows have no order of
-/// time.
+/// The picture of those rows of a run that are wanted, drawn, with the times in which its scenario has links down and nodes off: `Send`
+/// where the run hasn't one of the sends, `Moments` where the span ends before it begins, `Copies` where too many are wanted, `NoCopies` or
+/// `NoneAsked` where none is, `Circle` where its rows have no order of time.
 fn picture_of<const C: usize>(
     alloc: Global,
     closed: &Closed<C>,
@@ -174,8 +175,17 @@ fn picture_of<const C: usize>(
     if picture.arrows.is_empty() {
         return Err(blank_of(alloc, closed));
     }
-    let downs = downs_of(alloc, closed.plan(), scenario)?;
-    let octets = drawing(alloc, closed, names, &picture, downs.as_slice())?;
+    let steps = steps_of(alloc, closed.plan(), scenario)?;
+    let downs = downs(alloc, steps.as_slice())?;
+    let switches = switches(alloc, closed.topology().links(), steps.as_slice())?;
+    let octets = drawing(
+        alloc,
+        closed,
+        names,
+        &picture,
+        downs.as_slice(),
+        switches.as_slice(),
+    )?;
     Ok(octets)
 }
 
