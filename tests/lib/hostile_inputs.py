@@ -46,6 +46,16 @@ def many_steps():
     return (ring(3, 64) + "step = [\n" + steps + "]\n").encode()
 
 
+def one_send():
+    return ring(3, 64) + "step = [" + send(GROUP) + '{do="drain"},\n]'
+
+
+def many_cuts():
+    """The scenario of one send, followed by as many cuts of a link as a text has room for: its plan is the same."""
+    begun, cut = one_send().removesuffix("]"), '{do="cut", link=0},\n'
+    return begun + cut * ((16 * 2**20 - len(begun) - 1) // len(cut)) + "]"
+
+
 def lines(size):
     """`size` octets of lines for `node`."""
     return (b"age 0\n" * (size // 6 + 1))[:size]

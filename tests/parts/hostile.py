@@ -129,6 +129,18 @@ def try_large_names(setting):
         return try_rows(setting, rows, same, b"hsr-bench 2\ntable 512\nnodes 0\nlinks 0\nmain 0\nend\n")
 
 
+def try_many_cuts(setting):
+    """A picture by a scenario that cuts a link 800,000 times."""
+    text = inputs.one_send()
+    command = [setting.programs["hsr_bench"], "run", "--transcript"]
+    transcript = subprocess.run(command, input=text.encode(), stdout=subprocess.PIPE, timeout=SECONDS).stdout
+    with tempfile.NamedTemporaryFile("w", dir=setting.work) as file:
+        file.write(inputs.many_cuts())
+        file.flush()
+        rows = [("names with 800,000 cuts", ["picture", "--names", file.name], 0, "</svg>")]
+        return try_rows(setting, rows, same, transcript)
+
+
 def jobs_to_show():
     zeros = [("3 GB of zeros", [word], 1, NO_TRANSCRIPT) for word in ("picture", "capture", "devices")]
     version = [("a version, then a line of 1 GB", ["picture"], 1, "fault: transcript line 2")]
@@ -136,6 +148,7 @@ def jobs_to_show():
         Job(try_rows, (zeros, same, inputs.ZEROS), 2),
         Job(try_rows, (version, same, "echo hsr-bench 2; " + inputs.LONG_LINE), 2),
         Job(try_large_names, (), 2),
+        Job(try_many_cuts, (), 2),
     ]
 
 
