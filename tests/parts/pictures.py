@@ -123,9 +123,9 @@ def try_downs(setting):
 def try_offs(setting):
     """Draws a node that goes off: it has a mark on each of its lines where its last link goes down, and where one is up again."""
     tally = Tally()
-    sent = [f'{{do="clock", at={at}}}, {{do="send", node="n0", to="{GROUP}", type=0x88B5}}, {{do="drain"}},' for at in (1000, 3000, 5000)]
-    cuts = '{do="cut", link=0}, {do="clock", at=2000}, {do="cut", link=1},'
-    mend = '{do="clock", at=4000}, {do="mend", link=1}, {do="mend", link=0},'
+    sent = [f'{{do="clock", at={at}}}, {{do="send", node="n0", to="{GROUP}", type=0x88B5}}, {{do="drain"}},' for at in (1, 3, 5)]
+    cuts = '{do="cut", link=0}, {do="clock", at=2}, {do="cut", link=1},'
+    mend = '{do="clock", at=4}, {do="mend", link=1}, {do="mend", link=0},'
     # the first node of a ring has two lines
     first = cuts.replace("link=1", "link=2")
     for name, changes, marks in (
