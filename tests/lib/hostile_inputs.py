@@ -51,9 +51,8 @@ def one_send():
 
 
 def many_cuts():
-    """The scenario of one send, followed by as many cuts of a link as a text has room for: its plan is the same."""
-    begun, cut = one_send().removesuffix("]"), '{do="cut", link=0},\n'
-    return begun + cut * ((16 * 2**20 - len(begun) - 1) // len(cut)) + "]"
+    """The scenario of one send, followed by cuts of a link: its plan is the same."""
+    return one_send().removesuffix("]") + '{do="cut", link=0},\n' * 200_000 + "]"
 
 
 def lines(size):

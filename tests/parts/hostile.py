@@ -130,14 +130,14 @@ def try_large_names(setting):
 
 
 def try_many_cuts(setting):
-    """A picture by a scenario that cuts a link 800,000 times."""
+    """A picture by a scenario that cuts a link 200,000 times."""
     text = inputs.one_send()
     command = [setting.programs["hsr_bench"], "run", "--transcript"]
     transcript = subprocess.run(command, input=text.encode(), stdout=subprocess.PIPE, timeout=SECONDS).stdout
     with tempfile.NamedTemporaryFile("w", dir=setting.work) as file:
         file.write(inputs.many_cuts())
         file.flush()
-        rows = [("names with 800,000 cuts", ["picture", "--names", file.name], 0, "</svg>")]
+        rows = [("names with 200,000 cuts", ["picture", "--names", file.name], 0, "</svg>")]
         return try_rows(setting, rows, same, transcript)
 
 
