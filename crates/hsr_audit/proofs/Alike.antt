@@ -10,10 +10,10 @@ use Rattle.hsr_node.specs.declared.event.Probe.{Probe}
 use Rattle.hsr_node.specs.declared.place.Place.{Place}
 use Rattle.hsr_node.specs.declared.place.Place.TheVariants.{Danh, RedBox, QuadBox, Station}
 use Rattle.hsr_deliveries.specs.Delivered.{lost}
-use Rattle.hsr_law.specs.Run.{Run, place_of}
-use Rattle.hsr_law.proofs.Same.{same_address}
-use Rattle.hsr_network_law.specs.Network.{Way, start_of, stop_of}
-use Rattle.hsr_network_law.specs.Ways.{Carries, ComesOver, IsFirstWay, IsNextWay, IsReached, keeps_own, lets_out, on, passes_on, sent}
+use Rattle.hsr_run_laws.specs.Run.{Run, place_of}
+use Rattle.hsr_run_laws.proofs.Same.{same_address}
+use Rattle.hsr_network_laws.specs.Network.{Way, start_of, stop_of}
+use Rattle.hsr_network_laws.specs.Ways.{Carries, ComesOver, IsFirstWay, IsNextWay, IsReached, keeps_own, lets_out, on, passes_on, sent}
 use Rattle.hsr_audit.specs.Lossy.{is_on}
 use Rattle.hsr_audit.specs.Reaching.{AreReached}
 use Rattle.hsr_audit.specs.Shared.{AreFound, ReachAlike, found_of}

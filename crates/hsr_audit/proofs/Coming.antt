@@ -7,11 +7,11 @@ use Rattle.hsr_node.specs.declared.place.Place.{Place}
 use Rattle.hsr_node.specs.declared.place.Place.TheVariants.{QuadBox}
 use Rattle.hsr_link.specs.declared.row.Dir.{Dir}
 use Rattle.hsr_link.specs.declared.row.Dir.TheVariants.{Forth, Back}
-use Rattle.hsr_law.specs.Premises.{is_redbox}
-use Rattle.hsr_law.specs.Run.{Run, place_of}
-use Rattle.hsr_numbers.specs.Numbers.{has}
-use Rattle.hsr_network_law.specs.Network.{Way, start_of, stop_of}
-use Rattle.hsr_ways.specs.Numbered.{number_of}
+use Rattle.hsr_run_laws.specs.Premises.{is_redbox}
+use Rattle.hsr_run_laws.specs.Run.{Run, place_of}
+use Rattle.hsr_bitset.specs.Numbers.{has}
+use Rattle.hsr_network_laws.specs.Network.{Way, start_of, stop_of}
+use Rattle.hsr_reach.specs.Numbered.{number_of}
 use Rattle.hsr_audit.specs.Coming.{Comes, IsLastWay, is_to_station}
 use Rattle.hsr_audit.specs.Reaching.{IsSpreadOf, is_last_in}
 use Rattle.hsr_audit.specs.declared.cutoff.Spread.{Spread}

@@ -8,11 +8,11 @@ use Rattle.hsr_link.specs.Rows.{is_lost, is_same_dir}
 use Rattle.hsr_link.specs.declared.row.Row.{Row}
 use Rattle.hsr_deliveries.specs.Delivered.{loss_of, lost, lost_below}
 use Rattle.hsr_deliveries.specs.declared.loss.Loss.{Loss}
-use Rattle.hsr_law.specs.Run.{Run, is_of, rows_of}
-use Rattle.hsr_network_law.specs.Network.{Way}
-use Rattle.hsr_network_law.specs.Ways.{is_loss}
-use Rattle.hsr_ways.specs.Numbered.{IsLossOf, number_of}
-use Rattle.hsr_numbers.specs.Numbers.{has}
+use Rattle.hsr_run_laws.specs.Run.{Run, is_of, rows_of}
+use Rattle.hsr_network_laws.specs.Network.{Way}
+use Rattle.hsr_network_laws.specs.Ways.{is_loss}
+use Rattle.hsr_reach.specs.Numbered.{IsLossOf, number_of}
+use Rattle.hsr_bitset.specs.Numbers.{has}
 use Rattle.hsr_audit.specs.Lossy.{AreWaysOf, is_on}
 
 any_both : {X : Type 0} (p : X → Bool) (xs ys : List X) → list_any p (xs ++ ys) ≡ (list_any p xs || list_any p ys)

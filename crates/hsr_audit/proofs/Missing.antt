@@ -16,15 +16,15 @@ use Rattle.hsr_link.specs.declared.row.Dir.{Dir}
 use Rattle.hsr_link.specs.declared.row.Dir.TheVariants.{Forth, Back}
 use Rattle.hsr_topology.specs.declared.end.End.{End}
 use Rattle.hsr_tables.specs.Proxies.{Proxies, is_known}
-use Rattle.hsr_law.specs.Closed.{IsSend}
-use Rattle.hsr_law.specs.Premises.{is_redbox}
-use Rattle.hsr_law.specs.Run.{Run, ends_of, from_end, is_of, owner_of, past_of, place_of, record_of, to_end}
-use Rattle.hsr_needed.specs.Read.{heard_in, stations_of}
-use Rattle.hsr_needed.proofs.Hearing.{known_same, stations_last}
-use Rattle.hsr_needed.proofs.Places.{no_entry, past_length, past_more}
-use Rattle.hsr_needed.proofs.Walking.{place_at}
-use Rattle.hsr_network_law.specs.Network.{Way, start_of, stop_of}
-use Rattle.hsr_network_law.specs.Stations.{finds}
+use Rattle.hsr_run_laws.specs.Closed.{IsSend}
+use Rattle.hsr_run_laws.specs.Premises.{is_redbox}
+use Rattle.hsr_run_laws.specs.Run.{Run, ends_of, from_end, is_of, owner_of, past_of, place_of, record_of, to_end}
+use Rattle.hsr_table_demand.specs.Read.{heard_in, stations_of}
+use Rattle.hsr_table_demand.proofs.Hearing.{known_same, stations_last}
+use Rattle.hsr_table_demand.proofs.Places.{no_entry, past_length, past_more}
+use Rattle.hsr_table_demand.proofs.Walking.{place_at}
+use Rattle.hsr_network_laws.specs.Network.{Way, start_of, stop_of}
+use Rattle.hsr_network_laws.specs.Stations.{finds}
 use Rattle.hsr_audit.specs.Coming.{IsBoxOf, IsKnown, is_to_station}
 use Rattle.hsr_audit.specs.Sends.{probe_at}
 use Rattle.hsr_audit.specs.Missed.{IsFirstMissed, IsLowest, IsLowestOf, IsMissed, IsUnknown, IsUnknownOf, MissedBelow, MissedOn, is_box_of, is_due_below, is_lower, leads_below, lower_of, sending_at, sent_in, sent_of}

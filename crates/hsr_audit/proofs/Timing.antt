@@ -11,11 +11,11 @@ use Rattle.hsr_node.specs.declared.entry.Entry.{Entry}
 use Rattle.hsr_node.specs.declared.event.Event.{Event}
 use Rattle.hsr_node.specs.declared.event.Event.TheVariants.{Send, Supervise, Arrive, Age}
 use Rattle.hsr_node.specs.declared.event.Probe.{Probe}
-use Rattle.hsr_law.specs.Budget.{IsInTime, Sent, is_sending, moment_at, moment_of, sends_at, sends_below, sends_of}
-use Rattle.hsr_law.specs.Run.{Run, past_of, record_of}
+use Rattle.hsr_run_laws.specs.Budget.{IsInTime, Sent, is_sending, moment_at, moment_of, sends_at, sends_below, sends_of}
+use Rattle.hsr_run_laws.specs.Run.{Run, past_of, record_of}
 use Rattle.hsr_audit.specs.Budgeted.{IsInTimeAt}
 use Rattle.hsr_audit.specs.Timed.{AreSendMoments, is_in_time, is_timely, is_timely_of, moment_in, moment_sent, moments_in, moments_of, moments_recorded, sent_moments, sent_moments_below}
-use Rattle.hsr_needed.proofs.Places.{past_length, past_more}
+use Rattle.hsr_table_demand.proofs.Places.{past_length, past_more}
 
 -- ---- one more entry
 

@@ -10,11 +10,11 @@ use Rattle.hsr_node.specs.declared.event.Probe.{Probe}
 use Rattle.hsr_node.specs.declared.place.Place.{Place}
 use Rattle.hsr_node.specs.declared.sending.Sending.{Sending}
 use Rattle.hsr_deliveries.specs.Delivered.{is_due}
-use Rattle.hsr_law.specs.Premises.{is_redbox}
-use Rattle.hsr_law.specs.Run.{Run, place_of}
-use Rattle.hsr_network_law.specs.Network.{Way, is_station, start_of, stop_of}
-use Rattle.hsr_network_law.specs.Stations.{FindsEach}
-use Rattle.hsr_network_law.specs.Ways.{Carries, IsReached}
+use Rattle.hsr_run_laws.specs.Premises.{is_redbox}
+use Rattle.hsr_run_laws.specs.Run.{Run, place_of}
+use Rattle.hsr_network_laws.specs.Network.{Way, is_station, start_of, stop_of}
+use Rattle.hsr_network_laws.specs.Stations.{FindsEach}
+use Rattle.hsr_network_laws.specs.Ways.{Carries, IsReached}
 
 -- ---- to a node
 

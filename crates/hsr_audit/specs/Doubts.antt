@@ -4,14 +4,14 @@
 --     of_ring, of_network   the table of each audit
 --     IsFirst               a doubt of a table is so, and the run is clear of those before it
 use Rattle.std.specs.Prelude.{ℕ, ◌<◌, ◌==◌, Bool, true, false, List, [], ◌∷◌, length}
-use Rattle.hsr_law.specs.Premises.{NothingForgotten, NothingMistaken, OneLossyLink}
-use Rattle.hsr_law.specs.Run.{Run}
-use Rattle.hsr_network_law.specs.Late.{NothingLate}
-use Rattle.hsr_network_law.specs.Network.{IsNetwork}
-use Rattle.hsr_premises.specs.Flaws.{IsFirstNot, IsInTimeAt, KnowsOwnAt, RemembersAt}
-use Rattle.hsr_premises.specs.declared.flaw.Flaw.{Flaw}
-use Rattle.hsr_premises.specs.declared.flaw.Flaw.TheVariants as flaw
-use Rattle.hsr_ways.specs.Networks.{AreGoingRound, HaveOwnAddresses, IsFirstUnlike}
+use Rattle.hsr_run_laws.specs.Premises.{NothingForgotten, NothingMistaken, OneLossyLink}
+use Rattle.hsr_run_laws.specs.Run.{Run}
+use Rattle.hsr_network_laws.specs.Late.{NothingLate}
+use Rattle.hsr_network_laws.specs.Network.{IsNetwork}
+use Rattle.hsr_table_flaws.specs.Flaws.{IsFirstNot, IsInTimeAt, KnowsOwnAt, RemembersAt}
+use Rattle.hsr_table_flaws.specs.declared.flaw.Flaw.{Flaw}
+use Rattle.hsr_table_flaws.specs.declared.flaw.Flaw.TheVariants as flaw
+use Rattle.hsr_reach.specs.Networks.{AreGoingRound, HaveOwnAddresses, IsFirstUnlike}
 use Rattle.hsr_audit.specs.Danhs.{IsDanhRing}
 use Rattle.hsr_audit.specs.Sends.{AreKnown, ArePromised, AreServed, HasSend, IsCoveredAt, IsCutOff, IsKnownAt, IsServedAt}
 use Rattle.hsr_audit.specs.declared.doubt.AuditFault.{AuditFault}
@@ -112,7 +112,7 @@ abbrev pub IsRefused : Type 0 → AuditFault → Type 0
 IsRefused P (fault.Doubt doubt) = ¬ P
 IsRefused P fault.NoMemory = Unit {0}
 
--- ---- as hsr_premises says it
+-- ---- as hsr_table_flaws says it
 
 abbrev pub doubt_at : Flaw → Doubt
 doubt_at (flaw.Forgot k i) = Forgot k i

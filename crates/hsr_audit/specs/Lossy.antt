@@ -3,9 +3,9 @@ use Rattle.std.specs.Prelude.{ℕ, ◌<◌, ◌≡◌, ◌==◌, ◌&&◌, Bool,
 use Rattle.std.specs.List.{list_any}
 use Rattle.hsr_link.specs.Rows.{is_same_dir}
 use Rattle.hsr_deliveries.specs.declared.loss.Loss.{Loss}
-use Rattle.hsr_network_law.specs.Network.{Way}
-use Rattle.hsr_numbers.specs.Numbers.{has}
-use Rattle.hsr_ways.specs.Numbered.{number_of}
+use Rattle.hsr_network_laws.specs.Network.{Way}
+use Rattle.hsr_bitset.specs.Numbers.{has}
+use Rattle.hsr_reach.specs.Numbered.{number_of}
 
 -- a copy was lost on a way
 abbrev pub is_on : Way → Loss → Bool

@@ -3,13 +3,13 @@ use Rattle.std.specs.Prelude.{ℕ, ◌<◌, ◌≡◌, ◌↔◌, ◌==◌, ◌&
 use Rattle.hsr_frame.specs.Grammar.{Fields}
 use Rattle.hsr_node.specs.declared.event.Probe.{Probe}
 use Rattle.hsr_deliveries.specs.Delivered.{is_due}
-use Rattle.hsr_law.specs.Premises.{is_redbox}
-use Rattle.hsr_law.specs.Run.{Run, place_of}
-use Rattle.hsr_network_law.specs.Network.{Way, start_of, stop_of}
-use Rattle.hsr_network_law.specs.Ways.{IsReached}
-use Rattle.hsr_numbers.specs.Numbers.{has}
-use Rattle.hsr_premises.specs.Flaws.{IsFirstNot}
-use Rattle.hsr_ways.specs.Numbered.{IsLossOf, number_of}
+use Rattle.hsr_run_laws.specs.Premises.{is_redbox}
+use Rattle.hsr_run_laws.specs.Run.{Run, place_of}
+use Rattle.hsr_network_laws.specs.Network.{Way, start_of, stop_of}
+use Rattle.hsr_network_laws.specs.Ways.{IsReached}
+use Rattle.hsr_bitset.specs.Numbers.{has}
+use Rattle.hsr_table_flaws.specs.Flaws.{IsFirstNot}
+use Rattle.hsr_reach.specs.Numbered.{IsLossOf, number_of}
 use Rattle.hsr_audit.specs.Coming.{Comes}
 use Rattle.hsr_audit.specs.Sends.{IsCutOff, IsServedAt}
 use Rattle.hsr_audit.specs.Placed.{HoldsBelow, HoldsIn, IsFirstOf}

@@ -8,7 +8,7 @@ use Rattle.hsr_frame.specs.Address.{is_same_address}
 use Rattle.hsr_frame.specs.Grammar.{Fields}
 use Rattle.hsr_node.specs.declared.event.Probe.{Probe}
 use Rattle.hsr_deliveries.specs.Delivered.{lost}
-use Rattle.hsr_law.specs.Run.{Run}
+use Rattle.hsr_run_laws.specs.Run.{Run}
 use Rattle.hsr_audit.specs.Reaching.{AreReached}
 
 abbrev pub found_of : {S : Type 0} → IndexMap (List ℕ × ℕ) (List ℕ) S → List ℕ → ℕ → Option (List ℕ)

@@ -1,16 +1,16 @@
 //! Whether a duplicate table is large enough for what a run sent.
 ghost use Rattle.std.specs.Prelude.{IfErr, IfOk};
-ghost use Rattle.hsr_closing.specs.Finished.{IsFinished};
-ghost use Rattle.hsr_law.specs.Budget.{IsBudgetHeld};
+ghost use Rattle.hsr_finished_run.specs.Finished.{IsFinished};
+ghost use Rattle.hsr_run_laws.specs.Budget.{IsBudgetHeld};
 ghost use Rattle.hsr_audit.specs.Budgeted.{IsEnough, IsFirstBreach, IsMost, IsOverspent};
 
 use crate::breach::{Budget, BudgetFault};
 use crate::late::first_late;
 use crate::moments::moments_of;
-use hsr_closing::Closed;
+use hsr_finished_run::Closed;
 use hsr_frame::NoMemory;
-use hsr_law::{boxless, budget_keeps, budget_tells, no_storm, once_in_budget};
-use hsr_windows::{most_crowded, most_of};
+use hsr_run_laws::{boxless, budget_keeps, budget_tells, no_storm, once_in_budget};
+use hsr_table_demand::{most_crowded, most_of};
 use std::alloc::Global;
 
 /// The budget of a run, or the first reason why the run isn't within it.

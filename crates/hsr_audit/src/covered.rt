@@ -1,10 +1,10 @@
 //! Which sends the law of networks covers, and which are to Stations.
 ghost use Rattle.std.specs.Prelude.{◌≡◌, ◌&&◌, not};
 ghost use Rattle.hsr_frame.specs.Egress as egress;
-ghost use Rattle.hsr_law.specs.Premises.{is_redbox};
+ghost use Rattle.hsr_run_laws.specs.Premises.{is_redbox};
 ghost use Rattle.hsr_audit.specs.Coming.{is_to_station};
-ghost use Rattle.hsr_network_law.specs.Lives.{is_joined_with_station, is_station_at, joins_stations};
-ghost use Rattle.hsr_network_law.specs.Network.{is_station};
+ghost use Rattle.hsr_network_laws.specs.Lives.{is_joined_with_station, is_station_at, joins_stations};
+ghost use Rattle.hsr_network_laws.specs.Network.{is_station};
 
 use hsr_frame::is_supervision;
 use hsr_node::Place;

@@ -1,26 +1,26 @@
 //! The first send that doesn't come to a node that it is due at.
 ghost use Rattle.std.specs.Prelude.{◌≡◌, ◌↔◌, ◌<◌, [], length, IfOk, IsTrue, OnOk};
 ghost use Rattle.hsr_deliveries.specs.Delivered.{lost};
-ghost use Rattle.hsr_law.specs.Premises.{is_redbox};
-ghost use Rattle.hsr_law.specs.Run.{place_of, record_of};
+ghost use Rattle.hsr_run_laws.specs.Premises.{is_redbox};
+ghost use Rattle.hsr_run_laws.specs.Run.{place_of, record_of};
 ghost use Rattle.hsr_audit.specs.Coming.{Comes};
 ghost use Rattle.hsr_audit.specs.Reaching.{AreReached, IsCutAt, IsCutIn, IsFirstCut, IsFirstUnserved, IsSpreadOf, is_last_in};
 ghost use Rattle.hsr_audit.specs.Shared.{AreFound};
-ghost use Rattle.hsr_network_law.specs.Network.{start_of};
-ghost use Rattle.hsr_ways.specs.Numbered.{IsLossOf};
+ghost use Rattle.hsr_network_laws.specs.Network.{start_of};
+ghost use Rattle.hsr_reach.specs.Numbered.{IsLossOf};
 
 use crate::covered::{is_redbox, is_to_station};
 use crate::lossy::ways_of;
 use crate::sends::send_at;
 use crate::shared::{Found, found_of, keep};
-use hsr_closing::Closed;
+use hsr_bitset::Numbers;
 use hsr_deliveries::{Loss, Losses, is_due};
+use hsr_finished_run::Closed;
 use hsr_frame::NoMemory;
 use hsr_link::Dir;
 use hsr_node::{Place, Probe};
-use hsr_numbers::Numbers;
+use hsr_reach::{Way, Ways};
 use hsr_tag::FrameView;
-use hsr_ways::{Way, Ways};
 use indexmap::IndexMap;
 use std::alloc::Global;
 use std::marker::Model;
@@ -50,7 +50,7 @@ pub(crate) struct Reach<'a, const C: usize> {
 
 impl<'a, const C: usize> Model for Reach<'a, C> {
     ghost use Rattle.std.specs.Prelude.{◌≡◌};
-    ghost use Rattle.hsr_law.specs.Run.{Run};
+    ghost use Rattle.hsr_run_laws.specs.Run.{Run};
 
     ghost Value = { Run };
 

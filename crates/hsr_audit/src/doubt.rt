@@ -3,7 +3,7 @@ ghost use Rattle.std.specs.Prelude.{◌≡◌};
 ghost use Rattle.hsr_audit.specs.Doubts.{doubt_at};
 
 use hsr_frame::NoMemory;
-use hsr_premises::Flaw;
+use hsr_table_flaws::Flaw;
 use std::fmt;
 
 /// Why a run can't be certified, in the order in which the reasons are tried: each of a ring's audit or of a network's, or of both.

@@ -2,12 +2,12 @@
 ghost use Rattle.std.specs.Prelude.{◌≡◌, ◌<◌, length, MatchOption};
 ghost use Rattle.hsr_audit.specs.Budgeted.{AreInTime, IsInTimeAt};
 ghost use Rattle.hsr_audit.specs.Timed.{InTimeBelow, IsFirstLate, is_in_time, is_timely, lists_of, moments_of};
-ghost use Rattle.hsr_law.specs.Run.{record_of};
-ghost use Rattle.hsr_premises.specs.Flaws.{IsFirstNot};
+ghost use Rattle.hsr_run_laws.specs.Run.{record_of};
+ghost use Rattle.hsr_table_flaws.specs.Flaws.{IsFirstNot};
 
 use crate::moments::moment_in;
-use hsr_closing::Closed;
 use hsr_duptable::ENTRY_FORGET;
+use hsr_finished_run::Closed;
 use hsr_node::{Event, Probe};
 
 /// Whether a moment is that of a send, or less than the time later for which a frame is remembered.

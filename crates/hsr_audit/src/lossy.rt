@@ -1,13 +1,13 @@
 //! The ways on which a send lost copies.
 ghost use Rattle.std.specs.Prelude.{◌≡◌, ◌<◌, ◌==◌, ◌&&◌, ◌||◌, if◌then◌else◌, true};
 ghost use Rattle.hsr_audit.specs.Lossy.{AreWaysOf, is_on};
-ghost use Rattle.hsr_network_law.specs.Network as law;
-ghost use Rattle.hsr_numbers.specs.Numbers.{has};
-ghost use Rattle.hsr_ways.specs.Numbered.{number_of};
+ghost use Rattle.hsr_network_laws.specs.Network as law;
+ghost use Rattle.hsr_bitset.specs.Numbers.{has};
+ghost use Rattle.hsr_reach.specs.Numbered.{number_of};
 
+use hsr_bitset::Numbers;
 use hsr_deliveries::Loss;
-use hsr_numbers::Numbers;
-use hsr_ways::Way;
+use hsr_reach::Way;
 
 /// Puts the way of a loss into a set, if its link is one of the first 256.
 fn put_way(set: &mut Numbers, loss: &Loss)

@@ -1,16 +1,16 @@
 //! The lowest send to a Station that a RedBox didn't know each time that it handled it.
 ghost use Rattle.std.specs.Prelude.{◌≡◌, ◌↔◌, ◌<◌, ◌≤◌, length, IsTrue};
 ghost use Rattle.std.specs.List.{list_any};
-ghost use Rattle.hsr_law.specs.Run.{past_of};
+ghost use Rattle.hsr_run_laws.specs.Run.{past_of};
 ghost use Rattle.hsr_audit.specs.Missed.{IsFirstMissed, IsLowest, IsUnknown, IsUnknownOf, MissedBelow, MissedOn, is_box_of, is_due_below, is_lower, leads_below, lower_of, sending_at};
 ghost use Rattle.hsr_node.specs.Record.{probe_handled};
 ghost use Rattle.hsr_tables.specs.Proxies.{is_known};
 
 use crate::covered::{is_redbox, is_to_station};
-use hsr_closing::Closed;
 use hsr_deliveries::is_due;
-use hsr_needed::hear;
+use hsr_finished_run::Closed;
 use hsr_node::{Event, Place, Probe, SentView, sent_view};
+use hsr_table_demand::hear;
 use hsr_tables::ProxyTable;
 use hsr_tag::FrameView;
 use hsr_topology::{End, Topology};

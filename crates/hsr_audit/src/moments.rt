@@ -1,12 +1,12 @@
 //! The effective moments of a run.
 ghost use Rattle.std.specs.Prelude.{◌≡◌, ◌++◌, ◌∷◌, [], length, reverse, IfOk, OnOk, IsPermutation};
 ghost use Rattle.std.specs.List.Sorted.{IsNonDecreasing};
-ghost use Rattle.hsr_law.specs.Budget.{is_sending};
-ghost use Rattle.hsr_closing.specs.Finished.{IsFinished};
+ghost use Rattle.hsr_run_laws.specs.Budget.{is_sending};
+ghost use Rattle.hsr_finished_run.specs.Finished.{IsFinished};
 ghost use Rattle.hsr_audit.specs.Timed.{AreSendMoments, lists_of, moment_in, moments_of, moments_recorded, sent_moments_below, sent_moments};
 
-use hsr_closing::Closed;
 use hsr_deliveries::push_if;
+use hsr_finished_run::Closed;
 use hsr_frame::NoMemory;
 use hsr_node::{Entry, Event, Probe};
 use std::alloc::Global;

@@ -4,19 +4,19 @@ ghost use Rattle.hsr_audit.specs.Certificate.{IsCertified, certified};
 ghost use Rattle.hsr_audit.specs.Doubts.{IsFirstFault, IsRefused, of_ring};
 ghost use Rattle.hsr_audit.specs.Danhs.{HasPremises};
 ghost use Rattle.hsr_audit.specs.Round.{IsClear, IsOwnRing};
-ghost use Rattle.hsr_closing.specs.Finished.{IsFinished};
+ghost use Rattle.hsr_finished_run.specs.Finished.{IsFinished};
 ghost use Rattle.hsr_deliveries.specs.Delivered.{AreComplete};
 
 use crate::certificate::{Certificate, Certified, list_record};
 use crate::doubt::{AuditFault, Doubt, doubt_at};
 use crate::round::{addresses, is_round, loses_on_one};
-use hsr_closing::Closed;
 use hsr_deliveries::once_is_complete;
+use hsr_finished_run::Closed;
 use hsr_frame::{Mac, NoMemory};
-use hsr_law::exactly_once;
-use hsr_network_law::ring_is_crossed;
-use hsr_premises::first_flaw;
-use hsr_ways::{are_going_round, have_own_addresses};
+use hsr_network_laws::ring_is_crossed;
+use hsr_reach::{are_going_round, have_own_addresses};
+use hsr_run_laws::exactly_once;
+use hsr_table_flaws::first_flaw;
 use std::alloc::Global;
 
 /// The addresses round the ring, or the first doubt that the nodes and links give.

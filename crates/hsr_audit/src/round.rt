@@ -2,10 +2,10 @@
 ghost use Rattle.std.specs.Prelude.{◌≡◌, ◌↔◌, ◌<◌, [], ◌++◌, filter_map, length, IfOk, IsTrue, OnOk};
 ghost use Rattle.std.specs.List.{cons_option, list_all};
 ghost use Rattle.hsr_audit.specs.Danhs.{is_danh};
-ghost use Rattle.hsr_law.specs.Premises.{OneLossyLink, any_lost};
+ghost use Rattle.hsr_run_laws.specs.Premises.{OneLossyLink, any_lost};
 ghost use Rattle.hsr_audit.specs.Round.{IsRound, JoinedBelow, address_of, is_joint, is_joint_of};
 
-use hsr_closing::Closed;
+use hsr_finished_run::Closed;
 use hsr_frame::{Mac, NoMemory};
 use hsr_link::Row;
 use hsr_node::Place;

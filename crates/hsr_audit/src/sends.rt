@@ -1,13 +1,13 @@
 //! Whether there is a send, and the first that isn't covered.
 ghost use Rattle.std.specs.Prelude.{◌≡◌, ◌↔◌, ◌<◌, true, false, length, IsTrue};
-ghost use Rattle.hsr_closing.specs.Finished.{IsFinished};
-ghost use Rattle.hsr_law.specs.Run.{past_of, place_of, record_of};
+ghost use Rattle.hsr_finished_run.specs.Finished.{IsFinished};
+ghost use Rattle.hsr_run_laws.specs.Run.{past_of, place_of, record_of};
 ghost use Rattle.hsr_audit.specs.Sends.{HasSend, IsCoveredAt, IsNoSendAt};
 ghost use Rattle.hsr_audit.specs.Placed.{HoldsBelow, IsFirstIn, IsFirstPair};
 ghost use Rattle.hsr_node.specs.Flow.{send_at};
 
 use crate::covered::is_promised;
-use hsr_closing::Closed;
+use hsr_finished_run::Closed;
 use hsr_node::{SentView, sent_view};
 
 /// What an entry of a node sends, if it is a send.

@@ -9,11 +9,11 @@ use Rattle.hsr_frame.specs.declared.node.RingPort.{RingPort}
 use Rattle.hsr_tag.specs.Seen.{classified}
 use Rattle.hsr_tag.specs.declared.seen.Seen.{Seen}
 use Rattle.hsr_tables.specs.Nodes.{Nodes}
-use Rattle.hsr_role.specs.Arrival.{heard_of}
-use Rattle.hsr_role.specs.Numbers.{number_range}
-use Rattle.hsr_role.specs.Tables.{Notes, after_passes, counted_with, judged}
-use Rattle.hsr_role.specs.declared.judged.Judged.{Judged}
-use Rattle.hsr_role.proofs.Spending.{spent, unspent}
+use Rattle.hsr_forwarding.specs.Arrival.{heard_of}
+use Rattle.hsr_forwarding.specs.Numbers.{number_range}
+use Rattle.hsr_forwarding.specs.Tables.{Notes, after_passes, counted_with, judged}
+use Rattle.hsr_forwarding.specs.declared.judged.Judged.{Judged}
+use Rattle.hsr_forwarding.proofs.Spending.{spent, unspent}
 use Rattle.hsr_danh.specs.Machine.{Machine}
 use Rattle.hsr_danh.specs.Step.{after_arrival, arrive_or_spent, arrive_step, life_or_spent, life_step, now_at, send_or_refuse, send_step, verdict_of}
 use Rattle.hsr_danh.specs.Wanted.{wanted}

@@ -19,11 +19,11 @@ use Rattle.hsr_tables.specs.Known.{known}
 use Rattle.hsr_tables.specs.Nodes.{Hearing, rows_known}
 use Rattle.hsr_tables.specs.declared.nodes.NodeRow.{NodeRow}
 use Rattle.hsr_danh.specs.Machine.{Machine, new_machine}
-use Rattle.hsr_role.specs.Past.{answers_of, hearing_in, is_bad_life, left_by, note_of, passes_from}
-use Rattle.hsr_role.specs.Past as of_role
-pub use Rattle.hsr_role.specs.Past.{count_of, moment_of}
-use Rattle.hsr_role.specs.Numbers.{number_range}
-use Rattle.hsr_role.specs.Tables.{judged_as}
+use Rattle.hsr_forwarding.specs.Past.{answers_of, hearing_in, is_bad_life, left_by, note_of, passes_from}
+use Rattle.hsr_forwarding.specs.Past as of_role
+pub use Rattle.hsr_forwarding.specs.Past.{count_of, moment_of}
+use Rattle.hsr_forwarding.specs.Numbers.{number_range}
+use Rattle.hsr_forwarding.specs.Tables.{judged_as}
 use Rattle.hsr_danh.specs.Step.{age_step, arrive_step, life_step, send_step, verdict_of}
 use Rattle.hsr_danh.specs.Wanted.{wanted}
 use Rattle.hsr_danh.specs.declared.danh.Sent.{Sent}

@@ -12,10 +12,10 @@ use Rattle.hsr_frame.specs.declared.node.Life.{Life}
 use Rattle.hsr_frame.specs.declared.node.RingPort.{RingPort}
 use Rattle.hsr_tag.specs.Seen.{classified}
 use Rattle.hsr_tag.specs.declared.seen.Seen.{Seen}
-use Rattle.hsr_role.specs.Arrival.{heard_of}
-use Rattle.hsr_role.specs.Numbers.{number_range}
-use Rattle.hsr_role.specs.Tables.{after_passes, aged, counted_with, judged}
-use Rattle.hsr_role.specs.declared.judged.Judged.{Judged}
+use Rattle.hsr_forwarding.specs.Arrival.{heard_of}
+use Rattle.hsr_forwarding.specs.Numbers.{number_range}
+use Rattle.hsr_forwarding.specs.Tables.{after_passes, aged, counted_with, judged}
+use Rattle.hsr_forwarding.specs.declared.judged.Judged.{Judged}
 use Rattle.hsr_danh.specs.Wanted.{wanted}
 use Rattle.hsr_danh.specs.Machine.{Machine}
 use Rattle.hsr_danh.specs.declared.danh.Sent.{Sent}

@@ -12,15 +12,15 @@ use Rattle.hsr_node.specs.declared.event.Probe.{Probe}
 use Rattle.hsr_node.specs.declared.place.Place.{Place}
 use Rattle.hsr_node.specs.declared.place.Place.TheVariants.{Danh}
 use Rattle.hsr_node.specs.declared.sending.Sending.{Sending}
-use Rattle.hsr_closing.proofs.Plan.{all_append}
-use Rattle.hsr_law.specs.Closed.{IsClosed, IsSend}
-use Rattle.hsr_law.specs.Once.{IsExactlyOnce, is_addressed}
-use Rattle.hsr_law.specs.Premises.{IsRing, mac_at}
-use Rattle.hsr_law.specs.Run.{Run, owner_of, past_of, place_of}
-use Rattle.hsr_law.proofs.Danh.{mode_at}
-use Rattle.hsr_law.proofs.Ring.{owner_is}
-use Rattle.hsr_law.proofs.Same.{same_address}
-use Rattle.hsr_law.proofs.Walk.{sent}
+use Rattle.hsr_finished_run.proofs.Plan.{all_append}
+use Rattle.hsr_run_laws.specs.Closed.{IsClosed, IsSend}
+use Rattle.hsr_run_laws.specs.Once.{IsExactlyOnce, is_addressed}
+use Rattle.hsr_run_laws.specs.Premises.{IsRing, mac_at}
+use Rattle.hsr_run_laws.specs.Run.{Run, owner_of, past_of, place_of}
+use Rattle.hsr_run_laws.proofs.Danh.{mode_at}
+use Rattle.hsr_run_laws.proofs.Ring.{owner_is}
+use Rattle.hsr_run_laws.proofs.Same.{same_address}
+use Rattle.hsr_run_laws.proofs.Walk.{sent}
 use Rattle.hsr_deliveries.specs.Delivered.{AreComplete, IsComplete, OnceIsComplete, deliveries_below, deliveries_in, delivery_by, delivery_of, is_due, is_for, is_missed, is_strayed, is_twice, nodes_below, times}
 use Rattle.hsr_deliveries.specs.Counted.{if_one}
 use Rattle.hsr_deliveries.proofs.Gathering.{nodes_more}

@@ -8,9 +8,9 @@ use Rattle.std.proofs.lemmas.List.{append-nil, length-take}
 use Rattle.indexmap.specs.IndexMap.{IndexMap, Updates}
 use Rattle.hsr_node.specs.declared.entry.Entry.{Entry}
 use Rattle.hsr_node.specs.declared.event.Probe.{Probe}
-use Rattle.hsr_law.specs.Once.{delivers}
-use Rattle.hsr_law.specs.Run.{is_of}
-use Rattle.hsr_law.proofs.Same.{probes_same}
+use Rattle.hsr_run_laws.specs.Once.{delivers}
+use Rattle.hsr_run_laws.specs.Run.{is_of}
+use Rattle.hsr_run_laws.proofs.Same.{probes_same}
 use Rattle.hsr_deliveries.specs.Counted.{items_if, losses_in, times_in, value_of}
 use Rattle.hsr_deliveries.specs.declared.loss.Loss.{Loss}
 

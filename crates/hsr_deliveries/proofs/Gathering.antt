@@ -9,7 +9,7 @@ use Rattle.hsr_node.specs.declared.entry.Entry.{Entry}
 use Rattle.hsr_node.specs.declared.event.Probe.{Probe}
 use Rattle.hsr_node.specs.declared.place.Place.{Place}
 use Rattle.hsr_link.specs.declared.row.Row.{Row}
-use Rattle.hsr_law.specs.Run.{Run, owner_of, past_of}
+use Rattle.hsr_run_laws.specs.Run.{Run, owner_of, past_of}
 use Rattle.hsr_deliveries.specs.Counted.{added, deliveries_at, delivered_by, if_one}
 use Rattle.hsr_deliveries.specs.Delivered.{deliveries_below, deliveries_in, delivery_below, delivery_of, is_due, is_missed, is_strayed, is_twice, loss_of, nodes_below, times}
 use Rattle.hsr_deliveries.specs.declared.loss.Loss.{Loss}

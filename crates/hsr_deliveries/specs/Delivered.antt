@@ -20,10 +20,10 @@ use Rattle.hsr_node.specs.declared.sending.Sending.{Sending}
 use Rattle.hsr_node.specs.Place.{owns}
 use Rattle.hsr_link.specs.Rows.{is_lost}
 use Rattle.hsr_link.specs.declared.row.Row.{Row}
-use Rattle.hsr_law.specs.Closed.{IsClosed}
-use Rattle.hsr_law.specs.Once.{IsExactlyOnce, delivers}
-use Rattle.hsr_law.specs.Premises.{IsRing}
-use Rattle.hsr_law.specs.Run.{Run, is_of, owner_of, past_of, place_of, record_of, rows_of}
+use Rattle.hsr_run_laws.specs.Closed.{IsClosed}
+use Rattle.hsr_run_laws.specs.Once.{IsExactlyOnce, delivers}
+use Rattle.hsr_run_laws.specs.Premises.{IsRing}
+use Rattle.hsr_run_laws.specs.Run.{Run, is_of, owner_of, past_of, place_of, record_of, rows_of}
 use Rattle.hsr_deliveries.specs.declared.loss.Loss.{Loss}
 
 -- ---- due

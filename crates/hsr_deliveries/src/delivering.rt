@@ -1,9 +1,9 @@
 //! The deliveries of a finished run.
 ghost use Rattle.std.specs.Prelude.{◌≡◌, ◌<◌, ◌∷◌, [], ◌++◌, ℕ, List, length, IfOk, OnOk};
 ghost use Rattle.std.specs.List.{AllByRecursion};
-ghost use Rattle.hsr_closing.specs.Finished.{IsFinished};
-ghost use Rattle.hsr_law.specs.Once.{IsExactlyOnce};
-ghost use Rattle.hsr_law.specs.Premises.{IsRing};
+ghost use Rattle.hsr_finished_run.specs.Finished.{IsFinished};
+ghost use Rattle.hsr_run_laws.specs.Once.{IsExactlyOnce};
+ghost use Rattle.hsr_run_laws.specs.Premises.{IsRing};
 ghost use Rattle.hsr_deliveries.specs.Counted.{deliveries_at, delivered_by};
 ghost use Rattle.hsr_deliveries.specs.Delivered.{IsComplete, deliveries, delivery_below, lost, times};
 
@@ -13,7 +13,7 @@ use crate::law::once_is_complete;
 use crate::loss::Loss;
 use crate::losses::Losses;
 use crate::tally::Tally;
-use hsr_closing::Closed;
+use hsr_finished_run::Closed;
 use hsr_frame::{Mac, NoMemory};
 use hsr_node::{Entry, Place, Probe, sent_view};
 use std::alloc::Global;
@@ -29,7 +29,7 @@ struct Traces<'a, const C: usize> {
 
 impl<'a, const C: usize> Model for Traces<'a, C> {
     ghost use Rattle.std.specs.Prelude.{◌≡◌};
-    ghost use Rattle.hsr_law.specs.Run.{Run};
+    ghost use Rattle.hsr_run_laws.specs.Run.{Run};
 
     ghost Value = { Run };
 

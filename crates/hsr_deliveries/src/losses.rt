@@ -1,13 +1,13 @@
 //! The lost copies of each send.
 ghost use Rattle.std.specs.Prelude.{◌≡◌, ◌<◌, ◌∷◌, [], ◌++◌, filter_map, if◌then◌else◌, length, IfOk, OnOk, Some};
 ghost use Rattle.std.specs.List.{cons_option};
-ghost use Rattle.hsr_law.specs.Run.{is_of};
+ghost use Rattle.hsr_run_laws.specs.Run.{is_of};
 ghost use Rattle.hsr_deliveries.specs.Counted.{losses_in};
 ghost use Rattle.hsr_deliveries.specs.Delivered.{loss_of, lost, lost_below};
 ghost use Rattle.hsr_node.specs.declared.event.Probe as spec;
 
 use crate::loss::Loss;
-use hsr_closing::Closed;
+use hsr_finished_run::Closed;
 use hsr_frame::NoMemory;
 use hsr_link::Row;
 use hsr_node::Probe;
@@ -86,7 +86,7 @@ pub struct Losses<'a, const C: usize> {
 
 impl<'a, const C: usize> Model for Losses<'a, C> {
     ghost use Rattle.std.specs.Prelude.{◌≡◌};
-    ghost use Rattle.hsr_law.specs.Run.{Run};
+    ghost use Rattle.hsr_run_laws.specs.Run.{Run};
     ghost use Rattle.hsr_node.specs.declared.event.Probe as spec;
     ghost use Rattle.hsr_deliveries.specs.Counted.{losses_in};
     ghost use Rattle.hsr_deliveries.specs.Delivered.{lost};

@@ -1,7 +1,7 @@
 //! How often a node took each send up.
 ghost use Rattle.std.specs.Prelude.{◌≡◌, ◌+◌, ◌<◌, ◌^◌, count_by, if◌then◌else◌, IfOk, OnOk, Some};
-ghost use Rattle.hsr_law.specs.Once.{delivers};
-ghost use Rattle.hsr_law.specs.Run.{is_of};
+ghost use Rattle.hsr_run_laws.specs.Once.{delivers};
+ghost use Rattle.hsr_run_laws.specs.Run.{is_of};
 ghost use Rattle.hsr_deliveries.specs.Counted.{times_in};
 ghost use Rattle.hsr_node.specs.declared.event.Probe as spec;
 
@@ -23,7 +23,7 @@ pub(crate) struct Tally<'a> {
 
 impl<'a> Model for Tally<'a> {
     ghost use Rattle.std.specs.Prelude.{◌≡◌, List, count_by};
-    ghost use Rattle.hsr_law.specs.Once.{delivers};
+    ghost use Rattle.hsr_run_laws.specs.Once.{delivers};
     ghost use Rattle.hsr_node.specs.declared.entry.Entry.{Entry};
     ghost use Rattle.hsr_node.specs.declared.event.Probe as spec;
     ghost use Rattle.hsr_deliveries.specs.Counted.{times_in};

@@ -7,7 +7,7 @@ use Rattle.hsr_link.specs.declared.row.Dir.TheVariants.{Forth, Back}
 use Rattle.hsr_link.specs.declared.row.Row.{Row}
 use Rattle.hsr_topology.specs.Links.{link_from}
 use Rattle.hsr_topology.specs.declared.end.End.{End}
-use Rattle.hsr_law.specs.Run.{Run, ends_of, rows_of, to_end}
+use Rattle.hsr_run_laws.specs.Run.{Run, ends_of, rows_of, to_end}
 use Rattle.hsr_devices.specs.declared.port.PortLink.{PortLink}
 
 -- the directions of the copies that leave by the first end of a link or its second, and of those that come to it

@@ -1,17 +1,17 @@
 //! What a node is, and what it knows, in words.
 ghost use Rattle.std.specs.Prelude.{◌≡◌, ◌++◌, OnOk, codes};
 ghost use Rattle.std.specs.List.{flat_map};
-ghost use Rattle.hsr_order.specs.Fronts.{lists_of};
+ghost use Rattle.hsr_timeline.specs.Fronts.{lists_of};
 ghost use Rattle.hsr_devices.specs.Describing.{addresses_text, heard_if, kind_text, known_text, macs_text, next_name, node_row_text, owner_if, owner_in, parted_names, redbox_if, station_text, unheard_text, who_text};
 ghost use Rattle.hsr_text.specs.Words.{mac_text};
 
 use crate::known::Known;
 use hsr_frame::{Mac, NoMemory};
-use hsr_names::put_name;
 use hsr_node::Place;
 use hsr_supervision::SupKind;
 use hsr_tables::NodeRow;
 use hsr_text::{put, put_mac, put_number, put_octets};
+use hsr_timeline::put_name;
 use std::alloc::Global;
 
 /// Puts an address behind two spaces last.

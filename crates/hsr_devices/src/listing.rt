@@ -2,8 +2,8 @@
 ghost use Rattle.std.specs.Prelude.{◌≡◌, ◌<◌, ◌++◌, ◌∷◌, [], IfOk, OnOk, codes, fold, length, map};
 ghost use Rattle.std.specs.Fmt.{decimal};
 ghost use Rattle.std.specs.List.{flat_map};
-ghost use Rattle.hsr_law.specs.Run.{place_of};
-ghost use Rattle.hsr_order.specs.Fronts.{lists_of};
+ghost use Rattle.hsr_run_laws.specs.Run.{place_of};
+ghost use Rattle.hsr_timeline.specs.Fronts.{lists_of};
 ghost use Rattle.hsr_devices.specs.Listing.{AreMost, AreSums, IsListing, amount_at, amount_in, columns_text, device_text, devices_below, head_text, known_at, letter_cell, links_at, needed_if, needed_text, peer_text, peers_row, ports_row, sent_text, table_text, traffic_text, unheard_at, unreadable_if, unreadable_line, wider};
 ghost use Rattle.hsr_devices.specs.Cells.{right};
 
@@ -13,12 +13,12 @@ use crate::known::known_by;
 use crate::lines::{Columns, put_arrivals, put_departures};
 use crate::port::{PortLink, port_link};
 use crate::unheard::unheard;
-use hsr_closing::Closed;
+use hsr_finished_run::Closed;
 use hsr_frame::{Counters, NoMemory};
-use hsr_names::{put_name, put_port};
-use hsr_needed::{Needed, needed_at};
 use hsr_node::Place;
+use hsr_table_demand::{Needed, needed_at};
 use hsr_text::{put, put_number, put_octets};
+use hsr_timeline::{put_name, put_port};
 use hsr_topology::End;
 use std::alloc::Global;
 

@@ -6,7 +6,7 @@ ghost use Rattle.hsr_topology.specs.Links.{link_from};
 ghost use Rattle.hsr_devices.specs.Port.{in_dir, is_loss, octets_put, octets_taken, out_dir, port_link, port_link_at};
 ghost use Rattle.hsr_devices.specs.Uncounted.{IsUncounted};
 
-use hsr_closing::Closed;
+use hsr_finished_run::Closed;
 use hsr_frame::NoMemory;
 use hsr_link::{Dir, Fate, Row};
 use hsr_topology::End;

@@ -1,13 +1,13 @@
 //! Of whom supervision never told a node.
 ghost use Rattle.std.specs.Prelude.{◌≡◌, ◌++◌, ◌∷◌, [], ◌<◌, if◌then◌else◌, length, reverse, IfOk, OnOk};
 ghost use Rattle.std.specs.List.{list_any};
-ghost use Rattle.hsr_law.specs.Run.{place_of};
+ghost use Rattle.hsr_run_laws.specs.Run.{place_of};
 ghost use Rattle.hsr_supervision.specs.Payload.{read_of};
 ghost use Rattle.hsr_devices.specs.Told.{about_of, is_mac, told_by, told_in};
 ghost use Rattle.hsr_devices.specs.Unheard.{is_told_of, is_unheard, is_unheard_of, unheard};
 
 use crate::known::hears_on;
-use hsr_closing::Closed;
+use hsr_finished_run::Closed;
 use hsr_frame::{FrameFault, Mac, NoMemory, is_supervision};
 use hsr_node::{Entry, Event, Place};
 use hsr_supervision::Supervision;

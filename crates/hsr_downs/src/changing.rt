@@ -4,7 +4,7 @@ ghost use Rattle.hsr_downs.specs.Changes.{change_by, changes, is_planned, moment
 
 use hsr_frame::NoMemory;
 use hsr_scenario::Order;
-use hsr_step::Step;
+use hsr_world_steps::Step;
 use std::alloc::Global;
 
 /// A step that cuts or mends a link, by the link's number: its moment in microseconds, the greatest that any step before it sets, 0

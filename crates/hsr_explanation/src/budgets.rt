@@ -2,7 +2,7 @@
 use crate::lines::Explanation;
 use crate::naming::{put_entry, put_number};
 use hsr_audit::{BudgetFault, budget, most_sends};
-use hsr_closing::Closed;
+use hsr_finished_run::Closed;
 use hsr_frame::NoMemory;
 use hsr_text::put_decimal;
 use hsr_toml::put;

@@ -1,6 +1,6 @@
 //! An explanation, line by line.
 ghost use Rattle.std.specs.Prelude.{◌≡◌, ◌++◌, OnOk};
-ghost use Rattle.hsr_order.specs.Fronts.{lists_of};
+ghost use Rattle.hsr_timeline.specs.Fronts.{lists_of};
 ghost use Rattle.hsr_explanation.specs.Lines.{line_of, lines_of};
 
 use hsr_frame::NoMemory;

@@ -26,11 +26,11 @@ use Rattle.hsr_tables.specs.Nodes.{Hearing}
 use Rattle.hsr_danh.specs.Machine.{Machine, new_machine}
 use Rattle.hsr_danh.specs.Past as deeds
 use Rattle.hsr_danh.specs.Past.{Answer, Deed, done, gave_up, judged_frame, sent_frame, sent_life}
-use Rattle.hsr_role.specs.Arrival.{key_of}
-use Rattle.hsr_role.specs.Past.{log_remembers, passes_from}
-use Rattle.hsr_role.proofs.Counts.{counts_plus}
-use Rattle.hsr_role.proofs.Keeping.{passes-same, unwanted-shut}
-use Rattle.hsr_role.proofs.Wants.{wanted-c, wanted-d}
+use Rattle.hsr_forwarding.specs.Arrival.{key_of}
+use Rattle.hsr_forwarding.specs.Past.{log_remembers, passes_from}
+use Rattle.hsr_forwarding.proofs.Counts.{counts_plus}
+use Rattle.hsr_forwarding.proofs.Keeping.{passes-same, unwanted-shut}
+use Rattle.hsr_forwarding.proofs.Wants.{wanted-c, wanted-d}
 use Rattle.hsr_danh.specs.Step.{arrive_step, life_step, send_step}
 use Rattle.hsr_danh.specs.Wanted.{wanted}
 use Rattle.hsr_danh.specs.declared.danh.Sent.{Sent as DanhSent}

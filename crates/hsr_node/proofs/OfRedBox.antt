@@ -26,15 +26,15 @@ use Rattle.hsr_duptable.specs.Notes.{note_if as noted_if}
 use Rattle.hsr_supervision.specs.Payload.{read_of}
 use Rattle.hsr_tables.specs.Known.{known, latest_heard}
 use Rattle.hsr_tables.specs.Nodes.{Hearing}
-use Rattle.hsr_role.specs.Tables.{judged_as as verdict_as}
-use Rattle.hsr_role.specs.Past.{log_remembers, passes_from}
-use Rattle.hsr_role.proofs.Counts.{counts_plus}
-use Rattle.hsr_role.proofs.Keeping.{passes-same, unwanted-shut}
-use Rattle.hsr_role.proofs.Wants.{wanted-d}
+use Rattle.hsr_forwarding.specs.Tables.{judged_as as verdict_as}
+use Rattle.hsr_forwarding.specs.Past.{log_remembers, passes_from}
+use Rattle.hsr_forwarding.proofs.Counts.{counts_plus}
+use Rattle.hsr_forwarding.proofs.Keeping.{passes-same, unwanted-shut}
+use Rattle.hsr_forwarding.proofs.Wants.{wanted-d}
 use Rattle.hsr_redbox.specs.Machine.{Machine, new_machine}
 use Rattle.hsr_redbox.specs.Past as deeds
 use Rattle.hsr_redbox.specs.Past.{Answer, Deed, done, gave_up, judged_interlink, judged_ring, linked, sent_frame, sent_life, source_in}
-use Rattle.hsr_role.specs.Arrival.{key_of}
+use Rattle.hsr_forwarding.specs.Arrival.{key_of}
 use Rattle.hsr_redbox.specs.Step.{arrive_step, life_refusal, life_step, number_of, send_step, sent_of, verdict_of}
 use Rattle.hsr_redbox.specs.Wanted.{handling_interlink, handling_plain, handling_send, interlink, numbered, unnumbered, wanted}
 use Rattle.hsr_frame.specs.declared.node.About.{About}

@@ -30,7 +30,7 @@ use Rattle.hsr_node.specs.declared.event.Outcome.TheVariants as outcome
 use Rattle.hsr_node.specs.declared.event.StepFault.{StepFault}
 use Rattle.hsr_node.specs.declared.event.StepFault.TheVariants as refused
 use Rattle.hsr_node.specs.declared.place.Place.TheVariants as place
-use Rattle.hsr_role.proofs.Counts.{counted-as}
+use Rattle.hsr_forwarding.proofs.Counts.{counted-as}
 use Rattle.hsr_node.proofs.Told.{Call, Keeps, Stays}
 
 abbrev owner_of : ℕ → ArrayVec (List ℕ) → Owner

@@ -30,8 +30,8 @@ use Rattle.hsr_supervision.specs.Payload.{read_of}
 use Rattle.hsr_tables.specs.Known.{known_within, latest_heard}
 use Rattle.hsr_tables.specs.Nodes.{Hearing, hearing_if, rows_known}
 use Rattle.hsr_tables.specs.declared.nodes.NodeRow.{NodeRow}
-use Rattle.hsr_role.specs.Arrival.{key_of}
-use Rattle.hsr_role.specs.Tables.{passes_by}
+use Rattle.hsr_forwarding.specs.Arrival.{key_of}
+use Rattle.hsr_forwarding.specs.Tables.{passes_by}
 use Rattle.hsr_danh.specs.Wanted as of_danh
 use Rattle.hsr_redbox.specs.Past.{source_in}
 use Rattle.hsr_redbox.specs.Step.{life_refusal, number_of}

@@ -1,14 +1,14 @@
 //! The whole program, over words, a reader and two writers.
 ghost use Rattle.std.specs.Prelude.{◌≡◌, ◌++◌, IfOk, IfSome, OnOk, codes, map};
 ghost use Rattle.std.specs.Io.KnownBytes.{Appends};
-ghost use Rattle.hsr_options.specs.Tables.{capacity_of};
+ghost use Rattle.hsr_duptable.specs.Sizes.{capacity_of};
 ghost use Rattle.hsr_plan_scenario.specs.Ends.{Ends, code_of};
 ghost use Rattle.hsr_plan.specs.Planning.{Answers, Does, IsDone, Plans, TellsWrite};
 
-use hsr_options::Table;
+use hsr_cli::{Task, WordsFault, task_by};
+use hsr_duptable::TableSize;
 use hsr_plan_scenario::{Ending, check_run, plan_run};
 use hsr_plan_sweep::sweep_run;
-use hsr_plan_words::{Task, WordsFault, task_by};
 use std::alloc::Global;
 use std::io::{self, Read, Write};
 
@@ -18,7 +18,7 @@ const USAGE: u8 = 3;
 /// Writes the scenario of a plan, for a run with such tables.
 fn planned<R: Read, W: Write, E: Write>(
     alloc: Global,
-    table: Table,
+    table: TableSize,
     reader: &mut R,
     writer: &mut W,
     errors: &mut E,
@@ -27,8 +27,8 @@ fn planned<R: Read, W: Write, E: Write>(
         Ends (capacity_of table) text (W.contents writer.old) (W.contents writer.new) (E.contents errors.old) (E.contents errors.new) ending)) }
 {
     match table {
-        Table::Small => plan_run::<_, _, _, 4>(alloc, reader, writer, errors),
-        Table::Large => plan_run::<_, _, _, 512>(alloc, reader, writer, errors),
+        TableSize::Small => plan_run::<_, _, _, 4>(alloc, reader, writer, errors),
+        TableSize::Large => plan_run::<_, _, _, 512>(alloc, reader, writer, errors),
     }
 }
 

@@ -5,10 +5,10 @@ use Rattle.std.proofs.lemmas.Bool.{leb-true, ltb-true}
 use Rattle.hsr_topology.specs.declared.end.End.{End}
 use Rattle.hsr_topology.specs.Links.{link_from}
 use Rattle.hsr_scenario.specs.declared.steps.Order.{Order}
-use Rattle.hsr_step.specs.declared.step.Step.TheVariants.{Clock, Send, Supervise, Age, Put, Take, Judge, Cut, Mend, Inject}
-use Rattle.hsr_step.specs.declared.step.Step as steps
-use Rattle.hsr_plan_meaning.specs.Meaning.{Meaning}
-use Rattle.hsr_world.specs.World.{World}
+use Rattle.hsr_world_steps.specs.declared.step.Step.TheVariants.{Clock, Send, Supervise, Age, Put, Take, Judge, Cut, Mend, Inject}
+use Rattle.hsr_world_steps.specs.declared.step.Step as steps
+use Rattle.hsr_plan_schedule.specs.Meaning.{Meaning}
+use Rattle.hsr_world_laws.specs.World.{World}
 use Rattle.hsr_plan_hops.specs.Beginning.{Begins, Stage, at_first, behind, done, left_out, next_copy}
 use Rattle.hsr_plan_hops.specs.Flights.{is_before_end, is_on_time, is_on_way, is_up_to_end, leaving, on_way}
 use Rattle.hsr_plan_hops.specs.Turns.{is_first}

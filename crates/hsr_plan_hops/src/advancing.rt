@@ -12,10 +12,10 @@ use crate::turns::Due;
 use crate::unmoved::Unmoved;
 use crate::weaving::{Weaving, does, obeys, settles};
 use hsr_frame::NoMemory;
-use hsr_plan_meaning::Meaning;
+use hsr_plan_schedule::Meaning;
 use hsr_ring::World;
 use hsr_scenario::Order;
-use hsr_step::Step;
+use hsr_world_steps::Step;
 use std::alloc::Global;
 use std::collections::VecDeque;
 

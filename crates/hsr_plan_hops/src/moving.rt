@@ -1,6 +1,6 @@
 //! What a plan means once its copies move.
 ghost use Rattle.std.specs.Prelude.{◌≡◌, ◌≤◌, IfErr, IfOk, OnOk};
-ghost use Rattle.hsr_world.specs.Lawful.{IsEnded, finished_of};
+ghost use Rattle.hsr_world_laws.specs.Lawful.{IsEnded, finished_of};
 ghost use Rattle.hsr_plan_text.specs.declared.plan.Moves.TheVariants.{Hop};
 ghost use Rattle.hsr_plan_hops.specs.Moving.{MeansMoved, Moved, MovesByHops};
 ghost use Rattle.hsr_plan_hops.specs.Refusing.{IsUnmoved, IsUnmovedByHops};
@@ -10,8 +10,8 @@ use crate::advancing::woven;
 use crate::timing::are_in_time;
 use crate::unmoved::Unmoved;
 use crate::weaving::Weaving;
-use hsr_closing::{CheckFault, Closed};
-use hsr_plan_meaning::{Meaning, meaning_of};
+use hsr_finished_run::{CheckFault, Closed};
+use hsr_plan_schedule::{Meaning, meaning_of};
 use hsr_plan_text::{Moves, Plan};
 use hsr_ring::World;
 use hsr_scenario::Order;

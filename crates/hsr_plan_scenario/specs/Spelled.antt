@@ -17,17 +17,17 @@ use Rattle.hsr_node.specs.declared.place.Place.{Place}
 use Rattle.hsr_node.specs.declared.place.Place.TheVariants.{Danh, RedBox, QuadBox, Station}
 use Rattle.hsr_link.specs.Words.{dir_word}
 use Rattle.hsr_link.specs.declared.row.Dir.{Dir}
-use Rattle.hsr_step.specs.declared.step.Step as steps
-use Rattle.hsr_step.specs.declared.step.Step.TheVariants.{Clock, Send, Supervise, Age, Put, Take, Judge, Cut, Mend, Inject}
+use Rattle.hsr_world_steps.specs.declared.step.Step as steps
+use Rattle.hsr_world_steps.specs.declared.step.Step.TheVariants.{Clock, Send, Supervise, Age, Put, Take, Judge, Cut, Mend, Inject}
 use Rattle.hsr_topology.specs.declared.end.End.{End}
 use Rattle.hsr_scenario.specs.declared.steps.Order.{Order}
 use Rattle.hsr_scenario.specs.declared.steps.Order.TheVariants.{Step, Drain}
-use Rattle.hsr_windows.specs.Windows.{most_in}
+use Rattle.hsr_table_demand.specs.Windows.{most_in}
 use Rattle.hsr_plan_text.specs.Plan.{Outline}
 use Rattle.hsr_plan_text.specs.declared.plan.Moves.{Moves}
 use Rattle.hsr_plan_text.specs.declared.plan.Moves.TheVariants.{EachSendDrains, EachMomentDrains, Hop}
 use Rattle.hsr_plan_network.specs.Nodes.{Node}
-use Rattle.hsr_plan_meaning.specs.Meaning.{Meaning}
+use Rattle.hsr_plan_schedule.specs.Meaning.{Meaning}
 use Rattle.hsr_plan_scenario.specs.Sends.{send_moments}
 
 -- ---- words

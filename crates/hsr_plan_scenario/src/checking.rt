@@ -15,7 +15,7 @@ ghost use Rattle.hsr_plan_scenario.specs.Spelled.{scenario_text};
 use crate::same::{is_meant, is_named};
 use crate::spelling::{measured, spelled};
 use hsr_plan_hops::{Unmoved, moved_meaning_of};
-use hsr_plan_meaning::Meaning;
+use hsr_plan_schedule::Meaning;
 use hsr_plan_text::{Outline, Plan, PlanFault, Spot, What};
 use hsr_scenario::{ScenarioFault, TEXT_LIMIT, What as ScenarioWhat, read, read_names};
 use std::alloc::Global;

@@ -4,12 +4,12 @@ ghost use Rattle.hsr_plan_sweep.specs.Refusals.{HasNoRun, IsKnown, IsKnownRun, I
 ghost use Rattle.hsr_plan_sweep.specs.Sweep.{IsCountOf, IsCountOfMeaning, with_deed};
 
 use crate::counting::{Count, counted};
-use hsr_closing::CheckFault;
-use hsr_plan_meaning::Meaning;
+use hsr_finished_run::CheckFault;
 use hsr_plan_scenario::{Trouble as PlanTrouble, moved};
+use hsr_plan_schedule::Meaning;
 use hsr_plan_text::{Deed, Event, Plan};
-use hsr_playing::{Unfinished, finished};
-use hsr_step::{DrainFault, WorldFault};
+use hsr_ring::{Unfinished, finished};
+use hsr_world_steps::{DrainFault, WorldFault};
 use std::alloc::Global;
 
 /// How many entries the tables have.

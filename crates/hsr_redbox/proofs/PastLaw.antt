@@ -25,15 +25,15 @@ use Rattle.hsr_tables.specs.Nodes.{Nodes, heard, no_nodes}
 use Rattle.hsr_tables.specs.Proxies.{Proxies, is_known, learned, no_proxies}
 use Rattle.hsr_tables.proofs.NodeLaws.{rows_of_latest}
 use Rattle.hsr_tables.proofs.ProxyLaws.{knows_latest}
-use Rattle.hsr_role.specs.Arrival.{heard_of}
-use Rattle.hsr_role.specs.Numbers.{number_range}
-use Rattle.hsr_role.specs.Past.{answers_of, is_bad_life, note_of, passes_from}
-use Rattle.hsr_role.specs.Tables.{AreWithin, Notes, aged, copies_of, counted_with, judged, judged_as, table_of}
-use Rattle.hsr_role.specs.declared.judged.Judged.{Judged}
-use Rattle.hsr_role.proofs.Counts.{counted-plus, counts_plus}
-use Rattle.hsr_role.proofs.Keeping.{AreWithin-aged, AreWithin-new, AreWithin-passed, last-earlier, passed-logged, passed-shut, stands-aged, stands-new, stands-passed, stands-passes, stands-same}
-use Rattle.hsr_role.proofs.Pasts.{answers-same-as, heard-same, heard-told, later-max}
-use Rattle.hsr_role.proofs.Wants.{wanted-d}
+use Rattle.hsr_forwarding.specs.Arrival.{heard_of}
+use Rattle.hsr_forwarding.specs.Numbers.{number_range}
+use Rattle.hsr_forwarding.specs.Past.{answers_of, is_bad_life, note_of, passes_from}
+use Rattle.hsr_forwarding.specs.Tables.{AreWithin, Notes, aged, copies_of, counted_with, judged, judged_as, table_of}
+use Rattle.hsr_forwarding.specs.declared.judged.Judged.{Judged}
+use Rattle.hsr_forwarding.proofs.Counts.{counted-plus, counts_plus}
+use Rattle.hsr_forwarding.proofs.Keeping.{AreWithin-aged, AreWithin-new, AreWithin-passed, last-earlier, passed-logged, passed-shut, stands-aged, stands-new, stands-passed, stands-passes, stands-same}
+use Rattle.hsr_forwarding.proofs.Pasts.{answers-same-as, heard-same, heard-told, later-max}
+use Rattle.hsr_forwarding.proofs.Wants.{wanted-d}
 use Rattle.hsr_redbox.specs.Machine.{Machine, new_machine}
 use Rattle.hsr_redbox.specs.Step.{after_arrival, after_frame, after_interlink, after_marks, after_ring, age_step, arrive_or_spent, arrive_step, heard_from, life_or_refuse, life_refusal, life_step, now_at, number_of, send_or_refuse, send_step, sent_of, verdict_of}
 use Rattle.hsr_redbox.specs.Wanted.{egresses, handling_interlink, handling_send, interlink, wanted}

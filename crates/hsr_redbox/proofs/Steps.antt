@@ -16,12 +16,12 @@ use Rattle.hsr_tag.specs.declared.seen.Seen.{Seen}
 use Rattle.hsr_tag.specs.declared.seen.Seen.TheVariants.{Plain, Tagged}
 use Rattle.hsr_tables.specs.Nodes.{Nodes}
 use Rattle.hsr_tables.specs.Proxies.{Proxies, is_known}
-use Rattle.hsr_role.specs.Arrival.{heard_of}
-use Rattle.hsr_role.specs.Numbers.{number_range}
-use Rattle.hsr_role.specs.Tables.{AreWithin, Notes, among, copies_of, counted_with, judged, judged_as}
-use Rattle.hsr_role.specs.declared.judged.Judged.{Judged}
-use Rattle.hsr_role.proofs.Keeping.{AreWithin-more, AreWithin-passes, copies-few}
-use Rattle.hsr_role.proofs.Spending.{spent, unspent}
+use Rattle.hsr_forwarding.specs.Arrival.{heard_of}
+use Rattle.hsr_forwarding.specs.Numbers.{number_range}
+use Rattle.hsr_forwarding.specs.Tables.{AreWithin, Notes, among, copies_of, counted_with, judged, judged_as}
+use Rattle.hsr_forwarding.specs.declared.judged.Judged.{Judged}
+use Rattle.hsr_forwarding.proofs.Keeping.{AreWithin-more, AreWithin-passes, copies-few}
+use Rattle.hsr_forwarding.proofs.Spending.{spent, unspent}
 use Rattle.hsr_redbox.specs.Machine.{Machine}
 use Rattle.hsr_redbox.specs.Step.{after_arrival, after_frame, after_handling, after_interlink, after_marks, after_ring, arrive_or_spent, arrive_step, heard_from, life_or_refuse, life_refusal, life_step, now_at, number_of, send_or_refuse, send_step, sent_of, verdict_of}
 use Rattle.hsr_redbox.specs.Wanted.{egresses, handling_interlink, handling_send, interlink, numbered, unnumbered, wanted}

@@ -22,12 +22,12 @@ use Rattle.hsr_tables.specs.Known.{known, latest_heard}
 use Rattle.hsr_tables.specs.Nodes.{Hearing, rows_known}
 use Rattle.hsr_tables.specs.declared.nodes.NodeRow.{NodeRow}
 use Rattle.hsr_redbox.specs.Machine.{Machine, new_machine}
-use Rattle.hsr_role.specs.Past.{answers_of, hearing_in, is_bad_life, left_by, note_of, passes_from}
-pub use Rattle.hsr_role.specs.Arrival.{source_in}
-use Rattle.hsr_role.specs.Past as of_role
-pub use Rattle.hsr_role.specs.Past.{count_of, moment_of, sum_of}
-use Rattle.hsr_role.specs.Numbers.{number_range}
-use Rattle.hsr_role.specs.Tables.{judged_as}
+use Rattle.hsr_forwarding.specs.Past.{answers_of, hearing_in, is_bad_life, left_by, note_of, passes_from}
+pub use Rattle.hsr_forwarding.specs.Arrival.{source_in}
+use Rattle.hsr_forwarding.specs.Past as of_role
+pub use Rattle.hsr_forwarding.specs.Past.{count_of, moment_of, sum_of}
+use Rattle.hsr_forwarding.specs.Numbers.{number_range}
+use Rattle.hsr_forwarding.specs.Tables.{judged_as}
 use Rattle.hsr_redbox.specs.Step.{age_step, arrive_step, life_refusal, life_step, number_of, send_step, sent_of, verdict_of}
 use Rattle.hsr_redbox.specs.Wanted.{handling_interlink, handling_send, interlink, wanted}
 use Rattle.hsr_redbox.specs.declared.wanted.Handling.{Handling}

@@ -15,11 +15,11 @@ use Rattle.hsr_frame.specs.declared.node.RingPort.TheVariants as ring
 use Rattle.hsr_tag.specs.Seen.{classified}
 use Rattle.hsr_tag.specs.declared.seen.Seen.{Seen}
 use Rattle.hsr_tables.specs.Proxies.{is_known}
-use Rattle.hsr_role.specs.Arrival.{heard_of}
-pub use Rattle.hsr_role.specs.Arrival.{heard_from}
-use Rattle.hsr_role.specs.Numbers.{number_range}
-use Rattle.hsr_role.specs.Tables.{Notes, after_passes, aged, counted_with, judged, judged_as}
-use Rattle.hsr_role.specs.declared.judged.Judged.{Judged}
+use Rattle.hsr_forwarding.specs.Arrival.{heard_of}
+pub use Rattle.hsr_forwarding.specs.Arrival.{heard_from}
+use Rattle.hsr_forwarding.specs.Numbers.{number_range}
+use Rattle.hsr_forwarding.specs.Tables.{Notes, after_passes, aged, counted_with, judged, judged_as}
+use Rattle.hsr_forwarding.specs.declared.judged.Judged.{Judged}
 use Rattle.hsr_redbox.specs.Wanted.{handling_interlink, handling_send, interlink, wanted}
 use Rattle.hsr_redbox.specs.Machine.{Machine}
 use Rattle.hsr_redbox.specs.declared.wanted.Handling.{Handling}

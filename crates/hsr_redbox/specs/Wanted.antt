@@ -15,7 +15,7 @@ use Rattle.hsr_frame.specs.Grammar.{Fields}
 use Rattle.hsr_tag.specs.Tag.{TaggedFields}
 use Rattle.hsr_tag.specs.declared.seen.Seen.{Seen}
 use Rattle.hsr_tag.specs.declared.seen.Seen.TheVariants.{Plain, Tagged}
-use Rattle.hsr_role.specs.Wanted as of_ring
+use Rattle.hsr_forwarding.specs.Wanted as of_ring
 use Rattle.hsr_redbox.specs.declared.wanted.Handling.{Handling}
 
 abbrev pub interlink : Egress

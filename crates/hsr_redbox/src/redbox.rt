@@ -7,11 +7,11 @@ use crate::call::{BoxPort, BoxSent, BoxVerdict, LifeFault};
 use crate::marking::mark_numbered;
 use crate::wanted::{interlink_handling, send_handling};
 use arrayvec::ArrayVec;
+use hsr_forwarding::{EgressTables, Judged, NUMBER_RANGE, count, hear, learn, ring_wants};
 use hsr_frame::{
     About, Counters, Exits, FrameFault, Life, Mac, Mode, NoMemory, RingPort, STEP_LIMIT, SendFault,
     Spent, send_fault,
 };
-use hsr_role::{EgressTables, Judged, NUMBER_RANGE, count, hear, learn, ring_wants};
 use hsr_tables::{NodeRow, NodeTable, ProxyTable, ROW_LIMIT};
 use hsr_tag::{SeenView, look_at};
 use std::alloc::Global;
@@ -47,7 +47,7 @@ impl<const C: usize> RedBox<C> {
     ghost use Rattle.hsr_frame.specs.Address.{IsGroup};
     ghost use Rattle.hsr_frame.specs.Counters.{AreWithin};
     ghost use Rattle.hsr_tables.specs.Known.{known};
-    ghost use Rattle.hsr_role.specs.Tables.{among};
+    ghost use Rattle.hsr_forwarding.specs.Tables.{among};
     ghost use Rattle.hsr_redbox.specs.Machine.{new_machine};
     ghost use Rattle.hsr_redbox.specs.Step.{after_frame, after_interlink, after_ring, age_step, arrive_step, life_step, now_at, send_step};
     ghost use Rattle.hsr_redbox.specs.Wanted.{egresses};

@@ -6,7 +6,7 @@ ghost use Rattle.hsr_options.specs.declared.chosen.Scope.TheVariants.{Network, R
 ghost use Rattle.hsr_report.specs.Report.{finding_line};
 
 use hsr_audit::{AuditFault, Doubt, audit, audit_network};
-use hsr_closing::Closed;
+use hsr_finished_run::Closed;
 use hsr_frame::NoMemory;
 use hsr_node_text::put_count;
 use hsr_options::Scope;

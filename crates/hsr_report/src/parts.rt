@@ -5,7 +5,7 @@ ghost use Rattle.hsr_report.specs.Found.{IsPart, TellsAsked, TellsBudget, TellsD
 use crate::needs::put_needed;
 use crate::spending::{put_spending, spending_of};
 use hsr_audit::{deliveries, needed, put_deliveries};
-use hsr_closing::Closed;
+use hsr_finished_run::Closed;
 use hsr_frame::NoMemory;
 use hsr_options::Asked;
 use std::alloc::Global;

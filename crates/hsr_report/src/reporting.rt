@@ -1,15 +1,15 @@
 //! The report of a finished run.
 ghost use Rattle.std.specs.Prelude.{◌≡◌, ◌<◌, ◌^◌, ◌++◌, count_by, length, IfOk, OnOk};
 ghost use Rattle.hsr_frame.specs.Counters.{AreWithin};
-ghost use Rattle.hsr_closing.specs.Finished.{IsFinished};
-ghost use Rattle.hsr_law.specs.Run.{place_of};
+ghost use Rattle.hsr_finished_run.specs.Finished.{IsFinished};
+ghost use Rattle.hsr_run_laws.specs.Run.{place_of};
 ghost use Rattle.hsr_report.specs.Found.{IsReportOf};
 ghost use Rattle.hsr_report.specs.Report.{head_line, head_text, is_row_lost, is_row_taken, link_line, link_lines, node_lines, node_text, report};
 
 use crate::finding::{Finding, put_finding};
 use crate::network::put_network;
 use crate::parts::parts;
-use hsr_closing::Closed;
+use hsr_finished_run::Closed;
 use hsr_frame::{Counters, NoMemory};
 use hsr_link::{Fate, Row};
 use hsr_node::Role;

@@ -4,7 +4,7 @@ ghost use Rattle.hsr_report.specs.Found.{IsSpending};
 ghost use Rattle.hsr_report.specs.Report.{spending_line};
 
 use hsr_audit::{BudgetFault, budget};
-use hsr_closing::Closed;
+use hsr_finished_run::Closed;
 use hsr_frame::NoMemory;
 use hsr_node_text::put_count;
 use std::alloc::{AllocError, Global};

@@ -18,27 +18,27 @@ use Rattle.hsr_node.specs.declared.event.Event.TheVariants as event
 use Rattle.hsr_node.specs.declared.event.Outcome.{Outcome}
 use Rattle.hsr_node.specs.declared.event.StepFault.{StepFault}
 use Rattle.hsr_node.specs.declared.place.Place.{Place}
-use Rattle.hsr_world.specs.Fit.{FitsStep}
-use Rattle.hsr_world.specs.Spans.{Lane, Span, Spot, emptied, gift, held_in, lane_of, lanes_of, on_lanes, spot_from, spread, with_lane, with_link}
+use Rattle.hsr_world_laws.specs.Fit.{FitsStep}
+use Rattle.hsr_world_laws.specs.Spans.{Lane, Span, Spot, emptied, gift, held_in, lane_of, lanes_of, on_lanes, spot_from, spread, with_lane, with_link}
 use Rattle.hsr_node.specs.Flow.{pass_of}
-use Rattle.hsr_world.specs.World.{World, and_added, cleared, entered, has_link, has_node, has_port, is_empty, judged_at, new_span, new_world, no_lane, or_same, owner_at, planned, port_worker, put_at, put_from, record_at, span_at, span_in, take_to, taken_by, tried, waits_in, with_span}
-use Rattle.hsr_numbers.specs.Numbers.{has}
+use Rattle.hsr_world_laws.specs.World.{World, and_added, cleared, entered, has_link, has_node, has_port, is_empty, judged_at, new_span, new_world, no_lane, or_same, owner_at, planned, port_worker, put_at, put_from, record_at, span_at, span_in, take_to, taken_by, tried, waits_in, with_span}
+use Rattle.hsr_bitset.specs.Numbers.{has}
 use Rattle.hsr_ring.specs.Pending.{AreLooked, ArePending, IsKept, hand_of, is_at, is_by, link_at, touches_box, touches_hand, touches_link}
-use Rattle.hsr_spans.specs.Ports.{AreTold, dir_at, end_at, held_at, is_held, is_ready, is_waiting, port_in, ports_in, port_fault}
-use Rattle.hsr_spans.specs.Views.{spot_view}
+use Rattle.hsr_world_links.specs.Ports.{AreTold, dir_at, end_at, held_at, is_held, is_ready, is_waiting, port_in, ports_in, port_fault}
+use Rattle.hsr_world_links.specs.Views.{spot_view}
 use Rattle.hsr_ring.specs.declared.pending.Pending.{Pending}
-use Rattle.hsr_spans.specs.declared.port.Port.{Port}
-use Rattle.hsr_step.specs.declared.step.Step.{Step}
-use Rattle.hsr_step.specs.declared.step.Step.TheVariants.{Clock, Send, Supervise, Age, Put, Take, Judge, Cut, Mend, Inject}
-use Rattle.hsr_step.specs.declared.step.WorldFault.{WorldFault}
-use Rattle.hsr_step.specs.declared.step.WorldFault.TheVariants.{NoSuchLink, NoSuchNode, NoSuchPort, TooLong}
-use Rattle.hsr_law.specs.Closed.{IsTableSize}
-use Rattle.hsr_law.specs.Run.{no_end}
-use Rattle.hsr_world.specs.Reached.{IsReached}
-use Rattle.hsr_world.proofs.Reached.{reached-step}
-use Rattle.hsr_spans.specs.Touching.{AreTouching}
+use Rattle.hsr_world_links.specs.declared.port.Port.{Port}
+use Rattle.hsr_world_steps.specs.declared.step.Step.{Step}
+use Rattle.hsr_world_steps.specs.declared.step.Step.TheVariants.{Clock, Send, Supervise, Age, Put, Take, Judge, Cut, Mend, Inject}
+use Rattle.hsr_world_steps.specs.declared.step.WorldFault.{WorldFault}
+use Rattle.hsr_world_steps.specs.declared.step.WorldFault.TheVariants.{NoSuchLink, NoSuchNode, NoSuchPort, TooLong}
+use Rattle.hsr_run_laws.specs.Closed.{IsTableSize}
+use Rattle.hsr_run_laws.specs.Run.{no_end}
+use Rattle.hsr_world_laws.specs.Reached.{IsReached}
+use Rattle.hsr_world_laws.proofs.Reached.{reached-step}
+use Rattle.hsr_world_links.specs.Touching.{AreTouching}
 use Rattle.hsr_ring.proofs.Ends.{still_touching, AreSame, keeps_ends, told_same}
-use Rattle.hsr_spans.proofs.Ports.{Ends, ends_at, is_there, out_there, port_of_number, spot_from_leads, spot_to_leads}
+use Rattle.hsr_world_links.proofs.Ports.{Ends, ends_at, is_there, out_there, port_of_number, spot_from_leads, spot_to_leads}
 
 -- ---- one span, before and after a step, as the ports and the direction of a number see it where the step doesn't touch them
 

@@ -3,11 +3,11 @@
 //! None of these functions does anything when it runs. The clause of each call tells the proof what the types keep true.
 ghost use Rattle.std.specs.Prelude.{◌<◌, ◌^◌, ◌≡◌, length, IfSome};
 ghost use Rattle.std.specs.List.{All};
-ghost use Rattle.hsr_world.specs.Fit.{FitsPlace, FitsStep, IsFit};
+ghost use Rattle.hsr_world_laws.specs.Fit.{FitsPlace, FitsStep, IsFit};
 
 use hsr_frame::Mac;
 use hsr_node::Place;
-use hsr_step::Step;
+use hsr_world_steps::Step;
 
 /// A number of this type has 16 bits.
 fn number_fits(n: u16)

@@ -15,17 +15,17 @@ use Rattle.hsr_node.specs.declared.event.Event.{Event}
 use Rattle.hsr_node.specs.declared.event.Event.TheVariants.{Arrive}
 use Rattle.hsr_node.specs.declared.event.StepFault.{StepFault}
 use Rattle.hsr_node.specs.declared.event.StepFault.TheVariants.{NoMemory as NoRoom}
-use Rattle.hsr_closing.specs.Checked.{IsFirst}
-use Rattle.hsr_closing.specs.Finished.{Finished}
-use Rattle.hsr_closing.specs.declared.disagree.CheckFault.TheVariants as check
-use Rattle.hsr_closing.specs.declared.disagree.Disagree.{Disagree}
-use Rattle.hsr_closing.specs.declared.planned.Planned.{Planned}
+use Rattle.hsr_finished_run.specs.Checked.{IsFirst}
+use Rattle.hsr_finished_run.specs.Finished.{Finished}
+use Rattle.hsr_finished_run.specs.declared.disagree.CheckFault.TheVariants as check
+use Rattle.hsr_finished_run.specs.declared.disagree.Disagree.{Disagree}
+use Rattle.hsr_finished_run.specs.declared.planned.Planned.{Planned}
 use Rattle.hsr_scenario.specs.Meaning.{Meant}
 use Rattle.hsr_scenario.specs.declared.steps.Order.{Order}
 use Rattle.hsr_scenario.specs.declared.steps.Order.TheVariants as order
-use Rattle.hsr_step.specs.declared.step.Step.TheVariants.{Send, Supervise, Age, Cut, Mend, Inject}
-use Rattle.hsr_step.specs.declared.step.WorldFault.{WorldFault}
-use Rattle.hsr_step.specs.declared.step.WorldFault.TheVariants.{NoSuchNode, NoSuchLink, TooLong, Node}
+use Rattle.hsr_world_steps.specs.declared.step.Step.TheVariants.{Send, Supervise, Age, Cut, Mend, Inject}
+use Rattle.hsr_world_steps.specs.declared.step.WorldFault.{WorldFault}
+use Rattle.hsr_world_steps.specs.declared.step.WorldFault.TheVariants.{NoSuchNode, NoSuchLink, TooLong, Node}
 use Rattle.hsr_runner.specs.Brought.{IsUnlike}
 use Rattle.hsr_runner.specs.Plan.{is_fine, plan_of, planned_at}
 use Rattle.hsr_runner.specs.Runs.{IsRunOf}

@@ -15,7 +15,7 @@ use crate::gate::Gate;
 use crate::plan::{first_fine, plan_of};
 use crate::role::roles_of;
 use crate::threads::play;
-use hsr_closing::{CheckFault, Closed, Planned};
+use hsr_finished_run::{CheckFault, Closed, Planned};
 use hsr_link::Row;
 use hsr_node::{Kept, Pass};
 use hsr_scenario::Scenario;

@@ -3,8 +3,8 @@ use Rattle.std.specs.Prelude.{ℕ, ℤ, pos, negsuc, nat_lt, List, [], ◌∷◌
 use Rattle.toml.specs.Data.{Data, Members}
 use Rattle.hsr_frame.specs.declared.node.About.{About}
 use Rattle.hsr_frame.specs.declared.node.About.TheVariants.{Own, Proxied}
-use Rattle.hsr_step.specs.declared.step.Step.{Step}
-use Rattle.hsr_step.specs.declared.step.Step.TheVariants.{Clock, Send, Supervise, Age, Put, Take, Judge, Cut, Mend, Inject}
+use Rattle.hsr_world_steps.specs.declared.step.Step.{Step}
+use Rattle.hsr_world_steps.specs.declared.step.Step.TheVariants.{Clock, Send, Supervise, Age, Put, Take, Judge, Cut, Mend, Inject}
 use Rattle.hsr_text.specs.declared.time_unit.TimeUnit.{TimeUnit}
 use Rattle.hsr_toml.specs.Fallible.{◌>>=◌}
 use Rattle.hsr_toml.specs.Tables.{between, integer, needed, optional, perhaps, word}

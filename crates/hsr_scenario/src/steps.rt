@@ -10,7 +10,7 @@ ghost use Rattle.hsr_scenario.specs.Words.{deed_of, octets_of};
 ghost use Rattle.hsr_link.specs.Words.{dir_of};
 ghost use Rattle.hsr_scenario.specs.Steps.{age, at_link, at_port, clock, drain, inject, life, link_numbered, order_in, order_of, send, stepped, take, used_link};
 ghost use Rattle.hsr_scenario.specs.declared.fault.Key.TheVariants as key;
-ghost use Rattle.hsr_step.specs.declared.step.Step.TheVariants as step;
+ghost use Rattle.hsr_world_steps.specs.declared.step.Step.TheVariants as step;
 
 use crate::fault::{Key, What};
 use crate::keys::{
@@ -25,9 +25,9 @@ use hex::FromHexError;
 use hsr_frame::{About, Mac};
 use hsr_link::Dir;
 use hsr_node::Octets;
-use hsr_step::Step;
 use hsr_text::TimeUnit;
 use hsr_toml::{between, integer, mac, needed, number_or, text, value};
+use hsr_world_steps::Step;
 use std::alloc::Global;
 use toml::{Table, Value};
 

@@ -1,8 +1,8 @@
 //! Why the run of a scenario stops, or can't be closed, in plain words.
-use hsr_closing::Disagree;
+use hsr_finished_run::Disagree;
 use hsr_frame::SendFault;
 use hsr_node::StepFault;
-use hsr_step::{DrainFault, WorldFault};
+use hsr_world_steps::{DrainFault, WorldFault};
 
 /// Why a node refuses an event, and what would do.
 fn words_of_node(fault: StepFault) -> &'static str {

@@ -2,7 +2,7 @@
 ghost use Rattle.std.specs.Prelude.{◌≡◌, ◌∷◌, []};
 ghost use Rattle.hsr_svg.specs.Style.{head_path, look_colour, look_dashes, look_point, look_words, looks};
 
-use hsr_picture::Look;
+use hsr_diagram::Look;
 
 /// All looks, as the legend lists them.
 pub fn looks() -> [Look; 6]

@@ -1,14 +1,15 @@
 //! Judges what a text says that is in form: topology, order, and each entry.
 ghost use Rattle.std.specs.Prelude.{◌≡◌, ◌≤◌};
-ghost use Rattle.hsr_transcript_text.specs.CodeReads.{seen};
+ghost use Rattle.hsr_transcript.specs.CodeReads.{seen};
 ghost use Rattle.hsr_transcript.specs.Judged.{Judged, standing_of};
-ghost use Rattle.hsr_transcript_text.specs.Plain.{plain_view};
+ghost use Rattle.hsr_transcript.specs.Plain.{plain_view};
 
+use crate::fault::ReadFault;
 use crate::order::plan_of;
+use crate::plain::Plain;
 use crate::replay::replay_all;
-use hsr_closing::Records;
+use hsr_finished_run::Records;
 use hsr_topology::Topology;
-use hsr_transcript_text::{Plain, ReadFault};
 use std::alloc::Global;
 
 /// The topology, plan, nodes and rows that a text stands for. `BadLine` of the last line of the links where the topology is

@@ -1,16 +1,17 @@
 //! The closed run whose text a text is.
 ghost use Rattle.std.specs.Prelude.{◌≡◌, ◌≤◌, IfSome};
-ghost use Rattle.hsr_closing.specs.Finished.{Finished, IsFinished};
+ghost use Rattle.hsr_finished_run.specs.Finished.{Finished, IsFinished};
 ghost use Rattle.hsr_transcript.specs.Answers.{Answers, Closes, IsReadAs, IsTextOf};
-ghost use Rattle.hsr_transcript_text.specs.Fits.{Fits};
+ghost use Rattle.hsr_transcript.specs.Fits.{Fits};
 ghost use Rattle.hsr_transcript.specs.Earlier.{IsEarlierText, in_microseconds};
 ghost use Rattle.hsr_transcript.specs.Judged.{standing_of};
-ghost use Rattle.hsr_transcript_text.specs.CodeReads.{seen};
+ghost use Rattle.hsr_transcript.specs.CodeReads.{seen};
 
+use crate::earlier_law::earlier_is_read;
+use crate::fault::ReadFault;
+use crate::form::read_plain;
 use crate::judge::judge;
-use crate::law::earlier_is_read;
-use hsr_closing::{CheckFault, Closed, Records};
-use hsr_transcript_text::{ReadFault, read_plain};
+use hsr_finished_run::{CheckFault, Closed, Records};
 use std::alloc::Global;
 use std::io::Read;
 

@@ -1,15 +1,15 @@
 //! Records that are replayed, entry by entry.
 ghost use Rattle.std.specs.Prelude.{◌≡◌, ◌+◌, ◌≤◌, ◌<◌, ◌^◌, IfOk, length, map};
 ghost use Rattle.std.specs.List.{All};
-ghost use Rattle.hsr_transcript_text.specs.CodeReads.{seen};
+ghost use Rattle.hsr_transcript.specs.CodeReads.{seen};
 ghost use Rattle.hsr_node.specs.Place.{HasOwnAddress};
-ghost use Rattle.hsr_transcript_text.specs.Items.{entry_items};
+ghost use Rattle.hsr_transcript.specs.Items.{entry_items};
 ghost use Rattle.hsr_transcript_lines.specs.Lines.{line_count};
 ghost use Rattle.hsr_transcript.specs.Replay.{Again, Replayed, ReplayedAll};
 
+use crate::fault::ReadFault;
 use hsr_frame::NoMemory;
 use hsr_node::{Entry, Event, Kept, Place, StepFault};
-use hsr_transcript_text::ReadFault;
 use std::alloc::Global;
 use std::mem;
 

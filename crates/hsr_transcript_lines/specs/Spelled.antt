@@ -30,7 +30,7 @@ use Rattle.hsr_node.specs.declared.role.Role.TheVariants as role
 use Rattle.hsr_link.specs.Words.{dir_word, fate_word}
 use Rattle.hsr_link.specs.declared.row.Dir.TheVariants.{Forth}
 use Rattle.hsr_link.specs.declared.row.Row.{Row}
-use Rattle.hsr_law.specs.Run.{from_end, to_end}
+use Rattle.hsr_run_laws.specs.Run.{from_end, to_end}
 use Rattle.hsr_topology.specs.declared.end.End.{End}
 
 -- a word, and others behind it, with one space between two

@@ -1,20 +1,41 @@
-//! The second program: a finished run as a capture, as a picture, or as devices.
+//! The program `hsr_view`: a transcript shown as a capture, as a picture, or as devices, over a reader and two writers; and
+//! what its words ask for.
 //!
-//! Its modules, in the order in which to read them: `asked`, `command_line`.
+//! Its modules, in the order in which to read them:
+//! - `views`: what can be asked for
+//! - `agreeing`: when links are down, by the scenario of the run
+//! - `given`: what a text is that is no transcript
+//! - `unnamed`: what a text is that is no scenario of the run
+//! - `fault`: why nothing is shown, and the line that says it
+//! - `head`: the head of a text, read before the rest is
+//! - `viewing`: what is shown of a text
+//! - `running`: the whole, its calls
+//! - `asked`: what the words of a command line ask for
+//! - `command_line`: reads the words of a command line, by clap
 #![tactic(auto)]
 
 ghost use Rattle.std.specs.Prelude.{◌≡◌, ◌++◌, IfOk, OnOk, codes, drop, map, string_bytes};
 ghost use Rattle.std.specs.Io.KnownBytes.{Appends};
 ghost use Rattle.std.specs.Process.{exit_status};
 
+mod agreeing;
 mod asked;
 mod command_line;
+mod fault;
+mod given;
+mod head;
+mod running;
+mod unnamed;
+mod viewing;
+mod views;
 
 use crate::asked::Asked;
 use crate::command_line::{WordFault, asked};
+use crate::fault::Fault;
+use crate::running::{tell, view_run};
+use crate::unnamed::{Unnamed, no_text};
 use hsr_scenario::TEXT_LIMIT;
 use hsr_text::arguments;
-use hsr_viewing::{Fault, Unnamed, no_text, tell, view_run};
 use std::alloc::Global;
 use std::fs::{File, Files};
 use std::io::{ErrorKind, Read, Write};

@@ -2,7 +2,7 @@ use Rattle.std.proofs.Common.{rules, ◌≡◌, ◌<◌, ◌&&◌, ◌==◌, ℕ
 use Rattle.std.proofs.lemmas.List.{get_or_read}
 use Rattle.hsr_node.specs.declared.place.Place.TheVariants.{QuadBox}
 use Rattle.hsr_node.specs.declared.place.Place.{Place}
-use Rattle.hsr_law.specs.Run.{Run, place_of}
+use Rattle.hsr_run_laws.specs.Run.{Run, place_of}
 use Rattle.hsr_deliveries.specs.Counted.{added}
 use Rattle.hsr_deliveries.specs.Delivered.{delivery_below, is_due, is_for}
 use Rattle.hsr_deliveries.proofs.Gathering.{delivery_more}

@@ -4,7 +4,7 @@ use Rattle.std.proofs.lemmas.List.{length-map}
 use Rattle.std.proofs.lemmas.List.Elements.{All-get_or}
 use Rattle.hsr_node.specs.Place.{HasOwnAddress}
 use Rattle.hsr_node.specs.declared.place.Place.{Place}
-use Rattle.hsr_transcript_text.specs.Items.{entry_items}
+use Rattle.hsr_transcript.specs.Items.{entry_items}
 use Rattle.hsr_transcript_lines.specs.Lines.{line_count}
 use Rattle.hsr_transcript.specs.Replay.{AreLegal}
 use Rattle.hsr_transcript.proofs.Moved.{left_next, same_there}

@@ -1,5 +1,5 @@
 use Rattle.std.proofs.Common.{subst}
-use Rattle.hsr_law.specs.Run.{Run}
+use Rattle.hsr_run_laws.specs.Run.{Run}
 use Rattle.hsr_topology.specs.Wired.{IsWired}
 use Rattle.hsr_audit.proofs.Losing.{losses_found}
 use Rattle.hsr_audit.proofs.cutoff.Reach.lossy.Goals as goal

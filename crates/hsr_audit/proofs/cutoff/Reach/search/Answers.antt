@@ -1,6 +1,6 @@
 use Rattle.std.proofs.Common.{◌≡◌, ◌<◌, ◌∙◌, length, sym, subst, arith}
-use Rattle.hsr_law.specs.Run.{Run}
-use Rattle.hsr_ways.specs.Numbered.{IsLossOf}
+use Rattle.hsr_run_laws.specs.Run.{Run}
+use Rattle.hsr_reach.specs.Numbered.{IsLossOf}
 use Rattle.hsr_audit.proofs.cutoff.Reach.search.Goals as goal
 
 pub reached-requires : goal.reached-requires

@@ -1,6 +1,6 @@
 use Rattle.std.proofs.Common.{List, ℕ, Option, refl, sym, ◌∙◌, subst}
 use Rattle.std.specs.Prelude.{IfSome}
-use Rattle.hsr_law.specs.Run.{Run}
+use Rattle.hsr_run_laws.specs.Run.{Run}
 use Rattle.hsr_audit.specs.Shared.{ReachAlike}
 use Rattle.hsr_audit.proofs.Alike.{alike, kept}
 use Rattle.hsr_audit.proofs.cutoff.Reach.shared.Goals as goal

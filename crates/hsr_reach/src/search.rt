@@ -1,0 +1,249 @@
+//! The search for the ways that a send takes.
+ghost use Rattle.std.specs.Prelude.{◌≡◌, ◌↔◌, ◌<◌, ◌≤◌, ◌==◌, ◌&&◌, if◌then◌else◌, true, ℕ, length, IfOk, IfSome, IsTrue};
+ghost use Rattle.hsr_run_laws.specs.Run.{place_of};
+ghost use Rattle.hsr_network_laws.specs.Network.{start_of, stop_of};
+ghost use Rattle.hsr_network_laws.specs.Search.{IsFound, IsSearched};
+ghost use Rattle.hsr_network_laws.specs.Ways.{Carries, IsFirstWay, IsNextWay, IsReached, lets_out};
+ghost use Rattle.hsr_bitset.specs.Numbers.{has};
+ghost use Rattle.hsr_reach.specs.Numbered.{IsLossOf, is_found, number_of};
+ghost use Rattle.hsr_reach.specs.Spread.{Follows, IsSpread, next_node};
+ghost use Rattle.hsr_reach.specs.Started.{ways_from};
+
+use crate::follow::{lets_out, passes_on};
+use crate::front::Front;
+use crate::starting::starting_in;
+use crate::way::Way;
+use hsr_bitset::Numbers;
+use hsr_finished_run::{Closed, from_end, to_end};
+use hsr_frame::NoMemory;
+use hsr_network_laws::search_decides;
+use hsr_node::{Place, Probe};
+use hsr_tag::FrameView;
+use hsr_topology::End;
+use std::alloc::Global;
+use std::marker::Model;
+
+/// Puts a number into a set, if it is one that is to be there.
+fn put_if(set: &mut Numbers, is_one: bool, number: usize)
+    requires { number < 512 }
+    ensures { (n : ℕ) → n < 512 → has set.new n ≡ (if is_one && (n == number) then true else has set.old n) }
+{
+    if is_one {
+        set.put(number, true);
+    }
+}
+
+/// A finished run, and the ways that start at each of its nodes.
+#[derive(Drop)]
+pub struct Ways<'a, const C: usize> {
+    closed: &'a Closed<C>,
+    starting: Vec<Vec<Way>>,
+}
+
+impl<'a, const C: usize> Model for Ways<'a, C> {
+    ghost use Rattle.std.specs.Prelude.{map};
+    ghost use Rattle.hsr_run_laws.specs.Run.{Run};
+    ghost use Rattle.hsr_reach.specs.Started.{AreStarting};
+
+    ghost Value = { Run };
+
+    ghost view = { λ w. w.closed.now.run };
+
+    ghost invariant = { λ w. AreStarting w.closed.now.run (map (λ ways. ways.items) w.starting.items) };
+}
+
+impl<'a, const C: usize> Ways<'a, C> {
+    /// The ways of a finished run. `NoMemory` where room is refused.
+    pub fn new(alloc: Global, closed: &'a Closed<C>) -> Result<Ways<'a, C>, NoMemory>
+        ensures { IfOk result (λ ways. ways ≡ closed.now.run) }
+    {
+        let topology = closed.topology();
+        let starting = starting_in(alloc, topology.places().len(), topology.links())?;
+        Ok(Ways { closed, starting })
+    }
+
+    /// The kind of a node.
+    fn place(&self, node: usize) -> &Place
+        requires { node < length self.now.places }
+        ensures { result.now ≡ place_of self.now node }
+    {
+        &self.closed.topology().places()[node]
+    }
+
+    /// Where a way starts.
+    fn start(&self, way: Way) -> End
+        requires { way.link < length self.now.links }
+        ensures value { result ≡ start_of self.now way }
+        ensures there { result.node < length self.now.places }
+    {
+        from_end(self.closed.topology().links()[way.link], way.dir)
+    }
+
+    /// Where a way ends.
+    pub fn stop(&self, way: Way) -> End
+        requires { way.link < length self.now.links }
+        ensures value { result ≡ stop_of self.now way }
+        ensures there { result.node < length self.now.places }
+    {
+        to_end(self.closed.topology().links()[way.link], way.dir)
+    }
+
+    /// Whether the node at the start of a way lets a frame out there.
+    fn lets_out(&self, frame: &FrameView<'_>, way: Way) -> bool
+        requires { way.link < length self.now.links }
+        ensures { result ≡ lets_out frame.now (place_of self.now (start_of self.now way).node) (start_of self.now way).port }
+    {
+        let start = self.start(way);
+        lets_out(frame, self.place(start.node), start.port)
+    }
+
+    /// Whether a send takes a way from its sender.
+    fn is_first(&self, send: Probe, frame: &FrameView<'_>, way: Way) -> bool
+        requires { way.link < length self.now.links }
+        ensures { IsTrue result ↔ IsFirstWay self.now send frame.now way }
+    {
+        self.start(way).node == send.node && self.lets_out(frame, way)
+    }
+
+    /// Whether a send goes on by a way from the end of another.
+    fn is_next(&self, send: Probe, frame: &FrameView<'_>, way: Way, next: Way) -> bool
+        requires way { way.link < length self.now.links }
+        requires next { next.link < length self.now.links }
+        ensures { IsTrue result ↔ IsNextWay self.now send frame.now way next }
+    {
+        let here = self.stop(way);
+        let start = self.start(next);
+        start.node == here.node
+            && start.port != here.port
+            && passes_on(
+                send.node,
+                frame,
+                here.node,
+                self.place(here.node),
+                here.port,
+            )
+            && self.lets_out(frame, next)
+            && self.stop(next).node != send.node
+    }
+
+    /// Whether a send takes a way, from its sender or from the end of another way.
+    fn follows(&self, send: Probe, frame: &FrameView<'_>, from: &Option<Way>, way: Way) -> bool
+        requires from { IfSome from.now (λ before. before.link < length self.now.links) }
+        requires way { way.link < length self.now.links }
+        ensures { IsTrue result ↔ Follows self.now send frame.now from.now way }
+    {
+        match from {
+            Some(before) => self.is_next(send, frame, *before, way),
+            None => self.is_first(send, frame, way),
+        }
+    }
+
+    /// The number of a way.
+    fn number(&self, way: Way) -> usize
+        requires { way.link < length self.now.links }
+        ensures value { result ≡ number_of way }
+        ensures few { result < 512 }
+    {
+        let _ = self.closed.topology();
+        way.number()
+    }
+
+    /// Whether a send takes a way on which no copy of it was lost.
+    fn takes(
+        &self,
+        send: Probe,
+        frame: &FrameView<'_>,
+        lost: &Numbers,
+        from: &Option<Way>,
+        way: Way,
+    ) -> bool
+        requires lost { IsLossOf self.now send lost.now }
+        requires from { IfSome from.now (λ before. before.link < length self.now.links) }
+        requires way { way.link < length self.now.links }
+        ensures { IsTrue result ↔ (Carries self.now send way × Follows self.now send frame.now from.now way) }
+    {
+        !lost.has(self.number(way)) && self.follows(send, frame, from, way)
+    }
+
+    /// The node from which a send goes on: its sender, or the one at the end of a way.
+    fn next_node(&self, send: Probe, from: &Option<Way>) -> usize
+        requires send { send.node < length self.now.places }
+        requires from { IfSome from.now (λ before. before.link < length self.now.links) }
+        ensures value { result ≡ next_node self.now send from.now }
+        ensures there { result < length self.now.places }
+    {
+        match from {
+            Some(before) => self.stop(*before).node,
+            None => send.node,
+        }
+    }
+
+    /// The ways that start at a node.
+    fn starting(&self, node: usize) -> &[Way]
+        requires { node < length self.now.places }
+        ensures ways { result.now ≡ ways_from node 0 self.now.links }
+        ensures few { length self.now.links ≤ 128 }
+    {
+        let _ = self.closed.topology();
+        self.starting[node].as_slice()
+    }
+
+    /// Finds all ways that a send takes, from its sender or from the end of another way.
+    fn spread(
+        &self,
+        front: &mut Front,
+        send: Probe,
+        frame: &FrameView<'_>,
+        lost: &Numbers,
+        from: &Option<Way>,
+    )
+        requires send { send.node < length self.now.places }
+        requires lost { IsLossOf self.now send lost.now }
+        requires from { IfSome from.now (λ before. before.link < length self.now.links) }
+        ensures few { length self.now.links ≤ 128 }
+        ensures spread { IsSpread self.now send frame.now from.now front.old.found front.old.waiting front.new.found front.new.waiting }
+    {
+        for way in self.starting(self.next_node(send, from)) {
+            let is_one = self.takes(send, frame, lost, from, *way);
+            front.put(is_one, self.number(*way));
+        }
+    }
+
+    /// The ways to whose ends a send comes, by their numbers, where these are the ways on which a copy of it was lost. Each is
+    /// gone on from once.
+    fn search(&self, send: Probe, frame: &FrameView<'_>, lost: &Numbers) -> Numbers
+        requires send { send.node < length self.now.places }
+        requires lost { IsLossOf self.now send lost.now }
+        ensures { IsSearched self.now send frame.now (is_found self.now result) }
+    {
+        let mut front = Front::new();
+        self.spread(&mut front, send, frame, lost, &None);
+        while let Some(number) = front.next() {
+            self.spread(&mut front, send, frame, lost, &Some(Way::at(number)));
+        }
+        front.found
+    }
+
+    /// The nodes at the ends of ways that are found.
+    fn ends(&self, found: &Numbers) -> Numbers
+        ensures { (k : ℕ) → k < length self.now.places → (has result k ≡ true) ↔ IsFound self.now (is_found self.now found.now) k }
+    {
+        let mut nodes = Numbers::new();
+        for number in 0..2 * self.closed.topology().links().len() {
+            let node = self.stop(Way::at(number)).node;
+            put_if(&mut nodes, found.has(number), node);
+        }
+        nodes
+    }
+
+    /// The nodes that a send reaches, where these are the ways on which a copy of it was lost, by their numbers: those to
+    /// which some way leads that lost no copy of it (IEC 62439-3 clause 5.3). Each way is gone on from once.
+    pub fn reached(&self, send: Probe, frame: &FrameView<'_>, lost: &Numbers) -> Numbers
+        requires send { send.node < length self.now.places }
+        requires lost { IsLossOf self.now send lost.now }
+        ensures { (k : ℕ) → k < length self.now.places → (has result k ≡ true) ↔ IsReached self.now send frame.now k }
+    {
+        search_decides();
+        self.ends(&self.search(send, frame, lost))
+    }
+}

@@ -1,0 +1,51 @@
+//! A direction of a link, and its number.
+ghost use Rattle.std.specs.Prelude.{◌≡◌, ◌<◌};
+ghost use Rattle.hsr_reach.specs.Numbered.{number_of, way_at};
+
+use hsr_link::Dir;
+use std::marker::Model;
+
+/// A direction of a link, by the link's number.
+#[derive(Clone, Copy, Debug, PartialEq, Eq)]
+pub struct Way {
+    pub link: usize,
+    pub dir: Dir,
+}
+
+impl Model for Way {
+    ghost use Rattle.hsr_network_laws.specs.Network.{Way};
+
+    ghost Value = { Way };
+
+    ghost view = { λ w. record { link = w.link; dir = w.dir } };
+
+    ghost inverse = { λ w. record { link = w.link; dir = w.dir } };
+}
+
+impl Way {
+    /// Its number: twice the link's, and one more where it goes back.
+    pub fn number(self) -> usize
+        requires { self.link < 256 }
+        ensures { result ≡ number_of self }
+    {
+        2 * self.link
+            + match self.dir {
+                Dir::Forth => 0,
+                Dir::Back => 1,
+            }
+    }
+
+    /// The way with a number.
+    pub(crate) fn at(number: usize) -> Way
+        ensures { result ≡ way_at number }
+    {
+        Way {
+            link: number / 2,
+            dir: if number % 2 == 0 {
+                Dir::Forth
+            } else {
+                Dir::Back
+            },
+        }
+    }
+}
