@@ -57,7 +57,8 @@ fn is_joined_with_station(places: &[Place], links: &[[End; 2]], node: usize) -> 
 
 /// Whether a frame that a node sends isn't supervision of a Station that is joined with a Station.
 pub(crate) fn is_promised(topology: &Topology, sender: usize, frame: &FrameView<'_>) -> bool
-    ensures { result ≡ not (egress.is_supervision frame.now.dst frame.now.kind && is_joined_with_station topology.now.places topology.now.links sender) }
+    ensures { result ≡ not (egress.is_supervision frame.now.dst frame.now.kind
+        && is_joined_with_station topology.now.places topology.now.links sender) }
 {
     let (places, links) = (topology.places(), topology.links());
     !(is_supervision(frame.dst, frame.kind) && is_joined_with_station(places, links, sender))

@@ -34,7 +34,8 @@ fn is_in_time(moments: &[Vec<u64>], at: u64, event: &Event) -> bool
 fn late_in<const C: usize>(closed: &Closed<C>, moments: &[Vec<u64>], node: usize) -> Option<usize>
     requires node { node < length closed.now.run.places }
     requires moments { lists_of moments.now ≡ moments_of closed.now.run }
-    ensures { MatchOption result (InTimeBelow closed.now.run node (length (record_of closed.now.run node))) (IsFirstLate closed.now.run node) }
+    ensures { MatchOption result (InTimeBelow closed.now.run node
+        (length (record_of closed.now.run node))) (IsFirstLate closed.now.run node) }
 {
     for (place, x) in closed.entries(node).iter().enumerate() {
         let at = moment_in(moments, Probe { node, place });
@@ -51,7 +52,8 @@ pub(crate) fn first_late<const C: usize>(
     moments: &[Vec<u64>],
 ) -> Option<(usize, usize)>
     requires { lists_of moments.now ≡ moments_of closed.now.run }
-    ensures { MatchOption result (AreInTime closed.now.run) (λ late. IsFirstNot closed.now.run (IsInTimeAt closed.now.run) late.0 late.1) }
+    ensures { MatchOption result (AreInTime closed.now.run) (λ late. IsFirstNot closed.now.run
+        (IsInTimeAt closed.now.run) late.0 late.1) }
 {
     for node in 0..closed.topology().places().len() {
         if let Some(place) = late_in(closed, moments, node) {

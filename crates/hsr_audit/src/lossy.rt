@@ -11,7 +11,8 @@ use hsr_reach::Way;
 
 /// Puts the way of a loss into a set, if its link is one of the first 256.
 fn put_way(set: &mut Numbers, loss: &Loss)
-    ensures { (way : law.Way) → way.link < 256 → has set.new (number_of way) ≡ (is_on way loss.now || has set.old (number_of way)) }
+    ensures { (way : law.Way) → way.link < 256 → has set.new (number_of way)
+        ≡ (is_on way loss.now || has set.old (number_of way)) }
 {
     if loss.link < 256 {
         let way = Way {

@@ -78,7 +78,8 @@ fn leads_below(
 
 /// Whether a link joins a node with such a Station, of any links.
 fn any_leads_below(topology: &Topology, sender: usize, frame: &FrameView<'_>, node: usize) -> bool
-    ensures { result ≡ list_any (leads_below topology.now.places sender frame.now node) topology.now.links }
+    ensures { result ≡ list_any (leads_below topology.now.places sender frame.now node)
+        topology.now.links }
 {
     let (places, links) = (topology.places(), topology.links());
     links
@@ -133,7 +134,8 @@ fn unknown_of<const C: usize>(
 ) -> Option<Probe>
     requires node { node < length closed.now.run.places }
     requires at { stations.now.last ≤ at }
-    ensures { IsLowest (IsUnknownOf closed.now.run node (is_known at stations.now.heard) send) result }
+    ensures { IsLowest (IsUnknownOf closed.now.run node
+        (is_known at stations.now.heard) send) result }
 {
     let send = send?;
     if is_unknown(closed, node, stations, at, send) {

@@ -28,7 +28,8 @@ fn is_sending(event: &Event) -> bool
 /// The effective moment of each entry of a record. Those of its sends are put last among others.
 fn moments_in(alloc: Global, sends: &mut Vec<u64>, entries: &[Entry]) -> Result<Vec<u64>, NoMemory>
     ensures moments { IfOk result (λ moments. moments.items ≡ moments_recorded entries.now) }
-    ensures sends { OnOk result (sends.new.items ≡ sends.old.items ++ sent_moments (reverse entries.now)) }
+    ensures sends { OnOk result (sends.new.items ≡ sends.old.items
+        ++ sent_moments (reverse entries.now)) }
 {
     let mut moments = Vec::new(alloc);
     let mut moment = 0_u64;
@@ -53,7 +54,8 @@ fn gather<const C: usize>(alloc: Global, closed: &Closed<C>) -> Result<Moments, 
     ensures capacity { closed.now.run.capacity ≡ C }
     ensures finished { IsFinished closed.now }
     ensures records { IfOk result (λ m. lists_of m.records.items ≡ moments_of closed.now.run) }
-    ensures sends { IfOk result (λ m. m.sends.items ≡ sent_moments_below closed.now.run (length closed.now.run.places)) }
+    ensures sends { IfOk result (λ m. m.sends.items ≡ sent_moments_below closed.now.run
+        (length closed.now.run.places)) }
 {
     let mut records = Vec::new(alloc);
     let mut sends = Vec::new(alloc);

@@ -87,7 +87,8 @@ fn certify<const C: usize>(
     alloc: Global,
     closed: &Closed<C>,
 ) -> Result<NetworkCertificate, AuditFault>
-    ensures certified { IfOk result (λ c. IsNetworkCertified closed.now.run c.deliveries.sends.items) }
+    ensures certified { IfOk result (λ c.
+        IsNetworkCertified closed.now.run c.deliveries.sends.items) }
     ensures fault { IfErr result (IsFirstFault of_network closed.now.run) }
 {
     check_premises(alloc, closed)?;
@@ -113,10 +114,12 @@ pub fn audit_network<const C: usize>(
     alloc: Global,
     closed: &Closed<C>,
 ) -> Result<NetworkCertificate, AuditFault>
-    ensures certified { IfOk result (λ c. IsNetworkCertified closed.now.run c.deliveries.sends.items) }
+    ensures certified { IfOk result (λ c.
+        IsNetworkCertified closed.now.run c.deliveries.sends.items) }
     ensures first { IfErr result (IsFirstFault of_network closed.now.run) }
     ensures refused { IfErr result (IsRefused (IsNetworkPremised closed.now.run)) }
-    ensures no_ring { IfErr result (IsRefused (HasPremises closed.now.run × HasSend closed.now.run)) }
+    ensures no_ring { IfErr result (IsRefused (HasPremises closed.now.run
+        × HasSend closed.now.run)) }
 {
     ring_is_crossed();
     let _ = closed.topology();

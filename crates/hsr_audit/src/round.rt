@@ -68,7 +68,8 @@ pub(crate) fn is_round(places: &[Place], links: &[[End; 2]]) -> bool
 
 /// Adds the address of a DANH to others.
 fn push_address(macs: &mut Vec<Mac>, place: &Place) -> Result<(), NoMemory>
-    ensures { OnOk result (macs.new.items ≡ macs.old.items ++ cons_option (address_of place.now) []) }
+    ensures { OnOk result (macs.new.items ≡ macs.old.items
+        ++ cons_option (address_of place.now) []) }
 {
     if let Place::Danh { mac, .. } = place {
         macs.push(*mac)?;

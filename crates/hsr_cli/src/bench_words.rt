@@ -198,7 +198,8 @@ fn with_flag<'a>(
     help: &'a str,
 ) -> Result<Command<'a>, AllocError>
     requires own { (fields_of command).has_globals ≡ false }
-    ensures app { IfOk result (λ c. app_of c ≡ with_rule (app_of command.entry) (flag_rule name.entry.now)) }
+    ensures app { IfOk result (λ c. app_of c ≡ with_rule (app_of command.entry)
+        (flag_rule name.entry.now)) }
     ensures own { IfOk result (λ c. (fields_of c).has_globals ≡ false) }
 {
     command.arg(flag_arg(alloc, name, help))
@@ -234,7 +235,8 @@ fn telling<'a>(alloc: Global, command: Command<'a>) -> Result<Command<'a>, Alloc
 
 /// The command `node` with the options for the node's address and mode.
 fn node_placed<'a>(alloc: Global, modes: &'a [&'a str]) -> Result<Command<'a>, AllocError>
-    ensures app { IfOk result (λ c. app_of c ≡ with_rule (with_rule (new_app (codes "node")) mac_rule) (mode_rule modes.entry)) }
+    ensures app { IfOk result (λ c. app_of c
+        ≡ with_rule (with_rule (new_app (codes "node")) mac_rule) (mode_rule modes.entry)) }
     ensures own { IfOk result (λ c. (fields_of c).has_globals ≡ false) }
 {
     Command::new(alloc, "node")
@@ -344,7 +346,8 @@ fn refused(alloc: Global, error: &Error) -> OptionFault
 /// A refusal by the text that an error shows, without the end of its last line: whoever prints it ends the line. Of clap's errors the
 /// kit's clauses don't tell what they show, so there `text` says nothing.
 fn shown<D: Display + Drop>(alloc: Global, error: D) -> OptionFault
-    ensures text { IfUsage result (λ t. IfSome (D.output error) (λ whole. t ≡ or_help (trim_end whole))) }
+    ensures text { IfUsage result (λ t. IfSome (D.output error) (λ whole. t
+        ≡ or_help (trim_end whole))) }
     ensures some { IfUsage result (λ t. 0 < length t) }
 {
     match error.to_string(alloc) {
@@ -375,32 +378,40 @@ fn usage(alloc: Global, text: &str) -> OptionFault
 
 #[tactic(auto, using(crate::proofs::BenchFound::table_found, crate::proofs::BenchFound::table_unread))]
 fn table_of(matches: &ArgMatches<'_>) -> Option<TableSize>
-    ensures found { IfSome result (λ t. first_value (found_of matches.now) (codes "table") ≡ Some (table_word t)) }
-    ensures none { IfNone result ((t : _) → first_value (found_of matches.now) (codes "table") ≢ Some (table_word t)) }
+    ensures found { IfSome result (λ t. first_value (found_of matches.now) (codes "table")
+        ≡ Some (table_word t)) }
+    ensures none { IfNone result ((t : _) → first_value (found_of matches.now) (codes "table")
+        ≢ Some (table_word t)) }
 {
     TableSize::from_word(matches.get_str("table")?.as_bytes())
 }
 
 #[tactic(auto, using(crate::proofs::BenchFound::mode_found, crate::proofs::BenchFound::mode_unread))]
 fn mode_of(matches: &ArgMatches<'_>) -> Option<Mode>
-    ensures found { IfSome result (λ m. first_value (found_of matches.now) (codes "mode") ≡ Some (mode_word m)) }
-    ensures none { IfNone result ((m : _) → first_value (found_of matches.now) (codes "mode") ≢ Some (mode_word m)) }
+    ensures found { IfSome result (λ m. first_value (found_of matches.now) (codes "mode")
+        ≡ Some (mode_word m)) }
+    ensures none { IfNone result ((m : _) → first_value (found_of matches.now) (codes "mode")
+        ≢ Some (mode_word m)) }
 {
     Mode::from_word(matches.get_str("mode")?.as_bytes())
 }
 
 #[tactic(auto, using(crate::proofs::BenchFound::unit_found, crate::proofs::BenchFound::unit_unread))]
 fn unit_of(matches: &ArgMatches<'_>) -> Option<TimeUnit>
-    ensures found { IfSome result (λ u. first_value (found_of matches.now) (codes "unit") ≡ Some (unit_word u)) }
-    ensures none { IfNone result ((u : _) → first_value (found_of matches.now) (codes "unit") ≢ Some (unit_word u)) }
+    ensures found { IfSome result (λ u. first_value (found_of matches.now) (codes "unit")
+        ≡ Some (unit_word u)) }
+    ensures none { IfNone result ((u : _) → first_value (found_of matches.now) (codes "unit")
+        ≢ Some (unit_word u)) }
 {
     TimeUnit::from_word(matches.get_str("unit")?.as_bytes())
 }
 
 /// Whether a flag is among the words.
 fn flag_of(matches: &ArgMatches<'_>, name: &str) -> Option<bool>
-    ensures found { IfSome result (λ b. first_value (found_of matches.now) name.now ≡ Some (flag_text b)) }
-    ensures none { IfNone result ((b : _) → first_value (found_of matches.now) name.now ≢ Some (flag_text b)) }
+    ensures found { IfSome result (λ b. first_value (found_of matches.now) name.now
+        ≡ Some (flag_text b)) }
+    ensures none { IfNone result ((b : _) → first_value (found_of matches.now) name.now
+        ≢ Some (flag_text b)) }
 {
     match matches.get_str(name) {
         Some("true") => Some(true),
@@ -412,7 +423,8 @@ fn flag_of(matches: &ArgMatches<'_>, name: &str) -> Option<bool>
 /// Which parts of a report are asked for.
 fn asked_of(matches: &ArgMatches<'_>) -> Option<Asked>
     ensures found { IfSome result (IsAsked (first_value (found_of matches.now))) }
-    ensures none { IfNone result ((asked : Asked) → ¬ IsAsked (first_value (found_of matches.now)) asked) }
+    ensures none { IfNone result ((asked : Asked)
+        → ¬ IsAsked (first_value (found_of matches.now)) asked) }
 {
     let deliveries = flag_of(matches, "deliveries")?;
     let needed = flag_of(matches, "needed")?;
@@ -427,7 +439,8 @@ fn asked_of(matches: &ArgMatches<'_>) -> Option<Asked>
 /// Which audit the last line is of.
 fn scope_of(matches: &ArgMatches<'_>) -> Option<Scope>
     ensures found { IfSome result (IsScope (first_value (found_of matches.now))) }
-    ensures none { IfNone result ((scope : Scope) → ¬ IsScope (first_value (found_of matches.now)) scope) }
+    ensures none { IfNone result ((scope : Scope)
+        → ¬ IsScope (first_value (found_of matches.now)) scope) }
 {
     if flag_of(matches, "network")? {
         Some(Scope::Network)
@@ -440,7 +453,8 @@ fn scope_of(matches: &ArgMatches<'_>) -> Option<Scope>
 #[tactic(auto, using(crate::proofs::BenchFound::no_form))]
 fn form_of(matches: &ArgMatches<'_>) -> Option<Form>
     ensures found { IfSome result (IsForm (first_value (found_of matches.now))) }
-    ensures none { IfNone result ((form : Form) → ¬ IsForm (first_value (found_of matches.now)) form) }
+    ensures none { IfNone result ((form : Form)
+        → ¬ IsForm (first_value (found_of matches.now)) form) }
 {
     if flag_of(matches, "transcript")? {
         Some(Form::Transcript)
@@ -452,7 +466,8 @@ fn form_of(matches: &ArgMatches<'_>) -> Option<Form>
 /// What is to be shown of a run.
 fn showing_of(matches: &ArgMatches<'_>) -> Option<Showing>
     ensures found { IfSome result (IsShowing (first_value (found_of matches.now))) }
-    ensures none { IfNone result ((showing : Showing) → ¬ IsShowing (first_value (found_of matches.now)) showing) }
+    ensures none { IfNone result ((showing : Showing)
+        → ¬ IsShowing (first_value (found_of matches.now)) showing) }
 {
     let scope = scope_of(matches)?;
     let form = form_of(matches)?;
@@ -461,9 +476,12 @@ fn showing_of(matches: &ArgMatches<'_>) -> Option<Showing>
 
 /// The address of `--mac`, if it is one and no group's.
 fn mac_of(matches: &ArgMatches<'_>) -> Option<Mac>
-    ensures address { IfSome result (λ m. (t : Text) × (first_value (found_of matches.now) (codes "mac") ≡ Some t) × (address_of t ≡ Ok m)) }
+    ensures address { IfSome result (λ m. (t : Text)
+        × (first_value (found_of matches.now) (codes "mac") ≡ Some t) × (address_of t ≡ Ok m)) }
     ensures station { IfSome result (λ m. ¬ IsGroup m) }
-    ensures none { IfNone result ((t : Text) (m : Mac) → first_value (found_of matches.now) (codes "mac") ≡ Some t → address_of t ≡ Ok m → IsGroup m) }
+    ensures none { IfNone result ((t : Text) (m : Mac)
+        → first_value (found_of matches.now) (codes "mac") ≡ Some t → address_of t ≡ Ok m
+        → IsGroup m) }
 {
     let text = matches.get_str("mac")?;
     match Mac::from_text(text) {
@@ -474,7 +492,8 @@ fn mac_of(matches: &ArgMatches<'_>) -> Option<Mac>
 
 fn node_options(matches: &ArgMatches<'_>) -> Option<NodeOptions>
     ensures found { IfSome result (IsNode (first_value (found_of matches.now))) }
-    ensures none { IfNone result ((node : NodeOptions) → ¬ IsNode (first_value (found_of matches.now)) node) }
+    ensures none { IfNone result ((node : NodeOptions)
+        → ¬ IsNode (first_value (found_of matches.now)) node) }
 {
     let mode = mode_of(matches)?;
     let table = table_of(matches)?;
@@ -491,7 +510,8 @@ fn node_options(matches: &ArgMatches<'_>) -> Option<NodeOptions>
 /// The options of a subcommand.
 fn options_of(name: &str, matches: &ArgMatches<'_>) -> Option<Options>
     ensures found { IfSome result (Chosen name.now (first_value (found_of matches.now))) }
-    ensures none { IfNone result ((o : Options) → ¬ Chosen name.now (first_value (found_of matches.now)) o) }
+    ensures none { IfNone result ((o : Options)
+        → ¬ Chosen name.now (first_value (found_of matches.now)) o) }
 {
     match name {
         "node" => Some(Options::Node(node_options(matches)?)),

@@ -161,7 +161,8 @@ fn refused(alloc: Global, error: &Error) -> WordsFault
 /// A refusal by the text that an error shows, without the end of its last line: whoever prints it ends the line. Of clap's errors the
 /// kit's clauses don't tell what they show, so there `text` says nothing.
 fn shown<D: Display + Drop>(alloc: Global, error: D) -> WordsFault
-    ensures text { IfUsage result (λ t. IfSome (D.output error) (λ whole. t ≡ or_else (trim_end whole) TOGETHER.now)) }
+    ensures text { IfUsage result (λ t. IfSome (D.output error) (λ whole. t
+        ≡ or_else (trim_end whole) TOGETHER.now)) }
     ensures some { IfUsage result (λ t. 0 < length t) }
 {
     match error.to_string(alloc) {
@@ -195,8 +196,11 @@ fn moment_of(said: Option<&str>) -> Option<u64>
 
 /// What the values of `--check` and `--table` choose alone.
 fn plan_of(check: Option<&str>, table: Option<&str>) -> Option<Task>
-    ensures found { IfSome result (ChosenAlone (option_map (λ s. s.now) check.entry) (option_map (λ s. s.now) table.entry)) }
-    ensures none { IfNone result ((task : TaskOf) → ¬ ChosenAlone (option_map (λ s. s.now) check.entry) (option_map (λ s. s.now) table.entry) task) }
+    ensures found { IfSome result (ChosenAlone (option_map (λ s. s.now) check.entry)
+        (option_map (λ s. s.now) table.entry)) }
+    ensures none { IfNone result ((task : TaskOf)
+        → ¬ ChosenAlone (option_map (λ s. s.now) check.entry)
+        (option_map (λ s. s.now) table.entry) task) }
 {
     match check {
         Some("false") => match table_of(table) {
@@ -210,8 +214,11 @@ fn plan_of(check: Option<&str>, table: Option<&str>) -> Option<Task>
 
 /// What these values choose before a subcommand of that name, with its moment.
 fn sweep_of(check: Option<&str>, table: Option<&str>, name: &str, at: Option<&str>) -> Option<Task>
-    ensures found { IfSome result (ChosenBefore (option_map (λ s. s.now) check.entry) (option_map (λ s. s.now) table.entry) name.now (option_map (λ s. s.now) at.entry)) }
-    ensures none { IfNone result ((task : TaskOf) → ¬ ChosenBefore (option_map (λ s. s.now) check.entry) (option_map (λ s. s.now) table.entry) name.now (option_map (λ s. s.now) at.entry) task) }
+    ensures found { IfSome result (ChosenBefore (option_map (λ s. s.now) check.entry)
+        (option_map (λ s. s.now) table.entry) name.now (option_map (λ s. s.now) at.entry)) }
+    ensures none { IfNone result ((task : TaskOf)
+        → ¬ ChosenBefore (option_map (λ s. s.now) check.entry)
+        (option_map (λ s. s.now) table.entry) name.now (option_map (λ s. s.now) at.entry) task) }
 {
     match (check, table, name) {
         (Some("false"), None, "sweep") => match moment_of(at) {
@@ -224,8 +231,10 @@ fn sweep_of(check: Option<&str>, table: Option<&str>, name: &str, at: Option<&st
 
 /// What a parse found.
 fn chosen_in(matches: &ArgMatches<'_>) -> Option<Task>
-    ensures found { IfSome result (Chosen (first_value (found_of matches.now)) (sub_values (subcommand_rows_of matches.now))) }
-    ensures none { IfNone result ((task : TaskOf) → ¬ Chosen (first_value (found_of matches.now)) (sub_values (subcommand_rows_of matches.now)) task) }
+    ensures found { IfSome result (Chosen (first_value (found_of matches.now))
+        (sub_values (subcommand_rows_of matches.now))) }
+    ensures none { IfNone result ((task : TaskOf) → ¬ Chosen (first_value (found_of matches.now))
+        (sub_values (subcommand_rows_of matches.now)) task) }
 {
     let table = matches.get_str("table");
     let check = matches.get_str("check");

@@ -35,7 +35,8 @@ impl<'a, const C: usize> Model for Traces<'a, C> {
 
     ghost view = { λ t. t.closed.now.run };
 
-    ghost invariant = { λ t. (t.tallies.items ≡ t.closed.now.run.records) × (t.losses ≡ t.closed.now.run) };
+    ghost invariant = { λ t. (t.tallies.items ≡ t.closed.now.run.records)
+        × (t.losses ≡ t.closed.now.run) };
 }
 
 /// Puts a tally last.
@@ -112,7 +113,8 @@ fn delivery_of<const C: usize>(
     dst: Mac,
     kind: u16,
 ) -> Result<Delivery, NoMemory>
-    ensures { IfOk result (λ delivery. delivery ≡ delivery_below traces.now send at dst kind (length traces.now.places)) }
+    ensures { IfOk result (λ delivery. delivery ≡ delivery_below traces.now send at dst kind
+        (length traces.now.places)) }
 {
     let lost = traces.lost(alloc, send)?;
     let mut delivery = Delivery::new(alloc, send, at, dst, lost);
@@ -133,7 +135,8 @@ fn list_entry<const C: usize>(
     place: &Place,
     x: &Entry,
 ) -> Result<(), NoMemory>
-    ensures { OnOk result (sends.new.items ≡ sends.old.items ++ delivered_by traces.now send place.now x.now) }
+    ensures { OnOk result (sends.new.items ≡ sends.old.items
+        ++ delivered_by traces.now send place.now x.now) }
 {
     let Some(sending) = sent_view(place, &x.event, &x.outcome) else {
         return Ok(());
@@ -154,7 +157,8 @@ fn list_record<const C: usize>(
     place: &Place,
     entries: &[Entry],
 ) -> Result<(), NoMemory>
-    ensures { OnOk result (sends.new.items ≡ sends.old.items ++ deliveries_at traces.now number place.now entries.now (length entries.now)) }
+    ensures { OnOk result (sends.new.items ≡ sends.old.items
+        ++ deliveries_at traces.now number place.now entries.now (length entries.now)) }
 {
     for (i, x) in entries.iter().enumerate() {
         let send = Probe {
@@ -192,7 +196,8 @@ fn list_sends<const C: usize>(alloc: Global, closed: &Closed<C>) -> Result<Vec<D
 /// delivered each frame exactly once (IEC 62439-3 clause 5.3), each send is complete. `NoMemory` where room is refused.
 pub fn deliveries<const C: usize>(alloc: Global, closed: &Closed<C>) -> Result<Deliveries, NoMemory>
     ensures value { IfOk result (λ d. d.sends.items ≡ deliveries closed.now.run) }
-    ensures complete { IfOk result (λ d. (macs : List (List ℕ)) → IsRing closed.now.run macs → IsExactlyOnce closed.now.run macs → AllByRecursion IsComplete d.sends.items) }
+    ensures complete { IfOk result (λ d. (macs : List (List ℕ)) → IsRing closed.now.run macs
+        → IsExactlyOnce closed.now.run macs → AllByRecursion IsComplete d.sends.items) }
 {
     once_is_complete();
     Ok(Deliveries {

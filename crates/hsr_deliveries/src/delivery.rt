@@ -43,7 +43,8 @@ pub struct Deliveries {
 
 /// Adds an item to others, if it is one of them. `NoMemory` where room is refused.
 pub fn push_if<T: Copy + Drop>(items: &mut Vec<T>, is_one: bool, item: T) -> Result<(), NoMemory>
-    ensures { OnOk result (items.new.items ≡ items.old.items ++ (if is_one then item ∷ [] else [])) }
+    ensures { OnOk result (items.new.items ≡ items.old.items
+        ++ (if is_one then item ∷ [] else [])) }
 {
     if is_one {
         items.push(item)?;

@@ -45,7 +45,8 @@ fn put_others(text: &mut Vec<u8>, nodes: &[usize]) -> Result<(), AllocError>
 
 /// Puts a name and numbers, parted by commas.
 fn put_nodes(text: &mut Vec<u8>, name: &[u8], nodes: &[usize]) -> Result<(), AllocError>
-    ensures { OnOk result (text.new.items ≡ text.old.items ++ (name.now ++ parted decimal nodes.now)) }
+    ensures { OnOk result (text.new.items ≡ text.old.items
+        ++ (name.now ++ parted decimal nodes.now)) }
 {
     text.extend_from_slice(name)?;
     match nodes.split_first() {
@@ -80,7 +81,8 @@ fn put_next_loss(text: &mut Vec<u8>, loss: Loss) -> Result<(), AllocError>
 /// Puts losses, each behind a comma.
 #[tactic(auto, using(crate::proofs::Growing::grown))]
 fn put_other_losses(text: &mut Vec<u8>, losses: &[Loss]) -> Result<(), AllocError>
-    ensures { OnOk result (text.new.items ≡ text.old.items ++ flat_map (behind loss_text) losses.now) }
+    ensures { OnOk result (text.new.items ≡ text.old.items
+        ++ flat_map (behind loss_text) losses.now) }
 {
     for loss in losses {
         put_next_loss(text, *loss)?;
@@ -161,7 +163,8 @@ fn put_lines(alloc: Global, text: &mut Vec<u8>, sends: &[Delivery]) -> Result<()
 /// Puts how many sends there are, and how many are complete.
 #[tactic(auto, unfolding(crate::specs::Lines::summary_line))]
 fn put_summary(text: &mut Vec<u8>, deliveries: &Deliveries) -> Result<(), AllocError>
-    ensures { OnOk result (text.new.items ≡ text.old.items ++ summary_line deliveries.now.sends.items) }
+    ensures { OnOk result (text.new.items ≡ text.old.items
+        ++ summary_line deliveries.now.sends.items) }
 {
     let (sends, complete) = (deliveries.sends.as_slice().len(), deliveries.complete());
     put_pair(
@@ -181,7 +184,8 @@ pub fn put_deliveries(
     text: &mut Vec<u8>,
     deliveries: &Deliveries,
 ) -> Result<(), AllocError>
-    ensures { OnOk result (text.new.items ≡ text.old.items ++ delivery_lines deliveries.now.sends.items) }
+    ensures { OnOk result (text.new.items ≡ text.old.items
+        ++ delivery_lines deliveries.now.sends.items) }
 {
     put_lines(alloc, text, deliveries.sends.as_slice())?;
     put_summary(text, deliveries)

@@ -20,7 +20,8 @@ type ByProbe = IndexMap<(usize, usize), Vec<Loss>>;
 
 /// Keeps one more loss of a send.
 fn keep(alloc: Global, kept: &mut ByProbe, send: Probe, loss: Loss) -> Result<(), NoMemory>
-    ensures { OnOk result ((other : spec.Probe) → losses_in kept.new other ≡ losses_in kept.old other ++ (if is_of other (Some send) then loss ∷ [] else [])) }
+    ensures { OnOk result ((other : spec.Probe) → losses_in kept.new other
+        ≡ losses_in kept.old other ++ (if is_of other (Some send) then loss ∷ [] else [])) }
 {
     kept.entry((send.node, send.place))?
         .or_insert(Vec::new(alloc))
@@ -30,7 +31,8 @@ fn keep(alloc: Global, kept: &mut ByProbe, send: Probe, loss: Loss) -> Result<()
 
 /// Keeps the loss of a row's copy, if it was lost and is of a send.
 fn keep_row(alloc: Global, kept: &mut ByProbe, link: usize, row: &Row) -> Result<(), NoMemory>
-    ensures { OnOk result ((other : spec.Probe) → losses_in kept.new other ≡ losses_in kept.old other ++ cons_option (loss_of other link row.now) []) }
+    ensures { OnOk result ((other : spec.Probe) → losses_in kept.new other
+        ≡ losses_in kept.old other ++ cons_option (loss_of other link row.now) []) }
 {
     match row.carried.probe {
         Some(send) if row.fate.is_lost() => {
@@ -47,7 +49,8 @@ fn keep_row(alloc: Global, kept: &mut ByProbe, link: usize, row: &Row) -> Result
 
 /// Keeps the losses of a link, by place.
 fn keep_rows(alloc: Global, kept: &mut ByProbe, link: usize, rows: &[Row]) -> Result<(), NoMemory>
-    ensures { OnOk result ((other : spec.Probe) → losses_in kept.new other ≡ losses_in kept.old other ++ filter_map (loss_of other link) rows.now) }
+    ensures { OnOk result ((other : spec.Probe) → losses_in kept.new other
+        ≡ losses_in kept.old other ++ filter_map (loss_of other link) rows.now) }
 {
     for row in rows {
         keep_row(alloc, kept, link, row)?;
@@ -57,7 +60,8 @@ fn keep_rows(alloc: Global, kept: &mut ByProbe, link: usize, rows: &[Row]) -> Re
 
 /// The losses of a run, by their sends.
 fn losses_by_send<const C: usize>(alloc: Global, closed: &Closed<C>) -> Result<ByProbe, NoMemory>
-    ensures { IfOk result (λ kept. (send : spec.Probe) → losses_in kept send ≡ lost closed.now.run send) }
+    ensures { IfOk result (λ kept. (send : spec.Probe) → losses_in kept send
+        ≡ lost closed.now.run send) }
 {
     let mut kept = IndexMap::new(alloc);
     for link in 0..closed.topology().links().len() {
@@ -95,7 +99,8 @@ impl<'a, const C: usize> Model for Losses<'a, C> {
 
     ghost view = { λ l. l.closed.now.run };
 
-    ghost invariant = { λ l. (send : spec.Probe) → losses_in l.by_send send ≡ lost l.closed.now.run send };
+    ghost invariant = { λ l. (send : spec.Probe) → losses_in l.by_send send
+        ≡ lost l.closed.now.run send };
 }
 
 impl<'a, const C: usize> Losses<'a, C> {

@@ -32,7 +32,8 @@ impl<'a> Model for Tally<'a> {
 
     ghost view = { λ t. t.entries.now };
 
-    ghost invariant = { λ t. (send : spec.Probe) → times_in t.counts send ≡ count_by (delivers send) t.entries.now };
+    ghost invariant = { λ t. (send : spec.Probe) → times_in t.counts send
+        ≡ count_by (delivers send) t.entries.now };
 }
 
 /// The send of an arrival that went up.
@@ -57,7 +58,8 @@ fn times_in(counts: &Counts, send: Probe) -> usize
 /// Counts a send once more.
 fn count_one(counts: &mut Counts, send: Probe) -> Result<(), NoMemory>
     requires { times_in counts.old send + 1 < 2 ^ 64 }
-    ensures { OnOk result ((other : spec.Probe) → times_in counts.new other ≡ times_in counts.old other + (if is_of other (Some send) then 1 else 0)) }
+    ensures { OnOk result ((other : spec.Probe) → times_in counts.new other
+        ≡ times_in counts.old other + (if is_of other (Some send) then 1 else 0)) }
 {
     *counts.entry((send.node, send.place))?.or_insert(0) += 1;
     Ok(())
@@ -66,7 +68,8 @@ fn count_one(counts: &mut Counts, send: Probe) -> Result<(), NoMemory>
 /// How often each send was taken up by the entries of a record.
 #[tactic(auto, using(crate::proofs::Counting::count_fits, crate::proofs::Counting::counted_more))]
 fn counted(alloc: Global, entries: &[Entry]) -> Result<Counts, NoMemory>
-    ensures { IfOk result (λ counts. (send : spec.Probe) → times_in counts send ≡ count_by (delivers send) entries.now) }
+    ensures { IfOk result (λ counts. (send : spec.Probe) → times_in counts send
+        ≡ count_by (delivers send) entries.now) }
 {
     let mut counts = IndexMap::new(alloc);
     for (i, x) in entries.iter().enumerate() {

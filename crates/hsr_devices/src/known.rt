@@ -46,7 +46,8 @@ fn hear_node(nodes: &mut NodeTable, place: &Place, at: u64, event: &Event)
 /// What a record lets its node know at the moment of the last entry: the nodes that are in the node's own table, and the
 /// stations.
 pub fn known_by(place: &Place, entries: &[Entry]) -> Known
-    ensures nodes { result.nodes.items ≡ rows place.now (reverse entries.now) (now (reverse entries.now)) }
+    ensures nodes { result.nodes.items ≡ rows place.now (reverse entries.now)
+        (now (reverse entries.now)) }
     ensures stations { result.stations.items ≡ stations_known place.now (reverse entries.now) }
 {
     let mut at = 0;

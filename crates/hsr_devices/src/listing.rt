@@ -99,7 +99,8 @@ fn peer(
     places: &[Place],
     link: &Option<PortLink>,
 ) -> Result<Vec<u8>, NoMemory>
-    ensures { IfOk result (λ text. text.items ≡ peer_text (lists_of names.now) places.now link.now) }
+    ensures { IfOk result (λ text. text.items
+        ≡ peer_text (lists_of names.now) places.now link.now) }
 {
     let mut text = Vec::new(alloc);
     match link {
@@ -124,7 +125,8 @@ fn peers(
     places: &[Place],
     links: &[Option<PortLink>],
 ) -> Result<Vec<Vec<u8>>, NoMemory>
-    ensures { IfOk result (λ texts. lists_of texts.items ≡ map (peer_text (lists_of names.now) places.now) links.now) }
+    ensures { IfOk result (λ texts. lists_of texts.items
+        ≡ map (peer_text (lists_of names.now) places.now) links.now) }
 {
     let mut texts = Vec::new(alloc);
     for link in links {
@@ -158,7 +160,8 @@ fn put_ports(text: &mut Vec<u8>, width: usize, place: &Place) -> Result<(), NoMe
 /// Puts letters last, each in a column.
 #[tactic(auto, using(hsr_frame::proofs::OneMore::grown))]
 fn put_letters(text: &mut Vec<u8>, width: usize, letters: &[u8]) -> Result<(), NoMemory>
-    ensures { OnOk result (text.new.items ≡ text.old.items ++ flat_map (letter_cell width) letters.now) }
+    ensures { OnOk result (text.new.items ≡ text.old.items
+        ++ flat_map (letter_cell width) letters.now) }
 {
     for letter in letters {
         put_right(text, width, [*letter].as_slice())?;
@@ -169,7 +172,8 @@ fn put_letters(text: &mut Vec<u8>, width: usize, letters: &[u8]) -> Result<(), N
 /// Puts texts last, each in a column.
 #[tactic(auto, using(hsr_frame::proofs::OneMore::grown))]
 fn put_each(text: &mut Vec<u8>, width: usize, texts: &[Vec<u8>]) -> Result<(), NoMemory>
-    ensures { OnOk result (text.new.items ≡ text.old.items ++ flat_map (λ cell. right width cell.items) texts.now) }
+    ensures { OnOk result (text.new.items ≡ text.old.items
+        ++ flat_map (λ cell. right width cell.items) texts.now) }
 {
     for cell in texts {
         put_right(text, width, cell.as_slice())?;
@@ -179,7 +183,8 @@ fn put_each(text: &mut Vec<u8>, width: usize, texts: &[Vec<u8>]) -> Result<(), N
 
 /// The same, by what the texts are.
 fn put_texts(text: &mut Vec<u8>, width: usize, texts: &[Vec<u8>]) -> Result<(), NoMemory>
-    ensures { OnOk result (text.new.items ≡ text.old.items ++ flat_map (right width) (lists_of texts.now)) }
+    ensures { OnOk result (text.new.items ≡ text.old.items
+        ++ flat_map (right width) (lists_of texts.now)) }
 {
     put_each(text, width, texts)
 }
@@ -187,7 +192,8 @@ fn put_texts(text: &mut Vec<u8>, width: usize, texts: &[Vec<u8>]) -> Result<(), 
 /// Puts the row of the ports to which a node's ports lead last.
 #[tactic(auto, unfolding(crate::specs::Listing::peers_row))]
 fn put_peers(text: &mut Vec<u8>, width: usize, peers: &[Vec<u8>]) -> Result<(), NoMemory>
-    ensures { OnOk result (text.new.items ≡ text.old.items ++ peers_row width (lists_of peers.now)) }
+    ensures { OnOk result (text.new.items ≡ text.old.items
+        ++ peers_row width (lists_of peers.now)) }
 {
     put_left(text, LABEL, b"  leads to")?;
     put_texts(text, width, peers)?;
@@ -203,7 +209,8 @@ fn put_head(
     node: usize,
     place: &Place,
 ) -> Result<(), NoMemory>
-    ensures { OnOk result (text.new.items ≡ text.old.items ++ head_text (lists_of names.now) node place.now) }
+    ensures { OnOk result (text.new.items ≡ text.old.items
+        ++ head_text (lists_of names.now) node place.now) }
 {
     put_name(text, names, node)?;
     put(text, "  ")?;
@@ -266,7 +273,8 @@ fn put_needed(
     entries: usize,
     needed: Needed,
 ) -> Result<(), NoMemory>
-    ensures { OnOk result (text.new.items ≡ text.old.items ++ needed_text place.now entries needed) }
+    ensures { OnOk result (text.new.items ≡ text.old.items
+        ++ needed_text place.now entries needed) }
 {
     match place {
         Place::Station { .. } => Ok(()),
@@ -276,7 +284,8 @@ fn put_needed(
 
 /// Puts the line of a number behind words last.
 fn put_number_line(text: &mut Vec<u8>, words: &[u8], n: u64) -> Result<(), NoMemory>
-    ensures { OnOk result (text.new.items ≡ text.old.items ++ (words.now ++ decimal n ++ codes "\n")) }
+    ensures { OnOk result (text.new.items ≡ text.old.items ++ (words.now ++ decimal n
+        ++ codes "\n")) }
 {
     put_octets(text, words)?;
     put_number(text, n)?;
@@ -315,7 +324,8 @@ fn put_traffic<const C: usize>(
 ) -> Result<(), NoMemory>
     requires below { node < length closed.now.run.places }
     requires place { place.now ≡ place_of closed.now.run node }
-    ensures { OnOk result (text.new.items ≡ text.old.items ++ traffic_text width closed.now.run node place.now links.now) }
+    ensures { OnOk result (text.new.items ≡ text.old.items
+        ++ traffic_text width closed.now.run node place.now links.now) }
 {
     let counters = closed.counters(node);
     let columns = Columns {
@@ -357,7 +367,8 @@ fn put_columns<const C: usize>(
 ) -> Result<(), NoMemory>
     requires below { node < length closed.now.run.places }
     requires place { place.now ≡ place_of closed.now.run node }
-    ensures { OnOk result (text.new.items ≡ text.old.items ++ columns_text (lists_of names.now) closed.now.run node place.now) }
+    ensures { OnOk result (text.new.items ≡ text.old.items
+        ++ columns_text (lists_of names.now) closed.now.run node place.now) }
 {
     let links = links_at(alloc, closed, node, place.ports())?;
     let peers = peers(alloc, names, closed.topology().places(), links.as_slice())?;
@@ -378,7 +389,8 @@ fn put_knowledge<const C: usize>(
     place: &Place,
 ) -> Result<(), NoMemory>
     requires below { node < length closed.now.run.places }
-    ensures { OnOk result (text.new.items ≡ text.old.items ++ known_at (lists_of names.now) closed.now.run node place.now) }
+    ensures { OnOk result (text.new.items ≡ text.old.items
+        ++ known_at (lists_of names.now) closed.now.run node place.now) }
 {
     let known = known_by(place, closed.entries(node));
     put_known(alloc, text, names, closed.topology().places(), &known)
@@ -396,7 +408,8 @@ fn put_never_heard<const C: usize>(
 ) -> Result<(), NoMemory>
     requires below { node < length closed.now.run.places }
     requires place { place.now ≡ place_of closed.now.run node }
-    ensures { OnOk result (text.new.items ≡ text.old.items ++ unheard_at (lists_of names.now) closed.now.run node place.now) }
+    ensures { OnOk result (text.new.items ≡ text.old.items
+        ++ unheard_at (lists_of names.now) closed.now.run node place.now) }
 {
     match place {
         Place::Danh { .. } | Place::RedBox { .. } => {
@@ -420,7 +433,8 @@ fn put_device<const C: usize>(
 ) -> Result<(), NoMemory>
     requires below { node < length closed.now.run.places }
     requires place { place.now ≡ place_of closed.now.run node }
-    ensures { OnOk result (text.new.items ≡ text.old.items ++ device_text (lists_of names.now) closed.now.run node place.now needed) }
+    ensures { OnOk result (text.new.items ≡ text.old.items
+        ++ device_text (lists_of names.now) closed.now.run node place.now needed) }
 {
     put_head(alloc, text, names, node, place)?;
     put_sent(text, closed.counters(node))?;
@@ -453,7 +467,9 @@ fn put_devices<const C: usize>(
     needed: &[Needed],
 ) -> Result<(), NoMemory>
     requires { length needed.now ≡ length closed.now.run.places }
-    ensures { OnOk result (text.new.items ≡ text.old.items ++ devices_below (lists_of names.now) closed.now.run needed.now (length closed.now.run.places)) }
+    ensures { OnOk result (text.new.items ≡ text.old.items
+        ++ devices_below (lists_of names.now) closed.now.run needed.now
+        (length closed.now.run.places)) }
 {
     let places = closed.topology().places();
     for node in 0..places.len() {
@@ -482,7 +498,8 @@ pub fn devices<const C: usize>(
     closed: &Closed<C>,
     names: &[Vec<u8>],
 ) -> Result<Vec<u8>, NoMemory>
-    ensures listing { IfOk result (λ text. IsListing (lists_of names.now) closed.now.run text.items) }
+    ensures listing { IfOk result (λ text.
+        IsListing (lists_of names.now) closed.now.run text.items) }
     ensures sums { AreSums closed.now.run }
 {
     let _topology = closed.topology();

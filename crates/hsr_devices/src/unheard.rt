@@ -102,7 +102,8 @@ fn is_unheard<const C: usize>(
 
 /// Puts a node last, if it is one of them.
 fn push_if(nodes: &mut Vec<usize>, is_one: bool, node: usize) -> Result<(), NoMemory>
-    ensures { OnOk result (nodes.new.items ≡ nodes.old.items ++ (if is_one then node ∷ [] else [])) }
+    ensures { OnOk result (nodes.new.items ≡ nodes.old.items
+        ++ (if is_one then node ∷ [] else [])) }
 {
     if is_one {
         nodes.push(node)?;

@@ -51,7 +51,8 @@ fn row(
 
 /// The first link that is free.
 fn first_free(free: &[bool]) -> Option<usize>
-    ensures { MatchOption result (IsNoneFree free.now) (λ link. slice_index_or free.now link false ≡ true) }
+    ensures { MatchOption result (IsNoneFree free.now) (λ link. slice_index_or free.now link false
+        ≡ true) }
 {
     free.iter().position(|is_free| *is_free)
 }
@@ -66,7 +67,10 @@ fn all_free(alloc: Global, count: usize) -> Result<Vec<bool>, NoMemory>
 
 /// Puts a panel last.
 fn add(panels: &mut Vec<Panel>, first: usize, lanes: Vec<Lane>) -> Result<(), NoMemory>
-    ensures { OnOk result (panels.new.items ≡ panels.old.items ++ record { first = first; lanes = lanes.items } ∷ []) }
+    ensures { OnOk result (panels.new.items ≡ panels.old.items ++ record {
+      first = first;
+      lanes = lanes.items;
+    } ∷ []) }
 {
     panels.push(Panel { first, lanes })?;
     Ok(())
@@ -75,7 +79,8 @@ fn add(panels: &mut Vec<Panel>, first: usize, lanes: Vec<Lane>) -> Result<(), No
 /// The panels of all links.
 #[tactic(auto, using(crate::proofs::Freeing::left_below, crate::proofs::Freeing::left_more, crate::proofs::Freeing::left_none, crate::proofs::Freeing::panels_more))]
 fn joined(alloc: Global, topology: &Topology) -> Result<Vec<Panel>, NoMemory>
-    ensures chains { IfOk result (λ panels. AllByRecursion (IsPanel topology.now.links) panels.items) }
+    ensures chains { IfOk result (λ panels.
+        AllByRecursion (IsPanel topology.now.links) panels.items) }
     ensures once { IfOk result (λ panels. AreOnce (length topology.now.links) panels.items) }
 {
     let mut free = all_free(alloc, topology.links().len())?;
@@ -108,7 +113,8 @@ fn is_linked(links: &[[End; 2]], node: usize) -> bool
 
 /// Puts a panel of a node alone last, if it has no link.
 fn add_if(alloc: Global, panels: &mut Vec<Panel>, node: usize, alone: bool) -> Result<(), NoMemory>
-    ensures { OnOk result (panels.new.items ≡ panels.old.items ++ (if alone then lone node ∷ [] else [])) }
+    ensures { OnOk result (panels.new.items ≡ panels.old.items
+        ++ (if alone then lone node ∷ [] else [])) }
 {
     if alone {
         add(panels, node, Vec::new(alloc))?;
@@ -118,7 +124,8 @@ fn add_if(alloc: Global, panels: &mut Vec<Panel>, node: usize, alone: bool) -> R
 
 /// Puts a panel last for each node without a link.
 fn put_lone(alloc: Global, topology: &Topology, panels: &mut Vec<Panel>) -> Result<(), NoMemory>
-    ensures { OnOk result (panels.new.items ≡ panels.old.items ++ lone_below topology.now.links (length topology.now.places)) }
+    ensures { OnOk result (panels.new.items ≡ panels.old.items ++ lone_below topology.now.links
+        (length topology.now.places)) }
 {
     let links = topology.links();
     for node in 0..topology.places().len() {

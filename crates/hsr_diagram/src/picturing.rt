@@ -86,7 +86,8 @@ fn wanted_rows<const C: usize>(
     sends: &[Probe],
     span: Span,
 ) -> Result<Vec<Shown>, PictureFault>
-    ensures wanted { IfOk result (λ rows. AreWanted closed.now.run closed.now.plan sends.now span rows.items) }
+    ensures wanted { IfOk result (λ rows.
+        AreWanted closed.now.run closed.now.plan sends.now span rows.items) }
     ensures refused { IfErr result (IsRefused closed.now.run closed.now.plan sends.now span) }
 {
     let rows = story(alloc, closed)?;

@@ -60,7 +60,8 @@ fn add_if(
     send: Probe,
     start: Option<Time>,
 ) -> Result<(), NoMemory>
-    ensures { OnOk result (list.new.items ≡ list.old.items ++ sent_if sends.now span number send start) }
+    ensures { OnOk result (list.new.items ≡ list.old.items
+        ++ sent_if sends.now span number send start) }
 {
     if is_listed(sends, span, send, start) {
         list.push(Sent { number, start })?;
@@ -76,7 +77,8 @@ pub(crate) fn sents(
     span: Span,
     deliveries: &[Delivery],
 ) -> Result<Vec<Sent>, NoMemory>
-    ensures { IfOk result (λ list. list.items ≡ sents (at_spot (lists_of times.now)) sends.now span deliveries.now) }
+    ensures { IfOk result (λ list. list.items
+        ≡ sents (at_spot (lists_of times.now)) sends.now span deliveries.now) }
 {
     let mut list = Vec::new(alloc);
     for (i, delivery) in deliveries.iter().enumerate() {

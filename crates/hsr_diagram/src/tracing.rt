@@ -25,7 +25,8 @@ pub(crate) fn hops_by_link<const C: usize>(
     alloc: Global,
     closed: &Closed<C>,
 ) -> Result<Vec<Vec<Hop>>, NoMemory>
-    ensures { IfOk result (λ hops. lists_of hops.items ≡ hops_by_link closed.now.run (length closed.now.run.links)) }
+    ensures { IfOk result (λ hops. lists_of hops.items ≡ hops_by_link closed.now.run
+        (length closed.now.run.links)) }
 {
     let mut links = Vec::new(alloc);
     for link in 0..closed.topology().links().len() {
@@ -110,7 +111,8 @@ fn arrow_of<const C: usize>(
     times: &[Vec<Time>],
     shown: &Shown,
 ) -> Arrow
-    ensures { result ≡ arrow_of closed.now.run (lists_of hops.now) (at_spot (lists_of times.now)) shown.now }
+    ensures { result ≡ arrow_of closed.now.run (lists_of hops.now)
+        (at_spot (lists_of times.now)) shown.now }
 {
     let (passed, judged) = match hop_at(hops, shown) {
         Some(hop) => (hop.passed, hop.judged),
@@ -133,7 +135,8 @@ pub(crate) fn arrows<const C: usize>(
     times: &[Vec<Time>],
     rows: &[Shown],
 ) -> Result<Vec<Arrow>, NoMemory>
-    ensures { IfOk result (λ list. list.items ≡ map (arrow_of closed.now.run (lists_of hops.now) (at_spot (lists_of times.now))) rows.now) }
+    ensures { IfOk result (λ list. list.items ≡ map (arrow_of closed.now.run (lists_of hops.now)
+        (at_spot (lists_of times.now))) rows.now) }
 {
     let mut list = Vec::new(alloc);
     for row in rows {

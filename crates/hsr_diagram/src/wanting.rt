@@ -80,7 +80,8 @@ pub(crate) fn pictured<const C: usize>(
     span: Span,
     rows: &[Shown],
 ) -> Result<Vec<Shown>, NoMemory>
-    ensures { IfOk result (λ list. list.items ≡ filter (is_pictured closed.now.run sends.now span) rows.now) }
+    ensures { IfOk result (λ list. list.items
+        ≡ filter (is_pictured closed.now.run sends.now span) rows.now) }
 {
     let mut list = Vec::new(alloc);
     for (i, row) in rows.iter().enumerate() {

@@ -31,7 +31,8 @@ fn hover_text<const C: usize>(
     closed: &Closed<C>,
     row: &Shown,
 ) -> Result<Vec<u8>, NoMemory>
-    ensures { IfOk result (λ words. words.items ≡ comment_of (lists_of names.now) closed.now.run row.now) }
+    ensures { IfOk result (λ words. words.items
+        ≡ comment_of (lists_of names.now) closed.now.run row.now) }
 {
     let mut words = Vec::new(alloc);
     put_shown_comment(&mut words, names, closed, row)?;
@@ -47,7 +48,8 @@ fn add_shown<const C: usize>(
     arrow: &Arrow,
     way: Way,
 ) -> Result<(), NoMemory>
-    ensures { OnOk result (shapes elements.new.items ≡ shapes elements.old.items ++ arrow_shape (lists_of names.now) closed.now.run arrow.now ∷ []) }
+    ensures { OnOk result (shapes elements.new.items ≡ shapes elements.old.items
+        ++ arrow_shape (lists_of names.now) closed.now.run arrow.now ∷ []) }
 {
     let title = hover_text(alloc, names, closed, &arrow.row)?;
     add_arrow(elements, arrow.look, title, way)
@@ -63,7 +65,8 @@ pub(crate) fn add_arrows<const C: usize>(
     sheet: &Sheet,
     arrows: &[Arrow],
 ) -> Result<(), NoMemory>
-    ensures { OnOk result (shapes elements.new.items ≡ shapes elements.old.items ++ map (arrow_shape (lists_of names.now) closed.now.run) arrows.now) }
+    ensures { OnOk result (shapes elements.new.items ≡ shapes elements.old.items
+        ++ map (arrow_shape (lists_of names.now) closed.now.run) arrows.now) }
 {
     for arrow in arrows {
         let way = sheet.way_of(arrow);
@@ -83,7 +86,8 @@ fn add_copy_if(
     send: Option<Probe>,
     spot: Spot,
 ) -> Result<(), NoMemory>
-    ensures { OnOk result (shapes elements.new.items ≡ shapes elements.old.items ++ copy_if (lists_of names.now) has_one send) }
+    ensures { OnOk result (shapes elements.new.items ≡ shapes elements.old.items
+        ++ copy_if (lists_of names.now) has_one send) }
 {
     match send {
         Some(send) if !has_one => {
@@ -104,7 +108,8 @@ fn add_loss(
     word: &str,
     spot: Spot,
 ) -> Result<(), NoMemory>
-    ensures { OnOk result (shapes elements.new.items ≡ shapes elements.old.items ++ text_shape (labels.Copy Lost) word.now ∷ []) }
+    ensures { OnOk result (shapes elements.new.items ≡ shapes elements.old.items
+        ++ text_shape (labels.Copy Lost) word.now ∷ []) }
 {
     let label = Label::Copy { look: Look::Lost };
     add_words(alloc, elements, label, word.as_bytes(), spot)
@@ -120,7 +125,8 @@ fn add_label_by(
     row: &Row,
     spot: Spot,
 ) -> Result<(), NoMemory>
-    ensures { OnOk result (shapes elements.new.items ≡ shapes elements.old.items ++ label_by (lists_of names.now) has_one look row.now) }
+    ensures { OnOk result (shapes elements.new.items ≡ shapes elements.old.items
+        ++ label_by (lists_of names.now) has_one look row.now) }
 {
     match look {
         Look::Lost => add_loss(alloc, elements, row.fate.word(), spot),
@@ -150,7 +156,8 @@ fn add_label<const C: usize>(
     arrow: &Arrow,
     spot: Spot,
 ) -> Result<(), NoMemory>
-    ensures { OnOk result (shapes elements.new.items ≡ shapes elements.old.items ++ label_shapes (lists_of names.now) closed.now.run has_one arrow.now) }
+    ensures { OnOk result (shapes elements.new.items ≡ shapes elements.old.items
+        ++ label_shapes (lists_of names.now) closed.now.run has_one arrow.now) }
 {
     match rows_at(closed, arrow.row.link).get(arrow.row.number) {
         Some(row) => add_label_by(alloc, elements, names, has_one, arrow.look, row, spot),
@@ -169,7 +176,8 @@ pub(crate) fn add_labels<const C: usize>(
     has_one: bool,
     arrows: &[Arrow],
 ) -> Result<(), NoMemory>
-    ensures { OnOk result (shapes elements.new.items ≡ shapes elements.old.items ++ flat_map (label_shapes (lists_of names.now) closed.now.run has_one) arrows.now) }
+    ensures { OnOk result (shapes elements.new.items ≡ shapes elements.old.items
+        ++ flat_map (label_shapes (lists_of names.now) closed.now.run has_one) arrows.now) }
 {
     for arrow in arrows {
         let spot = sheet.label_at(arrow);

@@ -47,7 +47,8 @@ impl Columns {
     }
 
     fn add_lane(&mut self, lane: Lane) -> Result<(), NoMemory>
-        ensures nodes { OnOk result (self.new.nodes.items ≡ self.old.nodes.items ++ lane.right.node ∷ []) }
+        ensures nodes { OnOk result (self.new.nodes.items ≡ self.old.nodes.items
+            ++ lane.right.node ∷ []) }
         ensures lanes { OnOk result (self.new.lanes.items ≡ self.old.lanes.items ++ lane ∷ []) }
     {
         let left = self.next;
@@ -62,7 +63,8 @@ impl Columns {
     }
 
     fn add_lanes(&mut self, lanes: &[Lane]) -> Result<(), NoMemory>
-        ensures nodes { OnOk result (self.new.nodes.items ≡ self.old.nodes.items ++ map (λ lane. lane.right.node) lanes.now) }
+        ensures nodes { OnOk result (self.new.nodes.items ≡ self.old.nodes.items
+            ++ map (λ lane. lane.right.node) lanes.now) }
         ensures lanes { OnOk result (self.new.lanes.items ≡ self.old.lanes.items ++ lanes.now) }
     {
         for lane in lanes {
@@ -72,8 +74,10 @@ impl Columns {
     }
 
     fn add_panel(&mut self, panel: &Panel) -> Result<(), NoMemory>
-        ensures nodes { OnOk result (self.new.nodes.items ≡ self.old.nodes.items ++ nodes_in panel.now) }
-        ensures lanes { OnOk result (self.new.lanes.items ≡ self.old.lanes.items ++ panel.now.lanes) }
+        ensures nodes { OnOk result (self.new.nodes.items ≡ self.old.nodes.items
+            ++ nodes_in panel.now) }
+        ensures lanes { OnOk result (self.new.lanes.items ≡ self.old.lanes.items
+            ++ panel.now.lanes) }
     {
         self.add_line(panel.first)?;
         self.add_lanes(panel.lanes.as_slice())?;

@@ -34,7 +34,8 @@ fn add_stroke(
     number: usize,
     is_again: bool,
 ) -> Result<(), NoMemory>
-    ensures { OnOk result (shapes elements.new.items ≡ shapes elements.old.items ++ line_shape (lines.Node is_again) ∷ []) }
+    ensures { OnOk result (shapes elements.new.items ≡ shapes elements.old.items
+        ++ line_shape (lines.Node is_again) ∷ []) }
 {
     let x = sheet.columns.line_at(number);
     let way = Way {
@@ -48,7 +49,8 @@ fn add_stroke(
 
 /// Adds the lines of nodes.
 fn add_strokes(elements: &mut Vec<Element>, sheet: &Sheet, nodes: &[usize]) -> Result<(), NoMemory>
-    ensures { OnOk result (shapes elements.new.items ≡ shapes elements.old.items ++ strokes_below nodes.now (length nodes.now)) }
+    ensures { OnOk result (shapes elements.new.items ≡ shapes elements.old.items
+        ++ strokes_below nodes.now (length nodes.now)) }
 {
     for number in 0..nodes.len() {
         add_stroke(elements, sheet, number, is_again(nodes, number))?;
@@ -66,7 +68,8 @@ fn add_kind(
     node: usize,
     spot: Spot,
 ) -> Result<(), NoMemory>
-    ensures { OnOk result (shapes elements.new.items ≡ shapes elements.old.items ++ kind_if (slice_get places.now node)) }
+    ensures { OnOk result (shapes elements.new.items ≡ shapes elements.old.items
+        ++ kind_if (slice_get places.now node)) }
 {
     match places.get(node) {
         Some(place) => add_words(
@@ -92,7 +95,8 @@ fn add_head(
     number: usize,
 ) -> Result<(), NoMemory>
     requires { number < length nodes.now }
-    ensures { OnOk result (shapes elements.new.items ≡ shapes elements.old.items ++ head_shapes (lists_of names.now) places.now nodes.now number) }
+    ensures { OnOk result (shapes elements.new.items ≡ shapes elements.old.items
+        ++ head_shapes (lists_of names.now) places.now nodes.now number) }
 {
     let x = sheet.columns.line_at(number);
     let node = nodes[number];
@@ -113,7 +117,8 @@ fn add_heads(
     sheet: &Sheet,
     nodes: &[usize],
 ) -> Result<(), NoMemory>
-    ensures { OnOk result (shapes elements.new.items ≡ shapes elements.old.items ++ heads_below (lists_of names.now) places.now nodes.now (length nodes.now)) }
+    ensures { OnOk result (shapes elements.new.items ≡ shapes elements.old.items
+        ++ heads_below (lists_of names.now) places.now nodes.now (length nodes.now)) }
 {
     for number in 0..nodes.len() {
         add_head(alloc, elements, names, places, sheet, nodes, number)?;
@@ -133,7 +138,8 @@ fn add_link(
     lane: Lane,
     strip: Strip,
 ) -> Result<(), NoMemory>
-    ensures { OnOk result (shapes elements.new.items ≡ shapes elements.old.items ++ link_shapes places.now lane) }
+    ensures { OnOk result (shapes elements.new.items ≡ shapes elements.old.items
+        ++ link_shapes places.now lane) }
 {
     let left = heads.left_letter_at(strip);
     let right = heads.right_letter_at(strip);
@@ -154,7 +160,8 @@ fn add_links(
     sheet: &Sheet,
     lanes: &[Lane],
 ) -> Result<(), NoMemory>
-    ensures { OnOk result (shapes elements.new.items ≡ shapes elements.old.items ++ flat_map (link_shapes places.now) lanes.now) }
+    ensures { OnOk result (shapes elements.new.items ≡ shapes elements.old.items
+        ++ flat_map (link_shapes places.now) lanes.now) }
 {
     for (number, lane) in lanes.iter().enumerate() {
         let strip = sheet.columns.strip_at(number);
@@ -173,7 +180,8 @@ fn add_moment(
     sheet: &Sheet,
     moment: u64,
 ) -> Result<(), NoMemory>
-    ensures { OnOk result (shapes elements.new.items ≡ shapes elements.old.items ++ moment_shapes moment) }
+    ensures { OnOk result (shapes elements.new.items ≡ shapes elements.old.items
+        ++ moment_shapes moment) }
 {
     let y = sheet.rows.first_of(moment);
     let above = y.saturating_sub(sheet.rows.space);
@@ -203,7 +211,8 @@ fn add_moments(
     sheet: &Sheet,
     moments: &[u64],
 ) -> Result<(), NoMemory>
-    ensures { OnOk result (shapes elements.new.items ≡ shapes elements.old.items ++ flat_map moment_shapes moments.now) }
+    ensures { OnOk result (shapes elements.new.items ≡ shapes elements.old.items
+        ++ flat_map moment_shapes moments.now) }
 {
     for moment in moments {
         add_moment(alloc, elements, sheet, *moment)?;
@@ -222,7 +231,9 @@ pub(crate) fn add_frame(
     places: &[Place],
     sheet: &Sheet,
 ) -> Result<(), NoMemory>
-    ensures { OnOk result (shapes elements.new.items ≡ shapes elements.old.items ++ frame_shapes (lists_of names.now) places.now sheet.now.columns.nodes.items sheet.now.columns.lanes.items sheet.now.moments.items) }
+    ensures { OnOk result (shapes elements.new.items ≡ shapes elements.old.items
+        ++ frame_shapes (lists_of names.now) places.now sheet.now.columns.nodes.items
+        sheet.now.columns.lanes.items sheet.now.moments.items) }
 {
     let nodes = sheet.columns.nodes.as_slice();
     let lanes = sheet.columns.lanes.as_slice();

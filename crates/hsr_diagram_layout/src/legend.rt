@@ -42,7 +42,8 @@ fn add_meaning(
     look: Look,
     y: u64,
 ) -> Result<(), NoMemory>
-    ensures { OnOk result (shapes elements.new.items ≡ shapes elements.old.items ++ sample_shapes look) }
+    ensures { OnOk result (shapes elements.new.items ≡ shapes elements.old.items
+        ++ sample_shapes look) }
 {
     let above = y.saturating_sub(3);
     let way = Way {
@@ -91,7 +92,8 @@ fn add_meaning_if(
     look: Look,
     y: u64,
 ) -> Result<u64, NoMemory>
-    ensures { OnOk result (shapes elements.new.items ≡ shapes elements.old.items ++ sample_if arrows.now look) }
+    ensures { OnOk result (shapes elements.new.items ≡ shapes elements.old.items
+        ++ sample_if arrows.now look) }
 {
     if has_look(arrows, look) {
         add_meaning(alloc, elements, look, y)?;
@@ -110,7 +112,8 @@ fn add_meanings(
     looks: &[Look],
     y: u64,
 ) -> Result<u64, NoMemory>
-    ensures { OnOk result (shapes elements.new.items ≡ shapes elements.old.items ++ flat_map (sample_if arrows.now) looks.now) }
+    ensures { OnOk result (shapes elements.new.items ≡ shapes elements.old.items
+        ++ flat_map (sample_if arrows.now) looks.now) }
 {
     let mut y = y;
     for look in looks {
@@ -127,7 +130,8 @@ pub(crate) fn add_legend(
     arrows: &[Arrow],
     y: u64,
 ) -> Result<u64, NoMemory>
-    ensures { OnOk result (shapes elements.new.items ≡ shapes elements.old.items ++ legend_shapes arrows.now) }
+    ensures { OnOk result (shapes elements.new.items ≡ shapes elements.old.items
+        ++ legend_shapes arrows.now) }
 {
     add_sent(alloc, elements, y)?;
     add_meanings(

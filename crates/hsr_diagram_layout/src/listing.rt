@@ -38,7 +38,8 @@ fn add_listed(
     x: u64,
     y: u64,
 ) -> Result<(), NoMemory>
-    ensures { OnOk result (shapes elements.new.items ≡ shapes elements.old.items ++ listed_shapes is_complete words.items) }
+    ensures { OnOk result (shapes elements.new.items ≡ shapes elements.old.items
+        ++ listed_shapes is_complete words.items) }
 {
     let way = Way {
         x1: x.saturating_sub(20),
@@ -67,7 +68,8 @@ fn add_item<const C: usize>(
     x: u64,
     ends: Ends,
 ) -> Result<Ends, NoMemory>
-    ensures { OnOk result (shapes elements.new.items ≡ shapes elements.old.items ++ delivery_shapes (lists_of names.now) closed.now.run delivery.now) }
+    ensures { OnOk result (shapes elements.new.items ≡ shapes elements.old.items
+        ++ delivery_shapes (lists_of names.now) closed.now.run delivery.now) }
 {
     let words = sent_words(alloc, names, closed, delivery)?;
     let wide = (words.len() as u64).saturating_mul(LETTER);
@@ -90,7 +92,8 @@ fn add_item_if<const C: usize>(
     item: Item,
     ends: Ends,
 ) -> Result<Ends, NoMemory>
-    ensures { OnOk result (shapes elements.new.items ≡ shapes elements.old.items ++ item_shapes (lists_of names.now) closed.now.run deliveries.now item) }
+    ensures { OnOk result (shapes elements.new.items ≡ shapes elements.old.items
+        ++ item_shapes (lists_of names.now) closed.now.run deliveries.now item) }
 {
     let Item {
         moment,
@@ -119,7 +122,8 @@ pub(crate) fn add_list<const C: usize>(
     deliveries: &[Delivery],
     items: &[Item],
 ) -> Result<Ends, NoMemory>
-    ensures { OnOk result (shapes elements.new.items ≡ shapes elements.old.items ++ flat_map (item_shapes (lists_of names.now) closed.now.run deliveries.now) items.now) }
+    ensures { OnOk result (shapes elements.new.items ≡ shapes elements.old.items
+        ++ flat_map (item_shapes (lists_of names.now) closed.now.run deliveries.now) items.now) }
 {
     let mut ends = Ends {
         right: sheet.list,

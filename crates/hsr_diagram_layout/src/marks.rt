@@ -24,7 +24,8 @@ fn add_mark(
     send: Probe,
     mark: Mark,
 ) -> Result<(), NoMemory>
-    ensures { OnOk result (shapes elements.new.items ≡ shapes elements.old.items ++ mark_shapes (lists_of names.now) send) }
+    ensures { OnOk result (shapes elements.new.items ≡ shapes elements.old.items
+        ++ mark_shapes (lists_of names.now) send) }
 {
     add_square(elements, mark.x, mark.y)?;
     let words = send_words(alloc, names, send)?;
@@ -40,7 +41,8 @@ fn add_mark_if(
     node: usize,
     mark: Mark,
 ) -> Result<(), NoMemory>
-    ensures { OnOk result (shapes elements.new.items ≡ shapes elements.old.items ++ mark_if (lists_of names.now) send node) }
+    ensures { OnOk result (shapes elements.new.items ≡ shapes elements.old.items
+        ++ mark_if (lists_of names.now) send node) }
 {
     if node == send.node {
         add_mark(alloc, elements, names, send, mark)
@@ -60,7 +62,8 @@ fn add_marks_of(
     send: Probe,
     start: Option<Time>,
 ) -> Result<(), NoMemory>
-    ensures { OnOk result (shapes elements.new.items ≡ shapes elements.old.items ++ marks_of (lists_of names.now) nodes.now send) }
+    ensures { OnOk result (shapes elements.new.items ≡ shapes elements.old.items
+        ++ marks_of (lists_of names.now) nodes.now send) }
 {
     for (number, node) in nodes.iter().enumerate() {
         let mark = sheet.mark_at(number, start);
@@ -78,7 +81,8 @@ fn add_sent(
     deliveries: &[Delivery],
     sent: &Sent,
 ) -> Result<(), NoMemory>
-    ensures { OnOk result (shapes elements.new.items ≡ shapes elements.old.items ++ sent_marks (lists_of names.now) sheet.now.columns.nodes.items deliveries.now sent.now) }
+    ensures { OnOk result (shapes elements.new.items ≡ shapes elements.old.items
+        ++ sent_marks (lists_of names.now) sheet.now.columns.nodes.items deliveries.now sent.now) }
 {
     match deliveries.get(sent.number) {
         Some(delivery) => {
@@ -107,7 +111,9 @@ pub(crate) fn add_marks(
     deliveries: &[Delivery],
     sends: &[Sent],
 ) -> Result<(), NoMemory>
-    ensures { OnOk result (shapes elements.new.items ≡ shapes elements.old.items ++ flat_map (sent_marks (lists_of names.now) sheet.now.columns.nodes.items deliveries.now) sends.now) }
+    ensures { OnOk result (shapes elements.new.items ≡ shapes elements.old.items
+        ++ flat_map (sent_marks
+        (lists_of names.now) sheet.now.columns.nodes.items deliveries.now) sends.now) }
 {
     for sent in sends {
         add_sent(alloc, elements, names, sheet, deliveries, sent)?;

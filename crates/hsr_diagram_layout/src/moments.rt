@@ -29,7 +29,8 @@ fn push_arrow(moments: &mut Vec<u64>, arrow: &Arrow) -> Result<(), NoMemory>
 /// Puts the moments of arrows last.
 #[tactic(auto, using(hsr_svg::proofs::Growing::grown))]
 fn push_arrows(moments: &mut Vec<u64>, arrows: &[Arrow]) -> Result<(), NoMemory>
-    ensures { OnOk result (moments.new.items ≡ moments.old.items ++ flat_map arrow_moments arrows.now) }
+    ensures { OnOk result (moments.new.items ≡ moments.old.items
+        ++ flat_map arrow_moments arrows.now) }
 {
     for arrow in arrows {
         push_arrow(moments, arrow)?;
@@ -40,7 +41,8 @@ fn push_arrows(moments: &mut Vec<u64>, arrows: &[Arrow]) -> Result<(), NoMemory>
 /// Puts the moments of sends last.
 #[tactic(auto, using(hsr_svg::proofs::Growing::grown))]
 fn push_sends(moments: &mut Vec<u64>, sends: &[Sent]) -> Result<(), NoMemory>
-    ensures { OnOk result (moments.new.items ≡ moments.old.items ++ flat_map sent_moments sends.now) }
+    ensures { OnOk result (moments.new.items ≡ moments.old.items
+        ++ flat_map sent_moments sends.now) }
 {
     for sent in sends {
         push_if(moments, sent.start)?;
@@ -68,7 +70,8 @@ fn sort(moments: &mut Vec<u64>)
 
 /// The moments of a picture, rising.
 pub(crate) fn moments_of(alloc: Global, picture: &Picture) -> Result<Vec<u64>, NoMemory>
-    ensures { IfOk result (λ moments. AreMoments (all_moments picture.now.arrows picture.now.sends) moments.items) }
+    ensures { IfOk result (λ moments.
+        AreMoments (all_moments picture.now.arrows picture.now.sends) moments.items) }
 {
     let arrows = picture.arrows.as_slice();
     let mut moments = all_moments(alloc, arrows, picture.sends.as_slice())?;

@@ -55,7 +55,8 @@ fn add_shade_if(
     down: &Down,
     area: Area,
 ) -> Result<(), NoMemory>
-    ensures { OnOk result (shapes elements.new.items ≡ shapes elements.old.items ++ shade_if moments.now down.now) }
+    ensures { OnOk result (shapes elements.new.items ≡ shapes elements.old.items
+        ++ shade_if moments.now down.now) }
 {
     if is_seen(moments, down) {
         add_shade(elements, area)
@@ -72,7 +73,8 @@ pub(crate) fn add_shades(
     moments: &[u64],
     downs: &[Down],
 ) -> Result<(), NoMemory>
-    ensures { OnOk result (shapes elements.new.items ≡ shapes elements.old.items ++ shade_shapes moments.now downs.now) }
+    ensures { OnOk result (shapes elements.new.items ≡ shapes elements.old.items
+        ++ shade_shapes moments.now downs.now) }
 {
     for (number, down) in downs.iter().enumerate() {
         let area = sheet.shade_at(number, down.cut.link);
@@ -91,7 +93,8 @@ fn add_change_if(
     change: &Change,
     spot: Spot,
 ) -> Result<(), NoMemory>
-    ensures { OnOk result (shapes elements.new.items ≡ shapes elements.old.items ++ change_if moments.now change.now) }
+    ensures { OnOk result (shapes elements.new.items ≡ shapes elements.old.items
+        ++ change_if moments.now change.now) }
 {
     if is_among(moments, change) {
         let words = change_words(alloc, change.is_cut, change.moment)?;
@@ -109,7 +112,8 @@ fn add_end_if(
     end: Option<Change>,
     spot: Spot,
 ) -> Result<(), NoMemory>
-    ensures { OnOk result (shapes elements.new.items ≡ shapes elements.old.items ++ end_if moments.now end) }
+    ensures { OnOk result (shapes elements.new.items ≡ shapes elements.old.items
+        ++ end_if moments.now end) }
 {
     match end {
         Some(change) if !change.is_cut => add_change_if(alloc, elements, moments, &change, spot),
@@ -125,7 +129,8 @@ fn add_changes_of(
     down: &Down,
     marked: Marked,
 ) -> Result<(), NoMemory>
-    ensures { OnOk result (shapes elements.new.items ≡ shapes elements.old.items ++ change_shapes moments.now down.now) }
+    ensures { OnOk result (shapes elements.new.items ≡ shapes elements.old.items
+        ++ change_shapes moments.now down.now) }
 {
     add_change_if(alloc, elements, moments, &down.cut, marked.cut)?;
     add_end_if(alloc, elements, moments, down.end, marked.end)
@@ -140,7 +145,8 @@ pub(crate) fn add_changes(
     moments: &[u64],
     downs: &[Down],
 ) -> Result<(), NoMemory>
-    ensures { OnOk result (shapes elements.new.items ≡ shapes elements.old.items ++ flat_map (change_shapes moments.now) downs.now) }
+    ensures { OnOk result (shapes elements.new.items ≡ shapes elements.old.items
+        ++ flat_map (change_shapes moments.now) downs.now) }
 {
     for (number, down) in downs.iter().enumerate() {
         let marked = sheet.marks_of_fall(number, down.cut.link);
@@ -195,7 +201,8 @@ pub(crate) fn add_sample_if(
     downs: &[Down],
     y: u64,
 ) -> Result<u64, NoMemory>
-    ensures { OnOk result (shapes elements.new.items ≡ shapes elements.old.items ++ sample_shade moments.now downs.now) }
+    ensures { OnOk result (shapes elements.new.items ≡ shapes elements.old.items
+        ++ sample_shade moments.now downs.now) }
 {
     if has_seen(moments, downs) {
         add_sample(alloc, elements, y)?;

@@ -197,7 +197,8 @@ pub(crate) fn sheet_of<const C: usize>(
 ) -> Result<Sheet, NoMemory>
     ensures nodes { IfOk result (λ sheet. sheet.columns.nodes.items ≡ nodes_of picture.now.panels) }
     ensures lanes { IfOk result (λ sheet. sheet.columns.lanes.items ≡ lanes_in picture.now.panels) }
-    ensures moments { IfOk result (λ sheet. AreMoments (all_moments picture.now.arrows picture.now.sends) sheet.moments.items) }
+    ensures moments { IfOk result (λ sheet.
+        AreMoments (all_moments picture.now.arrows picture.now.sends) sheet.moments.items) }
     ensures listed { IfOk result (λ sheet. AreListed picture.now.sends sheet.items.items) }
 {
     let panels = picture.panels.as_slice();

@@ -41,7 +41,8 @@ fn add_title<const C: usize>(
     closed: &Closed<C>,
     picture: &Picture,
 ) -> Result<(), NoMemory>
-    ensures { OnOk result (shapes elements.new.items ≡ shapes elements.old.items ++ text_shape labels.Title (title_words closed.now.run picture.now) ∷ []) }
+    ensures { OnOk result (shapes elements.new.items ≡ shapes elements.old.items
+        ++ text_shape labels.Title (title_words closed.now.run picture.now) ∷ []) }
 {
     let words = title_words(alloc, closed, picture)?;
     let spot = Spot {
@@ -65,7 +66,9 @@ fn add_above<const C: usize>(
     switches: &[Switch],
     sheet: &Sheet,
 ) -> Result<Ends, NoMemory>
-    ensures { OnOk result (shapes elements.new.items ≡ shapes elements.old.items ++ above_shapes (lists_of names.now) closed.now.run picture.now downs.now switches.now sheet.now.columns.nodes.items sheet.now.moments.items sheet.now.items.items) }
+    ensures { OnOk result (shapes elements.new.items ≡ shapes elements.old.items
+        ++ above_shapes (lists_of names.now) closed.now.run picture.now downs.now switches.now
+        sheet.now.columns.nodes.items sheet.now.moments.items sheet.now.items.items) }
 {
     let arrows = picture.arrows.as_slice();
     let sends = picture.sends.as_slice();
@@ -95,7 +98,8 @@ fn add_below(
     moments: &[u64],
     y: u64,
 ) -> Result<Ends, NoMemory>
-    ensures { OnOk result (shapes elements.new.items ≡ shapes elements.old.items ++ below_shapes (lists_of names.now) picture.now downs.now moments.now) }
+    ensures { OnOk result (shapes elements.new.items ≡ shapes elements.old.items
+        ++ below_shapes (lists_of names.now) picture.now downs.now moments.now) }
 {
     let deliveries = picture.deliveries.sends.as_slice();
     let sends = picture.sends.as_slice();
@@ -121,7 +125,10 @@ fn add_all<const C: usize>(
     switches: &[Switch],
     sheet: &Sheet,
 ) -> Result<Size, NoMemory>
-    ensures { OnOk result (shapes elements.new.items ≡ shapes elements.old.items ++ picture_shapes (lists_of names.now) closed.now.run picture.now downs.now switches.now sheet.now.columns.nodes.items sheet.now.columns.lanes.items sheet.now.moments.items sheet.now.items.items) }
+    ensures { OnOk result (shapes elements.new.items ≡ shapes elements.old.items
+        ++ picture_shapes (lists_of names.now) closed.now.run picture.now downs.now switches.now
+        sheet.now.columns.nodes.items sheet.now.columns.lanes.items sheet.now.moments.items
+        sheet.now.items.items) }
 {
     let places = closed.topology().places();
     let moments = sheet.moments.as_slice();
@@ -150,7 +157,9 @@ fn add_scene<const C: usize>(
     switches: &[Switch],
 ) -> Result<Size, NoMemory>
     requires { elements.old.items ≡ [] }
-    ensures { OnOk result (IsScene (lists_of names.now) closed.now.run picture.now downs.now switches.now elements.new.items) }
+    ensures { OnOk result
+        (IsScene (lists_of names.now) closed.now.run picture.now downs.now switches.now
+        elements.new.items) }
 {
     let sheet = sheet_of(alloc, closed, names, picture, downs, switches)?;
     add_all(
@@ -171,7 +180,9 @@ pub fn drawing<const C: usize>(
     downs: &[Down],
     switches: &[Switch],
 ) -> Result<Vec<u8>, NoMemory>
-    ensures { IfOk result (λ text. IsDrawing (lists_of names.now) closed.now.run picture.now downs.now switches.now text.items) }
+    ensures { IfOk result (λ text.
+        IsDrawing (lists_of names.now) closed.now.run picture.now downs.now switches.now
+        text.items) }
 {
     let mut elements = Vec::new(alloc);
     let size = add_scene(

@@ -21,7 +21,8 @@ fn add_switch_if(
     node: usize,
     spot: Spot,
 ) -> Result<(), NoMemory>
-    ensures { OnOk result (shapes elements.new.items ≡ shapes elements.old.items ++ switch_if moments.now switch.now node) }
+    ensures { OnOk result (shapes elements.new.items ≡ shapes elements.old.items
+        ++ switch_if moments.now switch.now node) }
 {
     if node == switch.node && is_among(moments, &switch.change) {
         let words = switch_words(alloc, switch.is_off, switch.change.moment)?;
@@ -42,7 +43,8 @@ fn add_switch(
     number: usize,
     switch: &Switch,
 ) -> Result<(), NoMemory>
-    ensures { OnOk result (shapes elements.new.items ≡ shapes elements.old.items ++ switch_shapes moments.now nodes.now switch.now) }
+    ensures { OnOk result (shapes elements.new.items ≡ shapes elements.old.items
+        ++ switch_shapes moments.now nodes.now switch.now) }
 {
     for (line, node) in nodes.iter().enumerate() {
         let spot = sheet.flag_at(number, line);
@@ -61,7 +63,8 @@ pub(crate) fn add_switches(
     nodes: &[usize],
     switches: &[Switch],
 ) -> Result<(), NoMemory>
-    ensures { OnOk result (shapes elements.new.items ≡ shapes elements.old.items ++ flat_map (switch_shapes moments.now nodes.now) switches.now) }
+    ensures { OnOk result (shapes elements.new.items ≡ shapes elements.old.items
+        ++ flat_map (switch_shapes moments.now nodes.now) switches.now) }
 {
     for (number, switch) in switches.iter().enumerate() {
         add_switch(alloc, elements, sheet, moments, nodes, number, switch)?;

@@ -38,7 +38,8 @@ fn is_incomplete(deliveries: &[Delivery], sent: &Sent) -> bool
 
 /// Adds the number of a send to others, if it isn't complete.
 fn push_if(numbers: &mut Vec<usize>, deliveries: &[Delivery], sent: &Sent) -> Result<(), NoMemory>
-    ensures { OnOk result (numbers.new.items ≡ numbers.old.items ++ incomplete_if deliveries.now sent.now) }
+    ensures { OnOk result (numbers.new.items ≡ numbers.old.items
+        ++ incomplete_if deliveries.now sent.now) }
 {
     if is_incomplete(deliveries, sent) {
         numbers.push(sent.number)?;
@@ -72,7 +73,8 @@ fn add_line(
     left: u64,
     ends: Ends,
 ) -> Result<Ends, NoMemory>
-    ensures { OnOk result (shapes elements.new.items ≡ shapes elements.old.items ++ text_shape labels.Incomplete words.now ∷ []) }
+    ensures { OnOk result (shapes elements.new.items ≡ shapes elements.old.items
+        ++ text_shape labels.Incomplete words.now ∷ []) }
 {
     let spot = Spot {
         x: left,
@@ -95,7 +97,8 @@ fn add_lines(
     lines: &[Vec<u8>],
     ends: Ends,
 ) -> Result<Ends, NoMemory>
-    ensures { OnOk result (shapes elements.new.items ≡ shapes elements.old.items ++ map line_shape (lists_of lines.now)) }
+    ensures { OnOk result (shapes elements.new.items ≡ shapes elements.old.items
+        ++ map line_shape (lists_of lines.now)) }
 {
     let mut ends = ends;
     let mut left = FIRST;
@@ -113,7 +116,8 @@ fn add_told(
     words: &[u8],
     ends: Ends,
 ) -> Result<Ends, NoMemory>
-    ensures { OnOk result (shapes elements.new.items ≡ shapes elements.old.items ++ lines_of words.now) }
+    ensures { OnOk result (shapes elements.new.items ≡ shapes elements.old.items
+        ++ lines_of words.now) }
 {
     let lines = wrapped(alloc, words)?;
     add_lines(alloc, elements, lines.as_slice(), ends)
@@ -128,7 +132,8 @@ fn add_told_at(
     number: usize,
     ends: Ends,
 ) -> Result<Ends, NoMemory>
-    ensures { OnOk result (shapes elements.new.items ≡ shapes elements.old.items ++ told_at (lists_of names.now) deliveries.now number) }
+    ensures { OnOk result (shapes elements.new.items ≡ shapes elements.old.items
+        ++ told_at (lists_of names.now) deliveries.now number) }
 {
     match deliveries.get(number) {
         Some(delivery) => {
@@ -149,7 +154,8 @@ fn add_all_told(
     numbers: &[usize],
     ends: Ends,
 ) -> Result<Ends, NoMemory>
-    ensures { OnOk result (shapes elements.new.items ≡ shapes elements.old.items ++ flat_map (told_at (lists_of names.now) deliveries.now) numbers.now) }
+    ensures { OnOk result (shapes elements.new.items ≡ shapes elements.old.items
+        ++ flat_map (told_at (lists_of names.now) deliveries.now) numbers.now) }
 {
     let mut ends = ends;
     for number in numbers {
@@ -196,7 +202,8 @@ pub(crate) fn add_incomplete(
     sends: &[Sent],
     y: u64,
 ) -> Result<Ends, NoMemory>
-    ensures { OnOk result (shapes elements.new.items ≡ shapes elements.old.items ++ told_shapes (lists_of names.now) deliveries.now (incomplete deliveries.now sends.now)) }
+    ensures { OnOk result (shapes elements.new.items ≡ shapes elements.old.items
+        ++ told_shapes (lists_of names.now) deliveries.now (incomplete deliveries.now sends.now)) }
 {
     let numbers = incomplete(alloc, deliveries, sends)?;
     let told = first_of(numbers.as_slice());

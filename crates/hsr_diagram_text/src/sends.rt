@@ -57,7 +57,8 @@ fn put_next_node(text: &mut Vec<u8>, names: &[Vec<u8>], node: usize) -> Result<(
 /// Puts the names of nodes last, each behind a comma.
 #[tactic(auto, using(hsr_deliveries::proofs::Growing::grown))]
 fn put_next_nodes(text: &mut Vec<u8>, names: &[Vec<u8>], nodes: &[usize]) -> Result<(), NoMemory>
-    ensures { OnOk result (text.new.items ≡ text.old.items ++ flat_map (next_node (lists_of names.now)) nodes.now) }
+    ensures { OnOk result (text.new.items ≡ text.old.items
+        ++ flat_map (next_node (lists_of names.now)) nodes.now) }
 {
     for node in nodes {
         put_next_node(text, names, *node)?;
@@ -72,7 +73,8 @@ pub(crate) fn put_nodes(
     word: &str,
     nodes: &[usize],
 ) -> Result<(), NoMemory>
-    ensures { OnOk result (text.new.items ≡ text.old.items ++ nodes_text (lists_of names.now) word.now nodes.now) }
+    ensures { OnOk result (text.new.items ≡ text.old.items
+        ++ nodes_text (lists_of names.now) word.now nodes.now) }
 {
     match nodes.split_first() {
         None => Ok(()),

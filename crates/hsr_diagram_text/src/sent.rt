@@ -48,7 +48,8 @@ fn put_address(
     dst: Mac,
     due: &[usize],
 ) -> Result<(), NoMemory>
-    ensures { OnOk result (text.new.items ≡ text.old.items ++ address_words (lists_of names.now) dst due.now) }
+    ensures { OnOk result (text.new.items ≡ text.old.items
+        ++ address_words (lists_of names.now) dst due.now) }
 {
     if dst.is_group() || due.is_empty() {
         put(text, " to ")?;
@@ -67,7 +68,8 @@ fn put_target<const C: usize>(
     closed: &Closed<C>,
     delivery: &Delivery,
 ) -> Result<(), NoMemory>
-    ensures { OnOk result (text.new.items ≡ text.old.items ++ target_text (lists_of names.now) closed.now.run delivery.now) }
+    ensures { OnOk result (text.new.items ≡ text.old.items
+        ++ target_text (lists_of names.now) closed.now.run delivery.now) }
 {
     if is_supervision(closed, delivery.send) {
         put(text, " supervision")
@@ -95,7 +97,8 @@ pub fn sent_words<const C: usize>(
     closed: &Closed<C>,
     delivery: &Delivery,
 ) -> Result<Vec<u8>, NoMemory>
-    ensures { IfOk result (λ words. words.items ≡ sent_words (lists_of names.now) closed.now.run delivery.now) }
+    ensures { IfOk result (λ words. words.items
+        ≡ sent_words (lists_of names.now) closed.now.run delivery.now) }
 {
     let mut words = Vec::new(alloc);
     put_send(&mut words, names, delivery.send)?;

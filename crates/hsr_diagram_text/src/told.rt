@@ -59,7 +59,8 @@ fn put_losses(text: &mut Vec<u8>, losses: &[Loss]) -> Result<(), NoMemory>
 /// Puts a send and its moment last.
 #[tactic(auto, unfolding(crate::specs::Told::at_text))]
 fn put_at(text: &mut Vec<u8>, names: &[Vec<u8>], delivery: &Delivery) -> Result<(), NoMemory>
-    ensures { OnOk result (text.new.items ≡ text.old.items ++ at_text (lists_of names.now) delivery.now) }
+    ensures { OnOk result (text.new.items ≡ text.old.items
+        ++ at_text (lists_of names.now) delivery.now) }
 {
     put_send(text, names, delivery.send)?;
     put(text, " at ")?;

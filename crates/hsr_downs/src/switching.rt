@@ -60,7 +60,8 @@ fn push_if(
     was_up: bool,
     is_up: bool,
 ) -> Result<(), NoMemory>
-    ensures { OnOk result (list.new.items ≡ list.old.items ++ switch_between node change was_up is_up) }
+    ensures { OnOk result (list.new.items ≡ list.old.items
+        ++ switch_between node change was_up is_up) }
 {
     let has_turned = if was_up { !is_up } else { is_up };
     if has_turned {
@@ -82,7 +83,8 @@ fn push_switch(
     change: Change,
     node: usize,
 ) -> Result<(), NoMemory>
-    ensures { OnOk result (list.new.items ≡ list.old.items ++ switch_of links.now before.now after.now change node) }
+    ensures { OnOk result (list.new.items ≡ list.old.items
+        ++ switch_of links.now before.now after.now change node) }
 {
     let was_up = has_up(node, before, links);
     let is_up = has_up(node, after, links);
@@ -98,7 +100,8 @@ fn push_with(
     change: Change,
     ends: &[End],
 ) -> Result<(), NoMemory>
-    ensures { OnOk result (list.new.items ≡ list.old.items ++ switches_with links.now before.now after.now change ends.now) }
+    ensures { OnOk result (list.new.items ≡ list.old.items
+        ++ switches_with links.now before.now after.now change ends.now) }
 {
     let mut rest = ends;
     while let Some((end, more)) = rest.split_first() {
@@ -116,7 +119,8 @@ fn push_by(
     after: &[Change],
     change: Change,
 ) -> Result<(), NoMemory>
-    ensures { OnOk result (list.new.items ≡ list.old.items ++ switches_by links.now before.now after.now change) }
+    ensures { OnOk result (list.new.items ≡ list.old.items
+        ++ switches_by links.now before.now after.now change) }
 {
     match links.get(change.link) {
         Some(link) => push_with(list, links, before, after, change, link.as_slice()),

@@ -32,7 +32,10 @@ fn first_unknown<const C: usize>(
 ) -> Result<Option<(usize, usize)>, NoMemory>
     requires links { ends.now ≡ topology.now.links }
     requires shaped { IsShaped topology.now kept.now rows.now }
-    ensures { IfOk result (λ r. MatchOption r (HasNoStranger (run_of C topology.now kept.now rows.now) (length topology.now.links)) (λ f. IsFirstStranger (run_of C topology.now kept.now rows.now) f.0 f.1)) }
+    ensures { IfOk result (λ r.
+        MatchOption r (HasNoStranger (run_of C topology.now kept.now rows.now)
+        (length topology.now.links)) (λ f.
+        IsFirstStranger (run_of C topology.now kept.now rows.now) f.0 f.1)) }
 {
     let numbers = Numbers::new(alloc, kept)?;
     Ok(first_stranger(topology, ends, &numbers, rows))
@@ -50,7 +53,8 @@ fn unsettled_in<const C: usize>(
     requires links { ends.now ≡ topology.now.links }
     requires wired { IsWired topology.now.places topology.now.links }
     requires shaped { HasShape C topology.now kept.now rows.now }
-    ensures { IfOk result (λ r. MatchOption r (IsSettledRun C topology.now kept.now rows.now) (λ d. IsFirstOfAll C topology.now kept.now rows.now d)) }
+    ensures { IfOk result (λ r. MatchOption r (IsSettledRun C topology.now kept.now rows.now) (λ d.
+        IsFirstOfAll C topology.now kept.now rows.now d)) }
 {
     are_legal(kept);
     if let Some((link, dir)) = first_other(alloc, Passage::Put, topology, kept, rows)? {
@@ -76,7 +80,8 @@ fn unsettled<const C: usize>(
     kept: &[Kept<C>],
     rows: &[Vec<Row>],
 ) -> Result<Option<Disagree>, NoMemory>
-    ensures { IfOk result (λ r. MatchOption r (IsSettledRun C topology.now kept.now rows.now) (λ d. IsFirstOfAll C topology.now kept.now rows.now d)) }
+    ensures { IfOk result (λ r. MatchOption r (IsSettledRun C topology.now kept.now rows.now) (λ d.
+        IsFirstOfAll C topology.now kept.now rows.now d)) }
 {
     let ends = Ends::new(alloc, topology.links())?;
     if is_shaped(topology, &ends, kept, rows) {
@@ -96,7 +101,9 @@ fn disagreement<const C: usize>(
     passes: &[Pass],
     plan: &[Planned],
 ) -> Result<Option<Disagree>, NoMemory>
-    ensures first { IfOk result (λ r. MatchOption r (Agrees C topology.now kept.now rows.now passes.now plan.now) (λ d. IsFirst C topology.now kept.now rows.now passes.now plan.now d)) }
+    ensures first { IfOk result (λ r.
+        MatchOption r (Agrees C topology.now kept.now rows.now passes.now plan.now) (λ d.
+        IsFirst C topology.now kept.now rows.now passes.now plan.now d)) }
 {
     match unsettled(alloc, topology, kept, rows) {
         Err(fault) => return Err(fault),
@@ -120,7 +127,9 @@ fn disagreement_of<const C: usize>(
     rows: &[Vec<Row>],
     plan: &[Planned],
 ) -> Result<Option<Disagree>, NoMemory>
-    ensures first { IfOk result (λ r. MatchOption r (AllAgreeOf C topology.now kept.now rows.now plan.now) (λ d. IsFirstOf C topology.now kept.now rows.now plan.now d)) }
+    ensures first { IfOk result (λ r.
+        MatchOption r (AllAgreeOf C topology.now kept.now rows.now plan.now) (λ d.
+        IsFirstOf C topology.now kept.now rows.now plan.now d)) }
 {
     match unsettled(alloc, topology, kept, rows) {
         Err(fault) => return Err(fault),
@@ -146,10 +155,13 @@ pub(crate) fn fault_of<const C: usize>(
     plan: &[Planned],
 ) -> Option<CheckFault>
     ensures none { IfNone result (Agrees C topology.now kept.now rows.now passes.now plan.now) }
-    ensures finished { IfNone result ((map (λ (r : Record). r.place) kept.now ≡ topology.now.places) × IsFinished (record { run = run_of C topology.now kept.now rows.now; plan = plan.now })) }
+    ensures finished { IfNone result ((map (λ (r : Record). r.place) kept.now ≡ topology.now.places)
+        × IsFinished (record { run = run_of C topology.now kept.now rows.now; plan = plan.now })) }
     ensures calm { IfNone result (HasNoStorm (run_of C topology.now kept.now rows.now)) }
-    ensures first { IfSome result (λ fault. IfDisagree fault (IsFirst C topology.now kept.now rows.now passes.now plan.now)) }
-    ensures refused { IfSome result (λ fault. IfDisagree fault (λ d. ¬ Agrees C topology.now kept.now rows.now passes.now plan.now)) }
+    ensures first { IfSome result (λ fault.
+        IfDisagree fault (IsFirst C topology.now kept.now rows.now passes.now plan.now)) }
+    ensures refused { IfSome result (λ fault. IfDisagree fault (λ d.
+        ¬ Agrees C topology.now kept.now rows.now passes.now plan.now)) }
 {
     let _ = topology.places();
     match disagreement(alloc, topology, kept, rows, passes, plan) {
@@ -168,10 +180,13 @@ pub(crate) fn fault_of_records<const C: usize>(
     rows: &[Vec<Row>],
     plan: &[Planned],
 ) -> Option<CheckFault>
-    ensures closed { IfNone result (IsClosedOf C topology.now kept.now rows.now plan.now (record { run = run_of C topology.now kept.now rows.now; plan = plan.now })) }
-    ensures finished { IfNone result ((map (λ (r : Record). r.place) kept.now ≡ topology.now.places) × IsFinished (record { run = run_of C topology.now kept.now rows.now; plan = plan.now })) }
+    ensures closed { IfNone result (IsClosedOf C topology.now kept.now rows.now plan.now
+        (record { run = run_of C topology.now kept.now rows.now; plan = plan.now })) }
+    ensures finished { IfNone result ((map (λ (r : Record). r.place) kept.now ≡ topology.now.places)
+        × IsFinished (record { run = run_of C topology.now kept.now rows.now; plan = plan.now })) }
     ensures calm { IfNone result (HasNoStorm (run_of C topology.now kept.now rows.now)) }
-    ensures open { IfSome result (λ fault. IfDisagree fault (IsOpenOf C topology.now kept.now rows.now plan.now)) }
+    ensures open { IfSome result (λ fault.
+        IfDisagree fault (IsOpenOf C topology.now kept.now rows.now plan.now)) }
 {
     let _ = topology.places();
     match disagreement_of(alloc, topology, kept, rows, plan) {

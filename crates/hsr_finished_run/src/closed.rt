@@ -40,7 +40,10 @@ impl<const C: usize> Model for Closed<C> {
 
     ghost invariant = { λ c.
         (map (λ (r : Record). r.place) c.kept.items ≡ c.topology.places)
-        × IsFinished (record { run = run_of C c.topology c.kept.items c.rows.items; plan = c.plan.items }) };
+        × IsFinished (record {
+          run = run_of C c.topology c.kept.items c.rows.items;
+          plan = c.plan.items;
+        }) };
 }
 
 impl<const C: usize> Closed<C> {
@@ -61,11 +64,22 @@ impl<const C: usize> Closed<C> {
         rows: Vec<Vec<Row>>,
         passes: Vec<Pass>,
     ) -> Result<Closed<C>, (Parts<C>, CheckFault)>
-        ensures closed { IfOk result (λ closed. closed ≡ record { run = run_of C topology kept.entry.items rows.items; plan = plan.items }) }
-        ensures agrees { IfOk result (λ closed. Agrees C topology kept.entry.items rows.items passes.items plan.items) }
-        ensures first { IfErr result (λ e. IfDisagree e.1 (IsFirst C topology kept.entry.items rows.items passes.items plan.items)) }
-        ensures refused { IfErr result (λ e. IfDisagree e.1 (λ d. ¬ Agrees C topology kept.entry.items rows.items passes.items plan.items)) }
-        ensures whole { IfErr result (λ e. e.0 ≡ record { topology = topology; plan = plan; kept = kept.entry; rows = rows; passes = passes }) }
+        ensures closed { IfOk result (λ closed. closed
+            ≡ record { run = run_of C topology kept.entry.items rows.items; plan = plan.items }) }
+        ensures agrees { IfOk result (λ closed.
+            Agrees C topology kept.entry.items rows.items passes.items plan.items) }
+        ensures first { IfErr result (λ e.
+            IfDisagree e.1 (IsFirst C topology kept.entry.items rows.items passes.items
+            plan.items)) }
+        ensures refused { IfErr result (λ e. IfDisagree e.1 (λ d.
+            ¬ Agrees C topology kept.entry.items rows.items passes.items plan.items)) }
+        ensures whole { IfErr result (λ e. e.0 ≡ record {
+          topology = topology;
+          plan = plan;
+          kept = kept.entry;
+          rows = rows;
+          passes = passes;
+        }) }
         ensures no_storm { IfOk result (λ closed. HasNoStorm closed.run) }
     {
         match fault_of(
@@ -103,8 +117,12 @@ impl<const C: usize> Closed<C> {
         alloc: Global,
         records: Records<C>,
     ) -> Result<Closed<C>, (Records<C>, CheckFault)>
-        ensures closed { IfOk result (λ closed. IsClosedOf C records.entry.topology records.entry.kept.items records.entry.rows.items records.entry.plan.items closed) }
-        ensures open { IfErr result (λ e. IfDisagree e.1 (IsOpenOf C records.entry.topology records.entry.kept.items records.entry.rows.items records.entry.plan.items)) }
+        ensures closed { IfOk result (λ closed.
+            IsClosedOf C records.entry.topology records.entry.kept.items records.entry.rows.items
+            records.entry.plan.items closed) }
+        ensures open { IfErr result (λ e.
+            IfDisagree e.1 (IsOpenOf C records.entry.topology records.entry.kept.items
+            records.entry.rows.items records.entry.plan.items)) }
         ensures whole { IfErr result (λ e. e.0 ≡ records.entry) }
         ensures no_storm { IfOk result (λ closed. HasNoStorm closed.run) }
     {

@@ -32,7 +32,8 @@ fn put_agrees<const C: usize>(
 ) -> Result<bool, NoMemory>
     requires shaped { IsShaped topology.now kept.now rows.now }
     requires below { link < length topology.now.links }
-    ensures { IfOk result (λ agrees. IsTrue agrees ↔ PutAgrees (run_of C topology.now kept.now rows.now) link dir) }
+    ensures { IfOk result (λ agrees. IsTrue agrees
+        ↔ PutAgrees (run_of C topology.now kept.now rows.now) link dir) }
 {
     let end = from_end(topology.links()[link], dir);
     puts_fit(alloc, &kept[end.node], end.port, dir, rows_at(rows, link))
@@ -49,7 +50,8 @@ fn taken_agrees<const C: usize>(
 ) -> Result<bool, NoMemory>
     requires shaped { IsShaped topology.now kept.now rows.now }
     requires below { link < length topology.now.links }
-    ensures { IfOk result (λ agrees. IsTrue agrees ↔ TakenAgrees (run_of C topology.now kept.now rows.now) link dir) }
+    ensures { IfOk result (λ agrees. IsTrue agrees
+        ↔ TakenAgrees (run_of C topology.now kept.now rows.now) link dir) }
 {
     let end = to_end(topology.links()[link], dir);
     takens_fit(alloc, &kept[end.node], end.port, dir, rows_at(rows, link))
@@ -67,7 +69,8 @@ fn told_agrees<const C: usize>(
 ) -> Result<bool, NoMemory>
     requires shaped { IsShaped topology.now kept.now rows.now }
     requires below { link < length topology.now.links }
-    ensures { IfOk result (λ agrees. IsTrue agrees ↔ ToldAgrees which (run_of C topology.now kept.now rows.now) link dir) }
+    ensures { IfOk result (λ agrees. IsTrue agrees
+        ↔ ToldAgrees which (run_of C topology.now kept.now rows.now) link dir) }
 {
     match which {
         Passage::Put => put_agrees(alloc, topology, kept, rows, link, dir),
@@ -85,7 +88,10 @@ pub(crate) fn first_other<const C: usize>(
     rows: &[Vec<Row>],
 ) -> Result<Option<(usize, Dir)>, NoMemory>
     requires shaped { IsShaped topology.now kept.now rows.now }
-    ensures { IfOk result (λ r. MatchOption r (AllAgree which (run_of C topology.now kept.now rows.now) (length topology.now.links)) (λ f. IsFirstOther which (run_of C topology.now kept.now rows.now) f.0 f.1)) }
+    ensures { IfOk result (λ r.
+        MatchOption r (AllAgree which (run_of C topology.now kept.now rows.now)
+        (length topology.now.links)) (λ f.
+        IsFirstOther which (run_of C topology.now kept.now rows.now) f.0 f.1)) }
 {
     for link in 0..topology.links().len() {
         if !told_agrees(alloc, which, topology, kept, rows, link, Dir::Forth)? {
@@ -113,7 +119,9 @@ pub(crate) fn first_noisy<const C: usize>(
     rows: &[Vec<Row>],
 ) -> Option<usize>
     requires shaped { IsShaped topology.now kept.now rows.now }
-    ensures { MatchOption result (IsQuiet (run_of C topology.now kept.now rows.now) (length topology.now.links)) (λ link. IsFirstNoisy (run_of C topology.now kept.now rows.now) link) }
+    ensures { MatchOption result (IsQuiet (run_of C topology.now kept.now rows.now)
+        (length topology.now.links)) (λ link.
+        IsFirstNoisy (run_of C topology.now kept.now rows.now) link) }
 {
     for link in 0..topology.links().len() {
         if is_noisy(rows_at(rows, link)) {

@@ -8,7 +8,8 @@ use std::alloc::Global;
 
 /// The first place from `from` on at which an entry of this worker stands; `None` where none does.
 pub fn next_place(entries: &[Entry], worker: u16, from: usize) -> Option<usize>
-    ensures { MatchOption result (holds_from worker entries.now from ≡ []) (λ place. IsNext worker entries.now from place) }
+    ensures { MatchOption result (holds_from worker entries.now from
+        ≡ []) (λ place. IsNext worker entries.now from place) }
 {
     for place in from..entries.len() {
         if entries[place].worker == worker {

@@ -12,7 +12,11 @@ use std::alloc::Global;
 
 /// The receipt of an entry that stands at a place of a node.
 fn receipt_of(node: usize, place: usize, entry: &Entry) -> Result<Receipt, NoMemory>
-    ensures { IfOk result (λ receipt. receipt ≡ record { node = node; place = place; entry = entry.now }) }
+    ensures { IfOk result (λ receipt. receipt ≡ record {
+      node = node;
+      place = place;
+      entry = entry.now;
+    }) }
 {
     let entry = Entry {
         worker: entry.worker,
@@ -31,7 +35,10 @@ fn add_pass(passes: &mut Vec<Pass>, pass: Pass) -> Result<(), NoMemory>
 }
 
 fn add_receipt(pass: &mut Pass, receipt: Receipt) -> Result<(), NoMemory>
-    ensures { OnOk result (pass.new ≡ record pass.old { receipts = pass.old.receipts ++ receipt ∷ [] }) }
+    ensures { OnOk result (pass.new ≡ record pass.old {
+      receipts = pass.old.receipts
+          ++ receipt ∷ [];
+    }) }
 {
     match pass.keep(receipt) {
         Ok(()) => Ok(()),
@@ -43,8 +50,10 @@ fn add_receipt(pass: &mut Pass, receipt: Receipt) -> Result<(), NoMemory>
 fn add_passes(alloc: Global, passes: &mut Vec<Pass>, worker: u16) -> Result<(), NoMemory>
     requires { AreByWorker 0 passes.old.items }
     ensures workers { OnOk result (AreByWorker 0 passes.new.items) }
-    ensures count { OnOk result (length passes.new.items ≡ max (length passes.old.items) (worker + 1)) }
-    ensures receipts { OnOk result ((w : ℕ) → receipts_of w passes.new.items ≡ receipts_of w passes.old.items) }
+    ensures count { OnOk result (length passes.new.items ≡ max (length passes.old.items)
+        (worker + 1)) }
+    ensures receipts { OnOk result ((w : ℕ) → receipts_of w passes.new.items
+        ≡ receipts_of w passes.old.items) }
 {
     for number in passes.len()..usize::from(worker) + 1 {
         add_pass(passes, Pass::new(alloc, number as u16))?;
@@ -63,8 +72,10 @@ fn add_other(
     requires workers { AreByWorker 0 passes.old.items }
     requires main { 0 < length passes.old.items }
     ensures workers { OnOk result (AreByWorker 0 passes.new.items) }
-    ensures count { OnOk result (length passes.new.items ≡ max (length passes.old.items) (entry.now.worker + 1)) }
-    ensures receipts { OnOk result ((w : ℕ) → receipts_of w passes.new.items ≡ receipts_of w passes.old.items ++ other_in w node place entry.now) }
+    ensures count { OnOk result (length passes.new.items ≡ max (length passes.old.items)
+        (entry.now.worker + 1)) }
+    ensures receipts { OnOk result ((w : ℕ) → receipts_of w passes.new.items
+        ≡ receipts_of w passes.old.items ++ other_in w node place entry.now) }
 {
     let worker = entry.worker;
     if worker == 0 {
@@ -85,8 +96,10 @@ fn add_others_in(
     requires workers { AreByWorker 0 passes.old.items }
     requires main { 0 < length passes.old.items }
     ensures workers { OnOk result (AreByWorker 0 passes.new.items) }
-    ensures count { OnOk result (length passes.new.items ≡ max (length passes.old.items) (most_in entries.now + 1)) }
-    ensures receipts { OnOk result ((w : ℕ) → receipts_of w passes.new.items ≡ receipts_of w passes.old.items ++ others_in w node 0 entries.now) }
+    ensures count { OnOk result (length passes.new.items ≡ max (length passes.old.items)
+        (most_in entries.now + 1)) }
+    ensures receipts { OnOk result ((w : ℕ) → receipts_of w passes.new.items
+        ≡ receipts_of w passes.old.items ++ others_in w node 0 entries.now) }
 {
     for (place, entry) in entries.iter().enumerate() {
         add_other(alloc, passes, node, place, entry)?;
@@ -103,8 +116,10 @@ fn add_others<const C: usize>(
     requires workers { AreByWorker 0 passes.old.items }
     requires main { 0 < length passes.old.items }
     ensures workers { OnOk result (AreByWorker 0 passes.new.items) }
-    ensures count { OnOk result (length passes.new.items ≡ max (length passes.old.items) (most_kept kept.now + 1)) }
-    ensures receipts { OnOk result ((w : ℕ) → receipts_of w passes.new.items ≡ receipts_of w passes.old.items ++ others_of w 0 kept.now) }
+    ensures count { OnOk result (length passes.new.items ≡ max (length passes.old.items)
+        (most_kept kept.now + 1)) }
+    ensures receipts { OnOk result ((w : ℕ) → receipts_of w passes.new.items
+        ≡ receipts_of w passes.old.items ++ others_of w 0 kept.now) }
 {
     for (node, record) in kept.iter().enumerate() {
         add_others_in(alloc, passes, node, record.entries())?;
@@ -123,9 +138,14 @@ fn keep_next<const C: usize>(
     requires { length next.old.items ≡ length kept.now }
     ensures worker { OnOk result (pass.new.worker ≡ pass.old.worker) }
     ensures long { OnOk result (length next.new.items ≡ length kept.now) }
-    ensures kept { IfOk result (λ is. is ≡ true → IsKeptNext kept.now planned.now next.old.items next.new.items pass.old.receipts pass.new.receipts) }
-    ensures over { IfOk result (λ is. is ≡ false → (next.new.items ≡ next.old.items) × (pass.new.receipts ≡ pass.old.receipts) × IsOver kept.now next.old.items planned.now.node) }
-    ensures stops { IfOk result (λ is. is ≡ false → planned.now.node < length kept.now → (rest : List Planned) → IsLeft kept.now next.old.items (planned.now ∷ rest) → ⊥) }
+    ensures kept { IfOk result (λ is. is ≡ true
+        → IsKeptNext kept.now planned.now next.old.items next.new.items pass.old.receipts
+        pass.new.receipts) }
+    ensures over { IfOk result (λ is. is ≡ false → (next.new.items ≡ next.old.items)
+        × (pass.new.receipts ≡ pass.old.receipts)
+        × IsOver kept.now next.old.items planned.now.node) }
+    ensures stops { IfOk result (λ is. is ≡ false → planned.now.node < length kept.now
+        → (rest : List Planned) → IsLeft kept.now next.old.items (planned.now ∷ rest) → ⊥) }
 {
     let node = planned.node;
     if node >= kept.len() {
@@ -152,7 +172,8 @@ fn main_pass<const C: usize>(
 ) -> Result<Pass, NoMemory>
     ensures worker { IfOk result (λ pass. pass.worker ≡ 0) }
     ensures first { IfOk result (λ pass. AreByPlan kept.now plan.now pass.receipts) }
-    ensures main { IfOk result (λ pass. IsToldBy kept.now plan.now → AreMain kept.now plan.now pass.receipts) }
+    ensures main { IfOk result (λ pass. IsToldBy kept.now plan.now
+        → AreMain kept.now plan.now pass.receipts) }
 {
     let mut next = first_places(alloc, kept.len())?;
     let mut pass = Pass::new(alloc, 0);
@@ -174,11 +195,14 @@ pub fn passes_of<const C: usize>(
     kept: &[Kept<C>],
     plan: &[Planned],
 ) -> Result<Vec<Pass>, NoMemory>
-    ensures right { IfOk result (λ passes. IsToldBy kept.now plan.now → HasReceipts kept.now passes.items plan.now) }
+    ensures right { IfOk result (λ passes. IsToldBy kept.now plan.now
+        → HasReceipts kept.now passes.items plan.now) }
     ensures workers { IfOk result (λ passes. AreByWorker 0 passes.items) }
     ensures count { IfOk result (λ passes. length passes.items ≡ most_kept kept.now + 1) }
-    ensures main { IfOk result (λ passes. AreByPlan kept.now plan.now (receipts_of 0 passes.items)) }
-    ensures others { IfOk result (λ passes. (w : ℕ) → (w ≡ 0 → ⊥) → receipts_of w passes.items ≡ others_of w 0 kept.now) }
+    ensures main { IfOk result (λ passes. AreByPlan kept.now plan.now
+        (receipts_of 0 passes.items)) }
+    ensures others { IfOk result (λ passes. (w : ℕ) → (w ≡ 0 → ⊥) → receipts_of w passes.items
+        ≡ others_of w 0 kept.now) }
 {
     let mut passes = Vec::new(alloc);
     add_pass(&mut passes, main_pass(alloc, kept, plan)?)?;

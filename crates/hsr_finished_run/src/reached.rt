@@ -54,7 +54,9 @@ fn follow<const C: usize>(
     reached: &mut Reached,
     receipts: &[Receipt],
 ) -> Result<(), NoMemory>
-    ensures { OnOk result ((passes : List Receipts) (rest : List Receipt) → Follows turns.now passes worker (receipts.now ++ rest) reached.old → Follows turns.now passes worker rest reached.new) }
+    ensures { OnOk result ((passes : List Receipts) (rest : List Receipt)
+        → Follows turns.now passes worker (receipts.now ++ rest) reached.old
+        → Follows turns.now passes worker rest reached.new) }
 {
     let comes = come_next(turns, worker, &mut reached.next, receipts)?;
     reached.is_right &= comes;
@@ -69,7 +71,9 @@ fn follow_pass<const C: usize>(
 ) -> Result<(), NoMemory>
     requires { pass.now.worker < length all.old.items }
     ensures count { OnOk result (length all.new.items ≡ length all.old.items) }
-    ensures follow { OnOk result ((passes : List Receipts) (rest : List Receipts) → AllFollow turns.now passes (pass.now ∷ rest) all.old.items → AllFollow turns.now passes rest all.new.items) }
+    ensures follow { OnOk result ((passes : List Receipts) (rest : List Receipts)
+        → AllFollow turns.now passes (pass.now ∷ rest) all.old.items
+        → AllFollow turns.now passes rest all.new.items) }
 {
     let worker = pass.worker();
     follow(
@@ -89,7 +93,9 @@ fn follow_passes<const C: usize>(
 ) -> Result<(), NoMemory>
     requires { most_passed passes.now < length all.old.items }
     ensures count { OnOk result (length all.new.items ≡ length all.old.items) }
-    ensures follow { OnOk result ((whole : List Receipts) → AllFollow turns.now whole passes.now all.old.items → AllFollow turns.now whole [] all.new.items) }
+    ensures follow { OnOk result ((whole : List Receipts)
+        → AllFollow turns.now whole passes.now all.old.items
+        → AllFollow turns.now whole [] all.new.items) }
 {
     for (i, pass) in passes.iter().enumerate() {
         follow_pass(turns, all, pass)?;
@@ -100,7 +106,8 @@ fn follow_passes<const C: usize>(
 /// Marks the worker of an entry as wrong where no receipt has come so far.
 fn mark_entry(all: &mut Vec<Reached>, node: usize, place: usize, entry: &Entry)
     requires { entry.now.worker < length all.old.items }
-    ensures { IsMarked (λ w next. entry.now.worker ≡ w → place < next node) all.old.items all.new.items }
+    ensures { IsMarked (λ w next. entry.now.worker ≡ w
+        → place < next node) all.old.items all.new.items }
 {
     let reached = &mut all[usize::from(entry.worker)];
     reached.is_right = reached.is_right && place < reached.next.at(node);
@@ -109,7 +116,8 @@ fn mark_entry(all: &mut Vec<Reached>, node: usize, place: usize, entry: &Entry)
 /// Marks the workers of which entries of a record are left as wrong.
 fn mark_record(all: &mut Vec<Reached>, node: usize, entries: &[Entry])
     requires { most_in entries.now < length all.old.items }
-    ensures { IsMarked (λ w next. holds_from w entries.now (next node) ≡ []) all.old.items all.new.items }
+    ensures { IsMarked (λ w next. holds_from w entries.now (next node)
+        ≡ []) all.old.items all.new.items }
 {
     for (place, entry) in entries.iter().enumerate() {
         mark_entry(all, node, place, entry);
@@ -119,7 +127,8 @@ fn mark_record(all: &mut Vec<Reached>, node: usize, entries: &[Entry])
 /// Marks the workers of which entries of any record are left as wrong.
 fn mark_records<const C: usize>(kept: &[Kept<C>], all: &mut Vec<Reached>)
     requires { most_kept kept.now < length all.old.items }
-    ensures { IsMarked (λ w next. HasUsedUp kept.now w next (length kept.now)) all.old.items all.new.items }
+    ensures { IsMarked (λ w next. HasUsedUp kept.now w next
+        (length kept.now)) all.old.items all.new.items }
 {
     for (node, record) in kept.iter().enumerate() {
         mark_record(all, node, record.entries());
@@ -146,7 +155,8 @@ pub(crate) fn reached_by<const C: usize>(
 /// The lowest worker whose receipts are wrong.
 pub(crate) fn first_lost(all: &[Reached]) -> Option<u16>
     requires { length all.now ≤ 65536 }
-    ensures { MatchOption result ((w : ℕ) (d : Reached) → w < length all.now → (slice_index_or all.now w d).is_right ≡ true) (λ worker. IsFirstLost all.now worker) }
+    ensures { MatchOption result ((w : ℕ) (d : Reached) → w < length all.now
+        → (slice_index_or all.now w d).is_right ≡ true) (λ worker. IsFirstLost all.now worker) }
 {
     for (worker, reached) in all.iter().enumerate() {
         if !reached.is_right {

@@ -15,8 +15,11 @@ fn comes_next<const C: usize>(
     next: &mut Places,
     receipt: &Receipt,
 ) -> Result<bool, NoMemory>
-    ensures comes { IfOk result (λ comes. comes ≡ true → (rest : List Receipt) → AreNext worker turns.now (place_at next.old) (receipt.now ∷ rest) ↔ AreNext worker turns.now (place_at next.new) rest) }
-    ensures wrong { IfOk result (λ comes. comes ≡ false → (rest : List Receipt) → AreNext worker turns.now (place_at next.old) (receipt.now ∷ rest) → ⊥) }
+    ensures comes { IfOk result (λ comes. comes ≡ true → (rest : List Receipt)
+        → AreNext worker turns.now (place_at next.old) (receipt.now ∷ rest)
+        ↔ AreNext worker turns.now (place_at next.new) rest) }
+    ensures wrong { IfOk result (λ comes. comes ≡ false → (rest : List Receipt)
+        → AreNext worker turns.now (place_at next.old) (receipt.now ∷ rest) → ⊥) }
 {
     let node = receipt.node;
     let place = receipt.place;
@@ -39,8 +42,11 @@ pub(crate) fn come_next<const C: usize>(
     next: &mut Places,
     receipts: &[Receipt],
 ) -> Result<bool, NoMemory>
-    ensures come { IfOk result (λ come. come ≡ true → (rest : List Receipt) → AreNext worker turns.now (place_at next.old) (receipts.now ++ rest) ↔ AreNext worker turns.now (place_at next.new) rest) }
-    ensures wrong { IfOk result (λ come. come ≡ false → (rest : List Receipt) → AreNext worker turns.now (place_at next.old) (receipts.now ++ rest) → ⊥) }
+    ensures come { IfOk result (λ come. come ≡ true → (rest : List Receipt)
+        → AreNext worker turns.now (place_at next.old) (receipts.now ++ rest)
+        ↔ AreNext worker turns.now (place_at next.new) rest) }
+    ensures wrong { IfOk result (λ come. come ≡ false → (rest : List Receipt)
+        → AreNext worker turns.now (place_at next.old) (receipts.now ++ rest) → ⊥) }
 {
     for (i, receipt) in receipts.iter().enumerate() {
         if !comes_next(turns, worker, next, receipt)? {

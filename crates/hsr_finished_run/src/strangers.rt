@@ -106,7 +106,11 @@ fn stranger_of<const C: usize>(
     requires links { ends.now ≡ topology.now.links }
     requires shaped { IsShaped topology.now numbers.now rows.now }
     requires below { link < length topology.now.links }
-    ensures { MatchOption result (AreKnown (run_of C topology.now numbers.now rows.now) (slice_index_or (map items_of rows.now) link []) (length (slice_index_or (map items_of rows.now) link []))) (λ i. IsStranger (run_of C topology.now numbers.now rows.now) (slice_index_or (map items_of rows.now) link []) i) }
+    ensures { MatchOption result (AreKnown (run_of C topology.now numbers.now rows.now)
+        (slice_index_or (map items_of rows.now) link [])
+        (length (slice_index_or (map items_of rows.now) link []))) (λ i.
+        IsStranger (run_of C topology.now numbers.now rows.now) (slice_index_or
+        (map items_of rows.now) link []) i) }
 {
     let list = rows_at(rows, link);
     for (i, row) in list.iter().enumerate() {
@@ -129,7 +133,9 @@ pub(crate) fn first_stranger<const C: usize>(
 ) -> Option<(usize, usize)>
     requires links { ends.now ≡ topology.now.links }
     requires shaped { IsShaped topology.now numbers.now rows.now }
-    ensures { MatchOption result (HasNoStranger (run_of C topology.now numbers.now rows.now) (length topology.now.links)) (λ f. IsFirstStranger (run_of C topology.now numbers.now rows.now) f.0 f.1) }
+    ensures { MatchOption result (HasNoStranger (run_of C topology.now numbers.now rows.now)
+        (length topology.now.links)) (λ f.
+        IsFirstStranger (run_of C topology.now numbers.now rows.now) f.0 f.1) }
 {
     for link in 0..topology.links().len() {
         if let Some(row) = stranger_of(topology, ends, numbers, rows, link) {

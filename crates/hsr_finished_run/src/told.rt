@@ -13,7 +13,8 @@ use std::alloc::Global;
 
 /// Whether an entry is of what was planned.
 fn is_of(planned: &Planned, entry: &Entry) -> bool
-    ensures { IsTrue result ↔ ((entry.now.at ≡ planned.now.at) × (entry.now.event ≡ planned.now.event)) }
+    ensures { IsTrue result ↔ ((entry.now.at ≡ planned.now.at)
+        × (entry.now.event ≡ planned.now.event)) }
 {
     entry.at == planned.at && entry.event == planned.event
 }
@@ -22,8 +23,11 @@ fn is_of(planned: &Planned, entry: &Entry) -> bool
 fn tells_next<const C: usize>(kept: &[Kept<C>], next: &mut Vec<usize>, planned: &Planned) -> bool
     requires { length next.old.items ≡ length kept.now }
     ensures long { length next.new.items ≡ length kept.now }
-    ensures tells { result ≡ true → (rest : List Planned) → IsRest kept.now next.old.items (planned.now ∷ rest) ↔ IsRest kept.now next.new.items rest }
-    ensures other { result ≡ false → (rest : List Planned) → IsRest kept.now next.old.items (planned.now ∷ rest) → ⊥ }
+    ensures tells { result ≡ true → (rest : List Planned)
+        → IsRest kept.now next.old.items (planned.now ∷ rest)
+        ↔ IsRest kept.now next.new.items rest }
+    ensures other { result ≡ false → (rest : List Planned)
+        → IsRest kept.now next.old.items (planned.now ∷ rest) → ⊥ }
 {
     let node = planned.node;
     if node >= kept.len() {

@@ -69,7 +69,9 @@ fn is_planned(receipt: &Receipt, planned: &Planned) -> bool
 
 /// What is left of a plan after these receipts, if it begins with them.
 fn after_receipts<'a>(receipts: &[Receipt], plan: &'a [Planned]) -> Option<&'a [Planned]>
-    ensures { MatchOption result ((rest : List Planned) → map planned_of receipts.now ++ rest ≡ plan.now → ⊥) (λ left. (rest : List Planned) → (rest ≡ left.now) ↔ (map planned_of receipts.now ++ rest ≡ plan.now)) }
+    ensures { MatchOption result ((rest : List Planned) → map planned_of receipts.now ++ rest
+        ≡ plan.now → ⊥) (λ left. (rest : List Planned) → (rest ≡ left.now)
+        ↔ (map planned_of receipts.now ++ rest ≡ plan.now)) }
 {
     let mut left = plan;
     for (i, receipt) in receipts.iter().enumerate() {
@@ -89,7 +91,9 @@ ghost use Rattle.hsr_finished_run.specs.declared.planned.Planned.{Planned};
 
 /// What is left of a plan after a pass, if it begins with what the main worker did in it.
 fn after_pass<'a>(pass: &Pass, plan: &'a [Planned]) -> Option<&'a [Planned]>
-    ensures { MatchOption result ((rest : List Planned) → done_in pass.now ++ rest ≡ plan.now → ⊥) (λ left. (rest : List Planned) → (rest ≡ left.now) ↔ (done_in pass.now ++ rest ≡ plan.now)) }
+    ensures { MatchOption result ((rest : List Planned) → done_in pass.now ++ rest ≡ plan.now
+        → ⊥) (λ left. (rest : List Planned) → (rest ≡ left.now)
+        ↔ (done_in pass.now ++ rest ≡ plan.now)) }
 {
     if pass.worker() == 0 {
         after_receipts(pass.receipts(), plan)
@@ -120,7 +124,8 @@ pub(crate) fn first_wrong<const C: usize>(
     passes: &[Pass],
     plan: &[Planned],
 ) -> Result<Option<u16>, NoMemory>
-    ensures { IfOk result (λ r. MatchOption r (HasReceipts kept.now passes.now plan.now) (λ worker. IsFirstWrong kept.now passes.now plan.now worker)) }
+    ensures { IfOk result (λ r. MatchOption r (HasReceipts kept.now passes.now plan.now) (λ worker.
+        IsFirstWrong kept.now passes.now plan.now worker)) }
 {
     if !is_plan(passes, plan) {
         return Ok(Some(0));

@@ -43,7 +43,10 @@ impl<const C: usize> TableSlot<C> {
         requires there { passes ≡ (passes && self.old.there) }
         requires later { self.old.table.last ≤ now }
         requires room { self.old.table.noted < step_limit }
-        ensures { self.new ≡ record self.old { table = after_pass C self.old.table passes key now } }
+        ensures { self.new ≡ record self.old {
+          table = after_pass C self.old.table passes key
+              now;
+        } }
     {
         if let Some(table) = &mut self.table {
             table.mark(passes, key, now);
@@ -56,7 +59,8 @@ impl<const C: usize> TableSlot<C> {
         requires later { self.old.table.last ≤ now }
         requires room { self.old.table.noted < step_limit }
         ensures passes { result ≡ (wanted && not (remembers self.old.table key now)) }
-        ensures noted { self.new ≡ record self.old { table = after_pass C self.old.table result key now } }
+        ensures noted { self.new
+            ≡ record self.old { table = after_pass C self.old.table result key now } }
     {
         match &mut self.table {
             Some(table) => table.pass(wanted, key, now),

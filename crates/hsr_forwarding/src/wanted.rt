@@ -53,7 +53,8 @@ fn in_mode(mode: Mode, wants: Wants) -> Wants
 /// Whether an address stands behind the interlink.
 fn is_behind(stations: Option<&ProxyTable>, mac: Mac, now: u64) -> bool
     requires { IfSome stations (λ table. table.now.last ≤ now) }
-    ensures { result ≡ is_behind (stations_at now (option_map (λ table. table.now) stations.entry)) mac }
+    ensures { result ≡ is_behind (stations_at now
+        (option_map (λ table. table.now) stations.entry)) mac }
 {
     match stations {
         Some(table) => table.knows(mac, now),
@@ -72,7 +73,8 @@ pub fn ring_wants(
     now: u64,
 ) -> Wants
     requires { IfSome stations (λ table. table.now.last ≤ now) }
-    ensures { result ≡ wanted own mode (stations_at now (option_map (λ table. table.now) stations.entry)) x seen.now }
+    ensures { result ≡ wanted own mode (stations_at now
+        (option_map (λ table. table.now) stations.entry)) x seen.now }
 {
     let seen = match seen {
         Ok(seen) => seen,
@@ -96,7 +98,8 @@ fn tagged_wants(
     now: u64,
 ) -> Wants
     requires { IfSome stations (λ table. table.now.last ≤ now) }
-    ensures { result ≡ wanted_tagged own mode (stations_at now (option_map (λ table. table.now) stations.entry)) x frame.now }
+    ensures { result ≡ wanted_tagged own mode (stations_at now
+        (option_map (λ table. table.now) stations.entry)) x frame.now }
 {
     let on = beyond(x);
     let delivered_on = onward(mode, x);

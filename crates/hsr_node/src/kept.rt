@@ -50,7 +50,11 @@ impl<const C: usize> Kept<C> {
     pub fn new(alloc: Global, number: usize, place: Place) -> Result<Kept<C>, NoMemory>
         requires station { HasOwnAddress place }
         requires entries { (1 ≤ C) × (C ≤ 65535) }
-        ensures { IfOk result (λ kept. kept ≡ record { number = number; place = place; entries = [] }) }
+        ensures { IfOk result (λ kept. kept ≡ record {
+          number = number;
+          place = place;
+          entries = [];
+        }) }
     {
         let node = Node::new(alloc, &place)?;
         Ok(Kept {
@@ -71,9 +75,13 @@ impl<const C: usize> Kept<C> {
         at: u64,
         event: Event,
     ) -> Result<Answer, (Event, StepFault)>
-        ensures kept { IfOk result (λ a. self.new ≡ record self.old { entries = self.old.entries ++ record { worker = worker; at = at; event = event; outcome = a.outcome } ∷ [] }) }
+        ensures kept { IfOk result (λ a. self.new ≡ record self.old {
+          entries = self.old.entries
+              ++ record { worker = worker; at = at; event = event; outcome = a.outcome } ∷ [];
+        }) }
         ensures place { IfOk result (λ a. a.place ≡ length self.old.entries) }
-        ensures answered { MatchResult result (λ a. answer_to C self.old at event ≡ Ok a.outcome) (λ e. (e.1 ≡ NoRoom) ⊎ (answer_to C self.old at event ≡ Err e.1)) }
+        ensures answered { MatchResult result (λ a. answer_to C self.old at event ≡ Ok a.outcome)
+            (λ e. (e.1 ≡ NoRoom) ⊎ (answer_to C self.old at event ≡ Err e.1)) }
         ensures refused { IfErr result (λ e. (self.new ≡ self.old) × (e.0 ≡ event)) }
     {
         if self.entries.reserve(1).is_err() {
@@ -106,9 +114,14 @@ impl<const C: usize> Kept<C> {
         at: u64,
         event: Event,
     ) -> Result<Receipt, (Event, StepFault)>
-        ensures kept { IfOk result (λ r. self.new ≡ record self.old { entries = self.old.entries ++ r.entry ∷ [] }) }
-        ensures receipt { IfOk result (λ r. (r.node ≡ self.old.number) × (r.place ≡ length self.old.entries)) }
-        ensures call { IfOk result (λ r. (r.entry.worker ≡ worker) × (r.entry.at ≡ at) × (r.entry.event ≡ event)) }
+        ensures kept { IfOk result (λ r. self.new ≡ record self.old {
+          entries = self.old.entries
+              ++ r.entry ∷ [];
+        }) }
+        ensures receipt { IfOk result (λ r. (r.node ≡ self.old.number)
+            × (r.place ≡ length self.old.entries)) }
+        ensures call { IfOk result (λ r. (r.entry.worker ≡ worker) × (r.entry.at ≡ at)
+            × (r.entry.event ≡ event)) }
         ensures answered { IsAnswered C self.old at event result }
         ensures refused { IfErr result (λ e. (self.new ≡ self.old) × (e.0 ≡ event)) }
     {

@@ -96,7 +96,8 @@ impl Place {
     #[tactic(auto, using(crate::proofs::Spelled::letter_again))]
     pub fn port(&self, octet: u8) -> Option<u8>
         ensures value { result ≡ port_of self.now octet }
-        ensures again { (place : Place) (port : ℕ) → port < ports place → port_of place (letter place port) ≡ Some port }
+        ensures again { (place : Place) (port : ℕ) → port < ports place
+            → port_of place (letter place port) ≡ Some port }
     {
         match index_of(self.letters(), octet) {
             Some(port) => Some(port as u8),

@@ -24,7 +24,8 @@ fn planned<R: Read, W: Write, E: Write>(
     errors: &mut E,
 ) -> io::Result<Ending>
     ensures { IfOk result (λ ending. IfSome (R.remaining reader.old) (λ text.
-        Ends (capacity_of table) text (W.contents writer.old) (W.contents writer.new) (E.contents errors.old) (E.contents errors.new) ending)) }
+        Ends (capacity_of table) text (W.contents writer.old) (W.contents writer.new)
+        (E.contents errors.old) (E.contents errors.new) ending)) }
 {
     match table {
         TableSize::Small => plan_run::<_, _, _, 4>(alloc, reader, writer, errors),
@@ -42,7 +43,8 @@ fn perform<R: Read, W: Write, E: Write>(
     errors: &mut E,
 ) -> io::Result<Ending>
     ensures { IfOk result (λ ending. IfSome (R.remaining reader.old) (λ text.
-        Does task text is_terminal (W.contents writer.old) (W.contents writer.new) (E.contents errors.old) (E.contents errors.new) ending)) }
+        Does task text is_terminal (W.contents writer.old) (W.contents writer.new)
+        (E.contents errors.old) (E.contents errors.new) ending)) }
 {
     match task {
         Task::Plan { table } => planned(alloc, table, reader, writer, errors),
@@ -72,7 +74,8 @@ fn done<R: Read, W: Write, E: Write>(
     errors: &mut E,
 ) -> io::Result<u8>
     ensures { IfOk result (λ code. IfSome (R.remaining reader.old) (λ text.
-        IsDone task text is_terminal (W.contents writer.old) (W.contents writer.new) (E.contents errors.old) (E.contents errors.new) code)) }
+        IsDone task text is_terminal (W.contents writer.old) (W.contents writer.new)
+        (E.contents errors.old) (E.contents errors.new) code)) }
 {
     let ending = perform(alloc, task, is_terminal, reader, writer, errors)?;
     finish(errors, ending)
@@ -80,7 +83,8 @@ fn done<R: Read, W: Write, E: Write>(
 
 /// Writes a line.
 fn put_line<E: Write>(errors: &mut E, text: &str) -> io::Result<()>
-    ensures { OnOk result (Appends (E.contents errors.old) (E.contents errors.new) (text.now ++ codes "\n")) }
+    ensures { OnOk result (Appends (E.contents errors.old) (E.contents errors.new) (text.now
+        ++ codes "\n")) }
 {
     errors.write_all(text.as_bytes())?;
     errors.write_all(b"\n")
@@ -96,7 +100,8 @@ fn answer<R: Read, W: Write, E: Write>(
     errors: &mut E,
 ) -> io::Result<u8>
     ensures { IfOk result (λ code. IfSome (R.remaining reader.old) (λ text.
-        Answers chosen.now text is_terminal (W.contents writer.old) (W.contents writer.new) (E.contents errors.old) (E.contents errors.new) code)) }
+        Answers chosen.now text is_terminal (W.contents writer.old) (W.contents writer.new)
+        (E.contents errors.old) (E.contents errors.new) code)) }
 {
     match chosen {
         Ok(task) => done(alloc, *task, is_terminal, reader, writer, errors),
@@ -124,7 +129,8 @@ pub fn plan<'a, R: Read, W: Write, E: Write>(
     errors: &mut E,
 ) -> io::Result<u8>
     ensures { IfOk result (λ code. IfSome (R.remaining reader.old) (λ text.
-        Plans (map (λ s. s.now) words.entry.now) text is_terminal (W.contents writer.old) (W.contents writer.new) (E.contents errors.old) (E.contents errors.new) code)) }
+        Plans (map (λ s. s.now) words.entry.now) text is_terminal (W.contents writer.old)
+        (W.contents writer.new) (E.contents errors.old) (E.contents errors.new) code)) }
 {
     let chosen = task_by(alloc, words);
     answer(alloc, &chosen, is_terminal, reader, writer, errors)

@@ -33,7 +33,8 @@ fn put_counted(text: &mut Vec<u8>, count: &Count) -> Result<(), AllocError>
 
 /// Puts a space and the name of the node of that number.
 fn put_name(text: &mut Vec<u8>, nodes: &[Node], number: usize) -> Result<(), AllocError>
-    ensures { OnOk result (text.new.items ≡ text.old.items ++ name_text (slice_get nodes.now number)) }
+    ensures { OnOk result (text.new.items ≡ text.old.items
+        ++ name_text (slice_get nodes.now number)) }
 {
     text.extend_from_slice(b" ")?;
     match nodes.get(number) {
@@ -88,7 +89,8 @@ fn put_link_head(
 
 /// Puts the rest of a line, as the run of that number is counted.
 fn put_count_at(text: &mut Vec<u8>, counts: &[Count], number: usize) -> Result<(), AllocError>
-    ensures { OnOk result (text.new.items ≡ text.old.items ++ counted (slice_get counts.now number)) }
+    ensures { OnOk result (text.new.items ≡ text.old.items
+        ++ counted (slice_get counts.now number)) }
 {
     match counts.get(number) {
         Some(count) => put_counted(text, count),
@@ -104,7 +106,8 @@ fn put_link(
     link: &[End; 2],
     counts: &[Count],
 ) -> Result<(), AllocError>
-    ensures { OnOk result (text.new.items ≡ text.old.items ++ (link_head nodes.now number link.now ++ counted (slice_get counts.now number))) }
+    ensures { OnOk result (text.new.items ≡ text.old.items ++ (link_head nodes.now number link.now
+        ++ counted (slice_get counts.now number))) }
 {
     put_link_head(text, nodes, number, link)?;
     put_count_at(text, counts, number)
@@ -118,7 +121,8 @@ fn put_links(
     links: &[[End; 2]],
     counts: &[Count],
 ) -> Result<(), AllocError>
-    ensures { OnOk result (text.new.items ≡ text.old.items ++ link_lines nodes.now counts.now 0 links.now) }
+    ensures { OnOk result (text.new.items ≡ text.old.items
+        ++ link_lines nodes.now counts.now 0 links.now) }
 {
     for (number, link) in links.iter().enumerate() {
         put_link(text, nodes, number, link, counts)?;
@@ -142,7 +146,8 @@ fn put_node(
     number: usize,
     count: &Count,
 ) -> Result<(), AllocError>
-    ensures { OnOk result (text.new.items ≡ text.old.items ++ (node_head nodes.now number ++ count_text count.now)) }
+    ensures { OnOk result (text.new.items ≡ text.old.items ++ (node_head nodes.now number
+        ++ count_text count.now)) }
 {
     put_node_head(text, nodes, number)?;
     put_counted(text, count)

@@ -82,7 +82,8 @@ pub(crate) fn count_with(
     deed: Deed,
 ) -> Result<Count, Trouble>
     ensures count { IfOk result (λ count. IsCountOf (with_deed plan.old at deed) count) }
-    ensures none { IfErr result (λ trouble. IsKnown trouble → IsUncounted (with_deed plan.old at deed)) }
+    ensures none { IfErr result (λ trouble. IsKnown trouble
+        → IsUncounted (with_deed plan.old at deed)) }
     ensures same { OnOk result (plan.new ≡ plan.old) }
 {
     if plan.events.push(Event { at, deed }).is_err() {

@@ -40,8 +40,10 @@ fn without_link(
     nodes: &[Node],
     link: &[End; 2],
 ) -> Result<Count, Trouble>
-    ensures count { IfOk result (λ count. IsCountOf (with_deed plan.old at (cut_of nodes.now link.now)) count) }
-    ensures none { IfErr result (λ trouble. IsKnown trouble → IsUncounted (with_deed plan.old at (cut_of nodes.now link.now))) }
+    ensures count { IfOk result (λ count.
+        IsCountOf (with_deed plan.old at (cut_of nodes.now link.now)) count) }
+    ensures none { IfErr result (λ trouble. IsKnown trouble
+        → IsUncounted (with_deed plan.old at (cut_of nodes.now link.now))) }
     ensures same { OnOk result (plan.new ≡ plan.old) }
 {
     match cut_of(alloc, nodes, link) {
@@ -61,8 +63,10 @@ fn without_links<E: Write>(
     progress: Progress,
     errors: &mut E,
 ) -> Result<Vec<Count>, Trouble>
-    ensures each { IfOk result (λ v. AreCountsOf (without_link plan.old at nodes.now links.now) v.items) }
-    ensures none { IfErr result (λ trouble. IsKnown trouble → IsUncountedWithoutLink plan.old at nodes.now links.now) }
+    ensures each { IfOk result (λ v.
+        AreCountsOf (without_link plan.old at nodes.now links.now) v.items) }
+    ensures none { IfErr result (λ trouble. IsKnown trouble
+        → IsUncountedWithoutLink plan.old at nodes.now links.now) }
     ensures all { IfOk result (λ v. length v.items ≡ length links.now) }
     ensures same { OnOk result (plan.new ≡ plan.old) }
     ensures hidden { progress.is_shown ≡ false → E.contents errors.new ≡ E.contents errors.old }
@@ -80,8 +84,10 @@ fn without_links<E: Write>(
 
 /// The count where one node is off.
 fn without_node(alloc: Global, plan: &mut Plan, at: u64, node: &Node) -> Result<Count, Trouble>
-    ensures count { IfOk result (λ count. IsCountOf (with_deed plan.old at (off_of node.now)) count) }
-    ensures none { IfErr result (λ trouble. IsKnown trouble → IsUncounted (with_deed plan.old at (off_of node.now))) }
+    ensures count { IfOk result (λ count.
+        IsCountOf (with_deed plan.old at (off_of node.now)) count) }
+    ensures none { IfErr result (λ trouble. IsKnown trouble
+        → IsUncounted (with_deed plan.old at (off_of node.now))) }
     ensures same { OnOk result (plan.new ≡ plan.old) }
 {
     match off_of(alloc, node) {
@@ -100,8 +106,10 @@ fn without_nodes<E: Write>(
     progress: Progress,
     errors: &mut E,
 ) -> Result<Vec<Count>, Trouble>
-    ensures each { IfOk result (λ v. (d : _) → AreCountsOf (without_node plan.old at nodes.now d) v.items) }
-    ensures none { IfErr result (λ trouble. IsKnown trouble → IsUncountedWithoutNode plan.old at nodes.now) }
+    ensures each { IfOk result (λ v. (d : _)
+        → AreCountsOf (without_node plan.old at nodes.now d) v.items) }
+    ensures none { IfErr result (λ trouble. IsKnown trouble
+        → IsUncountedWithoutNode plan.old at nodes.now) }
     ensures all { IfOk result (λ v. length v.items ≡ length nodes.now) }
     ensures same { OnOk result (plan.new ≡ plan.old) }
     ensures hidden { progress.is_shown ≡ false → E.contents errors.new ≡ E.contents errors.old }

@@ -132,7 +132,8 @@ fn answer<W: Write, E: Write>(
     writer: &mut W,
     errors: &mut E,
 ) -> io::Result<Ending>
-    ensures { IfOk result (SweepEnds octets.now at is_shown (W.contents writer.old) (W.contents writer.new) (E.contents errors.old) (E.contents errors.new)) }
+    ensures { IfOk result (SweepEnds octets.now at is_shown (W.contents writer.old)
+        (W.contents writer.new) (E.contents errors.old) (E.contents errors.new)) }
 {
     match swept(alloc, octets, at, is_shown, errors) {
         Ok(text) => Ok(deliver(writer, text.as_slice())),
@@ -153,7 +154,8 @@ pub fn sweep_run<R: Read, W: Write, E: Write>(
     is_shown: bool,
 ) -> io::Result<Ending>
     ensures { IfOk result (λ ending. IfSome (R.remaining reader.old) (λ octets.
-        SweepEnds octets at is_shown (W.contents writer.old) (W.contents writer.new) (E.contents errors.old) (E.contents errors.new) ending)) }
+        SweepEnds octets at is_shown (W.contents writer.old) (W.contents writer.new)
+        (E.contents errors.old) (E.contents errors.new) ending)) }
 {
     match read_text(alloc, reader, TEXT_LIMIT) {
         Ok(octets) => answer(alloc, octets.as_slice(), at, is_shown, writer, errors),

@@ -35,7 +35,12 @@ impl<const C: usize> Model for QuadBox<C> {
 
     ghost view = { λ q. record { notes = q.tables; counters = q.counters; moment = q.moment; accepted = q.accepted } };
 
-    ghost invariant = { λ q. IsSound (record { notes = q.tables; counters = q.counters; moment = q.moment; accepted = q.accepted }) };
+    ghost invariant = { λ q. IsSound (record {
+      notes = q.tables;
+      counters = q.counters;
+      moment = q.moment;
+      accepted = q.accepted;
+    }) };
 }
 
 impl<const C: usize> QuadBox<C> {

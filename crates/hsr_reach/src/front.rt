@@ -27,7 +27,8 @@ impl Front {
     /// Puts a number among those that are found, if it is one and isn't there: then it waits, too.
     pub(crate) fn put(&mut self, is_one: bool, number: usize)
         requires { number < 512 }
-        ensures { IsPut is_one number self.old.found self.old.waiting self.new.found self.new.waiting }
+        ensures { IsPut is_one number self.old.found self.old.waiting self.new.found
+            self.new.waiting }
     {
         if is_one && !self.found.has(number) {
             self.found.put(number, true);

@@ -54,7 +54,8 @@ pub fn have_own_addresses<const C: usize>(closed: &Closed<C>) -> bool
 /// The lowest link of a finished run that joins a port on a ring and an edge, which is a Station's port or an interlink. Where there is
 /// none, nodes in modes H and U with addresses that are theirs alone are a network (IEC 62439-3 clause 5).
 pub fn first_unlike_link<const C: usize>(closed: &Closed<C>) -> Option<usize>
-    ensures { MatchOption result (AreGoingRound closed.now.run → HaveOwnAddresses closed.now.run → IsNetwork closed.now.run) (IsFirstUnlike closed.now.run) }
+    ensures { MatchOption result (AreGoingRound closed.now.run → HaveOwnAddresses closed.now.run
+        → IsNetwork closed.now.run) (IsFirstUnlike closed.now.run) }
 {
     let topology = closed.topology();
     first_unlike(topology.places(), topology.links())

@@ -26,7 +26,8 @@ use std::marker::Model;
 /// Puts a number into a set, if it is one that is to be there.
 fn put_if(set: &mut Numbers, is_one: bool, number: usize)
     requires { number < 512 }
-    ensures { (n : ℕ) → n < 512 → has set.new n ≡ (if is_one && (n == number) then true else has set.old n) }
+    ensures { (n : ℕ) → n < 512
+        → has set.new n ≡ (if is_one && (n == number) then true else has set.old n) }
 {
     if is_one {
         set.put(number, true);
@@ -49,7 +50,8 @@ impl<'a, const C: usize> Model for Ways<'a, C> {
 
     ghost view = { λ w. w.closed.now.run };
 
-    ghost invariant = { λ w. AreStarting w.closed.now.run (map (λ ways. ways.items) w.starting.items) };
+    ghost invariant = { λ w. AreStarting w.closed.now.run
+        (map (λ ways. ways.items) w.starting.items) };
 }
 
 impl<'a, const C: usize> Ways<'a, C> {
@@ -91,7 +93,8 @@ impl<'a, const C: usize> Ways<'a, C> {
     /// Whether the node at the start of a way lets a frame out there.
     fn lets_out(&self, frame: &FrameView<'_>, way: Way) -> bool
         requires { way.link < length self.now.links }
-        ensures { result ≡ lets_out frame.now (place_of self.now (start_of self.now way).node) (start_of self.now way).port }
+        ensures { result ≡ lets_out frame.now (place_of self.now (start_of self.now way).node)
+            (start_of self.now way).port }
     {
         let start = self.start(way);
         lets_out(frame, self.place(start.node), start.port)
@@ -160,7 +163,8 @@ impl<'a, const C: usize> Ways<'a, C> {
         requires lost { IsLossOf self.now send lost.now }
         requires from { IfSome from.now (λ before. before.link < length self.now.links) }
         requires way { way.link < length self.now.links }
-        ensures { IsTrue result ↔ (Carries self.now send way × Follows self.now send frame.now from.now way) }
+        ensures { IsTrue result ↔ (Carries self.now send way
+            × Follows self.now send frame.now from.now way) }
     {
         !lost.has(self.number(way)) && self.follows(send, frame, from, way)
     }
@@ -201,7 +205,8 @@ impl<'a, const C: usize> Ways<'a, C> {
         requires lost { IsLossOf self.now send lost.now }
         requires from { IfSome from.now (λ before. before.link < length self.now.links) }
         ensures few { length self.now.links ≤ 128 }
-        ensures spread { IsSpread self.now send frame.now from.now front.old.found front.old.waiting front.new.found front.new.waiting }
+        ensures spread { IsSpread self.now send frame.now from.now front.old.found front.old.waiting
+            front.new.found front.new.waiting }
     {
         for way in self.starting(self.next_node(send, from)) {
             let is_one = self.takes(send, frame, lost, from, *way);
@@ -226,7 +231,8 @@ impl<'a, const C: usize> Ways<'a, C> {
 
     /// The nodes at the ends of ways that are found.
     fn ends(&self, found: &Numbers) -> Numbers
-        ensures { (k : ℕ) → k < length self.now.places → (has result k ≡ true) ↔ IsFound self.now (is_found self.now found.now) k }
+        ensures { (k : ℕ) → k < length self.now.places → (has result k ≡ true)
+            ↔ IsFound self.now (is_found self.now found.now) k }
     {
         let mut nodes = Numbers::new();
         for number in 0..2 * self.closed.topology().links().len() {
@@ -241,7 +247,8 @@ impl<'a, const C: usize> Ways<'a, C> {
     pub fn reached(&self, send: Probe, frame: &FrameView<'_>, lost: &Numbers) -> Numbers
         requires send { send.node < length self.now.places }
         requires lost { IsLossOf self.now send lost.now }
-        ensures { (k : ℕ) → k < length self.now.places → (has result k ≡ true) ↔ IsReached self.now send frame.now k }
+        ensures { (k : ℕ) → k < length self.now.places → (has result k ≡ true)
+            ↔ IsReached self.now send frame.now k }
     {
         search_decides();
         self.ends(&self.search(send, frame, lost))

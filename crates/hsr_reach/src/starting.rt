@@ -44,7 +44,8 @@ pub(crate) fn starting_in(
     nodes: usize,
     links: &[[End; 2]],
 ) -> Result<Vec<Vec<Way>>, NoMemory>
-    ensures { IfOk result (λ all. map (λ ways. ways.items) all.items ≡ starting_in nodes links.now) }
+    ensures { IfOk result (λ all. map (λ ways. ways.items) all.items
+        ≡ starting_in nodes links.now) }
 {
     let mut all = Vec::new(alloc);
     for node in 0..nodes {

@@ -40,7 +40,17 @@ impl<const C: usize> Model for RedBox<C> {
 
     ghost view = { λ d. record { own = d.own; mode = d.mode; notes = d.tables; proxies = d.proxies; nodes = d.nodes; next = d.next; counters = d.counters; moment = d.moment; accepted = d.accepted } };
 
-    ghost invariant = { λ d. IsSound (record { own = d.own; mode = d.mode; notes = d.tables; proxies = d.proxies; nodes = d.nodes; next = d.next; counters = d.counters; moment = d.moment; accepted = d.accepted }) };
+    ghost invariant = { λ d. IsSound (record {
+      own = d.own;
+      mode = d.mode;
+      notes = d.tables;
+      proxies = d.proxies;
+      nodes = d.nodes;
+      next = d.next;
+      counters = d.counters;
+      moment = d.moment;
+      accepted = d.accepted;
+    }) };
 }
 
 impl<const C: usize> RedBox<C> {
@@ -92,7 +102,8 @@ impl<const C: usize> RedBox<C> {
     ) -> Result<BoxSent, SendFault>
         ensures step { (result, self.new) ≡ send_step C self.old at dst kind (length payload.now) }
         // What is sent is a frame.
-        ensures formed { OnOk result ((kind ≢ ethertype_vlan) × (kind ≢ ethertype_hsr) × (length payload.now ≤ max_payload)) }
+        ensures formed { OnOk result ((kind ≢ ethertype_vlan) × (kind ≢ ethertype_hsr)
+            × (length payload.now ≤ max_payload)) }
     {
         if let Some(fault) = send_fault(self.own, self.accepted, dst, kind, payload.len()) {
             return Err(fault);

@@ -34,7 +34,8 @@ fn put_unlinked<const C: usize>(
     port: u8,
 ) -> Result<(), AllocError>
     requires { place.now ≡ place_of closed.now.run node }
-    ensures { OnOk result (text.new.items ≡ text.old.items ++ unlinked_line closed.now.run node port) }
+    ensures { OnOk result (text.new.items ≡ text.old.items
+        ++ unlinked_line closed.now.run node port) }
 {
     put_count(text, b"unlinked ", node as u64)?;
     text.extend_from_slice(&[b'.', place.letter(port), b'\n'])
@@ -49,7 +50,8 @@ fn put_unlinked_if<const C: usize>(
     port: u8,
 ) -> Result<(), AllocError>
     requires { place.now ≡ place_of closed.now.run node }
-    ensures { OnOk result (text.new.items ≡ text.old.items ++ unlinked_if closed.now.run node port) }
+    ensures { OnOk result (text.new.items ≡ text.old.items
+        ++ unlinked_if closed.now.run node port) }
 {
     if is_unlinked(closed, node, place, port) {
         put_unlinked(text, closed, node, place, port)
@@ -66,7 +68,8 @@ fn put_unlinked_ports<const C: usize>(
     place: &Place,
 ) -> Result<(), AllocError>
     requires { place.now ≡ place_of closed.now.run node }
-    ensures { OnOk result (text.new.items ≡ text.old.items ++ unlinked_ports closed.now.run node (ports place.now)) }
+    ensures { OnOk result (text.new.items ≡ text.old.items ++ unlinked_ports closed.now.run node
+        (ports place.now)) }
 {
     for port in 0..place.ports() {
         put_unlinked_if(text, closed, node, place, port)?;
@@ -79,7 +82,8 @@ fn put_all_unlinked<const C: usize>(
     text: &mut Vec<u8>,
     closed: &Closed<C>,
 ) -> Result<(), AllocError>
-    ensures { OnOk result (text.new.items ≡ text.old.items ++ unlinked_lines closed.now.run (length closed.now.run.places)) }
+    ensures { OnOk result (text.new.items ≡ text.old.items ++ unlinked_lines closed.now.run
+        (length closed.now.run.places)) }
 {
     for (node, place) in closed.topology().places().iter().enumerate() {
         put_unlinked_ports(text, closed, node, place)?;
@@ -125,7 +129,8 @@ fn put_all_nobodies<const C: usize>(
     text: &mut Vec<u8>,
     closed: &Closed<C>,
 ) -> Result<(), NoMemory>
-    ensures { OnOk result (text.new.items ≡ text.old.items ++ flat_map nobody_if (deliveries closed.now.run)) }
+    ensures { OnOk result (text.new.items ≡ text.old.items
+        ++ flat_map nobody_if (deliveries closed.now.run)) }
 {
     let deliveries = deliveries(alloc, closed)?;
     put_nobodies(text, deliveries.sends.as_slice())?;

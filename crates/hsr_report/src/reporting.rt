@@ -94,7 +94,8 @@ fn put_first<const C: usize>(text: &mut Vec<u8>, closed: &Closed<C>) -> Result<(
 
 /// Puts the line of each node.
 fn put_nodes<const C: usize>(text: &mut Vec<u8>, closed: &Closed<C>) -> Result<(), AllocError>
-    ensures { OnOk result (text.new.items ≡ text.old.items ++ node_lines closed.now.run (length closed.now.run.places)) }
+    ensures { OnOk result (text.new.items ≡ text.old.items ++ node_lines closed.now.run
+        (length closed.now.run.places)) }
 {
     for (node, place) in closed.topology().places().iter().enumerate() {
         put_node(text, node, place.role(), &closed.counters(node))?;
@@ -104,7 +105,8 @@ fn put_nodes<const C: usize>(text: &mut Vec<u8>, closed: &Closed<C>) -> Result<(
 
 /// Puts the line of each link.
 fn put_links<const C: usize>(text: &mut Vec<u8>, closed: &Closed<C>) -> Result<(), AllocError>
-    ensures { OnOk result (text.new.items ≡ text.old.items ++ link_lines closed.now.run (length closed.now.run.links)) }
+    ensures { OnOk result (text.new.items ≡ text.old.items ++ link_lines closed.now.run
+        (length closed.now.run.links)) }
 {
     for link in 0..closed.topology().links().len() {
         put_link(text, link, closed.rows(link))?;
@@ -121,7 +123,8 @@ fn report_with<const C: usize>(
     finding: Finding,
     parts: &[u8],
 ) -> Result<Vec<u8>, NoMemory>
-    ensures text { IfOk result (λ text. text.items ≡ report scope closed.now.run finding parts.now) }
+    ensures text { IfOk result (λ text. text.items
+        ≡ report scope closed.now.run finding parts.now) }
     ensures finished { IsFinished closed.now }
 {
     let mut text = Vec::new(alloc);

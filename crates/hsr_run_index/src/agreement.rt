@@ -33,7 +33,8 @@ ghost use Rattle.std.specs.Prelude.{if◌then◌else◌, Some, None};
 
 /// The first copy that was put, or taken, in a direction, and the rows after it.
 fn next_told<'a>(which: Passage, dir: Dir, rows: &'a [Row]) -> Option<(&'a Carried, &'a [Row])>
-    ensures { MatchOption result (told which dir rows.now ≡ []) (λ r. told which dir rows.now ≡ r.0.now ∷ told which dir r.1.now) }
+    ensures { MatchOption result (told which dir rows.now ≡ []) (λ r. told which dir rows.now
+        ≡ r.0.now ∷ told which dir r.1.now) }
 {
     let mut left = rows;
     while let Some((row, more)) = left.split_first() {
@@ -62,7 +63,9 @@ fn after_pass<'a>(
     dir: Dir,
     rows: &'a [Row],
 ) -> Option<&'a [Row]>
-    ensures { IfSome result (λ left. told Put dir rows.now ≡ cons_option (passed_by (record { number = number; place = place.now }) port at entry.now) (told Put dir left.now)) }
+    ensures { IfSome result (λ left. told Put dir rows.now
+        ≡ cons_option (passed_by (record { number = number; place = place.now }) port at entry.now)
+        (told Put dir left.now)) }
 {
     let Some(octets) = spelled_out(place, &entry.event, &entry.outcome, port) else {
         return Some(rows);
@@ -93,7 +96,9 @@ fn puts_in_order(
     dir: Dir,
     rows: &[Row],
 ) -> bool
-    ensures { IsTrue result → (passed (record { number = number; place = place.now }) port 0 entries.now ≡ told Put dir rows.now) }
+    ensures { IsTrue result
+        → (passed (record { number = number; place = place.now }) port 0 entries.now
+        ≡ told Put dir rows.now) }
 {
     let mut left = rows;
     for (at, entry) in entries.iter().enumerate() {
@@ -126,7 +131,8 @@ ghost use Rattle.std.specs.Prelude.{option_map};
 
 /// The rows that are left where the first that was taken is the copy that came with an entry, if one did.
 fn after_arrival<'a>(port: u8, entry: &Entry, dir: Dir, rows: &'a [Row]) -> Option<&'a [Row]>
-    ensures { IfSome result (λ left. told Taken dir rows.now ≡ cons_option (came_by port entry.now) (told Taken dir left.now)) }
+    ensures { IfSome result (λ left. told Taken dir rows.now ≡ cons_option (came_by port entry.now)
+        (told Taken dir left.now)) }
 {
     let Some(came) = came_by(port, entry) else {
         return Some(rows);
@@ -188,7 +194,10 @@ pub fn passed_by(
     at: usize,
     entry: &Entry,
 ) -> Result<Option<Carried>, NoMemory>
-    ensures { IfOk result (λ copy. copy ≡ passed_by (record { number = number; place = place.now }) port at entry.now) }
+    ensures { IfOk result (λ copy. copy ≡ passed_by (record {
+      number = number;
+      place = place.now;
+    }) port at entry.now) }
 {
     let Some(octets) = spelled_out(place, &entry.event, &entry.outcome, port) else {
         return Ok(None);
@@ -209,7 +218,10 @@ fn passed(
     port: u8,
     entries: &[Entry],
 ) -> Result<Vec<Carried>, NoMemory>
-    ensures { IfOk result (λ copies. copies.items ≡ passed (record { number = number; place = place.now }) port 0 entries.now) }
+    ensures { IfOk result (λ copies. copies.items ≡ passed (record {
+      number = number;
+      place = place.now;
+    }) port 0 entries.now) }
 {
     let mut copies = Vec::new(alloc);
     for (at, entry) in entries.iter().enumerate() {

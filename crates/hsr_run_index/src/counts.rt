@@ -36,7 +36,8 @@ pub fn count_of(counts: &Counts<'_>, copy: &Carried) -> usize
 /// Counts one more copy. `NoMemory` where room is refused.
 pub fn count_one<'a>(counts: &mut Counts<'a>, copy: &'a Carried) -> Result<(), NoMemory>
     requires { count_of counts.old copy.now + 1 < 2 ^ 64 }
-    ensures { OnOk result ((other : spec.Carried) → count_of counts.new other ≡ count_of counts.old other + (if is_same_carried other copy.now then 1 else 0)) }
+    ensures { OnOk result ((other : spec.Carried) → count_of counts.new other
+        ≡ count_of counts.old other + (if is_same_carried other copy.now then 1 else 0)) }
 {
     let count = count_of(counts, copy);
     match counts.insert(key_of(copy), count + 1) {
@@ -48,7 +49,8 @@ pub fn count_one<'a>(counts: &mut Counts<'a>, copy: &'a Carried) -> Result<(), N
 /// How often each copy stands in a list.
 #[tactic(auto, using(crate::proofs::Counting::count_fits, crate::proofs::Counting::counted_more))]
 fn counted<'a>(alloc: Global, copies: &'a [Carried]) -> Result<Counts<'a>, NoMemory>
-    ensures { IfOk result (λ counts. (copy : spec.Carried) → count_of counts copy ≡ count_by (is_same_carried copy) copies.now) }
+    ensures { IfOk result (λ counts. (copy : spec.Carried) → count_of counts copy
+        ≡ count_by (is_same_carried copy) copies.now) }
 {
     let mut counts = IndexMap::new(alloc);
     for (i, copy) in copies.iter().enumerate() {
@@ -59,8 +61,11 @@ fn counted<'a>(alloc: Global, copies: &'a [Carried]) -> Result<Counts<'a>, NoMem
 
 /// Whether copies are as often in one index as in another.
 fn are_alike(copies: &[Carried], counts: &Counts<'_>, others: &Counts<'_>) -> bool
-    ensures alike { result ≡ true → (i : ℕ) (d : spec.Carried) → i < length copies.now → count_of counts.now (slice_index_or copies.now i d) ≡ count_of others.now (slice_index_or copies.now i d) }
-    ensures other { result ≡ false → ((copy : spec.Carried) → count_of counts.now copy ≡ count_of others.now copy) → ⊥ }
+    ensures alike { result ≡ true → (i : ℕ) (d : spec.Carried) → i < length copies.now
+        → count_of counts.now (slice_index_or copies.now i d) ≡ count_of others.now
+        (slice_index_or copies.now i d) }
+    ensures other { result ≡ false → ((copy : spec.Carried) → count_of counts.now copy
+        ≡ count_of others.now copy) → ⊥ }
 {
     for (i, copy) in copies.iter().enumerate() {
         if count_of(counts, copy) != count_of(others, copy) {

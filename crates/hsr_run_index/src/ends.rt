@@ -44,7 +44,8 @@ fn peer_of(peers: &IndexMap<(usize, u8), End>, end: End) -> Option<End>
 
 /// Puts the end that one is joined with, where it has none so far.
 fn put_peer(peers: &mut IndexMap<(usize, u8), End>, end: End, other: End) -> Result<(), NoMemory>
-    ensures { OnOk result ((e : spec.End) → peer_of peers.new e ≡ option_or (peer_of peers.old e) (if is_same_end end e then Some other else None)) }
+    ensures { OnOk result ((e : spec.End) → peer_of peers.new e ≡ option_or (peer_of peers.old e)
+        (if is_same_end end e then Some other else None)) }
 {
     if peer_of(peers, end).is_some() {
         return Ok(());
@@ -58,8 +59,10 @@ fn put_peer(peers: &mut IndexMap<(usize, u8), End>, end: End, other: End) -> Res
 /// Puts both ends of one more link.
 #[tactic(auto, using(crate::proofs::Indexing::both_ends, crate::proofs::Indexing::both_joined))]
 fn put_link(peers: &mut IndexMap<(usize, u8), End>, link: [End; 2]) -> Result<(), NoMemory>
-    ensures peers { OnOk result ((e : spec.End) → peer_of peers.new e ≡ option_or (peer_of peers.old e) (joined_by e link)) }
-    ensures used { OnOk result ((e : spec.End) → is_some (peer_of peers.new e) ≡ (is_some (peer_of peers.old e) || is_end_of e link)) }
+    ensures peers { OnOk result ((e : spec.End) → peer_of peers.new e
+        ≡ option_or (peer_of peers.old e) (joined_by e link)) }
+    ensures used { OnOk result ((e : spec.End) → is_some (peer_of peers.new e)
+        ≡ (is_some (peer_of peers.old e) || is_end_of e link)) }
 {
     let [a, b] = link;
     put_peer(peers, a, b)?;
@@ -71,7 +74,8 @@ fn put_link(peers: &mut IndexMap<(usize, u8), End>, link: [End; 2]) -> Result<()
 #[tactic(auto, using(crate::proofs::Indexing::peers_more, crate::proofs::Indexing::used_more))]
 fn peers_of(alloc: Global, links: &[[End; 2]]) -> Result<IndexMap<(usize, u8), End>, NoMemory>
     ensures peers { IfOk result (λ peers. (e : spec.End) → peer_of peers e ≡ peer_in e links.now) }
-    ensures used { IfOk result (λ peers. (e : spec.End) → is_some (peer_of peers e) ≡ is_used links.now e) }
+    ensures used { IfOk result (λ peers. (e : spec.End) → is_some (peer_of peers e)
+        ≡ is_used links.now e) }
 {
     let mut peers = IndexMap::new(alloc);
     for (i, link) in links.iter().enumerate() {

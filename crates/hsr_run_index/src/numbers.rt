@@ -30,12 +30,14 @@ impl<'a, const C: usize> Model for Numbers<'a, C> {
 
     ghost view = { λ n. n.kept.now };
 
-    ghost invariant = { λ n. (node : ℕ) (send : spec.Probe) → number_of n.given node send ≡ given_of send (slice_get n.kept.now node) };
+    ghost invariant = { λ n. (node : ℕ) (send : spec.Probe) → number_of n.given node send
+        ≡ given_of send (slice_get n.kept.now node) };
 }
 
 /// The send to which an entry gave a number, and the number.
 fn given_by(entry: &Entry) -> Option<(Probe, u16)>
-    ensures { (send : spec.Probe) → gives_to send result ≡ gives send entry.now.event entry.now.outcome }
+    ensures { (send : spec.Probe) → gives_to send result
+        ≡ gives send entry.now.event entry.now.outcome }
 {
     let Event::Arrive { port: _, carried } = &entry.event else {
         return None;
@@ -63,7 +65,9 @@ fn put_number(
     send: Probe,
     seq: u16,
 ) -> Result<(), NoMemory>
-    ensures { OnOk result ((k : ℕ) (p : spec.Probe) → number_of given.new k p ≡ option_or (number_of given.old k p) (if (nat_eq node k && nat_eq send.node p.node) && nat_eq send.place p.place then Some seq else None)) }
+    ensures { OnOk result ((k : ℕ) (p : spec.Probe) → number_of given.new k p
+        ≡ option_or (number_of given.old k p) (if (nat_eq node k && nat_eq send.node p.node)
+        && nat_eq send.place p.place then Some seq else None)) }
 {
     if number_of(given, node, send).is_some() {
         return Ok(());
@@ -81,7 +85,9 @@ fn put_entry(
     node: usize,
     entry: &Entry,
 ) -> Result<(), NoMemory>
-    ensures { OnOk result ((k : ℕ) (p : spec.Probe) → number_of given.new k p ≡ option_or (number_of given.old k p) (if node == k then gives p entry.now.event entry.now.outcome else None)) }
+    ensures { OnOk result ((k : ℕ) (p : spec.Probe) → number_of given.new k p
+        ≡ option_or (number_of given.old k p)
+        (if node == k then gives p entry.now.event entry.now.outcome else None)) }
 {
     match given_by(entry) {
         Some((send, seq)) => put_number(given, node, send, seq),
@@ -96,7 +102,8 @@ fn put_entries(
     node: usize,
     entries: &[Entry],
 ) -> Result<(), NoMemory>
-    ensures { OnOk result ((k : ℕ) (p : spec.Probe) → number_of given.new k p ≡ option_or (number_of given.old k p) (given_where node k p entries.now)) }
+    ensures { OnOk result ((k : ℕ) (p : spec.Probe) → number_of given.new k p
+        ≡ option_or (number_of given.old k p) (given_where node k p entries.now)) }
 {
     for (i, entry) in entries.iter().enumerate() {
         put_entry(given, node, entry)?;
@@ -110,7 +117,8 @@ fn numbers_of<const C: usize>(
     alloc: Global,
     kept: &[Kept<C>],
 ) -> Result<IndexMap<(usize, usize, usize), u16>, NoMemory>
-    ensures { IfOk result (λ given. (node : ℕ) (send : spec.Probe) → number_of given node send ≡ given_of send (slice_get kept.now node)) }
+    ensures { IfOk result (λ given. (node : ℕ) (send : spec.Probe) → number_of given node send
+        ≡ given_of send (slice_get kept.now node)) }
 {
     let mut given = IndexMap::new(alloc);
     for (node, record) in kept.iter().enumerate() {

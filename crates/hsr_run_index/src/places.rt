@@ -40,7 +40,8 @@ impl Places {
 
     /// Gives a number a place, in place of the one that it had. `NoMemory` where room for it is refused: then nothing changes.
     pub fn put(&mut self, number: usize, place: usize) -> Result<(), NoMemory>
-        ensures ok { OnOk result ((other : ℕ) → place_at self.new other ≡ (if nat_eq number other then place else place_at self.old other)) }
+        ensures ok { OnOk result ((other : ℕ) → place_at self.new other
+            ≡ (if nat_eq number other then place else place_at self.old other)) }
         ensures err { OnErr result (self.new ≡ self.old) }
     {
         match self.places.insert(number, place) {

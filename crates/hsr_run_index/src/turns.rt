@@ -99,7 +99,8 @@ impl<'a, const C: usize> Turns<'a, C> {
 
     /// Whether from a place of a node's record on the first entry of this worker stands at another.
     pub fn is_next(&self, worker: u16, node: usize, from: usize, place: usize) -> bool
-        ensures next { (d : Record) → IsTrue result ↔ ((node < length self.now) × IsNext worker (slice_index_or self.now node d).entries from place) }
+        ensures next { (d : Record) → IsTrue result ↔ ((node < length self.now)
+            × IsNext worker (slice_index_or self.now node d).entries from place) }
         ensures node { IsTrue result → node < length self.now }
     {
         if node >= self.kept.len() {

@@ -135,7 +135,8 @@ pub fn add_arrow(
     title: Vec<u8>,
     way: Way,
 ) -> Result<(), NoMemory>
-    ensures { OnOk result (shapes elements.new.items ≡ shapes elements.old.items ++ arrow_shape look title.items ∷ []) }
+    ensures { OnOk result (shapes elements.new.items ≡ shapes elements.old.items
+        ++ arrow_shape look title.items ∷ []) }
 {
     elements.push(Element::Arrow {
         look,
@@ -148,7 +149,8 @@ pub fn add_arrow(
 /// Adds an arrow of the legend.
 #[tactic(auto, unfolding(crate::specs::Elements::shapes))]
 pub fn add_sample(elements: &mut Vec<Element>, look: Look, way: Way) -> Result<(), NoMemory>
-    ensures { OnOk result (shapes elements.new.items ≡ shapes elements.old.items ++ sample_shape look ∷ []) }
+    ensures { OnOk result (shapes elements.new.items ≡ shapes elements.old.items
+        ++ sample_shape look ∷ []) }
 {
     elements.push(Element::Sample { look, way })?;
     Ok(())
@@ -157,7 +159,8 @@ pub fn add_sample(elements: &mut Vec<Element>, look: Look, way: Way) -> Result<(
 /// Adds a line.
 #[tactic(auto, unfolding(crate::specs::Elements::shapes))]
 pub fn add_line(elements: &mut Vec<Element>, line: Line, way: Way) -> Result<(), NoMemory>
-    ensures { OnOk result (shapes elements.new.items ≡ shapes elements.old.items ++ line_shape line ∷ []) }
+    ensures { OnOk result (shapes elements.new.items ≡ shapes elements.old.items
+        ++ line_shape line ∷ []) }
 {
     elements.push(Element::Line { line, way })?;
     Ok(())
@@ -166,7 +169,8 @@ pub fn add_line(elements: &mut Vec<Element>, line: Line, way: Way) -> Result<(),
 /// Adds the mark of a send around a point.
 #[tactic(auto, unfolding(crate::specs::Elements::shapes))]
 pub fn add_square(elements: &mut Vec<Element>, x: u64, y: u64) -> Result<(), NoMemory>
-    ensures { OnOk result (shapes elements.new.items ≡ shapes elements.old.items ++ square_shape ∷ []) }
+    ensures { OnOk result (shapes elements.new.items ≡ shapes elements.old.items
+        ++ square_shape ∷ []) }
 {
     elements.push(Element::Square {
         x: x.saturating_sub(4),
@@ -178,7 +182,8 @@ pub fn add_square(elements: &mut Vec<Element>, x: u64, y: u64) -> Result<(), NoM
 /// Adds the time in which a link is down.
 #[tactic(auto, unfolding(crate::specs::Elements::shapes))]
 pub fn add_shade(elements: &mut Vec<Element>, area: Area) -> Result<(), NoMemory>
-    ensures { OnOk result (shapes elements.new.items ≡ shapes elements.old.items ++ shade_shape ∷ []) }
+    ensures { OnOk result (shapes elements.new.items ≡ shapes elements.old.items
+        ++ shade_shape ∷ []) }
 {
     elements.push(Element::Shade { area })?;
     Ok(())
@@ -192,7 +197,8 @@ pub fn add_text(
     words: Vec<u8>,
     spot: Spot,
 ) -> Result<(), NoMemory>
-    ensures { OnOk result (shapes elements.new.items ≡ shapes elements.old.items ++ text_shape label words.items ∷ []) }
+    ensures { OnOk result (shapes elements.new.items ≡ shapes elements.old.items
+        ++ text_shape label words.items ∷ []) }
 {
     elements.push(Element::Text {
         label,
@@ -210,7 +216,8 @@ pub fn add_words(
     words: &[u8],
     spot: Spot,
 ) -> Result<(), NoMemory>
-    ensures { OnOk result (shapes elements.new.items ≡ shapes elements.old.items ++ text_shape label words.now ∷ []) }
+    ensures { OnOk result (shapes elements.new.items ≡ shapes elements.old.items
+        ++ text_shape label words.now ∷ []) }
 {
     let words = Vec::from_slice(alloc, words)?;
     add_text(elements, label, words, spot)
@@ -219,7 +226,8 @@ pub fn add_words(
 /// Begins the texts and marks on a white ground.
 #[tactic(auto, unfolding(crate::specs::Elements::shapes))]
 pub fn begin_labels(elements: &mut Vec<Element>) -> Result<(), NoMemory>
-    ensures { OnOk result (shapes elements.new.items ≡ shapes elements.old.items ++ labels_begin ∷ []) }
+    ensures { OnOk result (shapes elements.new.items ≡ shapes elements.old.items
+        ++ labels_begin ∷ []) }
 {
     elements.push(Element::LabelsBegin)?;
     Ok(())
@@ -228,7 +236,8 @@ pub fn begin_labels(elements: &mut Vec<Element>) -> Result<(), NoMemory>
 /// Ends them.
 #[tactic(auto, unfolding(crate::specs::Elements::shapes))]
 pub fn end_labels(elements: &mut Vec<Element>) -> Result<(), NoMemory>
-    ensures { OnOk result (shapes elements.new.items ≡ shapes elements.old.items ++ labels_end ∷ []) }
+    ensures { OnOk result (shapes elements.new.items ≡ shapes elements.old.items
+        ++ labels_end ∷ []) }
 {
     elements.push(Element::LabelsEnd)?;
     Ok(())

@@ -123,7 +123,8 @@ pub(crate) fn put_attribute(
 /// Puts an attribute that is a number last.
 #[tactic(auto, unfolding(crate::specs::Parts::attribute_text))]
 pub(crate) fn put_length(text: &mut Vec<u8>, attribute: Attribute, n: u64) -> Result<(), NoMemory>
-    ensures { OnOk result (text.new.items ≡ text.old.items ++ attribute_text attribute (decimal n)) }
+    ensures { OnOk result (text.new.items ≡ text.old.items ++ attribute_text attribute
+        (decimal n)) }
 {
     put(text, " ")?;
     put(text, name_of(attribute))?;

@@ -149,7 +149,8 @@ fn put_way(text: &mut Vec<u8>, way: Way) -> Result<(), NoMemory>
 /// Puts how a line is drawn last.
 #[tactic(auto, unfolding(crate::specs::Spelling::stroke_text))]
 fn put_stroke(text: &mut Vec<u8>, colour: &str, width: &str, dashes: &str) -> Result<(), NoMemory>
-    ensures { OnOk result (text.new.items ≡ text.old.items ++ stroke_text colour.now width.now dashes.now) }
+    ensures { OnOk result (text.new.items ≡ text.old.items
+        ++ stroke_text colour.now width.now dashes.now) }
 {
     put_attribute(text, Attribute::Stroke, colour)?;
     put_attribute(text, Attribute::StrokeWidth, width)?;

@@ -77,7 +77,9 @@ impl Log {
     pub(crate) fn step(&mut self, place: &Place, here: Probe, x: &Entry) -> Result<usize, NoMemory>
         requires aged { self.old.stations.last ≤ self.old.moment }
         requires room { HasRoom self.old }
-        ensures needs { IfOk result (λ n. n ≡ needs_by self.old (read_by self.old place.now here x.now) (moment_of self.old x.now)) }
+        ensures needs { IfOk result (λ n.
+            n ≡ needs_by self.old (read_by self.old place.now here x.now)
+            (moment_of self.old x.now)) }
         ensures logged { OnOk result (IsLoggedAfter self.old place.now here x.now self.new) }
     {
         self.moment = self.moment.max(x.at);

@@ -19,7 +19,8 @@ fn needed_with<const C: usize>(
     before: Needed,
 ) -> Result<Needed, NoMemory>
     requires node { node < length closed.now.run.places }
-    ensures { IfOk result (λ needed. needed ≡ walked closed.now.run node before (length (record_of closed.now.run node))) }
+    ensures { IfOk result (λ needed. needed ≡ walked closed.now.run node before
+        (length (record_of closed.now.run node))) }
 {
     let place = &closed.topology().places()[node];
     let mut log = Log::new(alloc);

@@ -39,7 +39,8 @@ fn name_latest(
     send: Option<Probe>,
     latest: Latest,
 ) -> Result<(), NoMemory>
-    ensures { OnOk result ((p : Probe) → latest_of sends.new p ≡ (if is_same_send (Some p) send then Some latest else latest_of sends.old p)) }
+    ensures { OnOk result ((p : Probe) → latest_of sends.new p
+        ≡ (if is_same_send (Some p) send then Some latest else latest_of sends.old p)) }
 {
     let Some(probe) = send else {
         return Ok(());

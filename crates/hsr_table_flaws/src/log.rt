@@ -132,9 +132,13 @@ impl Log {
         x: &Entry,
     ) -> Result<Look, NoMemory>
         requires { IsAged self.old }
-        ensures forgets { IfOk result (λ l. l.forgets ≡ forgets_by capacity self.old (read_by self.old place.now here x.now) (moment_of self.old x.now)) }
-        ensures mistakes { IfOk result (λ l. l.mistakes ≡ mistakes_by capacity self.old (read_by self.old place.now here x.now) (came_in x.now.event) (moment_of self.old x.now)) }
-        ensures is_late { IfOk result (λ l. l.is_late ≡ is_late_by self.old x.now.event x.now.outcome) }
+        ensures forgets { IfOk result (λ l. l.forgets ≡ forgets_by capacity self.old
+            (read_by self.old place.now here x.now) (moment_of self.old x.now)) }
+        ensures mistakes { IfOk result (λ l. l.mistakes ≡ mistakes_by capacity self.old
+            (read_by self.old place.now here x.now) (came_in x.now.event)
+            (moment_of self.old x.now)) }
+        ensures is_late { IfOk result (λ l. l.is_late
+            ≡ is_late_by self.old x.now.event x.now.outcome) }
         ensures logged { OnOk result (IsLoggedAfter self.old place.now here x.now self.new) }
     {
         self.moment = self.moment.max(x.at);

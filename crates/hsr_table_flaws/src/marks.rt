@@ -156,7 +156,8 @@ fn add_mark(marks: &mut Vec<Mark>, mark: Mark) -> Result<(), NoMemory>
 /// Names the place of the latest mark of a send, if it is of one.
 fn name_send(sends: &mut IndexMap<(usize, usize), usize>, send: Option<Probe>, place: usize)
     requires { 0 < spare sends.old }
-    ensures { (p : Probe) → place_of sends.new p ≡ (if is_same_send (Some p) send then Some place else place_of sends.old p) }
+    ensures { (p : Probe) → place_of sends.new p
+        ≡ (if is_same_send (Some p) send then Some place else place_of sends.old p) }
 {
     let Some(probe) = send else {
         return;
@@ -170,7 +171,8 @@ fn name_send(sends: &mut IndexMap<(usize, usize), usize>, send: Option<Probe>, p
 /// Names the latest mark with a source and number.
 fn name_key(keys: &mut IndexMap<(Mac, u16), Latest>, key: Key, latest: Latest)
     requires { 0 < spare keys.old }
-    ensures { (k : spec.Key) → latest_of keys.new k ≡ (if is_same_key key k then Some latest else latest_of keys.old k) }
+    ensures { (k : spec.Key) → latest_of keys.new k
+        ≡ (if is_same_key key k then Some latest else latest_of keys.old k) }
 {
     match keys.insert((key.src, key.seq), latest) {
         Ok(_) => {}
@@ -250,7 +252,11 @@ impl Marks {
 
     /// Puts a mark last.
     fn add(&mut self, key: Key, moment: u64, probe: Option<Probe>) -> Result<(), NoMemory>
-        ensures put { OnOk result (self.new ≡ self.old ++ record { key = key; moment = moment; probe = probe } ∷ []) }
+        ensures put { OnOk result (self.new ≡ self.old ++ record {
+          key = key;
+          moment = moment;
+          probe = probe;
+        } ∷ []) }
         ensures refused { OnErr result (self.new ≡ self.old) }
     {
         let latest = Latest {
@@ -273,7 +279,8 @@ impl Marks {
         moment: u64,
         probe: Option<Probe>,
     ) -> Result<(), NoMemory>
-        ensures { OnOk result (self.new ≡ noted_after self.old (note_if is_noted key moment probe)) }
+        ensures { OnOk result (self.new ≡ noted_after self.old
+            (note_if is_noted key moment probe)) }
     {
         match key {
             Some(key) if is_noted => self.add(key, moment, probe),

@@ -5,7 +5,8 @@ use std::alloc::{AllocError, Global};
 
 /// The arguments after the program's name.
 pub fn arguments(alloc: Global, args: &Vec<String>) -> Result<Vec<&str>, AllocError>
-    ensures { IfOk result (λ words. map (λ s. s.now) words.items ≡ map string_bytes (drop 1 args.now.items)) }
+    ensures { IfOk result (λ words. map (λ s. s.now) words.items
+        ≡ map string_bytes (drop 1 args.now.items)) }
 {
     let mut words = Vec::new(alloc);
     for word in args.iter().skip(1) {

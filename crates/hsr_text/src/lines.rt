@@ -69,8 +69,10 @@ fn advance<R: BufRead, const N: usize>(
     reads: &mut u64,
     line: &mut ArrayVec<u8, N>,
 ) -> Result<Option<Front>, ReaderFault>
-    ensures advanced { IfOk result (Advances N (R.remaining reader.old) (R.remaining reader.new) line.old.items line.new.items) }
-    ensures paid { Paid (R.remaining reader.old) (R.remaining reader.new) (reads.old + 1) reads.new }
+    ensures advanced { IfOk result (Advances N (R.remaining reader.old)
+        (R.remaining reader.new) line.old.items line.new.items) }
+    ensures paid { Paid (R.remaining reader.old) (R.remaining reader.new)
+        (reads.old + 1) reads.new }
     ensures bounded { reads.new ≤ reads.old }
 {
     let piece = match reader.fill_buf() {
@@ -99,7 +101,8 @@ pub fn next_line<R: BufRead, const N: usize>(
     reads: &mut u64,
     line: &mut ArrayVec<u8, N>,
 ) -> Result<Front, ReaderFault>
-    ensures front { IfOk result (ReadsFront N (R.remaining reader.old) (R.remaining reader.new) line.new.items) }
+    ensures front { IfOk result (ReadsFront N (R.remaining reader.old)
+        (R.remaining reader.new) line.new.items) }
     ensures paid { Paid (R.remaining reader.old) (R.remaining reader.new) reads.old reads.new }
     ensures counted { OnOk result (reads.new < reads.old) }
     ensures bounded { reads.new ≤ reads.old }

@@ -20,7 +20,8 @@ pub enum InputFault {
 
 /// Reads a piece of a text, puts it behind what was read, and tells whether more may follow.
 fn read_piece<R: Read>(reader: &mut R, text: &mut Vec<u8>) -> Result<bool, InputFault>
-    ensures { IfOk result (λ more. ReadsPiece (R.remaining reader.old) (R.remaining reader.new) text.old.items text.new.items more) }
+    ensures { IfOk result (λ more. ReadsPiece (R.remaining reader.old)
+        (R.remaining reader.new) text.old.items text.new.items more) }
 {
     let mut piece = [0u8; PIECE_LIMIT];
     match reader.read(&mut piece) {
@@ -49,7 +50,8 @@ fn read_granted<R: Read>(
     most: usize,
 ) -> Result<Option<Vec<u8>>, InputFault>
     requires granted { reads.old ≡ 2 ^ 40 }
-    ensures read { IfOk result (λ read. IfSome read (λ text. IfSome (R.remaining reader.old) (λ all. IsWhole most all text.items))) }
+    ensures read { IfOk result (λ read. IfSome read (λ text. IfSome (R.remaining reader.old)
+        (λ all. IsWhole most all text.items))) }
     ensures spent { IfOk result (λ read. read ≡ None → reads.new ≡ 0) }
 {
     let mut text = Vec::new(alloc);
@@ -66,7 +68,8 @@ fn read_granted<R: Read>(
 /// Reads a whole text, or of one with more than `most` octets a front that has more. `Read` where the reader fails or takes
 /// `READ_LIMIT` reads, `Memory` where room is refused.
 pub fn read_text<R: Read>(alloc: Global, reader: &mut R, most: usize) -> Result<Vec<u8>, InputFault>
-    ensures { IfOk result (λ text. IfSome (R.remaining reader.old) (λ all. IsWhole most all text.items)) }
+    ensures { IfOk result (λ text. IfSome (R.remaining reader.old)
+        (λ all. IsWhole most all text.items)) }
 {
     let mut reads = granted_reads();
     match read_granted(alloc, reader, &mut reads, most) {

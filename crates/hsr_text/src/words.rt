@@ -33,7 +33,8 @@ pub fn split_at(text: &[u8], separator: u8) -> (&[u8], Option<&[u8]>)
 
 /// The next word of what is left of a line, and what follows the one space behind it.
 pub fn word(rest: Option<&[u8]>) -> Option<(&[u8], Option<&[u8]>)>
-    ensures { option_map (λ w. (w.0.now, option_map (λ s. s.now) w.1)) result ≡ word_at (option_map (λ s. s.now) rest.entry) }
+    ensures { option_map (λ w. (w.0.now, option_map (λ s. s.now) w.1)) result
+        ≡ word_at (option_map (λ s. s.now) rest.entry) }
 {
     match rest {
         Some(text) => Some(split_at(text, b' ')),
@@ -85,7 +86,8 @@ fn nibble(digit: u8) -> u8
 /// The octet that two hexadecimal digits of either case spell.
 #[tactic(auto, using(crate::proofs::HexDigits::pair_spells))]
 fn octet_of(high: u8, low: u8) -> u8
-    ensures { (i : ℕ) → is_ascii_hexdigit high ≡ true → is_ascii_hexdigit low ≡ true → pair_value high low i ≡ Ok result }
+    ensures { (i : ℕ) → is_ascii_hexdigit high ≡ true → is_ascii_hexdigit low ≡ true
+        → pair_value high low i ≡ Ok result }
 {
     nibble(high).wrapping_mul(16).wrapping_add(nibble(low))
 }

@@ -79,7 +79,8 @@ pub(crate) fn steps_of(
     plan: &[Planned],
     scenario: Option<&str>,
 ) -> Result<Vec<Order>, NoMemory>
-    ensures { IfOk result (λ told. AreSteps plan.now (option_map (λ s. s.now) scenario.entry) told.items) }
+    ensures { IfOk result (λ told.
+        AreSteps plan.now (option_map (λ s. s.now) scenario.entry) told.items) }
 {
     let Some(text) = scenario else {
         return Ok(Vec::new(alloc));

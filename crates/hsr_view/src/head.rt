@@ -24,7 +24,8 @@ pub(crate) fn front(text: &[u8]) -> &[u8]
 
 /// Reads a piece of a text, puts it behind what was read, and tells whether more may follow.
 fn read_piece<R: Read>(reader: &mut R, head: &mut Vec<u8>) -> Result<bool, Fault>
-    ensures ok { IfOk result (λ more. ReadsPiece (R.remaining reader.old) (R.remaining reader.new) head.old.items head.new.items more) }
+    ensures ok { IfOk result (λ more. ReadsPiece (R.remaining reader.old)
+        (R.remaining reader.new) head.old.items head.new.items more) }
     ensures err { IfErr result (λ f. (f ≡ ReadFailed) ⊎ (f ≡ Memory)) }
 {
     let mut piece = [0u8; FRONT_LIMIT];
@@ -44,7 +45,8 @@ fn read_piece<R: Read>(reader: &mut R, head: &mut Vec<u8>) -> Result<bool, Fault
 /// Reads the head of a text: so many octets that the front is among them. `Memory` where room is refused, `Read` where the reader fails
 /// otherwise, or gives nothing for 2^40 times.
 pub(crate) fn read_head<R: Read>(alloc: Global, reader: &mut R) -> Result<Vec<u8>, Fault>
-    ensures head { IfOk result (λ head. ReadsHead (R.remaining reader.old) (R.remaining reader.new) head.items) }
+    ensures head { IfOk result (λ head. ReadsHead (R.remaining reader.old)
+        (R.remaining reader.new) head.items) }
     ensures refused { IfErr result (λ f. (f ≡ ReadFailed) ⊎ (f ≡ Memory)) }
 {
     let mut head = Vec::new(alloc);

@@ -105,7 +105,8 @@ fn view_input<H: AllocGlobal + Files + Input + Print, E: Write>(
 
 /// Writes why words are refused, and gives the status of the process.
 fn refuse<E: Write>(errors: &mut E, text: &str) -> io::Result<u8>
-    ensures { OnOk result (Appends (E.contents errors.old) (E.contents errors.new) (text.now ++ codes "\n")) }
+    ensures { OnOk result (Appends (E.contents errors.old) (E.contents errors.new) (text.now
+        ++ codes "\n")) }
 {
     errors.write_all(text.as_bytes())?;
     errors.write_all(b"\n")?;

@@ -22,9 +22,11 @@ fn shown_from<R: Read>(
     reader: &mut R,
 ) -> Result<Vec<u8>, Fault>
     ensures shown { IfOk result (λ octets. IfSome (R.remaining reader.old) (λ text.
-        IsShownOf (capacity_of (table_of (front text))) text what.now (option_map (λ s. s.now) scenario.entry) octets.items)) }
+        IsShownOf (capacity_of (table_of (front text))) text what.now
+        (option_map (λ s. s.now) scenario.entry) octets.items)) }
     ensures unshown { IfErr result (λ fault. IfSome (R.remaining reader.old) (λ text.
-        IsUnshownOf (capacity_of (table_of (front text))) (given_of (front text)) text what.now (option_map (λ s. s.now) scenario.entry) fault)) }
+        IsUnshownOf (capacity_of (table_of (front text))) (given_of (front text)) text what.now
+        (option_map (λ s. s.now) scenario.entry) fault)) }
 {
     match read_head(alloc, reader) {
         Ok(head) => shown(alloc, head.as_slice(), reader, what, scenario),
@@ -51,7 +53,8 @@ fn view<R: Read, W: Write>(
     writer: &mut W,
 ) -> Result<(), Fault>
     ensures { IfSome (R.remaining reader.old) (λ text.
-        Ends text what.now (option_map (λ s. s.now) scenario.entry) (W.contents writer.old) (W.contents writer.new) result) }
+        Ends text what.now (option_map (λ s. s.now) scenario.entry) (W.contents writer.old)
+        (W.contents writer.new) result) }
 {
     match shown_from(alloc, what, scenario, reader) {
         Ok(octets) => deliver(writer, octets.as_slice()),
@@ -61,7 +64,8 @@ fn view<R: Read, W: Write>(
 
 /// Tells how it ended: a fault's line, and the status of the process. The error of `errors`, where the line can't be written there.
 pub fn tell<E: Write>(errors: &mut E, ended: Result<(), Fault>) -> io::Result<u8>
-    ensures { IfOk result (λ code. Tells (E.contents errors.old) (E.contents errors.new) ended code) }
+    ensures { IfOk result (λ code. Tells (E.contents errors.old)
+        (E.contents errors.new) ended code) }
 {
     match ended {
         Ok(()) => Ok(0),
@@ -85,7 +89,8 @@ pub fn view_run<R: Read, W: Write, E: Write>(
     errors: &mut E,
 ) -> io::Result<u8>
     ensures { IfOk result (λ code. IfSome (R.remaining reader.old) (λ text.
-        Views text what.now (option_map (λ s. s.now) scenario.entry) (W.contents writer.old) (W.contents writer.new) (E.contents errors.old) (E.contents errors.new) code)) }
+        Views text what.now (option_map (λ s. s.now) scenario.entry) (W.contents writer.old)
+        (W.contents writer.new) (E.contents errors.old) (E.contents errors.new) code)) }
 {
     let ended = view(alloc, what, scenario, reader, writer);
     tell(errors, ended)

@@ -39,8 +39,10 @@ fn names_of(
     topology: &Topology,
     scenario: Option<&str>,
 ) -> Result<Vec<Vec<u8>>, Fault>
-    ensures names { IfOk result (λ names. AreNames topology.now (option_map (λ s. s.now) scenario.entry) (lists_of names.items)) }
-    ensures misnamed { IfErr result (IsMisnamed topology.now (option_map (λ s. s.now) scenario.entry)) }
+    ensures names { IfOk result (λ names.
+        AreNames topology.now (option_map (λ s. s.now) scenario.entry) (lists_of names.items)) }
+    ensures misnamed { IfErr result (IsMisnamed topology.now
+        (option_map (λ s. s.now) scenario.entry)) }
 {
     let Some(text) = scenario else {
         return Ok(Vec::new(alloc));
@@ -97,7 +99,8 @@ fn capture_of<const C: usize>(
     names: &[Vec<u8>],
     wanted: Choice,
 ) -> Result<Vec<u8>, Fault>
-    ensures capture { IfOk result (λ octets. IsCaptureOf (lists_of names.now) closed.now wanted octets.items) }
+    ensures capture { IfOk result (λ octets.
+        IsCaptureOf (lists_of names.now) closed.now wanted octets.items) }
     ensures missing { IfErr result (IsUncaptured (lists_of names.now) closed.now wanted) }
 {
     check_choice(closed, wanted)?;
@@ -113,7 +116,8 @@ fn capture_of<const C: usize>(
 /// The send that a node's name and a place mean; `Send` where no node has the name.
 fn probe_of(names: &[Vec<u8>], send: &(&str, usize)) -> Result<Probe, Fault>
     ensures known { IfOk result (λ probe. probe_of (lists_of names.now) send.now ≡ Some probe) }
-    ensures stray { IfErr result (λ fault. (fault ≡ Send) × (probe_of (lists_of names.now) send.now ≡ None)) }
+    ensures stray { IfErr result (λ fault. (fault ≡ Send) × (probe_of (lists_of names.now) send.now
+        ≡ None)) }
 {
     let (name, place) = *send;
     match node_called(names, name.as_bytes()) {
@@ -125,7 +129,8 @@ fn probe_of(names: &[Vec<u8>], send: &(&str, usize)) -> Result<Probe, Fault>
 /// The sends that nodes' names and places mean, in their order; `Send` where no node has a name.
 fn probes_of(alloc: Global, names: &[Vec<u8>], sends: &[(&str, usize)]) -> Result<Vec<Probe>, Fault>
     ensures known { IfOk result (λ probes. AreSends (lists_of names.now) sends.now probes.items) }
-    ensures stray { IfErr result (λ fault. (fault ≡ Memory) ⊎ ((fault ≡ Send) × HasStray (lists_of names.now) sends.now)) }
+    ensures stray { IfErr result (λ fault. (fault ≡ Memory) ⊎ ((fault ≡ Send)
+        × HasStray (lists_of names.now) sends.now)) }
 {
     let mut probes = Vec::new(alloc);
     for send in sends {
@@ -165,9 +170,12 @@ fn picture_of<const C: usize>(
     span: Span,
     scenario: Option<&str>,
 ) -> Result<Vec<u8>, Fault>
-    ensures picture { IfOk result (λ octets. IsPictured (lists_of names.now) closed.now (option_map (λ s. s.now) scenario.entry) sends.now span octets.items) }
-    ensures undrawn { IfErr result (λ fault. (fault ≡ Memory) ⊎ (((fault ≡ Send) × HasStray (lists_of names.now) sends.now) ⊎
-        (IsUndrawn (lists_of names.now) closed.now sends.now span fault ⊎ IsBlank (lists_of names.now) closed.now sends.now span fault))) }
+    ensures picture { IfOk result (λ octets. IsPictured (lists_of names.now) closed.now
+        (option_map (λ s. s.now) scenario.entry) sends.now span octets.items) }
+    ensures undrawn { IfErr result (λ fault. (fault ≡ Memory)
+        ⊎ (((fault ≡ Send) × HasStray (lists_of names.now) sends.now) ⊎
+        (IsUndrawn (lists_of names.now) closed.now sends.now span fault
+        ⊎ IsBlank (lists_of names.now) closed.now sends.now span fault))) }
 {
     let probes = probes_of(alloc, names, sends)?;
     let picture = picture_run(alloc, closed, probes.as_slice(), span)?;
@@ -190,8 +198,10 @@ fn picture_of<const C: usize>(
 
 /// The send that a node's name and a place mean; `Send` where no node has the name.
 fn send_of(names: &[Vec<u8>], send: Option<(&str, usize)>) -> Result<Option<Probe>, Fault>
-    ensures known { IfOk result (IsSend (lists_of names.now) (option_map (λ s. (s.0.now, s.1)) send.entry)) }
-    ensures stray { IfErr result (λ fault. (fault ≡ Send) × IsStray (lists_of names.now) (option_map (λ s. (s.0.now, s.1)) send.entry)) }
+    ensures known { IfOk result (IsSend (lists_of names.now)
+        (option_map (λ s. (s.0.now, s.1)) send.entry)) }
+    ensures stray { IfErr result (λ fault. (fault ≡ Send)
+        × IsStray (lists_of names.now) (option_map (λ s. (s.0.now, s.1)) send.entry)) }
 {
     match send {
         Some((name, place)) => match node_called(names, name.as_bytes()) {
@@ -209,8 +219,10 @@ fn read_run<const C: usize, R: Read>(
     reader: &mut R,
 ) -> Result<Closed<C>, ReadFault>
     requires entries { (1 ≤ C) × (C ≤ 65535) }
-    ensures run { IfOk result (λ closed. IfSome (R.remaining reader.old) (λ rest. IsTextOf C closed (head.now ++ rest))) }
-    ensures none { IfErr result (λ fault. IfSome (R.remaining reader.old) (λ rest. Answers C (Err fault) (head.now ++ rest))) }
+    ensures run { IfOk result (λ closed. IfSome (R.remaining reader.old) (λ rest. IsTextOf C closed
+        (head.now ++ rest))) }
+    ensures none { IfErr result (λ fault. IfSome (R.remaining reader.old) (λ rest. Answers C
+        (Err fault) (head.now ++ rest))) }
 {
     let mut whole = head.chain(reader);
     match read(alloc, &mut whole) {
@@ -226,8 +238,10 @@ fn shown_of<const C: usize>(
     what: &What<'_>,
     scenario: Option<&str>,
 ) -> Result<Vec<u8>, Fault>
-    ensures shown { IfOk result (λ octets. IsShown closed.now what.now (option_map (λ s. s.now) scenario.entry) octets.items) }
-    ensures unshown { IfErr result (IsUnshown closed.now what.now (option_map (λ s. s.now) scenario.entry)) }
+    ensures shown { IfOk result (λ octets. IsShown closed.now what.now
+        (option_map (λ s. s.now) scenario.entry) octets.items) }
+    ensures unshown { IfErr result (IsUnshown closed.now what.now
+        (option_map (λ s. s.now) scenario.entry)) }
 {
     let names = names_of(alloc, closed.topology(), scenario)?;
     match what {
@@ -264,9 +278,11 @@ fn shown_with<const C: usize, R: Read>(
 ) -> Result<Vec<u8>, Fault>
     requires entries { (1 ≤ C) × (C ≤ 65535) }
     ensures shown { IfOk result (λ octets. IfSome (R.remaining reader.old) (λ rest.
-        IsShownOf C (head.now ++ rest) what.now (option_map (λ s. s.now) scenario.entry) octets.items)) }
+        IsShownOf C (head.now ++ rest) what.now
+        (option_map (λ s. s.now) scenario.entry) octets.items)) }
     ensures unshown { IfErr result (λ fault. IfSome (R.remaining reader.old) (λ rest.
-        IsUnshownOf C (given_of (front head.now)) (head.now ++ rest) what.now (option_map (λ s. s.now) scenario.entry) fault)) }
+        IsUnshownOf C (given_of (front head.now)) (head.now ++ rest) what.now
+        (option_map (λ s. s.now) scenario.entry) fault)) }
 {
     match read_run::<C, R>(alloc, head, reader) {
         Ok(closed) => shown_of(alloc, &closed, what, scenario),
@@ -295,9 +311,11 @@ pub fn shown<R: Read>(
     scenario: Option<&str>,
 ) -> Result<Vec<u8>, Fault>
     ensures shown { IfOk result (λ octets. IfSome (R.remaining reader.old) (λ rest.
-        IsShownOf (capacity_of (table_of (front head.now))) (head.now ++ rest) what.now (option_map (λ s. s.now) scenario.entry) octets.items)) }
+        IsShownOf (capacity_of (table_of (front head.now))) (head.now ++ rest) what.now
+        (option_map (λ s. s.now) scenario.entry) octets.items)) }
     ensures unshown { IfErr result (λ fault. IfSome (R.remaining reader.old) (λ rest.
-        IsUnshownOf (capacity_of (table_of (front head.now))) (given_of (front head.now)) (head.now ++ rest) what.now (option_map (λ s. s.now) scenario.entry) fault)) }
+        IsUnshownOf (capacity_of (table_of (front head.now))) (given_of (front head.now)) (head.now
+        ++ rest) what.now (option_map (λ s. s.now) scenario.entry) fault)) }
 {
     match table_of(front(head)) {
         TableSize::Small => shown_with::<4, R>(alloc, head, reader, what, scenario),
