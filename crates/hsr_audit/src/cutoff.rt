@@ -84,6 +84,7 @@ impl<'a, const C: usize> Reach<'a, C> {
         requires { losses.now ≡ lost self.now send }
         ensures { IsLossOf self.now send result }
     {
+        // What it answers isn't used: its contract says that the run is finished, so it has 128 links at most, and the set each way.
         let _ = self.closed.topology();
         ways_of(losses)
     }
@@ -97,7 +98,8 @@ impl<'a, const C: usize> Reach<'a, C> {
         self.ways.reached(send, frame, lossy)
     }
 
-    /// The nodes that a send reaches that lost nothing: those of an earlier one to its destination, of its type, if there was one.
+    /// The nodes that a send reaches that lost nothing: those of an earlier one to its destination, of its type, if
+    /// there was one.
     fn shared(
         &self,
         found: &mut Found,
@@ -112,6 +114,7 @@ impl<'a, const C: usize> Reach<'a, C> {
         ensures reached { IfOk result (λ nodes. AreReached self.now send frame.now nodes) }
         ensures found { OnOk result (AreFound self.now send.node found.new) }
     {
+        // Sends that lost nothing and go alike take the same ways, so they share a search.
         if let Some(nodes) = found_of(found, frame) {
             return Ok(nodes);
         }
@@ -120,8 +123,8 @@ impl<'a, const C: usize> Reach<'a, C> {
         Ok(nodes)
     }
 
-    /// The nodes that a send reaches, and the ways on which copies of it were lost, where these nodes were found of earlier sends of
-    /// its node.
+    /// The nodes that a send reaches, and the ways on which copies of it were lost, where these nodes were found of
+    /// earlier sends of its node.
     fn spread(
         &self,
         alloc: Global,
@@ -171,6 +174,7 @@ impl<'a, const C: usize> Reach<'a, C> {
         requires { way.link < length self.now.links }
         ensures { result ≡ is_last_in self.now sender spread.now node way }
     {
+        // As above: a way's number asks for few links.
         let _ = self.closed.topology();
         let start = self.start(way);
         self.ways.stop(way).node == node
@@ -178,8 +182,8 @@ impl<'a, const C: usize> Reach<'a, C> {
             && (start == sender || self.is_redbox(start) && spread.nodes.has(start))
     }
 
-    /// Whether a send comes to a node: whether it reaches it; but a frame to one address comes to a Station by the node that the
-    /// Station is joined with.
+    /// Whether a send comes to a node: whether it reaches it; but a frame to one address comes to a Station by the node
+    /// that the Station is joined with.
     fn comes(&self, send: Probe, frame: &FrameView<'_>, spread: &Spread, node: usize) -> bool
         requires node { node < length self.now.places }
         requires spread { IsSpreadOf self.now send frame.now spread.now }
@@ -243,6 +247,7 @@ impl<'a, const C: usize> Reach<'a, C> {
         requires { node < length self.now.places }
         ensures { IfOk result (IsCutIn self.now node (length (record_of self.now node))) }
     {
+        // Anew for each node: where a send goes depends on its sender.
         let mut found = IndexMap::new(alloc);
         for place in 0..self.closed.entries(node).len() {
             if let Some(receiver) = self.cut_at(alloc, &mut found, node, place)? {

@@ -14,6 +14,7 @@ use hsr_node::{Event, Probe};
 fn is_timely(sent: u64, at: u64) -> bool
     ensures { result ≡ is_timely sent at }
 {
+    // Compared first, so that the difference isn't below 0.
     sent <= at && at - sent < ENTRY_FORGET
 }
 

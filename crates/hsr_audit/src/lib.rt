@@ -1,6 +1,7 @@
-//! The audit of a finished run: a certificate of delivery, or the first reason for doubt, of a ring of DANHs or of any network; and
-//! its budget: whether duplicate tables are large enough for what was sent. What runs, their topologies and the laws over them are is
-//! offered again, and so is who got what and how many entries were needed, so that who audits needs this crate alone.
+//! The audit of a finished run: a certificate of delivery, or the first reason for doubt, of a ring of DANHs or of any
+//! network; and its budget: whether duplicate tables are large enough for what was sent. What runs, their topologies
+//! and the laws over them are is offered again, and so is who got what and how many entries were needed, so that who
+//! audits needs this crate alone.
 //!
 //! Its modules, in the order in which to read them:
 //! - `doubt`: why a run isn't certified

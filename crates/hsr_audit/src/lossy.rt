@@ -14,6 +14,7 @@ fn put_way(set: &mut Numbers, loss: &Loss)
     ensures { (way : law.Way) → way.link < 256 → has set.new (number_of way)
         ≡ (is_on way loss.now || has set.old (number_of way)) }
 {
+    // A way's number asks for this. No link of a topology is left out, since there are 128 at most.
     if loss.link < 256 {
         let way = Way {
             link: loss.link,

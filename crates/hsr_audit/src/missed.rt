@@ -156,6 +156,7 @@ fn missed_by<const C: usize>(closed: &Closed<C>, node: usize) -> Option<Probe>
     let mut lowest = None;
     for (place, x) in closed.entries(node).iter().enumerate() {
         moment = moment.max(x.at);
+        // Heard first: a RedBox knows a frame's source before it decides on the frame.
         hear(&mut stations, box_place, moment, &x.event);
         let send = handled(Probe { node, place }, &x.event);
         lowest = lower_of(lowest, unknown_of(closed, node, &stations, moment, send));

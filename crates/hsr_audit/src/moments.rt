@@ -71,6 +71,7 @@ fn sort(moments: &mut Vec<u64>)
     ensures rise { IsNonDecreasing moments.new.items }
     ensures same { IsPermutation moments.old.items moments.new.items }
 {
+    // Equal moments can't be told apart, so their order doesn't matter.
     moments.sort_unstable();
 }
 

@@ -36,10 +36,11 @@ fn is_joint(link: [End; 2], node: usize, next: usize) -> bool
             port: 0,
         },
     );
+    // Its ends stand in either order (RULES, Finished runs).
     (is_same_end(a, out) && is_same_end(b, into)) || (is_same_end(a, into) && is_same_end(b, out))
 }
 
-/// Whether a link is the one of its number round a ring of so many.
+/// Whether a link is the one of its number round a ring of `count` nodes.
 #[tactic(auto, unfolding(crate::specs::Round::is_joint_of))]
 fn is_joint_of(link: [End; 2], number: usize, count: usize) -> bool
     requires { number < count }

@@ -1,4 +1,4 @@
-//! Reads the words of a command line, by clap.
+//! Reads the arguments of hsr_bench, by clap.
 ghost use Rattle.std.specs.Prelude.{◌≡◌, ◌≢◌, ◌<◌, IfErr, IfNone, IfOk, IfSome, OnOk, Some, Ok, codes, false, length, map};
 ghost use Rattle.std.specs.Str.{trim_end};
 ghost use Rattle.hsr_frame.specs.Address.{IsGroup, address_of};
@@ -303,7 +303,7 @@ fn audit_command<'a>(alloc: Global, tables: &'a [&'a str]) -> Result<Command<'a>
 fn top_command<'a>(alloc: Global) -> Result<Command<'a>, AllocError>
     ensures { IfOk result (λ c. app_of c ≡ top_app) }
 {
-    // the words have no program's name, so that usage lines are told it
+    // The arguments come without the program's name, so usage lines are told it.
     Command::new(alloc, "hsr_bench")
         .about("A bench for HSR rings (IEC 62439-3 clause 5). With no words it runs `node`.")
         .version(VERSION)
@@ -343,8 +343,8 @@ fn refused(alloc: Global, error: &Error) -> OptionFault
     shown(alloc, error)
 }
 
-/// A refusal by the text that an error shows, without the end of its last line: whoever prints it ends the line. Of clap's errors the
-/// kit's clauses don't tell what they show, so there `text` says nothing.
+/// A refusal by the text that an error shows, without the end of its last line: whoever prints it ends the line. Of
+/// clap's errors the kit's clauses don't tell what they show, so there `text` says nothing.
 fn shown<D: Display + Drop>(alloc: Global, error: D) -> OptionFault
     ensures text { IfUsage result (λ t. IfSome (D.output error) (λ whole. t
         ≡ or_help (trim_end whole))) }
@@ -361,6 +361,7 @@ fn usage_or_help(alloc: Global, text: &str) -> OptionFault
     ensures text { IfUsage result (λ t. t ≡ or_help text.now) }
     ensures some { IfUsage result (λ t. 0 < length t) }
 {
+    // Clap's errors have a text, but no clause says so.
     if text.is_empty() {
         return usage(alloc, "usage: --help");
     }
@@ -406,7 +407,7 @@ fn unit_of(matches: &ArgMatches<'_>) -> Option<TimeUnit>
     TimeUnit::from_word(matches.get_str("unit")?.as_bytes())
 }
 
-/// Whether a flag is among the words.
+/// Whether a flag is among the arguments.
 fn flag_of(matches: &ArgMatches<'_>, name: &str) -> Option<bool>
     ensures found { IfSome result (λ b. first_value (found_of matches.now) name.now
         ≡ Some (flag_text b)) }
@@ -414,6 +415,7 @@ fn flag_of(matches: &ArgMatches<'_>, name: &str) -> Option<bool>
         ≢ Some (flag_text b)) }
 {
     match matches.get_str(name) {
+        // Clap keeps a flag as one of these words.
         Some("true") => Some(true),
         Some("false") => Some(false),
         _ => None,
@@ -562,15 +564,16 @@ fn chosen_in(matches: &ArgMatches<'_>) -> Option<Options>
     options_of(name, inner)
 }
 
-/// What the words after the program's name say: with none, `node` and its defaults. A `--mac` that is no
-/// address or a group's is refused by `usage: --mac` and a line that says what it takes, and other words by clap's text, which isn't
-/// empty; `Memory` where room is refused.
+/// What the arguments after the program's name say: with none, `node` and its defaults. A `--mac` that is no address or
+/// a group's is refused by `usage: --mac` and a line that says what it takes, and other arguments by clap's text, which
+/// isn't empty; `Memory` if allocation fails.
 pub fn options<'a>(alloc: Global, words: &'a [&'a str]) -> Result<Options, OptionFault>
     ensures found { IfOk result (Says (map (λ s. s.now) words.entry.now)) }
     ensures taken { OnOk result (IsTaken (map (λ s. s.now) words.entry.now)) }
     ensures refused { IfErr result (λ f. IfUsage f (IsRefused (map (λ s. s.now) words.entry.now))) }
     ensures some { IfErr result (λ f. IfUsage f (λ text. 0 < length text)) }
 {
+    // Clap would ask for a subcommand.
     if words.is_empty() {
         return Ok(Options::Node(NodeOptions {
             mac: Mac::new([2, 0, 0, 0, 0, 1]),
@@ -586,6 +589,7 @@ pub fn options<'a>(alloc: Global, words: &'a [&'a str]) -> Result<Options, Optio
     match command.try_get_matches_from(words) {
         Ok(matches) => match chosen_in(&matches) {
             Some(options) => Ok(options),
+            // All other values are from lists that clap compares, so this is about `--mac`.
             None => Err(usage(alloc, NO_MAC)),
         },
         Err(error) => Err(refused(alloc, &error)),

@@ -1,10 +1,10 @@
-//! The command lines of hsr_bench and hsr_plan: what their words choose, and their help, by clap.
+//! The command lines of hsr_bench and hsr_plan: what their arguments choose, and their help, by clap.
 //!
 //! Its modules, in the order in which to read them:
-//! - `fault`: why words are refused
-//! - `bench_words`: reads the words of a command line, by clap
-//! - `task`: what words choose, and why they are refused
-//! - `plan_words`: reads the words of a command line, by clap
+//! - `fault`: why arguments of hsr_bench are refused
+//! - `bench_words`: reads the arguments of hsr_bench
+//! - `task`: what arguments of hsr_plan choose, and why they are refused
+//! - `plan_words`: reads the arguments of hsr_plan
 #![tactic(auto)]
 
 mod bench_words;

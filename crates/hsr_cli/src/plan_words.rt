@@ -1,4 +1,4 @@
-//! Reads the words of a command line, by clap.
+//! Reads the arguments of hsr_plan, by clap.
 ghost use Rattle.std.specs.Prelude.{◌≡◌, ◌≢◌, ◌<◌, ◌≤◌, ◌^◌, IfErr, IfNone, IfOk, IfSome, IsTrue, Some, None, codes, false, length, map, option_map};
 ghost use Rattle.std.specs.Str.{trim_end};
 ghost use Rattle.hsr_text.specs.Words.{decimal_of};
@@ -18,7 +18,7 @@ use hsr_version::VERSION;
 use std::alloc::{AllocError, Global};
 use std::fmt::Display;
 
-/// Which words go together.
+/// Which arguments go together.
 const TOGETHER: &str = "\
 usage: hsr_plan [--table small|large]
        hsr_plan --check
@@ -72,6 +72,7 @@ fn table_arg<'a>(alloc: Global, tables: &'a [&'a str]) -> Arg<'a>
         .help(
             "The tables of the run that will follow (large, if not said); the moves of hop_us depend on them",
         )
+        // No default: so a table that is named is told from none, and `--table` with `--check` is refused.
         .value_parser(tables)
 }
 
@@ -127,7 +128,7 @@ fn plan_command<'a>(alloc: Global, tables: &'a [&'a str]) -> Result<Command<'a>,
     Ok(three)
 }
 
-/// A refusal by this text, or by which words go together where it is empty.
+/// A refusal by this text, or by which arguments go together where it is empty.
 fn usage_by(alloc: Global, text: &str) -> WordsFault
     ensures text { IfUsage result (λ t. t ≡ or_else text.now TOGETHER.now) }
     ensures some { IfUsage result (λ t. 0 < length t) }
@@ -139,7 +140,7 @@ fn usage_by(alloc: Global, text: &str) -> WordsFault
     }
 }
 
-/// The text that says which words go together.
+/// The text that says which arguments go together.
 fn usage(alloc: Global) -> WordsFault
     ensures text { IfUsage result (λ t. t ≡ TOGETHER.now) }
     ensures some { IfUsage result (λ t. 0 < length t) }
@@ -158,8 +159,8 @@ fn refused(alloc: Global, error: &Error) -> WordsFault
     shown(alloc, error)
 }
 
-/// A refusal by the text that an error shows, without the end of its last line: whoever prints it ends the line. Of clap's errors the
-/// kit's clauses don't tell what they show, so there `text` says nothing.
+/// A refusal by the text that an error shows, without the end of its last line: whoever prints it ends the line. Of
+/// clap's errors the kit's clauses don't tell what they show, so there `text` says nothing.
 fn shown<D: Display + Drop>(alloc: Global, error: D) -> WordsFault
     ensures text { IfUsage result (λ t. IfSome (D.output error) (λ whole. t
         ≡ or_else (trim_end whole) TOGETHER.now)) }
@@ -207,6 +208,7 @@ fn plan_of(check: Option<&str>, table: Option<&str>) -> Option<Task>
             Some(table) => Some(Task::Plan { table }),
             None => None,
         },
+        // A check has tables of 512 entries, so `--table` would say nothing.
         Some("true") if table.is_none() => Some(Task::Check),
         _ => None,
     }
@@ -221,6 +223,7 @@ fn sweep_of(check: Option<&str>, table: Option<&str>, name: &str, at: Option<&st
         (option_map (λ s. s.now) table.entry) name.now (option_map (λ s. s.now) at.entry) task) }
 {
     match (check, table, name) {
+        // `--check` and `--table` are of other tasks.
         (Some("false"), None, "sweep") => match moment_of(at) {
             Some(at) => Some(Task::Sweep { at }),
             None => None,
@@ -244,9 +247,10 @@ fn chosen_in(matches: &ArgMatches<'_>) -> Option<Task>
     }
 }
 
-/// What words choose: `--check` a scenario to check, `sweep` with `--at-us` a sweep, else a plan, with the tables that `--table` names
-/// (`small` or `large`, which is meant without it). Words that go together in none of these are refused by the text that says which do,
-/// and other words by clap's text, which isn't empty; `Memory` where room is refused.
+/// What arguments choose: `--check` a scenario to check, `sweep` with `--at-us` a sweep, else a plan, with the tables
+/// that `--table` names (`small` or `large`, which is meant without it). Arguments that go together in none of these
+/// are refused by the text that says which do, and other arguments by clap's text, which isn't empty; `Memory` if
+/// allocation fails.
 pub fn task_by<'a>(alloc: Global, words: &'a [&'a str]) -> Result<Task, WordsFault>
     ensures found { IfOk result (Says (map (λ s. s.now) words.entry.now)) }
     ensures refused { IfErr result (λ f. IfUsage f (IsRefused (map (λ s. s.now) words.entry.now))) }

@@ -1,10 +1,10 @@
-//! What words choose, and why they are refused.
+//! What arguments of hsr_plan choose, and why they are refused.
 use hsr_duptable::TableSize;
 
-/// What words choose.
+/// What arguments of hsr_plan choose.
 #[derive(Clone, Copy, Debug, PartialEq, Eq)]
 pub enum Task {
-    /// A plan is written as a scenario, for a run with such tables.
+    /// A plan is written as a scenario, for a run with tables of this size.
     Plan { table: TableSize },
     /// A scenario is checked.
     Check,
@@ -12,10 +12,11 @@ pub enum Task {
     Sweep { at: u64 },
 }
 
-/// Why words are refused.
+/// Why arguments of hsr_plan are refused.
 #[derive(Drop)]
 pub enum WordsFault {
     /// The text says why, or is the help that was asked for.
     Usage { text: String },
+    /// Allocation failed.
     Memory,
 }

@@ -42,6 +42,7 @@ pub struct Danh<const C: usize> {
     next: u16,
     counters: Counters,
     moment: u64,
+    // Counts steps of all kinds, so that one comparison with `STEP_LIMIT` keeps every counter within 64 bits.
     accepted: u64,
 }
 
@@ -71,7 +72,7 @@ impl<const C: usize> Danh<C> {
     ghost use Rattle.hsr_danh.specs.Machine.{new_machine};
     ghost use Rattle.hsr_danh.specs.Step.{age_step, arrive_step, life_step, now_at, send_step};
 
-    /// A node that has done nothing. No group has its address. `NoMemory` where room for its tables is refused.
+    /// A node that has done nothing. No group has its address. `NoMemory` if allocation fails.
     pub fn new(alloc: Global, own: Mac, mode: Mode) -> Result<Self, NoMemory>
         requires station { ¬ IsGroup own }
         requires entries { (1 ≤ C) × (C ≤ 65535) }
@@ -115,8 +116,10 @@ impl<const C: usize> Danh<C> {
         if let Some(fault) = send_fault(self.own, self.accepted, dst, kind, payload.len()) {
             return Err(fault);
         }
+        // An earlier moment counts as the last one (RULES, Sending).
         let now = self.moment.max(at);
         let seq = self.next;
+        // Noted without a look: a send that gets a number is new (RULES, Arrivals).
         self.tables
             .mark(Exits::both_ports(), Key { src: self.own, seq }, now);
         self.next = seq.wrapping_add(1);
@@ -136,6 +139,7 @@ impl<const C: usize> Danh<C> {
         }
         let now = self.moment.max(at);
         let seq = self.next;
+        // The count goes on, and the frame has room for 16 bits of it.
         let life = (self.counters.life % NUMBER_RANGE) as u16;
         self.tables
             .mark(Exits::both_ports(), Key { src: self.own, seq }, now);
@@ -157,8 +161,10 @@ impl<const C: usize> Danh<C> {
         }
         let now = self.moment.max(at);
         let seen = look_at(octets);
+        // A DANH has no interlink, so it has no stations.
         let wants = ring_wants(self.own, self.mode, None, port, &seen, now);
         let judged = self.tables.judge(wants, &seen, now);
+        // Heard whatever the verdict: a duplicate tells too that its ring port is reached (IEC 62439-3 clause 5.7).
         let readable = hear(&mut self.nodes, self.own, port, &seen, now);
         count(&mut self.counters, judged, readable);
         self.moment = now;
@@ -166,7 +172,7 @@ impl<const C: usize> Danh<C> {
         Ok(verdict_of(judged))
     }
 
-    /// Gives up the notes that are expired at a moment in microseconds. That changes no later answer.
+    /// Drops the notes that are expired at a moment in microseconds. That changes no later answer.
     pub fn age(&mut self, at: u64)
         ensures { self.new ≡ age_step self.old at }
     {

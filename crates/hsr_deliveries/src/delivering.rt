@@ -23,6 +23,7 @@ use std::marker::Model;
 #[derive(Drop)]
 struct Traces<'a, const C: usize> {
     closed: &'a Closed<C>,
+    // Made in one pass over the records: each send is then looked up, and not searched for.
     tallies: Vec<Tally<'a>>,
     losses: Losses<'a, C>,
 }
@@ -191,14 +192,16 @@ fn list_sends<const C: usize>(alloc: Global, closed: &Closed<C>) -> Result<Vec<D
     Ok(sends)
 }
 
-/// Who got each send of a finished run, by node and place: the nodes that it was due at, which of these missed it or took it
-/// up twice, which others took it up, and its losses. Modes, links and cuts don't matter to where a send is due. Where a ring
-/// delivered each frame exactly once (IEC 62439-3 clause 5.3), each send is complete. `NoMemory` where room is refused.
+/// Who got each send of a finished run, by node and place: the nodes that it was due at, which of these missed it or
+/// took it up twice, which others took it up, and its losses. Modes, links and cuts don't matter to where a send is
+/// due. Where a ring delivered each frame exactly once (IEC 62439-3 clause 5.3), each send is complete. `NoMemory` if
+/// allocation fails.
 pub fn deliveries<const C: usize>(alloc: Global, closed: &Closed<C>) -> Result<Deliveries, NoMemory>
     ensures value { IfOk result (λ d. d.sends.items ≡ deliveries closed.now.run) }
     ensures complete { IfOk result (λ d. (macs : List (List ℕ)) → IsRing closed.now.run macs
         → IsExactlyOnce closed.now.run macs → AllByRecursion IsComplete d.sends.items) }
 {
+    // A law: it does nothing when it runs, and gives `complete` its proof.
     once_is_complete();
     Ok(Deliveries {
         sends: list_sends(alloc, closed)?,

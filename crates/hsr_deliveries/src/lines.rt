@@ -50,6 +50,7 @@ fn put_nodes(text: &mut Vec<u8>, name: &[u8], nodes: &[usize]) -> Result<(), All
 {
     text.extend_from_slice(name)?;
     match nodes.split_first() {
+        // A word for none too, so that each line has as many words.
         None => text.extend_from_slice(b"-"),
         Some((node, others)) => {
             put_decimal(text, *node as u64)?;

@@ -104,7 +104,7 @@ impl<'a, const C: usize> Model for Losses<'a, C> {
 }
 
 impl<'a, const C: usize> Losses<'a, C> {
-    /// The losses of a run. `NoMemory` where room is refused.
+    /// The losses of a run. `NoMemory` if allocation fails.
     pub fn new(alloc: Global, closed: &'a Closed<C>) -> Result<Losses<'a, C>, NoMemory>
         ensures { IfOk result (λ losses. losses ≡ closed.now.run) }
     {
@@ -112,7 +112,7 @@ impl<'a, const C: usize> Losses<'a, C> {
         Ok(Losses { closed, by_send })
     }
 
-    /// Those of a send, by link and place on the link. `NoMemory` where room is refused.
+    /// Those of a send, by link and place on the link. `NoMemory` if allocation fails.
     pub fn of_send(&self, alloc: Global, send: Probe) -> Result<Vec<Loss>, NoMemory>
         ensures { IfOk result (λ losses. losses.items ≡ lost self.now send) }
     {

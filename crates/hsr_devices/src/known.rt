@@ -12,8 +12,8 @@ use hsr_table_demand::hear;
 use hsr_tables::{NodeRow, NodeTable, ProxyTable, ROW_LIMIT};
 use hsr_tag::look_at;
 
-/// What a node knows: the nodes of which it heard supervision frames on the ring, and of a RedBox the stations that it heard on its
-/// interlink, each with the moment in microseconds when it was heard last; the latest heard first.
+/// What a node knows: the nodes of which it heard supervision frames on the ring, and of a RedBox the stations that it
+/// heard on its interlink, each with the moment in microseconds when it was heard last; the latest heard first.
 #[derive(Clone, Debug, Drop)]
 pub struct Known {
     pub nodes: ArrayVec<NodeRow, ROW_LIMIT>,
@@ -51,6 +51,7 @@ pub fn known_by(place: &Place, entries: &[Entry]) -> Known
     ensures stations { result.stations.items ≡ stations_known place.now (reverse entries.now) }
 {
     let mut at = 0;
+    // Heard anew from the record: a closed run doesn't show what its nodes hold.
     let mut nodes = NodeTable::new();
     let mut stations = ProxyTable::new();
     for (i, entry) in entries.iter().enumerate() {

@@ -186,6 +186,7 @@ fn put_texts(text: &mut Vec<u8>, width: usize, texts: &[Vec<u8>]) -> Result<(), 
     ensures { OnOk result (text.new.items ≡ text.old.items
         ++ flat_map (right width) (lists_of texts.now)) }
 {
+    // A call of its own turns a clause over vectors into one over lists.
     put_each(text, width, texts)
 }
 
@@ -261,6 +262,7 @@ fn put_table(text: &mut Vec<u8>, entries: usize, needed: Needed) -> Result<(), N
 fn capacity<const C: usize>(closed: &Closed<C>) -> usize
     ensures { result ≡ closed.now.run.capacity }
 {
+    // Its contract says that the run's tables have `C` entries.
     let _topology = closed.topology();
     C
 }
@@ -458,7 +460,7 @@ fn all_needed<const C: usize>(alloc: Global, closed: &Closed<C>) -> Result<Vec<N
     Ok(needed)
 }
 
-/// Puts the lines of all devices last, where their tables needed so much.
+/// Puts the lines of all devices last, with how many entries the tables of each needed.
 fn put_devices<const C: usize>(
     alloc: Global,
     text: &mut Vec<u8>,
@@ -486,13 +488,13 @@ fn put_devices<const C: usize>(
     Ok(())
 }
 
-/// The devices of a finished run, node by node: what each is; where its ports lead, what came and left there with the node's own
-/// counters beside it, its octets, and what was lost on the way; how many entries its duplicate tables have, how many were needed, and by
-/// which entry of its record first; how many supervision frames it couldn't read, if there were any; the nodes and stations that it
-/// knows at the moment of its last entry, as its own tables have them; and the other DANHs and RedBoxes of which supervision never told
-/// it.
-/// A node without a name is `n` and its number. `NoMemory` where room is refused. What is counted at the ports of a node sums up to
-/// its counters, and what was taken up was passed too.
+/// The devices of a finished run, node by node: what each is; where its ports lead, what came and left there with the
+/// node's own counters beside it, its octets, and what was lost on the way; how many entries its duplicate tables have,
+/// how many were needed, and by which entry of its record first; how many supervision frames it couldn't read, if there
+/// were any; the nodes and stations that it knows at the moment of its last entry, as its own tables have them; and the
+/// other DANHs and RedBoxes of which supervision never told it. A node without a name is `n` and its number. `NoMemory`
+/// if allocation fails. What is counted at the ports of a node sums up to its counters, and what was taken up was
+/// passed too.
 pub fn devices<const C: usize>(
     alloc: Global,
     closed: &Closed<C>,
@@ -502,6 +504,7 @@ pub fn devices<const C: usize>(
         IsListing (lists_of names.now) closed.now.run text.items) }
     ensures sums { AreSums closed.now.run }
 {
+    // Its contract says that the run is finished, from which `sums` follows.
     let _topology = closed.topology();
     let needed = all_needed(alloc, closed)?;
     let mut text = Vec::new(alloc);

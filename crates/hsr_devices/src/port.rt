@@ -11,8 +11,8 @@ use hsr_frame::NoMemory;
 use hsr_link::{Dir, Fate, Row};
 use hsr_topology::End;
 
-/// The link of a port, counted from 0: the port at its other end, how many copies were lost on their way in and on their way out, and the
-/// octets of those that came and of all that were put there.
+/// The link of a port, counted from 0: the port at its other end, how many copies were lost on their way in and on
+/// their way out, and the octets of those that came and of all that were put there.
 #[derive(Clone, Copy, Debug, PartialEq, Eq)]
 pub struct PortLink {
     pub link: usize,
@@ -69,6 +69,7 @@ fn octets_taken(dir: Dir, row: &Row) -> u64
 fn octets_put(dir: Dir, row: &Row) -> u64
     ensures { result ≡ octets_put dir row.now }
 {
+    // Lost ones too: all that was put on the link is counted.
     if goes(dir, row) {
         row.carried.octets.as_slice().len() as u64
     } else {
@@ -141,7 +142,8 @@ fn port_link_at<const C: usize>(
     })
 }
 
-/// The link of a port, if it has one. `NoMemory` where its octets are more than 64 bits count, which fit into no memory, and only there.
+/// The link of a port, if it has one. `NoMemory` where its octets are more than 64 bits count, which fit into no
+/// memory, and only there.
 pub fn port_link<const C: usize>(closed: &Closed<C>, end: End) -> Result<Option<PortLink>, NoMemory>
     ensures ok { IfOk result (λ link. link ≡ port_link closed.now.run end) }
     ensures err { OnErr result (IsSomeAnd (port_link closed.now.run end) IsUncounted) }

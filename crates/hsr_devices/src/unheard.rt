@@ -71,6 +71,7 @@ fn any_tells(place: &Place, entries: &[Entry], mac: Mac) -> bool
 fn is_told_of(place: &Place, entries: &[Entry], mac: Mac) -> bool
     ensures { result ≡ is_told_of place.now (reverse entries.now) mac }
 {
+    // The definition reads the newest entry first; here the order doesn't matter.
     any_tells(place, entries, mac)
 }
 

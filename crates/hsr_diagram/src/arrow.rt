@@ -18,8 +18,8 @@ pub enum Look {
     Lost,
 }
 
-/// The way of a copy: its row, with its place in the order of time; the entry that passed it, with its time; and the entry that
-/// judged it, none where it was lost.
+/// The way of a copy: its row, with its place in the order of time; the entry that passed it, with its time; and the
+/// entry that judged it, none where it was lost.
 #[derive(Clone, Copy, Debug, PartialEq, Eq)]
 pub struct Arrow {
     pub row: Shown,

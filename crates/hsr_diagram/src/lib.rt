@@ -1,5 +1,5 @@
-//! What the diagram of a finished run shows: rings and rows of nodes side by side, an arrow for each copy that is wanted, and
-//! the sends.
+//! What the diagram of a finished run shows: rings and rows of nodes side by side, an arrow for each copy that is
+//! wanted, and the sends.
 //!
 //! Its modules, in the order in which to read them:
 //! - `panel`: lanes and panels

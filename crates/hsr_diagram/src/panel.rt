@@ -2,7 +2,8 @@
 use hsr_topology::End;
 use std::marker::Model;
 
-/// The space between two lines of nodes that stand side by side: the link that joins them, by its number, and its ends there.
+/// The space between two lines of nodes that stand side by side: the link that joins them, by its number, and its ends
+/// there.
 #[derive(Clone, Copy, Debug, PartialEq, Eq)]
 pub struct Lane {
     pub link: usize,
@@ -10,8 +11,8 @@ pub struct Lane {
     pub right: End,
 }
 
-/// Lines of nodes that stand side by side: the first node, and the lanes behind it. Each lane begins at the line where the one
-/// before it ends. A ring ends with its first node again.
+/// Lines of nodes that stand side by side: the first node, and the lanes behind it. Each lane begins at the line where
+/// the one before it ends. A ring ends with its first node again.
 #[derive(Debug, Drop)]
 pub struct Panel {
     pub first: usize,

@@ -37,6 +37,7 @@ fn row(
     let mut lanes = Vec::new(alloc);
     put(&mut lanes, free, first)?;
     let mut last = first;
+    // A loop with a bound has an end by its form. Its own end is never reached: each turn takes a free link.
     for _ in 0..u64::MAX {
         match free_behind(topology, free.as_slice(), last) {
             Some(next) => {
@@ -85,6 +86,7 @@ fn joined(alloc: Global, topology: &Topology) -> Result<Vec<Panel>, NoMemory>
 {
     let mut free = all_free(alloc, topology.links().len())?;
     let mut panels = Vec::new(alloc);
+    // A loop with a bound has an end by its form. Its own end is never reached: each turn takes a free link.
     for _ in 0..u64::MAX {
         let Some(link) = first_free(free.as_slice()) else {
             return Ok(panels);
@@ -134,8 +136,8 @@ fn put_lone(alloc: Global, topology: &Topology, panels: &mut Vec<Panel>) -> Resu
     Ok(())
 }
 
-/// The panels of a topology: rings, rows of nodes, and interlinks, each link once in one of them; a node on two rings stands in both
-/// their panels. Each node without a link has a panel of its own. `NoMemory` where room is refused.
+/// The panels of a topology: rings, rows of nodes, and interlinks, each link once in one of them; a node on two rings
+/// stands in both their panels. Each node without a link has a panel of its own. `NoMemory` if allocation fails.
 pub fn panels(alloc: Global, topology: &Topology) -> Result<Vec<Panel>, NoMemory>
     ensures { IfOk result (λ panels. ArePanels topology.now panels.items) }
 {

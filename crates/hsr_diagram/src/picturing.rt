@@ -21,8 +21,8 @@ use std::marker::Model;
 /// The most copies that a picture shows.
 pub const COPY_LIMIT: usize = 400;
 
-/// What a picture of a run shows: the panels of its nodes; an arrow for each row that is wanted, in the order of time; who got each
-/// send of the run; and which sends are listed beside.
+/// What a picture of a run shows: the panels of its nodes; an arrow for each row that is wanted, in the order of time;
+/// who got each send of the run; and which sends are listed beside.
 #[derive(Debug, Drop)]
 pub struct Picture {
     pub panels: Vec<Panel>,
@@ -48,9 +48,9 @@ pub enum PictureFault {
     Reversed,
     /// Entries follow one another in a circle.
     Circle,
-    /// So many copies are wanted, over `COPY_LIMIT`.
+    /// More copies are wanted than `COPY_LIMIT`: this number.
     TooMany { copies: usize },
-    /// Room was refused.
+    /// Allocation failed.
     NoMemory,
 }
 
@@ -130,11 +130,12 @@ fn picture_of<const C: usize>(
     })
 }
 
-/// What a picture of a finished run shows: of the rows whose moments are in the span, and whose copies are of one of these sends
-/// (without any, of all), each just once an arrow, from the entry that passed the copy to the entry that judged it, in the order
-/// of time; panels of the nodes; and the sends, of the span or those that are asked for, each with who got it. `NoSend` where the
-/// run hasn't one of these sends, `Reversed` where the span ends before it begins, `Circle` where its rows have no order of time,
-/// `TooMany` where over `COPY_LIMIT` are wanted. `NoMemory` where room is refused.
+/// What a picture of a finished run shows: of the rows whose moments are in the span, and whose copies are of one of
+/// these sends (without any, of all), each just once an arrow, from the entry that passed the copy to the entry that
+/// judged it, in the order of time; panels of the nodes; and the sends, of the span or those that are asked for, each
+/// with who got it. `NoSend` where the run hasn't one of these sends, `Reversed` where the span ends before it begins,
+/// `Circle` where its rows have no order of time, `TooMany` where over `COPY_LIMIT` are wanted. `NoMemory` if
+/// allocation fails.
 pub fn picture_run<const C: usize>(
     alloc: Global,
     closed: &Closed<C>,

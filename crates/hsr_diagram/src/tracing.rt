@@ -50,6 +50,7 @@ fn look_by(up: bool, cause: Cause) -> Look
     ensures { result ≡ look_by up cause }
 {
     match cause {
+        // First, since what is taken up may be sent on too.
         _ if up => Look::TakenUp,
         Cause::Passed => Look::SentOn,
         Cause::Duplicate => Look::Again,

@@ -71,12 +71,14 @@ fn beginning(topology: &Topology, lane: Lane) -> Lane
     requires { IsLaneOf topology.now.links lane }
     ensures { IsLaneOf topology.now.links result }
 {
+    // B has the number 1 and D 3.
     let lane = if lane.left.port % 2 == 1 {
         lane
     } else {
         turned(lane)
     };
     let mut at = turned(lane);
+    // To the left, by lanes that are looked at from the other side. No row has more lanes than there are links.
     for _ in topology.links() {
         match lane_behind(topology, at) {
             Some(next) if next.link == lane.link => return lane,
@@ -99,6 +101,7 @@ pub(crate) fn first_lane(topology: &Topology, free: &[bool], link: usize) -> Lan
     let first = beginning(topology, lane);
     match free.get(first.link) {
         Some(true) => first,
+        // Where the row begins with a link that isn't free, the panel begins with this one.
         _ => lane,
     }
 }

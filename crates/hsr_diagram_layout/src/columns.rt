@@ -24,8 +24,9 @@ pub(crate) struct Strip {
     pub right: u64,
 }
 
-/// The nodes of all lines from left to right, and where these stand; all lanes, and where these stand; how wide a lane is; and where the
-/// next line stands. A node has several lines, where it stands in several panels, or at both ends of one.
+/// The nodes of all lines from left to right, and where these stand; all lanes, and where these stand; how wide a lane
+/// is; and where the next line stands. A node has several lines, where it stands in several panels, or at both ends of
+/// one.
 #[derive(Drop)]
 pub(crate) struct Columns {
     pub nodes: Vec<usize>,
@@ -52,6 +53,7 @@ impl Columns {
         ensures lanes { OnOk result (self.new.lanes.items ≡ self.old.lanes.items ++ lane ∷ []) }
     {
         let left = self.next;
+        // Saturating, as all places: no contract speaks of them, so no proof bounds them.
         self.next = left.saturating_add(self.width);
         self.strips.push(Strip {
             node: lane.left.node,
@@ -93,8 +95,8 @@ impl Columns {
         }
     }
 
-    /// Where a text of a width stands beside the line that has a number: at its left, or at its right where it would reach beyond the first
-    /// line.
+    /// Where a text of a width stands beside the line that has a number: at its left, or at its right where it would
+    /// reach beyond the first line.
     pub(crate) fn beside(&self, number: usize, width: u64) -> (u64, Anchor) {
         let x = self.line_at(number);
         if width.saturating_add(BESIDE) < x.saturating_sub(self.line_at(0)) {
@@ -116,8 +118,8 @@ impl Columns {
         }
     }
 
-    /// The place of a link. Each link of a topology is a lane; one that isn't would stand behind all, so that its arrows are drawn all
-    /// the same.
+    /// The place of a link. Each link of a topology is a lane; one that isn't would stand behind all, so that its
+    /// arrows are drawn all the same.
     pub(crate) fn strip_of(&self, link: usize) -> Strip {
         let lane = self
             .lanes
@@ -130,8 +132,8 @@ impl Columns {
         }
     }
 
-    /// From where to where an arrow runs: from the line of the entry that passed the copy to that of the entry that judged it. The arrow of
-    /// a copy that was lost ends on its way.
+    /// From where to where an arrow runs: from the line of the entry that passed the copy to that of the entry that
+    /// judged it. The arrow of a copy that was lost ends on its way.
     pub(crate) fn run_of(&self, arrow: &Arrow) -> (u64, u64) {
         let strip = self.strip_of(arrow.row.link);
         let (from, to) = if is_of(arrow.passed, strip.node) {

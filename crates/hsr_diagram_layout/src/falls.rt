@@ -64,6 +64,7 @@ fn main_place<const C: usize>(
     if node >= closed.topology().places().len() || node >= next.len() {
         return None;
     }
+    // 0 is the main worker.
     let Some(place) = next_place(closed.entries(node), 0, next[node]) else {
         return None;
     };
@@ -142,14 +143,15 @@ fn row_behind(times: &Times, planned: &[Option<Time>], change: &Change) -> usize
     }
 }
 
-/// The first row at the moment of a cut, since what was planned before it, from which a copy was put that met the link down; or else one
-/// given.
+/// The first row at the moment of a cut, since what was planned before it, from which a copy was put that met the link
+/// down; or else one given.
 fn row_of_cut<const C: usize>(
     closed: &Closed<C>,
     grounds: &Grounds<'_>,
     change: &Change,
     row: usize,
 ) -> usize {
+    // A lost copy tells that the link was down before it. Of other copies at this moment neither text says what came first.
     let since = time_of(grounds.planned, change.planned.checked_sub(1));
     let mut row = row;
     for arrow in grounds.arrows {
@@ -337,6 +339,7 @@ pub(crate) fn falls_of<const C: usize>(
     moments: &[u64],
     shelves: &mut Shelves,
 ) -> Result<Falls, NoMemory> {
+    // Without a cut no node goes off either, so no times are needed.
     if told.downs.is_empty() {
         return Ok(Falls {
             falls: Vec::new(alloc),

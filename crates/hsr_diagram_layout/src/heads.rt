@@ -8,7 +8,8 @@ const TOP: u64 = 92;
 /// The least width of a lane over which names may run across.
 const ACROSS: u64 = 44;
 
-/// How heads are set: whether names and links run upwards, since lanes are too narrow, and where the first row stands below them.
+/// How heads are set: whether names and links run upwards, since lanes are too narrow, and where the first row stands
+/// below them.
 #[derive(Clone, Copy)]
 pub(crate) struct Heads {
     is_turned: bool,

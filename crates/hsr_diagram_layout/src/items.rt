@@ -50,6 +50,7 @@ fn sort(items: &mut Vec<Item>)
     ensures rise { IsSorted item_cmp items.new.items }
     ensures same { IsPermutation items.old.items items.new.items }
 {
+    // No two are equal, since their numbers differ.
     items.sort_unstable();
 }
 

@@ -16,8 +16,8 @@ use std::alloc::Global;
 
 // ---- arrows
 
-/// Where the label of an arrow begins or ends: beyond its point, so that the arrow is free. That of a lost copy belongs to the row from
-/// which it was sent.
+/// Where the label of an arrow begins or ends: beyond its point, so that the arrow is free. That of a lost copy belongs
+/// to the row from which it was sent.
 pub(crate) fn foot_of(times: &Times, columns: &Columns, arrow: &Arrow) -> Foot {
     let (from, to) = columns.run_of(arrow);
     let (x, anchor) = if from < to {

@@ -1,5 +1,5 @@
-//! The diagram of a finished run laid out on paper: each thing that hsr_diagram shows becomes an element of hsr_svg, in order,
-//! with its words and its look, and gets its place. No contract speaks of places.
+//! The diagram of a finished run laid out on paper: each thing that hsr_diagram shows becomes an element of hsr_svg, in
+//! order, with its words and its look, and gets its place. No contract speaks of places.
 //!
 //! Its modules, in the order in which to read them:
 //! - `widths`: how wide texts are

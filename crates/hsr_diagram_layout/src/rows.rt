@@ -15,7 +15,8 @@ pub(crate) struct Times {
 }
 
 impl Times {
-    /// The row of a time. Each time of a picture has one; what hasn't one would stand in the first, so that it is drawn all the same.
+    /// The row of a time. Each time of a picture has one; what hasn't one would stand in the first, so that it is drawn
+    /// all the same.
     pub(crate) fn row_of(&self, time: Option<Time>) -> usize {
         match time {
             Some(time) => self
@@ -102,7 +103,8 @@ pub(crate) fn times_of(alloc: Global, picture: &Picture) -> Result<Times, NoMemo
     Ok(Times { times })
 }
 
-/// Where each row stands; the least space between two; how far the cross of a lost copy stands below its row; and where the last stands.
+/// Where each row stands; the least space between two; how far the cross of a lost copy stands below its row; and where
+/// the last stands.
 #[derive(Drop)]
 pub(crate) struct Rows {
     pub times: Times,
@@ -114,7 +116,7 @@ pub(crate) struct Rows {
 }
 
 impl Rows {
-    /// The place over a row at which what stands before it ends, where labels take so much room between.
+    /// The place over a row at which what stands before it ends, where labels take this room between.
     pub(crate) fn over(&self, row: usize, room: u64) -> u64 {
         let least = if row > 0 && self.times.begins_moment(row) {
             self.space
@@ -143,7 +145,7 @@ impl Rows {
     }
 }
 
-/// The least space between two steps, for so many rows.
+/// The least space between two steps, where there are `count` rows: more rows stand closer.
 fn space_for(count: usize) -> u64 {
     match count {
         0..=160 => 15,
@@ -152,7 +154,8 @@ fn space_for(count: usize) -> u64 {
     }
 }
 
-/// The space before a row at a moment, where labels of the row before take so much room below it, and its own so much above it.
+/// The space before a row at a moment, where labels of the row before take the room `below` under it, and its own the
+/// room `above` over it.
 fn space_before(before: Option<u64>, moment: u64, space: u64, below: u64, above: u64) -> u64 {
     let labels = below.saturating_add(above);
     match before {

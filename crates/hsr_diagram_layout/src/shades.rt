@@ -169,6 +169,7 @@ fn has_seen(moments: &[u64], downs: &[Down]) -> bool
 fn down_words() -> &'static str
     ensures { result.now ≡ down_words }
 {
+    // In a function of its own: a long literal at the head of a text keeps search from the rest of it.
     "link down"
 }
 

@@ -1,5 +1,5 @@
-//! What stands beside the arrows of a picture, all places, and where its arrows run. No contract speaks of places: what is drawn
-//! doesn't depend on them.
+//! What stands beside the arrows of a picture, all places, and where its arrows run. No contract speaks of places: what
+//! is drawn doesn't depend on them.
 ghost use Rattle.std.specs.Prelude.{◌≡◌, IfOk};
 ghost use Rattle.hsr_diagram.specs.Panels.{lanes_in};
 ghost use Rattle.hsr_diagram_layout.specs.Frame.{nodes_of};
@@ -147,14 +147,15 @@ fn wide_lane(longest: Longest) -> u64 {
     LANE.max(by_name).max(by_label)
 }
 
-/// How wide each of so many lanes is, from a place on: so narrow that all have room in the width of a picture, if they have any.
+/// How wide each of `count` lanes is, from a place on: as narrow as it takes to have room for all in the width of a
+/// picture, if there are any.
 fn lane_width(longest: Longest, count: u64, left: u64) -> u64 {
     let wide = wide_lane(longest);
     let beside = list_beside(longest.label).saturating_add(longest.listed);
     let room = MOST
         .saturating_sub(left)
         .saturating_sub(beside.saturating_add(10));
-    // the last space is no lane: the list stands in it
+    // The last space is no lane: the list stands in it.
     match room.checked_div(count.saturating_sub(1)) {
         Some(part) => wide.min(part.max(NARROW)),
         None => wide,
@@ -208,6 +209,7 @@ pub(crate) fn sheet_of<const C: usize>(
     let columns = columns_of(alloc, panels, left, width)?;
     let heads = heads_of(width, longest.name);
     let moments = moments_of(alloc, picture)?;
+    // Labels come before rows: how much room a row takes depends on its shelves.
     let mut shelves = shelves_of(alloc, closed, names, picture, &times, &columns)?;
     let falls = falls_of(
         alloc,
@@ -258,7 +260,8 @@ pub(crate) const TAIL: u64 = 16;
 const THIN: u64 = 5;
 
 impl Sheet {
-    /// The time in which a link is down that has a number. Each has edges; one that hasn't would be drawn at the end all the same.
+    /// The time in which a link is down that has a number. Each has edges; one that hasn't would be drawn at the end
+    /// all the same.
     fn fall_at(&self, number: usize) -> Fall {
         match self.falls.falls.as_slice().get(number) {
             Some(fall) => *fall,
@@ -281,8 +284,8 @@ impl Sheet {
         }
     }
 
-    /// Where the shade of a link lies that is down between two rows. Where nothing that is planned comes between, it reaches a little
-    /// beyond the row, so that it can be seen.
+    /// Where the shade of a link lies that is down between two rows. Where nothing that is planned comes between, it
+    /// reaches a little beyond the row, so that it can be seen.
     pub(crate) fn shade_at(&self, number: usize, link: usize) -> Area {
         let fall = self.fall_at(number);
         let strip = self.columns.strip_of(link);
@@ -332,8 +335,8 @@ impl Sheet {
         self.spot_before(edge, x, Anchor::Start)
     }
 
-    /// Where the mark of a node stands, by the numbers of its switch and of its line. Each that is drawn has a place; one that hasn't would
-    /// be drawn at its line, below all.
+    /// Where the mark of a node stands, by the numbers of its switch and of its line. Each that is drawn has a place;
+    /// one that hasn't would be drawn at its line, below all.
     pub(crate) fn flag_at(&self, number: usize, line: usize) -> Spot {
         let flag = self
             .falls
@@ -363,8 +366,8 @@ impl Sheet {
         Marked { cut, end }
     }
 
-    /// Where an arrow runs: from the line and the row of the entry that passed the copy to those of the entry that judged it. The
-    /// arrow of a copy that was lost ends on its way.
+    /// Where an arrow runs: from the line and the row of the entry that passed the copy to those of the entry that
+    /// judged it. The arrow of a copy that was lost ends on its way.
     pub(crate) fn way_of(&self, arrow: &Arrow) -> Way {
         let (x1, x2) = self.columns.run_of(arrow);
         let y1 = self.rows.at_some(arrow.start);

@@ -66,7 +66,8 @@ impl Shelves {
         })
     }
 
-    /// Puts a label of a width on the first shelf that is free: the number of that shelf. Of so many labels, one takes a shelf at most.
+    /// Puts a label of a width on the first shelf that is free, and tells its number. With n labels there, one of n + 1
+    /// shelves is free.
     pub(crate) fn put(&mut self, foot: Foot, width: u64) -> Result<u64, NoMemory> {
         let (left, right) = span_of(foot, width);
         let mut label = Label {

@@ -75,6 +75,7 @@ fn add_above<const C: usize>(
     let deliveries = picture.deliveries.sends.as_slice();
     let has_one = sends.len() == 1;
     add_arrows(alloc, elements, names, closed, sheet, arrows)?;
+    // Labels come behind arrows, so that no arrow is drawn over one.
     begin_labels(elements)?;
     add_labels(alloc, elements, names, closed, sheet, has_one, arrows)?;
     add_marks(alloc, elements, names, sheet, deliveries, sends)?;
@@ -133,6 +134,7 @@ fn add_all<const C: usize>(
     let places = closed.topology().places();
     let moments = sheet.moments.as_slice();
     add_title(alloc, elements, closed, picture)?;
+    // Shades come first, so that all else is drawn over them.
     add_shades(elements, sheet, moments, downs)?;
     add_frame(alloc, elements, names, places, sheet)?;
     let ends = add_above(
@@ -167,11 +169,12 @@ fn add_scene<const C: usize>(
     )
 }
 
-/// A picture as SVG: panels side by side, moments and steps downwards, an arrow for each copy with a hover text, the sends at the
-/// right, a legend and the sends that aren't complete below; behind all a shade for each of the times in which links are down, and marks of
-/// their cuts and mends, and of nodes that go off or come on, as far as their moments are shown. A node without a name is `n` and its number. Each arrow of the picture is
-/// drawn once, in order, and so is all else that is shown; where it stands on the paper is no part of the contract. `NoMemory` where
-/// room is refused.
+/// A picture as SVG: panels side by side, moments and steps downwards, an arrow for each copy with a hover text, the
+/// sends at the right, a legend and the sends that aren't complete below; behind all a shade for each of the times in
+/// which links are down, and marks of their cuts and mends, and of nodes that go off or come on, as far as their
+/// moments are shown. A node without a name is `n` and its number. Each arrow of the picture is drawn once, in order,
+/// and so is all else that is shown; where it stands on the paper is no part of the contract. `NoMemory` if allocation
+/// fails.
 pub fn drawing<const C: usize>(
     alloc: Global,
     closed: &Closed<C>,

@@ -12,7 +12,8 @@ use hsr_frame::NoMemory;
 use hsr_svg::{Element, Label, Spot, add_text};
 use std::alloc::Global;
 
-/// Adds the mark of a node that goes off or comes on, if a line is of this node, and a picture of these moments shows the change.
+/// Adds the mark of a node that goes off or comes on, if a line is of this node, and a picture of these moments shows
+/// the change.
 fn add_switch_if(
     alloc: Global,
     elements: &mut Vec<Element>,

@@ -12,7 +12,7 @@ use hsr_node::Place;
 use hsr_timeline::put_name;
 use std::alloc::Global;
 
-/// The name of a node. `NoMemory` where room is refused.
+/// The name of a node. `NoMemory` if allocation fails.
 pub fn name_words(alloc: Global, names: &[Vec<u8>], node: usize) -> Result<Vec<u8>, NoMemory>
     ensures { IfOk result (λ words. words.items ≡ name_of (lists_of names.now) node) }
 {
@@ -43,7 +43,7 @@ pub fn letter_at(places: &[Place], node: usize, port: u8) -> u8
     }
 }
 
-/// A link, by its number. `NoMemory` where room is refused.
+/// A link, by its number. `NoMemory` if allocation fails.
 pub fn link_words(alloc: Global, link: usize) -> Result<Vec<u8>, NoMemory>
     ensures { IfOk result (λ words. words.items ≡ link_words link) }
 {
@@ -60,7 +60,7 @@ fn change_word(is_cut: bool) -> &'static str
     if is_cut { "cut" } else { "mend" }
 }
 
-/// That a link was cut or mended, and when. `NoMemory` where room is refused.
+/// That a link was cut or mended, and when. `NoMemory` if allocation fails.
 pub fn change_words(alloc: Global, is_cut: bool, moment: u64) -> Result<Vec<u8>, NoMemory>
     ensures { IfOk result (λ words. words.items ≡ change_words is_cut moment) }
 {
@@ -78,7 +78,7 @@ fn switch_word(is_off: bool) -> &'static str
     if is_off { "off" } else { "on" }
 }
 
-/// That a node went off or came on, and when. `NoMemory` where room is refused.
+/// That a node went off or came on, and when. `NoMemory` if allocation fails.
 pub fn switch_words(alloc: Global, is_off: bool, moment: u64) -> Result<Vec<u8>, NoMemory>
     ensures { IfOk result (λ words. words.items ≡ switch_words is_off moment) }
 {
@@ -89,7 +89,7 @@ pub fn switch_words(alloc: Global, is_off: bool, moment: u64) -> Result<Vec<u8>,
     Ok(words)
 }
 
-/// A moment in microseconds, in s, ms or us. `NoMemory` where room is refused.
+/// A moment in microseconds, in s, ms or us. `NoMemory` if allocation fails.
 pub fn moment_words(alloc: Global, moment: u64) -> Result<Vec<u8>, NoMemory>
     ensures { IfOk result (λ words. words.items ≡ moment_text moment) }
 {

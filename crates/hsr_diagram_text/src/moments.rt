@@ -18,13 +18,14 @@ fn put_digits(text: &mut Vec<u8>, n: u64) -> Result<(), NoMemory>
     requires { n < 1000 }
     ensures { OnOk result (text.new.items ≡ text.old.items ++ digits_of n) }
 {
+    // Leading zeros too: these are digits of a fraction.
     text.push(digit(n / 100))?;
     text.push(digit(n / 10 % 10))?;
     text.push(digit(n % 10))?;
     Ok(())
 }
 
-/// Puts what is left of a unit last: so many thousandths, if there are any.
+/// Puts what is left of a unit last, in thousandths, if there is any.
 fn put_thousandths(text: &mut Vec<u8>, n: u64) -> Result<(), NoMemory>
     requires { n < 1000 }
     ensures { OnOk result (text.new.items ≡ text.old.items ++ thousandths n) }
@@ -36,11 +37,12 @@ fn put_thousandths(text: &mut Vec<u8>, n: u64) -> Result<(), NoMemory>
     put_digits(text, n)
 }
 
-/// Puts what is left of a unit last: so many millionths, if there are any.
+/// Puts what is left of a unit last, in millionths, if there is any.
 fn put_millionths(text: &mut Vec<u8>, n: u64) -> Result<(), NoMemory>
     requires { n < 1000000 }
     ensures { OnOk result (text.new.items ≡ text.old.items ++ millionths n) }
 {
+    // So a fraction ends with no three zeros.
     if n % 1000 == 0 {
         return put_thousandths(text, n / 1000);
     }

@@ -37,7 +37,7 @@ pub(crate) fn put_send(text: &mut Vec<u8>, names: &[Vec<u8>], send: Probe) -> Re
     put_number(text, send.place as u64)
 }
 
-/// A send, by the name of its node and its place. `NoMemory` where room is refused.
+/// A send, by the name of its node and its place. `NoMemory` if allocation fails.
 pub fn send_words(alloc: Global, names: &[Vec<u8>], send: Probe) -> Result<Vec<u8>, NoMemory>
     ensures { IfOk result (λ words. words.items ≡ send_text (lists_of names.now) send) }
 {

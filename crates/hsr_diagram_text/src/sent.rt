@@ -51,6 +51,7 @@ fn put_address(
     ensures { OnOk result (text.new.items ≡ text.old.items
         ++ address_words (lists_of names.now) dst due.now) }
 {
+    // An address that no node has can only be shown as it is.
     if dst.is_group() || due.is_empty() {
         put(text, " to ")?;
         put_mac(alloc, text, dst)?;
@@ -89,7 +90,7 @@ fn put_completeness(text: &mut Vec<u8>, is_complete: bool) -> Result<(), NoMemor
     }
 }
 
-/// A send as it is listed: who sent it, to whom, and whether it is complete. `NoMemory` where room is refused.
+/// A send as it is listed: who sent it, to whom, and whether it is complete. `NoMemory` if allocation fails.
 #[tactic(auto, unfolding(crate::specs::Sent::sent_words))]
 pub fn sent_words<const C: usize>(
     alloc: Global,

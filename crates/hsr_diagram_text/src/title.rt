@@ -60,7 +60,7 @@ fn put_shown(
     Ok(())
 }
 
-/// The title of a picture: how large the run is, and how much of it is shown. `NoMemory` where room is refused.
+/// The title of a picture: how large the run is, and how much of it is shown. `NoMemory` if allocation fails.
 pub fn title_words<const C: usize>(
     alloc: Global,
     closed: &Closed<C>,

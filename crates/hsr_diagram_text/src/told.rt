@@ -67,8 +67,8 @@ fn put_at(text: &mut Vec<u8>, names: &[Vec<u8>], delivery: &Delivery) -> Result<
     put_moment(text, delivery.at)
 }
 
-/// A send that isn't complete: its moment, which nodes missed it, took it up twice, or took it up though it wasn't due there, and where
-/// copies of it were lost. `NoMemory` where room is refused.
+/// A send that isn't complete: its moment, which nodes missed it, took it up twice, or took it up though it wasn't due
+/// there, and where copies of it were lost. `NoMemory` if allocation fails.
 #[tactic(auto, unfolding(crate::specs::Told::told_words))]
 pub fn told_words(
     alloc: Global,
@@ -96,7 +96,7 @@ pub fn told_words(
     Ok(words)
 }
 
-/// How many more sends aren't complete. `NoMemory` where room is refused.
+/// How many more sends aren't complete. `NoMemory` if allocation fails.
 #[tactic(auto, unfolding(crate::specs::Told::more_words))]
 pub fn more_words(alloc: Global, count: usize) -> Result<Vec<u8>, NoMemory>
     ensures { IfOk result (λ words. words.items ≡ more_words count) }

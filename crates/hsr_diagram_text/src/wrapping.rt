@@ -6,6 +6,7 @@ ghost use Rattle.hsr_diagram_text.specs.Wrapped.{wrapped};
 use hsr_frame::NoMemory;
 use std::alloc::Global;
 
+// In letters and not in places: no contract speaks of how wide letters are.
 /// How many letters a line has before it may end.
 const LONG: usize = 96;
 
@@ -25,8 +26,8 @@ fn push_letter(line: &mut Vec<u8>, letter: u8) -> Result<(), NoMemory>
     Ok(())
 }
 
-/// The lines of a text. Each ends at the first space behind 96 letters, which is left out, or with the text. `NoMemory` where room is
-/// refused.
+/// The lines of a text. Each ends at the first space behind 96 letters, which is left out, or with the text. `NoMemory`
+/// if allocation fails.
 pub fn wrapped(alloc: Global, words: &[u8]) -> Result<Vec<Vec<u8>>, NoMemory>
     ensures { IfOk result (λ lines. lists_of lines.items ≡ wrapped words.now) }
 {
@@ -35,6 +36,7 @@ pub fn wrapped(alloc: Global, words: &[u8]) -> Result<Vec<Vec<u8>>, NoMemory>
     let mut rest = words;
     while let Some((letter, more)) = rest.split_first() {
         if *letter == b' ' && line.len() >= LONG {
+            // A copy, so that `line` keeps its room for the next one.
             push_line(alloc, &mut lines, line.as_slice())?;
             line.clear();
         } else {

@@ -7,8 +7,8 @@ use hsr_frame::NoMemory;
 use hsr_scenario::Order;
 use std::alloc::Global;
 
-/// The time in which a link is down: from the step that cuts it to the next one that mends it, or cuts it once more; without one to the
-/// end of the run.
+/// The time in which a link is down: from the step that cuts it to the next one that mends it, or cuts it once more;
+/// without one to the end of the run.
 #[derive(Clone, Copy, Debug, PartialEq, Eq)]
 pub struct Down {
     pub cut: Change,
@@ -53,8 +53,8 @@ fn downs_in(alloc: Global, changes: &[Change]) -> Result<Vec<Down>, NoMemory>
     Ok(list)
 }
 
-/// The times in which the steps of a scenario have links down, each from a cut to the next change of its link, in the order of the cuts.
-/// `NoMemory` where room is refused.
+/// The times in which the steps of a scenario have links down, each from a cut to the next change of its link, in the
+/// order of the cuts. `NoMemory` if allocation fails.
 pub fn downs(alloc: Global, orders: &[Order]) -> Result<Vec<Down>, NoMemory>
     ensures { IfOk result (λ list. list.items ≡ downs orders.now) }
 {

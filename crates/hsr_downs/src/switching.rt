@@ -8,8 +8,8 @@ use hsr_scenario::Order;
 use hsr_topology::End;
 use std::alloc::Global;
 
-/// A change with which a node goes off, since the last of its links goes down that was up; or with which it comes on, since one of its
-/// links is up again.
+/// A change with which a node goes off, since the last of its links goes down that was up; or with which it comes on,
+/// since one of its links is up again.
 #[derive(Clone, Copy, Debug, PartialEq, Eq)]
 pub struct Switch {
     pub node: usize,
@@ -21,6 +21,7 @@ pub struct Switch {
 fn is_down(link: usize, changes: &[Change]) -> bool
     ensures { result ≡ is_down link changes.now }
 {
+    // Looked up among all changes before: who draws bounds their number.
     let mut is_down = false;
     let mut rest = changes;
     while let Some((change, more)) = rest.split_first() {
@@ -52,7 +53,8 @@ fn has_up(node: usize, changes: &[Change], links: &[[End; 2]]) -> bool
     false
 }
 
-/// Puts the switch of a node last, if it had a link that was up before a change and has none behind it, or the other way round.
+/// Puts the switch of a node last, if it had a link that was up before a change and has none behind it, or the other
+/// way round.
 fn push_if(
     list: &mut Vec<Switch>,
     node: usize,
@@ -159,9 +161,9 @@ fn switches_in(
     Ok(list)
 }
 
-/// With which changes that the steps of a scenario make nodes of these links go off and come on, in the order of the changes: a node goes
-/// off with the one behind which none of its links is up, where one was up before; and comes on with the one behind which one is up again.
-/// `NoMemory` where room is refused.
+/// With which changes that the steps of a scenario make nodes of these links go off and come on, in the order of the
+/// changes: a node goes off with the one behind which none of its links is up, where one was up before; and comes on
+/// with the one behind which one is up again. `NoMemory` if allocation fails.
 pub fn switches(
     alloc: Global,
     links: &[[End; 2]],

@@ -28,6 +28,7 @@ impl TableSize {
         ensures again { (table : TableSize) → table_of (table_word table) ≡ Some table }
         ensures exact { IfSome result (λ table. word.now ≡ table_word table) }
     {
+        // Both sides of `==` have one type, so an octet literal is compared as a slice.
         if word == b"small".as_slice() {
             Some(TableSize::Small)
         } else if word == b"large".as_slice() {

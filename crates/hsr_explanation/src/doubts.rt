@@ -217,8 +217,8 @@ fn of_doubt<const C: usize>(
     }
 }
 
-/// What was found of a run: nothing more where it is certified; of a doubt what it means, whom it is about, by these names, and what to
-/// do. `NoMemory` where room is refused.
+/// What was found of a run: nothing more where it is certified; of a doubt what it means, whom it is about, by these
+/// names, and what to do. `NoMemory` if allocation fails.
 pub fn explain_finding<const C: usize>(
     alloc: Global,
     closed: &Closed<C>,

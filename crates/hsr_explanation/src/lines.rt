@@ -41,13 +41,14 @@ fn put_line(text: &mut Vec<u8>, words: &[u8]) -> Result<(), NoMemory>
     ensures { OnOk result (text.new.items ≡ text.old.items ++ line_of words.now) }
 {
     text.extend_from_slice(b"explain: ")?;
+    // Names and keys come from a text, and a terminal is to obey nothing that stands there.
     put_shown(text, words)?;
     text.extend_from_slice(b"\n")?;
     Ok(())
 }
 
-/// Puts lines last, each as `explain: ` and its words, with a question mark in place of each control octet. `NoMemory` where room is
-/// refused.
+/// Puts lines last, each as `explain: ` and its words, with a question mark in place of each control octet. `NoMemory`
+/// if allocation fails.
 #[tactic(auto, using(crate::proofs::Listing::lines_step))]
 pub fn put_explanation(text: &mut Vec<u8>, lines: &[Vec<u8>]) -> Result<(), NoMemory>
     ensures { OnOk result (text.new.items ≡ text.old.items ++ lines_of (lists_of lines.now)) }

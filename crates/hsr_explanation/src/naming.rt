@@ -9,8 +9,9 @@ use hsr_toml::put;
 use hsr_topology::End;
 use std::alloc::Global;
 
-/// The names of the nodes of a scenario; none where octets are no scenario, or room is refused.
+/// The names of the nodes of a scenario; none where octets are no scenario, or if allocation fails.
 pub fn names_in(alloc: Global, octets: &[u8]) -> Vec<Vec<u8>> {
+    // Without names an explanation still has numbers.
     let Ok(text) = str::from_utf8(octets) else {
         return Vec::new(alloc);
     };
@@ -30,6 +31,7 @@ pub(crate) fn put_number(line: &mut Vec<u8>, word: &str, number: usize) -> Resul
 /// Puts a node last, by its number, and by its name where it has one.
 pub(crate) fn put_node(line: &mut Vec<u8>, names: &[Vec<u8>], node: usize) -> Result<(), NoMemory> {
     put_number(line, "node ", node)?;
+    // Without a name `put_name` would put the number once more.
     if names.get(node).is_some() {
         put(line, " (")?;
         put_name(line, names, node)?;

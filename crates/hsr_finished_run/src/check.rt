@@ -56,7 +56,9 @@ fn unsettled_in<const C: usize>(
     ensures { IfOk result (λ r. MatchOption r (IsSettledRun C topology.now kept.now rows.now) (λ d.
         IsFirstOfAll C topology.now kept.now rows.now d)) }
 {
+    // It does nothing when it runs: its contract tells the proof that records are legal.
     are_legal(kept);
+    // What is looked at first is named first (RULES, Finished runs).
     if let Some((link, dir)) = first_other(alloc, Passage::Put, topology, kept, rows)? {
         return Ok(Some(Disagree::LinkPut { link, dir }));
     }
@@ -163,6 +165,7 @@ pub(crate) fn fault_of<const C: usize>(
     ensures refused { IfSome result (λ fault. IfDisagree fault (λ d.
         ¬ Agrees C topology.now kept.now rows.now passes.now plan.now)) }
 {
+    // What it answers isn't used: its contract says that links are wired as a topology's.
     let _ = topology.places();
     match disagreement(alloc, topology, kept, rows, passes, plan) {
         Err(NoMemory) => Some(CheckFault::NoMemory),
@@ -188,6 +191,7 @@ pub(crate) fn fault_of_records<const C: usize>(
     ensures open { IfSome result (λ fault.
         IfDisagree fault (IsOpenOf C topology.now kept.now rows.now plan.now)) }
 {
+    // As above: its contract says that links are wired as a topology's.
     let _ = topology.places();
     match disagreement_of(alloc, topology, kept, rows, plan) {
         Err(NoMemory) => Some(CheckFault::NoMemory),

@@ -19,8 +19,8 @@ use std::marker::Model;
 
 /// A finished run: its nodes with their records, its links with their rows, and its plan. Each outcome is what the past
 /// of its node answers, links and records agree, each copy is of a send, nothing was injected and nothing waits.
-/// Duplicate tables have `C` entries each; there is a closed run only where `C` is from 1 to 65535, so that a table has fewer
-/// entries than there are sequence numbers (IEC 62439-3 clause 5).
+/// Duplicate tables have `C` entries each; there is a closed run only where `C` is from 1 to 65535, so that a table has
+/// fewer entries than there are sequence numbers (IEC 62439-3 clause 5).
 #[derive(Drop)]
 pub struct Closed<const C: usize> {
     topology: Topology,
@@ -52,9 +52,9 @@ impl<const C: usize> Closed<C> {
     ghost use Rattle.hsr_finished_run.specs.Finished.{run_of};
     ghost use Rattle.hsr_finished_run.specs.OfRecords.{IsClosedOf, IsOpenOf};
 
-    /// The run of these parts, if they agree: if `C` is from 1 to 65535, records, rows and receipts tell the same, and nothing
-    /// is under way. Else the parts come back as they were, with the first cause, which is there exactly where they don't
-    /// agree; or with `NoMemory` where room for the check was refused. For any other `C` the cause is `Shape`.
+    /// The run of these parts, if they agree: if `C` is from 1 to 65535, records, rows and receipts tell the same, and
+    /// nothing is under way. Else the parts come back as they were, with the first cause, which is there exactly where
+    /// they don't agree; or with `NoMemory` if allocation fails. For any other `C` the cause is `Shape`.
     #[tactic(auto, using(crate::proofs::Agreed::calm, crate::proofs::Agreed::refused))]
     pub fn check(
         alloc: Global,
@@ -100,6 +100,7 @@ impl<const C: usize> Closed<C> {
                 },
                 fault,
             )),
+            // The passes were compared, and are dropped: what stays is the run and its plan.
             None => Ok(Closed {
                 topology,
                 kept,
@@ -109,10 +110,10 @@ impl<const C: usize> Closed<C> {
         }
     }
 
-    /// The run of these records, if `C` is from 1 to 65535 and they agree with the passes that they and the plan tell. Else the
-    /// records come back as they were, with the first cause, which is there exactly where they don't agree; or with `NoMemory`
-    /// where room for the check was refused. For any other `C` the cause is `Shape`. The passes aren't made: all but the main
-    /// worker's are right as they are told.
+    /// The run of these records, if `C` is from 1 to 65535 and they agree with the passes that they and the plan tell.
+    /// Else the records come back as they were, with the first cause, which is there exactly where they don't agree; or
+    /// with `NoMemory` if allocation fails. For any other `C` the cause is `Shape`. The passes aren't made: all but the
+    /// main worker's are right as they are told.
     pub fn of_records(
         alloc: Global,
         records: Records<C>,

@@ -7,8 +7,8 @@ use hsr_link::Dir;
 /// The first thing in which the parts of a run don't agree, in the order in which they are looked at.
 #[derive(Clone, Copy, Debug, PartialEq, Eq)]
 pub enum Disagree {
-    /// Duplicate tables have no entries or over 65535, or records or rows aren't the topology's by their number or places, or
-    /// something came by a port without a link.
+    /// Duplicate tables have no entries or over 65535, or records or rows aren't the topology's by their number or
+    /// places, or something came by a port without a link.
     Shape,
     /// What was put on a link in a direction isn't what the node at the one end passed there.
     LinkPut { link: usize, dir: Dir },
@@ -27,7 +27,7 @@ pub enum Disagree {
 pub enum CheckFault {
     /// Its parts don't agree.
     Disagree(Disagree),
-    /// Room for the check was refused.
+    /// Allocation failed in the check.
     NoMemory,
 }
 

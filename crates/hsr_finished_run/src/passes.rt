@@ -78,6 +78,7 @@ fn add_other(
         ≡ receipts_of w passes.old.items ++ other_in w node place entry.now) }
 {
     let worker = entry.worker;
+    // The main worker's receipts stand in the order of the plan, and were put before.
     if worker == 0 {
         return Ok(());
     }
@@ -185,10 +186,10 @@ fn main_pass<const C: usize>(
     Ok(pass)
 }
 
-/// Passes that are right for these records and this plan, where for each node the records tell of the main worker what is
-/// planned, in order. In any case pass w is worker w's, up to the highest worker that has an entry: of the main worker, number 0,
-/// the next entry of each node that the plan names, up to the first that has none left, and of all others their entries, in node
-/// and place order. `NoMemory` where room is refused.
+/// Passes that are right for these records and this plan, where for each node the records tell of the main worker what
+/// is planned, in order. In any case pass w is worker w's, up to the highest worker that has an entry: of the main
+/// worker, number 0, the next entry of each node that the plan names, up to the first that has none left, and of all
+/// others their entries, in node and place order. `NoMemory` if allocation fails.
 #[tactic(auto, using(crate::proofs::Receiving::has_receipts, crate::proofs::Receiving::by_plan, crate::proofs::Receiving::of_other))]
 pub fn passes_of<const C: usize>(
     alloc: Global,

@@ -40,6 +40,7 @@ fn first_reached(alloc: Global, most: u16) -> Result<Vec<Reached>, NoMemory>
     ensures start { IfOk result (λ all. AllByRecursion IsStart all.items) }
 {
     let mut all = Vec::new(alloc);
+    // 32 bits, since `most` may be the last number of 16.
     for worker in 0..u32::from(most) + 1 {
         add_reached(alloc, &mut all)?;
     }
@@ -59,6 +60,7 @@ fn follow<const C: usize>(
         → Follows turns.now passes worker rest reached.new) }
 {
     let comes = come_next(turns, worker, &mut reached.next, receipts)?;
+    // A worker that was wrong once stays so.
     reached.is_right &= comes;
     Ok(())
 }
@@ -110,6 +112,7 @@ fn mark_entry(all: &mut Vec<Reached>, node: usize, place: usize, entry: &Entry)
         → place < next node) all.old.items all.new.items }
 {
     let reached = &mut all[usize::from(entry.worker)];
+    // An entry behind the last receipt of its worker is left over.
     reached.is_right = reached.is_right && place < reached.next.at(node);
 }
 
@@ -160,6 +163,7 @@ pub(crate) fn first_lost(all: &[Reached]) -> Option<u16>
 {
     for (worker, reached) in all.iter().enumerate() {
         if !reached.is_right {
+            // It fits: there are 65536 workers at most.
             return Some(worker as u16);
         }
     }

@@ -28,6 +28,7 @@ fn comes_next<const C: usize>(
         return Ok(false);
     }
     let record = &turns.kept()[node];
+    // The place is there: `is_next` was asked first.
     if !receipt.entry.is_same(&record.entries()[place]) {
         return Ok(false);
     }

@@ -14,9 +14,10 @@ use hsr_run_index::Ends;
 use hsr_topology::{End, Topology, is_same_place};
 
 /// The most entries that a duplicate table has.
+// One less than there are sequence numbers.
 const TABLE_LIMIT: usize = 65535;
 
-/// Whether a duplicate table may have so many entries.
+/// Whether a duplicate table may have this number of entries.
 fn is_table_size(entries: usize) -> bool
     ensures { IsTrue result ↔ IsTableSize entries }
 {
@@ -97,6 +98,7 @@ pub(crate) fn are_legal<const C: usize>(kept: &[Kept<C>])
     ensures { AreLegal C kept.now (length kept.now) }
 {
     for (node, record) in kept.iter().enumerate() {
+        // What it answers isn't used: its contract says that the record is legal.
         let _ = record.entries();
     }
 }

@@ -18,6 +18,7 @@ fn given_to<const C: usize>(ends: &Ends<'_>, numbers: &Numbers<'_, C>, send: Pro
     ensures { result ≡ given_to ends.now numbers.now send }
 {
     let node = send.node;
+    // 0 is a Station's one port. Other nodes number their sends themselves.
     let end = ends.peer(End { node, port: 0 })?;
     numbers.given(end.node, send)
 }

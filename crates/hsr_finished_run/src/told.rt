@@ -34,6 +34,7 @@ fn tells_next<const C: usize>(kept: &[Kept<C>], next: &mut Vec<usize>, planned: 
         return false;
     }
     let entries = kept[node].entries();
+    // 0 is the main worker.
     let Some(place) = next_place(entries, 0, next[node]) else {
         return false;
     };

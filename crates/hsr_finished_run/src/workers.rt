@@ -95,6 +95,7 @@ fn after_pass<'a>(pass: &Pass, plan: &'a [Planned]) -> Option<&'a [Planned]>
         → ⊥) (λ left. (rest : List Planned) → (rest ≡ left.now)
         ↔ (done_in pass.now ++ rest ≡ plan.now)) }
 {
+    // The plan is the main worker's alone.
     if pass.worker() == 0 {
         after_receipts(pass.receipts(), plan)
     } else {
@@ -128,6 +129,7 @@ pub(crate) fn first_wrong<const C: usize>(
         IsFirstWrong kept.now passes.now plan.now worker)) }
 {
     if !is_plan(passes, plan) {
+        // The plan is the main worker's, and its number is the lowest.
         return Ok(Some(0));
     }
     let reached = reached_by(alloc, kept, passes, most_worker(kept, passes))?;

@@ -36,6 +36,7 @@ pub fn hear(
     ensures { (result, nodes.new) ≡ heard_of own nodes.old port seen.now now }
 {
     let Ok(seen) = seen else {
+        // What is no frame has no payload that could be unreadable.
         return true;
     };
     match &seen.frame {

@@ -31,6 +31,7 @@ impl<const C: usize> TableSlot<C> {
         requires { (1 ≤ C) × (C ≤ 65535) }
         ensures { IfOk result (λ slot. slot ≡ empty_slot is_there) }
     {
+        // An egress that isn't there takes no memory: a DANH has three of the five.
         if !is_there {
             return Ok(TableSlot { table: None });
         }
@@ -64,11 +65,12 @@ impl<const C: usize> TableSlot<C> {
     {
         match &mut self.table {
             Some(table) => table.pass(wanted, key, now),
+            // Never wanted: what is wanted is among the egresses that are there.
             None => false,
         }
     }
 
-    /// Gives up what is expired.
+    /// Drops what is expired.
     pub(crate) fn age(&mut self, now: u64)
         requires { self.old.table.last ≤ now }
         ensures { self.new ≡ record self.old { table = age_if self.old.there self.old.table now } }

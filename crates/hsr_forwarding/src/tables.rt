@@ -14,6 +14,7 @@ use std::marker::Model;
 /// that the node doesn't have has no table. Moments are in microseconds.
 #[derive(Drop)]
 pub struct EgressTables<const C: usize> {
+    // One for each egress, so that a frame passes each of them once, whatever it passed elsewhere.
     up: TableSlot<C>,
     a: TableSlot<C>,
     b: TableSlot<C>,
@@ -33,7 +34,7 @@ impl<const C: usize> EgressTables<C> {
     ghost use Rattle.std.specs.Prelude.{Result};
     ghost use Rattle.hsr_forwarding.specs.Tables.{AreEarlier, AreRoomy, after_passes, aged, among, judged, no_notes, passes_of};
 
-    /// Tables that hold nothing, for these egresses. `NoMemory` where room for them is refused.
+    /// Tables that hold nothing, for these egresses. `NoMemory` if allocation fails.
     pub fn new(alloc: Global, egresses: Exits) -> Result<Self, NoMemory>
         requires { (1 ≤ C) × (C ≤ 65535) }
         ensures { IfOk result (λ tables. tables ≡ no_notes egresses) }
@@ -91,12 +92,13 @@ impl<const C: usize> EgressTables<C> {
     {
         let passes = match key_in(seen) {
             Some(key) => self.pass(wants.exits, key, now),
+            // What has no number is wanted nowhere at a port of a ring, so nothing passes here.
             None => wants.exits,
         };
         Judged::new(wants, passes)
     }
 
-    /// Gives up what is expired.
+    /// Drops what is expired.
     pub fn age(&mut self, now: u64)
         requires { AreEarlier self.old now }
         ensures { self.new ≡ aged self.old now }

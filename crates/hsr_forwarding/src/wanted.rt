@@ -83,6 +83,7 @@ pub fn ring_wants(
     match &seen.frame {
         EitherView::Plain(_) => Wants::nowhere(Cause::Untagged),
         EitherView::Tagged(frame) => {
+            // Mode N takes the ring ports away at the end, so all other cases are those of mode H.
             in_mode(mode, tagged_wants(own, mode, stations, x, frame, now))
         }
     }
@@ -104,6 +105,7 @@ fn tagged_wants(
     let on = beyond(x);
     let delivered_on = onward(mode, x);
     let interlink = stations.is_some();
+    // The sender comes first: a frame ends its way round the ring here, whomever it is to (RULES, Arrivals).
     if frame.src == own {
         return Wants::nowhere(Cause::Returned);
     }
@@ -113,6 +115,7 @@ fn tagged_wants(
             ..delivered_on
         });
     }
+    // Before other groups, since supervision isn't let out by an interlink.
     if is_supervision(frame.dst, frame.kind) {
         return Wants::to(Exits { up: true, ..on });
     }
@@ -123,6 +126,7 @@ fn tagged_wants(
             ..on
         });
     }
+    // A known station is behind the interlink alone, so in mode H the frame goes no further.
     if is_behind(stations, frame.dst, now) {
         return Wants::to(Exits {
             c: true,

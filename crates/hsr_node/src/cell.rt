@@ -50,6 +50,7 @@ impl<const C: usize> NodeCell<C> {
         ensures answered { IsAnsweredByRecord C at event result }
         ensures refused { IfErr result (λ e. (pass.new ≡ pass.old) × (e.0 ≡ event)) }
     {
+        // Room and copy come before the lock, so that it is held for the node's step alone.
         if pass.receipts.reserve(1).is_err() {
             return Err((event, StepFault::NoMemory));
         }
@@ -58,6 +59,7 @@ impl<const C: usize> NodeCell<C> {
         };
         let receipt = step_legal(&mut self.kept.lock(rt), pass.worker, at, event)?;
         let again = receipt_again(&receipt, copy);
+        // Room was made above, so this push isn't refused.
         let Ok(()) = pass.receipts.push(again) else {
             unreachable!()
         };
@@ -70,6 +72,7 @@ impl<const C: usize> NodeCell<C> {
         ensures { IsLegal C (owner_of result) (past_of result) }
     {
         let kept = self.kept.into_inner();
+        // What it answers isn't used: its contract says that the record is legal.
         let _legal = kept.entries();
         kept
     }
@@ -95,6 +98,7 @@ fn step_legal<const C: usize>(
     ensures answered { IsAnsweredByRecord C at event result }
     ensures refused { IfErr result (λ e. (kept.new ≡ kept.old) × (e.0 ≡ event)) }
 {
+    // As above: its contract says that the record is legal.
     let _legal = kept.entries();
     kept.step(worker, at, event)
 }

@@ -81,6 +81,7 @@ pub(crate) fn apply_danh<const C: usize>(
             kind,
             payload,
         } => {
+            // `from` chooses among a Station's addresses; a DANH has one.
             if *from == 0 {
                 send(danh, at, *dst, *vlan, *kind, payload.as_slice())
             } else {
@@ -88,6 +89,7 @@ pub(crate) fn apply_danh<const C: usize>(
             }
         }
         Event::Supervise(About::Own) => supervise(danh, at),
+        // Not even with its own address: a DANH speaks for itself without a name (RULES, Stations, and what leaves by a port).
         Event::Supervise(About::Proxied(_)) => Err(StepFault::WrongEvent),
         Event::Arrive { port, carried } => {
             arrive(danh, at, ring_port(*port), carried.octets.as_slice())

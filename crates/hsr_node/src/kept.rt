@@ -46,7 +46,7 @@ impl<const C: usize> Kept<C> {
     ghost use Rattle.hsr_node.specs.Record.{IsLegal};
 
     /// A node of this number at this place that has done nothing. No group has the address of a DANH or RedBox.
-    /// `NoMemory` where room for its tables is refused.
+    /// `NoMemory` if allocation fails.
     pub fn new(alloc: Global, number: usize, place: Place) -> Result<Kept<C>, NoMemory>
         requires station { HasOwnAddress place }
         requires entries { (1 ≤ C) × (C ≤ 65535) }
@@ -84,6 +84,7 @@ impl<const C: usize> Kept<C> {
             (λ e. (e.1 ≡ NoRoom) ⊎ (answer_to C self.old at event ≡ Err e.1)) }
         ensures refused { IfErr result (λ e. (self.new ≡ self.old) × (e.0 ≡ event)) }
     {
+        // Room first: after the node's step nothing may fail.
         if self.entries.reserve(1).is_err() {
             return Err((event, StepFault::NoMemory));
         }
@@ -92,6 +93,7 @@ impl<const C: usize> Kept<C> {
             Err(fault) => return Err((event, fault)),
         };
         let place = self.entries.len();
+        // Room was made above, so this push isn't refused.
         let Ok(()) = self.entries.push(Entry {
             worker,
             at,
@@ -125,6 +127,7 @@ impl<const C: usize> Kept<C> {
         ensures answered { IsAnswered C self.old at event result }
         ensures refused { IfErr result (λ e. (self.new ≡ self.old) × (e.0 ≡ event)) }
     {
+        // Before the step, so that a copy that is refused leaves the node as it was.
         let Ok(copy) = event.copy() else {
             return Err((event, StepFault::NoMemory));
         };

@@ -28,8 +28,8 @@ impl<const C: usize> Node<C> {
     ghost use Rattle.hsr_node.specs.Place.{HasOwnAddress};
     ghost use Rattle.hsr_node.specs.Step.{counters_of, new_node, node_step};
 
-    /// A node at this place that has done nothing. No group has the address of a DANH or RedBox. `NoMemory` where room
-    /// for its tables is refused.
+    /// A node at this place that has done nothing. No group has the address of a DANH or RedBox. `NoMemory` if
+    /// allocation fails.
     pub fn new(alloc: Global, place: &Place) -> Result<Self, NoMemory>
         requires station { HasOwnAddress place.now }
         requires entries { (1 ≤ C) × (C ≤ 65535) }

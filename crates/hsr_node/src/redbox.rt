@@ -95,6 +95,7 @@ pub(crate) fn apply_redbox<const C: usize>(
             kind,
             payload,
         } => {
+            // `from` chooses among a Station's addresses; a RedBox has one of its own.
             if *from == 0 {
                 send(redbox, at, *dst, *vlan, *kind, payload.as_slice())
             } else {

@@ -34,6 +34,7 @@ impl Role {
         ensures value { result ≡ role_of word.now }
         ensures again { (role : Role) → role_of (role_word role) ≡ Some role }
     {
+        // Both sides of `==` have one type, so an octet literal is compared as a slice.
         if word == b"danh".as_slice() {
             Some(Role::Danh)
         } else if word == b"redbox".as_slice() {

@@ -132,6 +132,7 @@ pub fn life_frame(own: Option<Mac>, about: About, life: u16) -> Option<FrameView
         Mac::supervision(),
         None,
         ETHERTYPE_SUPERVISION,
+        // The payload is short and is made here, so the view holds it itself.
         Payload::here(said),
     )
 }

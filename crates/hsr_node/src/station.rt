@@ -50,8 +50,8 @@ impl Station {
     }
 
     /// Sends a plain frame from the address at a place among its own. `WrongEvent` where none stands there; else it
-    /// refuses as every node does: a frame to its source, a reserved type, steps spent, a payload over `MAX_PAYLOAD` octets. A
-    /// refusal changes nothing.
+    /// refuses as every node does: a frame to its source, a reserved type, steps spent, a payload over `MAX_PAYLOAD`
+    /// octets. A refusal changes nothing.
     #[tactic(auto, unfolding(crate::specs::Station::after_send))]
     fn send(
         &mut self,
@@ -63,6 +63,7 @@ impl Station {
     ) -> Result<Outcome, StepFault>
         ensures { (result, self.new) ≡ after_send self.old at from dst kind len }
     {
+        // An event that doesn't fit comes before all other reasons (RULES, Stations, and what leaves by a port).
         let Some(src) = self.macs.as_slice().get(usize::from(from)) else {
             return Err(StepFault::WrongEvent);
         };
@@ -88,6 +89,7 @@ impl Station {
         }
         let cause = cause_of(self.macs.as_slice(), &look_at(octets));
         let up = cause == Cause::Passed;
+        // No copies: a Station passes nothing on.
         self.counters.count(cause, up, 0);
         self.moment = self.moment.max(at);
         self.accepted += 1;
@@ -103,6 +105,7 @@ impl Station {
     fn age(&mut self, at: u64)
         ensures { self.new ≡ after_age self.old at }
     {
+        // A Station remembers nothing that it could drop.
         self.moment = self.moment.max(at);
     }
 
@@ -148,6 +151,7 @@ fn copied_addresses(macs: &[Mac]) -> ArrayVec<Mac, 16>
     ensures { result.items ≡ macs.now }
 {
     let mut out = ArrayVec::new();
+    // Not refused: there are 16 at most.
     out.try_extend_from_slice(macs).unwrap();
     out
 }

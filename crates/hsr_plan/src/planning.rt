@@ -1,4 +1,4 @@
-//! The whole program, over words, a reader and two writers.
+//! The whole program, over arguments, a reader and two writers.
 ghost use Rattle.std.specs.Prelude.{◌≡◌, ◌++◌, IfOk, IfSome, OnOk, codes, map};
 ghost use Rattle.std.specs.Io.KnownBytes.{Appends};
 ghost use Rattle.hsr_duptable.specs.Sizes.{capacity_of};
@@ -12,10 +12,10 @@ use hsr_plan_sweep::sweep_run;
 use std::alloc::Global;
 use std::io::{self, Read, Write};
 
-/// The status where words are refused.
+/// The status where arguments are refused.
 const USAGE: u8 = 3;
 
-/// Writes the scenario of a plan, for a run with such tables.
+/// Writes the scenario of a plan, for a run with tables of this size.
 fn planned<R: Read, W: Write, E: Write>(
     alloc: Global,
     table: TableSize,
@@ -28,6 +28,7 @@ fn planned<R: Read, W: Write, E: Write>(
         (E.contents errors.old) (E.contents errors.new) ending)) }
 {
     match table {
+        // The size of a table is a constant of its type, so each choice is a call of its own.
         TableSize::Small => plan_run::<_, _, _, 4>(alloc, reader, writer, errors),
         TableSize::Large => plan_run::<_, _, _, 512>(alloc, reader, writer, errors),
     }
@@ -116,10 +117,10 @@ fn answer<R: Read, W: Write, E: Write>(
     }
 }
 
-/// Does what the words after the program's name choose, over a text that is read, standard output and standard error, and gives the
-/// status of the process: 0 where the scenario or the lines of a sweep were written, or a scenario is right; 1 after a fault, whose lines
-/// are then on standard error, and nothing was written; 3 where the words are refused, by a text on standard error. The error of
-/// `errors`, where a line can't be written there.
+/// Does what the arguments after the program's name choose, over a text that is read, standard output and standard
+/// error, and gives the status of the process: 0 where the scenario or the lines of a sweep were written, or a scenario
+/// is right; 1 after a fault, whose lines are then on standard error, and nothing was written; 3 where the arguments
+/// are refused, by a text on standard error. The error of `errors`, where a line can't be written there.
 pub fn plan<'a, R: Read, W: Write, E: Write>(
     alloc: Global,
     words: &'a [&'a str],

@@ -138,6 +138,7 @@ fn word_in(source: Source<'_>, spot: Spot, start: usize, what: &What) -> Option<
 
 /// Where the word of a fault stands, or else its table.
 fn place_of(source: Source<'_>, fault: &PlanFault) -> usize {
+    // Searched for in the text again: the reading proves which fault is first, and doesn't keep where its word stands.
     let start = start_of(source, fault.spot);
     match word_in(source, fault.spot, start, &fault.what) {
         Some(at) => at,
@@ -216,6 +217,7 @@ fn put_bad_name(line: &mut Vec<u8>, key: Key, word: &Word) -> Result<(), NoMemor
 /// Whether a word stands at the top of a scenario, and not of a plan.
 fn is_of_scenario(spot: Spot, word: &Word) -> bool {
     let word = word.as_bytes();
+    // Both sides of `==` have one type, so an octet literal is compared as a slice.
     matches!(spot, Spot::Top)
         && (word == b"node".as_slice() || word == b"link".as_slice() || word == b"step".as_slice())
 }
@@ -276,7 +278,7 @@ fn put_fault(
     put_what(line, fault.spot, &fault.what)
 }
 
-/// Puts why the nodes and links of a plan are no topology last, and where that is.
+/// Puts last why the nodes and links of a plan do not form a valid topology, and where that is.
 fn put_topology(alloc: Global, line: &mut Vec<u8>, text: &str) -> Result<(), NoMemory> {
     let bare = bare(alloc, text.as_bytes())?;
     let source = Source {
@@ -289,14 +291,15 @@ fn put_topology(alloc: Global, line: &mut Vec<u8>, text: &str) -> Result<(), NoM
             put_place(line, source.text, reason.at)?;
             put(line, reason.words)
         }
-        // it was read before
+        // Want of memory: that it is TOML was found before.
         Err(_) => Err(NoMemory),
     }
 }
 
-/// The line of a fault of a text, as `fault: plan 12:5 unknown word evry_us: a stream has from, to, ..`, without a line feed. Line and
-/// column are those of the word that the fault is about, in its own table, outside of comments and of other strings; of a missing word,
-/// those of its table; and of a text that is no TOML those at which that shows. `NoMemory` where room is refused.
+/// The line of a fault of a text, as `fault: plan 12:5 unknown word evry_us: a stream has from, to, ..`, without a line
+/// feed. Line and column are those of the word that the fault is about, in its own table, outside of comments and of
+/// other strings; of a missing word, those of its table; and of a text that is no TOML those at which that shows.
+/// `NoMemory` if allocation fails.
 pub fn told(alloc: Global, text: &str, fault: &PlanFault) -> Result<Vec<u8>, NoMemory>
     ensures { IfOk result (λ v. IsLine v.items) }
 {

@@ -11,8 +11,8 @@ use hsr_report::{Finding, found};
 use hsr_table_demand::needed;
 use std::alloc::Global;
 
-/// How many sends a run had; how many of these are complete, were missed by a node that they were due at, and were taken up twice;
-/// how many entries the duplicate tables needed; and what the audit of networks found.
+/// How many sends a run had; how many of these are complete, were missed by a node that they were due at, and were
+/// taken up twice; how many entries the duplicate tables needed; and what the audit of networks found.
 #[derive(Clone, Copy, Debug, PartialEq, Eq)]
 pub struct Count {
     pub sends: usize,

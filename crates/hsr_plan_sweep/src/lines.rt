@@ -164,7 +164,7 @@ fn put_nodes(text: &mut Vec<u8>, nodes: &[Node], counts: &[Count]) -> Result<(),
     Ok(())
 }
 
-/// The most entries that one of these runs needed, and so many at least.
+/// The most entries that one of these runs needed, or `least`, if that is more.
 #[tactic(auto, using(crate::proofs::Listing::most_step))]
 fn most_needed(counts: &[Count], least: usize) -> usize
     ensures { result ≡ most_needed counts.now least }

@@ -31,6 +31,7 @@ impl Progress {
             return;
         }
         if let Ok(line) = line(alloc, done, self.runs) {
+            // A failed write changes nothing: what is swept is the same.
             let _written = errors.write_all(line.as_slice()).is_ok() && errors.flush().is_ok();
         }
     }
@@ -41,6 +42,7 @@ pub(crate) fn clear<E: Write>(is_shown: bool, errors: &mut E)
     ensures { is_shown ≡ false → E.contents errors.new ≡ E.contents errors.old }
 {
     if is_shown {
+        // The same: a failed write changes nothing.
         let _written = errors.write_all(b"\r\x1b[K").is_ok() && errors.flush().is_ok();
     }
 }

@@ -25,7 +25,7 @@ pub enum Trouble {
     Plan(PlanTrouble),
     /// What it means leads to no finished run.
     Run(Unfinished),
-    /// Room was refused.
+    /// Allocation failed.
     Memory,
 }
 
@@ -46,10 +46,11 @@ fn count_of_meaning(alloc: Global, meaning: &Meaning) -> Result<Count, Trouble>
     ensures count { IfOk result (λ count. IsCountOfMeaning meaning.now count) }
     ensures none { IfErr result (λ trouble. IsKnown trouble → HasNoRun meaning.now) }
 {
-    // no plan that is read has another capacity
+    // Not met: no plan that is read has another capacity.
     if meaning.capacity < 1 || meaning.capacity > CAPACITY_LIMIT {
         return Err(Trouble::Memory);
     }
+    // A copy, since the run takes the topology.
     let Ok(topology) = meaning.topology.copy() else {
         return Err(Trouble::Memory);
     };
@@ -90,6 +91,7 @@ pub(crate) fn count_with(
         return Err(Trouble::Memory);
     }
     let count = count_of(alloc, plan);
+    // The event goes again, so that a variant needs no copy of the plan.
     let _event = plan.events.pop();
     count
 }

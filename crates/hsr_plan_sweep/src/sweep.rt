@@ -14,8 +14,8 @@ use std::alloc::Global;
 use std::io::Write;
 use std::marker::Model;
 
-/// The nodes and the topology of a plan, and what is counted of it: where each link is off, where each node is off, by their numbers,
-/// and undisturbed.
+/// The nodes and the topology of a plan, and what is counted of it: where each link is off, where each node is off, by
+/// their numbers, and undisturbed.
 #[derive(Debug, Drop)]
 pub struct Sweep {
     pub wired: Wired,
@@ -126,10 +126,11 @@ fn without_nodes<E: Write>(
     Ok(counts)
 }
 
-/// What is counted of a plan, where each link of its topology is cut, and each of its nodes goes off, one by one, by one more event at
-/// the end of its own. The plan's own events may still mend such a link, or set such a node on again. The plan stays as it is. Where
-/// that is asked for, `errors` is told how far it is, in one line that is written again and again. `Plan` and `Run` come only where
-/// nothing is counted of the plan itself, or of one of these: it means nothing, or what it means leads to no finished run.
+/// What is counted of a plan, where each link of its topology is cut, and each of its nodes goes off, one by one, by
+/// one more event at the end of its own. The plan's own events may still mend such a link, or set such a node on again.
+/// The plan stays as it is. Where that is asked for, `errors` is told how far it is, in one line that is written again
+/// and again. `Plan` and `Run` come only where nothing is counted of the plan itself, or of one of these: it means
+/// nothing, or what it means leads to no finished run.
 pub fn sweep_plan<E: Write>(
     alloc: Global,
     plan: &mut Plan,
@@ -141,6 +142,7 @@ pub fn sweep_plan<E: Write>(
     ensures none { IfErr result (λ trouble. IsKnown trouble → IsUnswept plan.old at) }
     ensures hidden { is_shown ≡ false → E.contents errors.new ≡ E.contents errors.old }
 {
+    // Counted first: a plan that means nothing is refused here, and behind that `wire` fails for memory alone.
     let undisturbed = count_of(alloc, plan)?;
     let Ok(wired) = wire(alloc, &plan.outline.network) else {
         return Err(Trouble::Memory);

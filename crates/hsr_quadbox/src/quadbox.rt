@@ -48,11 +48,12 @@ impl<const C: usize> QuadBox<C> {
     ghost use Rattle.hsr_quadbox.specs.Machine.{new_machine};
     ghost use Rattle.hsr_quadbox.specs.Step.{arrive_step, age_step};
 
-    /// A QuadBox to which nothing came yet; `NoMemory` where room for its tables is refused.
+    /// A QuadBox to which nothing came yet; `NoMemory` if allocation fails.
     pub fn new(alloc: Global) -> Result<Self, NoMemory>
         requires { (1 ≤ C) × (C ≤ 65535) }
         ensures { IfOk result (λ quad. quad ≡ new_machine) }
     {
+        // Nothing goes up: a QuadBox has no address, and takes no frame for itself.
         let egresses = Exits {
             c: true,
             d: true,
@@ -80,13 +81,14 @@ impl<const C: usize> QuadBox<C> {
         let seen = look_at(octets);
         let wants = arrival_wants(port, &seen);
         let judged = self.tables.judge(wants, &seen, now);
+        // A QuadBox hears no supervision, so nothing was unreadable.
         count(&mut self.counters, judged, true);
         self.moment = now;
         self.accepted += 1;
         Ok(verdict_of(judged))
     }
 
-    /// Gives up what is expired at a moment in microseconds. That changes no later answer.
+    /// Drops what is expired at a moment in microseconds. That changes no later answer.
     pub fn age(&mut self, at: u64)
         ensures { self.new ≡ age_step self.old at }
     {

@@ -29,6 +29,7 @@ pub(crate) fn passes_on(
     match place {
         Place::Danh { mac, mode } => node != sender && !(keeps_own(*mode) && *mac == frame.dst),
         Place::RedBox { mac, mode } => {
+            // Port 2 is the interlink: what came from there to the box's own address it keeps in mode U too.
             node != sender && !((keeps_own(*mode) || port == 2) && *mac == frame.dst)
         }
         Place::QuadBox => true,
@@ -42,6 +43,7 @@ pub(crate) fn lets_out(frame: &FrameView<'_>, place: &Place, port: u8) -> bool
 {
     match place {
         Place::RedBox { .. } => {
+            // An interlink lets out only frames to groups, and no supervision (RULES, Networks).
             port != 2 || (frame.dst.is_group() && !is_supervision(frame.dst, frame.kind))
         }
         Place::Danh { .. } | Place::QuadBox | Place::Station { .. } => true,

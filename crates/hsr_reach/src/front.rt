@@ -30,6 +30,7 @@ impl Front {
         ensures { IsPut is_one number self.old.found self.old.waiting self.new.found
             self.new.waiting }
     {
+        // What was found before doesn't wait once more, so each way is gone on from once.
         if is_one && !self.found.has(number) {
             self.found.put(number, true);
             self.waiting.put(number, true);

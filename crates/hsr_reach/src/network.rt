@@ -20,8 +20,8 @@ fn goes_round(mode: Mode) -> bool
     }
 }
 
-/// Whether a node is a DANH or a RedBox in mode H or U, in which frames go round a ring (IEC 62439-3 clause 5.3.2), a QuadBox or a
-/// Station.
+/// Whether a node is a DANH or a RedBox in mode H or U, in which frames go round a ring (IEC 62439-3 clause 5.3.2), a
+/// QuadBox or a Station.
 pub fn is_in_h_or_u(place: &Place) -> bool
     ensures { result ≡ is_in_h_or_u place.now }
 {
@@ -51,8 +51,9 @@ pub fn have_own_addresses<const C: usize>(closed: &Closed<C>) -> bool
     are_own(closed.topology().places())
 }
 
-/// The lowest link of a finished run that joins a port on a ring and an edge, which is a Station's port or an interlink. Where there is
-/// none, nodes in modes H and U with addresses that are theirs alone are a network (IEC 62439-3 clause 5).
+/// The lowest link of a finished run that joins a port on a ring and an edge, which is a Station's port or an
+/// interlink. Where there is none, nodes in modes H and U with addresses that are theirs alone are a network (IEC
+/// 62439-3 clause 5).
 pub fn first_unlike_link<const C: usize>(closed: &Closed<C>) -> Option<usize>
     ensures { MatchOption result (AreGoingRound closed.now.run → HaveOwnAddresses closed.now.run
         → IsNetwork closed.now.run) (IsFirstUnlike closed.now.run) }

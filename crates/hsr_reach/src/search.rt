@@ -38,6 +38,7 @@ fn put_if(set: &mut Numbers, is_one: bool, number: usize)
 #[derive(Drop)]
 pub struct Ways<'a, const C: usize> {
     closed: &'a Closed<C>,
+    // Made once for a run, so that each step of a search looks at one node's ways.
     starting: Vec<Vec<Way>>,
 }
 
@@ -55,7 +56,7 @@ impl<'a, const C: usize> Model for Ways<'a, C> {
 }
 
 impl<'a, const C: usize> Ways<'a, C> {
-    /// The ways of a finished run. `NoMemory` where room is refused.
+    /// The ways of a finished run. `NoMemory` if allocation fails.
     pub fn new(alloc: Global, closed: &'a Closed<C>) -> Result<Ways<'a, C>, NoMemory>
         ensures { IfOk result (λ ways. ways ≡ closed.now.run) }
     {
@@ -147,6 +148,7 @@ impl<'a, const C: usize> Ways<'a, C> {
         ensures value { result ≡ number_of way }
         ensures few { result < 512 }
     {
+        // What it answers isn't used: its contract says that the run is finished, so it has 128 links at most.
         let _ = self.closed.topology();
         way.number()
     }
@@ -188,6 +190,7 @@ impl<'a, const C: usize> Ways<'a, C> {
         ensures ways { result.now ≡ ways_from node 0 self.now.links }
         ensures few { length self.now.links ≤ 128 }
     {
+        // As above: a finished run has 128 links at most.
         let _ = self.closed.topology();
         self.starting[node].as_slice()
     }
@@ -214,8 +217,8 @@ impl<'a, const C: usize> Ways<'a, C> {
         }
     }
 
-    /// The ways to whose ends a send comes, by their numbers, where these are the ways on which a copy of it was lost. Each is
-    /// gone on from once.
+    /// The ways to whose ends a send comes, by their numbers, where these are the ways on which a copy of it was lost.
+    /// Each is gone on from once.
     fn search(&self, send: Probe, frame: &FrameView<'_>, lost: &Numbers) -> Numbers
         requires send { send.node < length self.now.places }
         requires lost { IsLossOf self.now send lost.now }
@@ -223,6 +226,7 @@ impl<'a, const C: usize> Ways<'a, C> {
     {
         let mut front = Front::new();
         self.spread(&mut front, send, frame, lost, &None);
+        // The lowest number goes first. What is found doesn't depend on the order.
         while let Some(number) = front.next() {
             self.spread(&mut front, send, frame, lost, &Some(Way::at(number)));
         }
@@ -250,6 +254,7 @@ impl<'a, const C: usize> Ways<'a, C> {
         ensures { (k : ℕ) → k < length self.now.places → (has result k ≡ true)
             ↔ IsReached self.now send frame.now k }
     {
+        // A law: it does nothing when it runs, and tells the proof that what is found is what is reached.
         search_decides();
         self.ends(&self.search(send, frame, lost))
     }

@@ -6,8 +6,8 @@ ghost use Rattle.hsr_reach.specs.Addressed.{AreLike, IsUnlike, is_edge_at};
 use hsr_node::Place;
 use hsr_topology::End;
 
-/// Whether a port is an edge: whether frames carry no tag there, since it is a Station's, or the interlink of a RedBox. The other ports
-/// are on rings.
+/// Whether a port is an edge: whether frames carry no tag there, since it is a Station's, or the interlink of a RedBox.
+/// The other ports are on rings.
 pub fn is_edge(place: &Place, port: u8) -> bool
     ensures { result ≡ is_edge place.now port }
 {

@@ -38,7 +38,7 @@ fn ways_from(alloc: Global, links: &[[End; 2]], node: usize) -> Result<Vec<Way>,
     Ok(ways)
 }
 
-/// The ways that start at each of so many nodes.
+/// The ways that start at each node, for this number of nodes.
 pub(crate) fn starting_in(
     alloc: Global,
     nodes: usize,

@@ -62,7 +62,7 @@ impl<const C: usize> RedBox<C> {
     ghost use Rattle.hsr_redbox.specs.Step.{after_frame, after_interlink, after_ring, age_step, arrive_step, life_step, now_at, send_step};
     ghost use Rattle.hsr_redbox.specs.Wanted.{egresses};
 
-    /// A node that has done nothing. No group has its address. `NoMemory` where room for its tables is refused.
+    /// A node that has done nothing. No group has its address. `NoMemory` if allocation fails.
     pub fn new(alloc: Global, own: Mac, mode: Mode) -> Result<Self, NoMemory>
         requires station { ¬ IsGroup own }
         requires entries { (1 ≤ C) × (C ≤ 65535) }
@@ -117,6 +117,7 @@ impl<const C: usize> RedBox<C> {
             b: exits.b,
             interlink: exits.c,
         };
+        // A copy, which `leave` puts in place together with the note, the number and the moment.
         let counters = Counters {
             sent: self.counters.sent + 1,
             ..self.counters
@@ -194,15 +195,18 @@ impl<const C: usize> RedBox<C> {
         requires later { self.old.moment ≤ now }
         ensures { (result, self.new) ≡ after_interlink C self.old now seen.now }
     {
+        // Heard before anything is decided (RULES, RedBoxes and QuadBoxes).
         learn(&mut self.proxies, self.own, seen, now);
         self.moment = now;
         let handling = interlink_handling(self.own, &self.proxies, seen, now);
         let exits = handling.wants.exits;
         let seq = number_of(handling.source, self.next);
+        // No table is asked: what the interlink gives and an egress wants passes.
         let judged = Judged::new(handling.wants, exits);
         let mut counters = self.counters;
+        // Supervision is heard on the ring alone, so nothing was unreadable here.
         count(&mut counters, judged, true);
-        // noted on the interlink too, so that no copy that comes back is given back
+        // Noted on the interlink too, so that a copy that comes round the ring isn't given back there.
         self.leave(Exits { c: true, ..exits }, handling.source, counters, now);
         verdict_of(judged, seq)
     }
@@ -222,7 +226,7 @@ impl<const C: usize> RedBox<C> {
         self.accepted += 1;
     }
 
-    /// Gives up the notes that are expired at a moment in microseconds. That changes no later answer.
+    /// Drops the notes that are expired at a moment in microseconds. That changes no later answer.
     pub fn age(&mut self, at: u64)
         ensures { self.new ≡ age_step self.old at }
     {
@@ -294,6 +298,7 @@ fn life_fault(proxies: &ProxyTable, accepted: u64, about: About, now: u64) -> Op
     ensures fault { result ≡ life_refusal (is_known now proxies.now.heard) accepted about }
     ensures room { IfNone result (accepted < step_limit) }
 {
+    // An address that isn't known is refused before any other reason (RULES, RedBoxes and QuadBoxes).
     if !speaks_for(proxies, about, now) {
         Some(LifeFault::NotProxied)
     } else if accepted == STEP_LIMIT {

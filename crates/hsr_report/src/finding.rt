@@ -13,7 +13,7 @@ use hsr_options::Scope;
 use std::alloc::{AllocError, Global};
 use std::io::Write;
 
-/// What an audit of a run found: so many sends that are certified, or the first doubt.
+/// What an audit of a run found: how many sends are certified, or the first doubt.
 #[derive(Clone, Copy, Debug, PartialEq, Eq)]
 pub enum Finding {
     Certified(usize),
@@ -42,7 +42,7 @@ fn found_of_network<const C: usize>(alloc: Global, closed: &Closed<C>) -> Result
     }
 }
 
-/// What the chosen audit of a run finds. `NoMemory` where room is refused.
+/// What the chosen audit of a run finds. `NoMemory` if allocation fails.
 pub fn found<const C: usize>(
     alloc: Global,
     closed: &Closed<C>,
@@ -60,13 +60,15 @@ pub fn found<const C: usize>(
 fn put_doubt(text: &mut Vec<u8>, doubt: Doubt) -> Result<(), AllocError>
     ensures { OnOk result (text.new.items ≡ text.old.items ++ codes "doubt " ++ doubt_text doubt) }
 {
+    // A list of octets refuses a write for memory alone.
     match write!(text, "doubt {doubt}") {
         Ok(()) => Ok(()),
         Err(_) => Err(AllocError),
     }
 }
 
-/// Puts the last line of a report.
+/// Puts the last line of a report: how many sends are certified, or the doubt. `AllocError` if allocation fails; a
+/// front of the line may stand there then.
 pub fn put_finding(text: &mut Vec<u8>, finding: Finding) -> Result<(), AllocError>
     ensures { OnOk result (text.new.items ≡ text.old.items ++ finding_line finding) }
 {

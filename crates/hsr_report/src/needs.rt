@@ -6,7 +6,7 @@ use hsr_audit::Needed;
 use hsr_node_text::put_count;
 use std::alloc::AllocError;
 
-/// Puts where so many entries were needed first, if any were.
+/// Puts where the most entries were needed first, if any were.
 fn put_met(text: &mut Vec<u8>, at: Option<(usize, usize)>) -> Result<(), AllocError>
     ensures { OnOk result (text.new.items ≡ text.old.items ++ met_text at) }
 {

@@ -1,4 +1,5 @@
-//! What the report of a network tells before its last line: which ports on rings have no link, and which sends no node is for.
+//! What the report of a network tells before its last line: which ports on rings have no link, and which sends no node
+//! is for.
 ghost use Rattle.std.specs.Prelude.{◌≡◌, ◌<◌, ◌++◌, length, OnOk};
 ghost use Rattle.std.specs.List.{flat_map};
 ghost use Rattle.hsr_deliveries.specs.Delivered.{deliveries};
@@ -147,6 +148,7 @@ pub fn put_network<const C: usize>(
     ensures { OnOk result (text.new.items ≡ text.old.items ++ network_lines scope closed.now.run) }
 {
     match scope {
+        // Without `--network` a report has the agreed lines alone.
         Scope::Ring => Ok(()),
         Scope::Network => {
             put_all_unlinked(text, closed)?;

@@ -37,7 +37,8 @@ fn lost_of(rows: &[Row]) -> usize
     rows.iter().filter(|row| row.fate.is_lost()).count()
 }
 
-/// Puts the line of a link: its number, and how many copies were put on it, taken and lost.
+/// Puts the line of a link: its number, and how many copies were put on it, taken and lost. `AllocError` if allocation
+/// fails; a front of the line may stand there then.
 #[tactic(auto, unfolding(crate::specs::Report::link_line))]
 pub fn put_link(text: &mut Vec<u8>, link: usize, rows: &[Row]) -> Result<(), AllocError>
     ensures { OnOk result (text.new.items ≡ text.old.items ++ link_line link rows.now) }
@@ -49,7 +50,8 @@ pub fn put_link(text: &mut Vec<u8>, link: usize, rows: &[Row]) -> Result<(), All
     text.extend_from_slice(b"\n")
 }
 
-/// Puts the line of a node: its number, its role, and how often each thing happened there.
+/// Puts the line of a node: its number, its role, and how often each thing happened there. `AllocError` if allocation
+/// fails; a front of the line may stand there then.
 #[tactic(auto, unfolding(crate::specs::Report::node_text))]
 pub fn put_node(
     text: &mut Vec<u8>,
@@ -67,7 +69,8 @@ pub fn put_node(
     put_counters(text, counters)
 }
 
-/// Puts the line of the bench: how many entries a table has, and how many nodes and links there are.
+/// Puts the line of the bench: how many entries a table has, and how many nodes and links there are. `AllocError` if
+/// allocation fails; a front of the line may stand there then.
 #[tactic(auto, unfolding(crate::specs::Report::head_text))]
 pub fn put_head(
     text: &mut Vec<u8>,
@@ -137,9 +140,9 @@ fn report_with<const C: usize>(
     Ok(text)
 }
 
-/// The report of a finished run of which the chosen audit found this: a line for the bench, for each node and for each link, the parts
-/// that are asked for; of a network a line for each port on a ring without a link, and for each send that no node is for; and what
-/// was found. `NoMemory` where room is refused.
+/// The report of a finished run of which the chosen audit found this: a line for the bench, for each node and for each
+/// link, the parts that are asked for; of a network a line for each port on a ring without a link, and for each send
+/// that no node is for; and what was found. `NoMemory` if allocation fails.
 pub fn report<const C: usize>(
     alloc: Global,
     closed: &Closed<C>,
@@ -150,6 +153,7 @@ pub fn report<const C: usize>(
     ensures text { IfOk result (λ text. IsReportOf scope asked closed.now.run finding text.items) }
     ensures finished { OnOk result (IsFinished closed.now) }
 {
+    // Formed before the rest and lent: a function that owns one value has few ways out on which others are dropped.
     let parts = parts(alloc, closed, asked)?;
     report_with(alloc, closed, scope, finding, parts.as_slice())
 }

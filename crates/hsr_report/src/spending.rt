@@ -12,7 +12,7 @@ use std::alloc::{AllocError, Global};
 /// What a run spent of its tables.
 #[derive(Clone, Copy, Debug, PartialEq, Eq)]
 pub enum Spending {
-    /// It is within budget, with so many sends at most in 800 milliseconds.
+    /// It is within budget, with this number of sends at most in 800 milliseconds.
     Within(usize),
     /// This arrival came too late.
     Late { node: usize, place: usize },
@@ -20,7 +20,7 @@ pub enum Spending {
     Crowded { moment: u64 },
 }
 
-/// What a run spent of its tables. `NoMemory` where room is refused.
+/// What a run spent of its tables. `NoMemory` if allocation fails.
 pub fn spending_of<const C: usize>(alloc: Global, closed: &Closed<C>) -> Result<Spending, NoMemory>
     ensures { IfOk result (λ s. IsSpending closed.now.run s) }
 {

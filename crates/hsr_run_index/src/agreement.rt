@@ -67,6 +67,7 @@ fn after_pass<'a>(
         ≡ cons_option (passed_by (record { number = number; place = place.now }) port at entry.now)
         (told Put dir left.now)) }
 {
+    // Spelled where it stands, so that comparing needs no memory.
     let Some(octets) = spelled_out(place, &entry.event, &entry.outcome, port) else {
         return Some(rows);
     };
@@ -184,8 +185,8 @@ fn copies_told(
     Ok(copies)
 }
 
-/// The copy that an entry of a node's record, `number`, let leave by a port; `at` is the entry's place. `NoMemory` where room
-/// for its octets is refused.
+/// The copy that an entry of a node's record, `number`, let leave by a port; `at` is the entry's place. `NoMemory` if
+/// allocation fails.
 pub fn passed_by(
     alloc: Global,
     number: usize,
@@ -246,7 +247,7 @@ fn arrived(alloc: Global, port: u8, entries: &[Entry]) -> Result<Vec<Carried>, N
 }
 
 /// Whether what was put in a direction is what a node passed by a port, each copy as often; in their order it mostly is.
-/// Else copies are counted by an index; `NoMemory` where room for it is refused.
+/// Else copies are counted by an index; `NoMemory` if allocation fails.
 #[tactic(auto, using(crate::proofs::Forwards::puts_often, crate::proofs::Forwards::puts_same))]
 pub fn puts_fit<const C: usize>(
     alloc: Global,
@@ -258,6 +259,7 @@ pub fn puts_fit<const C: usize>(
     ensures { IfOk result (λ fit. IsTrue fit ↔ PutsFit kept.now port dir rows.now) }
 {
     let entries = kept.entries();
+    // A world's rows stand in the order of its records, so copies are counted only where this fails.
     if puts_in_order(kept.node(), kept.place(), entries, port, dir, rows) {
         return Ok(true);
     }
@@ -267,7 +269,7 @@ pub fn puts_fit<const C: usize>(
 }
 
 /// Whether what was taken in a direction is what came to a port of a node, each copy as often; in their order it mostly is.
-/// Else copies are counted by an index; `NoMemory` where room for it is refused.
+/// Else copies are counted by an index; `NoMemory` if allocation fails.
 #[tactic(auto, using(crate::proofs::Forwards::takens_often, crate::proofs::Forwards::takens_same))]
 pub fn takens_fit<const C: usize>(
     alloc: Global,
@@ -279,6 +281,7 @@ pub fn takens_fit<const C: usize>(
     ensures { IfOk result (λ fit. IsTrue fit ↔ TakensFit kept.now port dir rows.now) }
 {
     let entries = kept.entries();
+    // In order first, as what was put.
     if takens_in_order(entries, port, dir, rows) {
         return Ok(true);
     }

@@ -33,7 +33,7 @@ pub fn count_of(counts: &Counts<'_>, copy: &Carried) -> usize
     counts.get(&key_of(copy)).copied().unwrap_or(0)
 }
 
-/// Counts one more copy. `NoMemory` where room is refused.
+/// Counts one more copy. `NoMemory` if allocation fails.
 pub fn count_one<'a>(counts: &mut Counts<'a>, copy: &'a Carried) -> Result<(), NoMemory>
     requires { count_of counts.old copy.now + 1 < 2 ^ 64 }
     ensures { OnOk result ((other : spec.Carried) → count_of counts.new other
@@ -79,6 +79,7 @@ fn are_alike(copies: &[Carried], counts: &Counts<'_>, others: &Counts<'_>) -> bo
 pub(crate) fn is_as_often(alloc: Global, xs: &[Carried], ys: &[Carried]) -> Result<bool, NoMemory>
     ensures { IfOk result (λ often. IsTrue often ↔ AsOften xs.now ys.now) }
 {
+    // With as many of both it is enough to look at the copies of one list.
     if xs.len() != ys.len() {
         return Ok(false);
     }

@@ -47,6 +47,7 @@ fn put_peer(peers: &mut IndexMap<(usize, u8), End>, end: End, other: End) -> Res
     ensures { OnOk result ((e : spec.End) → peer_of peers.new e ≡ option_or (peer_of peers.old e)
         (if is_same_end end e then Some other else None)) }
 {
+    // The first link counts. In a topology an end is in one link at most.
     if peer_of(peers, end).is_some() {
         return Ok(());
     }
@@ -85,7 +86,7 @@ fn peers_of(alloc: Global, links: &[[End; 2]]) -> Result<IndexMap<(usize, u8), E
 }
 
 impl<'a> Ends<'a> {
-    /// The ends of links. `NoMemory` where room for the index is refused.
+    /// The ends of links. `NoMemory` if allocation fails.
     pub fn new(alloc: Global, links: &'a [[End; 2]]) -> Result<Ends<'a>, NoMemory>
         ensures { IfOk result (λ ends. ends ≡ links.now) }
     {

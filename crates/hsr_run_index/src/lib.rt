@@ -1,5 +1,5 @@
-//! Indexes over the records and links of a run, for the check that finishes it: ends of links, numbers of sends, copies, each
-//! as often, and entries that come next.
+//! Indexes over the records and links of a run, for the check that finishes it: ends of links, numbers of sends,
+//! copies, each as often, and entries that come next.
 //!
 //! Its modules, in the order in which to read them:
 //! - `ends`: the ends that links join, by an index

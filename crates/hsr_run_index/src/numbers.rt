@@ -69,6 +69,7 @@ fn put_number(
         ≡ option_or (number_of given.old k p) (if (nat_eq node k && nat_eq send.node p.node)
         && nat_eq send.place p.place then Some seq else None)) }
 {
+    // The first number counts.
     if number_of(given, node, send).is_some() {
         return Ok(());
     }
@@ -128,7 +129,7 @@ fn numbers_of<const C: usize>(
 }
 
 impl<'a, const C: usize> Numbers<'a, C> {
-    /// The numbers that nodes gave. `NoMemory` where room for the index is refused.
+    /// The numbers that nodes gave. `NoMemory` if allocation fails.
     pub fn new(alloc: Global, kept: &'a [Kept<C>]) -> Result<Numbers<'a, C>, NoMemory>
         ensures { IfOk result (λ numbers. numbers ≡ kept.now) }
     {

@@ -38,7 +38,7 @@ impl Places {
         self.places.get(&number).copied().unwrap_or(0)
     }
 
-    /// Gives a number a place, in place of the one that it had. `NoMemory` where room for it is refused: then nothing changes.
+    /// Gives a number a place, in place of the one that it had. `NoMemory` if allocation fails: then nothing changes.
     pub fn put(&mut self, number: usize, place: usize) -> Result<(), NoMemory>
         ensures ok { OnOk result ((other : ℕ) → place_at self.new other
             ≡ (if nat_eq number other then place else place_at self.old other)) }

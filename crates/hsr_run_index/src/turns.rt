@@ -78,11 +78,12 @@ fn is_next(entries: &[Entry], behind: &[usize], worker: u16, from: usize, place:
     if place >= entries.len() || entries[place].worker != worker {
         return false;
     }
+    // So no entry of the worker stands between: one look, however long the record is.
     from <= place && behind[place] <= from
 }
 
 impl<'a, const C: usize> Turns<'a, C> {
-    /// The turns of these records. `NoMemory` where room for the index is refused.
+    /// The turns of these records. `NoMemory` if allocation fails.
     pub fn new(alloc: Global, kept: &'a [Kept<C>]) -> Result<Turns<'a, C>, NoMemory>
         ensures { IfOk result (λ turns. turns ≡ kept.now) }
     {

@@ -1,6 +1,12 @@
 //! How a fault of a scenario is told in plain words: line, column, what is wrong, and what would be right.
 //!
-//! Its modules, in the order to read them: `keys`, `wiring`, `words`, `telling`, `refused`, `reasons`.
+//! Its modules, in the order in which to read them:
+//! - `keys`: which keys the tables of a scenario have
+//! - `wiring`: which node or link keeps nodes and links from being a valid topology
+//! - `words`: what is wrong with a scenario, and what would be right
+//! - `telling`: the line of a fault, its call
+//! - `refused`: the line of a step that was refused, its call
+//! - `reasons`: why the run of a scenario stops, or can't be closed
 #![tactic(auto)]
 
 mod keys;

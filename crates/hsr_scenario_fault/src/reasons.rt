@@ -33,6 +33,7 @@ pub fn words_of_step(fault: &DrainFault) -> &'static str {
             "the outbox, the link or the hand is empty: look at the order of put, take and judge",
         DrainFault::World(WorldFault::TooLong) =>
             "a payload has at most 1500 octets, and what is injected at most 2048: shorten it",
+        // No scenario comes here, since its names were looked up. Words are total all the same.
         DrainFault::World(WorldFault::NoSuchNode) => "there is no such node",
         DrainFault::World(WorldFault::NoSuchLink) => "there is no such link",
         DrainFault::World(WorldFault::NoSuchPort) => "the node hasn't this port",

@@ -16,7 +16,8 @@ use toml::Table;
 
 // ---- where it is
 
-/// The place of what a fault is about: of nodes and links that are no topology, the node or link that makes them none.
+/// The place of what a fault is about: of nodes and links that do not form a valid topology, the node or link by
+/// which they don't.
 fn spot_in(document: &Table, fault: &ScenarioFault) -> Spot {
     match fault.what {
         What::Topology(why) => spot_of(document, why),
@@ -199,15 +200,15 @@ fn put_told(
     };
     match toml::table_from_str(alloc, text) {
         Ok(document) => put_fault(line, source, &document, fault),
-        // it was read before
+        // Want of memory: that it is TOML was found before.
         Err(_) => Err(NoMemory),
     }
 }
 
-/// The line of a fault of a text, as `fault: scenario 12:5 step 3: unknown word too: a send has do, node, to, ..`, without a line feed. Line
-/// and column are those of the word that the fault is about, in its own table, outside of comments and strings; of a missing word, and of a
-/// node or link that no topology has, those of its table; and of a text that is no TOML those at which that shows. `NoMemory` where room is
-/// refused.
+/// The line of a fault of a text, as `fault: scenario 12:5 step 3: unknown word too: a send has do, node, to, ..`,
+/// without a line feed. Line and column are those of the word that the fault is about, in its own table, outside of
+/// comments and strings; of a missing word, and of a node or link that no topology has, those of its table; and of a
+/// text that is no TOML those at which that shows. `NoMemory` if allocation fails.
 pub fn told(alloc: Global, text: &str, fault: &ScenarioFault) -> Result<Vec<u8>, NoMemory>
     ensures { IfOk result (λ v. IsLine v.items) }
 {

@@ -47,7 +47,7 @@ pub enum Line {
     Sent,
 }
 
-/// Where a line runs.
+/// Where a line runs, in user units of SVG from the upper left corner.
 #[derive(Clone, Copy, Debug)]
 pub struct Way {
     pub x1: u64,
@@ -56,7 +56,7 @@ pub struct Way {
     pub y2: u64,
 }
 
-/// Where something lies that has a width and a height.
+/// Where something lies that has a width and a height, in user units of SVG; `x` and `y` are its upper left corner.
 #[derive(Clone, Copy, Debug)]
 pub struct Area {
     pub x: u64,
@@ -80,7 +80,7 @@ pub enum Reading {
     Upwards,
 }
 
-/// Where a text stands.
+/// Where a text stands, in user units of SVG from the upper left corner.
 #[derive(Clone, Copy, Debug)]
 pub struct Spot {
     pub x: u64,
@@ -121,7 +121,8 @@ pub enum Element {
         words: Octets,
         spot: Spot,
     },
-    /// Here texts and marks begin that stand on a white ground, so that what runs behind them can't be taken for a part of them.
+    /// Here texts and marks begin that stand on a white ground, so that what runs behind them can't be taken for a part
+    /// of them.
     LabelsBegin,
     /// Here they end.
     LabelsEnd,

@@ -31,6 +31,7 @@ fn put_octet(text: &mut Vec<u8>, octet: u8) -> Result<(), NoMemory>
         b'<' => put(text, "&lt;"),
         b'>' => put(text, "&gt;"),
         b'"' => put(text, "&quot;"),
+        // XML has no other controls than tab and ends of lines (XML 1.0 section 2.2).
         0..=31 => put(text, " "),
         _ => {
             text.push(octet)?;

@@ -17,6 +17,7 @@ use hsr_frame::NoMemory;
 fn size_of(label: Label) -> &'static str
     ensures { result.now ≡ label_size label }
 {
+    // As texts, since some have a fraction.
     match label {
         Label::Title => "12",
         Label::Name { .. } => "11",
@@ -93,6 +94,7 @@ fn put_place(text: &mut Vec<u8>, x: u64, y: u64) -> Result<(), NoMemory>
 fn put_quarter(text: &mut Vec<u8>) -> Result<(), NoMemory>
     ensures { OnOk result (text.new.items ≡ text.old.items ++ quarter_text) }
 {
+    // In a function of its own: a long literal at the head of a text keeps search from the rest of it.
     put(text, "=\"rotate(-90 ")
 }
 
@@ -396,6 +398,7 @@ fn put_points(text: &mut Vec<u8>) -> Result<(), NoMemory>
 fn put_head(text: &mut Vec<u8>) -> Result<(), NoMemory>
     ensures { OnOk result (text.new.items ≡ text.old.items ++ head_text) }
 {
+    // In a function of its own, as the words of a turn.
     put(text, "<svg xmlns=\"http://www.w3.org/2000/svg\"")
 }
 
@@ -424,7 +427,8 @@ fn put_ground(text: &mut Vec<u8>) -> Result<(), NoMemory>
     )
 }
 
-/// Puts elements last, as a picture so wide and so high.
+/// Puts elements last, as a picture of this width and height, in user units of SVG. `NoMemory` if allocation fails; a
+/// front of the picture may stand there then.
 #[tactic(auto, unfolding(crate::specs::Spelling::svg_text))]
 pub fn put_svg(
     text: &mut Vec<u8>,

@@ -42,8 +42,8 @@ impl Log {
         }
     }
 
-    /// How many notes what came at this moment needs: the most that there are, at an egress that it wants, from the latest of
-    /// its send on.
+    /// How many notes what came at this moment needs: the most that there are, at an egress that it wants, from the
+    /// latest of its send on.
     fn needs(&self, r: Reading, at: u64) -> usize
         ensures { result ≡ needs_by self.now r at }
     {
@@ -83,8 +83,10 @@ impl Log {
         ensures logged { OnOk result (IsLoggedAfter self.old place.now here x.now self.new) }
     {
         self.moment = self.moment.max(x.at);
+        // Heard first: a RedBox knows a frame's source before it decides on the frame.
         hear(&mut self.stations, place, self.moment, &x.event);
         let r = read(place, &self.stations, self.moment, here, x);
+        // Before the note: what came asks for notes that were made earlier.
         let needs = self.needs(r, self.moment);
         self.note(r, self.moment)?;
         Ok(needs)

@@ -1,8 +1,8 @@
 //! The greatest number of entries that was needed.
 ghost use Rattle.std.specs.Prelude.{◌≡◌};
 
-/// How many entries the duplicate tables of a run needed, and the node and place of the first arrival that needed as many, by
-/// node and then place; nowhere, where none were needed.
+/// How many entries the duplicate tables of a run needed, and the node and place of the first arrival that needed as
+/// many, by node and then place; nowhere, where none were needed.
 #[derive(Clone, Copy, Debug, PartialEq, Eq)]
 pub struct Needed {
     pub entries: usize,
@@ -22,10 +22,11 @@ impl Needed {
         }
     }
 
-    /// What was needed, where after this an arrival at a place of a node needed so many.
+    /// What was needed, where after this an arrival at a place of a node needed this number of entries.
     pub(crate) fn or_more(self, entries: usize, node: usize, place: usize) -> Needed
         ensures { result ≡ or_more self entries node place }
     {
+        // Of equals the first stays.
         if self.entries < entries {
             Needed {
                 entries,

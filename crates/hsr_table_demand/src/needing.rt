@@ -32,8 +32,8 @@ fn needed_with<const C: usize>(
     Ok(needed)
 }
 
-/// How many entries the duplicate tables of one node needed, as `needed` counts them, and the first arrival there that needed as
-/// many. `NoMemory` where room is refused.
+/// How many entries the duplicate tables of one node needed, as `needed` counts them, and the first arrival there that
+/// needed as many. `NoMemory` if allocation fails.
 pub fn needed_at<const C: usize>(
     alloc: Global,
     closed: &Closed<C>,
@@ -45,10 +45,10 @@ pub fn needed_at<const C: usize>(
     needed_with(alloc, closed, node, Needed::nothing())
 }
 
-/// How many entries the duplicate tables of a finished run needed, of the notes that it left (IEC 62439-3 clause 5). An arrival
-/// at a port of a ring needs, at each egress that it wants and where its send was noted before, the notes there from the latest one
-/// of the send to the youngest, where that one is less than 400 ms old; the node's own notes count too. The greatest such number is
-/// given, and the first arrival that needs as many. `NoMemory` where room is refused.
+/// How many entries the duplicate tables of a finished run needed, of the notes that it left (IEC 62439-3 clause 5). An
+/// arrival at a port of a ring needs, at each egress that it wants and where its send was noted before, the notes there
+/// from the latest one of the send to the youngest, where that one is less than 400 ms old; the node's own notes count
+/// too. The greatest such number is given, and the first arrival that needs as many. `NoMemory` if allocation fails.
 ///
 /// Nothing that was needed was forgotten exactly where nothing was forgotten by age and tables have as many entries.
 pub fn needed<const C: usize>(alloc: Global, closed: &Closed<C>) -> Result<Needed, NoMemory>

@@ -36,6 +36,7 @@ pub fn hear(stations: &mut ProxyTable, place: &Place, at: u64, event: &Event)
     requires { stations.old.last ≤ at }
     ensures { stations.new ≡ heard_in place.now at event.now stations.old }
 {
+    // Port 2 is the interlink.
     if let (Place::RedBox { mac, .. }, Event::Arrive { port: 2, carried }) = (place, event) {
         learn(stations, *mac, &look_at(carried.octets.as_slice()), at);
     }
@@ -64,8 +65,8 @@ fn is_numbered(seen: &Result<SeenView<'_>, FrameFault>, seq: Option<u16>) -> boo
     }
 }
 
-/// Where what has this outcome is noted, if it has a number: where it left, and on an interlink too if it came from there and
-/// got its number.
+/// Where what has this outcome is noted, if it has a number: where it left, and on an interlink too if it came from
+/// there and got its number.
 fn noted_at(outcome: &Outcome) -> Exits
     ensures { result ≡ noted_at outcome.now }
 {
@@ -80,6 +81,7 @@ fn noted_at(outcome: &Outcome) -> Exits
         up,
         a,
         b,
+        // On the interlink too, so that a copy that comes round the ring isn't given back there.
         c: c || is_given,
         d,
     }

@@ -72,6 +72,7 @@ impl Tally {
             return 0;
         };
         match latest_of(&self.sends, send) {
+            // A difference and no sum, which may overflow.
             Some(latest) if at.saturating_sub(latest.moment) < ENTRY_FORGET => {
                 self.count.saturating_sub(latest.place)
             }

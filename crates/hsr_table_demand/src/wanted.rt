@@ -38,6 +38,7 @@ pub(crate) fn wanted_from(
             ring_wants(*mac, *mode, Some(stations), x, seen, at).exits
         }
         (Place::QuadBox, _) => quadbox_exits(port, seen),
+        // At an interlink no table is asked, and a Station has none.
         _ => Exits::none(),
     }
 }

@@ -7,6 +7,7 @@ ghost use Rattle.hsr_table_demand.specs.Windows.{IsFirstOver, IsMostBelow, crowd
 use hsr_duptable::ENTRY_FORGET;
 
 /// How long a window is, in microseconds: twice the time for which a frame is remembered.
+// Between the note of a send and a copy in time stand only notes of sends less than 400 ms before or behind that send.
 const WINDOW: u64 = 2 * ENTRY_FORGET;
 
 /// How many of these moments come before one.
@@ -36,8 +37,8 @@ fn crowd_in(moments: &[u64], start: u64) -> usize
     count_until_end(moments, start) - count_before(moments, start)
 }
 
-/// The most of these moments, in microseconds and rising, that lie in the 800 milliseconds from one of them on; or the first of them from
-/// which on there are more than there is room for.
+/// The most of these moments, in microseconds and rising, that lie in the 800 milliseconds from one of them on; or the
+/// first of them from which on there are more than there is room for.
 pub fn most_crowded(room: usize, moments: &[u64]) -> Result<usize, u64>
     requires { IsNonDecreasing moments.now }
     ensures most { IfOk result (λ most. IsMostBelow moments.now (length moments.now) most) }

@@ -23,10 +23,10 @@ fn first_after(
     }
 }
 
-/// Where a finished run forgot first what was needed, or else mistook a number first, or else gave a number late first: by node,
-/// and then by place. Nothing, where each arrival at a port of a ring finds the notes of its send at the egresses that it wants,
-/// and none of another send with its source and number, and no RedBox numbers a frame of its Station whose send it noted before
-/// (IEC 62439-3 clause 5). `NoMemory` where room is refused.
+/// Where a finished run forgot first what was needed, or else mistook a number first, or else gave a number late first:
+/// by node, and then by place. Nothing, where each arrival at a port of a ring finds the notes of its send at the
+/// egresses that it wants, and none of another send with its source and number, and no RedBox numbers a frame of its
+/// Station whose send it noted before (IEC 62439-3 clause 5). `NoMemory` if allocation fails.
 pub fn first_flaw<const C: usize>(
     alloc: Global,
     closed: &Closed<C>,
@@ -36,6 +36,7 @@ pub fn first_flaw<const C: usize>(
     let mut forgot: Option<(usize, usize)> = None;
     let mut mistaken: Option<(usize, usize)> = None;
     let mut late: Option<(usize, usize)> = None;
+    // One walk finds all three kinds; which of them counts is known only behind all records.
     for node in 0..closed.topology().places().len() {
         let firsts = firsts_of(alloc, closed, node)?;
         forgot = first_after(forgot, node, firsts.forgot);

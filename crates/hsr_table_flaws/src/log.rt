@@ -142,12 +142,14 @@ impl Log {
         ensures logged { OnOk result (IsLoggedAfter self.old place.now here x.now self.new) }
     {
         self.moment = self.moment.max(x.at);
+        // Heard first: a RedBox knows a frame's source before it decides on the frame.
         hear(&mut self.stations, place, self.moment, &x.event);
         let question = Question {
             reading: read(place, &self.stations, self.moment, here, x),
             came: came_in(&x.event),
             key: key_handled(place, x),
         };
+        // Before the note: what came asks for notes that were made earlier.
         let look = Look {
             forgets: self.forgets(capacity, &question, self.moment),
             mistakes: self.mistakes(capacity, &question, self.moment),

@@ -11,8 +11,8 @@ use hsr_frame::NoMemory;
 use hsr_node::Probe;
 use std::alloc::Global;
 
-/// The first place of a record where something is forgotten, the first where something is mistaken, and the first where something
-/// is numbered late.
+/// The first place of a record where something is forgotten, the first where something is mistaken, and the first where
+/// something is numbered late.
 #[derive(Clone, Copy)]
 pub(crate) struct Firsts {
     pub(crate) forgot: Option<usize>,
@@ -63,5 +63,6 @@ pub(crate) fn firsts_of<const C: usize>(
     ensures { IfOk result (λ f. AreFirsts closed.now.run node f.forgot f.mistaken f.late) }
 {
     let mut log = Log::new(alloc);
+    // Made here and lent: a function that owns one value has few ways out on which others are dropped.
     walk(closed, node, &mut log)
 }

@@ -112,6 +112,7 @@ fn other_of(latest: Option<Latest>, send: Option<Probe>) -> Option<usize>
 fn is_unexpired(at: u64, mark: &Mark) -> bool
     ensures { result ≡ is_unexpired at mark.now }
 {
+    // A difference and no sum, which may overflow.
     at.saturating_sub(mark.moment) < ENTRY_FORGET
 }
 
@@ -144,7 +145,7 @@ fn make_room(
     Ok(())
 }
 
-/// Puts a mark last; none where room is refused.
+/// Puts a mark last; none if allocation fails.
 fn add_mark(marks: &mut Vec<Mark>, mark: Mark) -> Result<(), NoMemory>
     ensures put { OnOk result (marks.new.items ≡ marks.old.items ++ mark ∷ []) }
     ensures refused { OnErr result (marks.new.items ≡ marks.old.items) }
@@ -164,6 +165,7 @@ fn name_send(sends: &mut IndexMap<(usize, usize), usize>, send: Option<Probe>, p
     };
     match sends.insert((probe.node, probe.place), place) {
         Ok(_) => {}
+        // Room was made before.
         Err(_) => unreachable!(),
     }
 }
@@ -176,6 +178,7 @@ fn name_key(keys: &mut IndexMap<(Mac, u16), Latest>, key: Key, latest: Latest)
 {
     match keys.insert((key.src, key.seq), latest) {
         Ok(_) => {}
+        // Room was made before.
         Err(_) => unreachable!(),
     }
 }
@@ -264,6 +267,7 @@ impl Marks {
             send: probe,
             other: self.place_of_other(key, probe),
         };
+        // Room before the mark is put, so a failed allocation leaves nothing to mend.
         make_room(&mut self.sends, &mut self.keys)?;
         add_mark(&mut self.marks, Mark { key, moment, probe })?;
         name_send(&mut self.sends, probe, latest.place);

@@ -32,6 +32,7 @@ impl TimeUnit {
         ensures again { (unit : TimeUnit) → unit_of (unit_word unit) ≡ Some unit }
         ensures exact { IfSome result (λ unit. word.now ≡ unit_word unit) }
     {
+        // Both sides of `==` have one type, so an octet literal is compared as a slice.
         if word == b"ms".as_slice() {
             Some(TimeUnit::Milliseconds)
         } else if word == b"us".as_slice() {

@@ -17,6 +17,7 @@ use std::alloc::{AllocError, Global};
 pub enum WordFault {
     /// It spells nothing of its kind.
     Bad,
+    /// Allocation failed.
     Memory,
 }
 
@@ -48,6 +49,7 @@ pub fn decimal(word: &[u8]) -> Option<u64>
     ensures { result ≡ decimal_of word.now }
 {
     let first = *word.first()?;
+    // Each number has one spelling (RULES, Lines of `node`).
     if first == b'0' && word.len() > 1 {
         return None;
     }
@@ -89,11 +91,12 @@ fn octet_of(high: u8, low: u8) -> u8
     ensures { (i : ℕ) → is_ascii_hexdigit high ≡ true → is_ascii_hexdigit low ≡ true
         → pair_value high low i ≡ Ok result }
 {
+    // Wrapping: of other characters the octet means nothing, and `read_hex` answers that they came.
     nibble(high).wrapping_mul(16).wrapping_add(nibble(low))
 }
 
-/// Fills a slice with the octets that pairs of characters spell, and tells whether all are hexadecimal digits. The loop has no
-/// branches, so that it is one of vectors.
+/// Fills a slice with the octets that pairs of characters spell, and tells whether all are hexadecimal digits. The loop
+/// has no branches, so that it is one of vectors.
 fn read_hex(octets: &mut [u8], digits: &[u8]) -> bool
     requires { length digits.now ≡ 2 * length octets.old }
     ensures { result_ok (decode_pairs 0 digits.now) ≡ (if result then Some octets.new else None) }
@@ -102,6 +105,7 @@ fn read_hex(octets: &mut [u8], digits: &[u8]) -> bool
     for i in 0..octets.len() {
         let high = digits[2 * i];
         let low = digits[2 * i + 1];
+        // `&` and not `&&`, which would branch.
         all &= high.is_ascii_hexdigit() & low.is_ascii_hexdigit();
         octets[i] = octet_of(high, low);
     }
@@ -126,7 +130,7 @@ fn pairs_of(alloc: Global, digits: &[u8]) -> Result<Vec<u8>, WordFault>
 }
 
 /// The octets that hexadecimal text of either case spells; a hyphen spells none. `Bad` where the word is neither,
-/// `Memory` where room is refused.
+/// `Memory` if allocation fails.
 pub fn hex_octets(alloc: Global, word: &[u8]) -> Result<Vec<u8>, WordFault>
     ensures { Gives (λ v. v.items) result (hex_octets_of word.now) }
 {
@@ -159,6 +163,7 @@ pub fn put_count(text: &mut Vec<u8>, name: &[u8], n: u64) -> Result<(), AllocErr
 pub fn put_mac(alloc: Global, text: &mut Vec<u8>, mac: Mac) -> Result<(), AllocError>
     ensures { OnOk result (text.new.items ≡ text.old.items ++ mac_text mac) }
 {
+    // An address prints itself, so its form stands in one place, hsr_frame.
     let address = format!(in alloc; "{mac}")?;
     text.extend_from_slice(address.as_bytes())
 }
@@ -169,8 +174,10 @@ pub fn put_hex(text: &mut Vec<u8>, octets: &[u8]) -> Result<(), AllocError>
     ensures err { OnErr result (text.new.items ≡ text.old.items) }
 {
     let start = text.len();
+    // More digits than a length can count fit into no memory.
     let digits = octets.len().checked_mul(2).ok_or(AllocError)?;
     let end = start.checked_add(digits).ok_or(AllocError)?;
+    // All room at once, so that the loop fills a slice and can't fail.
     text.resize(end, 0)?;
     write_hex(&mut text.as_mut_slice()[start..], octets);
     Ok(())

@@ -14,7 +14,7 @@ use std::alloc::Global;
 /// How often the steps of a scenario may change a link, so that a picture tells it.
 const CHANGE_LIMIT: usize = 1000;
 
-/// Whether a scenario isn't read for want of room.
+/// Whether a scenario isn't read since allocation failed.
 pub(crate) fn is_memory(what: Refused) -> bool
     ensures { result ≡ is_memory what }
 {
@@ -72,8 +72,8 @@ fn steps_by(alloc: Global, plan: &[Planned], orders: Vec<Order>) -> Result<Vec<O
     }
 }
 
-/// The steps of the scenario of a run, by the plan of the run; none without a scenario, or where it has steps that aren't read, another
-/// plan, or more than `CHANGE_LIMIT` cuts and mends.
+/// The steps of the scenario of a run, by the plan of the run; none without a scenario, or where it has steps that
+/// aren't read, another plan, or more than `CHANGE_LIMIT` cuts and mends.
 pub(crate) fn steps_of(
     alloc: Global,
     plan: &[Planned],

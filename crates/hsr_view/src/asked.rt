@@ -1,4 +1,4 @@
-//! What the words of a command line ask for.
+//! What the arguments of hsr_view ask for.
 use crate::views::What;
 
 /// What is asked for, and the path of the scenario whose names stand in place of numbers.

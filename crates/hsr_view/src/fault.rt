@@ -60,7 +60,7 @@ pub enum Fault {
     Send,
     /// The moments until which a picture goes are before those from which it does.
     Moments,
-    /// A picture of so many copies is asked for, and they are too many.
+    /// A picture of too many copies is asked for: of this number.
     Copies { copies: usize },
     /// The run has no copies.
     NoCopies,
@@ -165,8 +165,9 @@ pub(crate) fn told(fault: ReadFault, given: Option<Given>) -> Fault
     }
 }
 
-/// The line on standard error, without its line feed; that of a transcript is the one that `hsr_bench audit` has. Behind it stands, where
-/// the text is one that another program knows, a line that says which; and a line that says what was given for names.
+/// The line on standard error, without its line feed; that of a transcript is the one that `hsr_bench audit` has.
+/// Behind it stands, where the text is one that another program knows, a line that says which; and a line that says
+/// what was given for names.
 impl fmt::Display for Fault {
     ghost output = { λ fault. Some (fault_line fault) };
 

@@ -42,14 +42,15 @@ fn read_piece<R: Read>(reader: &mut R, head: &mut Vec<u8>) -> Result<bool, Fault
     }
 }
 
-/// Reads the head of a text: so many octets that the front is among them. `Memory` where room is refused, `Read` where the reader fails
-/// otherwise, or gives nothing for 2^40 times.
+/// Reads the head of a text: `FRONT_LIMIT` octets or more, or the whole text where it has fewer. `Memory` if allocation
+/// fails, `Read` where the reader fails otherwise, or takes 2^40 reads.
 pub(crate) fn read_head<R: Read>(alloc: Global, reader: &mut R) -> Result<Vec<u8>, Fault>
     ensures head { IfOk result (λ head. ReadsHead (R.remaining reader.old)
         (R.remaining reader.new) head.items) }
     ensures refused { IfErr result (λ f. (f ≡ ReadFailed) ⊎ (f ≡ Memory)) }
 {
     let mut head = Vec::new(alloc);
+    // A reader that never ends is given up (RULES, Fault lines).
     for _ in 0..READ_LIMIT {
         let has_more = read_piece(reader, &mut head)?;
         if !has_more || head.len() >= FRONT_LIMIT {

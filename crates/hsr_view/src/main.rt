@@ -1,5 +1,5 @@
 //! The program `hsr_view`: a transcript shown as a capture, as a picture, or as devices, over a reader and two writers; and
-//! what its words ask for.
+//! what its arguments ask for.
 //!
 //! Its modules, in the order in which to read them:
 //! - `views`: what can be asked for
@@ -10,8 +10,8 @@
 //! - `head`: the head of a text, read before the rest is
 //! - `viewing`: what is shown of a text
 //! - `running`: the whole, its calls
-//! - `asked`: what the words of a command line ask for
-//! - `command_line`: reads the words of a command line, by clap
+//! - `asked`: what the arguments ask for
+//! - `command_line`: reads the arguments, by clap
 #![tactic(auto)]
 
 ghost use Rattle.std.specs.Prelude.{◌≡◌, ◌++◌, IfOk, OnOk, codes, drop, map, string_bytes};
@@ -43,7 +43,7 @@ use std::process::ExitCode;
 use std::rt::Env;
 use std::{env, io};
 
-/// The status where words are refused.
+/// The status where arguments are refused.
 const USAGE: u8 = 3;
 
 /// The text of a file, or of a longer one a front that is longer than the text of a scenario may be.
@@ -64,6 +64,7 @@ fn scenario_at<H: AllocGlobal + Files>(
     };
     match text_at(rt, path) {
         Ok(text) => {
+            // Asked first, since `String::from_utf8` takes the octets, and the fault tells of them.
             if str::from_utf8(text.as_slice()).is_err() {
                 return Err(Fault::Names(no_text(text.as_slice())));
             }
@@ -103,7 +104,7 @@ fn view_input<H: AllocGlobal + Files + Input + Print, E: Write>(
     )
 }
 
-/// Writes why words are refused, and gives the status of the process.
+/// Writes why arguments are refused, and gives the status of the process.
 fn refuse<E: Write>(errors: &mut E, text: &str) -> io::Result<u8>
     ensures { OnOk result (Appends (E.contents errors.old) (E.contents errors.new) (text.now
         ++ codes "\n")) }
@@ -123,7 +124,7 @@ fn exit_of(code: io::Result<u8>) -> io::Result<ExitCode>
     }
 }
 
-/// Does what the program's words ask for.
+/// Does what the program's arguments ask for.
 fn run<H: AllocGlobal + Env + Files + Input + Print, E: Write>(
     rt: &H,
     errors: &mut E,
@@ -141,7 +142,7 @@ fn run<H: AllocGlobal + Env + Files + Input + Print, E: Write>(
 fn main(rt: HostRuntime) -> io::Result<ExitCode> {
     let mut errors = rt.stderr();
     match run(&rt, &mut errors) {
-        // the words themselves take memory
+        // The arguments themselves take memory.
         Err(error) if error.kind() == ErrorKind::OutOfMemory => {
             exit_of(tell(&mut errors, Err(Fault::Memory)))
         }

@@ -14,7 +14,8 @@ use crate::views::What;
 use std::alloc::Global;
 use std::io::{self, Read, Write};
 
-/// What is asked for of the text that a reader gives: its head is read first, and of the rest no more than it takes to tell a fault.
+/// What is asked for of the text that a reader gives: its head is read first, and of the rest no more than it takes to
+/// tell a fault.
 fn shown_from<R: Read>(
     alloc: Global,
     what: &What<'_>,
@@ -38,6 +39,7 @@ fn shown_from<R: Read>(
 fn deliver<W: Write>(writer: &mut W, octets: &[u8]) -> Result<(), Fault>
     ensures { IsDelivered (W.contents writer.old) (W.contents writer.new) octets.now result }
 {
+    // Flushed here, since nothing is written behind it: a flush that fails is a failed write.
     if writer.write_all(octets).is_err() || writer.flush().is_err() {
         return Err(Fault::Write);
     }
@@ -62,7 +64,8 @@ fn view<R: Read, W: Write>(
     }
 }
 
-/// Tells how it ended: a fault's line, and the status of the process. The error of `errors`, where the line can't be written there.
+/// Tells how it ended: a fault's line, and the status of the process. The error of `errors`, where the line can't be
+/// written there.
 pub fn tell<E: Write>(errors: &mut E, ended: Result<(), Fault>) -> io::Result<u8>
     ensures { IfOk result (λ code. Tells (E.contents errors.old)
         (E.contents errors.new) ended code) }
@@ -76,10 +79,11 @@ pub fn tell<E: Write>(errors: &mut E, ended: Result<(), Fault>) -> io::Result<u8
     }
 }
 
-/// Reads a transcript, and writes what is asked for of the finished run whose text it is, with the names of a scenario's text, or without
-/// names. Tables are of the size of which its second line tells. Gives the status of the process: 0 where all of it was written, and
-/// nothing on `errors`; 1 after a fault, whose line is then all that was written on `errors`, and nothing was written on `writer`,
-/// unless that itself failed. The error of `errors`, where the line can't be written there.
+/// Reads a transcript, and writes what is asked for of the finished run whose text it is, with the names of a
+/// scenario's text, or without names. Tables are of the size of which its second line tells. Gives the status of the
+/// process: 0 where all of it was written, and nothing on `errors`; 1 after a fault, whose line is then all that was
+/// written on `errors`, and nothing was written on `writer`, unless that itself failed. The error of `errors`, where
+/// the line can't be written there.
 pub fn view_run<R: Read, W: Write, E: Write>(
     alloc: Global,
     what: &What<'_>,

@@ -81,8 +81,8 @@ pub(crate) fn unread(text: &[u8]) -> Unnamed
     }
 }
 
-/// What a text is that is read as a scenario of other nodes or links. A plan has none of a scenario's kind, so it is read as one
-/// without any.
+/// What a text is that is read as a scenario of other nodes or links. A plan has none of a scenario's kind, so it is
+/// read as one without any.
 pub(crate) fn other(text: &[u8]) -> Unnamed
     ensures { result ≡ other text.now }
 {

@@ -32,8 +32,8 @@ use hsr_transcript::{ReadFault, read};
 use std::alloc::Global;
 use std::io::Read;
 
-/// The names of the nodes of a run, by the scenario from which it came; none without it. `Names` exactly where its names can't be read,
-/// or it has other nodes or links, with what it is.
+/// The names of the nodes of a run, by the scenario from which it came; none without it. `Names` exactly where its
+/// names can't be read, or it has other nodes or links, with what it is.
 fn names_of(
     alloc: Global,
     topology: &Topology,
@@ -90,9 +90,9 @@ fn leaves_none(wanted: Choice, rows: &[Shown]) -> bool
     (wanted.link.is_some() || wanted.send.is_some()) && rows.is_empty()
 }
 
-/// The capture of those rows of a run that are wanted, in the order of time: `Link` or `Send` where the run hasn't what is wanted,
-/// `Circle` where its rows have no order of time, `NoCopies` or `NoneAsked` where something is wanted and no row is left, `TooLong` where
-/// a block would be too long.
+/// The capture of those rows of a run that are wanted, in the order of time: `Link` or `Send` where the run hasn't what
+/// is wanted, `Circle` where its rows have no order of time, `NoCopies` or `NoneAsked` where something is wanted and no
+/// row is left, `TooLong` where a block would be too long.
 fn capture_of<const C: usize>(
     alloc: Global,
     closed: &Closed<C>,
@@ -106,6 +106,7 @@ fn capture_of<const C: usize>(
     check_choice(closed, wanted)?;
     let rows = story(alloc, closed)?;
     let left = chosen(alloc, closed, wanted, rows.as_slice())?;
+    // An empty capture would look like a quiet link.
     if leaves_none(wanted, left.as_slice()) {
         return Err(nothing_of(rows.as_slice()));
     }
@@ -159,9 +160,9 @@ fn blank_of<const C: usize>(alloc: Global, closed: &Closed<C>) -> Fault
     }
 }
 
-/// The picture of those rows of a run that are wanted, drawn, with the times in which its scenario has links down and nodes off: `Send`
-/// where the run hasn't one of the sends, `Moments` where the span ends before it begins, `Copies` where too many are wanted, `NoCopies` or
-/// `NoneAsked` where none is, `Circle` where its rows have no order of time.
+/// The picture of those rows of a run that are wanted, drawn, with the times in which its scenario has links down and
+/// nodes off: `Send` where the run hasn't one of the sends, `Moments` where the span ends before it begins, `Copies`
+/// where too many are wanted, `NoCopies` or `NoneAsked` where none is, `Circle` where its rows have no order of time.
 fn picture_of<const C: usize>(
     alloc: Global,
     closed: &Closed<C>,
@@ -179,6 +180,7 @@ fn picture_of<const C: usize>(
 {
     let probes = probes_of(alloc, names, sends)?;
     let picture = picture_run(alloc, closed, probes.as_slice(), span)?;
+    // An empty picture would look like a quiet network.
     if picture.arrows.is_empty() {
         return Err(blank_of(alloc, closed));
     }
@@ -224,6 +226,7 @@ fn read_run<const C: usize, R: Read>(
     ensures none { IfErr result (λ fault. IfSome (R.remaining reader.old) (λ rest. Answers C
         (Err fault) (head.now ++ rest))) }
 {
+    // The head was read before, so it is put in front of the rest again.
     let mut whole = head.chain(reader);
     match read(alloc, &mut whole) {
         Ok(closed) => Ok(closed),
@@ -268,7 +271,7 @@ fn shown_of<const C: usize>(
     }
 }
 
-/// What is asked for of the text of a run with tables of so many entries, by its head and what follows.
+/// What is asked for of the text of a run with tables of `C` entries, by its head and what follows.
 fn shown_with<const C: usize, R: Read>(
     alloc: Global,
     head: &[u8],
@@ -290,14 +293,15 @@ fn shown_with<const C: usize, R: Read>(
     }
 }
 
-/// The size of the tables of which a text tells in its second line, by its front: of 4 entries where that is `table 4`, behind a first line as
-/// of a transcript; or else of 512.
+/// The size of the tables of which a text tells in its second line, by its front: of 4 entries where that is `table 4`,
+/// behind a first line as of a transcript; or else of 512.
 fn table_of(front: &[u8]) -> TableSize
     ensures { result ≡ table_of front.now }
 {
     if begins(front, b"hsr-bench 2\ntable 4\n") || begins(front, b"hsr-bench 1\ntable 4\n") {
         TableSize::Small
     } else {
+        // Any other size is refused by the reading, at its line (RULES, Transcripts).
         TableSize::Large
     }
 }
@@ -318,6 +322,7 @@ pub fn shown<R: Read>(
         ++ rest) what.now (option_map (λ s. s.now) scenario.entry) fault)) }
 {
     match table_of(front(head)) {
+        // The size of a table is a constant of its type, so each choice is a call of its own.
         TableSize::Small => shown_with::<4, R>(alloc, head, reader, what, scenario),
         TableSize::Large => shown_with::<512, R>(alloc, head, reader, what, scenario),
     }
