@@ -179,7 +179,8 @@ fn put_summary(text: &mut Vec<u8>, deliveries: &Deliveries) -> Result<(), AllocE
 }
 
 /// Puts a line for each send that isn't complete, in order, then the line of how many sends there are and how many are
-/// complete. Moments are in microseconds.
+/// complete (RULES, The report). Moments are in microseconds. `AllocError` if allocation fails; a front of the lines may
+/// stand there then.
 pub fn put_deliveries(
     alloc: Global,
     text: &mut Vec<u8>,

@@ -84,6 +84,7 @@ fn losses_of(alloc: Global, kept: &ByProbe, send: Probe) -> Result<Vec<Loss>, No
 /// A finished run, and the losses of each of its sends, found in one walk over its rows.
 #[derive(Drop)]
 pub struct Losses<'a, const C: usize> {
+    // Kept for its model: contracts speak of losses by the run that they are of.
     closed: &'a Closed<C>,
     by_send: ByProbe,
 }

@@ -17,6 +17,7 @@ type Counts = IndexMap<(usize, usize), usize>;
 /// A node's record, and how often the node took each send up.
 #[derive(Drop)]
 pub(crate) struct Tally<'a> {
+    // Kept for its model: contracts speak of a tally by the entries that it counts.
     entries: &'a [Entry],
     counts: Counts,
 }
@@ -72,6 +73,7 @@ fn counted(alloc: Global, entries: &[Entry]) -> Result<Counts, NoMemory>
         ≡ count_by (delivers send) entries.now) }
 {
     let mut counts = IndexMap::new(alloc);
+    // The index is used by the loop's invariant alone.
     for (i, x) in entries.iter().enumerate() {
         if let Some(send) = taken_up(x) {
             count_one(&mut counts, send)?;

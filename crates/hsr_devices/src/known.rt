@@ -54,6 +54,7 @@ pub fn known_by(place: &Place, entries: &[Entry]) -> Known
     // Heard anew from the record: a closed run doesn't show what its nodes hold.
     let mut nodes = NodeTable::new();
     let mut stations = ProxyTable::new();
+    // The index is used by the loop's invariant alone.
     for (i, entry) in entries.iter().enumerate() {
         at = entry.at.max(at);
         hear_node(&mut nodes, place, at, &entry.event);

@@ -136,6 +136,7 @@ fn put_counted_if(
     ensures { OnOk result (text.new.items ≡ text.old.items
         ++ counted_if columns.now.width columns.now.entries.now columns.now.ports what node) }
 {
+    // Rows of what never came are left out.
     if node == 0 {
         return Ok(());
     }

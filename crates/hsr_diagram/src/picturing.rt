@@ -152,6 +152,7 @@ pub fn picture_run<const C: usize>(
         return Err(PictureFault::Reversed);
     }
     let wanted = wanted_rows(alloc, closed, sends, span)?;
+    // Refused here, before arrows and deliveries are looked for.
     if wanted.len() > COPY_LIMIT {
         return Err(PictureFault::TooMany {
             copies: wanted.len(),

@@ -22,6 +22,7 @@ pub struct Sent {
 fn is_among(sends: &[Probe], send: Probe) -> bool
     ensures { result ≡ is_among sends.now send }
 {
+    // The index is used by the loop's invariant alone.
     for (i, one) in sends.iter().enumerate() {
         if one.node == send.node && one.place == send.place {
             return true;
@@ -44,6 +45,7 @@ fn is_time_in(span: Span, start: Option<Time>) -> bool
 fn is_listed(sends: &[Probe], span: Span, send: Probe, start: Option<Time>) -> bool
     ensures { result ≡ is_listed sends.now span send start }
 {
+    // Sends that are asked for are listed whatever their moments.
     if sends.is_empty() {
         is_time_in(span, start)
     } else {

@@ -23,6 +23,7 @@ fn of_send(send: Probe) -> Choice
 pub(crate) fn has_all<const C: usize>(closed: &Closed<C>, sends: &[Probe]) -> bool
     ensures { result ≡ has_all closed.now.run sends.now }
 {
+    // The index is used by the loop's invariant alone.
     for (i, send) in sends.iter().enumerate() {
         if check_choice(closed, of_send(*send)).is_err() {
             return false;
@@ -35,6 +36,7 @@ pub(crate) fn has_all<const C: usize>(closed: &Closed<C>, sends: &[Probe]) -> bo
 fn is_of_one<const C: usize>(closed: &Closed<C>, sends: &[Probe], shown: &Shown) -> bool
     ensures { result ≡ is_of_one closed.now.run sends.now shown.now }
 {
+    // The index is used by the loop's invariant alone.
     for (i, send) in sends.iter().enumerate() {
         if is_wanted(closed, of_send(*send), shown) {
             return true;
@@ -84,6 +86,7 @@ pub(crate) fn pictured<const C: usize>(
         ≡ filter (is_pictured closed.now.run sends.now span) rows.now) }
 {
     let mut list = Vec::new(alloc);
+    // The index is used by the loop's invariant alone.
     for (i, row) in rows.iter().enumerate() {
         add_if(&mut list, is_pictured(closed, sends, span, row), *row)?;
     }

@@ -128,6 +128,7 @@ impl Columns {
             .position(|lane| lane.link == link);
         match lane {
             Some(number) => self.strip_at(number),
+            // Drawn behind all others, so that no arrow is missing.
             None => self.strip_at(self.strips.len()),
         }
     }

@@ -73,6 +73,7 @@ fn add_item<const C: usize>(
 {
     let words = sent_words(alloc, names, closed, delivery)?;
     let wide = (words.len() as u64).saturating_mul(LETTER);
+    // Beside its row, but never over the line before.
     let y = row.max(ends.bottom.saturating_add(LINE));
     add_listed(elements, words, delivery.is_complete(), row, x, y)?;
     Ok(Ends {

@@ -119,6 +119,7 @@ fn add_told(
     ensures { OnOk result (shapes elements.new.items ≡ shapes elements.old.items
         ++ lines_of words.now) }
 {
+    // A long text would make the picture as wide as itself.
     let lines = wrapped(alloc, words)?;
     add_lines(alloc, elements, lines.as_slice(), ends)
 }

@@ -34,6 +34,7 @@ pub fn wrapped(alloc: Global, words: &[u8]) -> Result<Vec<Vec<u8>>, NoMemory>
     let mut lines = Vec::new(alloc);
     let mut line = Vec::new(alloc);
     let mut rest = words;
+    // What is left is a variable, since the loop's invariant speaks of it.
     while let Some((letter, more)) = rest.split_first() {
         if *letter == b' ' && line.len() >= LONG {
             // A copy, so that `line` keeps its room for the next one.

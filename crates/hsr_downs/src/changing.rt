@@ -88,6 +88,7 @@ pub(crate) fn changes_of(alloc: Global, orders: &[Order]) -> Result<Vec<Change>,
     let mut moment = 0;
     let mut planned = 0;
     let mut rest = orders;
+    // What is left is a variable, since the loop's invariant speaks of it.
     while let Some((order, more)) = rest.split_first() {
         push_if(&mut list, change_by(moment, planned, order))?;
         moment = moment_after(moment, order);

@@ -19,6 +19,7 @@ pub struct Down {
 fn next_of(link: usize, changes: &[Change]) -> Option<Change>
     ensures { result ≡ next_of link changes.now }
 {
+    // The index is used by the loop's invariant alone.
     for (i, change) in changes.iter().enumerate() {
         if change.link == link {
             return Some(*change);
@@ -46,6 +47,7 @@ fn downs_in(alloc: Global, changes: &[Change]) -> Result<Vec<Down>, NoMemory>
 {
     let mut list = Vec::new(alloc);
     let mut rest = changes;
+    // What is left is a variable, since the loop's invariant speaks of it.
     while let Some((change, more)) = rest.split_first() {
         push_down(&mut list, *change, more)?;
         rest = more;

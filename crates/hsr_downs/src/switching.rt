@@ -24,6 +24,7 @@ fn is_down(link: usize, changes: &[Change]) -> bool
     // Looked up among all changes before: who draws bounds their number.
     let mut is_down = false;
     let mut rest = changes;
+    // What is left is a variable, since the loop's invariant speaks of it.
     while let Some((change, more)) = rest.split_first() {
         if change.link == link {
             is_down = change.is_cut;
@@ -106,6 +107,7 @@ fn push_with(
         ++ switches_with links.now before.now after.now change ends.now) }
 {
     let mut rest = ends;
+    // What is left is a variable, since the loop's invariant speaks of it.
     while let Some((end, more)) = rest.split_first() {
         push_switch(list, links, before, after, change, end.node)?;
         rest = more;

@@ -21,7 +21,7 @@ impl Explanation {
         }
     }
 
-    /// Puts the lines of another last.
+    /// Puts the lines of another last. `NoMemory` if allocation fails; some of them may stand there then.
     pub fn join(&mut self, other: Explanation) -> Result<(), NoMemory> {
         for words in other.lines {
             self.lines.push(words)?;

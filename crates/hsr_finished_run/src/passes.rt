@@ -153,6 +153,7 @@ fn keep_next<const C: usize>(
         return Ok(false);
     }
     let entries = kept[node].entries();
+    // 0 is the main worker.
     let Some(place) = next_place(entries, 0, next[node]) else {
         return Ok(false);
     };
@@ -178,6 +179,7 @@ fn main_pass<const C: usize>(
 {
     let mut next = first_places(alloc, kept.len())?;
     let mut pass = Pass::new(alloc, 0);
+    // The index is used by the loop's invariant alone.
     for (i, planned) in plan.iter().enumerate() {
         if !keep_next(kept, &mut next, &mut pass, planned)? {
             return Ok(pass);

@@ -99,6 +99,7 @@ fn follow_passes<const C: usize>(
         → AllFollow turns.now whole passes.now all.old.items
         → AllFollow turns.now whole [] all.new.items) }
 {
+    // The index is used by the loop's invariant alone.
     for (i, pass) in passes.iter().enumerate() {
         follow_pass(turns, all, pass)?;
     }

@@ -49,6 +49,7 @@ pub(crate) fn come_next<const C: usize>(
     ensures wrong { IfOk result (λ come. come ≡ false → (rest : List Receipt)
         → AreNext worker turns.now (place_at next.old) (receipts.now ++ rest) → ⊥) }
 {
+    // The index is used by the loop's invariant alone.
     for (i, receipt) in receipts.iter().enumerate() {
         if !comes_next(turns, worker, next, receipt)? {
             return Ok(false);

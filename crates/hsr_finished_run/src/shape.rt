@@ -37,6 +37,7 @@ fn is_linked(ends: &Ends<'_>, node: usize, entry: &Entry) -> bool
 fn are_linked(ends: &Ends<'_>, node: usize, entries: &[Entry]) -> bool
     ensures { IsTrue result ↔ AreLinked ends.now node entries.now (length entries.now) }
 {
+    // The index is used by the loop's invariant alone.
     for (i, entry) in entries.iter().enumerate() {
         if !is_linked(ends, node, entry) {
             return false;
@@ -61,7 +62,9 @@ fn nodes_fit<const C: usize>(ends: &Ends<'_>, kept: &[Kept<C>]) -> bool
 fn are_at<const C: usize>(places: &[Place], kept: &[Kept<C>]) -> bool
     ensures { IsTrue result ↔ (map (λ (r : Record). r.place) kept.now ≡ places.now) }
 {
+    // What is left is a variable, since the loop's invariant speaks of it.
     let mut left = places;
+    // The index is used by the loop's invariant alone.
     for (node, record) in kept.iter().enumerate() {
         let Some((place, more)) = left.split_first() else {
             return false;
@@ -97,6 +100,7 @@ pub(crate) fn is_shaped<const C: usize>(
 pub(crate) fn are_legal<const C: usize>(kept: &[Kept<C>])
     ensures { AreLegal C kept.now (length kept.now) }
 {
+    // The index is used by the loop's invariant alone.
     for (node, record) in kept.iter().enumerate() {
         // What it answers isn't used: its contract says that the record is legal.
         let _ = record.entries();

@@ -69,6 +69,7 @@ pub(crate) fn is_told<const C: usize>(
     ensures { IfOk result (λ told. IsTrue told ↔ IsToldBy kept.now plan.now) }
 {
     let mut next = first_places(alloc, kept.len())?;
+    // The index is used by the loop's invariant alone.
     for (i, planned) in plan.iter().enumerate() {
         if !tells_next(kept, &mut next, planned) {
             return Ok(false);

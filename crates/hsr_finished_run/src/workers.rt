@@ -13,6 +13,7 @@ fn most_in(entries: &[Entry]) -> u16
     ensures { result ≡ most_in entries.now }
 {
     let mut most = 0u16;
+    // The index is used by the loop's invariant alone.
     for (i, entry) in entries.iter().enumerate() {
         most = if most < entry.worker {
             entry.worker
@@ -27,6 +28,7 @@ fn most_kept<const C: usize>(kept: &[Kept<C>]) -> u16
     ensures { result ≡ most_kept kept.now }
 {
     let mut most = 0u16;
+    // The index is used by the loop's invariant alone.
     for (i, record) in kept.iter().enumerate() {
         let here = most_in(record.entries());
         most = if most < here { here } else { most };
@@ -38,6 +40,7 @@ fn most_passed(passes: &[Pass]) -> u16
     ensures { result ≡ most_passed passes.now }
 {
     let mut most = 0u16;
+    // The index is used by the loop's invariant alone.
     for (i, pass) in passes.iter().enumerate() {
         let here = pass.worker();
         most = if most < here { here } else { most };
@@ -74,6 +77,7 @@ fn after_receipts<'a>(receipts: &[Receipt], plan: &'a [Planned]) -> Option<&'a [
         ↔ (map planned_of receipts.now ++ rest ≡ plan.now)) }
 {
     let mut left = plan;
+    // The index is used by the loop's invariant alone.
     for (i, receipt) in receipts.iter().enumerate() {
         let Some((planned, more)) = left.split_first() else {
             return None;
@@ -108,6 +112,7 @@ fn is_plan(passes: &[Pass], plan: &[Planned]) -> bool
     ensures { IsTrue result ↔ (done_of passes.now ≡ plan.now) }
 {
     let mut left = plan;
+    // The index is used by the loop's invariant alone.
     for (i, pass) in passes.iter().enumerate() {
         let Some(more) = after_pass(pass, left) else {
             return false;

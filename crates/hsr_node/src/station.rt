@@ -109,7 +109,8 @@ impl Station {
         self.moment = self.moment.max(at);
     }
 
-    /// Lets an event happen. A station has no supervision frames, and only the port 0.
+    /// Lets an event happen, at a moment in microseconds. `WrongEvent` where it doesn't fit: a Station has no supervision
+    /// frames, only the port 0, and sends from one of its own addresses. A refusal changes nothing.
     pub fn apply(&mut self, at: u64, event: &Event) -> Result<Outcome, StepFault>
         ensures { (result, self.new) ≡ station_step self.old at event.now }
     {

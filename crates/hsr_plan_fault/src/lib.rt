@@ -5,6 +5,8 @@
 //! - `misplaced`: keys of the top that stand below a header
 //! - `refusals`: the words of why a plan means nothing
 //! - `telling`: the line of a fault, its call
+//!
+//! The lines are tested, and no contract tells their words.
 #![tactic(auto)]
 
 mod misplaced;

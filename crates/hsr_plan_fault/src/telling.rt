@@ -271,6 +271,7 @@ fn put_fault(
         bare: bare.as_slice(),
     };
     let place = place_of(source, fault);
+    // A key that belongs at the top says more than the fault of the table into which it fell.
     if let Some(found) = out_of_place(source, fault, place) {
         return put_misplaced(line, source.text, found);
     }

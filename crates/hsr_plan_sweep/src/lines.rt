@@ -189,6 +189,7 @@ pub(crate) fn lines(alloc: Global, sweep: &Sweep) -> Result<Vec<u8>, AllocError>
     put_nodes(&mut text, nodes, of_nodes)?;
     text.extend_from_slice(b"undisturbed")?;
     put_counted(&mut text, &sweep.undisturbed)?;
+    // The undisturbed run counts too: the last line is enough for all.
     let most = most_needed(links, sweep.undisturbed.needed);
     put_count(&mut text, b"needed ", most_needed(of_nodes, most) as u64)?;
     text.extend_from_slice(b"\n")?;

@@ -77,6 +77,7 @@ impl<const C: usize> QuadBox<C> {
         if self.accepted == STEP_LIMIT {
             return Err(Spent);
         }
+        // An earlier moment counts as the last one (RULES, Sending).
         let now = self.moment.max(at);
         let seen = look_at(octets);
         let wants = arrival_wants(port, &seen);

@@ -13,6 +13,7 @@ pub fn is_edge(place: &Place, port: u8) -> bool
 {
     match place {
         Place::Danh { .. } | Place::QuadBox => false,
+        // Port 2 is the interlink.
         Place::RedBox { .. } => port == 2,
         Place::Station { .. } => true,
     }

@@ -108,6 +108,7 @@ impl<const C: usize> RedBox<C> {
         if let Some(fault) = send_fault(self.own, self.accepted, dst, kind, payload.len()) {
             return Err(fault);
         }
+        // An earlier moment counts as the last one (RULES, Sending).
         let now = self.moment.max(at);
         let handling = send_handling(self.own, &self.proxies, dst, kind, now);
         let exits = handling.wants.exits;
@@ -180,8 +181,10 @@ impl<const C: usize> RedBox<C> {
         requires later { self.old.moment ≤ now }
         ensures { (result, self.new) ≡ after_ring C self.old now x seen.now }
     {
+        // A RedBox asks its stations: what is to a known one leaves by the interlink.
         let wants = ring_wants(self.own, self.mode, Some(&self.proxies), x, seen, now);
         let judged = self.tables.judge(wants, seen, now);
+        // Heard whatever the verdict: a duplicate tells too that its ring port is reached (IEC 62439-3 clause 5.7).
         let readable = hear(&mut self.nodes, self.own, x, seen, now);
         count(&mut self.counters, judged, readable);
         self.moment = now;

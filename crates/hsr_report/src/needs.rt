@@ -19,7 +19,8 @@ fn put_met(text: &mut Vec<u8>, at: Option<(usize, usize)>) -> Result<(), AllocEr
     }
 }
 
-/// Puts the line of how many entries were needed.
+/// Puts the line of how many entries were needed (RULES, The report). `AllocError` if allocation fails; a front of the
+/// line may stand there then.
 pub fn put_needed(text: &mut Vec<u8>, needed: Needed) -> Result<(), AllocError>
     ensures { OnOk result (text.new.items ≡ text.old.items ++ needed_line needed) }
 {

@@ -138,7 +138,8 @@ fn put_all_nobodies<const C: usize>(
     Ok(())
 }
 
-/// Puts what the report of a network tells more than that of a ring.
+/// Puts what the report of a network tells more than that of a ring. `NoMemory` if allocation fails; a front of it may
+/// stand there then.
 pub fn put_network<const C: usize>(
     alloc: Global,
     text: &mut Vec<u8>,

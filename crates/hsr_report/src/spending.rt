@@ -32,7 +32,8 @@ pub fn spending_of<const C: usize>(alloc: Global, closed: &Closed<C>) -> Result<
     }
 }
 
-/// Puts the line of the budget.
+/// Puts the line of the budget (RULES, The report). `AllocError` if allocation fails; a front of the line may stand
+/// there then.
 pub fn put_spending(text: &mut Vec<u8>, spending: Spending) -> Result<(), AllocError>
     ensures { OnOk result (text.new.items ≡ text.old.items ++ spending_line spending) }
 {

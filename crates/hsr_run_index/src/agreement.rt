@@ -37,6 +37,7 @@ fn next_told<'a>(which: Passage, dir: Dir, rows: &'a [Row]) -> Option<(&'a Carri
         ≡ r.0.now ∷ told which dir r.1.now) }
 {
     let mut left = rows;
+    // What is left is a variable, since the loop's invariant speaks of it.
     while let Some((row, more)) = left.split_first() {
         if is_told(which, dir, row) {
             return Some((&row.carried, more));
@@ -151,6 +152,7 @@ fn takens_in_order(entries: &[Entry], port: u8, dir: Dir, rows: &[Row]) -> bool
     ensures { IsTrue result → (told Taken dir rows.now ≡ came port entries.now) }
 {
     let mut left = rows;
+    // The index is used by the loop's invariant alone.
     for (at, entry) in entries.iter().enumerate() {
         let Some(more) = after_arrival(port, entry, dir, left) else {
             return false;
@@ -177,6 +179,7 @@ fn copies_told(
     ensures { IfOk result (λ copies. copies.items ≡ told which dir rows.now) }
 {
     let mut copies = Vec::new(alloc);
+    // The index is used by the loop's invariant alone.
     for (i, row) in rows.iter().enumerate() {
         if is_told(which, dir, row) {
             add(&mut copies, row.carried.copy()?)?;
@@ -238,6 +241,7 @@ fn arrived(alloc: Global, port: u8, entries: &[Entry]) -> Result<Vec<Carried>, N
     ensures { IfOk result (λ copies. copies.items ≡ came port entries.now) }
 {
     let mut copies = Vec::new(alloc);
+    // The index is used by the loop's invariant alone.
     for (at, entry) in entries.iter().enumerate() {
         if let Some(copy) = came_by(port, entry) {
             add(&mut copies, copy.copy()?)?;

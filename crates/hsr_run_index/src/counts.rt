@@ -53,6 +53,7 @@ fn counted<'a>(alloc: Global, copies: &'a [Carried]) -> Result<Counts<'a>, NoMem
         ≡ count_by (is_same_carried copy) copies.now) }
 {
     let mut counts = IndexMap::new(alloc);
+    // The index is used by the loop's invariant alone.
     for (i, copy) in copies.iter().enumerate() {
         count_one(&mut counts, copy)?;
     }
@@ -67,6 +68,7 @@ fn are_alike(copies: &[Carried], counts: &Counts<'_>, others: &Counts<'_>) -> bo
     ensures other { result ≡ false → ((copy : spec.Carried) → count_of counts.now copy
         ≡ count_of others.now copy) → ⊥ }
 {
+    // The index is used by the loop's invariant alone.
     for (i, copy) in copies.iter().enumerate() {
         if count_of(counts, copy) != count_of(others, copy) {
             return false;

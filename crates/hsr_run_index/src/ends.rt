@@ -15,6 +15,7 @@ use std::marker::Model;
 /// Links, and for each of their ends the one that it is joined with, by its node and port.
 #[derive(Drop)]
 pub struct Ends<'a> {
+    // Kept for its model: contracts speak of ends by the links that they are of.
     links: &'a [[End; 2]],
     peers: IndexMap<(usize, u8), End>,
 }
@@ -79,6 +80,7 @@ fn peers_of(alloc: Global, links: &[[End; 2]]) -> Result<IndexMap<(usize, u8), E
         ≡ is_used links.now e) }
 {
     let mut peers = IndexMap::new(alloc);
+    // The index is used by the loop's invariant alone.
     for (i, link) in links.iter().enumerate() {
         put_link(&mut peers, *link)?;
     }

@@ -106,6 +106,7 @@ fn put_entries(
     ensures { OnOk result ((k : ℕ) (p : spec.Probe) → number_of given.new k p
         ≡ option_or (number_of given.old k p) (given_where node k p entries.now)) }
 {
+    // The index is used by the loop's invariant alone.
     for (i, entry) in entries.iter().enumerate() {
         put_entry(given, node, entry)?;
     }

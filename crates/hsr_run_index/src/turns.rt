@@ -62,6 +62,7 @@ fn behind_of<const C: usize>(alloc: Global, kept: &[Kept<C>]) -> Result<Vec<Vec<
     ensures { IfOk result (λ behind. AreBehind kept.now behind.items (length kept.now)) }
 {
     let mut behind = Vec::new(alloc);
+    // The index is used by the loop's invariant alone.
     for (node, record) in kept.iter().enumerate() {
         add_record(&mut behind, behind_in(alloc, record.entries())?)?;
     }

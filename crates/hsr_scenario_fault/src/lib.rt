@@ -7,6 +7,8 @@
 //! - `telling`: the line of a fault, its call
 //! - `refused`: the line of a step that was refused, its call
 //! - `reasons`: why the run of a scenario stops, or can't be closed
+//!
+//! The lines are tested, and no contract tells their words.
 #![tactic(auto)]
 
 mod keys;

@@ -176,6 +176,7 @@ fn put_fault(
     fault: &ScenarioFault,
 ) -> Result<(), NoMemory> {
     let spot = spot_in(document, fault);
+    // A plan given for a scenario has an unknown key at the top, and that it is a plan says more.
     if let Some(word) = plan_word(document, spot, &fault.what) {
         return put_plan(line, source, word);
     }

@@ -128,7 +128,7 @@ pub enum Element {
     LabelsEnd,
 }
 
-/// Adds an arrow.
+/// Adds an arrow, with its hover text. `NoMemory` if allocation fails.
 #[tactic(auto, unfolding(crate::specs::Elements::shapes))]
 pub fn add_arrow(
     elements: &mut Vec<Element>,
@@ -147,7 +147,7 @@ pub fn add_arrow(
     Ok(())
 }
 
-/// Adds an arrow of the legend.
+/// Adds an arrow of the legend. `NoMemory` if allocation fails.
 #[tactic(auto, unfolding(crate::specs::Elements::shapes))]
 pub fn add_sample(elements: &mut Vec<Element>, look: Look, way: Way) -> Result<(), NoMemory>
     ensures { OnOk result (shapes elements.new.items ≡ shapes elements.old.items
@@ -157,7 +157,7 @@ pub fn add_sample(elements: &mut Vec<Element>, look: Look, way: Way) -> Result<(
     Ok(())
 }
 
-/// Adds a line.
+/// Adds a line that is no arrow. `NoMemory` if allocation fails.
 #[tactic(auto, unfolding(crate::specs::Elements::shapes))]
 pub fn add_line(elements: &mut Vec<Element>, line: Line, way: Way) -> Result<(), NoMemory>
     ensures { OnOk result (shapes elements.new.items ≡ shapes elements.old.items
@@ -167,20 +167,21 @@ pub fn add_line(elements: &mut Vec<Element>, line: Line, way: Way) -> Result<(),
     Ok(())
 }
 
-/// Adds the mark of a send around a point.
+/// Adds the mark of a send around a point. `NoMemory` if allocation fails.
 #[tactic(auto, unfolding(crate::specs::Elements::shapes))]
 pub fn add_square(elements: &mut Vec<Element>, x: u64, y: u64) -> Result<(), NoMemory>
     ensures { OnOk result (shapes elements.new.items ≡ shapes elements.old.items
         ++ square_shape ∷ []) }
 {
     elements.push(Element::Square {
+        // The mark is 8 wide and 8 high.
         x: x.saturating_sub(4),
         y: y.saturating_sub(4),
     })?;
     Ok(())
 }
 
-/// Adds the time in which a link is down.
+/// Adds the shade of a time in which a link is down. `NoMemory` if allocation fails.
 #[tactic(auto, unfolding(crate::specs::Elements::shapes))]
 pub fn add_shade(elements: &mut Vec<Element>, area: Area) -> Result<(), NoMemory>
     ensures { OnOk result (shapes elements.new.items ≡ shapes elements.old.items
@@ -190,7 +191,7 @@ pub fn add_shade(elements: &mut Vec<Element>, area: Area) -> Result<(), NoMemory
     Ok(())
 }
 
-/// Adds a text.
+/// Adds a text. `NoMemory` if allocation fails.
 #[tactic(auto, unfolding(crate::specs::Elements::shapes))]
 pub fn add_text(
     elements: &mut Vec<Element>,
@@ -209,7 +210,7 @@ pub fn add_text(
     Ok(())
 }
 
-/// Adds a copy of words as a text.
+/// Adds a copy of words as a text. `NoMemory` if allocation fails.
 pub fn add_words(
     alloc: Global,
     elements: &mut Vec<Element>,
@@ -224,7 +225,7 @@ pub fn add_words(
     add_text(elements, label, words, spot)
 }
 
-/// Begins the texts and marks on a white ground.
+/// Begins the texts and marks on a white ground. `NoMemory` if allocation fails.
 #[tactic(auto, unfolding(crate::specs::Elements::shapes))]
 pub fn begin_labels(elements: &mut Vec<Element>) -> Result<(), NoMemory>
     ensures { OnOk result (shapes elements.new.items ≡ shapes elements.old.items
@@ -234,7 +235,7 @@ pub fn begin_labels(elements: &mut Vec<Element>) -> Result<(), NoMemory>
     Ok(())
 }
 
-/// Ends them.
+/// Ends the texts and marks on a white ground. `NoMemory` if allocation fails.
 #[tactic(auto, unfolding(crate::specs::Elements::shapes))]
 pub fn end_labels(elements: &mut Vec<Element>) -> Result<(), NoMemory>
     ensures { OnOk result (shapes elements.new.items ≡ shapes elements.old.items

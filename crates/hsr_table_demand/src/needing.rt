@@ -57,6 +57,7 @@ pub fn needed<const C: usize>(alloc: Global, closed: &Closed<C>) -> Result<Neede
 {
     let mut needed = Needed::nothing();
     for node in 0..closed.topology().places().len() {
+        // Each node goes on from what those before it needed, so the first of equals is named.
         needed = needed_with(alloc, closed, node, needed)?;
     }
     Ok(needed)

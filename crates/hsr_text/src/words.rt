@@ -141,7 +141,7 @@ pub fn hex_octets(alloc: Global, word: &[u8]) -> Result<Vec<u8>, WordFault>
     }
 }
 
-/// Puts a number in decimal digits last; a refused growth changes nothing.
+/// Puts a number in decimal digits last. `AllocError` if allocation fails: then nothing changes.
 pub fn put_decimal(text: &mut Vec<u8>, n: u64) -> Result<(), AllocError>
     ensures ok { OnOk result (text.new.items ≡ text.old.items ++ decimal_text n) }
     ensures err { OnErr result (text.new.items ≡ text.old.items) }
@@ -150,7 +150,7 @@ pub fn put_decimal(text: &mut Vec<u8>, n: u64) -> Result<(), AllocError>
     text.extend_from_slice(buffer.format(n).as_bytes())
 }
 
-/// Puts a name and a number in decimal digits last.
+/// Puts a name and a number in decimal digits last. `AllocError` if allocation fails; the name may stand there then.
 pub fn put_count(text: &mut Vec<u8>, name: &[u8], n: u64) -> Result<(), AllocError>
     ensures { OnOk result (text.new.items ≡ text.old.items ++ (name.now ++ decimal_text n)) }
 {
@@ -158,7 +158,8 @@ pub fn put_count(text: &mut Vec<u8>, name: &[u8], n: u64) -> Result<(), AllocErr
     put_decimal(text, n)
 }
 
-/// Puts the text of an address last, six pairs of digits of upper case with hyphens between them.
+/// Puts the text of an address last, six pairs of digits of upper case with hyphens between them. `AllocError` if
+/// allocation fails.
 #[tactic(auto, unfolding(crate::specs::Words::mac_text))]
 pub fn put_mac(alloc: Global, text: &mut Vec<u8>, mac: Mac) -> Result<(), AllocError>
     ensures { OnOk result (text.new.items ≡ text.old.items ++ mac_text mac) }
@@ -168,7 +169,7 @@ pub fn put_mac(alloc: Global, text: &mut Vec<u8>, mac: Mac) -> Result<(), AllocE
     text.extend_from_slice(address.as_bytes())
 }
 
-/// Puts octets in hexadecimal digits of upper case last; a refused growth changes nothing.
+/// Puts octets in hexadecimal digits of upper case last. `AllocError` if allocation fails: then nothing changes.
 pub fn put_hex(text: &mut Vec<u8>, octets: &[u8]) -> Result<(), AllocError>
     ensures ok { OnOk result (text.new.items ≡ text.old.items ++ encode_upper octets.now) }
     ensures err { OnErr result (text.new.items ≡ text.old.items) }

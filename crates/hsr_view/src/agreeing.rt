@@ -32,6 +32,7 @@ fn is_same(a: &Planned, b: &Planned) -> bool
 fn are_same(a: &[Planned], b: &[Planned]) -> bool
     ensures { IsTrue result ↔ (a.now ≡ b.now) }
 {
+    // What is left is a variable, since the loop's invariant speaks of it.
     let mut left = b;
     for planned in a.iter() {
         let Some((other, more)) = left.split_first() else {

@@ -117,6 +117,7 @@ fn given_from(text: &[u8]) -> Option<Given>
 {
     let mut left = text;
     let mut is_line = true;
+    // What is left is a variable, since the loop's invariant speaks of it.
     while let Some((octet, rest)) = left.split_first() {
         if is_line && let Some(given) = given_at(left) {
             return Some(given);

@@ -50,6 +50,7 @@ const USAGE: u8 = 3;
 fn text_at<H: AllocGlobal + Files>(rt: &H, path: &str) -> io::Result<Vec<u8>> {
     let file = File::open(rt, path)?;
     let mut text = Vec::new(rt.alloc());
+    // One octet more than a scenario may have is enough to refuse it.
     file.take(TEXT_LIMIT as u64 + 1).read_to_end(&mut text)?;
     Ok(text)
 }

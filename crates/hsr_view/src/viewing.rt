@@ -246,6 +246,7 @@ fn shown_of<const C: usize>(
     ensures unshown { IfErr result (IsUnshown closed.now what.now
         (option_map (λ s. s.now) scenario.entry)) }
 {
+    // Names come first: sends are asked for by them.
     let names = names_of(alloc, closed.topology(), scenario)?;
     match what {
         What::Devices => Ok(devices(alloc, closed, names.as_slice())?),
