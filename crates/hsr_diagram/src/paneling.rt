@@ -68,10 +68,8 @@ fn all_free(alloc: Global, count: usize) -> Result<Vec<bool>, NoMemory>
 
 /// Puts a panel last.
 fn add(panels: &mut Vec<Panel>, first: usize, lanes: Vec<Lane>) -> Result<(), NoMemory>
-    ensures { OnOk result (panels.new.items ≡ panels.old.items ++ record {
-      first = first;
-      lanes = lanes.items;
-    } ∷ []) }
+    ensures { OnOk result (panels.new.items ≡ panels.old.items
+        ++ record { first = first; lanes = lanes.items } ∷ []) }
 {
     panels.push(Panel { first, lanes })?;
     Ok(())

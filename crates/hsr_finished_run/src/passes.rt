@@ -12,11 +12,8 @@ use std::alloc::Global;
 
 /// The receipt of an entry that stands at a place of a node.
 fn receipt_of(node: usize, place: usize, entry: &Entry) -> Result<Receipt, NoMemory>
-    ensures { IfOk result (λ receipt. receipt ≡ record {
-      node = node;
-      place = place;
-      entry = entry.now;
-    }) }
+    ensures { IfOk result (λ receipt. receipt
+        ≡ record { node = node; place = place; entry = entry.now }) }
 {
     let entry = Entry {
         worker: entry.worker,
@@ -35,10 +32,8 @@ fn add_pass(passes: &mut Vec<Pass>, pass: Pass) -> Result<(), NoMemory>
 }
 
 fn add_receipt(pass: &mut Pass, receipt: Receipt) -> Result<(), NoMemory>
-    ensures { OnOk result (pass.new ≡ record pass.old {
-      receipts = pass.old.receipts
-          ++ receipt ∷ [];
-    }) }
+    ensures { OnOk result (pass.new
+        ≡ record pass.old { receipts = pass.old.receipts ++ receipt ∷ [] }) }
 {
     match pass.keep(receipt) {
         Ok(()) => Ok(()),

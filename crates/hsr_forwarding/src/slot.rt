@@ -44,10 +44,8 @@ impl<const C: usize> TableSlot<C> {
         requires there { passes ≡ (passes && self.old.there) }
         requires later { self.old.table.last ≤ now }
         requires room { self.old.table.noted < step_limit }
-        ensures { self.new ≡ record self.old {
-          table = after_pass C self.old.table passes key
-              now;
-        } }
+        ensures { self.new
+            ≡ record self.old { table = after_pass C self.old.table passes key now } }
     {
         if let Some(table) = &mut self.table {
             table.mark(passes, key, now);

@@ -41,10 +41,8 @@ impl<const C: usize> NodeCell<C> {
         at: u64,
         event: Event,
     ) -> Result<Receipt, (Event, StepFault)>
-        ensures kept { IfOk result (λ r. pass.new ≡ record pass.old {
-          receipts = pass.old.receipts
-              ++ r ∷ [];
-        }) }
+        ensures kept { IfOk result (λ r. pass.new
+            ≡ record pass.old { receipts = pass.old.receipts ++ r ∷ [] }) }
         ensures call { IfOk result (λ r. (r.entry.worker ≡ pass.old.worker) × (r.entry.at ≡ at)
             × (r.entry.event ≡ event)) }
         ensures answered { IsAnsweredByRecord C at event result }
@@ -87,10 +85,8 @@ fn step_legal<const C: usize>(
     at: u64,
     event: Event,
 ) -> Result<Receipt, (Event, StepFault)>
-    ensures kept { IfOk result (λ r. kept.new ≡ record kept.old {
-      entries = kept.old.entries
-          ++ r.entry ∷ [];
-    }) }
+    ensures kept { IfOk result (λ r. kept.new
+        ≡ record kept.old { entries = kept.old.entries ++ r.entry ∷ [] }) }
     ensures receipt { IfOk result (λ r. (r.node ≡ kept.old.number)
         × (r.place ≡ length kept.old.entries)) }
     ensures call { IfOk result (λ r. (r.entry.worker ≡ worker) × (r.entry.at ≡ at)

@@ -50,11 +50,8 @@ impl<const C: usize> Kept<C> {
     pub fn new(alloc: Global, number: usize, place: Place) -> Result<Kept<C>, NoMemory>
         requires station { HasOwnAddress place }
         requires entries { (1 ≤ C) × (C ≤ 65535) }
-        ensures { IfOk result (λ kept. kept ≡ record {
-          number = number;
-          place = place;
-          entries = [];
-        }) }
+        ensures { IfOk result (λ kept. kept
+            ≡ record { number = number; place = place; entries = [] }) }
     {
         let node = Node::new(alloc, &place)?;
         Ok(Kept {
@@ -116,10 +113,8 @@ impl<const C: usize> Kept<C> {
         at: u64,
         event: Event,
     ) -> Result<Receipt, (Event, StepFault)>
-        ensures kept { IfOk result (λ r. self.new ≡ record self.old {
-          entries = self.old.entries
-              ++ r.entry ∷ [];
-        }) }
+        ensures kept { IfOk result (λ r. self.new
+            ≡ record self.old { entries = self.old.entries ++ r.entry ∷ [] }) }
         ensures receipt { IfOk result (λ r. (r.node ≡ self.old.number)
             × (r.place ≡ length self.old.entries)) }
         ensures call { IfOk result (λ r. (r.entry.worker ≡ worker) × (r.entry.at ≡ at)

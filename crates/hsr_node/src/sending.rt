@@ -41,13 +41,8 @@ fn frame_of<'a>(
     kind: u16,
     payload: Payload<'a>,
 ) -> Option<FrameView<'a>>
-    ensures { result ≡ frame_of (record {
-      dst = dst;
-      src = src;
-      vlan = vlan;
-      kind = kind;
-      rest = payload.entry;
-    }) }
+    ensures { result ≡ frame_of
+        (record { dst = dst; src = src; vlan = vlan; kind = kind; rest = payload.entry }) }
 {
     if src.is_group()
         || kind == ETHERTYPE_HSR

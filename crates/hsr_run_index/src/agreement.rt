@@ -198,10 +198,8 @@ pub fn passed_by(
     at: usize,
     entry: &Entry,
 ) -> Result<Option<Carried>, NoMemory>
-    ensures { IfOk result (λ copy. copy ≡ passed_by (record {
-      number = number;
-      place = place.now;
-    }) port at entry.now) }
+    ensures { IfOk result (λ copy. copy ≡ passed_by
+        (record { number = number; place = place.now }) port at entry.now) }
 {
     let Some(octets) = spelled_out(place, &entry.event, &entry.outcome, port) else {
         return Ok(None);
@@ -222,10 +220,8 @@ fn passed(
     port: u8,
     entries: &[Entry],
 ) -> Result<Vec<Carried>, NoMemory>
-    ensures { IfOk result (λ copies. copies.items ≡ passed (record {
-      number = number;
-      place = place.now;
-    }) port 0 entries.now) }
+    ensures { IfOk result (λ copies. copies.items ≡ passed
+        (record { number = number; place = place.now }) port 0 entries.now) }
 {
     let mut copies = Vec::new(alloc);
     for (at, entry) in entries.iter().enumerate() {

@@ -255,11 +255,8 @@ impl Marks {
 
     /// Puts a mark last.
     fn add(&mut self, key: Key, moment: u64, probe: Option<Probe>) -> Result<(), NoMemory>
-        ensures put { OnOk result (self.new ≡ self.old ++ record {
-          key = key;
-          moment = moment;
-          probe = probe;
-        } ∷ []) }
+        ensures put { OnOk result (self.new ≡ self.old
+            ++ record { key = key; moment = moment; probe = probe } ∷ []) }
         ensures refused { OnErr result (self.new ≡ self.old) }
     {
         let latest = Latest {
