@@ -130,7 +130,7 @@ impl<const C: usize> Danh<C> {
     }
 
     /// Numbers a supervision frame and sends it by both ports (IEC 62439-3 clause 5.7); `life` counts the
-    /// earlier ones, modulo `NUMBER_RANGE`. Where `STEP_LIMIT` steps are spent it changes nothing.
+    /// earlier ones, modulo `NUMBER_RANGE`. `Spent` where `STEP_LIMIT` steps were accepted: then nothing changes.
     pub fn supervise(&mut self, at: u64) -> Result<Life, Spent>
         ensures { (result, self.new) ≡ life_step C self.old at }
     {
@@ -151,8 +151,8 @@ impl<const C: usize> Danh<C> {
     }
 
     /// Judges what came to a ring port (IEC 62439-3 clause 5.3): octets that are no frame and plain frames are counted
-    /// and dropped, tagged ones passed where they are wanted and not remembered. Where `STEP_LIMIT` steps are spent it
-    /// changes nothing.
+    /// and dropped, tagged ones passed where they are wanted and not remembered. `Spent` where `STEP_LIMIT` steps
+    /// were accepted: then nothing changes.
     pub fn arrive(&mut self, at: u64, port: RingPort, octets: &[u8]) -> Result<Verdict, Spent>
         ensures { (result, self.new) ≡ arrive_step C self.old at port octets.now }
     {

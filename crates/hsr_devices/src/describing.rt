@@ -90,7 +90,7 @@ fn put_who(
     put_owner(text, names, owner_in(places, mac))
 }
 
-/// What kind of node a supervision frame tells of.
+/// What kind of node a supervision frame tells of, by the type of its first TLV (IEC 62439-3 clause 5.7).
 fn kind_text(kind: SupKind) -> &'static [u8]
     ensures { result.now ≡ kind_text kind }
 {

@@ -21,7 +21,7 @@ pub fn name_words(alloc: Global, names: &[Vec<u8>], node: usize) -> Result<Vec<u
     Ok(words)
 }
 
-/// What kind of node it is, in a word.
+/// What kind of node it is, in a word; empty for a DANH.
 pub fn kind_word(place: &Place) -> &'static str
     ensures { result.now ≡ kind_word place.now }
 {

@@ -14,7 +14,7 @@ pub struct Explanation {
 }
 
 impl Explanation {
-    /// Nothing.
+    /// An explanation without lines.
     pub fn new(alloc: Global) -> Explanation {
         Explanation {
             lines: Vec::new(alloc),

@@ -68,8 +68,9 @@ fn counted(alloc: Global, size: usize, k: usize) -> Result<Vec<u8>, NoMemory>
     Ok(payload)
 }
 
-/// The payload of that kind, for the `k`-th frame that a name sends behind a stream's `state`-th start: of `size`
-/// octets, or the longest of its kind that isn't longer, or the shortest of its kind. `NoMemory` if allocation fails.
+/// The payload of that kind, for the `k`-th frame that a name sends behind a stream's `state`-th start, both counted
+/// from 0: of `size` octets, or the longest of its kind that isn't longer, or the shortest of its kind. `NoMemory` if
+/// allocation fails.
 pub fn payload(
     alloc: Global,
     kind: Kind,

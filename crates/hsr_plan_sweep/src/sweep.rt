@@ -130,7 +130,7 @@ fn without_nodes<E: Write>(
 /// one more event at the end of its own. The plan's own events may still mend such a link, or set such a node on again.
 /// The plan stays as it is. Where that is asked for, `errors` is told how far it is, in one line that is written again
 /// and again. `Plan` and `Run` come only where nothing is counted of the plan itself, or of one of these: it means
-/// nothing, or what it means leads to no finished run.
+/// nothing, or what it means leads to no finished run. `Memory` if allocation fails.
 pub fn sweep_plan<E: Write>(
     alloc: Global,
     plan: &mut Plan,

@@ -128,9 +128,9 @@ impl<const C: usize> RedBox<C> {
     }
 
     /// Numbers a supervision frame about this node or a station of its interlink, and sends it by both ring ports
-    /// under its own address (IEC 62439-3 clause 5.7); `life` counts the earlier ones, modulo `NUMBER_RANGE`. It refuses one
-    /// about an address that isn't known at this moment, and any where `STEP_LIMIT` steps are spent, in this order; a
-    /// refusal changes nothing.
+    /// under its own address (IEC 62439-3 clause 5.7); `life` counts the earlier ones, modulo `NUMBER_RANGE`. `NotProxied`
+    /// where it is about an address that isn't known at this moment, and then `Spent` where `STEP_LIMIT` steps were accepted;
+    /// a refusal changes nothing.
     pub fn supervise(&mut self, at: u64, about: About) -> Result<Life, LifeFault>
         ensures { (result, self.new) ≡ life_step C self.old at about }
     {
@@ -154,7 +154,7 @@ impl<const C: usize> RedBox<C> {
     /// Judges what came to a port (IEC 62439-3 clause 5.3). Octets that are no frame are counted. Of a ring port plain
     /// frames are dropped, and tagged ones pass where they are wanted and not remembered. Of the interlink
     /// tagged frames are dropped; the source of a plain one is heard, and it passes wherever it is wanted: to the
-    /// ring with the next number. Where `STEP_LIMIT` steps are spent it changes nothing.
+    /// ring with the next number. `Spent` where `STEP_LIMIT` steps were accepted: then nothing changes.
     pub fn arrive(&mut self, at: u64, port: BoxPort, octets: &[u8]) -> Result<BoxVerdict, Spent>
         ensures { (result, self.new) ≡ arrive_step C self.old at port octets.now }
     {
