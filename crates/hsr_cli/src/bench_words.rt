@@ -144,6 +144,7 @@ fn mac_arg<'a>(alloc: Global) -> Arg<'a>
     Arg::new(alloc, "mac")
         .long("mac")
         .help("The node's address, which is no group's")
+        // The 2 says that the address is locally administered (IEEE 802 clause 8).
         .default_value("02-00-00-00-00-01")
 }
 
@@ -576,6 +577,7 @@ pub fn options<'a>(alloc: Global, words: &'a [&'a str]) -> Result<Options, Optio
     // Clap would ask for a subcommand.
     if words.is_empty() {
         return Ok(Options::Node(NodeOptions {
+            // The default of `--mac`.
             mac: Mac::new([2, 0, 0, 0, 0, 1]),
             mode: Mode::H,
             table: TableSize::Large,

@@ -139,6 +139,7 @@ fn list_entry<const C: usize>(
     ensures { OnOk result (sends.new.items ≡ sends.old.items
         ++ delivered_by traces.now send place.now x.now) }
 {
+    // A supervision is a send here too (RULES, Who got what).
     let Some(sending) = sent_view(place, &x.event, &x.outcome) else {
         return Ok(());
     };

@@ -81,6 +81,7 @@ fn is_unheard_of(place: &Place, entries: &[Entry], other: &Place) -> bool
 {
     match other {
         Place::Danh { mac, .. } | Place::RedBox { mac, .. } => !is_told_of(place, entries, *mac),
+        // Supervision about a Station is its RedBox's.
         Place::QuadBox | Place::Station { .. } => false,
     }
 }
@@ -98,6 +99,7 @@ fn is_unheard<const C: usize>(
     requires other { other.now ≡ place_of closed.now.run number }
     ensures { result ≡ is_unheard closed.now.run node number }
 {
+    // Its whole record counts: a node table forgets after a minute, so it doesn't tell this.
     number != node && is_unheard_of(place, closed.entries(node), other)
 }
 

@@ -90,6 +90,7 @@ fn add_copy_if(
         ++ copy_if (lists_of names.now) has_one send) }
 {
     match send {
+        // Of one send alone all labels would be the same.
         Some(send) if !has_one => {
             let words = send_words(alloc, names, send)?;
             let label = Label::Copy {

@@ -99,6 +99,7 @@ impl Columns {
     /// reach beyond the first line.
     pub(crate) fn beside(&self, number: usize, width: u64) -> (u64, Anchor) {
         let x = self.line_at(number);
+        // At the left, since the marks of the node's next link stand at the right.
         if width.saturating_add(BESIDE) < x.saturating_sub(self.line_at(0)) {
             (x.saturating_sub(BESIDE), Anchor::End)
         } else {

@@ -138,6 +138,7 @@ fn met_down<const C: usize>(closed: &Closed<C>, arrow: &Arrow, link: usize) -> b
 fn row_behind(times: &Times, planned: &[Option<Time>], change: &Change) -> usize {
     let later = times.first_after(change.moment);
     match time_of(planned, Some(change.planned)) {
+        // A change stands before what is planned next, and before all of a later moment.
         Some(time) => later.min(times.first_since(time)),
         None => later,
     }

@@ -1,5 +1,6 @@
 //! How wide texts are, near enough, in places of the paper.
 
+// A test measures these (`tests/run pictures`): no contract says that no text lies on another.
 /// How wide a letter is: of a name of a node, of a mark, and of what stands at the point of an arrow.
 pub(crate) const NAME: u64 = 8;
 

@@ -152,6 +152,7 @@ pub fn put_network<const C: usize>(
         // Without `--network` a report has the agreed lines alone.
         Scope::Ring => Ok(()),
         Scope::Network => {
+            // Of doubted runs too: who reads of a doubt looks for just that.
             put_all_unlinked(text, closed)?;
             put_all_nobodies(alloc, text, closed)
         }

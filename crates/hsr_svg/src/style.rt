@@ -22,6 +22,7 @@ pub fn looks() -> [Look; 6]
 pub(crate) fn colour_of(look: Look) -> &'static str
     ensures { result.now ≡ look_colour look }
 {
+    // A printer may have no colours, so dashes and points tell the looks apart too.
     match look {
         Look::TakenUp => "#14732f",
         Look::SentOn => "#1f5fbf",
