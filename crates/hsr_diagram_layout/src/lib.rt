@@ -5,16 +5,21 @@
 //! - `widths`: how wide texts are
 //! - `columns`: lines of nodes and the lanes between them, side by side
 //! - `heads`: what stands over them
-//! - `shelves`, `labels`: labels, so that none lies on another
+//! - `shelves`: shelves for labels, so that none lies on another
+//! - `labels`: the labels of arrows and of sends, on their shelves
 //! - `rows`: moments and steps, downwards
 //! - `falls`: between which rows links are down, and where nodes go off and come on
-//! - `moments`, `items`: moments, and the sends that are listed, in their order
+//! - `moments`: the moments of a picture, in their order
+//! - `items`: the sends that are listed, in the order of time
 //! - `sheet`: these, all places, and where arrows run
 //! - `frame`: node lines, their names, and moments
-//! - `arrows`, `marks`: arrows and their labels, and the marks of sends
-//! - `shades`, `switches`: the times in which links are down, and nodes that go off or come on
+//! - `arrows`: arrows and their labels
+//! - `marks`: the marks of sends, on the lines of their nodes
+//! - `shades`: shades while links are down, and the marks of cuts and mends
+//! - `switches`: the marks of nodes that go off or come on
 //! - `listing`: the sends at the right
-//! - `legend`, `telling`: what stands below
+//! - `legend`: the legend, and the foot
+//! - `telling`: the sends that aren't complete, below
 //! - `svg`: the whole, its call
 #![tactic(auto)]
 
