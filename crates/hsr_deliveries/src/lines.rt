@@ -33,7 +33,7 @@ fn put_next(text: &mut Vec<u8>, node: usize) -> Result<(), AllocError>
 }
 
 /// Puts numbers, each behind a comma.
-#[tactic(auto, using(crate::proofs::Growing::grown))]
+#[tactic(auto, using(hsr_frame::proofs::OneMore::grown))]
 fn put_others(text: &mut Vec<u8>, nodes: &[usize]) -> Result<(), AllocError>
     ensures { OnOk result (text.new.items ≡ text.old.items ++ flat_map (behind decimal) nodes.now) }
 {
@@ -80,7 +80,7 @@ fn put_next_loss(text: &mut Vec<u8>, loss: Loss) -> Result<(), AllocError>
 }
 
 /// Puts losses, each behind a comma.
-#[tactic(auto, using(crate::proofs::Growing::grown))]
+#[tactic(auto, using(hsr_frame::proofs::OneMore::grown))]
 fn put_other_losses(text: &mut Vec<u8>, losses: &[Loss]) -> Result<(), AllocError>
     ensures { OnOk result (text.new.items ≡ text.old.items
         ++ flat_map (behind loss_text) losses.now) }
@@ -151,7 +151,7 @@ fn put_line_if(alloc: Global, text: &mut Vec<u8>, delivery: &Delivery) -> Result
 }
 
 /// Puts the lines of the sends that aren't complete.
-#[tactic(auto, using(crate::proofs::Growing::grown))]
+#[tactic(auto, using(hsr_frame::proofs::OneMore::grown))]
 fn put_lines(alloc: Global, text: &mut Vec<u8>, sends: &[Delivery]) -> Result<(), AllocError>
     ensures { OnOk result (text.new.items ≡ text.old.items ++ flat_map line_if sends.now) }
 {

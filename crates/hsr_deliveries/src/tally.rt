@@ -67,7 +67,7 @@ fn count_one(counts: &mut Counts, send: Probe) -> Result<(), NoMemory>
 }
 
 /// How often each send was taken up by the entries of a record.
-#[tactic(auto, using(crate::proofs::Counting::count_fits, crate::proofs::Counting::counted_more))]
+#[tactic(auto, using(hsr_frame::proofs::OneMore::count_fits, hsr_frame::proofs::OneMore::counted_more))]
 fn counted(alloc: Global, entries: &[Entry]) -> Result<Counts, NoMemory>
     ensures { IfOk result (λ counts. (send : spec.Probe) → times_in counts send
         ≡ count_by (delivers send) entries.now) }

@@ -6,10 +6,10 @@ ghost use Rattle.hsr_diagram_text.specs.Labels.{change_word, change_words, kind_
 ghost use Rattle.hsr_diagram_text.specs.Moments.{moment_text};
 
 use crate::moments::put_moment;
-use crate::sends::{put, put_number};
 use hsr_frame::NoMemory;
-use hsr_node::Place;
 use hsr_timeline::put_name;
+use hsr_node::Place;
+use hsr_text::{put, put_number};
 use std::alloc::Global;
 
 /// The name of a node. `NoMemory` if allocation fails.

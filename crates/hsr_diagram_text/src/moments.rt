@@ -2,8 +2,8 @@
 ghost use Rattle.std.specs.Prelude.{◌≡◌, ◌<◌, ◌+◌, ◌++◌, ◌∷◌, [], OnOk};
 ghost use Rattle.hsr_diagram_text.specs.Moments.{digits_of, millionths, milliseconds, moment_text, seconds, thousandths};
 
-use crate::sends::{put, put_number};
 use hsr_frame::NoMemory;
+use hsr_text::{put, put_number};
 
 /// The digit of a number below 10.
 fn digit(n: u64) -> u8

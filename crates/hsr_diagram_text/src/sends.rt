@@ -1,31 +1,14 @@
 //! Sends, and names of nodes.
 ghost use Rattle.std.specs.Prelude.{◌≡◌, ◌++◌, IfOk, OnOk};
-ghost use Rattle.std.specs.Fmt.{decimal};
 ghost use Rattle.std.specs.List.{flat_map};
 ghost use Rattle.hsr_timeline.specs.Fronts.{lists_of};
 ghost use Rattle.hsr_diagram_text.specs.Sends.{next_node, nodes_text, send_text};
 
 use hsr_frame::NoMemory;
-use hsr_node::Probe;
-use hsr_text::put_decimal;
 use hsr_timeline::put_name;
+use hsr_node::Probe;
+use hsr_text::{put, put_number};
 use std::alloc::Global;
-
-/// Puts words last.
-pub(crate) fn put(text: &mut Vec<u8>, words: &str) -> Result<(), NoMemory>
-    ensures { OnOk result (text.new.items ≡ text.old.items ++ words.now) }
-{
-    text.extend_from_slice(words.as_bytes())?;
-    Ok(())
-}
-
-/// Puts a number last.
-pub(crate) fn put_number(text: &mut Vec<u8>, n: u64) -> Result<(), NoMemory>
-    ensures { OnOk result (text.new.items ≡ text.old.items ++ decimal n) }
-{
-    put_decimal(text, n)?;
-    Ok(())
-}
 
 /// Puts a send last, by the name of its node and its place.
 #[tactic(auto, unfolding(crate::specs::Sends::send_text))]
@@ -55,7 +38,7 @@ fn put_next_node(text: &mut Vec<u8>, names: &[Vec<u8>], node: usize) -> Result<(
 }
 
 /// Puts the names of nodes last, each behind a comma.
-#[tactic(auto, using(hsr_deliveries::proofs::Growing::grown))]
+#[tactic(auto, using(hsr_frame::proofs::OneMore::grown))]
 fn put_next_nodes(text: &mut Vec<u8>, names: &[Vec<u8>], nodes: &[usize]) -> Result<(), NoMemory>
     ensures { OnOk result (text.new.items ≡ text.old.items
         ++ flat_map (next_node (lists_of names.now)) nodes.now) }

@@ -2,11 +2,11 @@
 ghost use Rattle.std.specs.Prelude.{◌≡◌, ◌++◌, count_by, IfOk, OnOk};
 ghost use Rattle.hsr_diagram_text.specs.Title.{is_complete_in, run_words, shown_words, title_words};
 
-use crate::sends::{put, put_number};
-use hsr_deliveries::Delivery;
-use hsr_diagram::{Picture, Sent};
 use hsr_finished_run::Closed;
+use hsr_deliveries::Delivery;
 use hsr_frame::NoMemory;
+use hsr_diagram::{Picture, Sent};
+use hsr_text::{put, put_number};
 use std::alloc::Global;
 
 /// Whether a send that is listed is complete.

@@ -5,9 +5,10 @@ ghost use Rattle.hsr_timeline.specs.Fronts.{lists_of};
 ghost use Rattle.hsr_diagram_text.specs.Told.{at_text, loss_text, losses_text, more_words, next_loss, told_words};
 
 use crate::moments::put_moment;
-use crate::sends::{put, put_nodes, put_number, put_send};
+use crate::sends::{put_nodes, put_send};
 use hsr_deliveries::{Delivery, Loss};
 use hsr_frame::NoMemory;
+use hsr_text::{put, put_number};
 use std::alloc::Global;
 
 /// Puts a loss last: link, direction and fate.
@@ -32,7 +33,7 @@ fn put_next_loss(text: &mut Vec<u8>, loss: Loss) -> Result<(), NoMemory>
 }
 
 /// Puts losses last, each behind a comma.
-#[tactic(auto, using(hsr_deliveries::proofs::Growing::grown))]
+#[tactic(auto, using(hsr_frame::proofs::OneMore::grown))]
 fn put_next_losses(text: &mut Vec<u8>, losses: &[Loss]) -> Result<(), NoMemory>
     ensures { OnOk result (text.new.items ≡ text.old.items ++ flat_map next_loss losses.now) }
 {

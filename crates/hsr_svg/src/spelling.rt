@@ -6,10 +6,11 @@ ghost use Rattle.hsr_svg.specs.Spelling.{anchor_word, area_text, arrow_text, ele
 ghost use Rattle.hsr_svg.specs.Style.{looks};
 
 use crate::elements::{Anchor, Area, Element, Label, Line, Reading, Spot, Way};
-use crate::parts::{Attribute, name_of, put, put_attribute, put_length, put_number, put_shown};
+use crate::parts::{Attribute, name_of, put_attribute, put_length, put_shown};
 use crate::style::{colour_of, dashes_of, looks, path_of, point_of};
-use hsr_diagram::Look;
 use hsr_frame::NoMemory;
+use hsr_diagram::Look;
+use hsr_text::{put, put_number};
 
 // ---- texts
 
@@ -321,7 +322,7 @@ fn put_element(text: &mut Vec<u8>, element: &Element) -> Result<(), NoMemory>
 }
 
 /// Puts elements last.
-#[tactic(auto, using(crate::proofs::Growing::grown))]
+#[tactic(auto, using(hsr_frame::proofs::OneMore::grown))]
 fn put_elements(text: &mut Vec<u8>, elements: &[Element]) -> Result<(), NoMemory>
     ensures { OnOk result (text.new.items ≡ text.old.items ++ flat_map element_text elements.now) }
 {
@@ -371,7 +372,7 @@ fn put_point(text: &mut Vec<u8>, look: Look) -> Result<(), NoMemory>
 }
 
 /// Puts what stands at the points of arrows of these looks last.
-#[tactic(auto, using(crate::proofs::Growing::grown))]
+#[tactic(auto, using(hsr_frame::proofs::OneMore::grown))]
 fn put_points_of(text: &mut Vec<u8>, looks: &[Look]) -> Result<(), NoMemory>
     ensures { OnOk result (text.new.items ≡ text.old.items ++ flat_map point_text looks.now) }
 {

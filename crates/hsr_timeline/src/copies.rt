@@ -1,32 +1,24 @@
 //! What the entries of a record passed, and what they let in.
-ghost use Rattle.std.specs.Prelude.{◌≡◌, ◌∷◌, [], ◌++◌, map, option_map, IfOk, OnOk};
+ghost use Rattle.std.specs.Prelude.{◌≡◌, map, IfOk};
 ghost use Rattle.hsr_run_index.specs.InOrder.{came_by};
 ghost use Rattle.hsr_timeline.specs.Hops.{came_at, passed_at, passed_from};
 
 use hsr_finished_run::Closed;
 use hsr_frame::NoMemory;
-use hsr_node::{Carried, Entry, Event, Place};
-use hsr_run_index::passed_by;
+use hsr_run_index::{came_by, passed_by};
+use hsr_node::{Carried, Entry, Place};
 use hsr_topology::End;
 use std::alloc::Global;
 
-/// The copy that came to a port with an entry.
-fn came_by(port: u8, entry: &Entry) -> Result<Option<Carried>, NoMemory>
+/// The copy that came to a port with an entry, owned.
+fn let_in_by(port: u8, entry: &Entry) -> Result<Option<Carried>, NoMemory>
     ensures { IfOk result (λ copy. copy ≡ came_by port entry.now) }
 {
-    match &entry.event {
+    match came_by(port, entry) {
         // Owned, as what was passed is, which is spelled anew: so one function compares both.
-        Event::Arrive { port: by, carried } if *by == port => Ok(Some(carried.copy()?)),
-        _ => Ok(None),
+        Some(copy) => Ok(Some(copy.copy()?)),
+        None => Ok(None),
     }
-}
-
-/// Puts a copy, or none, last.
-fn add(copies: &mut Vec<Option<Carried>>, copy: Option<Carried>) -> Result<(), NoMemory>
-    ensures { OnOk result (copies.new.items ≡ copies.old.items ++ copy ∷ []) }
-{
-    copies.push(copy)?;
-    Ok(())
 }
 
 /// What each entry of a record passed by a port.
@@ -42,10 +34,7 @@ fn passed(
 {
     let mut copies = Vec::new(alloc);
     for (at, entry) in entries.iter().enumerate() {
-        add(
-            &mut copies,
-            passed_by(alloc, number, place, port, at, entry)?,
-        )?;
+        copies.push(passed_by(alloc, number, place, port, at, entry)?)?;
     }
     Ok(copies)
 }
@@ -57,7 +46,7 @@ fn came(alloc: Global, port: u8, entries: &[Entry]) -> Result<Vec<Option<Carried
     let mut copies = Vec::new(alloc);
     // The index is used by the loop's invariant alone.
     for (at, entry) in entries.iter().enumerate() {
-        add(&mut copies, came_by(port, entry)?)?;
+        copies.push(let_in_by(port, entry)?)?;
     }
     Ok(copies)
 }
