@@ -6,8 +6,8 @@ ghost use Rattle.hsr_run_laws.specs.Run.{record_of};
 ghost use Rattle.hsr_table_flaws.specs.Flaws.{IsFirstNot};
 
 use crate::moments::moment_in;
-use hsr_finished_run::Closed;
 use hsr_duptable::ENTRY_FORGET;
+use hsr_finished_run::Closed;
 use hsr_node::{Event, Probe};
 
 /// Whether a moment is that of a send, or less than the time later for which a frame is remembered.

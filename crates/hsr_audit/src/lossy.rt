@@ -5,8 +5,8 @@ ghost use Rattle.hsr_network_laws.specs.Network as law;
 ghost use Rattle.hsr_bitset.specs.Numbers.{has};
 ghost use Rattle.hsr_reach.specs.Numbered.{number_of};
 
-use hsr_deliveries::Loss;
 use hsr_bitset::Numbers;
+use hsr_deliveries::Loss;
 use hsr_reach::Way;
 
 /// Puts the way of a loss into a set, if its link is one of the first 256.

@@ -7,10 +7,10 @@ ghost use Rattle.hsr_node.specs.Record.{probe_handled};
 ghost use Rattle.hsr_tables.specs.Proxies.{is_known};
 
 use crate::covered::{is_redbox, is_to_station};
-use hsr_finished_run::Closed;
 use hsr_deliveries::is_due;
-use hsr_table_demand::hear;
+use hsr_finished_run::Closed;
 use hsr_node::{Event, Place, Probe, SentView, sent_view};
+use hsr_table_demand::hear;
 use hsr_tables::ProxyTable;
 use hsr_tag::FrameView;
 use hsr_topology::{End, Topology};

@@ -5,8 +5,8 @@ ghost use Rattle.hsr_run_laws.specs.Budget.{is_sending};
 ghost use Rattle.hsr_finished_run.specs.Finished.{IsFinished};
 ghost use Rattle.hsr_audit.specs.Timed.{AreSendMoments, lists_of, moment_in, moments_of, moments_recorded, sent_moments_below, sent_moments};
 
-use hsr_finished_run::Closed;
 use hsr_deliveries::push_if;
+use hsr_finished_run::Closed;
 use hsr_frame::NoMemory;
 use hsr_node::{Entry, Event, Probe};
 use std::alloc::Global;

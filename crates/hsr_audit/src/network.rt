@@ -9,14 +9,14 @@ use crate::cutoff::Reach;
 use crate::doubt::{AuditFault, Doubt, doubt_at};
 use crate::missed::first_missed;
 use crate::sends::{first_uncovered, has_send};
-use hsr_finished_run::Closed;
 use hsr_deliveries::{Deliveries, deliveries};
+use hsr_finished_run::Closed;
 use hsr_network_laws::{
     late_decides, lives_stay, once_in_network, once_to_station, ring_is_crossed,
 };
 use hsr_node::Probe;
-use hsr_table_flaws::first_flaw;
 use hsr_reach::{are_going_round, first_unlike_link, have_own_addresses};
+use hsr_table_flaws::first_flaw;
 use std::alloc::Global;
 
 /// That a run of a network is certified: who got each of its sends, all of which are complete.

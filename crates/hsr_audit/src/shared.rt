@@ -3,8 +3,8 @@ ghost use Rattle.std.specs.Prelude.{◌≡◌, ◌&&◌, nat_eq, if◌then◌els
 ghost use Rattle.hsr_frame.specs.Address.{is_same_address};
 ghost use Rattle.hsr_audit.specs.Shared.{found_of};
 
-use hsr_frame::{Mac, NoMemory};
 use hsr_bitset::Numbers;
+use hsr_frame::{Mac, NoMemory};
 use hsr_tag::FrameView;
 use indexmap::IndexMap;
 

@@ -4,9 +4,9 @@ ghost use Rattle.std.specs.Io.KnownBytes.{Appends};
 ghost use Rattle.hsr_bench.specs.Benching.{Answers, AppendsLines, Benches, IsDone, Tells, explains};
 
 use crate::performing::perform;
+use hsr_cli::{OptionFault, options};
 use hsr_commands::{Explanation, Fault, Notes, Status, put_explanation};
 use hsr_options::Options;
-use hsr_cli::{OptionFault, options};
 use std::alloc::Global;
 use std::io::{self, Read, Write};
 use std::marker::Sync;

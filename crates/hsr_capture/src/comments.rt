@@ -10,10 +10,10 @@ ghost use Rattle.hsr_capture.specs.Comments.{became, comment, entry_text, interf
 use hsr_finished_run::Closed;
 use hsr_frame::{Cause, NoMemory};
 use hsr_link::{Dir, Fate, Row};
-use hsr_timeline::{Shown, put_name, put_port};
 use hsr_node::{Entry, Outcome, Place, Probe};
 use hsr_tag::{EitherView, look_at};
 use hsr_text::{put, put_number, put_octets};
+use hsr_timeline::{Shown, put_name, put_port};
 use hsr_topology::End;
 
 /// Puts the name of an interface last: the port from which its copies come, and the one to which they go.

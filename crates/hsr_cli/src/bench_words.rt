@@ -14,8 +14,8 @@ ghost use Rattle.hsr_cli.specs.Options.{Chosen, ChosenIn, IfUsage, IsAsked, IsFo
 use crate::fault::OptionFault;
 use clap::error::ErrorKind;
 use clap::{Arg, ArgAction, ArgMatches, Command, Error};
-use hsr_frame::{Mac, Mode};
 use hsr_duptable::TableSize;
+use hsr_frame::{Mac, Mode};
 use hsr_options::{Asked, Form, NodeOptions, Options, Scope, Showing};
 use hsr_text::TimeUnit;
 use hsr_version::VERSION;

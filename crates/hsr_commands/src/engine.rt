@@ -10,8 +10,8 @@ ghost use Rattle.hsr_commands.specs.declared.fault.Fault.TheVariants.{Read as Re
 use crate::fault::{Fault, Status};
 use arrayvec::ArrayVec;
 use hsr_danh::Danh;
-use hsr_node_text::{answer_request, put_counters, read_request};
 use hsr_duptable::TableSize;
+use hsr_node_text::{answer_request, put_counters, read_request};
 use hsr_options::NodeOptions;
 use hsr_text::{Front, TimeUnit, WordFault, granted_reads, next_line};
 use std::alloc::Global;

@@ -5,8 +5,8 @@ ghost use Rattle.hsr_commands.specs.declared.fault.Fault.TheVariants.{Memory, Re
 
 use hsr_finished_run::{CheckFault, Disagree};
 use hsr_scenario::ScenarioFault;
-use hsr_world_steps::{DrainFault, WorldFault};
 use hsr_text::ReaderFault;
+use hsr_world_steps::{DrainFault, WorldFault};
 use std::alloc::AllocError;
 use std::fmt;
 

@@ -1,7 +1,10 @@
 //! What is said of how a run ended, beyond its agreed lines.
 use crate::fault::{Fault, TranscriptFault};
+use hsr_explanation::{
+    Explanation, explain_budget, explain_check, explain_finding, explain_fine, explain_scenario,
+    explain_step, explain_transcript, explain_unsettled, names_in,
+};
 use hsr_finished_run::Closed;
-use hsr_explanation::{Explanation, explain_budget, explain_check, explain_finding, explain_fine, explain_scenario, explain_step, explain_transcript, explain_unsettled, names_in};
 use hsr_frame::NoMemory;
 use hsr_report::Finding;
 use hsr_ring::World;

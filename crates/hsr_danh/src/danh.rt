@@ -5,11 +5,11 @@ ghost use Rattle.hsr_frame.specs.Layout.{ethertype_hsr, ethertype_vlan, max_payl
 
 use arrayvec::ArrayVec;
 use hsr_duptable::Key;
+use hsr_forwarding::{EgressTables, Judged, NUMBER_RANGE, count, hear, ring_wants};
 use hsr_frame::{
     Cause, Counters, Exits, Life, Mac, Mode, NoMemory, RingPort, STEP_LIMIT, SendFault, Spent,
     send_fault,
 };
-use hsr_forwarding::{EgressTables, Judged, NUMBER_RANGE, count, hear, ring_wants};
 use hsr_tables::{NodeRow, NodeTable, ROW_LIMIT};
 use hsr_tag::look_at;
 use std::alloc::Global;

@@ -7,11 +7,11 @@ ghost use Rattle.hsr_text.specs.Words.{mac_text};
 
 use crate::known::Known;
 use hsr_frame::{Mac, NoMemory};
-use hsr_timeline::put_name;
 use hsr_node::Place;
 use hsr_supervision::SupKind;
 use hsr_tables::NodeRow;
 use hsr_text::{put, put_mac, put_number, put_octets};
+use hsr_timeline::put_name;
 use std::alloc::Global;
 
 /// Puts an address behind two spaces last.

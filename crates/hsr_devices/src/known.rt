@@ -5,10 +5,10 @@ ghost use Rattle.hsr_tables.specs.Nodes.{heard as node_heard};
 ghost use Rattle.hsr_devices.specs.Known.{hears_with, stations_known};
 
 use arrayvec::ArrayVec;
-use hsr_frame::{Mac, RingPort};
-use hsr_table_demand::hear;
-use hsr_node::{Entry, Event, Place};
 use hsr_forwarding::hear as hear_life;
+use hsr_frame::{Mac, RingPort};
+use hsr_node::{Entry, Event, Place};
+use hsr_table_demand::hear;
 use hsr_tables::{NodeRow, NodeTable, ProxyTable, ROW_LIMIT};
 use hsr_tag::look_at;
 

@@ -15,10 +15,10 @@ use crate::port::{PortLink, port_link};
 use crate::unheard::unheard;
 use hsr_finished_run::Closed;
 use hsr_frame::{Counters, NoMemory};
-use hsr_timeline::{put_name, put_port};
-use hsr_table_demand::{Needed, needed_at};
 use hsr_node::Place;
+use hsr_table_demand::{Needed, needed_at};
 use hsr_text::{put, put_number, put_octets};
+use hsr_timeline::{put_name, put_port};
 use hsr_topology::End;
 use std::alloc::Global;
 

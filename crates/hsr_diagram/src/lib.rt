@@ -26,6 +26,6 @@ mod ways;
 pub use arrow::{Arrow, Look};
 pub use panel::{Lane, Panel};
 pub use paneling::panels;
-pub use picturing::{Picture, PictureFault, COPY_LIMIT, picture_run};
+pub use picturing::{COPY_LIMIT, Picture, PictureFault, picture_run};
 pub use sending::Sent;
 pub use span::Span;

@@ -8,8 +8,8 @@ ghost use Rattle.hsr_diagram.specs.Arrows.{arrow_of, hop_at, hops_by_link, look_
 use crate::arrow::{Arrow, Look};
 use hsr_finished_run::Closed;
 use hsr_frame::{Cause, NoMemory};
-use hsr_timeline::{Hop, Shown, Spot, Time, link_hops, time_at};
 use hsr_node::Outcome;
+use hsr_timeline::{Hop, Shown, Spot, Time, link_hops, time_at};
 use std::alloc::Global;
 
 /// Puts the hops of one more link last.

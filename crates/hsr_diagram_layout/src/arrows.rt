@@ -12,14 +12,14 @@ ghost use Rattle.hsr_svg.specs.declared.elements.Label.TheVariants as labels;
 
 use crate::sheet::Sheet;
 use hsr_capture::put_shown_comment;
+use hsr_diagram::{Arrow, Look};
+use hsr_diagram_text::send_words;
 use hsr_finished_run::Closed;
 use hsr_frame::NoMemory;
 use hsr_link::Row;
 use hsr_node::Probe;
-use hsr_diagram::{Arrow, Look};
-use hsr_diagram_text::send_words;
-use hsr_timeline::Shown;
 use hsr_svg::{Element, Label, Spot, Way, add_arrow, add_text, add_words};
+use hsr_timeline::Shown;
 use std::alloc::Global;
 
 // ---- arrows

@@ -4,10 +4,10 @@ ghost use Rattle.std.specs.List.{flat_map};
 ghost use Rattle.hsr_diagram.specs.Panels.{lanes_in};
 ghost use Rattle.hsr_diagram_layout.specs.Frame.{nodes_in, nodes_of};
 
-use hsr_frame::NoMemory;
-use hsr_timeline::Spot;
 use hsr_diagram::{Arrow, Lane, Look, Panel};
+use hsr_frame::NoMemory;
 use hsr_svg::Anchor;
+use hsr_timeline::Spot;
 use std::alloc::Global;
 
 /// The least length of the arrow of a lost copy.

@@ -1,18 +1,18 @@
 //! Between which rows links are down, and where nodes go off and come on.
 use crate::arrows::rows_at;
-use crate::columns::{Columns, BESIDE};
+use crate::columns::{BESIDE, Columns};
 use crate::rows::Times;
 use crate::shades::is_among;
 use crate::shelves::{Foot, Shelves, Side};
 use crate::widths::{COPY, width_of};
-use hsr_finished_run::{Closed, next_place};
-use hsr_downs::{Change, Down, Switch};
-use hsr_frame::NoMemory;
-use hsr_link::Fate;
-use hsr_timeline::{Spot, StoryFault, Time, entry_times, time_at};
 use hsr_diagram::{Arrow, Look};
 use hsr_diagram_text::{change_words, switch_words};
+use hsr_downs::{Change, Down, Switch};
+use hsr_finished_run::{Closed, next_place};
+use hsr_frame::NoMemory;
+use hsr_link::Fate;
 use hsr_svg::Anchor;
+use hsr_timeline::{Spot, StoryFault, Time, entry_times, time_at};
 use std::alloc::Global;
 
 /// A change of a link: the first row behind it, the number of all rows where none is; and the shelf of its mark.

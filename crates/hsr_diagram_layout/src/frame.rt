@@ -9,10 +9,10 @@ ghost use Rattle.hsr_diagram_layout.specs.Frame.{frame_shapes, head_shapes, head
 use crate::columns::Strip;
 use crate::heads::Heads;
 use crate::sheet::{Sheet, TAIL};
-use hsr_frame::NoMemory;
-use hsr_node::Place;
 use hsr_diagram::Lane;
 use hsr_diagram_text::{kind_word, letter_at, link_words, moment_words, name_words};
+use hsr_frame::NoMemory;
+use hsr_node::Place;
 use hsr_svg::{Anchor, Element, Label, Line, Reading, Spot, Way, add_line, add_text, add_words};
 use std::alloc::Global;
 

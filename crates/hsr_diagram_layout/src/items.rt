@@ -3,8 +3,8 @@ ghost use Rattle.std.specs.Prelude.{◌≡◌, map, IfOk};
 ghost use Rattle.std.specs.List.Sorted.{IsPermutation, IsSorted};
 ghost use Rattle.hsr_diagram_layout.specs.Items.{AreListed, item_cmp, item_of};
 
-use hsr_frame::NoMemory;
 use hsr_diagram::Sent;
+use hsr_frame::NoMemory;
 use std::alloc::Global;
 
 /// A send that is listed: its time, and its place among the deliveries. The order of its fields is that of the list.

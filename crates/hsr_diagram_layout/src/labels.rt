@@ -4,14 +4,14 @@ use crate::columns::Columns;
 use crate::rows::Times;
 use crate::shelves::{Foot, Shelves, Side};
 use crate::widths::{COPY, MARK, width_of};
+use hsr_diagram::{Arrow, Look, Picture, Sent};
+use hsr_diagram_text::send_words;
 use hsr_finished_run::Closed;
 use hsr_frame::NoMemory;
 use hsr_link::Row;
 use hsr_node::Probe;
-use hsr_timeline::Time;
-use hsr_diagram::{Arrow, Look, Picture, Sent};
-use hsr_diagram_text::send_words;
 use hsr_svg::Anchor;
+use hsr_timeline::Time;
 use std::alloc::Global;
 
 // ---- arrows

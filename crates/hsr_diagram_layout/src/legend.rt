@@ -5,9 +5,11 @@ ghost use Rattle.hsr_svg.specs.Elements.{shapes};
 ghost use Rattle.hsr_diagram_layout.specs.Legend.{foot_shapes, has_look, is_look, legend_shapes, sample_if, sample_shapes, sent_shapes};
 ghost use Rattle.hsr_svg.specs.Style.{looks};
 
-use hsr_frame::NoMemory;
 use hsr_diagram::{Arrow, Look};
-use hsr_svg::{Anchor, Element, Label, Reading, Spot, Way, add_sample, add_square, add_words, looks, words_of};
+use hsr_frame::NoMemory;
+use hsr_svg::{
+    Anchor, Element, Label, Reading, Spot, Way, add_sample, add_square, add_words, looks, words_of,
+};
 use std::alloc::Global;
 
 /// How many places a line takes.

@@ -7,12 +7,12 @@ ghost use Rattle.hsr_diagram_layout.specs.Listing.{delivery_shapes, item_shapes,
 
 use crate::items::Item;
 use crate::sheet::Sheet;
-use hsr_finished_run::Closed;
 use hsr_deliveries::Delivery;
-use hsr_frame::NoMemory;
-use hsr_timeline::Time;
 use hsr_diagram_text::sent_words;
+use hsr_finished_run::Closed;
+use hsr_frame::NoMemory;
 use hsr_svg::{Anchor, Element, Label, Line, Reading, Spot, Way, add_line, add_text};
+use hsr_timeline::Time;
 use std::alloc::Global;
 
 /// How many places a line of the list takes.

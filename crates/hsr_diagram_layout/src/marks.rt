@@ -7,12 +7,12 @@ ghost use Rattle.hsr_diagram_layout.specs.Marks.{mark_if, mark_shapes, marks_of,
 
 use crate::sheet::{Mark, Sheet};
 use hsr_deliveries::Delivery;
-use hsr_frame::NoMemory;
-use hsr_node::Probe;
-use hsr_timeline::Time;
 use hsr_diagram::Sent;
 use hsr_diagram_text::send_words;
+use hsr_frame::NoMemory;
+use hsr_node::Probe;
 use hsr_svg::{Element, Label, add_square, add_text};
+use hsr_timeline::Time;
 use std::alloc::Global;
 
 /// Adds the mark of a send, with its words.

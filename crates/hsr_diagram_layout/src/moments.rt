@@ -3,9 +3,9 @@ ghost use Rattle.std.specs.Prelude.{◌≡◌, ◌++◌, IfOk, OnOk};
 ghost use Rattle.std.specs.List.{flat_map};
 ghost use Rattle.hsr_diagram_layout.specs.Moments.{AreMoments, all_moments, arrow_moments, moment_if, sent_moments};
 
+use hsr_diagram::{Arrow, Picture, Sent};
 use hsr_frame::NoMemory;
 use hsr_timeline::Time;
-use hsr_diagram::{Arrow, Picture, Sent};
 use std::alloc::Global;
 
 /// Puts the moment of a time last, if there is one.

@@ -1,8 +1,8 @@
 //! Moments and steps, downwards.
-use crate::shelves::{Shelves, Side, SHELF};
+use crate::shelves::{SHELF, Shelves, Side};
+use hsr_diagram::Picture;
 use hsr_frame::NoMemory;
 use hsr_timeline::Time;
-use hsr_diagram::Picture;
 use std::alloc::Global;
 
 /// The more space between two moments.

@@ -6,9 +6,9 @@ ghost use Rattle.hsr_diagram_layout.specs.Shades.{change_if, change_shapes, down
 
 use crate::legend::{LINE, words_at};
 use crate::sheet::{Marked, Sheet};
+use hsr_diagram_text::change_words;
 use hsr_downs::{Change, Down};
 use hsr_frame::NoMemory;
-use hsr_diagram_text::change_words;
 use hsr_svg::{Area, Element, Label, Spot, add_shade, add_text, add_words};
 use std::alloc::Global;
 

@@ -6,7 +6,7 @@ ghost use Rattle.hsr_diagram_layout.specs.Frame.{nodes_of};
 ghost use Rattle.hsr_diagram_layout.specs.Items.{AreListed};
 ghost use Rattle.hsr_diagram_layout.specs.Moments.{AreMoments, all_moments};
 
-use crate::columns::{Columns, BESIDE, columns_of, lane_count};
+use crate::columns::{BESIDE, Columns, columns_of, lane_count};
 use crate::falls::{Edge, Fall, Falls, Told, falls_of};
 use crate::heads::{Heads, heads_of};
 use crate::items::{Item, listed};
@@ -14,15 +14,15 @@ use crate::labels::{foot_of, judged_at, mark_foot, shelves_of};
 use crate::listing::LETTER;
 use crate::moments::moments_of;
 use crate::rows::{Rows, rows_of, times_of};
-use crate::shelves::{Foot, Shelves, Side, SHELF};
+use crate::shelves::{Foot, SHELF, Shelves, Side};
 use crate::widths::{MARK, NAME, width_of};
-use hsr_finished_run::Closed;
-use hsr_downs::{Down, Switch};
-use hsr_frame::NoMemory;
-use hsr_timeline::{Time, put_name};
 use hsr_diagram::{Arrow, Look, Picture};
 use hsr_diagram_text::sent_words;
+use hsr_downs::{Down, Switch};
+use hsr_finished_run::Closed;
+use hsr_frame::NoMemory;
 use hsr_svg::{Anchor, Area, Reading, Spot, Way};
+use hsr_timeline::{Time, put_name};
 use std::alloc::Global;
 
 /// The least width of a lane where there is room, and where there isn't.

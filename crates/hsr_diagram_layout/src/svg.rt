@@ -16,11 +16,11 @@ use crate::shades::{add_changes, add_sample_if, add_shades};
 use crate::sheet::{Sheet, sheet_of};
 use crate::switches::add_switches;
 use crate::telling::add_incomplete;
-use hsr_finished_run::Closed;
-use hsr_downs::{Down, Switch};
-use hsr_frame::NoMemory;
 use hsr_diagram::Picture;
 use hsr_diagram_text::title_words;
+use hsr_downs::{Down, Switch};
+use hsr_finished_run::Closed;
+use hsr_frame::NoMemory;
 use hsr_svg::{Anchor, Element, Label, Reading, Spot, add_text, begin_labels, end_labels, put_svg};
 use std::alloc::Global;
 

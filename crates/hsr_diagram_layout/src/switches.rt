@@ -6,9 +6,9 @@ ghost use Rattle.hsr_diagram_layout.specs.Switches.{switch_if, switch_shapes};
 
 use crate::shades::is_among;
 use crate::sheet::Sheet;
+use hsr_diagram_text::switch_words;
 use hsr_downs::Switch;
 use hsr_frame::NoMemory;
-use hsr_diagram_text::switch_words;
 use hsr_svg::{Element, Label, Spot, add_text};
 use std::alloc::Global;
 

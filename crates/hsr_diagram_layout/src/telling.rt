@@ -10,9 +10,9 @@ use crate::legend::LINE;
 use crate::listing::{Ends, LETTER};
 use crate::widths::width_of;
 use hsr_deliveries::Delivery;
-use hsr_frame::NoMemory;
 use hsr_diagram::Sent;
 use hsr_diagram_text::{more_words, told_words, wrapped};
+use hsr_frame::NoMemory;
 use hsr_svg::{Anchor, Element, Label, Reading, Spot, add_words};
 use std::alloc::Global;
 

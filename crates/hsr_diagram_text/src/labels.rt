@@ -7,9 +7,9 @@ ghost use Rattle.hsr_diagram_text.specs.Moments.{moment_text};
 
 use crate::moments::put_moment;
 use hsr_frame::NoMemory;
-use hsr_timeline::put_name;
 use hsr_node::Place;
 use hsr_text::{put, put_number};
+use hsr_timeline::put_name;
 use std::alloc::Global;
 
 /// The name of a node. `NoMemory` if allocation fails.

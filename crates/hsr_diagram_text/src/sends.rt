@@ -5,9 +5,9 @@ ghost use Rattle.hsr_timeline.specs.Fronts.{lists_of};
 ghost use Rattle.hsr_diagram_text.specs.Sends.{next_node, nodes_text, send_text};
 
 use hsr_frame::NoMemory;
-use hsr_timeline::put_name;
 use hsr_node::Probe;
 use hsr_text::{put, put_number};
+use hsr_timeline::put_name;
 use std::alloc::Global;
 
 /// Puts a send last, by the name of its node and its place.

@@ -5,8 +5,8 @@ ghost use Rattle.hsr_timeline.specs.Fronts.{lists_of};
 ghost use Rattle.hsr_diagram_text.specs.Sent.{address_words, complete_if, entry_is_supervision, is_supervision, sent_words, target_text};
 
 use crate::sends::{put_nodes, put_send};
-use hsr_finished_run::Closed;
 use hsr_deliveries::Delivery;
+use hsr_finished_run::Closed;
 use hsr_frame::{Mac, NoMemory};
 use hsr_node::{Entry, Event, Probe};
 use hsr_text::{put, put_mac};

@@ -2,10 +2,10 @@
 ghost use Rattle.std.specs.Prelude.{◌≡◌, ◌++◌, count_by, IfOk, OnOk};
 ghost use Rattle.hsr_diagram_text.specs.Title.{is_complete_in, run_words, shown_words, title_words};
 
-use hsr_finished_run::Closed;
 use hsr_deliveries::Delivery;
-use hsr_frame::NoMemory;
 use hsr_diagram::{Picture, Sent};
+use hsr_finished_run::Closed;
+use hsr_frame::NoMemory;
 use hsr_text::{put, put_number};
 use std::alloc::Global;
 

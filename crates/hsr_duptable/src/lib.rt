@@ -7,11 +7,11 @@
 //! - `size`: how many entries a table holds, by its word
 #![tactic(auto)]
 
-mod size;
 mod chain;
 mod note;
+mod size;
 mod table;
 
-pub use size::TableSize;
 pub use note::{ENTRY_FORGET, Key, Note};
+pub use size::TableSize;
 pub use table::{DupTable, answers_as_log};

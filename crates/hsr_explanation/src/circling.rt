@@ -2,9 +2,9 @@
 use crate::naming::{put_link, put_number};
 use hsr_frame::NoMemory;
 use hsr_link::Row;
-use hsr_timeline::put_name;
 use hsr_ring::World;
 use hsr_scenario::Names;
+use hsr_timeline::put_name;
 use hsr_toml::put;
 use std::alloc::Global;
 

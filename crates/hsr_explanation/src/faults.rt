@@ -7,8 +7,8 @@ use hsr_frame::NoMemory;
 use hsr_ring::World;
 use hsr_scenario::{ScenarioFault, read_names};
 use hsr_scenario_fault::{told, told_step, words_of_check, words_of_step};
-use hsr_world_steps::DrainFault;
 use hsr_toml::put;
+use hsr_world_steps::DrainFault;
 use std::alloc::Global;
 
 /// How long `fault: ` is.

@@ -1,10 +1,10 @@
 //! Nodes, entries and links, by their numbers and names.
 use hsr_finished_run::Closed;
 use hsr_frame::NoMemory;
-use hsr_timeline::{put_name, put_port};
 use hsr_node::Place;
 use hsr_scenario::read_names;
 use hsr_text::put_decimal;
+use hsr_timeline::{put_name, put_port};
 use hsr_toml::put;
 use hsr_topology::End;
 use std::alloc::Global;

@@ -16,9 +16,9 @@ use crate::strangers::first_stranger;
 use crate::told::is_told;
 use crate::workers::first_wrong;
 use hsr_frame::NoMemory;
-use hsr_run_index::{Ends, Numbers, Passage};
 use hsr_link::Row;
 use hsr_node::{Kept, Pass};
+use hsr_run_index::{Ends, Numbers, Passage};
 use hsr_topology::Topology;
 use std::alloc::Global;
 

@@ -7,9 +7,9 @@ ghost use Rattle.hsr_finished_run.specs.Shape.{IsShaped};
 
 use crate::ends::{from_end, to_end};
 use hsr_frame::NoMemory;
-use hsr_run_index::{Passage, puts_fit, takens_fit};
 use hsr_link::{Dir, Fate, Row};
 use hsr_node::Kept;
+use hsr_run_index::{Passage, puts_fit, takens_fit};
 use hsr_topology::Topology;
 use std::alloc::Global;
 

@@ -10,8 +10,8 @@ ghost use Rattle.hsr_node.specs.declared.entry.Receipt.{Receipt};
 
 use crate::receipts::come_next;
 use hsr_frame::NoMemory;
-use hsr_run_index::{Places, Turns};
 use hsr_node::{Entry, Kept, Pass, Receipt};
+use hsr_run_index::{Places, Turns};
 use std::alloc::Global;
 
 /// For each node of which a worker has receipts the place from which on its next entry is looked for, and whether all are

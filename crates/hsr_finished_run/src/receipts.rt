@@ -5,8 +5,8 @@ ghost use Rattle.hsr_finished_run.specs.Next.{AreNext};
 ghost use Rattle.hsr_run_index.specs.Turns.{place_at};
 
 use hsr_frame::NoMemory;
-use hsr_run_index::{Places, Turns};
 use hsr_node::Receipt;
+use hsr_run_index::{Places, Turns};
 
 /// Whether a receipt shows the next entry of the worker in its node's record; the node's next place is then behind it.
 fn comes_next<const C: usize>(

@@ -8,9 +8,9 @@ ghost use Rattle.hsr_finished_run.specs.Checked.{AreLegal};
 ghost use Rattle.hsr_finished_run.specs.Shape.{AreLinked, HasShape, NodesFit, is_linked};
 ghost use Rattle.hsr_topology.specs.Wired.{IsWired};
 
-use hsr_run_index::Ends;
 use hsr_link::Row;
 use hsr_node::{Entry, Event, Kept, Place};
+use hsr_run_index::Ends;
 use hsr_topology::{End, Topology, is_same_place};
 
 /// The most entries that a duplicate table has.

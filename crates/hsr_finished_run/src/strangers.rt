@@ -7,9 +7,9 @@ ghost use Rattle.std.specs.Option.{option_or};
 ghost use Rattle.hsr_finished_run.specs.Shape.{IsShaped};
 
 use crate::links_agree::rows_at;
-use hsr_run_index::{Ends, Numbers};
 use hsr_link::Row;
 use hsr_node::{Carried, Kept, Probe, SentView, sent_view};
+use hsr_run_index::{Ends, Numbers};
 use hsr_tag::{EitherView, FrameView, look_at};
 use hsr_topology::{End, Topology};
 

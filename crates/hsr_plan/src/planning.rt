@@ -5,10 +5,10 @@ ghost use Rattle.hsr_duptable.specs.Sizes.{capacity_of};
 ghost use Rattle.hsr_plan_scenario.specs.Ends.{Ends, code_of};
 ghost use Rattle.hsr_plan.specs.Planning.{Answers, Does, IsDone, Plans, TellsWrite};
 
+use hsr_cli::{Task, WordsFault, task_by};
 use hsr_duptable::TableSize;
 use hsr_plan_scenario::{Ending, check_run, plan_run};
 use hsr_plan_sweep::sweep_run;
-use hsr_cli::{Task, WordsFault, task_by};
 use std::alloc::Global;
 use std::io::{self, Read, Write};
 

@@ -8,8 +8,8 @@ use crate::turns::{Due, begun_behind, due_behind, moment_behind};
 use hsr_frame::NoMemory;
 use hsr_ring::World;
 use hsr_scenario::Order;
-use hsr_world_steps::{Step, WorldFault};
 use hsr_topology::Topology;
+use hsr_world_steps::{Step, WorldFault};
 use std::collections::VecDeque;
 use std::marker::Model;
 

@@ -14,8 +14,8 @@ use hsr_frame::{About, NoMemory};
 use hsr_node::StepFault;
 use hsr_plan_schedule::Meaning;
 use hsr_scenario::Order;
-use hsr_world_steps::{Step, WorldFault};
 use hsr_topology::End;
+use hsr_world_steps::{Step, WorldFault};
 use std::marker::Model;
 
 /// The most orders.

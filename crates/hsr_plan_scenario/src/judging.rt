@@ -16,10 +16,10 @@ use crate::planning::{Ending, Line, complain, fail, reason, words};
 use hsr_finished_run::{CheckFault, Disagree};
 use hsr_frame::NoMemory;
 use hsr_ring::{Unfinished, finished};
-use hsr_scenario::{Scenario, What, TEXT_LIMIT, read};
+use hsr_scenario::{Scenario, TEXT_LIMIT, What, read};
 use hsr_scenario_fault::{told, told_step, words_of_check, words_of_step};
-use hsr_world_steps::{DrainFault, WorldFault};
 use hsr_text::{InputFault, put_decimal, read_text};
+use hsr_world_steps::{DrainFault, WorldFault};
 use std::alloc::Global;
 use std::io::{self, Read, Write};
 

@@ -14,14 +14,14 @@ use crate::sends::send_moments;
 use hsr_frame::{About, Mac, Mode, NoMemory};
 use hsr_link::Dir;
 use hsr_node::Place;
-use hsr_plan_schedule::Meaning;
 use hsr_plan_network::Node;
+use hsr_plan_schedule::Meaning;
 use hsr_plan_text::{Moves, Outline, Word};
 use hsr_scenario::Order;
-use hsr_world_steps::Step;
+use hsr_table_demand::most_of;
 use hsr_text::{put, put_hex, put_number, put_octets};
 use hsr_topology::End;
-use hsr_table_demand::most_of;
+use hsr_world_steps::Step;
 use std::alloc::Global;
 use std::io::Write;
 

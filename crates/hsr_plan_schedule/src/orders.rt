@@ -10,8 +10,8 @@ use hsr_node::Octets;
 use hsr_plan_payload::payload;
 use hsr_plan_text::{Kind, Moves, Stream};
 use hsr_scenario::Order;
-use hsr_world_steps::Step;
 use hsr_topology::End;
+use hsr_world_steps::Step;
 use std::alloc::Global;
 use std::marker::Model;
 

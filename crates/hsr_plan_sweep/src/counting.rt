@@ -3,12 +3,12 @@ ghost use Rattle.std.specs.Prelude.{◌≡◌, count_by, not, IfOk};
 ghost use Rattle.hsr_deliveries.specs.Delivered.{is_none};
 ghost use Rattle.hsr_plan_sweep.specs.Counting.{IsCounted, is_missed, is_twice};
 
-use hsr_finished_run::Closed;
 use hsr_deliveries::{Delivery, deliveries};
+use hsr_finished_run::Closed;
 use hsr_frame::NoMemory;
-use hsr_table_demand::needed;
 use hsr_options::Scope;
 use hsr_report::{Finding, found};
+use hsr_table_demand::needed;
 use std::alloc::Global;
 
 /// How many sends a run had; how many of these are complete, were missed by a node that they were due at, and were

@@ -5,8 +5,8 @@ ghost use Rattle.hsr_plan_sweep.specs.Sweep.{IsCountOf, IsCountOfMeaning, with_d
 
 use crate::counting::{Count, counted};
 use hsr_finished_run::CheckFault;
-use hsr_plan_schedule::Meaning;
 use hsr_plan_scenario::{Trouble as PlanTrouble, moved};
+use hsr_plan_schedule::Meaning;
 use hsr_plan_text::{Deed, Event, Plan};
 use hsr_ring::{Unfinished, finished};
 use hsr_world_steps::{DrainFault, WorldFault};

@@ -4,8 +4,8 @@ ghost use Rattle.hsr_frame.specs.Counters.{step_limit};
 ghost use Rattle.hsr_quadbox.specs.Step.{verdict_of};
 
 use crate::wanted::{QuadPort, arrival_wants};
-use hsr_frame::{Cause, Counters, Exits, NoMemory, STEP_LIMIT, Spent};
 use hsr_forwarding::{EgressTables, Judged, count};
+use hsr_frame::{Cause, Counters, Exits, NoMemory, STEP_LIMIT, Spent};
 use hsr_tag::look_at;
 use std::alloc::Global;
 use std::marker::Model;

@@ -4,8 +4,8 @@ ghost use Rattle.hsr_forwarding.specs.Tables.{AreEarlier, AreRoomy, among};
 ghost use Rattle.hsr_redbox.specs.Step.{after_marks};
 
 use hsr_duptable::Key;
-use hsr_frame::{Exits, Mac};
 use hsr_forwarding::EgressTables;
+use hsr_frame::{Exits, Mac};
 
 /// Notes a frame that leaves by these egresses at a moment in microseconds, if it has a number for its source.
 pub fn mark_numbered<const C: usize>(

@@ -7,11 +7,11 @@ use crate::call::{BoxPort, BoxSent, BoxVerdict, LifeFault};
 use crate::marking::mark_numbered;
 use crate::wanted::{interlink_handling, send_handling};
 use arrayvec::ArrayVec;
+use hsr_forwarding::{EgressTables, Judged, NUMBER_RANGE, count, hear, learn, ring_wants};
 use hsr_frame::{
     About, Counters, Exits, FrameFault, Life, Mac, Mode, NoMemory, RingPort, STEP_LIMIT, SendFault,
     Spent, send_fault,
 };
-use hsr_forwarding::{EgressTables, Judged, NUMBER_RANGE, count, hear, learn, ring_wants};
 use hsr_tables::{NodeRow, NodeTable, ProxyTable, ROW_LIMIT};
 use hsr_tag::{SeenView, look_at};
 use std::alloc::Global;

@@ -7,14 +7,14 @@ ghost use Rattle.hsr_run_laws.specs.Run.{place_of};
 ghost use Rattle.hsr_node.specs.Place.{ports};
 ghost use Rattle.hsr_report.specs.Report.{is_unlinked, network_lines, nobody_if, nobody_line, unlinked_if, unlinked_line, unlinked_lines, unlinked_ports};
 
-use hsr_finished_run::Closed;
 use hsr_deliveries::{Delivery, deliveries};
+use hsr_finished_run::Closed;
 use hsr_frame::NoMemory;
 use hsr_node::{Place, Probe};
 use hsr_node_text::put_count;
 use hsr_options::Scope;
-use hsr_topology::{End, is_used};
 use hsr_reach::is_edge;
+use hsr_topology::{End, is_used};
 use std::alloc::{AllocError, Global};
 
 /// Whether a port is on a ring, and has no link.

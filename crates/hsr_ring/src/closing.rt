@@ -8,8 +8,8 @@ ghost use Rattle.hsr_world_links.specs.Views.{span_view};
 
 use hsr_finished_run::{CheckFault, Closed, Planned, Records};
 use hsr_node::Kept;
-use hsr_world_links::{Parted, Span, join, part};
 use hsr_topology::Topology;
+use hsr_world_links::{Parted, Span, join, part};
 use std::alloc::Global;
 
 /// What a world is made of, but its links.

@@ -5,11 +5,11 @@ ghost use Rattle.hsr_ring.specs.Playing.{Plays};
 ghost use Rattle.hsr_world_laws.specs.World.{new_world};
 
 use crate::playing::play;
-use hsr_finished_run::{CheckFault, Closed};
 use crate::world::World;
+use hsr_finished_run::{CheckFault, Closed};
 use hsr_scenario::Order;
-use hsr_world_steps::DrainFault;
 use hsr_topology::Topology;
+use hsr_world_steps::DrainFault;
 use std::alloc::Global;
 
 /// Why orders lead to no finished run.

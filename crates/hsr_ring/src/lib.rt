@@ -24,7 +24,11 @@ mod starting;
 mod world;
 
 pub use finishing::{Unfinished, finished};
-pub use hsr_world_laws::{always_closes, always_finishes, always_frames, always_numbered_first, always_of_send, always_origins, always_placed, always_planned, always_sent, always_sound, first_sound, fit_frames, only_quiet_closes, step_placed};
+pub use hsr_world_laws::{
+    always_closes, always_finishes, always_frames, always_numbered_first, always_of_send,
+    always_origins, always_placed, always_planned, always_sent, always_sound, first_sound,
+    fit_frames, only_quiet_closes, step_placed,
+};
 pub use hsr_world_steps::{DrainFault, Step, WorldFault};
 pub use playing::play;
 pub use world::World;

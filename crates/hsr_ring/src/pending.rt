@@ -12,11 +12,11 @@ ghost use Rattle.hsr_ring.specs.Pending.{Has, is_at, is_by, link_at, looked, rec
 ghost use Rattle.hsr_world_links.specs.Ports.{dir_at, end_at, held_at, is_held, is_ready, is_waiting};
 ghost use Rattle.hsr_world_links.specs.Views.{span_view, spot_view};
 
-use hsr_link::Dir;
 use hsr_bitset::Numbers;
+use hsr_link::Dir;
+use hsr_topology::End;
 use hsr_world_links::{Port, Span, Spot, port_in, port_of};
 use hsr_world_steps::Step;
-use hsr_topology::End;
 
 /// The numbers of the ports that hold a copy, of those that have one to put, and of the directions in which one waits. A node
 /// has 8 numbers for its ports, and a link 2 for its directions.

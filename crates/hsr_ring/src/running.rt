@@ -18,12 +18,12 @@ use hsr_finished_run::{CheckFault, Closed, Planned};
 use hsr_frame::{About, Counters, Mac};
 use hsr_link::{Dir, Row};
 use hsr_node::{Carried, Entry, Event, Kept, Octets};
+use hsr_topology::{End, Topology};
 use hsr_world_links::{
     Port, Span, Spot, change_hand, clear, cut_at, inject_at, mend_at, new_ports, new_spans,
     new_touching, port_fault, port_of, put_at_spot, take_at, touching_of,
 };
 use hsr_world_steps::{INJECT_LIMIT, Step, WorldFault};
-use hsr_topology::{End, Topology};
 use std::alloc::Global;
 use std::marker::Model;
 

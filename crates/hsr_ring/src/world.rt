@@ -12,9 +12,9 @@ use hsr_finished_run::{CheckFault, Closed};
 use hsr_frame::{Counters, NoMemory};
 use hsr_link::Row;
 use hsr_node::Entry;
+use hsr_topology::Topology;
 use hsr_world_links::Port;
 use hsr_world_steps::{DrainFault, Step, WorldFault};
-use hsr_topology::Topology;
 use std::alloc::Global;
 use std::marker::Model;
 

@@ -14,8 +14,8 @@ use hsr_finished_run::Planned;
 use hsr_link::Dir;
 use hsr_node::{Octets, Pass, StepFault};
 use hsr_scenario::{Order, Scenario};
-use hsr_world_steps::{INJECT_LIMIT, Step, WorldFault};
 use hsr_topology::Topology;
+use hsr_world_steps::{INJECT_LIMIT, Step, WorldFault};
 use std::alloc::Global;
 use std::sync::Wait;
 

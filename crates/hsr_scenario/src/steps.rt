@@ -25,9 +25,9 @@ use hex::FromHexError;
 use hsr_frame::{About, Mac};
 use hsr_link::Dir;
 use hsr_node::Octets;
-use hsr_world_steps::Step;
 use hsr_text::TimeUnit;
 use hsr_toml::{between, integer, mac, needed, number_or, text, value};
+use hsr_world_steps::Step;
 use std::alloc::Global;
 use toml::{Table, Value};
 

@@ -2,9 +2,9 @@
 ghost use Rattle.std.specs.Prelude.{◌≡◌, ◌++◌, ◌∷◌, [], OnOk};
 ghost use Rattle.hsr_svg.specs.Elements.{shapes, arrow as arrow_shape, sample as sample_shape, line as line_shape, square as square_shape, shade as shade_shape, text as text_shape, labels_begin, labels_end};
 
+use hsr_diagram::Look;
 use hsr_frame::NoMemory;
 use hsr_node::Octets;
-use hsr_diagram::Look;
 use std::alloc::Global;
 
 /// What a text tells. Its size, colour and weight go by it.

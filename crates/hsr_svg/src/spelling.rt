@@ -8,8 +8,8 @@ ghost use Rattle.hsr_svg.specs.Style.{looks};
 use crate::elements::{Anchor, Area, Element, Label, Line, Reading, Spot, Way};
 use crate::parts::{Attribute, name_of, put_attribute, put_length, put_shown};
 use crate::style::{colour_of, dashes_of, looks, path_of, point_of};
-use hsr_frame::NoMemory;
 use hsr_diagram::Look;
+use hsr_frame::NoMemory;
 use hsr_text::{put, put_number};
 
 // ---- texts

@@ -6,9 +6,9 @@ ghost use Rattle.hsr_node.specs.Copies.{ring_address};
 ghost use Rattle.hsr_node.specs.Record.{key_handled, key_in, number_in, own_key};
 
 use crate::wanted::wanted_from;
+use hsr_forwarding::learn;
 use hsr_frame::{Exits, FrameFault};
 use hsr_node::{Entry, Event, Outcome, Place, Probe};
-use hsr_forwarding::learn;
 use hsr_tables::ProxyTable;
 use hsr_tag::{EitherView, SeenView, look_at};
 use std::marker::Model;

@@ -3,10 +3,10 @@ ghost use Rattle.std.specs.Prelude.{◌≡◌, ◌≤◌, Option, Result};
 ghost use Rattle.hsr_table_demand.specs.Read.{quadbox_exits, wanted_from};
 ghost use Rattle.hsr_tables.specs.Proxies.{is_known};
 
+use hsr_forwarding::ring_wants;
 use hsr_frame::{Exits, FrameFault};
 use hsr_node::{Place, quad_port, ring_port};
 use hsr_quadbox::arrival_wants;
-use hsr_forwarding::ring_wants;
 use hsr_tables::ProxyTable;
 use hsr_tag::SeenView;
 

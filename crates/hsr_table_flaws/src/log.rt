@@ -9,8 +9,8 @@ use crate::keys::{came_in, key_handled};
 use crate::marks::Marks;
 use hsr_duptable::Key;
 use hsr_frame::NoMemory;
-use hsr_table_demand::{Reading, hear, read};
 use hsr_node::{Entry, Event, Outcome, Place, Probe};
+use hsr_table_demand::{Reading, hear, read};
 use hsr_tables::ProxyTable;
 use std::alloc::Global;
 

@@ -5,8 +5,8 @@ ghost use Rattle.hsr_timeline.specs.Hops.{came_at, passed_at, passed_from};
 
 use hsr_finished_run::Closed;
 use hsr_frame::NoMemory;
-use hsr_run_index::{came_by, passed_by};
 use hsr_node::{Carried, Entry, Place};
+use hsr_run_index::{came_by, passed_by};
 use hsr_topology::End;
 use std::alloc::Global;
 

@@ -7,12 +7,12 @@ ghost use Rattle.hsr_timeline.specs.Sides.{IsSide};
 
 use crate::copies::{came_at, passed_at};
 use crate::hop::Hop;
+use crate::origin::Spot;
 use crate::partners::partners;
 use hsr_finished_run::Closed;
 use hsr_frame::NoMemory;
-use hsr_run_index::Passage;
 use hsr_link::{Dir, Row};
-use crate::origin::Spot;
+use hsr_run_index::Passage;
 use std::alloc::Global;
 
 /// One direction of a link: the nodes at its ends; and for each row of the link, if it is of this direction, which entry passed its

@@ -6,12 +6,12 @@ ghost use Rattle.hsr_timeline.specs.Fronts.{lists_of};
 ghost use Rattle.hsr_timeline.specs.Causes.{main_pairs};
 ghost use Rattle.hsr_timeline.specs.IndexedCauses.{main_by, mains_of};
 
+use crate::origin::Spot;
 use crate::pairs::list_pair;
 use hsr_finished_run::Closed;
 use hsr_frame::NoMemory;
-use hsr_run_index::Places;
 use hsr_node::Entry;
-use crate::origin::Spot;
+use hsr_run_index::Places;
 use std::alloc::Global;
 
 /// The places of the main worker's entries in a record, rising.

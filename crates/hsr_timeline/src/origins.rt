@@ -6,11 +6,11 @@ ghost use Rattle.hsr_timeline.specs.Fronts.{lists_of};
 ghost use Rattle.hsr_timeline.specs.Causes.{origin_at, origins_below, origins_from};
 ghost use Rattle.hsr_timeline.specs.IndexedCauses.{value_of};
 
+use crate::origin::{Origin, Spot};
 use crate::pairs::{Causes, cause_of};
 use hsr_finished_run::Closed;
 use hsr_frame::NoMemory;
 use hsr_node::Entry;
-use crate::origin::{Origin, Spot};
 use std::alloc::Global;
 
 /// Puts what is known of an entry last.

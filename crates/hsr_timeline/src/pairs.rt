@@ -5,9 +5,9 @@ ghost use Rattle.hsr_timeline.specs.declared.origin.Spot as spec;
 ghost use Rattle.hsr_timeline.specs.Causes.{cause_in, hop_pair, is_spot, pair_of};
 ghost use Rattle.hsr_timeline.specs.IndexedCauses.{value_of};
 
-use hsr_frame::NoMemory;
 use crate::hop::Hop;
 use crate::origin::Spot;
+use hsr_frame::NoMemory;
 use indexmap::IndexMap;
 use std::alloc::Global;
 

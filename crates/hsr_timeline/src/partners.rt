@@ -10,9 +10,9 @@ ghost use Rattle.hsr_timeline.specs.Partners.{is_at, partners, places};
 ghost use Rattle.hsr_timeline.specs.IndexedCopies.{found_at, places_in};
 
 use hsr_frame::NoMemory;
-use hsr_run_index::{Counts, Key, Passage, count_of, count_one, key_of};
 use hsr_link::{Dir, Fate, Row};
 use hsr_node::Carried;
+use hsr_run_index::{Counts, Key, Passage, count_of, count_one, key_of};
 use indexmap::IndexMap;
 use std::alloc::Global;
 

@@ -8,18 +8,18 @@ ghost use Rattle.hsr_timeline.specs.Causes.{origins};
 ghost use Rattle.hsr_timeline.specs.declared.shown.Shown as spec;
 ghost use Rattle.hsr_timeline.specs.Story.{AreShown, HasNoOrder, HasNoStory, IfCircle, IsOrdered, IsStory, shown_at, shown_cmp};
 
+use crate::front::time_at;
+use crate::hop::Hop;
+use crate::hopping::hops;
 use crate::mains::main_pairs;
+use crate::origin::Origin;
 use crate::origins::all_origins;
 use crate::pairs::{causes_of, hop_pairs};
 use crate::shown::Shown;
+use crate::time::Time;
+use crate::timing::{OrderFault, times};
 use hsr_finished_run::Closed;
 use hsr_frame::NoMemory;
-use crate::hop::Hop;
-use crate::hopping::hops;
-use crate::timing::{OrderFault, times};
-use crate::origin::Origin;
-use crate::time::Time;
-use crate::front::time_at;
 use std::alloc::Global;
 
 /// Why the rows of a run have no order of time.

@@ -4,12 +4,12 @@ ghost use Rattle.hsr_transcript.specs.CodeReads.{seen};
 ghost use Rattle.hsr_transcript.specs.Judged.{Judged, standing_of};
 ghost use Rattle.hsr_transcript.specs.Plain.{plain_view};
 
+use crate::fault::ReadFault;
 use crate::order::plan_of;
+use crate::plain::Plain;
 use crate::replay::replay_all;
 use hsr_finished_run::Records;
 use hsr_topology::Topology;
-use crate::plain::Plain;
-use crate::fault::ReadFault;
 use std::alloc::Global;
 
 /// The topology, plan, nodes and rows that a text stands for. `BadLine` of the last line of the links where the topology is

@@ -7,11 +7,11 @@ ghost use Rattle.hsr_transcript.specs.Earlier.{IsEarlierText, in_microseconds};
 ghost use Rattle.hsr_transcript.specs.Judged.{standing_of};
 ghost use Rattle.hsr_transcript.specs.CodeReads.{seen};
 
-use crate::judge::judge;
 use crate::earlier_law::earlier_is_read;
-use hsr_finished_run::{CheckFault, Closed, Records};
 use crate::fault::ReadFault;
 use crate::form::read_plain;
+use crate::judge::judge;
+use hsr_finished_run::{CheckFault, Closed, Records};
 use std::alloc::Global;
 use std::io::Read;
 

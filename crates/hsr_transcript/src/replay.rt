@@ -7,9 +7,9 @@ ghost use Rattle.hsr_transcript.specs.Items.{entry_items};
 ghost use Rattle.hsr_transcript_lines.specs.Lines.{line_count};
 ghost use Rattle.hsr_transcript.specs.Replay.{Again, Replayed, ReplayedAll};
 
+use crate::fault::ReadFault;
 use hsr_frame::NoMemory;
 use hsr_node::{Entry, Event, Kept, Place, StepFault};
-use crate::fault::ReadFault;
 use std::alloc::Global;
 use std::mem;
 

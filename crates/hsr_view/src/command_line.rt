@@ -1,11 +1,11 @@
 //! Reads the arguments of hsr_view, by clap.
 use crate::asked::Asked;
+use crate::views::What;
 use clap::error::ErrorKind;
 use clap::{Arg, ArgAction, ArgMatches, Command, Error};
 use hsr_diagram::Span;
 use hsr_text::decimal;
 use hsr_version::VERSION;
-use crate::views::What;
 use std::alloc::{AllocError, Global};
 
 const CAPTURE_ENDS: &str = "\

@@ -5,8 +5,8 @@ ghost use Rattle.hsr_view.specs.Fault.{extent_text, fault_line, moments_text, to
 use crate::given::Given;
 use crate::unnamed::Unnamed;
 use hsr_capture::BlockFault;
-use hsr_frame::NoMemory;
 use hsr_diagram::PictureFault;
+use hsr_frame::NoMemory;
 use hsr_timeline::{ChoiceFault, StoryFault};
 use hsr_transcript::ReadFault;
 use std::fmt;

@@ -31,11 +31,11 @@ mod views;
 
 use crate::asked::Asked;
 use crate::command_line::{WordFault, asked};
+use crate::fault::Fault;
+use crate::running::{tell, view_run};
+use crate::unnamed::{Unnamed, no_text};
 use hsr_scenario::TEXT_LIMIT;
 use hsr_text::arguments;
-use crate::fault::Fault;
-use crate::unnamed::{Unnamed, no_text};
-use crate::running::{tell, view_run};
 use std::alloc::Global;
 use std::fs::{File, Files};
 use std::io::{ErrorKind, Read, Write};

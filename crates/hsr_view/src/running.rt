@@ -7,10 +7,10 @@ ghost use Rattle.hsr_view.specs.Reads.{front};
 ghost use Rattle.hsr_view.specs.Refusals.{IsUnshownOf};
 ghost use Rattle.hsr_view.specs.Viewing.{IsShownOf, table_of};
 
-use crate::views::What;
 use crate::fault::Fault;
 use crate::head::read_head;
 use crate::viewing::shown;
+use crate::views::What;
 use std::alloc::Global;
 use std::io::{self, Read, Write};
 

@@ -8,8 +8,8 @@ use crate::spot::{Spot, find_spot};
 use hsr_frame::NoMemory;
 use hsr_link::Dir;
 use hsr_node::Kept;
-use hsr_world_steps::WorldFault;
 use hsr_topology::End;
+use hsr_world_steps::WorldFault;
 use std::alloc::Global;
 
 /// The directions in which a port receives and sends, if it has a link. They stay what they are, whatever is done, so that

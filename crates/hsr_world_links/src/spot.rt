@@ -6,8 +6,8 @@ ghost use Rattle.hsr_world_steps.specs.declared.step.WorldFault.TheVariants.{NoM
 
 use crate::span::{Span, put_at};
 use hsr_link::Dir;
-use hsr_world_steps::WorldFault;
 use hsr_topology::End;
+use hsr_world_steps::WorldFault;
 
 /// A direction of a link, by the number of the link.
 #[derive(Clone, Copy)]
