@@ -1,10 +1,8 @@
 -- How often copies stand in a list, counted by an index.
-use Rattle.std.proofs.Common.{◌≡◌, ℕ, ◌+◌, ◌<◌, ◌&&◌, Bool, true, false, cond, nat_eq, List, length, take, get_or, count_by, Option, Some, None, unwrap_or, Bor, refl, sym, ap, ◌∙◌, subst, arith}
+use Rattle.std.proofs.Common.{◌≡◌, ℕ, ◌+◌, ◌&&◌, Bool, true, false, cond, nat_eq, List, Option, Some, None, unwrap_or, Bor, refl, sym, ap, ◌∙◌, subst, arith}
 use Rattle.std.specs.Option.{option_eq}
 use Rattle.std.specs.Str.{bytes_eq}
 use Rattle.std.proofs.lemmas.Bool.{false≢true}
-use Rattle.std.proofs.lemmas.List.Sums.{count_by-le-length, count_by_more_no, count_by_more_yes}
-use Rattle.std.proofs.lemmas.List.{length-take}
 use Rattle.indexmap.specs.IndexMap.{IndexMap, Updates, get_by}
 use Rattle.hsr_node.specs.declared.event.Carried.{Carried}
 use Rattle.hsr_node.specs.declared.event.Probe.{Probe}
@@ -56,15 +54,6 @@ one_counted old new copy key count place octets more updates other =
     by_same true is = let e : count_of old copy ≡ count_of old other = ap (count_of old) (sym (carried_tells other copy is)) in omega (arith, more, e)
     by_same false is = omega arith
 
-pub counted_more : (copies : List Carried) (i : ℕ) (d copy : Carried) → i < length copies →
-    count_by (is_same_carried copy) (take (i + 1) copies) ≡ count_by (is_same_carried copy) (take i copies) + cond (is_same_carried copy (get_or copies i d)) 1 0
-counted_more copies i d copy below = by_same (is_same_carried copy (get_or copies i d)) refl
-  where
-    by_same : (b : Bool) → is_same_carried copy (get_or copies i d) ≡ b →
-        count_by (is_same_carried copy) (take (i + 1) copies) ≡ count_by (is_same_carried copy) (take i copies) + cond b 1 0
-    by_same true is = count_by_more_yes (is_same_carried copy) copies i d below is
-    by_same false is = let e = count_by_more_no (is_same_carried copy) copies i d below is in omega (arith, e)
-
 -- ---- a look-up
 
 pub looked_up : {S : Type 0} (counts : IndexMap (Option (ℕ × ℕ) × Bor (List ℕ)) ℕ S) (copy : Carried) (key : Option (ℕ × ℕ) × Bor (List ℕ)) →
@@ -72,7 +61,3 @@ pub looked_up : {S : Type 0} (counts : IndexMap (Option (ℕ × ℕ) × Bor (Lis
 looked_up counts copy key place octets =
     let by : Option (ℕ × ℕ) → List ℕ → ℕ = λ p xs. unwrap_or (get_by (λ k. option_eq (λ a b. nat_eq a.0 b.0 && nat_eq a.1 b.1) p k.0 && bytes_eq xs k.1.now) counts) 0 in
     ap (λ p. by p key.1.now) place ∙ ap (by (place_of copy.probe)) octets
-
-pub count_fits : (copies : List Carried) (copy : Carried) (i n : ℕ) → n ≡ count_by (is_same_carried copy) (take i copies) → i < length copies → n < length copies
-count_fits copies copy i n is below =
-    let most = count_by-le-length (is_same_carried copy) (take i copies) in let taken = length-take i copies in omega (arith, is, below, most, taken)

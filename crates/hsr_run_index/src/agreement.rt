@@ -1,5 +1,5 @@
 //! Whether links agree with the records of the nodes at their ends.
-ghost use Rattle.std.specs.Prelude.{◌≡◌, ◌↔◌, ◌++◌, [], ◌∷◌, IfOk, IfSome, IsTrue, MatchOption, OnOk};
+ghost use Rattle.std.specs.Prelude.{◌≡◌, ◌↔◌, [], ◌∷◌, IfOk, IfSome, IsTrue, MatchOption};
 ghost use Rattle.std.specs.List.{cons_option};
 ghost use Rattle.hsr_run_index.specs.InOrder.{PutsFit, TakensFit, came, came_by, passed, passed_by, told, told_copy};
 
@@ -162,13 +162,6 @@ fn takens_in_order(entries: &[Entry], port: u8, dir: Dir, rows: &[Row]) -> bool
     next_told(Passage::Taken, dir, left).is_none()
 }
 
-fn add(copies: &mut Vec<Carried>, copy: Carried) -> Result<(), NoMemory>
-    ensures { OnOk result (copies.new.items ≡ copies.old.items ++ copy ∷ []) }
-{
-    copies.push(copy)?;
-    Ok(())
-}
-
 /// The copies that were put, or taken, in a direction.
 fn copies_told(
     alloc: Global,
@@ -182,7 +175,7 @@ fn copies_told(
     // The index is used by the loop's invariant alone.
     for (i, row) in rows.iter().enumerate() {
         if is_told(which, dir, row) {
-            add(&mut copies, row.carried.copy()?)?;
+            copies.push(row.carried.copy()?)?;
         }
     }
     Ok(copies)
@@ -226,7 +219,7 @@ fn passed(
     let mut copies = Vec::new(alloc);
     for (at, entry) in entries.iter().enumerate() {
         if let Some(copy) = passed_by(alloc, number, place, port, at, entry)? {
-            add(&mut copies, copy)?;
+            copies.push(copy)?;
         }
     }
     Ok(copies)
@@ -240,7 +233,7 @@ fn arrived(alloc: Global, port: u8, entries: &[Entry]) -> Result<Vec<Carried>, N
     // The index is used by the loop's invariant alone.
     for (at, entry) in entries.iter().enumerate() {
         if let Some(copy) = came_by(port, entry) {
-            add(&mut copies, copy.copy()?)?;
+            copies.push(copy.copy()?)?;
         }
     }
     Ok(copies)

@@ -47,7 +47,7 @@ pub fn count_one<'a>(counts: &mut Counts<'a>, copy: &'a Carried) -> Result<(), N
 }
 
 /// How often each copy stands in a list.
-#[tactic(auto, using(crate::proofs::Counting::count_fits, crate::proofs::Counting::counted_more))]
+#[tactic(auto, using(hsr_frame::proofs::OneMore::count_fits, hsr_frame::proofs::OneMore::counted_more))]
 fn counted<'a>(alloc: Global, copies: &'a [Carried]) -> Result<Counts<'a>, NoMemory>
     ensures { IfOk result (λ counts. (copy : spec.Carried) → count_of counts copy
         ≡ count_by (is_same_carried copy) copies.now) }
