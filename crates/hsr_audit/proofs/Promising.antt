@@ -259,7 +259,7 @@ module _ (run : Run) (closed : IsClosed run) (once : IsOnceInNetwork run) (to_st
                 (record {
                   node = box_below run.places (start_of run last.0).node box;
                   box = box;
-                  way = last.0;
+                  channel = last.0;
                   below = last.1.carries.below;
                   starts = refl;
                   station = subst S (sym last.1.here) station;

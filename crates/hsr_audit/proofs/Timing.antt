@@ -98,7 +98,7 @@ so_timely : (sent at : ℕ) → sent ≤ at → at < sent + 400000 → is_timely
 so_timely sent at since until = and_from (nat_le sent at) (nat_lt (at - sent) 400000) (le-leb sent at since) (lt-ltb (at - sent) 400000 (omega (arith, since, until)))
 
 in_time : (run : Run) (at : ℕ) (event : Event) → is_in_time (moments_of run) at event ≡ true → IsInTime run at event
-in_time run at (Send from dst vlan kind payload) h = tt
+in_time run at (Send from dst vlan ethertype payload) h = tt
 in_time run at (Supervise about) h = tt
 in_time run at Age h = tt
 in_time run at (Arrive port copy) h = λ send named.
@@ -107,7 +107,7 @@ in_time run at (Arrive port copy) h = λ send named.
     subst Q (moment_is run send) (timely (moment_in (moments_of run) send) at (subst P named h))
 
 late : (run : Run) (at : ℕ) (event : Event) → is_in_time (moments_of run) at event ≡ false → IsInTime run at event → ⊥
-late run at (Send from dst vlan kind payload) h all = false≢true (sym h)
+late run at (Send from dst vlan ethertype payload) h all = false≢true (sym h)
 late run at (Supervise about) h all = false≢true (sym h)
 late run at Age h all = false≢true (sym h)
 late run at (Arrive port copy) h all = by_probe copy.probe h all

@@ -10,7 +10,7 @@ ghost use Rattle.hsr_network_laws.specs.Network.{start_of};
 ghost use Rattle.hsr_reach.specs.Numbered.{IsLossOf};
 
 use crate::covered::{is_redbox, is_to_station};
-use crate::lossy::ways_of;
+use crate::lossy::channels_of;
 use crate::sends::send_at;
 use crate::shared::{Found, found_of, keep};
 use hsr_bitset::Numbers;
@@ -19,7 +19,7 @@ use hsr_finished_run::Closed;
 use hsr_frame::NoMemory;
 use hsr_link::Dir;
 use hsr_node::{Place, Probe};
-use hsr_reach::{Way, Ways};
+use hsr_reach::{Channel, Channels};
 use hsr_tag::FrameView;
 use indexmap::IndexMap;
 use std::alloc::Global;
@@ -33,18 +33,18 @@ pub(crate) struct Cut {
     pub(crate) receiver: usize,
 }
 
-/// The nodes that a send reaches, and the ways on which copies of it were lost, by their numbers.
+/// The nodes that a send reaches, and the channels on which copies of it were lost, by their numbers.
 #[derive(Clone, Copy)]
 struct Spread {
     nodes: Numbers,
     lossy: Numbers,
 }
 
-/// A finished run, the ways that start at each of its nodes, and the losses of each of its sends.
+/// A finished run, the channels that start at each of its nodes, and the losses of each of its sends.
 #[derive(Drop)]
 pub(crate) struct Reach<'a, const C: usize> {
     closed: &'a Closed<C>,
-    ways: Ways<'a, C>,
+    channels: Channels<'a, C>,
     losses: Losses<'a, C>,
 }
 
@@ -56,17 +56,17 @@ impl<'a, const C: usize> Model for Reach<'a, C> {
 
     ghost view = { λ r. r.closed.now.run };
 
-    ghost invariant = { λ r. (r.ways ≡ r.closed.now.run) × (r.losses ≡ r.closed.now.run) };
+    ghost invariant = { λ r. (r.channels ≡ r.closed.now.run) × (r.losses ≡ r.closed.now.run) };
 }
 
 impl<'a, const C: usize> Reach<'a, C> {
-    /// What a finished run tells of ways and losses.
+    /// What a finished run tells of channels and losses.
     pub(crate) fn new(alloc: Global, closed: &'a Closed<C>) -> Result<Reach<'a, C>, NoMemory>
         ensures { IfOk result (λ reach. reach ≡ closed.now.run) }
     {
         Ok(Reach {
             closed,
-            ways: Ways::new(alloc, closed)?,
+            channels: Channels::new(alloc, closed)?,
             losses: Losses::new(alloc, closed)?,
         })
     }
@@ -79,23 +79,24 @@ impl<'a, const C: usize> Reach<'a, C> {
         &self.closed.topology().places()[node]
     }
 
-    /// The ways on which copies of a send were lost, where these are all its losses.
+    /// The channels on which copies of a send were lost, where these are all its losses.
     fn lossy(&self, send: Probe, losses: &[Loss]) -> Numbers
         requires { losses.now ≡ lost self.now send }
         ensures { IsLossOf self.now send result }
     {
-        // What it answers isn't used: its contract says that the run is finished, so it has 128 links at most, and the set each way.
+        // What it answers isn't used: its contract says that the run is finished, so it has 128 links at most, and the set
+        // each channel.
         let _ = self.closed.topology();
-        ways_of(losses)
+        channels_of(losses)
     }
 
-    /// The nodes that a send reaches, where it lost copies on these ways.
+    /// The nodes that a send reaches, where it lost copies on these channels.
     fn search(&self, send: Probe, frame: &FrameView<'_>, lossy: &Numbers) -> Numbers
         requires node { send.node < length self.now.places }
         requires lossy { IsLossOf self.now send lossy.now }
         ensures { AreReached self.now send frame.now result }
     {
-        self.ways.reached(send, frame, lossy)
+        self.channels.reached(send, frame, lossy)
     }
 
     /// The nodes that a send reaches that lost nothing: those of an earlier one to its destination, of its type, if
@@ -114,7 +115,7 @@ impl<'a, const C: usize> Reach<'a, C> {
         ensures reached { IfOk result (λ nodes. AreReached self.now send frame.now nodes) }
         ensures found { OnOk result (AreFound self.now send.node found.new) }
     {
-        // Sends that lost nothing and go alike take the same ways, so they share a search.
+        // Sends that lost nothing and go alike take the same channels, so they share a search.
         if let Some(nodes) = found_of(found, frame) {
             return Ok(nodes);
         }
@@ -123,7 +124,7 @@ impl<'a, const C: usize> Reach<'a, C> {
         Ok(nodes)
     }
 
-    /// The nodes that a send reaches, and the ways on which copies of it were lost, where these nodes were found of
+    /// The nodes that a send reaches, and the channels on which copies of it were lost, where these nodes were found of
     /// earlier sends of its node.
     fn spread(
         &self,
@@ -147,13 +148,13 @@ impl<'a, const C: usize> Reach<'a, C> {
         Ok(Spread { nodes, lossy })
     }
 
-    /// The node where a way starts.
-    fn start(&self, way: Way) -> usize
-        requires { way.link < length self.now.links }
-        ensures { result ≡ (start_of self.now way).node }
+    /// The node where a channel starts.
+    fn start(&self, channel: Channel) -> usize
+        requires { channel.link < length self.now.links }
+        ensures { result ≡ (start_of self.now channel).node }
     {
-        let [a, b] = self.closed.topology().links()[way.link];
-        match way.dir {
+        let [a, b] = self.closed.topology().links()[channel.link];
+        match channel.dir {
             Dir::Forth => a.node,
             Dir::Back => b.node,
         }
@@ -169,16 +170,16 @@ impl<'a, const C: usize> Reach<'a, C> {
         }
     }
 
-    /// Whether a way ends at a node and lost no copy of a send, and starts at its sender or at a RedBox that it reaches.
-    fn is_last(&self, sender: usize, spread: &Spread, node: usize, way: Way) -> bool
-        requires { way.link < length self.now.links }
-        ensures { result ≡ is_last_in self.now sender spread.now node way }
+    /// Whether a channel ends at a node and lost no copy of a send, and starts at its sender or at a RedBox that it reaches.
+    fn is_last(&self, sender: usize, spread: &Spread, node: usize, channel: Channel) -> bool
+        requires { channel.link < length self.now.links }
+        ensures { result ≡ is_last_in self.now sender spread.now node channel }
     {
-        // As above: a way's number asks for few links.
+        // As above: a channel's number asks for few links.
         let _ = self.closed.topology();
-        let start = self.start(way);
-        self.ways.stop(way).node == node
-            && !spread.lossy.has(way.number())
+        let start = self.start(channel);
+        self.channels.stop(channel).node == node
+            && !spread.lossy.has(channel.number())
             && (start == sender || self.is_redbox(start) && spread.nodes.has(start))
     }
 
@@ -195,8 +196,8 @@ impl<'a, const C: usize> Reach<'a, C> {
         }
         for link in 0..topology.links().len() {
             let (forth, back) = (Dir::Forth, Dir::Back);
-            if self.is_last(send.node, spread, node, Way { link, dir: forth })
-                || self.is_last(send.node, spread, node, Way { link, dir: back })
+            if self.is_last(send.node, spread, node, Channel { link, dir: forth })
+                || self.is_last(send.node, spread, node, Channel { link, dir: back })
             {
                 return true;
             }

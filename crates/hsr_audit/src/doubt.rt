@@ -40,7 +40,7 @@ pub enum Doubt {
         node: usize,
         place: usize,
     },
-    /// A send is due at a node to which no way lost no copy of it; the lowest such node.
+    /// A send is due at a node to which no channel lost no copy of it; the lowest such node.
     CutOff {
         node: usize,
         place: usize,

@@ -10,7 +10,7 @@
 //! - `ring`: the audit of a ring of DANHs, its call
 //! - `sends`: whether there is a send, and the first that isn't covered
 //! - `covered`: which sends the law of networks covers, and which are to Stations
-//! - `lossy`: the ways on which a send lost copies
+//! - `lossy`: the channels on which a send lost copies
 //! - `shared`: what was found of sends that lost nothing, for those that are like them
 //! - `cutoff`: the first send that doesn't come to a node
 //! - `missed`: the lowest send to a Station that its RedBox didn't know each time

@@ -1,5 +1,6 @@
 //! Transcripts that are read and audited.
-ghost use Rattle.std.specs.Prelude.{◌≡◌, ◌≤◌, IfErr, IfOk, IfSome};
+ghost use Rattle.std.specs.Prelude.{◌≡◌, IfErr, IfOk, IfSome};
+ghost use Rattle.hsr_duptable.specs.Table.{IsTableSize};
 ghost use Rattle.hsr_transcript.specs.Answers.{IsTextOf};
 ghost use Rattle.hsr_commands.specs.AuditRun.{AuditEnds, IsAudited, IsUnread, transcript_fault};
 ghost use Rattle.hsr_duptable.specs.Sizes.{capacity_of};
@@ -32,7 +33,7 @@ fn transcript_fault(fault: ReadFault) -> Fault
 /// The finished run whose transcript a text is.
 #[tactic(auto, using(crate::proofs::Telling::unread_as))]
 fn closed<R: Read, const C: usize>(alloc: Global, reader: &mut R) -> Result<Closed<C>, Fault>
-    requires entries { (1 ≤ C) × (C ≤ 65535) }
+    requires entries { IsTableSize C }
     ensures ok { IfOk result (λ c. IfSome (R.remaining reader.old) (λ text. IsTextOf C c text)) }
     ensures err { IfErr result (λ f. IfSome (R.remaining reader.old) (λ text. IsUnread C text f)) }
 {
@@ -50,7 +51,7 @@ fn audited<R: Read, const C: usize>(
     asked: Asked,
     notes: &mut Notes,
 ) -> Result<(Finding, Vec<u8>), Fault>
-    requires entries { (1 ≤ C) × (C ≤ 65535) }
+    requires entries { IsTableSize C }
     ensures ok { IfOk result (λ r. IfSome (R.remaining reader.old)
         (λ text. IsAudited C scope asked text r.0 r.1.items)) }
     ensures err { IfErr result (λ f. IfSome (R.remaining reader.old) (λ text. IsUnread C text f)) }

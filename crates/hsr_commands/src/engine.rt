@@ -1,6 +1,7 @@
 //! The run of `node` over a reader and a writer.
 ghost use Rattle.std.specs.Prelude.{◌≡◌, ◌≢◌, ◌<◌, ◌≤◌, ◌^◌, ℕ, IfErr, IfSome, List, OnOk, Option, length};
 ghost use Rattle.hsr_text.specs.Lines.{ReadsFront, lines_of};
+ghost use Rattle.hsr_duptable.specs.Table.{IsTableSize};
 ghost use Rattle.hsr_danh.specs.Machine.{new_machine};
 ghost use Rattle.hsr_commands.specs.Output.{Ended, output};
 ghost use Rattle.hsr_duptable.specs.Sizes.{capacity_of};
@@ -136,7 +137,7 @@ fn run<R: BufRead, W: Write, const C: usize>(
     reads: &mut u64,
     chosen: &NodeOptions,
 ) -> Result<(), Fault>
-    requires entries { (1 ≤ C) × (C ≤ 65535) }
+    requires entries { IsTableSize C }
     requires granted { reads.old ≡ 2 ^ 40 }
     ensures { Ran chosen.now.unit (R.remaining reader.old) (W.contents writer.old)
         (W.contents writer.new) C (new_machine chosen.now.mac chosen.now.mode) result }

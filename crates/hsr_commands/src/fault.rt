@@ -4,6 +4,7 @@ ghost use Rattle.hsr_commands.specs.Fault.{check_fault, code_of, fault_line, ste
 ghost use Rattle.hsr_commands.specs.declared.fault.Fault.TheVariants.{Memory, Read as ReadFailed};
 
 use hsr_finished_run::{CheckFault, Disagree};
+use hsr_frame::NoMemory;
 use hsr_scenario::ScenarioFault;
 use hsr_text::ReaderFault;
 use hsr_world_steps::{DrainFault, WorldFault};
@@ -139,6 +140,14 @@ impl From<AllocError> for Fault {
     ghost from_gives = { λ _ e. e ≡ Memory };
 
     fn from(_e: AllocError) -> Fault {
+        Fault::Memory
+    }
+}
+
+impl From<NoMemory> for Fault {
+    ghost from_gives = { λ _ e. e ≡ Memory };
+
+    fn from(_e: NoMemory) -> Fault {
         Fault::Memory
     }
 }

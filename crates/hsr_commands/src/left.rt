@@ -2,10 +2,11 @@
 ghost use Rattle.std.specs.Prelude.{◌≡◌, ◌++◌, length, IfOk, OnOk};
 ghost use Rattle.hsr_commands.specs.OpenRun.{open_links, open_nodes, open_text, role_at};
 
+use hsr_frame::NoMemory;
 use hsr_node::{Place, Role};
 use hsr_report::{put_head, put_link, put_node};
 use hsr_ring::World;
-use std::alloc::{AllocError, Global};
+use std::alloc::Global;
 
 /// The role of a node among these; that of a QuadBox where there is no such node.
 fn role_at(places: &[Place], node: usize) -> Role
@@ -23,7 +24,7 @@ fn put_nodes<const C: usize>(
     text: &mut Vec<u8>,
     world: &World<C>,
     places: &[Place],
-) -> Result<(), AllocError>
+) -> Result<(), NoMemory>
     ensures { OnOk result (text.new.items ≡ text.old.items
         ++ open_nodes places.now world.now (length world.now.places)) }
 {
@@ -34,7 +35,7 @@ fn put_nodes<const C: usize>(
 }
 
 /// Puts the line of each link.
-fn put_links<const C: usize>(text: &mut Vec<u8>, world: &World<C>) -> Result<(), AllocError>
+fn put_links<const C: usize>(text: &mut Vec<u8>, world: &World<C>) -> Result<(), NoMemory>
     ensures { OnOk result (text.new.items ≡ text.old.items
         ++ open_links world.now (length world.now.spans)) }
 {
@@ -45,13 +46,13 @@ fn put_links<const C: usize>(text: &mut Vec<u8>, world: &World<C>) -> Result<(),
 }
 
 /// What there is of a world of these nodes: the lines of the bench, of each node and of each link, and the last line `open`.
-/// `AllocError` where room is refused.
+/// `NoMemory` where room is refused.
 #[tactic(auto, unfolding(crate::specs::OpenRun::open_text))]
 pub fn open_text<const C: usize>(
     alloc: Global,
     world: &World<C>,
     places: &[Place],
-) -> Result<Vec<u8>, AllocError>
+) -> Result<Vec<u8>, NoMemory>
     ensures { IfOk result (λ text. text.items ≡ open_text C places.now world.now) }
 {
     let mut text = Vec::new(alloc);

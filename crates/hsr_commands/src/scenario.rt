@@ -1,5 +1,6 @@
 //! Scenarios that are run, and shown by transcript or report.
-ghost use Rattle.std.specs.Prelude.{◌≡◌, ◌≢◌, ◌≤◌, IfErr, IfOk, IfSome, true};
+ghost use Rattle.std.specs.Prelude.{◌≡◌, ◌≢◌, IfErr, IfOk, IfSome, true};
+ghost use Rattle.hsr_duptable.specs.Table.{IsTableSize};
 ghost use Rattle.hsr_commands.specs.Reading.{scenario_of};
 ghost use Rattle.hsr_commands.specs.OpenRun.{IsDeliveredOpen, IsLeftBy, IsOpenOf, IsPlayedOn, IsShownBy, IsShownOfRun, IsUnshown, RunEnds};
 ghost use Rattle.hsr_commands.specs.ScenarioRun.{IsUnplayed};
@@ -11,7 +12,7 @@ use crate::fault::{Fault, Status};
 use crate::left::open_text;
 use crate::notes::Notes;
 use crate::reading::scenario_of;
-use crate::shown::{asks_budget, deliver, told};
+use crate::shown::{asks_budget, deliver, audit_and_show};
 use crate::text::read_text;
 use hsr_duptable::TableSize;
 use hsr_finished_run::{CheckFault, Closed};
@@ -44,7 +45,7 @@ fn played<const C: usize>(
     octets: &[u8],
     notes: &mut Notes,
 ) -> Result<Reached<C>, Fault>
-    requires entries { (1 ≤ C) × (C ≤ 65535) }
+    requires entries { IsTableSize C }
     ensures ok { IfOk result (λ p. IsPlayedOn C
         (scenario_of octets.now) p.topology.places p.world) }
     ensures err { IfErr result (λ f. IsUnplayed C (scenario_of octets.now) f) }
@@ -80,7 +81,7 @@ fn finished<const C: usize>(
     ensures ok { IfOk result (IsShownOfRun showing closed.now) }
     ensures err { IfErr result (λ f. f ≡ Memory) }
 {
-    match told(alloc, closed, showing) {
+    match audit_and_show(alloc, closed, showing) {
         Ok((finding, text)) => {
             notes.of_run(alloc, octets, closed, finding, asks_budget(showing));
             Ok(Shown::Closed { finding, text })
@@ -120,7 +121,7 @@ fn reported<const C: usize>(
     shows_open: bool,
     notes: &mut Notes,
 ) -> Result<Shown, Fault>
-    requires entries { (1 ≤ C) × (C ≤ 65535) }
+    requires entries { IsTableSize C }
     ensures ok { IfOk result (IsShownBy C shows_open showing (scenario_of octets.now)) }
     ensures err { IfErr result (IsUnshown C shows_open (scenario_of octets.now)) }
 {
@@ -170,7 +171,7 @@ fn deliver_open<W: Write>(writer: &mut W, text: &[u8]) -> Status
 
 /// Runs the scenario that octets mean, and writes what is shown of it.
 #[tactic(auto, using(crate::proofs::Opening::closed_told, crate::proofs::Opening::open_told, crate::proofs::Opening::unshown_told, crate::proofs::Opening::unshown_known, crate::proofs::Opening::open_known, crate::proofs::Telling::delivered_told))]
-fn tell<W: Write>(
+fn run_and_deliver<W: Write>(
     alloc: Global,
     octets: &[u8],
     writer: &mut W,
@@ -214,7 +215,7 @@ pub fn scenario_run<R: Read, W: Write>(
         RunEnds (capacity_of table) shows_open showing (scenario_of octets) (W.contents writer.old) (W.contents writer.new) result) }
 {
     match read_text(alloc, reader, TEXT_LIMIT) {
-        Ok(octets) => tell(
+        Ok(octets) => run_and_deliver(
             alloc,
             octets.as_slice(),
             writer,

@@ -100,7 +100,7 @@ pub fn asks_budget(showing: Showing) -> bool {
 /// Audits a finished run, and forms what is shown of it.
 /// The audit is made for a transcript too, since the status tells what it found. `Fault::Memory` where room is
 /// refused, and no other fault.
-pub fn told<const C: usize>(
+pub fn audit_and_show<const C: usize>(
     alloc: Global,
     closed: &Closed<C>,
     showing: Showing,

@@ -1,5 +1,6 @@
 //! Scenarios that run in threads, and are shown by transcript or report.
-ghost use Rattle.std.specs.Prelude.{◌≡◌, ◌≢◌, ◌≤◌, IfErr, IfOk, IfSome};
+ghost use Rattle.std.specs.Prelude.{◌≡◌, ◌≢◌, IfErr, IfOk, IfSome};
+ghost use Rattle.hsr_duptable.specs.Table.{IsTableSize};
 ghost use Rattle.hsr_commands.specs.Reading.{scenario_of};
 ghost use Rattle.hsr_duptable.specs.Sizes.{capacity_of};
 ghost use Rattle.hsr_commands.specs.ThreadsRun.{IsRan, IsRunShown, IsUnrun, ThreadsEnds, run_fault};
@@ -9,7 +10,7 @@ ghost use Rattle.hsr_commands.specs.declared.fault.Status.TheVariants.{Fault as 
 use crate::fault::{Fault, Status};
 use crate::notes::Notes;
 use crate::reading::scenario_of;
-use crate::shown::{asks_budget, deliver, told};
+use crate::shown::{asks_budget, deliver, audit_and_show};
 use crate::text::read_text;
 use hsr_duptable::TableSize;
 use hsr_finished_run::Closed;
@@ -44,7 +45,7 @@ fn ran<H: Threads + Wait + Sync, const C: usize>(
     alloc: Global,
     octets: &[u8],
 ) -> Result<Closed<C>, Fault>
-    requires entries { (1 ≤ C) × (C ≤ 65535) }
+    requires entries { IsTableSize C }
     ensures ok { IfOk result (λ c. IsRan C (scenario_of octets.now) c) }
     ensures err { IfErr result (λ f. IsUnrun C (scenario_of octets.now) f) }
 {
@@ -67,7 +68,7 @@ fn run_shown<H: Threads + Wait + Sync, const C: usize>(
     showing: Showing,
     notes: &mut Notes,
 ) -> Result<(Finding, Vec<u8>), Fault>
-    requires entries { (1 ≤ C) × (C ≤ 65535) }
+    requires entries { IsTableSize C }
     ensures ok { IfOk result (λ r. IsRunShown C showing (scenario_of octets.now) r.0 r.1.items) }
     ensures err { IfErr result (λ f. IsUnrun C (scenario_of octets.now) f) }
 {
@@ -75,7 +76,7 @@ fn run_shown<H: Threads + Wait + Sync, const C: usize>(
         Ok(closed) => closed,
         Err(fault) => return Err(fault),
     };
-    match told(alloc, &closed, showing) {
+    match audit_and_show(alloc, &closed, showing) {
         Ok((finding, text)) => {
             notes.of_run(alloc, octets, &closed, finding, asks_budget(showing));
             Ok((finding, text))
@@ -106,7 +107,7 @@ fn run_shown_with<H: Threads + Wait + Sync>(
 
 /// Runs the scenario that octets mean, and writes what is shown of the run.
 #[tactic(auto, using(crate::proofs::Telling::unrun_told, crate::proofs::Telling::delivered_told))]
-fn tell<H: Threads + Wait + Sync, W: Write>(
+fn run_and_deliver<H: Threads + Wait + Sync, W: Write>(
     rt: &H,
     alloc: Global,
     octets: &[u8],
@@ -150,7 +151,7 @@ pub fn threads_run<H: Threads + Wait + Sync, R: Read, W: Write>(
         ThreadsEnds (capacity_of table) showing (scenario_of octets) (W.contents writer.old) (W.contents writer.new) result) }
 {
     match read_text(alloc, reader, TEXT_LIMIT) {
-        Ok(octets) => tell(rt, alloc, octets.as_slice(), writer, table, showing, notes),
+        Ok(octets) => run_and_deliver(rt, alloc, octets.as_slice(), writer, table, showing, notes),
         Err(fault) => Status::Fault(fault),
     }
 }

@@ -186,9 +186,9 @@ age-case capacity machine past at r =
 
 pub kept : (capacity : ℕ) (machine : Machine) (past : List Deed) (call : Call) → IsPastOf capacity machine past → Kept capacity machine (step capacity machine call) (past_step capacity machine.own machine.mode past call)
 unfolding send_step life_step arrive_step
-kept capacity machine past (deeds.sending at dst kind len) r =
-    subst (λ n. Kept capacity machine (step capacity machine (deeds.sending at dst kind len)) (deeds.send_from past at (send_refusal machine.own n dst kind len))) r.accepted
-    (send-case capacity machine past at (send_refusal machine.own machine.accepted dst kind len) r)
+kept capacity machine past (deeds.sending at dst ethertype len) r =
+    subst (λ n. Kept capacity machine (step capacity machine (deeds.sending at dst ethertype len)) (deeds.send_from past at (send_refusal machine.own n dst ethertype len))) r.accepted
+    (send-case capacity machine past at (send_refusal machine.own machine.accepted dst ethertype len) r)
 kept capacity machine past (deeds.supervising at) r =
     subst (λ n. Kept capacity machine (step capacity machine (deeds.supervising at)) (deeds.life_from past at (n == step_limit))) r.accepted
     (life-case capacity machine past at (machine.accepted == step_limit) r)

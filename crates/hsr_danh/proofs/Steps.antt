@@ -21,17 +21,17 @@ use Rattle.hsr_danh.specs.declared.danh.Verdict.{Verdict}
 
 -- ---- frames of the node's own
 
-pub send-refused : (capacity : ℕ) (machine : Machine) (at : ℕ) (dst : List ℕ) (kind len : ℕ) (fault : SendFault) → Some fault ≡ send_refusal machine.own machine.accepted dst kind len
-    → (Err fault, machine) ≡ send_step capacity machine at dst kind len
+pub send-refused : (capacity : ℕ) (machine : Machine) (at : ℕ) (dst : List ℕ) (ethertype len : ℕ) (fault : SendFault) → Some fault ≡ send_refusal machine.own machine.accepted dst ethertype len
+    → (Err fault, machine) ≡ send_step capacity machine at dst ethertype len
 unfolding send_step
-send-refused capacity machine at dst kind len fault e = ap (send_or_refuse capacity machine (now_at machine at)) e
+send-refused capacity machine at dst ethertype len fault e = ap (send_or_refuse capacity machine (now_at machine at)) e
 
-pub send-accepted : (capacity : ℕ) (machine : Machine) (at : ℕ) (dst : List ℕ) (kind len : ℕ) (notes : Notes) (now : ℕ) → None ≡ send_refusal machine.own machine.accepted dst kind len
+pub send-accepted : (capacity : ℕ) (machine : Machine) (at : ℕ) (dst : List ℕ) (ethertype len : ℕ) (notes : Notes) (now : ℕ) → None ≡ send_refusal machine.own machine.accepted dst ethertype len
     → now ≡ now_at machine at → notes ≡ after_passes capacity machine.notes (exits_of (a ∷ b ∷ [])) (record { src = machine.own; seq = machine.next }) now
     → (Ok (record { seq = machine.next }), record machine { notes = notes; next = (machine.next + 1) % number_range; counters = record machine.counters { sent = machine.counters.sent + 1 }; moment = now; accepted = machine.accepted + 1 })
-    ≡ send_step capacity machine at dst kind len
+    ≡ send_step capacity machine at dst ethertype len
 unfolding send_step
-send-accepted capacity machine at dst kind len notes now e at_now noted = rw (noted, at_now) (ap (send_or_refuse capacity machine (now_at machine at)) e)
+send-accepted capacity machine at dst ethertype len notes now e at_now noted = rw (noted, at_now) (ap (send_or_refuse capacity machine (now_at machine at)) e)
 
 pub life-spent : (capacity : ℕ) (machine : Machine) (at : ℕ) → machine.accepted ≡ step_limit → (Err (record {}), machine) ≡ life_step capacity machine at
 unfolding life_step

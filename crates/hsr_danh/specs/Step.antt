@@ -44,8 +44,8 @@ send_or_refuse capacity machine now None =
 
 -- a send, by its destination, type and length
 unfoldable pub send_step : ℕ → Machine → ℕ → List ℕ → ℕ → ℕ → Result Sent SendFault × Machine
-send_step capacity machine at dst kind len =
-    send_or_refuse capacity machine (now_at machine at) (send_refusal machine.own machine.accepted dst kind len)
+send_step capacity machine at dst ethertype len =
+    send_or_refuse capacity machine (now_at machine at) (send_refusal machine.own machine.accepted dst ethertype len)
 
 abbrev pub life_or_spent : ℕ → Machine → ℕ → Bool → Result Life Spent × Machine
 life_or_spent capacity machine now true = (Err (record {}), machine)

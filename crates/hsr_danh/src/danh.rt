@@ -2,6 +2,7 @@
 ghost use Rattle.std.specs.Prelude.{◌≡◌, ◌≢◌, ◌≤◌, ◌<◌, ◌^◌, length, map, IfOk, OnOk};
 ghost use Rattle.hsr_frame.specs.Counters.{step_limit};
 ghost use Rattle.hsr_frame.specs.Layout.{ethertype_hsr, ethertype_vlan, max_payload};
+ghost use Rattle.hsr_duptable.specs.Table.{IsTableSize};
 
 use arrayvec::ArrayVec;
 use hsr_duptable::Key;
@@ -75,7 +76,7 @@ impl<const C: usize> Danh<C> {
     /// A node that has done nothing. No group has its address. `NoMemory` if allocation fails.
     pub fn new(alloc: Global, own: Mac, mode: Mode) -> Result<Self, NoMemory>
         requires station { ¬ IsGroup own }
-        requires entries { (1 ≤ C) × (C ≤ 65535) }
+        requires entries { IsTableSize C }
         ensures { IfOk result (λ danh. danh ≡ new_machine own mode) }
     {
         let egresses = Exits {
@@ -105,15 +106,16 @@ impl<const C: usize> Danh<C> {
         at: u64,
         dst: Mac,
         _vlan: Option<u16>,
-        kind: u16,
+        ethertype: u16,
         payload: &[u8],
     ) -> Result<Sent, SendFault>
-        ensures step { (result, self.new) ≡ send_step C self.old at dst kind (length payload.now) }
+        ensures step { (result, self.new)
+            ≡ send_step C self.old at dst ethertype (length payload.now) }
         // What is sent is a frame.
-        ensures formed { OnOk result ((kind ≢ ethertype_vlan) × (kind ≢ ethertype_hsr)
+        ensures formed { OnOk result ((ethertype ≢ ethertype_vlan) × (ethertype ≢ ethertype_hsr)
             × (length payload.now ≤ max_payload)) }
     {
-        if let Some(fault) = send_fault(self.own, self.accepted, dst, kind, payload.len()) {
+        if let Some(fault) = send_fault(self.own, self.accepted, dst, ethertype, payload.len()) {
             return Err(fault);
         }
         // An earlier moment counts as the last one (RULES, Sending).

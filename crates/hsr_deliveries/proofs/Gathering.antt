@@ -17,13 +17,13 @@ use Rattle.hsr_deliveries.specs.declared.loss.Loss.{Loss}
 
 -- ---- one more node
 
-pub delivery_more : (run : Run) (send : Probe) (at : ℕ) (dst : List ℕ) (kind k : ℕ) →
-    delivery_below run send at dst kind (k + 1) ≡ added (delivery_below run send at dst kind k) k (is_due run send.node dst kind k) (times run send k)
-delivery_more run send at dst kind k =
-    ap (λ ns. record (delivery_below run send at dst kind (k + 1)) { due = ns }) (passing_more (is_due run send.node dst kind) k)
-    ∙ (ap (λ ns. record (delivery_below run send at dst kind (k + 1)) { due = nodes_below k (is_due run send.node dst kind) ++ if_one (is_due run send.node dst kind k) k; missed = ns }) (passing_more (is_missed run send dst kind) k)
-    ∙ (ap (λ ns. record (added (delivery_below run send at dst kind k) k (is_due run send.node dst kind k) (times run send k)) { twice = ns; strayed = nodes_below (k + 1) (is_strayed run send dst kind) }) (passing_more (is_twice run send dst kind) k)
-    ∙ ap (λ ns. record (added (delivery_below run send at dst kind k) k (is_due run send.node dst kind k) (times run send k)) { strayed = ns }) (passing_more (is_strayed run send dst kind) k)))
+pub delivery_more : (run : Run) (send : Probe) (at : ℕ) (dst : List ℕ) (ethertype k : ℕ) →
+    delivery_below run send at dst ethertype (k + 1) ≡ added (delivery_below run send at dst ethertype k) k (is_due run send.node dst ethertype k) (times run send k)
+delivery_more run send at dst ethertype k =
+    ap (λ ns. record (delivery_below run send at dst ethertype (k + 1)) { due = ns }) (passing_more (is_due run send.node dst ethertype) k)
+    ∙ (ap (λ ns. record (delivery_below run send at dst ethertype (k + 1)) { due = nodes_below k (is_due run send.node dst ethertype) ++ if_one (is_due run send.node dst ethertype k) k; missed = ns }) (passing_more (is_missed run send dst ethertype) k)
+    ∙ (ap (λ ns. record (added (delivery_below run send at dst ethertype k) k (is_due run send.node dst ethertype k) (times run send k)) { twice = ns; strayed = nodes_below (k + 1) (is_strayed run send dst ethertype) }) (passing_more (is_twice run send dst ethertype) k)
+    ∙ ap (λ ns. record (added (delivery_below run send at dst ethertype k) k (is_due run send.node dst ethertype k) (times run send k)) { strayed = ns }) (passing_more (is_strayed run send dst ethertype) k)))
 
 -- ---- one more entry
 

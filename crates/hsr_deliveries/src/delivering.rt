@@ -112,15 +112,15 @@ fn delivery_of<const C: usize>(
     send: Probe,
     at: u64,
     dst: Mac,
-    kind: u16,
+    ethertype: u16,
 ) -> Result<Delivery, NoMemory>
-    ensures { IfOk result (λ delivery. delivery ≡ delivery_below traces.now send at dst kind
+    ensures { IfOk result (λ delivery. delivery ≡ delivery_below traces.now send at dst ethertype
         (length traces.now.places)) }
 {
     let lost = traces.lost(alloc, send)?;
     let mut delivery = Delivery::new(alloc, send, at, dst, lost);
     for (node, place) in traces.places().iter().enumerate() {
-        let is_due = is_due(place, send.node, node, dst, kind);
+        let is_due = is_due(place, send.node, node, dst, ethertype);
         delivery.add(node, is_due, traces.times(send, node))?;
     }
     Ok(delivery)
@@ -143,8 +143,8 @@ fn list_entry<const C: usize>(
     let Some(sending) = sent_view(place, &x.event, &x.outcome) else {
         return Ok(());
     };
-    let (dst, kind) = (sending.frame.dst, sending.frame.kind);
-    let delivery = delivery_of(alloc, traces, send, x.at, dst, kind)?;
+    let (dst, ethertype) = (sending.frame.dst, sending.frame.kind);
+    let delivery = delivery_of(alloc, traces, send, x.at, dst, ethertype)?;
     sends.push(delivery)?;
     Ok(())
 }

@@ -12,7 +12,7 @@ use hsr_link::{Dir, Fate, Row};
 use hsr_topology::End;
 
 /// The link of a port, counted from 0: the port at its other end, how many copies were lost on their way in and on
-/// their way out, and the octets of those that came and of all that were put there.
+/// their egress, and the octets of those that came and of all that were put there.
 #[derive(Clone, Copy, Debug, PartialEq, Eq)]
 pub struct PortLink {
     pub link: usize,

@@ -8,11 +8,11 @@ pub enum Look {
     TakenUp,
     /// It was sent on, and not taken up.
     SentOn,
-    /// Each way out that wanted it remembered it.
+    /// Each egress that wanted it remembered it.
     Again,
     /// It came back to its sender.
     Home,
-    /// No way out wanted it, or it wasn't to come there.
+    /// No egress wanted it, or it wasn't to come there.
     Refused,
     /// It was lost.
     Lost,

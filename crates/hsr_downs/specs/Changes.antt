@@ -20,7 +20,7 @@ moment_after moment _ = moment
 
 -- a send, a supervision or an age: the plan of a run has these
 abbrev pub is_planned : Order → Bool
-is_planned (Step (Send node from dst vlan kind payload)) = true
+is_planned (Step (Send node from dst vlan ethertype payload)) = true
 is_planned (Step (Supervise node about)) = true
 is_planned (Step (Age node)) = true
 is_planned _ = false

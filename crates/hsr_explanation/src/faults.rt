@@ -6,7 +6,7 @@ use hsr_finished_run::Disagree;
 use hsr_frame::NoMemory;
 use hsr_ring::World;
 use hsr_scenario::{ScenarioFault, read_names};
-use hsr_scenario_fault::{told, told_step, words_of_check, words_of_step};
+use hsr_scenario_fault::{scenario_fault_line, told_step, words_of_check, words_of_step};
 use hsr_toml::put;
 use hsr_world_steps::DrainFault;
 use std::alloc::Global;
@@ -44,7 +44,7 @@ pub fn explain_scenario(
     }
     match str::from_utf8(octets) {
         Ok(text) => {
-            let line = told(alloc, text, fault)?;
+            let line = scenario_fault_line(alloc, text, fault)?;
             explanation.add(behind_fault(alloc, line.as_slice())?)?;
         }
         Err(_) => explanation.add(words_of(alloc, "the text isn't in UTF-8: save it so")?)?,

@@ -11,7 +11,8 @@ use Rattle.hsr_node.specs.declared.place.Place.TheVariants.{QuadBox}
 use Rattle.hsr_link.specs.Rows.{is_queued}
 use Rattle.hsr_link.specs.declared.row.Row.{Row}
 use Rattle.hsr_finished_run.specs.Checked.{AllAgree, AreKnown, AreLegal, HasNoStranger, IsQuiet, PutsAgree, TakensAgree, is_noisy}
-use Rattle.hsr_run_laws.specs.Closed.{IsClosed, IsSettled, IsTableSize}
+use Rattle.hsr_duptable.specs.Table.{IsTableSize}
+use Rattle.hsr_run_laws.specs.Closed.{IsClosed, IsSettled}
 use Rattle.hsr_finished_run.specs.Finished.{items_of, run_of}
 use Rattle.hsr_run_laws.specs.Run as run
 use Rattle.hsr_run_laws.specs.Run.{Run, rows_of}

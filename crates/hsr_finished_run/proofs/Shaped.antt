@@ -97,7 +97,7 @@ leads_to places (link ∷ links) end h is =
     (or_cases (is_end_of end link) (is_used links end) is)
 
 none_by : (links : List (List End)) (k port : ℕ) (event : Event) → is_used links (record { node = k; port = port }) ≡ false → is_linked links k event ≡ true → copy_at port event ≡ None
-none_by links k port (Send from dst vlan kind payload) free is = refl
+none_by links k port (Send from dst vlan ethertype payload) free is = refl
 none_by links k port (Supervise about) free is = refl
 none_by links k port (Arrive x copy) free is =
     ⊎_elim (λ same. let U : ℕ → Type 0 = λ p. is_used links (record { node = k; port = p }) ≡ true in absurd (false≢true (sym free ∙ subst U (eqb-true x port same) is)))

@@ -8,7 +8,7 @@ use Rattle.hsr_node.specs.declared.entry.Entry.{Entry}
 use Rattle.hsr_node.specs.declared.event.Event.{Event}
 use Rattle.hsr_node.specs.declared.event.Event.TheVariants.{Arrive}
 use Rattle.hsr_link.specs.declared.row.Row.{Row}
-use Rattle.hsr_run_laws.specs.Closed.{IsTableSize}
+use Rattle.hsr_duptable.specs.Table.{IsTableSize}
 use Rattle.hsr_topology.specs.Links.{is_used}
 use Rattle.hsr_topology.specs.Topology.{Topology}
 use Rattle.hsr_topology.specs.declared.end.End.{End}

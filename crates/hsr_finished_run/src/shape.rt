@@ -1,9 +1,9 @@
 //! Whether records and rows are a topology's.
 ghost use Rattle.std.specs.Prelude.{◌≡◌, ◌↔◌, ◌<◌, length, map, IsTrue, List, Vec};
 ghost use Rattle.std.specs.Global.{Global};
+ghost use Rattle.hsr_duptable.specs.Table.{IsTableSize};
 ghost use Rattle.hsr_node.specs.Kept.{Record};
 ghost use Rattle.hsr_link.specs.declared.row.Row.{Row};
-ghost use Rattle.hsr_run_laws.specs.Closed.{IsTableSize};
 ghost use Rattle.hsr_finished_run.specs.Checked.{AreLegal};
 ghost use Rattle.hsr_finished_run.specs.Shape.{AreLinked, HasShape, NodesFit, is_linked};
 ghost use Rattle.hsr_topology.specs.Wired.{IsWired};

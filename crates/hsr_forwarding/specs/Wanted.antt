@@ -19,7 +19,7 @@ use Rattle.hsr_tag.specs.declared.seen.Seen.TheVariants.{Plain, Tagged}
 abbrev pub Stations : Type 0
 Stations = List ℕ → Bool
 
--- the way out to the stations, where there is one
+-- the egress to the stations, where there is one
 abbrev pub interlink_of : Option Stations → List Egress
 interlink_of None = []
 interlink_of (Some knows) = c ∷ []

@@ -1,6 +1,7 @@
 //! What one egress of a node remembers, if the node has it.
 ghost use Rattle.std.specs.Prelude.{◌≡◌, ◌≤◌, ◌<◌, ◌&&◌, not, IfOk};
 ghost use Rattle.hsr_frame.specs.Counters.{step_limit};
+ghost use Rattle.hsr_duptable.specs.Table.{IsTableSize};
 
 use hsr_duptable::{DupTable, ENTRY_FORGET, Key};
 use hsr_frame::NoMemory;
@@ -28,7 +29,7 @@ impl<const C: usize> TableSlot<C> {
 
     /// A table that holds nothing, if the egress is there.
     pub(crate) fn new(alloc: Global, is_there: bool) -> Result<Self, NoMemory>
-        requires { (1 ≤ C) × (C ≤ 65535) }
+        requires { IsTableSize C }
         ensures { IfOk result (λ slot. slot ≡ empty_slot is_there) }
     {
         // An egress that isn't there takes no memory: a DANH has three of the five.

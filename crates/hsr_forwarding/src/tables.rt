@@ -1,5 +1,6 @@
 //! What the egresses of a node remember.
-ghost use Rattle.std.specs.Prelude.{◌≡◌, ◌≤◌, IfOk};
+ghost use Rattle.std.specs.Prelude.{◌≡◌, IfOk};
+ghost use Rattle.hsr_duptable.specs.Table.{IsTableSize};
 
 use crate::arrival::key_in;
 use crate::judged::Judged;
@@ -36,7 +37,7 @@ impl<const C: usize> EgressTables<C> {
 
     /// Tables that hold nothing, for these egresses. `NoMemory` if allocation fails.
     pub fn new(alloc: Global, egresses: Exits) -> Result<Self, NoMemory>
-        requires { (1 ≤ C) × (C ≤ 65535) }
+        requires { IsTableSize C }
         ensures { IfOk result (λ tables. tables ≡ no_notes egresses) }
     {
         let up = TableSlot::new(alloc, egresses.up)?;

@@ -20,9 +20,9 @@ use Rattle.hsr_node.specs.declared.place.Place.TheVariants.{Danh, RedBox, QuadBo
 use Rattle.hsr_node.specs.declared.sending.Sending.{Sending}
 use Rattle.hsr_node.specs.Copies.{plain_in}
 use Rattle.hsr_run_laws.specs.Closed.{IsClosed, IsOfSend, IsSend}
-use Rattle.hsr_network_laws.specs.Ways.{ComesOver, IsReached, keeps_own, lets_out, on, passes_on, sent}
+use Rattle.hsr_network_laws.specs.Channels.{ComesOver, IsReached, keeps_own, lets_out, on, passes_on, sent}
 use Rattle.hsr_network_laws.specs.Delivered.{OnceInNetwork, is_covered, is_meant}
-use Rattle.hsr_network_laws.specs.Network.{HasAddress, IsPortOf, IsNetwork, Way, is_edge, is_station, start_of, stop_of}
+use Rattle.hsr_network_laws.specs.Network.{HasAddress, IsPortOf, IsNetwork, Channel, is_edge, is_station, start_of, stop_of}
 use Rattle.hsr_node.specs.Place.{ports}
 use Rattle.hsr_run_laws.specs.Once.{delivers, is_copy}
 use Rattle.hsr_run_laws.specs.Premises.{NothingMistaken, is_note_of}
@@ -173,7 +173,7 @@ module _ (run : Run) (closed : IsClosed run) (net : IsNetwork run) (send : Probe
           p.1 ∙ ap (λ (f : Fields). Ok (Plain f)) (plain_of_send run send sending copy good.1 mine is p.0 p.1)
 
   -- what comes to a node that lets it on leaves by each other port, now or before
-  pub let_on : NothingMistaken run → (at : End) (next : Way) → IsPortOf run at → Each (MayKnow (owner_of run at.node) send (Unknown sending.frame.dst)) (past_of run at.node) → next.link < length run.links → (start_of run next).node ≡ at.node → ((start_of run next).port ≡ at.port → ⊥) →
+  pub let_on : NothingMistaken run → (at : End) (next : Channel) → IsPortOf run at → Each (MayKnow (owner_of run at.node) send (Unknown sending.frame.dst)) (past_of run at.node) → next.link < length run.links → (start_of run next).node ≡ at.node → ((start_of run next).port ≡ at.port → ⊥) →
       passes_on send.node sending.frame at.node (place_of run at.node) at.port ≡ true → lets_out sending.frame (place_of run (start_of run next).node) (start_of run next).port ≡ true → ((stop_of run next).node ≡ send.node → ⊥) →
       Arrived run send at → Left run send (start_of run next)
   let_on sure at next there unknown below node other lets out away came_some =
@@ -217,15 +217,15 @@ module _ (run : Run) (closed : IsClosed run) (net : IsNetwork run) (send : Probe
           below_two : (n : ℕ) → n < 3 → (n ≡ 2 → ⊥) → n < 2
           below_two n h other = omega arith
 
-  pub comes_below : (way : Way) → ComesOver run send sending.frame way → way.link < length run.links
-  comes_below way (sent way' carries first) = carries.below
-  comes_below way (on before next comes carries goes) = carries.below
+  pub comes_below : (channel : Channel) → ComesOver run send sending.frame channel → channel.link < length run.links
+  comes_below channel (sent channel' carries first) = carries.below
+  comes_below channel (on before next comes carries goes) = carries.below
 
-  -- a send comes to the end of each way to which it comes by ways that carry it
-  pub came_there : is_covered run.places sending.frame ≡ true → NothingMistaken run → (way : Way) → ComesOver run send sending.frame way → Arrived run send (stop_of run way)
-  came_there covered sure way (sent way' carries first) =
-      carried_on run closed send way' carries (sent_from (all_unknown_before run closed net sending.frame covered send.node is.0) (start_of run way') (net.ends way' carries.below) first.node first.out)
-  came_there covered sure way (on before next comes carries goes) =
+  -- a send comes to the end of each channel to which it comes by channels that carry it
+  pub came_there : is_covered run.places sending.frame ≡ true → NothingMistaken run → (channel : Channel) → ComesOver run send sending.frame channel → Arrived run send (stop_of run channel)
+  came_there covered sure channel (sent channel' carries first) =
+      carried_on run closed send channel' carries (sent_from (all_unknown_before run closed net sending.frame covered send.node is.0) (start_of run channel') (net.ends channel' carries.below) first.node first.out)
+  came_there covered sure channel (on before next comes carries goes) =
       carried_on run closed send next carries
       (let_on sure (stop_of run before) next (stop_port run closed net before (comes_below before comes)) (all_unknown run closed net sending.frame covered send (stop_of run before).node (stop_port run closed net before (comes_below before comes)).node) carries.below goes.node goes.port goes.passes goes.out goes.away (came_there covered sure before comes))
 
@@ -273,10 +273,10 @@ module _ (run : Run) (closed : IsClosed run) (net : IsNetwork run) (send : Probe
   pub delivered : is_covered run.places sending.frame ≡ true → NothingMistaken run → (k : ℕ) → k < length run.places → is_meant send.node sending.frame k (place_of run k) ≡ true → IsReached run send sending.frame k →
       list_any (delivers send) (past_of run k) ≡ true
   delivered covered sure k below for_it reaches =
-      let there = stop_port run closed net reaches.way (comes_below reaches.way reaches.comes) in
-      let A : ℕ → Type 0 = λ j. list_any (is_copy send) (arrivals (stop_of run reaches.way).port (past_of run j)) ≡ true in
-      let B : ℕ → Type 0 = λ j. (stop_of run reaches.way).port < ports (place_of run j) in
-      went_up (stop_of run reaches.way).port (subst B reaches.here there.port) (meant_for covered k below for_it) (subst A reaches.here (came_there covered sure reaches.way reaches.comes))
+      let there = stop_port run closed net reaches.channel (comes_below reaches.channel reaches.comes) in
+      let A : ℕ → Type 0 = λ j. list_any (is_copy send) (arrivals (stop_of run reaches.channel).port (past_of run j)) ≡ true in
+      let B : ℕ → Type 0 = λ j. (stop_of run reaches.channel).port < ports (place_of run j) in
+      went_up (stop_of run reaches.channel).port (subst B reaches.here there.port) (meant_for covered k below for_it) (subst A reaches.here (came_there covered sure reaches.channel reaches.comes))
     where
       went_up : (port : ℕ) → port < ports (place_of run k) → IsMeantFor (place_of run k) k → list_any (is_copy send) (arrivals port (past_of run k)) ≡ true → list_any (delivers send) (past_of run k) ≡ true
       went_up port there m came_some =

@@ -58,11 +58,11 @@ none_out false octets e = cc
 
 own_writing : (place : Place) (event : Event) (outcome : Outcome) (n : ℕ) (octets : List ℕ) → copy_octets place event outcome n ≡ Some octets → IsArrival event ⊎ IsOwnWriting place event outcome n octets
 unfolding copy_octets passed_octets
-own_writing place (Send from dst vlan kind data') (Sent seq out_ports) n octets e =
-    inr (record { seq = seq; frame = asked_frame (address_at place from) dst vlan kind data'; sends = refl; writes = some_out (has_port out_ports n) (written (side_of place n) seq (asked_frame (address_at place from) dst vlan kind data')) octets e })
-own_writing place (Send from dst vlan kind data') (Life seq life out_ports) n octets e = absurd (none_out (has_port out_ports n) octets e)
-own_writing place (Send from dst vlan kind data') (Judged up_too out_ports seq why) n octets e = absurd (none_out (has_port out_ports n) octets e)
-own_writing place (Send from dst vlan kind data') Aged n octets e = absurd (none_out (has_port [] n) octets e)
+own_writing place (Send from dst vlan ethertype data') (Sent seq out_ports) n octets e =
+    inr (record { seq = seq; frame = asked_frame (address_at place from) dst vlan ethertype data'; sends = refl; writes = some_out (has_port out_ports n) (written (side_of place n) seq (asked_frame (address_at place from) dst vlan ethertype data')) octets e })
+own_writing place (Send from dst vlan ethertype data') (Life seq life out_ports) n octets e = absurd (none_out (has_port out_ports n) octets e)
+own_writing place (Send from dst vlan ethertype data') (Judged up_too out_ports seq why) n octets e = absurd (none_out (has_port out_ports n) octets e)
+own_writing place (Send from dst vlan ethertype data') Aged n octets e = absurd (none_out (has_port [] n) octets e)
 own_writing place (Supervise about) (Life seq life out_ports) n octets e =
     inr (record { seq = Some seq; frame = life_frame (ring_address place) about life; sends = refl; writes = some_out (has_port out_ports n) (written (side_of place n) (Some seq) (life_frame (ring_address place) about life)) octets e })
 own_writing place (Supervise about) (Sent seq out_ports) n octets e = absurd (none_out (has_port out_ports n) octets e)
@@ -215,7 +215,7 @@ module _ (run : Run) (closed : IsClosed run) (net : IsNetwork run) where
             own_probe w = by_event x.event refl
               where
                 by_event : (event : Event) → x.event ≡ event → probe_handled (record { node = k; place = length past }) x.event ≡ Some (record { node = k; place = length past })
-                by_event (Send from dst vlan kind data') e = ap (probe_handled (record { node = k; place = length past })) e
+                by_event (Send from dst vlan ethertype data') e = ap (probe_handled (record { node = k; place = length past })) e
                 by_event (Supervise about) e = ap (probe_handled (record { node = k; place = length past })) e
                 by_event Age e = ap (probe_handled (record { node = k; place = length past })) e
                 by_event (Arrive port come) e =

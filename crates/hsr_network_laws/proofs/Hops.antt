@@ -17,7 +17,7 @@ use Rattle.hsr_link.specs.Rows.{put_copy, taken_copy}
 use Rattle.hsr_link.specs.declared.row.Dir.{Dir}
 use Rattle.hsr_link.specs.declared.row.Dir.TheVariants.{Forth, Back}
 use Rattle.hsr_run_laws.specs.Closed.{IsClosed, IsOfSend}
-use Rattle.hsr_network_laws.specs.Network.{IsPortOf, IsNetwork, Way, is_edge, is_station, start_of, stop_of}
+use Rattle.hsr_network_laws.specs.Network.{IsPortOf, IsNetwork, Channel, is_edge, is_station, start_of, stop_of}
 use Rattle.hsr_run_laws.specs.Once.{is_copy}
 use Rattle.hsr_run_laws.specs.Premises.{NothingForgotten, NumberedFirst}
 use Rattle.hsr_run_laws.specs.Run.{Run, ends_of, from_end, owner_of, past_of, place_of, rows_of, to_end}
@@ -35,26 +35,26 @@ use Rattle.hsr_network_laws.proofs.Fits.{IsFit, all_fit_left, legal}
 use Rattle.hsr_network_laws.proofs.Links.{taken_less}
 
 module _ (run : Run) (closed : IsClosed run) (net : IsNetwork run) where
-  pub stop_port : (way : Way) → way.link < length run.links → IsPortOf run (stop_of run way)
-  stop_port way below = by_dir way.dir
+  pub stop_port : (channel : Channel) → channel.link < length run.links → IsPortOf run (stop_of run channel)
+  stop_port channel below = by_dir channel.dir
     where
-      by_dir : (dir : Dir) → IsPortOf run (to_end dir (ends_of run way.link))
-      by_dir Forth = net.ends (record { link = way.link; dir = Back }) below
-      by_dir Back = net.ends (record { link = way.link; dir = Forth }) below
+      by_dir : (dir : Dir) → IsPortOf run (to_end dir (ends_of run channel.link))
+      by_dir Forth = net.ends (record { link = channel.link; dir = Back }) below
+      by_dir Back = net.ends (record { link = channel.link; dir = Forth }) below
 
   -- the other direction of the same link
-  pub record IsBack (way : Way) : Type 0 where
-    pub back : Way
+  pub record IsBack (channel : Channel) : Type 0 where
+    pub back : Channel
     pub below : back.link < length run.links
-    pub starts : start_of run back ≡ stop_of run way
-    pub stops : stop_of run back ≡ start_of run way
+    pub starts : start_of run back ≡ stop_of run channel
+    pub stops : stop_of run back ≡ start_of run channel
 
-  pub back_of : (way : Way) → way.link < length run.links → IsBack way
-  back_of way below = by_dir way.dir refl
+  pub back_of : (channel : Channel) → channel.link < length run.links → IsBack channel
+  back_of channel below = by_dir channel.dir refl
     where
-      by_dir : (dir : Dir) → way.dir ≡ dir → IsBack way
-      by_dir Forth e = record { back = record { link = way.link; dir = Back }; below = below; starts = ap (λ d. to_end d (ends_of run way.link)) (sym e); stops = ap (λ d. from_end d (ends_of run way.link)) (sym e) }
-      by_dir Back e = record { back = record { link = way.link; dir = Forth }; below = below; starts = ap (λ d. to_end d (ends_of run way.link)) (sym e); stops = ap (λ d. from_end d (ends_of run way.link)) (sym e) }
+      by_dir : (dir : Dir) → channel.dir ≡ dir → IsBack channel
+      by_dir Forth e = record { back = record { link = channel.link; dir = Back }; below = below; starts = ap (λ d. to_end d (ends_of run channel.link)) (sym e); stops = ap (λ d. from_end d (ends_of run channel.link)) (sym e) }
+      by_dir Back e = record { back = record { link = channel.link; dir = Forth }; below = below; starts = ap (λ d. to_end d (ends_of run channel.link)) (sym e); stops = ap (λ d. from_end d (ends_of run channel.link)) (sym e) }
 
   -- ---- so what comes is
 
@@ -65,7 +65,7 @@ module _ (run : Run) (closed : IsClosed run) (net : IsNetwork run) where
   all_fit k port below =
       ⊎_elim
       (λ at.
-      let way : Way = record { link = at.link; dir = at.dir } in
+      let channel : Channel = record { link = at.link; dir = at.dir } in
       let from : End = from_end at.dir (ends_of run at.link) in
       let all = arrives_between run closed (IsFit run (is_edge (place_of run (from_end at.dir (ends_of run at.link)).node) (from_end at.dir (ends_of run at.link)).port)) at.link at.dir (from_end at.dir (ends_of run at.link)) (record { node = k; port = port }) at.below refl at.ends
       (all_fit_left run closed net (from_end at.dir (ends_of run at.link)) (net.ends (record { link = at.link; dir = at.dir }) at.below)) in
@@ -96,7 +96,7 @@ module _ (run : Run) (closed : IsClosed run) (net : IsNetwork run) where
           by_octets (Some octets) = ((record { node = k; place = length past }, probe, refl), rest)
 
       by_event : (event : Event) → x.event ≡ event → AllByRecursion (IsFrom k) (passes (owner_of run k) n past) → Goal
-      by_event (Send from dst vlan kind data') e rest = own (ap (probe_handled (record { node = k; place = length past })) e) rest
+      by_event (Send from dst vlan ethertype data') e rest = own (ap (probe_handled (record { node = k; place = length past })) e) rest
       by_event (Supervise about) e rest = own (ap (probe_handled (record { node = k; place = length past })) e) rest
       by_event Age e rest = own (ap (probe_handled (record { node = k; place = length past })) e) rest
       by_event (Arrive port come) e rest =
@@ -115,21 +115,21 @@ module _ (run : Run) (closed : IsClosed run) (net : IsNetwork run) where
 
   -- ---- what comes to an interlink comes from a Station
 
-  -- a copy came over a way that starts at a Station, and is of its own
+  -- a copy came over a channel that starts at a Station, and is of its own
   pub record IsByStation (k port : ℕ) (copy : Carried) : Type 0 where
-    pub way : Way
-    pub below : way.link < length run.links
-    pub stops : stop_of run way ≡ record { node = k; port = port }
-    pub station : is_station (place_of run (start_of run way).node) ≡ true
-    pub first : (start_of run way).port ≡ 0
-    pub from : IsFrom (start_of run way).node copy
+    pub channel : Channel
+    pub below : channel.link < length run.links
+    pub stops : stop_of run channel ≡ record { node = k; port = port }
+    pub station : is_station (place_of run (start_of run channel).node) ≡ true
+    pub first : (start_of run channel).port ≡ 0
+    pub from : IsFrom (start_of run channel).node copy
     pub of_send : IsOfSend run copy
 
   pub all_by_station : (k port : ℕ) → k < length run.places → is_edge (place_of run k) port ≡ true → is_station (place_of run k) ≡ false → AllByRecursion (IsByStation k port) (arrivals port (past_of run k))
   all_by_station k port below edge no_station =
       ⊎_elim
       (λ at.
-      let way : Way = record { link = at.link; dir = at.dir } in
+      let channel : Channel = record { link = at.link; dir = at.dir } in
       let b = back_of (record { link = at.link; dir = at.dir }) at.below in
       let starts : start_of run b.back ≡ record { node = k; port = port } = b.starts ∙ at.ends in
       let S : End → Type 0 = λ end. is_station (place_of run end.node) ≡ true in
@@ -140,7 +140,7 @@ module _ (run : Run) (closed : IsClosed run) (net : IsNetwork run) where
       let from : End = from_end at.dir (ends_of run at.link) in
       all_weaker (λ copy. IsFrom (from_end at.dir (ends_of run at.link)).node copy × IsOfSend run copy) (IsByStation k port) (arrivals port (past_of run k))
       (λ copy both. record {
-        way = record { link = at.link; dir = at.dir };
+        channel = record { link = at.link; dir = at.dir };
         below = at.below;
         stops = at.ends;
         station = station;
@@ -172,28 +172,28 @@ module _ (run : Run) (closed : IsClosed run) (net : IsNetwork run) where
           rest port (Some copy) h = h.1
 
           step : (event : Event) → ((port : ℕ) → is_edge (place_of run k) port ≡ true → is_station (place_of run k) ≡ false → AllByRecursion (IsByStation k port) (cons_option (copy_at port event) (arrivals port past))) → FromEdge k event
-          step (Send from dst vlan kind payload) all = tt
+          step (Send from dst vlan ethertype payload) all = tt
           step (Supervise about) all = tt
           step Age all = tt
           step (Arrive number copy) all = λ edge no_station.
               let Q : Bool → Type 0 = λ b. AllByRecursion (IsByStation k number) (cons_option (if b then Some copy else None) (arrivals number past)) in
               (subst Q (eq-eqb number number refl) (all number edge no_station)).0
 
-  -- none of a send came to the port from which a way starts that doesn't end at its sender, if the port is an interlink
-  pub none_back : (send : Probe) (way : Way) → way.link < length run.links → is_edge (place_of run (start_of run way).node) (start_of run way).port ≡ true → is_station (place_of run (start_of run way).node) ≡ false →
-      ((stop_of run way).node ≡ send.node → ⊥) → list_any (is_copy send) (arrivals (start_of run way).port (past_of run (start_of run way).node)) ≡ false
-  none_back send way below edge no_station away =
-      none_of (arrivals (start_of run way).port (past_of run (start_of run way).node)) (all_by_station (start_of run way).node (start_of run way).port (net.ends way below).node edge no_station)
+  -- none of a send came to the port from which a channel starts that doesn't end at its sender, if the port is an interlink
+  pub none_back : (send : Probe) (channel : Channel) → channel.link < length run.links → is_edge (place_of run (start_of run channel).node) (start_of run channel).port ≡ true → is_station (place_of run (start_of run channel).node) ≡ false →
+      ((stop_of run channel).node ≡ send.node → ⊥) → list_any (is_copy send) (arrivals (start_of run channel).port (past_of run (start_of run channel).node)) ≡ false
+  none_back send channel below edge no_station away =
+      none_of (arrivals (start_of run channel).port (past_of run (start_of run channel).node)) (all_by_station (start_of run channel).node (start_of run channel).port (net.ends channel below).node edge no_station)
     where
-      not_mine : (copy : Carried) → IsByStation (start_of run way).node (start_of run way).port copy → is_copy send copy ≡ true → ⊥
+      not_mine : (copy : Carried) → IsByStation (start_of run channel).node (start_of run channel).port copy → is_copy send copy ≡ true → ⊥
       not_mine copy by mine =
-          let b = back_of by.way by.below in
-          let stops : stop_of run way ≡ start_of run by.way = net.apart way b.back below b.below (sym (b.starts ∙ by.stops)) ∙ b.stops in
+          let b = back_of by.channel by.below in
+          let stops : stop_of run channel ≡ start_of run by.channel = net.apart channel b.back below b.below (sym (b.starts ∙ by.stops)) ∙ b.stops in
           let both : Some by.from.0 ≡ Some send = sym by.from.1 ∙ probe_is send copy.probe mine in
           let same : by.from.0 ≡ send = cc in
           away (ap (λ (end : End). end.node) stops ∙ (sym by.from.2 ∙ ap (λ (p : Probe). p.node) same))
 
-      none_of : (cs : List Carried) → AllByRecursion (IsByStation (start_of run way).node (start_of run way).port) cs → list_any (is_copy send) cs ≡ false
+      none_of : (cs : List Carried) → AllByRecursion (IsByStation (start_of run channel).node (start_of run channel).port) cs → list_any (is_copy send) cs ≡ false
       none_of [] all = refl
       none_of (c ∷ cs) all = ⊎_elim (λ mine. absurd (not_mine c all.0 mine)) (λ other. ap (λ b. b || list_any (is_copy send) cs) other ∙ none_of cs all.1) (cases_Bool (is_copy send c))
 

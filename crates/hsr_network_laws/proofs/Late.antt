@@ -69,7 +69,7 @@ numbered_came capacity owner past at port copy outcome seq f ok number frame =
         let same : g ≡ f = cc in
         ⊎_elim (λ none. absurd (nothing h none has)) (λ box. (is ∙ ap (λ (x : Fields). Ok (Plain x)) same, box)) (numbered_at_edge owner.place (knows_at owner past at port copy) port g h handles)
 
--- ---- at all ways out
+-- ---- at all egresses
 
 pub at_each : (p : Egress → Bool) → list_any p (up ∷ a ∷ b ∷ c ∷ d ∷ []) ≡ false → (e : Egress) → p e ≡ false
 at_each p none up = (or_parts (p up) _ none).0
@@ -97,7 +97,7 @@ no_number false = refl
 -- what numbers no copy of a send gives it no number
 pub gives_none : (send : Probe) (event : Event) (outcome : Outcome) →
     ((port : ℕ) (copy : Carried) (up_too : Bool) (ports : List Bool) (seq : ℕ) (why : Cause) → event ≡ Arrive port copy → outcome ≡ Judged up_too ports (Some seq) why → is_copy send copy ≡ true → ⊥) → gives send event outcome ≡ None
-gives_none send (Send from dst vlan kind payload) outcome never = refl
+gives_none send (Send from dst vlan ethertype payload) outcome never = refl
 gives_none send (Supervise about) outcome never = refl
 gives_none send Age outcome never = refl
 gives_none send (Arrive port copy) (Sent seq ports) never = refl
@@ -150,7 +150,7 @@ module _ (run : Run) (capacity : ℕ) (owner : Owner) where
   )
     where
       by_event' : (event : Event) (outcome : Outcome) → x.event ≡ event → x.outcome ≡ outcome → is_numbered_late owner past event outcome ≡ false → IsFirstGiven whole event outcome
-      by_event' (Send from dst vlan kind payload) outcome e o late = tt
+      by_event' (Send from dst vlan ethertype payload) outcome e o late = tt
       by_event' (Supervise about) outcome e o late = tt
       by_event' Age outcome e o late = tt
       by_event' (Arrive port copy) (Sent seq ports) e o late = tt
@@ -203,8 +203,8 @@ station_unnumbered capacity number n (Station macs) s (x ∷ past) station legal
     sent_here is =
         let A : Event → Type 0 = λ ev. answer capacity (record { number = number; place = Station macs }) past (now (x ∷ past)) ev ≡ Ok x.outcome in
         by_event capacity number (Station macs) x past s (s.seq ≡ None) is
-        (λ from dst vlan kind payload e.
-        (sent_number (Station macs) x.event x.outcome s is).0 ∙ ap number_in (sent_outcome capacity (record { number = number; place = Station macs }) past (now (x ∷ past)) from dst vlan kind payload x.outcome (subst A e legal.0)))
+        (λ from dst vlan ethertype payload e.
+        (sent_number (Station macs) x.event x.outcome s is).0 ∙ ap number_in (sent_outcome capacity (record { number = number; place = Station macs }) past (now (x ∷ past)) from dst vlan ethertype payload x.outcome (subst A e legal.0)))
         (λ about e. let no = subst A e legal.0 in absurd cc)
 
     step : (t : Bool) → (if t then sent_by (Station macs) x.event x.outcome else send_at (Station macs) n past) ≡ Some s → (send_at (Station macs) n past ≡ Some s → s.seq ≡ None) → s.seq ≡ None
@@ -219,11 +219,11 @@ module _ (run : Run) (closed : IsClosed run) (net : IsNetwork run) where
   number_is k copy send sending by named is =
       let both : Some by.from.0 ≡ Some send = sym by.from.1 ∙ named in
       let same : by.from.0 ≡ send = cc in
-      let node : (start_of run by.way).node ≡ send.node = sym by.from.2 ∙ ap (λ (p : Probe). p.node) same in
+      let node : (start_of run by.channel).node ≡ send.node = sym by.from.2 ∙ ap (λ (p : Probe). p.node) same in
       let S : ℕ → Type 0 = λ j. is_station (place_of run j) ≡ true in
-      let begins : start_of run by.way ≡ record { node = send.node; port = 0 } = begin_at (start_of run by.way) send.node node by.first in
-      let peer = peer_is run.links (record { node = send.node; port = 0 }) (record { node = k; port = 2 }) by.way.link by.way.dir by.below begins
-      (λ m dir below starts. net.apart (record { link = m; dir = dir }) by.way below by.below (starts ∙ sym begins) ∙ by.stops) in
+      let begins : start_of run by.channel ≡ record { node = send.node; port = 0 } = begin_at (start_of run by.channel) send.node node by.first in
+      let peer = peer_is run.links (record { node = send.node; port = 0 }) (record { node = k; port = 2 }) by.channel.link by.channel.dir by.below begins
+      (λ m dir below starts. net.apart (record { link = m; dir = dir }) by.channel below by.below (starts ∙ sym begins) ∙ by.stops) in
       let none = station_unnumbered run.capacity send.node send.place (place_of run send.node) sending (past_of run send.node) (subst S node by.station) (legal run closed net send.node is.0) is.1 in
       ap (λ o. option_or o (given run send)) none ∙ ap (option_and_then (λ (end : End). given_at send (past_of run end.node))) peer
     where
@@ -244,7 +244,7 @@ module _ (run : Run) (closed : IsClosed run) (net : IsNetwork run) where
 
       by_event' : (event : Event) (outcome : Outcome) → x.event ≡ event → x.outcome ≡ outcome → is_numbered_late (owner_of run k) past event outcome ≡ false → IsFirstGiven run run.capacity (owner_of run k) (past_of run k) event outcome →
           NumbersFirst run (owner_of run k) past event outcome
-      by_event' (Send from dst vlan kind payload) outcome e o late first = tt
+      by_event' (Send from dst vlan ethertype payload) outcome e o late first = tt
       by_event' (Supervise about) outcome e o late first = tt
       by_event' Age outcome e o late first = tt
       by_event' (Arrive port copy) (Sent seq ports) e o late first = tt
@@ -274,7 +274,7 @@ module _ (run : Run) (closed : IsClosed run) (net : IsNetwork run) where
   none_late k x past of first = by_event' x.event x.outcome of first
     where
       by_event' : (event : Event) (outcome : Outcome) → OfArrival (IsOfSend run) event → NumbersFirst run (owner_of run k) past event outcome → is_numbered_late (owner_of run k) past event outcome ≡ false
-      by_event' (Send from dst vlan kind payload) outcome of first = refl
+      by_event' (Send from dst vlan ethertype payload) outcome of first = refl
       by_event' (Supervise about) outcome of first = refl
       by_event' Age outcome of first = refl
       by_event' (Arrive port copy) (Sent seq ports) of first = refl

@@ -11,8 +11,8 @@ use Rattle.hsr_link.specs.declared.row.Row.{Row}
 use Rattle.hsr_link.specs.declared.row.Fate.{Fate}
 use Rattle.hsr_link.specs.declared.row.Fate.TheVariants.{Queued, Taken, LostDown, LostCut, LostOverrun}
 use Rattle.hsr_run_laws.specs.Closed.{IsClosed, IsSettled}
-use Rattle.hsr_network_laws.specs.Ways.{Carries, is_loss}
-use Rattle.hsr_network_laws.specs.Network.{Way, start_of, stop_of}
+use Rattle.hsr_network_laws.specs.Channels.{Carries, is_loss}
+use Rattle.hsr_network_laws.specs.Network.{Channel, start_of, stop_of}
 use Rattle.hsr_run_laws.specs.Once.{is_copy}
 use Rattle.hsr_run_laws.specs.Run.{Run, owner_of, past_of, rows_of}
 use Rattle.hsr_topology.specs.declared.end.End.{End}
@@ -30,10 +30,10 @@ some_taken run send dir (row ∷ rows) settled kept some =
     Rest : Type 0
     Rest = list_any (is_copy send) (filter_map (put_copy dir) rows) ≡ true → list_any (is_copy send) (filter_map (taken_copy dir) rows) ≡ true
 
-    step : (way injected : Bool) (fate : Fate) → injected ≡ false → is_queued fate ≡ false → (way && is_copy send row.carried && is_lost fate) ≡ false →
-        list_any (is_copy send) (cons_option (if way && not injected then Some row.carried else None) (filter_map (put_copy dir) rows)) ≡ true → Rest →
-        list_any (is_copy send) (cons_option (if way && is_taken fate then Some row.carried else None) (filter_map (taken_copy dir) rows)) ≡ true
-    step way true fate i q l some rest = absurd (false≢true (sym i))
+    step : (channel injected : Bool) (fate : Fate) → injected ≡ false → is_queued fate ≡ false → (channel && is_copy send row.carried && is_lost fate) ≡ false →
+        list_any (is_copy send) (cons_option (if channel && not injected then Some row.carried else None) (filter_map (put_copy dir) rows)) ≡ true → Rest →
+        list_any (is_copy send) (cons_option (if channel && is_taken fate then Some row.carried else None) (filter_map (taken_copy dir) rows)) ≡ true
+    step channel true fate i q l some rest = absurd (false≢true (sym i))
     step false false fate i q l some rest = rest some
     step true false Queued i q l some rest = absurd (false≢true (sym q))
     step true false Taken i q l some rest = ⊎_elim (λ mine. or_left _ _ mine) (λ later. or_right _ _ (rest later)) (or_cases (is_copy send row.carried) _ some)
@@ -60,11 +60,11 @@ Left run send end = list_any (is_copy send) (passes (owner_of run end.node) end.
 abbrev pub Arrived : Run → Probe → End → Type 0
 Arrived run send end = list_any (is_copy send) (arrivals end.port (past_of run end.node)) ≡ true
 
-pub carried_on : (run : Run) → IsClosed run → (send : Probe) (way : Way) → Carries run send way → Left run send (start_of run way) → Arrived run send (stop_of run way)
-carried_on run closed send way carries left =
-    let put = any_permutation (is_copy send) _ _ (closed.put way.link way.dir carries.below) left in
-    let taken = some_taken run send way.dir (rows_of run way.link) (closed.settled way.link carries.below) carries.kept put in
-    any_permutation (is_copy send) _ _ (closed.taken way.link way.dir carries.below) taken
+pub carried_on : (run : Run) → IsClosed run → (send : Probe) (channel : Channel) → Carries run send channel → Left run send (start_of run channel) → Arrived run send (stop_of run channel)
+carried_on run closed send channel carries left =
+    let put = any_permutation (is_copy send) _ _ (closed.put channel.link channel.dir carries.below) left in
+    let taken = some_taken run send channel.dir (rows_of run channel.link) (closed.settled channel.link carries.below) carries.kept put in
+    any_permutation (is_copy send) _ _ (closed.taken channel.link channel.dir carries.below) taken
 
 -- ---- counts of a link
 
@@ -72,9 +72,9 @@ pub taken_less : (run : Run) (p : Carried → Bool) (dir : Dir) (rows : List Row
 taken_less run p dir [] settled = omega arith
 taken_less run p dir (row ∷ rows) settled = step (goes dir row) row.injected (is_taken row.fate) settled.0.put (taken_less run p dir rows settled.1)
   where
-    step : (way injected taken : Bool) → injected ≡ false → count_by p (filter_map (taken_copy dir) rows) ≤ count_by p (filter_map (put_copy dir) rows) →
-        count_by p (cons_option (if way && taken then Some row.carried else None) (filter_map (taken_copy dir) rows)) ≤ count_by p (cons_option (if way && not injected then Some row.carried else None) (filter_map (put_copy dir) rows))
-    step way true taken i rest = absurd (false≢true (sym i))
+    step : (channel injected taken : Bool) → injected ≡ false → count_by p (filter_map (taken_copy dir) rows) ≤ count_by p (filter_map (put_copy dir) rows) →
+        count_by p (cons_option (if channel && taken then Some row.carried else None) (filter_map (taken_copy dir) rows)) ≤ count_by p (cons_option (if channel && not injected then Some row.carried else None) (filter_map (put_copy dir) rows))
+    step channel true taken i rest = absurd (false≢true (sym i))
     step true false true i rest =
         let a = count_more p row.carried (filter_map (taken_copy dir) rows) in
         let b = count_more p row.carried (filter_map (put_copy dir) rows) in

@@ -55,7 +55,7 @@ use Rattle.hsr_run_laws.proofs.Same.{probe_is, same_address}
 use Rattle.hsr_run_laws.proofs.Views.{Came, came, knows_at, leaves_wanted}
 use Rattle.hsr_run_laws.proofs.Wanted.{no_exit}
 use Rattle.hsr_network_laws.specs.Lives.{LivesStay, is_joined_with_station, joins_stations}
-use Rattle.hsr_network_laws.specs.Network.{IsNetwork, IsPortOf, Way, is_edge, is_edge_of, is_station, is_station_of, start_of, stop_of}
+use Rattle.hsr_network_laws.specs.Network.{IsNetwork, IsPortOf, Channel, is_edge, is_edge_of, is_station, is_station_of, start_of, stop_of}
 use Rattle.hsr_run_laws.proofs.Delivering.{Delivers}
 use Rattle.hsr_network_laws.proofs.Counts.{delivered_came}
 use Rattle.hsr_network_laws.proofs.Covered.{all_unknown_before}
@@ -126,10 +126,10 @@ sends_kept false false group own n l = absurd (false≢true l)
 sends_kept false true group own n l = refl
 
 -- supervision is to a group
-life_group : (dst : List ℕ) (kind : ℕ) → is_supervision dst kind ≡ true → is_group dst ≡ true
-life_group dst kind life = by_test (is_same_address dst supervision_address) refl life
+life_group : (dst : List ℕ) (ethertype : ℕ) → is_supervision dst ethertype ≡ true → is_group dst ≡ true
+life_group dst ethertype life = by_test (is_same_address dst supervision_address) refl life
   where
-    by_test : (b : Bool) → is_same_address dst supervision_address ≡ b → (b && kind == ethertype_supervision) ≡ true → is_group dst ≡ true
+    by_test : (b : Bool) → is_same_address dst supervision_address ≡ b → (b && ethertype == ethertype_supervision) ≡ true → is_group dst ≡ true
     by_test true e h = ap is_group (same_address dst supervision_address e)
     by_test false e h = absurd (false≢true h)
 
@@ -195,21 +195,21 @@ module _ (run : Run) (closed : IsClosed run) (net : IsNetwork run) (send : Probe
             either
 
     -- what it sends itself leaves there, if it isn't the send
-    own_kept : (x : Entry) (past : List Entry) (from : ℕ) (dst : List ℕ) (vlan : Option ℕ) (kind : ℕ) (data' : List ℕ) → x.event ≡ Send from dst vlan kind data' → Answered run.capacity (owner_of run k) x past →
+    own_kept : (x : Entry) (past : List Entry) (from : ℕ) (dst : List ℕ) (vlan : Option ℕ) (ethertype : ℕ) (data' : List ℕ) → x.event ≡ Send from dst vlan ethertype data' → Answered run.capacity (owner_of run k) x past →
         UnknownBefore (owner_of run k) sending.frame.dst x past → sent_by (place_of run k) x.event x.outcome ≡ Some sending → has_port (ports_of x.outcome) 2 ≡ false
-    own_kept x past from dst vlan kind data' e ok near sent =
+    own_kept x past from dst vlan ethertype data' e ok near sent =
         let A : Event → Type 0 = λ ev. answer run.capacity (owner_of run k) past (now (x ∷ past)) ev ≡ Ok x.outcome in
-        let h : Handling = of_record.sending (place_of run k) (knows (place_of run k) past (now (x ∷ past)) Age) dst kind in
-        let outcome = sent_outcome run.capacity (owner_of run k) past (now (x ∷ past)) from dst vlan kind data' x.outcome (subst A e ok) in
+        let h : Handling = of_record.sending (place_of run k) (knows (place_of run k) past (now (x ∷ past)) Age) dst ethertype in
+        let outcome = sent_outcome run.capacity (owner_of run k) past (now (x ∷ past)) from dst vlan ethertype data' x.outcome (subst A e ok) in
         let S : Event → Type 0 = λ ev. sent_by (place_of run k) ev x.outcome ≡ Some sending in
-        let O : Outcome → Type 0 = λ o. sent_by (place_of run k) (Send from dst vlan kind data') o ≡ Some sending in
-        let asked = (sending_frame (number_of h.source (next_number past)) (asked_frame (address_at (place_of run k) from) dst vlan kind data') sending (subst O outcome (subst S e sent))).0 in
-        let two = asked_is run.capacity k (address_at (place_of run k) from) dst vlan kind data' sending.frame asked in
+        let O : Outcome → Type 0 = λ o. sent_by (place_of run k) (Send from dst vlan ethertype data') o ≡ Some sending in
+        let asked = (sending_frame (number_of h.source (next_number past)) (asked_frame (address_at (place_of run k) from) dst vlan ethertype data') sending (subst O outcome (subst S e sent))).0 in
+        let two = asked_is run.capacity k (address_at (place_of run k) from) dst vlan ethertype data' sending.frame asked in
         let U : List ℕ → Type 0 = λ m. knows (place_of run k) past (now (x ∷ past)) Age m ≡ false in
         let L : List ℕ → Type 0 = λ m. is_supervision m sending.frame.kind ≡ true in
         let K : ℕ → Type 0 = λ m. is_supervision dst m ≡ true in
-        let H : Place → Type 0 = λ p. (near' : List ℕ → Bool) → near' dst ≡ false → has_port (ports (of_record.sending p near' dst kind).wants.exits) 2 ≡ false in
-        let kept : H (RedBox mac mode) = λ near' unknown. sends_kept (near' dst) (is_supervision dst kind) (is_group dst) mac unknown (subst K two.1 (subst L two.0 life)) in
+        let H : Place → Type 0 = λ p. (near' : List ℕ → Bool) → near' dst ≡ false → has_port (ports (of_record.sending p near' dst ethertype).wants.exits) 2 ≡ false in
+        let kept : H (RedBox mac mode) = λ near' unknown. sends_kept (near' dst) (is_supervision dst ethertype) (is_group dst) mac unknown (subst K two.1 (subst L two.0 life)) in
         ap (λ o. has_port (ports_of o) 2) outcome ∙ subst H (sym box_is) kept (knows (place_of run k) past (now (x ∷ past)) Age) (subst U two.0 near)
 
     life_ports : (x : Entry) (past : List Entry) (about : About) → x.event ≡ Supervise about → Answered run.capacity (owner_of run k) x past → has_port (ports_of x.outcome) 2 ≡ false
@@ -246,8 +246,8 @@ module _ (run : Run) (closed : IsClosed run) (net : IsNetwork run) (send : Probe
         shut mine o same = sym same ∙ by_event x.event refl
           where
             by_event : (event : Event) → x.event ≡ event → pass_of (owner_of run k) 2 x past ≡ None
-            by_event (Send from dst vlan kind data') e =
-                no_pass (owner_of run k) 2 x past (own_kept x past from dst vlan kind data' e ok.0 near.0 (mine_here (ap (probe_handled here) e) mine))
+            by_event (Send from dst vlan ethertype data') e =
+                no_pass (owner_of run k) 2 x past (own_kept x past from dst vlan ethertype data' e ok.0 near.0 (mine_here (ap (probe_handled here) e) mine))
             by_event (Supervise about) e = no_pass (owner_of run k) 2 x past (life_ports x past about e ok.0)
             by_event Age e = age_pass (owner_of run k) 2 x past e
             by_event (Arrive port copy) e =
@@ -279,30 +279,30 @@ module _ (run : Run) (closed : IsClosed run) (net : IsNetwork run) (send : Probe
 
   module _ (alone : is_joined_with_station run.places run.links send.node ≡ false) where
     -- no Station that is joined with a Station sent it
-    not_joined : (way : Way) → way.link < length run.links → (start_of run way).node ≡ send.node → is_station_of run (start_of run way) ≡ true → is_station_of run (stop_of run way) ≡ true → ⊥
-    not_joined way below node from to =
-        false≢true (sym alone ∙ any_at (joins_stations run.places send.node) run.links way.link [] below (joins way.dir node from to))
+    not_joined : (channel : Channel) → channel.link < length run.links → (start_of run channel).node ≡ send.node → is_station_of run (start_of run channel) ≡ true → is_station_of run (stop_of run channel) ≡ true → ⊥
+    not_joined channel below node from to =
+        false≢true (sym alone ∙ any_at (joins_stations run.places send.node) run.links channel.link [] below (joins channel.dir node from to))
       where
-        joins : (dir : Dir) → (from_end dir (ends_of run way.link)).node ≡ send.node → is_station_of run (from_end dir (ends_of run way.link)) ≡ true → is_station_of run (to_end dir (ends_of run way.link)) ≡ true →
-            joins_stations run.places send.node (ends_of run way.link) ≡ true
+        joins : (dir : Dir) → (from_end dir (ends_of run channel.link)).node ≡ send.node → is_station_of run (from_end dir (ends_of run channel.link)) ≡ true → is_station_of run (to_end dir (ends_of run channel.link)) ≡ true →
+            joins_stations run.places send.node (ends_of run channel.link) ≡ true
         joins Forth node from to =
-            and_from _ _ (or_left _ _ (eq-eqb (from_end Forth (ends_of run way.link)).node send.node node)) (and_from _ _ from to)
+            and_from _ _ (or_left _ _ (eq-eqb (from_end Forth (ends_of run channel.link)).node send.node node)) (and_from _ _ from to)
         joins Back node from to =
-            and_from _ _ (or_right _ _ (eq-eqb (to_end Forth (ends_of run way.link)).node send.node node)) (and_from _ _ to from)
+            and_from _ _ (or_right _ _ (eq-eqb (to_end Forth (ends_of run channel.link)).node send.node node)) (and_from _ _ to from)
 
     -- what leaves by an edge for a Station
-    none_out : (way : Way) → way.link < length run.links → is_edge_of run (start_of run way) ≡ true → is_station_of run (stop_of run way) ≡ true →
-        AllByRecursion NotMine (passes (owner_of run (start_of run way).node) (start_of run way).port (past_of run (start_of run way).node))
-    none_out way below edge to = by_place (place_of run j) refl
+    none_out : (channel : Channel) → channel.link < length run.links → is_edge_of run (start_of run channel) ≡ true → is_station_of run (stop_of run channel) ≡ true →
+        AllByRecursion NotMine (passes (owner_of run (start_of run channel).node) (start_of run channel).port (past_of run (start_of run channel).node))
+    none_out channel below edge to = by_place (place_of run j) refl
       where
         j : ℕ
-        j = (start_of run way).node
+        j = (start_of run channel).node
 
         port : ℕ
-        port = (start_of run way).port
+        port = (start_of run channel).port
 
-        there : IsPortOf run (start_of run way)
-        there = net.ends way below
+        there : IsPortOf run (start_of run channel)
+        there = net.ends channel below
 
         E : Place → Type 0
         E p = is_edge p port ≡ true
@@ -321,19 +321,19 @@ module _ (run : Run) (closed : IsClosed run) (net : IsNetwork run) (send : Probe
             own copy from mine =
                 let both : Some from.0 ≡ Some send = sym from.1 ∙ probe_is send copy.probe mine in
                 let node : send.node ≡ j = sym (ap (λ (p : Option Probe). (Rattle.std.specs.Prelude.unwrap_or p send).node) both) ∙ from.2 in
-                not_joined way below (sym node) (ap is_station here) to
+                not_joined channel below (sym node) (ap is_station here) to
 
     none_in : (k : ℕ) → k < length run.places → is_station (place_of run k) ≡ true → AllByRecursion NotMine (arrivals 0 (past_of run k))
     none_in k below station =
         ⊎_elim
         (λ at.
-        let way : Way = record { link = at.link; dir = at.dir } in
-        let S : End → Type 0 = λ end. is_edge_of run (start_of run way) ≡ is_edge_of run end in
+        let channel : Channel = record { link = at.link; dir = at.dir } in
+        let S : End → Type 0 = λ end. is_edge_of run (start_of run channel) ≡ is_edge_of run end in
         let T : End → Type 0 = λ end. is_station_of run end ≡ true in
-        let same = subst S at.ends (net.sides way at.below) in
+        let same = subst S at.ends (net.sides channel at.below) in
         all_weaker (λ copy. NotMine copy × IsOfSend run copy) NotMine (arrivals 0 (past_of run k)) (λ copy two. two.0)
-        (arrives_between run closed NotMine at.link at.dir (start_of run way) (record { node = k; port = 0 }) at.below refl at.ends
-        (none_out way at.below (same ∙ edge_there (place_of run k) station) (subst T (sym at.ends) station))))
+        (arrives_between run closed NotMine at.link at.dir (start_of run channel) (record { node = k; port = 0 }) at.below refl at.ends
+        (none_out channel at.below (same ∙ edge_there (place_of run k) station) (subst T (sym at.ends) station))))
         (λ none. let Q : List Carried → Type 0 = AllByRecursion NotMine in subst Q (sym none) tt)
         (closed.linked k 0 below)
       where

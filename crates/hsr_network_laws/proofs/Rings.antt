@@ -26,9 +26,9 @@ use Rattle.hsr_run_laws.proofs.Same.{address_other}
 use Rattle.hsr_run_laws.proofs.Walk.{IsBetween, Kept, at, at_below, at_next, between_at, not_sender, sender_below}
 use Rattle.hsr_run_laws.proofs.WithoutBoxes.{boxless}
 use Rattle.hsr_network_laws.specs.Delivered.{AllCovered, AllReached, is_meant}
-use Rattle.hsr_network_laws.specs.Network.{HasAddress, IsNetwork, IsPortOf, Way, goes_round, is_edge, is_edge_of, is_in_h_or_u, is_station_with, start_of, stop_of}
+use Rattle.hsr_network_laws.specs.Network.{HasAddress, IsNetwork, IsPortOf, Channel, goes_round, is_edge, is_edge_of, is_in_h_or_u, is_station_with, start_of, stop_of}
 use Rattle.hsr_network_laws.specs.Rings.{RingIsCrossed}
-use Rattle.hsr_network_laws.specs.Ways.{Carries, ComesOver, IsReached, is_loss, keeps_own, lets_out, on, passes_on, sent}
+use Rattle.hsr_network_laws.specs.Channels.{Carries, ComesOver, IsReached, is_loss, keeps_own, lets_out, on, passes_on, sent}
 use Rattle.hsr_network_laws.proofs.Late.{late_decides}
 
 -- ---- a ring is a network
@@ -44,42 +44,42 @@ module _ (run : Run) (macs : List (List ℕ)) (closed : IsClosed run) (ring : Is
   address_is : (k : ℕ) (address : List ℕ) → k < length macs → HasAddress (place_of run k) address → address ≡ mac_at macs k
   address_is k address below has = let H : Place → Type 0 = λ p. HasAddress p address in subst H (place_is run macs closed ring k below) has
 
-  -- a way goes from B of a node to A of the next, or back
-  abbrev IsAlong : Way → Type 0
-  IsAlong way =
-      ((start_of run way ≡ record { node = way.link; port = 1 }) × (stop_of run way ≡ record { node = (way.link + 1) % length macs; port = 0 }))
-      ⊎ ((start_of run way ≡ record { node = (way.link + 1) % length macs; port = 0 }) × (stop_of run way ≡ record { node = way.link; port = 1 }))
+  -- a channel goes from B of a node to A of the next, or back
+  abbrev IsAlong : Channel → Type 0
+  IsAlong channel =
+      ((start_of run channel ≡ record { node = channel.link; port = 1 }) × (stop_of run channel ≡ record { node = (channel.link + 1) % length macs; port = 0 }))
+      ⊎ ((start_of run channel ≡ record { node = (channel.link + 1) % length macs; port = 0 }) × (stop_of run channel ≡ record { node = channel.link; port = 1 }))
 
-  along : (way : Way) → way.link < length run.links → IsAlong way
-  along way below = by_dir way.dir
+  along : (channel : Channel) → channel.link < length run.links → IsAlong channel
+  along channel below = by_dir channel.dir
     where
-      joined : Rattle.hsr_run_laws.specs.Premises.Joins (ends_of run way.link) way.link ((way.link + 1) % length macs)
-      joined = let count : length run.links ≡ length macs = ring.count in ring.joined way.link (omega arith)
+      joined : Rattle.hsr_run_laws.specs.Premises.Joins (ends_of run channel.link) channel.link ((channel.link + 1) % length macs)
+      joined = let count : length run.links ≡ length macs = ring.count in ring.joined channel.link (omega arith)
 
-      by_dir : (dir : Dir) → IsAlong (record { link = way.link; dir = dir })
+      by_dir : (dir : Dir) → IsAlong (record { link = channel.link; dir = dir })
       by_dir Forth = ⊎_elim (λ j. inl j) (λ j. inr j) joined
       by_dir Back = ⊎_elim (λ j. inr (j.1, j.0)) (λ j. inl (j.1, j.0)) joined
 
-  ends : (way : Way) → way.link < length run.links → IsPortOf run (start_of run way)
-  ends way below =
+  ends : (channel : Channel) → channel.link < length run.links → IsPortOf run (start_of run channel)
+  ends channel below =
       let count : length run.links ≡ length macs = ring.count in
       let places : length run.places ≡ length macs = ring.places in
-      let next = next_below run macs closed ring way.link in
+      let next = next_below run macs closed ring channel.link in
       let P : End → Type 0 = IsPortOf run in
       ⊎_elim
-      (λ a. subst P (sym a.0) (record { node = omega arith; port = of_each (λ p. 1 < Rattle.hsr_node.specs.Place.ports p) (λ mac mode. omega arith) way.link (omega arith) }))
-      (λ a. subst P (sym a.0) (record { node = omega arith; port = of_each (λ p. 0 < Rattle.hsr_node.specs.Place.ports p) (λ mac mode. omega arith) ((way.link + 1) % length macs) (omega arith) }))
-      (along way below)
+      (λ a. subst P (sym a.0) (record { node = omega arith; port = of_each (λ p. 1 < Rattle.hsr_node.specs.Place.ports p) (λ mac mode. omega arith) channel.link (omega arith) }))
+      (λ a. subst P (sym a.0) (record { node = omega arith; port = of_each (λ p. 0 < Rattle.hsr_node.specs.Place.ports p) (λ mac mode. omega arith) ((channel.link + 1) % length macs) (omega arith) }))
+      (along channel below)
 
-  no_edge : (way : Way) → way.link < length run.links → is_edge_of run (start_of run way) ≡ false
-  no_edge way below = of_each (λ p. is_edge p (start_of run way).port ≡ false) (λ mac mode. refl) (start_of run way).node (ends way below).node
+  no_edge : (channel : Channel) → channel.link < length run.links → is_edge_of run (start_of run channel) ≡ false
+  no_edge channel below = of_each (λ p. is_edge p (start_of run channel).port ≡ false) (λ mac mode. refl) (start_of run channel).node (ends channel below).node
 
-  no_edge_there : (way : Way) → way.link < length run.links → is_edge_of run (stop_of run way) ≡ false
-  no_edge_there way below = by_dir way.dir
+  no_edge_there : (channel : Channel) → channel.link < length run.links → is_edge_of run (stop_of run channel) ≡ false
+  no_edge_there channel below = by_dir channel.dir
     where
-      by_dir : (dir : Dir) → is_edge_of run (to_end dir (ends_of run way.link)) ≡ false
-      by_dir Forth = no_edge (record { link = way.link; dir = Back }) below
-      by_dir Back = no_edge (record { link = way.link; dir = Forth }) below
+      by_dir : (dir : Dir) → is_edge_of run (to_end dir (ends_of run channel.link)) ≡ false
+      by_dir Forth = no_edge (record { link = channel.link; dir = Back }) below
+      by_dir Back = no_edge (record { link = channel.link; dir = Forth }) below
 
   -- the next node has one before it alone
   same_next : (n i j : ℕ) → i < n → j < n → (i + 1) % n ≡ (j + 1) % n → i ≡ j
@@ -91,22 +91,22 @@ module _ (run : Run) (macs : List (List ℕ)) (closed : IsClosed run) (ring : Is
       by_last (inl a) (inr b) = let x = mod-eq_of_lt a in let whole : j + 1 ≡ n = omega arith in let y : (j + 1) % n ≡ 0 = ap (λ m. m % n) whole ∙ mod_self n in absurd (omega arith)
       by_last (inr a) (inl b) = let y = mod-eq_of_lt b in let whole : i + 1 ≡ n = omega arith in let x : (i + 1) % n ≡ 0 = ap (λ m. m % n) whole ∙ mod_self n in absurd (omega arith)
 
-  apart : (way other : Way) → way.link < length run.links → other.link < length run.links → start_of run way ≡ start_of run other → stop_of run way ≡ stop_of run other
-  apart way other g h e = by_way (along way g) (along other h)
+  apart : (channel other : Channel) → channel.link < length run.links → other.link < length run.links → start_of run channel ≡ start_of run other → stop_of run channel ≡ stop_of run other
+  apart channel other g h e = by_channel (along channel g) (along other h)
     where
       one_zero : (m k : ℕ) → m ≡ k → m ≡ 1 → k ≡ 0 → ⊥
       one_zero m k e a b = omega arith
 
-      by_way : IsAlong way → IsAlong other → stop_of run way ≡ stop_of run other
-      by_way (inl a) (inl b) =
-          let same : way.link ≡ other.link = ap (λ (end : End). end.node) (sym a.0 ∙ (e ∙ b.0)) in
+      by_channel : IsAlong channel → IsAlong other → stop_of run channel ≡ stop_of run other
+      by_channel (inl a) (inl b) =
+          let same : channel.link ≡ other.link = ap (λ (end : End). end.node) (sym a.0 ∙ (e ∙ b.0)) in
           a.1 ∙ (ap (λ l. let end : End = record { node = (l + 1) % length macs; port = 0 } in end) same ∙ sym b.1)
-      by_way (inr a) (inr b) =
+      by_channel (inr a) (inr b) =
           let count : length run.links ≡ length macs = ring.count in
-          let same : way.link ≡ other.link = same_next (length macs) way.link other.link (omega arith) (omega arith) (ap (λ (end : End). end.node) (sym a.0 ∙ (e ∙ b.0))) in
+          let same : channel.link ≡ other.link = same_next (length macs) channel.link other.link (omega arith) (omega arith) (ap (λ (end : End). end.node) (sym a.0 ∙ (e ∙ b.0))) in
           a.1 ∙ (ap (λ l. let end : End = record { node = l; port = 1 } in end) same ∙ sym b.1)
-      by_way (inl a) (inr b) = absurd (one_zero 1 0 (ap (λ (end : End). end.port) (sym a.0 ∙ (e ∙ b.0))) refl refl)
-      by_way (inr a) (inl b) = absurd (one_zero 1 0 (ap (λ (end : End). end.port) (sym b.0 ∙ (sym e ∙ a.0))) refl refl)
+      by_channel (inl a) (inr b) = absurd (one_zero 1 0 (ap (λ (end : End). end.port) (sym a.0 ∙ (e ∙ b.0))) refl refl)
+      by_channel (inr a) (inl b) = absurd (one_zero 1 0 (ap (λ (end : End). end.port) (sym b.0 ∙ (sym e ∙ a.0))) refl refl)
 
   ring_network : IsNetwork run
   ring_network =
@@ -120,8 +120,8 @@ module _ (run : Run) (macs : List (List ℕ)) (closed : IsClosed run) (ring : Is
             let within : j < length macs = omega arith in
             ring.differ i j inside within (sym (address_is i mac inside has) ∙ address_is j mac within too);
         ends = ends;
-        sides = λ way below. no_edge way below ∙ sym (no_edge_there way below);
-        faces = λ way below edge station. absurd (false≢true (sym (no_edge way below) ∙ edge));
+        sides = λ channel below. no_edge channel below ∙ sym (no_edge_there channel below);
+        faces = λ channel below edge station. absurd (false≢true (sym (no_edge channel below) ∙ edge));
         apart = apart;
       }
 
@@ -148,7 +148,7 @@ module _ (run : Run) (macs : List (List ℕ)) (closed : IsClosed run) (ring : Is
     here : (i : ℕ) → i < length macs → go i < length macs
     here i below = at_below run macs closed ring send sending is i below
 
-    -- on a link that lost nothing each way carries it
+    -- on a link that lost nothing each channel carries it
     none_lost : (dir : Dir) (rows : List Row) → any_lost rows ≡ false → list_any (is_loss send dir) rows ≡ false
     none_lost dir [] kept = refl
     none_lost dir (row ∷ rows) kept =
@@ -183,10 +183,10 @@ module _ (run : Run) (macs : List (List ℕ)) (closed : IsClosed run) (ring : Is
 
     -- ---- along B
 
-    abbrev over_b : (k : ℕ) → k < length macs → Way
+    abbrev over_b : (k : ℕ) → k < length macs → Channel
     over_b k below = record { link = k; dir = (way_b run macs closed ring k below).dir }
 
-    abbrev over_a : (k : ℕ) → k < length macs → Way
+    abbrev over_a : (k : ℕ) → k < length macs → Channel
     over_a k below = record { link = k; dir = (way_a run macs closed ring k below).dir }
 
     next_is : (i : ℕ) → i < length macs → (go i + 1) % length macs ≡ go (suc i)
@@ -212,18 +212,18 @@ module _ (run : Run) (macs : List (List ℕ)) (closed : IsClosed run) (ring : Is
     stop_a : (k : ℕ) (below : k < length macs) → stop_of run (over_a k below) ≡ record { node = k; port = 1 }
     stop_a k below = (way_a run macs closed ring k below).is_to
 
-    -- it goes on from the end of one way by another
-    goes_on : (k : ℕ) (way next : Way) (port : ℕ) → k < length macs → (stop_of run way).node ≡ k → (start_of run next).node ≡ k → ((start_of run next).port ≡ (stop_of run way).port → ⊥) → Between k → ((stop_of run next).node ≡ send.node → ⊥) →
-        Rattle.hsr_network_laws.specs.Ways.IsNextWay run send sending.frame way next
-    goes_on k way next port below stops starts other between away =
-        let P : ℕ → Type 0 = λ j. passes_on send.node sending.frame j (place_of run j) (stop_of run way).port ≡ true in
+    -- it goes on from the end of one channel by another
+    goes_on : (k : ℕ) (channel next : Channel) (port : ℕ) → k < length macs → (stop_of run channel).node ≡ k → (start_of run next).node ≡ k → ((start_of run next).port ≡ (stop_of run channel).port → ⊥) → Between k → ((stop_of run next).node ≡ send.node → ⊥) →
+        Rattle.hsr_network_laws.specs.Channels.IsNextChannel run send sending.frame channel next
+    goes_on k channel next port below stops starts other between away =
+        let P : ℕ → Type 0 = λ j. passes_on send.node sending.frame j (place_of run j) (stop_of run channel).port ≡ true in
         let L : ℕ → Type 0 = λ j. lets_out sending.frame (place_of run j) (start_of run next).port ≡ true in
-        record { node = starts ∙ sym stops; port = other; passes = subst P (sym stops) (passes k (stop_of run way).port below between); out = subst L (sym starts) (lets k (start_of run next).port below); away = away }
+        record { node = starts ∙ sym stops; port = other; passes = subst P (sym stops) (passes k (stop_of run channel).port below between); out = subst L (sym starts) (lets k (start_of run next).port below); away = away }
 
-    first_way : (way : Way) → (start_of run way).node ≡ send.node → Rattle.hsr_network_laws.specs.Ways.IsFirstWay run send sending.frame way
-    first_way way starts =
-        let L : ℕ → Type 0 = λ j. lets_out sending.frame (place_of run j) (start_of run way).port ≡ true in
-        record { node = starts; out = subst L (sym starts) (lets send.node (start_of run way).port (sender_below run macs closed ring send sending is)) }
+    first_channel : (channel : Channel) → (start_of run channel).node ≡ send.node → Rattle.hsr_network_laws.specs.Channels.IsFirstChannel run send sending.frame channel
+    first_channel channel starts =
+        let L : ℕ → Type 0 = λ j. lets_out sending.frame (place_of run j) (start_of run channel).port ≡ true in
+        record { node = starts; out = subst L (sym starts) (lets send.node (start_of run channel).port (sender_below run macs closed ring send sending is)) }
 
     abbrev node_of : End → ℕ
     node_of end = end.node
@@ -234,7 +234,7 @@ module _ (run : Run) (macs : List (List ℕ)) (closed : IsClosed run) (ring : Is
     comes_b : (i : ℕ) (below : i < length macs) → suc i < length macs → ((m : ℕ) → m < suc i → Whole m) → ((m : ℕ) → 0 < m → m < suc i → Between (go m)) → ComesOver run send sending.frame (over_b (go i) (here i below))
     comes_b zero below more kept between =
         sent (over_b (go 0) (here 0 below)) (carries (go 0) (way_b run macs closed ring (go 0) (here 0 below)).dir (here 0 below) (kept 0 (omega arith)))
-        (first_way (over_b (go 0) (here 0 below)) (ap node_of (start_b (go 0) (here 0 below)) ∙ first_is))
+        (first_channel (over_b (go 0) (here 0 below)) (ap node_of (start_b (go 0) (here 0 below)) ∙ first_is))
     comes_b (suc i) below more kept between =
         let inside : i < length macs = omega arith in
         let before = comes_b i inside below (λ m h. kept m (omega arith)) (λ m some h. between m some (omega arith)) in
@@ -246,13 +246,13 @@ module _ (run : Run) (macs : List (List ℕ)) (closed : IsClosed run) (ring : Is
         (between (suc i) (omega arith) (omega arith))
         (λ e. not_back (suc (suc i)) (omega arith) more (sym (next_is (suc i) below) ∙ (sym (ap node_of (stop_b (go (suc i)) (here (suc i) below))) ∙ e))))
 
-    -- ---- along A, j ways before the last
+    -- ---- along A, j channels before the last
 
     comes_a : (j i : ℕ) (below : i < length macs) → i + suc j ≡ length macs → 0 < i → ((m : ℕ) → i ≤ m → m < length macs → Whole m) → ((m : ℕ) → i < m → m < length macs → Between (go m)) → ComesOver run send sending.frame (over_a (go i) (here i below))
     comes_a zero i below whole some kept between =
         let full : suc i ≡ length macs = omega arith in
         sent (over_a (go i) (here i below)) (carries (go i) (way_a run macs closed ring (go i) (here i below)).dir (here i below) (kept i (omega arith) below))
-        (first_way (over_a (go i) (here i below)) (ap node_of (start_a (go i) (here i below)) ∙ (next_is i below ∙ (ap (λ m. go m) full ∙ around_end (length macs) send.node))))
+        (first_channel (over_a (go i) (here i below)) (ap node_of (start_a (go i) (here i below)) ∙ (next_is i below ∙ (ap (λ m. go m) full ∙ around_end (length macs) send.node))))
     comes_a (suc j) i below whole some kept between =
         let more : suc i < length macs = omega arith in
         let before = comes_a j (suc i) more (omega arith) (omega arith) (λ m h g. kept m (omega arith) g) (λ m h g. between m (omega arith) g) in
@@ -272,9 +272,9 @@ module _ (run : Run) (macs : List (List ℕ)) (closed : IsClosed run) (ring : Is
     ring_reached : OneLossyLink run → (k : ℕ) → k < length macs → is_meant send.node sending.frame k (place_of run k) ≡ true → IsReached run send sending.frame k
     ring_reached one k below for_it =
         let mine = addressed k below for_it in
-        let way = steps_to (length macs) send.node k (sender_below run macs closed ring send sending is) below (not_sender run macs closed ring send sending is k mine) in
+        let channel = steps_to (length macs) send.node k (sender_below run macs closed ring send sending is) below (not_sender run macs closed ring send sending is k mine) in
         let F : ℕ → Type 0 = λ j. is_addressed macs send.node sending.frame j ≡ true in
-        reached_at way.0 way.1 way.2 way.3 (subst F (sym way.3) mine)
+        reached_at channel.0 channel.1 channel.2 channel.3 (subst F (sym channel.3) mine)
       where
         reached_at : (d : ℕ) → 0 < d → d < length macs → go d ≡ k → is_addressed macs send.node sending.frame (go d) ≡ true → IsReached run send sending.frame k
         reached_at zero some inside there for_there = absurd (omega arith)
@@ -283,12 +283,12 @@ module _ (run : Run) (macs : List (List ℕ)) (closed : IsClosed run) (ring : Is
             (λ kept.
             let low : i < length macs = omega arith in
             record {
-              way = over_b (go i) (here i low);
+              channel = over_b (go i) (here i low);
               comes = comes_b i low inside kept (λ m some h. between_at run macs closed ring send sending is (suc i) inside for_there m some (omega arith) (λ e. omega arith));
               here = ap node_of (stop_b (go i) (here i low)) ∙ (next_is i low ∙ there);
             })
             (λ lost. record {
-              way = over_a (go (suc i)) (here (suc i) inside);
+              channel = over_a (go (suc i)) (here (suc i) inside);
               comes = comes_a (length macs - suc (suc i)) (suc i) inside (omega arith) some (λ m h g. kept_after lost.0 lost.1 lost.2 m h g)
                   (λ m h g. between_at run macs closed ring send sending is (suc i) inside for_there m (omega arith) g (λ e. omega arith));
               here = ap node_of (stop_a (go (suc i)) (here (suc i) inside)) ∙ there;

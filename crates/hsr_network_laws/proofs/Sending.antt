@@ -32,7 +32,7 @@ use Rattle.hsr_node.specs.declared.place.Place.{Place}
 use Rattle.hsr_node.specs.declared.place.Place.TheVariants.{Danh, RedBox, QuadBox, Station}
 use Rattle.hsr_node.specs.declared.sending.Sending.{Sending}
 use Rattle.hsr_network_laws.specs.Network.{is_edge}
-use Rattle.hsr_network_laws.specs.Ways.{lets_out}
+use Rattle.hsr_network_laws.specs.Channels.{lets_out}
 use Rattle.hsr_node.specs.Place.{ports as ports_there}
 use Rattle.hsr_run_laws.specs.Once.{is_copy}
 use Rattle.hsr_run_laws.specs.Run.{is_of}
@@ -57,23 +57,23 @@ writes place n seq f below number =
     (cases_Bool (is_edge place n))
 
 -- a send's outcome
-pub sent_outcome : (capacity : ℕ) (owner : Owner) (past : List Entry) (at from : ℕ) (dst : List ℕ) (vlan : Option ℕ) (kind : ℕ) (data' : List ℕ) (outcome : Outcome) →
-    answer capacity owner past at (Send from dst vlan kind data') ≡ Ok outcome → outcome ≡ sent_as (of_record.sending owner.place (knows owner.place past at Age) dst kind) (next_number past)
-sent_outcome capacity owner past at from dst vlan kind data' outcome ok = by_address (address_at owner.place from) ok
+pub sent_outcome : (capacity : ℕ) (owner : Owner) (past : List Entry) (at from : ℕ) (dst : List ℕ) (vlan : Option ℕ) (ethertype : ℕ) (data' : List ℕ) (outcome : Outcome) →
+    answer capacity owner past at (Send from dst vlan ethertype data') ≡ Ok outcome → outcome ≡ sent_as (of_record.sending owner.place (knows owner.place past at Age) dst ethertype) (next_number past)
+sent_outcome capacity owner past at from dst vlan ethertype data' outcome ok = by_address (address_at owner.place from) ok
   where
     by_refusal : (o : Option SendFault) (outcome' : Outcome) → sent_or_refused o outcome' ≡ Ok outcome → outcome ≡ outcome'
     by_refusal None outcome' e = cc
     by_refusal (Some fault) outcome' e = absurd cc
 
-    by_address : (o : Option (List ℕ)) → send_answer capacity owner past at o dst kind (length data') ≡ Ok outcome → outcome ≡ sent_as (of_record.sending owner.place (knows owner.place past at Age) dst kind) (next_number past)
+    by_address : (o : Option (List ℕ)) → send_answer capacity owner past at o dst ethertype (length data') ≡ Ok outcome → outcome ≡ sent_as (of_record.sending owner.place (knows owner.place past at Age) dst ethertype) (next_number past)
     by_address None e = absurd cc
-    by_address (Some src) e = by_refusal _ (sent_as (of_record.sending owner.place (knows owner.place past at Age) dst kind) (next_number past)) e
+    by_address (Some src) e = by_refusal _ (sent_as (of_record.sending owner.place (knows owner.place past at Age) dst ethertype) (next_number past)) e
 
-send_octets : (place : Place) (from : ℕ) (dst : List ℕ) (vlan : Option ℕ) (kind : ℕ) (data' : List ℕ) (h : Handling) (next n : ℕ) (f : Fields) → asked_frame (address_at place from) dst vlan kind data' ≡ Some f → has_port (ports h.wants.exits) n ≡ true →
-    copy_octets place (Send from dst vlan kind data') (sent_as h next) n ≡ written (side_of place n) (number_of h.source next) (Some f)
+send_octets : (place : Place) (from : ℕ) (dst : List ℕ) (vlan : Option ℕ) (ethertype : ℕ) (data' : List ℕ) (h : Handling) (next n : ℕ) (f : Fields) → asked_frame (address_at place from) dst vlan ethertype data' ≡ Some f → has_port (ports h.wants.exits) n ≡ true →
+    copy_octets place (Send from dst vlan ethertype data') (sent_as h next) n ≡ written (side_of place n) (number_of h.source next) (Some f)
 unfolding copy_octets passed_octets
-send_octets place from dst vlan kind data' h next n f is out_there =
-    ap (λ b. if b then written (side_of place n) (number_of h.source next) (asked_frame (address_at place from) dst vlan kind data') else None) out_there
+send_octets place from dst vlan ethertype data' h next n f is out_there =
+    ap (λ b. if b then written (side_of place n) (number_of h.source next) (asked_frame (address_at place from) dst vlan ethertype data') else None) out_there
     ∙ ap (λ o. written (side_of place n) (number_of h.source next) o) is
 
 life_octets : (place : Place) (about : About) (seq life n : ℕ) (f : Fields) → life_frame (ring_address place) about life ≡ Some f → n < 2 →
@@ -118,40 +118,40 @@ module _ (capacity number : ℕ) where
 
   -- of an entry that is a send, by its event
   pub by_event : (place : Place) (x : Entry) (past : List Entry) (s : Sending) (P : Type 0) → sent_by place x.event x.outcome ≡ Some s →
-      ((from : ℕ) (dst : List ℕ) (vlan : Option ℕ) (kind : ℕ) (data' : List ℕ) → x.event ≡ Send from dst vlan kind data' → P) → ((about : About) → x.event ≡ Supervise about → P) → P
+      ((from : ℕ) (dst : List ℕ) (vlan : Option ℕ) (ethertype : ℕ) (data' : List ℕ) → x.event ≡ Send from dst vlan ethertype data' → P) → ((about : About) → x.event ≡ Supervise about → P) → P
   by_event place x past s P is send life = go x.event refl
     where
       go : (event : Event) → x.event ≡ event → P
-      go (Send from dst vlan kind data') e = send from dst vlan kind data' e
+      go (Send from dst vlan ethertype data') e = send from dst vlan ethertype data' e
       go (Supervise about) e = life about e
       go Age e = let none : sent_by place x.event x.outcome ≡ None = ap (λ ev. sent_by place ev x.outcome) e in absurd cc
       go (Arrive port copy) e = let none : sent_by place x.event x.outcome ≡ None = ap (λ ev. sent_by place ev x.outcome) e in absurd cc
 
   -- a send leaves where it is wanted, where it has a number at the ports on rings
-  sent_out : (place : Place) (n : ℕ) (x : Entry) (past : List Entry) (s : Sending) (from : ℕ) (dst : List ℕ) (vlan : Option ℕ) (kind : ℕ) (data' : List ℕ) → n < ports_there place → Answered capacity (record { number = number; place = place }) x past →
-      sent_by place x.event x.outcome ≡ Some s → x.event ≡ Send from dst vlan kind data' →
-      ((f : Fields) → asked_frame (address_at place from) dst vlan kind data' ≡ Some f → s.frame ≡ f →
-      (has_port (ports (of_record.sending place (knows place past (now (x ∷ past)) Age) dst kind).wants.exits) n ≡ true)
-      × (is_edge place n ≡ false → (src : List ℕ) × ((of_record.sending place (knows place past (now (x ∷ past)) Age) dst kind).source ≡ Some src))) → IsSentOut (record { number = number; place = place }) n x past
-  sent_out place n x past s from dst vlan kind data' below ok is e how =
-      let h : Handling = of_record.sending place (knows place past (now (x ∷ past)) Age) dst kind in
+  sent_out : (place : Place) (n : ℕ) (x : Entry) (past : List Entry) (s : Sending) (from : ℕ) (dst : List ℕ) (vlan : Option ℕ) (ethertype : ℕ) (data' : List ℕ) → n < ports_there place → Answered capacity (record { number = number; place = place }) x past →
+      sent_by place x.event x.outcome ≡ Some s → x.event ≡ Send from dst vlan ethertype data' →
+      ((f : Fields) → asked_frame (address_at place from) dst vlan ethertype data' ≡ Some f → s.frame ≡ f →
+      (has_port (ports (of_record.sending place (knows place past (now (x ∷ past)) Age) dst ethertype).wants.exits) n ≡ true)
+      × (is_edge place n ≡ false → (src : List ℕ) × ((of_record.sending place (knows place past (now (x ∷ past)) Age) dst ethertype).source ≡ Some src))) → IsSentOut (record { number = number; place = place }) n x past
+  sent_out place n x past s from dst vlan ethertype data' below ok is e how =
+      let h : Handling = of_record.sending place (knows place past (now (x ∷ past)) Age) dst ethertype in
       let A : Event → Type 0 = λ ev. answer capacity (record { number = number; place = place }) past (now (x ∷ past)) ev ≡ Ok x.outcome in
-      let outcome = sent_outcome capacity (record { number = number; place = place }) past (now (x ∷ past)) from dst vlan kind data' x.outcome (subst A e ok) in
+      let outcome = sent_outcome capacity (record { number = number; place = place }) past (now (x ∷ past)) from dst vlan ethertype data' x.outcome (subst A e ok) in
       let S : Event → Type 0 = λ ev. sent_by place ev x.outcome ≡ Some s in
-      let O : Outcome → Type 0 = λ o. sent_by place (Send from dst vlan kind data') o ≡ Some s in
-      let asked = (sending_frame (number_of h.source (next_number past)) (asked_frame (address_at place from) dst vlan kind data') s (subst O outcome (subst S e is))).0 in
+      let O : Outcome → Type 0 = λ o. sent_by place (Send from dst vlan ethertype data') o ≡ Some s in
+      let asked = (sending_frame (number_of h.source (next_number past)) (asked_frame (address_at place from) dst vlan ethertype data') s (subst O outcome (subst S e is))).0 in
       let two = how s.frame asked refl in
       let w = writes place n (number_of h.source (next_number past)) s.frame below (λ no_edge. (next_number past, ap (λ o. number_of o (next_number past)) (two.1 no_edge).1)) in
       record {
         octets = w.0;
-        is = ap (λ ev. copy_octets place ev x.outcome n) e ∙ (ap (λ o. copy_octets place (Send from dst vlan kind data') o n) outcome ∙ (send_octets place from dst vlan kind data' h (next_number past) n s.frame asked two.0 ∙ w.1));
+        is = ap (λ ev. copy_octets place ev x.outcome n) e ∙ (ap (λ o. copy_octets place (Send from dst vlan ethertype data') o n) outcome ∙ (send_octets place from dst vlan ethertype data' h (next_number past) n s.frame asked two.0 ∙ w.1));
         probe = ap (probe_handled (record { node = number; place = length past })) e;
       }
 
-  pub asked_is : (address : Option (List ℕ)) (dst : List ℕ) (vlan : Option ℕ) (kind : ℕ) (data' : List ℕ) (f : Fields) → asked_frame address dst vlan kind data' ≡ Some f → (f.dst ≡ dst) × (f.kind ≡ kind)
-  asked_is None dst vlan kind data' f h = absurd cc
-  asked_is (Some src) dst vlan kind data' f h =
-      let same = same_frame (record { dst = dst; src = src; vlan = vlan; kind = kind; rest = data' }) f h in
+  pub asked_is : (address : Option (List ℕ)) (dst : List ℕ) (vlan : Option ℕ) (ethertype : ℕ) (data' : List ℕ) (f : Fields) → asked_frame address dst vlan ethertype data' ≡ Some f → (f.dst ≡ dst) × (f.kind ≡ ethertype)
+  asked_is None dst vlan ethertype data' f h = absurd cc
+  asked_is (Some src) dst vlan ethertype data' f h =
+      let same = same_frame (record { dst = dst; src = src; vlan = vlan; kind = ethertype; rest = data' }) f h in
       (ap (λ (g : Fields). g.dst) (sym same), ap (λ (g : Fields). g.kind) (sym same))
 
   life_is : (own : List ℕ) (about : About) (life : ℕ) (f : Fields) → life_frame (Some own) about life ≡ Some f → is_supervision f.dst f.kind ≡ true
@@ -163,20 +163,20 @@ module _ (capacity number : ℕ) where
       UnknownBefore (record { number = number; place = RedBox mac mode }) s.frame.dst x past → sent_by (RedBox mac mode) x.event x.outcome ≡ Some s → IsSentOut (record { number = number; place = RedBox mac mode }) n x past
   box_out mac mode n x past s below lets ok near is = by_event (RedBox mac mode) x past s (IsSentOut (record { number = number; place = RedBox mac mode }) n x past) is send life
     where
-      send : (from : ℕ) (dst : List ℕ) (vlan : Option ℕ) (kind : ℕ) (data' : List ℕ) → x.event ≡ Send from dst vlan kind data' → IsSentOut (record { number = number; place = RedBox mac mode }) n x past
-      send from dst vlan kind data' e = sent_out (RedBox mac mode) n x past s from dst vlan kind data' below ok is e how
+      send : (from : ℕ) (dst : List ℕ) (vlan : Option ℕ) (ethertype : ℕ) (data' : List ℕ) → x.event ≡ Send from dst vlan ethertype data' → IsSentOut (record { number = number; place = RedBox mac mode }) n x past
+      send from dst vlan ethertype data' e = sent_out (RedBox mac mode) n x past s from dst vlan ethertype data' below ok is e how
         where
-          how : (f : Fields) → asked_frame (address_at (RedBox mac mode) from) dst vlan kind data' ≡ Some f → s.frame ≡ f →
-              (has_port (ports (of_record.sending (RedBox mac mode) (knows (RedBox mac mode) past (now (x ∷ past)) Age) dst kind).wants.exits) n ≡ true)
-              × (is_edge (RedBox mac mode) n ≡ false → (src : List ℕ) × ((of_record.sending (RedBox mac mode) (knows (RedBox mac mode) past (now (x ∷ past)) Age) dst kind).source ≡ Some src))
+          how : (f : Fields) → asked_frame (address_at (RedBox mac mode) from) dst vlan ethertype data' ≡ Some f → s.frame ≡ f →
+              (has_port (ports (of_record.sending (RedBox mac mode) (knows (RedBox mac mode) past (now (x ∷ past)) Age) dst ethertype).wants.exits) n ≡ true)
+              × (is_edge (RedBox mac mode) n ≡ false → (src : List ℕ) × ((of_record.sending (RedBox mac mode) (knows (RedBox mac mode) past (now (x ∷ past)) Age) dst ethertype).source ≡ Some src))
           how f asked same =
-              let two = asked_is (address_at (RedBox mac mode) from) dst vlan kind data' f asked in
+              let two = asked_is (address_at (RedBox mac mode) from) dst vlan ethertype data' f asked in
               let dst_is : s.frame.dst ≡ dst = ap (λ (g : Fields). g.dst) same ∙ two.0 in
-              let kind_is : s.frame.kind ≡ kind = ap (λ (g : Fields). g.kind) same ∙ two.1 in
+              let kind_is : s.frame.kind ≡ ethertype = ap (λ (g : Fields). g.kind) same ∙ two.1 in
               let D : List ℕ → Type 0 = λ m. (not (n == 2) || (is_group m && not (is_supervision m s.frame.kind))) ≡ true in
               let K : ℕ → Type 0 = λ m. (not (n == 2) || (is_group dst && not (is_supervision dst m))) ≡ true in
               let U : List ℕ → Type 0 = λ m. knows (RedBox mac mode) past (now (x ∷ past)) Age m ≡ false in
-              let b = box_sends (knows (RedBox mac mode) past (now (x ∷ past)) Age dst) (is_supervision dst kind) (is_group dst) mac n (subst U dst_is near) below (subst K kind_is (subst D dst_is lets)) in
+              let b = box_sends (knows (RedBox mac mode) past (now (x ∷ past)) Age dst) (is_supervision dst ethertype) (is_group dst) mac n (subst U dst_is near) below (subst K kind_is (subst D dst_is lets)) in
               (b.0, λ no_edge. (mac, b.1))
 
       life : (about : About) → x.event ≡ Supervise about → IsSentOut (record { number = number; place = RedBox mac mode }) n x past
@@ -214,7 +214,7 @@ module _ (capacity number : ℕ) where
   out_of QuadBox n x past s below lets ok near is = absurd (Rattle.hsr_run_laws.proofs.Wanted.sent_source QuadBox x.event x.outcome s is)
   out_of (Station macs) zero x past s below lets ok near is =
       by_event (Station macs) x past s (IsSentOut (record { number = number; place = Station macs }) 0 x past) is
-      (λ from dst vlan kind data' e. sent_out (Station macs) 0 x past s from dst vlan kind data' (omega arith) ok is e (λ f asked same. (refl, λ no_edge. absurd (false≢true (sym no_edge)))))
+      (λ from dst vlan ethertype data' e. sent_out (Station macs) 0 x past s from dst vlan ethertype data' (omega arith) ok is e (λ f asked same. (refl, λ no_edge. absurd (false≢true (sym no_edge)))))
       (λ about e. let A : Event → Type 0 = λ ev. answer capacity (record { number = number; place = Station macs }) past (now (x ∷ past)) ev ≡ Ok x.outcome in let no = subst A e ok in absurd cc)
   out_of (Station macs) (suc n) x past s below lets ok near is = absurd (omega arith)
 
@@ -266,15 +266,15 @@ module _ (capacity number : ℕ) where
       KnownWhereSent (RedBox mac mode) at s.frame.dst x past → sent_by (RedBox mac mode) x.event x.outcome ≡ Some s → IsSentOut (record { number = number; place = RedBox mac mode }) 2 x past
   known_out mac mode at s single x past same ok near is =
       by_event (RedBox mac mode) x past s (IsSentOut (record { number = number; place = RedBox mac mode }) 2 x past) is
-      (λ from dst vlan kind data' e.
+      (λ from dst vlan ethertype data' e.
       let N : Event → Type 0 = λ ev. is_of (record { node = number; place = at }) (probe_handled (record { node = number; place = length past }) ev) ≡ true → knows (RedBox mac mode) past (now (x ∷ past)) ev s.frame.dst ≡ true in
       let M : ℕ → Type 0 = λ m. is_of (record { node = number; place = m }) (Some (let here : Probe = record { node = number; place = length past } in here)) ≡ true in
       let known = subst N e near (subst M (sym same) (is_of_itself (record { node = number; place = length past }))) in
-      sent_out (RedBox mac mode) 2 x past s from dst vlan kind data' (omega arith) ok is e
+      sent_out (RedBox mac mode) 2 x past s from dst vlan ethertype data' (omega arith) ok is e
       (λ f asked equal.
-      let dst_is : s.frame.dst ≡ dst = ap (λ (g : Fields). g.dst) equal ∙ (asked_is (address_at (RedBox mac mode) from) dst vlan kind data' f asked).0 in
+      let dst_is : s.frame.dst ≡ dst = ap (λ (g : Fields). g.dst) equal ∙ (asked_is (address_at (RedBox mac mode) from) dst vlan ethertype data' f asked).0 in
       let K : List ℕ → Type 0 = λ m. knows (RedBox mac mode) past (now (x ∷ past)) Age m ≡ true in
-      (near_sends (knows (RedBox mac mode) past (now (x ∷ past)) Age dst) (is_supervision dst kind) (is_group dst) mac (subst K dst_is known), λ no_edge. absurd (false≢true (sym no_edge)))))
+      (near_sends (knows (RedBox mac mode) past (now (x ∷ past)) Age dst) (is_supervision dst ethertype) (is_group dst) mac (subst K dst_is known), λ no_edge. absurd (false≢true (sym no_edge)))))
       (λ about e. let S : Event → Type 0 = λ ev. sent_by (RedBox mac mode) ev x.outcome ≡ Some s in absurd (no_life mac mode about x.outcome s (subst S e is) single))
 
   pub known_left : (mac : List ℕ) (mode : Mode) (at : ℕ) (s : Sending) (h : List Entry) → is_group s.frame.dst ≡ false → Each (Answered capacity (record { number = number; place = RedBox mac mode })) h → Each (KnownWhereSent (RedBox mac mode) at s.frame.dst) h →

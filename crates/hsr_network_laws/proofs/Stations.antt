@@ -26,9 +26,9 @@ use Rattle.hsr_run_laws.proofs.Lists.{count_positive}
 use Rattle.hsr_run_laws.proofs.Once.{counted}
 use Rattle.hsr_run_laws.proofs.Records.{Answered, each_so}
 use Rattle.hsr_network_laws.specs.Delivered.{is_meant}
-use Rattle.hsr_network_laws.specs.Network.{HasAddress, IsNetwork, IsPortOf, Way, is_edge, is_in_h_or_u, is_station, is_station_with, start_of, stop_of}
+use Rattle.hsr_network_laws.specs.Network.{HasAddress, IsNetwork, IsPortOf, Channel, is_edge, is_in_h_or_u, is_station, is_station_with, start_of, stop_of}
 use Rattle.hsr_network_laws.specs.Stations.{FindsEach, OnceToStation, finds}
-use Rattle.hsr_network_laws.specs.Ways.{Carries, ComesOver, IsReached, lets_out, on, sent}
+use Rattle.hsr_network_laws.specs.Channels.{Carries, ComesOver, IsReached, lets_out, on, sent}
 use Rattle.hsr_network_laws.proofs.AtMost.{at_most_once}
 use Rattle.hsr_network_laws.proofs.Covered.{IsHeardAt, unknown_at, unknown_before_at}
 use Rattle.hsr_network_laws.proofs.Delivered.{IsDown, comes_below, down_at, let_on, not_sender, not_source, noted_there, plain_there, sent_from}
@@ -80,7 +80,7 @@ with_address sender frame k (Station macs) s single m =
 
 module _ (run : Run) (closed : IsClosed run) (net : IsNetwork run) (sure : NothingMistaken run) (send : Probe) (sending : Sending) (is : IsSend run send sending) (single : is_group sending.frame.dst ≡ false)
     (k : ℕ) (below : k < length run.places) (station : is_station (place_of run k) ≡ true) (other : k ≡ send.node → ⊥) (has : HasAddress (place_of run k) sending.frame.dst)
-    (last : Way) (last_below : last.link < length run.links) (here : (stop_of run last).node ≡ k) where
+    (last : Channel) (last_below : last.link < length run.links) (here : (stop_of run last).node ≡ k) where
   abbrev joined : ℕ
   joined = (start_of run last).node
 
@@ -102,13 +102,13 @@ module _ (run : Run) (closed : IsClosed run) (net : IsNetwork run) (sure : Nothi
   -- nothing of the Station is heard elsewhere
   elsewhere : (j : ℕ) → (j ≡ joined → ⊥) → IsHeardAt run closed net j sending.frame.dst → ⊥
   elsewhere j far h =
-      let node : (start_of run h.way).node ≡ k = net.differ (start_of run h.way).node k sending.frame.dst (net.ends h.way h.below).node below h.has has in
-      let first = one_port (place_of run (start_of run h.way).node) (start_of run h.way).port h.station (net.ends h.way h.below).port in
+      let node : (start_of run h.channel).node ≡ k = net.differ (start_of run h.channel).node k sending.frame.dst (net.ends h.channel h.below).node below h.has has in
+      let first = one_port (place_of run (start_of run h.channel).node) (start_of run h.channel).port h.station (net.ends h.channel h.below).port in
       let b = back_of run closed net last last_below in
-      let same : stop_of run h.way ≡ start_of run last = net.apart h.way b.back h.below b.below (begins node first ∙ (sym stop_is ∙ sym b.starts)) ∙ b.stops in
+      let same : stop_of run h.channel ≡ start_of run last = net.apart h.channel b.back h.below b.below (begins node first ∙ (sym stop_is ∙ sym b.starts)) ∙ b.stops in
       far (sym h.here ∙ ap (λ (end : End). end.node) same)
     where
-      begins : (start_of run h.way).node ≡ k → (start_of run h.way).port ≡ 0 → start_of run h.way ≡ record { node = k; port = 0 }
+      begins : (start_of run h.channel).node ≡ k → (start_of run h.channel).port ≡ 0 → start_of run h.channel ≡ record { node = k; port = 0 }
       begins n p = λ i. record { node = n i; port = p i }
 
   -- ---- over the RedBox
@@ -150,11 +150,11 @@ module _ (run : Run) (closed : IsClosed run) (net : IsNetwork run) (sure : Nothi
             let N : ℕ → Type 0 = λ n. list_any (is_copy send) (arrivals n (past_of run joined)) ≡ false in
             absurd (false≢true (sym (subst N (two ∙ sym second) none_here) ∙ some))
 
-    comes_or_at : (send.node ≡ joined → ⊥) → (way : Way) → ComesOver run send sending.frame way → Arrived run send (stop_of run way) ⊎ IsAtBox
-    comes_or_at far way (sent way' carries first) =
-        inl (carried_on run closed send way' carries
-        (sent_from run closed net send sending is (unknown_before_at run closed net sending.frame.dst send.node is.0 (elsewhere send.node far)) (start_of run way') (net.ends way' carries.below) first.node first.out))
-    comes_or_at far way (on before next comes carries goes) =
+    comes_or_at : (send.node ≡ joined → ⊥) → (channel : Channel) → ComesOver run send sending.frame channel → Arrived run send (stop_of run channel) ⊎ IsAtBox
+    comes_or_at far channel (sent channel' carries first) =
+        inl (carried_on run closed send channel' carries
+        (sent_from run closed net send sending is (unknown_before_at run closed net sending.frame.dst send.node is.0 (elsewhere send.node far)) (start_of run channel') (net.ends channel' carries.below) first.node first.out))
+    comes_or_at far channel (on before next comes carries goes) =
         by_node (cases_Bool ((stop_of run before).node == joined)) (comes_or_at far before comes)
       where
         there : IsPortOf run (stop_of run before)
@@ -172,7 +172,7 @@ module _ (run : Run) (closed : IsClosed run) (net : IsNetwork run) (sure : Nothi
 
     reached_box : (send.node ≡ joined → ⊥) → IsReached run send sending.frame joined → IsAtBox
     reached_box far r =
-        ⊎_elim (λ came_some. at_box (stop_of run r.way) (stop_port run closed net r.way (comes_below run closed net send sending is r.way r.comes)) r.here came_some) (λ at. at) (comes_or_at far r.way r.comes)
+        ⊎_elim (λ came_some. at_box (stop_of run r.channel) (stop_port run closed net r.channel (comes_below run closed net send sending is r.channel r.comes)) r.here came_some) (λ at. at) (comes_or_at far r.channel r.comes)
 
     knowing : Each (MayKnow (owner_of run joined) send (Known sending.frame.dst)) (past_of run joined)
     knowing = each_so (λ x past. finds (owner_of run joined) send sending.frame.dst x past ≡ true) (MayKnow (owner_of run joined) send (Known sending.frame.dst)) (past_of run joined) (λ x past all mine. implied _ _ all mine) found
@@ -236,7 +236,7 @@ module _ (run : Run) (closed : IsClosed run) (net : IsNetwork run) (sure : Nothi
       (start_of run last) (net.ends last last_below) node (station_lets sending.frame (place_of run joined) (start_of run last).port from_station)
     where
       by_event : is_station (place_of run send.node) ≡ true → (event : Event) → OfSource (λ m. ⊥) (place_of run send.node) event
-      by_event s (Send from dst vlan kind payload) = tt
+      by_event s (Send from dst vlan ethertype payload) = tt
       by_event s (Supervise about) = tt
       by_event s Age = tt
       by_event s (Arrive port copy) = λ edge no_station f plain. false≢true (sym no_station ∙ s)

@@ -29,7 +29,7 @@ use Rattle.hsr_run_laws.proofs.Danh.{by_a, by_b}
 use Rattle.hsr_run_laws.proofs.RingWants.{wants_up}
 use Rattle.hsr_run_laws.proofs.Same.{address_other, address_same, same_address}
 use Rattle.hsr_network_laws.specs.Network.{HasAddress, goes_round, is_edge, is_in_h_or_u, is_station, is_station_with}
-use Rattle.hsr_network_laws.specs.Ways.{keeps_own}
+use Rattle.hsr_network_laws.specs.Channels.{keeps_own}
 use Rattle.hsr_network_laws.proofs.Sides.{exit_of}
 
 -- ---- a QuadBox
@@ -195,9 +195,9 @@ IsMeantAt QuadBox dst = ⊥
 IsMeantAt (Station macs) dst = is_group dst ≡ true
 
 -- what goes to an edge
-pub record IsForEdge (dst : List ℕ) (kind : ℕ) : Type 0 where
+pub record IsForEdge (dst : List ℕ) (ethertype : ℕ) : Type 0 where
   pub group : is_group dst ≡ true
-  pub life : is_supervision dst kind ≡ false
+  pub life : is_supervision dst ethertype ≡ false
 
 -- what comes from a ring is wanted at each other port
 pub ring_on : (place : Place) → is_in_h_or_u place ≡ true → is_station place ≡ false → (port n : ℕ) → port < ports place → n < ports place → is_edge place port ≡ false → (n ≡ port → ⊥) →

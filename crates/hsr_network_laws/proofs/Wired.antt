@@ -11,7 +11,7 @@ use Rattle.hsr_node.specs.declared.place.Place.{Place}
 use Rattle.hsr_node.specs.declared.place.Place.TheVariants.{Danh, RedBox, QuadBox, Station}
 use Rattle.hsr_link.specs.declared.row.Dir.{Dir}
 use Rattle.hsr_link.specs.declared.row.Dir.TheVariants.{Forth, Back}
-use Rattle.hsr_network_laws.specs.Network.{HasAddress, IsPortOf, IsNetwork, Way, is_edge, is_edge_of, is_in_h_or_u, is_station, is_station_of, start_of, stop_of}
+use Rattle.hsr_network_laws.specs.Network.{HasAddress, IsPortOf, IsNetwork, Channel, is_edge, is_edge_of, is_in_h_or_u, is_station, is_station_of, start_of, stop_of}
 use Rattle.hsr_run_laws.specs.Run.{Run, ends_of, from_end, place_of, to_end}
 use Rattle.hsr_topology.specs.Wired.{AreJoined, EndsLeadBack, HasAddresses, HasPort, IsJoin, IsWired}
 use Rattle.hsr_topology.specs.declared.end.End.{End}
@@ -100,7 +100,7 @@ module _ (run : Run) (wired : IsWired run.places run.links) (back : EndsLeadBack
       let E : List End → Type 0 = λ ends. is_edge_of run (from_end Back ends) ≡ true → is_station_of run (from_end Back ends) ≡ false → is_station_of run (to_end Back ends) ≡ true in
       subst E (sym p.is) (faced p.b p.a p.joined.second p.joined.first p.joined.back)
 
-  -- the link of the port from which a way starts, and whether that is its first end
+  -- the link of the port from which a channel starts, and whether that is its first end
   abbrev is_forth : Dir → Bool
   is_forth Forth = true
   is_forth Back = false
@@ -113,17 +113,17 @@ module _ (run : Run) (wired : IsWired run.places run.links) (back : EndsLeadBack
       let p = pair_at l h in
       ap (λ ends. of_links.link_from 0 run.links (from_end Back ends)) p.is ∙ (back l [] p.a p.b h p.is).1
 
-  apart_at : (way other : Way) → way.link < length run.links → other.link < length run.links → start_of run way ≡ start_of run other → stop_of run way ≡ stop_of run other
-  apart_at way other g h e =
-      let both = pair_same (way.link, is_forth way.dir) (other.link, is_forth other.dir) (sym (leads_back way.link way.dir g) ∙ (ap (of_links.link_from 0 run.links) e ∙ leads_back other.link other.dir h)) in
-      let link : way.link ≡ other.link = ap (λ (p : ℕ × Bool). p.0) both in
-      let dir : is_forth way.dir ≡ is_forth other.dir = ap (λ (p : ℕ × Bool). p.1) both in
-      same_stop way.dir other.dir dir ∙ ap (λ l. to_end other.dir (ends_of run l)) link
+  apart_at : (channel other : Channel) → channel.link < length run.links → other.link < length run.links → start_of run channel ≡ start_of run other → stop_of run channel ≡ stop_of run other
+  apart_at channel other g h e =
+      let both = pair_same (channel.link, is_forth channel.dir) (other.link, is_forth other.dir) (sym (leads_back channel.link channel.dir g) ∙ (ap (of_links.link_from 0 run.links) e ∙ leads_back other.link other.dir h)) in
+      let link : channel.link ≡ other.link = ap (λ (p : ℕ × Bool). p.0) both in
+      let dir : is_forth channel.dir ≡ is_forth other.dir = ap (λ (p : ℕ × Bool). p.1) both in
+      same_stop channel.dir other.dir dir ∙ ap (λ l. to_end other.dir (ends_of run l)) link
     where
       pair_same : (a b : ℕ × Bool) → Some a ≡ Some b → a ≡ b
       pair_same a b e = cc
 
-      same_stop : (d f : Dir) → is_forth d ≡ is_forth f → to_end d (ends_of run way.link) ≡ to_end f (ends_of run way.link)
+      same_stop : (d f : Dir) → is_forth d ≡ is_forth f → to_end d (ends_of run channel.link) ≡ to_end f (ends_of run channel.link)
       same_stop Forth Forth e = refl
       same_stop Back Back e = refl
       same_stop Forth Back e = absurd (false≢true (sym e))
@@ -131,13 +131,13 @@ module _ (run : Run) (wired : IsWired run.places run.links) (back : EndsLeadBack
 
   pub wired_network : ((k : ℕ) → k < length run.places → is_in_h_or_u (place_of run k) ≡ true) →
       ((i j : ℕ) (mac : List ℕ) → i < length run.places → j < length run.places → HasAddress (place_of run i) mac → HasAddress (place_of run j) mac → i ≡ j) →
-      ((way : Way) → way.link < length run.links → is_edge_of run (start_of run way) ≡ is_edge_of run (stop_of run way)) → IsNetwork run
+      ((channel : Channel) → channel.link < length run.links → is_edge_of run (start_of run channel) ≡ is_edge_of run (stop_of run channel)) → IsNetwork run
   wired_network modes differ sides = record {
     modes = modes;
     single = λ k mac h e. single_in (place_of run k) mac (all_at HasOwnAddress run.places wired.own k QuadBox h) (all_at HasAddresses run.places wired.stations k QuadBox h) e;
     differ = differ;
-    ends = λ way h. end_there way.link way.dir h;
+    ends = λ channel h. end_there channel.link channel.dir h;
     sides = sides;
-    faces = λ way h e s. faces_at way.link way.dir h e s;
+    faces = λ channel h e s. faces_at channel.link channel.dir h e s;
     apart = apart_at;
   }

@@ -32,11 +32,11 @@ use Rattle.hsr_run_laws.proofs.WorkedBox.{copy, first, frame, plain, plain_copy,
 use Rattle.hsr_network_laws.specs.Late.{NothingLate}
 use Rattle.hsr_network_laws.specs.Network.{IsNetwork}
 use Rattle.hsr_network_laws.specs.Stations.{FindsEach}
-use Rattle.hsr_network_laws.specs.Ways.{ComesOver, sent}
+use Rattle.hsr_network_laws.specs.Channels.{ComesOver, sent}
 use Rattle.hsr_network_laws.proofs.Late.{late_decides}
 use Rattle.hsr_network_laws.proofs.Stations.{once_to_station}
 use Rattle.hsr_network_laws.proofs.WorkedBox as box
-use Rattle.hsr_network_laws.proofs.WorkedBox.{own_notes, way_at}
+use Rattle.hsr_network_laws.proofs.WorkedBox.{own_notes, channel_at}
 
 abbrev answer : Fields
 answer = record { dst = mac 10; src = mac 1; vlan = None; kind = 0x0800; rest = 0xCC ∷ [] }
@@ -244,8 +244,8 @@ sure (suc (suc (suc k))) h = absurd (omega arith)
 
 -- ---- the answer reaches the RedBox, which knows the Station
 
-to_box : ComesOver answered second answer (way_at 0 Forth)
-to_box = sent (way_at 0 Forth) (record { below = omega arith; kept = refl }) (record { node = refl; out = refl })
+to_box : ComesOver answered second answer (channel_at 0 Forth)
+to_box = sent (channel_at 0 Forth) (record { below = omega arith; kept = refl }) (record { node = refl; out = refl })
 
 found : FindsEach answered second (mac 10) 1
 unfolding classified
@@ -256,9 +256,9 @@ pub station_once : count_by (delivers second) (record_of answered 2) ≡ 1
 station_once =
     once_to_station answered is_closed is_network numbered_first remembers sure second (record { frame = answer; seq = Some 0 }) 2 (omega arith, refl) refl (omega arith) refl refl
     (record {
-      last = way_at 2 Forth;
+      last = channel_at 2 Forth;
       carries = record { below = omega arith; kept = refl };
       here = refl;
-      comes = inr (refl, record { way = way_at 0 Forth; comes = to_box; here = refl });
+      comes = inr (refl, record { channel = channel_at 0 Forth; comes = to_box; here = refl });
       found = λ is_box. found;
     })

@@ -22,8 +22,8 @@ use Rattle.hsr_run_laws.specs.Run.{Run, owner_of, peer_in, place_of, record_of}
 use Rattle.hsr_topology.specs.declared.end.End.{End}
 use Rattle.hsr_run_laws.proofs.Worked.{entry, mac}
 use Rattle.hsr_run_laws.proofs.WorkedBox.{copy, first, frame, is_closed, numbered_first, red, remembers}
-use Rattle.hsr_network_laws.specs.Network.{HasAddress, IsNetwork, IsPortOf, Way, is_edge_of, is_in_h_or_u, is_station_of, start_of, stop_of}
-use Rattle.hsr_network_laws.specs.Ways.{ComesOver, on, sent}
+use Rattle.hsr_network_laws.specs.Network.{HasAddress, IsNetwork, IsPortOf, Channel, is_edge_of, is_in_h_or_u, is_station_of, start_of, stop_of}
+use Rattle.hsr_network_laws.specs.Channels.{ComesOver, on, sent}
 use Rattle.hsr_network_laws.proofs.Delivered.{once_in_network}
 
 -- ---- nothing mistaken
@@ -54,8 +54,8 @@ sure (suc (suc (suc k))) h = absurd (omega arith)
 
 -- ---- it is a network
 
-abbrev pub way_at : ℕ → Dir → Way
-way_at link dir = record { link = link; dir = dir }
+abbrev pub channel_at : ℕ → Dir → Channel
+channel_at link dir = record { link = link; dir = dir }
 
 modes_at : (k : ℕ) → k < 3 → is_in_h_or_u (place_of red k) ≡ true
 modes_at zero h = refl
@@ -101,7 +101,7 @@ last_once i (suc (suc (suc k))) g h e = absurd (omega arith)
 differ_at : (i j : ℕ) (address : List ℕ) → i < 3 → j < 3 → HasAddress (place_of red i) address → HasAddress (place_of red j) address → i ≡ j
 differ_at i j address g h e f = last_once i j g h (ap fifth (sym (address_at i address g e) ∙ address_at j address h f))
 
-ends_at : (link : ℕ) (dir : Dir) → link < 3 → IsPortOf red (start_of red (way_at link dir))
+ends_at : (link : ℕ) (dir : Dir) → link < 3 → IsPortOf red (start_of red (channel_at link dir))
 ends_at zero Forth h = record { node = omega arith; port = omega arith }
 ends_at zero Back h = record { node = omega arith; port = omega arith }
 ends_at (suc zero) Forth h = record { node = omega arith; port = omega arith }
@@ -110,7 +110,7 @@ ends_at (suc (suc zero)) Forth h = record { node = omega arith; port = omega ari
 ends_at (suc (suc zero)) Back h = record { node = omega arith; port = omega arith }
 ends_at (suc (suc (suc l))) dir h = absurd (omega arith)
 
-sides_at : (link : ℕ) (dir : Dir) → link < 3 → is_edge_of red (start_of red (way_at link dir)) ≡ is_edge_of red (stop_of red (way_at link dir))
+sides_at : (link : ℕ) (dir : Dir) → link < 3 → is_edge_of red (start_of red (channel_at link dir)) ≡ is_edge_of red (stop_of red (channel_at link dir))
 sides_at zero Forth h = refl
 sides_at zero Back h = refl
 sides_at (suc zero) Forth h = refl
@@ -119,8 +119,8 @@ sides_at (suc (suc zero)) Forth h = refl
 sides_at (suc (suc zero)) Back h = refl
 sides_at (suc (suc (suc l))) dir h = absurd (omega arith)
 
-faces_at : (link : ℕ) (dir : Dir) → link < 3 → is_edge_of red (start_of red (way_at link dir)) ≡ true → is_station_of red (start_of red (way_at link dir)) ≡ false →
-    is_station_of red (stop_of red (way_at link dir)) ≡ true
+faces_at : (link : ℕ) (dir : Dir) → link < 3 → is_edge_of red (start_of red (channel_at link dir)) ≡ true → is_station_of red (start_of red (channel_at link dir)) ≡ false →
+    is_station_of red (stop_of red (channel_at link dir)) ≡ true
 faces_at zero Forth h e s = absurd (false≢true e)
 faces_at zero Back h e s = absurd (false≢true e)
 faces_at (suc zero) Forth h e s = absurd (false≢true e)
@@ -130,7 +130,7 @@ faces_at (suc (suc zero)) Back h e s = absurd (false≢true (sym s))
 faces_at (suc (suc (suc l))) dir h e s = absurd (omega arith)
 
 -- the end that each is joined with
-peer_at : (link : ℕ) (dir : Dir) → link < 3 → peer_in (start_of red (way_at link dir)) red.links ≡ Some (stop_of red (way_at link dir))
+peer_at : (link : ℕ) (dir : Dir) → link < 3 → peer_in (start_of red (channel_at link dir)) red.links ≡ Some (stop_of red (channel_at link dir))
 peer_at zero Forth h = refl
 peer_at zero Back h = refl
 peer_at (suc zero) Forth h = refl
@@ -139,11 +139,11 @@ peer_at (suc (suc zero)) Forth h = refl
 peer_at (suc (suc zero)) Back h = refl
 peer_at (suc (suc (suc l))) dir h = absurd (omega arith)
 
--- ways that start at one end stop at one end
-pub apart_by : (run : Run) (n : ℕ) → ((link : ℕ) (dir : Dir) → link < n → peer_in (start_of run (way_at link dir)) run.links ≡ Some (stop_of run (way_at link dir))) → (way other : Way) → way.link < n → other.link < n → start_of run way ≡ start_of run other →
-    stop_of run way ≡ stop_of run other
-apart_by run n peer way other g h e =
-    let both : Some (stop_of run way) ≡ Some (stop_of run other) = sym (peer way.link way.dir g) ∙ (ap (λ (end : End). peer_in end run.links) e ∙ peer other.link other.dir h) in
+-- channels that start at one end stop at one end
+pub apart_by : (run : Run) (n : ℕ) → ((link : ℕ) (dir : Dir) → link < n → peer_in (start_of run (channel_at link dir)) run.links ≡ Some (stop_of run (channel_at link dir))) → (channel other : Channel) → channel.link < n → other.link < n → start_of run channel ≡ start_of run other →
+    stop_of run channel ≡ stop_of run other
+apart_by run n peer channel other g h e =
+    let both : Some (stop_of run channel) ≡ Some (stop_of run other) = sym (peer channel.link channel.dir g) ∙ (ap (λ (end : End). peer_in end run.links) e ∙ peer other.link other.dir h) in
     cc
 
 pub is_network : IsNetwork red
@@ -151,9 +151,9 @@ is_network = record {
   modes = modes_at;
   single = single_at';
   differ = differ_at;
-  ends = λ way h. ends_at way.link way.dir h;
-  sides = λ way h. sides_at way.link way.dir h;
-  faces = λ way h e s. faces_at way.link way.dir h e s;
+  ends = λ channel h. ends_at channel.link channel.dir h;
+  sides = λ channel h. sides_at channel.link channel.dir h;
+  faces = λ channel h e s. faces_at channel.link channel.dir h e s;
   apart = apart_by red 3 peer_at;
 }
   where
@@ -166,7 +166,7 @@ network_with records rows = record {
   modes = is_network.modes;
   single = is_network.single;
   differ = is_network.differ;
-  ends = λ way h. let there = is_network.ends way h in record { node = there.node; port = there.port };
+  ends = λ channel h. let there = is_network.ends channel h in record { node = there.node; port = there.port };
   sides = is_network.sides;
   faces = is_network.faces;
   apart = is_network.apart;
@@ -174,12 +174,12 @@ network_with records rows = record {
 
 -- ---- the send reaches the RedBox, and over it the DANH
 
-to_box : ComesOver red first frame (way_at 2 Back)
-to_box = sent (way_at 2 Back) (record { below = omega arith; kept = refl }) (record { node = refl; out = refl })
+to_box : ComesOver red first frame (channel_at 2 Back)
+to_box = sent (channel_at 2 Back) (record { below = omega arith; kept = refl }) (record { node = refl; out = refl })
 
-to_danh : ComesOver red first frame (way_at 0 Back)
+to_danh : ComesOver red first frame (channel_at 0 Back)
 to_danh =
-    on (way_at 2 Back) (way_at 0 Back) to_box (record { below = omega arith; kept = refl })
+    on (channel_at 2 Back) (channel_at 0 Back) to_box (record { below = omega arith; kept = refl })
     (record { node = refl; port = λ e. absurd (omega arith); passes = refl; out = refl; away = λ e. absurd (omega arith) })
 
 send_is : IsSend red first (record { frame = frame; seq = None })
@@ -188,4 +188,4 @@ send_is = (omega arith, refl)
 -- so it took it up once
 pub danh_once : count_by (delivers first) (record_of red 0) ≡ 1
 danh_once =
-    (once_in_network red is_closed is_network numbered_first remembers sure).once first (record { frame = frame; seq = None }) 0 send_is refl (omega arith) refl (record { way = way_at 0 Back; comes = to_danh; here = refl })
+    (once_in_network red is_closed is_network numbered_first remembers sure).once first (record { frame = frame; seq = None }) 0 send_is refl (omega arith) refl (record { channel = channel_at 0 Back; comes = to_danh; here = refl })

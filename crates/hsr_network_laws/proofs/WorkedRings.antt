@@ -30,9 +30,9 @@ use Rattle.hsr_run_laws.proofs.WithoutBoxes.{boxless}
 use Rattle.hsr_run_laws.proofs.Worked.{at_start, copy, entry, far, frame, group, mac, nothing_else, of_tagged, one_within, tagged_copy}
 use Rattle.hsr_run_laws.proofs.WorkedBox.{end_at}
 use Rattle.hsr_network_laws.specs.Network.{HasAddress, IsNetwork, IsPortOf, is_edge_of, is_in_h_or_u, start_of, stop_of}
-use Rattle.hsr_network_laws.specs.Ways.{ComesOver, on, sent}
+use Rattle.hsr_network_laws.specs.Channels.{ComesOver, on, sent}
 use Rattle.hsr_network_laws.proofs.Delivered.{once_in_network}
-use Rattle.hsr_network_laws.proofs.WorkedBox.{apart_by, fifth, way_at}
+use Rattle.hsr_network_laws.proofs.WorkedBox.{apart_by, fifth, channel_at}
 
 abbrev first : Probe
 first = record { node = 0; place = 0 }
@@ -167,7 +167,7 @@ differ_at i (suc zero) address g h e f = absurd f
 differ_at (suc (suc (suc k))) j address g h e f = absurd (omega arith)
 differ_at i (suc (suc (suc k))) address g h e f = absurd (omega arith)
 
-ends_at : (link : ℕ) (dir : Dir) → link < 4 → IsPortOf rings (start_of rings (way_at link dir))
+ends_at : (link : ℕ) (dir : Dir) → link < 4 → IsPortOf rings (start_of rings (channel_at link dir))
 ends_at zero Forth h = record { node = omega arith; port = omega arith }
 ends_at zero Back h = record { node = omega arith; port = omega arith }
 ends_at (suc zero) Forth h = record { node = omega arith; port = omega arith }
@@ -179,7 +179,7 @@ ends_at (suc (suc (suc zero))) Back h = record { node = omega arith; port = omeg
 ends_at (suc (suc (suc (suc l)))) dir h = absurd (omega arith)
 
 -- all ports are on rings
-no_edge_at : (link : ℕ) (dir : Dir) → link < 4 → (is_edge_of rings (start_of rings (way_at link dir)) ≡ false) × (is_edge_of rings (stop_of rings (way_at link dir)) ≡ false)
+no_edge_at : (link : ℕ) (dir : Dir) → link < 4 → (is_edge_of rings (start_of rings (channel_at link dir)) ≡ false) × (is_edge_of rings (stop_of rings (channel_at link dir)) ≡ false)
 no_edge_at zero Forth h = (refl, refl)
 no_edge_at zero Back h = (refl, refl)
 no_edge_at (suc zero) Forth h = (refl, refl)
@@ -191,7 +191,7 @@ no_edge_at (suc (suc (suc zero))) Back h = (refl, refl)
 no_edge_at (suc (suc (suc (suc l)))) dir h = absurd (omega arith)
 
 -- the end that each is joined with
-peer_at : (link : ℕ) (dir : Dir) → link < 4 → peer_in (start_of rings (way_at link dir)) rings.links ≡ Some (stop_of rings (way_at link dir))
+peer_at : (link : ℕ) (dir : Dir) → link < 4 → peer_in (start_of rings (channel_at link dir)) rings.links ≡ Some (stop_of rings (channel_at link dir))
 peer_at zero Forth h = refl
 peer_at zero Back h = refl
 peer_at (suc zero) Forth h = refl
@@ -207,23 +207,23 @@ is_network = record {
   modes = modes_at;
   single = single_at;
   differ = differ_at;
-  ends = λ way h. ends_at way.link way.dir h;
-  sides = λ way h. let two = no_edge_at way.link way.dir h in two.0 ∙ sym two.1;
-  faces = λ way h edge no_station. absurd (false≢true (sym (no_edge_at way.link way.dir h).0 ∙ edge));
+  ends = λ channel h. ends_at channel.link channel.dir h;
+  sides = λ channel h. let two = no_edge_at channel.link channel.dir h in two.0 ∙ sym two.1;
+  faces = λ channel h edge no_station. absurd (false≢true (sym (no_edge_at channel.link channel.dir h).0 ∙ edge));
   apart = apart_by rings 4 peer_at;
 }
 
 -- ---- the send reaches the DANH of the other ring
 
-to_quadbox : ComesOver rings first frame (way_at 1 Back)
-to_quadbox = sent (way_at 1 Back) (record { below = omega arith; kept = refl }) (record { node = refl; out = refl })
+to_quadbox : ComesOver rings first frame (channel_at 1 Back)
+to_quadbox = sent (channel_at 1 Back) (record { below = omega arith; kept = refl }) (record { node = refl; out = refl })
 
-to_danh : ComesOver rings first frame (way_at 2 Forth)
+to_danh : ComesOver rings first frame (channel_at 2 Forth)
 to_danh =
-    on (way_at 1 Back) (way_at 2 Forth) to_quadbox (record { below = omega arith; kept = refl })
+    on (channel_at 1 Back) (channel_at 2 Forth) to_quadbox (record { below = omega arith; kept = refl })
     (record { node = refl; port = λ e. absurd (omega arith); passes = refl; out = refl; away = λ e. absurd (omega arith) })
 
 -- so it took it up once
 pub danh_once : count_by (delivers first) (record_of rings 2) ≡ 1
 danh_once =
-    (once_in_network rings is_closed is_network numbered_first remembers sure).once first (record { frame = frame; seq = Some 0 }) 2 (omega arith, refl) refl (omega arith) refl (record { way = way_at 2 Forth; comes = to_danh; here = refl })
+    (once_in_network rings is_closed is_network numbered_first remembers sure).once first (record { frame = frame; seq = Some 0 }) 2 (omega arith, refl) refl (omega arith) refl (record { channel = channel_at 2 Forth; comes = to_danh; here = refl })

@@ -16,7 +16,7 @@ use Rattle.hsr_run_laws.specs.Once.{GoesUp, delivers}
 use Rattle.hsr_run_laws.specs.Premises.{NothingForgotten, NothingMistaken, NumberedFirst}
 use Rattle.hsr_run_laws.specs.Run.{Run, past_of, place_of, record_of}
 use Rattle.hsr_network_laws.specs.Network.{IsNetwork, is_station_with}
-use Rattle.hsr_network_laws.specs.Ways.{IsReached}
+use Rattle.hsr_network_laws.specs.Channels.{IsReached}
 
 -- a frame to a group is for each node but its sender and QuadBoxes, any other for the node with its address
 abbrev pub is_meant : ℕ → Fields → ℕ → Place → Bool

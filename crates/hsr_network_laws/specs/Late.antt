@@ -17,7 +17,7 @@ use Rattle.hsr_run_laws.specs.Premises.{NumberedFirst, is_note_of}
 use Rattle.hsr_run_laws.specs.Run.{Run, owner_of, past_of}
 use Rattle.hsr_network_laws.specs.Network.{IsNetwork}
 
--- a send was noted at some way out
+-- a send was noted at some egress
 abbrev pub was_noted : Owner → Option Probe → List Entry → Bool
 was_noted owner send past = list_any (λ e. list_any (is_note_of send) (notes owner e past)) (up ∷ a ∷ b ∷ c ∷ d ∷ [])
 

@@ -1,5 +1,5 @@
 pub mod Network
-pub mod Ways
+pub mod Channels
 pub mod Late
 pub mod Delivered
 pub mod Lives

@@ -1,7 +1,7 @@
 -- The nodes and links of a network.
 --     HasAddress   an address of a node's own
 --     is_edge      a port at which frames carry no tag
---     Way          a direction of a link
+--     Channel      a direction of a link
 --     IsNetwork    a network
 use Rattle.std.specs.Prelude.{ℕ, ◌<◌, ◌≡◌, ◌==◌, Bool, true, false, List, length, slice_get, Some}
 use Rattle.hsr_frame.specs.Address.{is_among, is_group}
@@ -72,15 +72,15 @@ pub record IsPortOf (run : Run) (end : End) : Type 0 where
 -- ---- links
 
 -- a direction of a link
-pub record Way : Type 0 where
+pub record Channel : Type 0 where
   pub link : ℕ
   pub dir : Dir
 
-abbrev pub start_of : Run → Way → End
-start_of run way = from_end way.dir (ends_of run way.link)
+abbrev pub start_of : Run → Channel → End
+start_of run channel = from_end channel.dir (ends_of run channel.link)
 
-abbrev pub stop_of : Run → Way → End
-stop_of run way = to_end way.dir (ends_of run way.link)
+abbrev pub stop_of : Run → Channel → End
+stop_of run channel = to_end channel.dir (ends_of run channel.link)
 
 -- The nodes are DANHs and RedBoxes in mode H or U, QuadBoxes and Stations, with addresses of their own, none a group's. A link
 -- ends at ports that are there, both on rings, or both edges, one of them a Station's. No port is in two links.
@@ -88,7 +88,7 @@ pub record IsNetwork (run : Run) : Type 0 where
   pub modes : (k : ℕ) → k < length run.places → is_in_h_or_u (place_of run k) ≡ true
   pub single : (k : ℕ) (mac : List ℕ) → k < length run.places → HasAddress (place_of run k) mac → is_group mac ≡ false
   pub differ : (i j : ℕ) (mac : List ℕ) → i < length run.places → j < length run.places → HasAddress (place_of run i) mac → HasAddress (place_of run j) mac → i ≡ j
-  pub ends : (way : Way) → way.link < length run.links → IsPortOf run (start_of run way)
-  pub sides : (way : Way) → way.link < length run.links → is_edge_of run (start_of run way) ≡ is_edge_of run (stop_of run way)
-  pub faces : (way : Way) → way.link < length run.links → is_edge_of run (start_of run way) ≡ true → is_station_of run (start_of run way) ≡ false → is_station_of run (stop_of run way) ≡ true
-  pub apart : (way other : Way) → way.link < length run.links → other.link < length run.links → start_of run way ≡ start_of run other → stop_of run way ≡ stop_of run other
+  pub ends : (channel : Channel) → channel.link < length run.links → IsPortOf run (start_of run channel)
+  pub sides : (channel : Channel) → channel.link < length run.links → is_edge_of run (start_of run channel) ≡ is_edge_of run (stop_of run channel)
+  pub faces : (channel : Channel) → channel.link < length run.links → is_edge_of run (start_of run channel) ≡ true → is_station_of run (start_of run channel) ≡ false → is_station_of run (stop_of run channel) ≡ true
+  pub apart : (channel other : Channel) → channel.link < length run.links → other.link < length run.links → start_of run channel ≡ start_of run other → stop_of run channel ≡ stop_of run other

@@ -14,8 +14,8 @@ use Rattle.hsr_run_laws.specs.Once.{delivers}
 use Rattle.hsr_run_laws.specs.Premises.{NothingForgotten, NothingMistaken, NumberedFirst, is_redbox}
 use Rattle.hsr_run_laws.specs.Run.{Run, is_of, owner_of, past_of, place_of, record_of}
 use Rattle.hsr_network_laws.specs.Delivered.{is_meant}
-use Rattle.hsr_network_laws.specs.Network.{IsNetwork, Way, is_station, start_of, stop_of}
-use Rattle.hsr_network_laws.specs.Ways.{Carries, IsReached}
+use Rattle.hsr_network_laws.specs.Network.{IsNetwork, Channel, is_station, start_of, stop_of}
+use Rattle.hsr_network_laws.specs.Channels.{Carries, IsReached}
 
 -- if an entry handles a send, its destination is known then
 abbrev pub finds : Owner → Probe → List ℕ → Entry → List Entry → Bool
@@ -24,10 +24,10 @@ finds owner send dst x past = not (is_of send (probe_handled (record { node = ow
 abbrev pub FindsEach : Run → Probe → List ℕ → ℕ → Type 0
 FindsEach run send dst k = Each (λ x past. finds (owner_of run k) send dst x past ≡ true) (past_of run k)
 
--- The last way ends at the Station. It starts at the sender, or at a RedBox that the send reaches; and a RedBox there knew the
--- destination each time.
+-- The last channel ends at the Station. It starts at the sender, or at a RedBox that the send reaches; and a RedBox there
+-- knew the destination each time.
 pub record IsReachedBelow (run : Run) (send : Probe) (frame : Fields) (k : ℕ) : Type 0 where
-  pub last : Way
+  pub last : Channel
   pub carries : Carries run send last
   pub here : (stop_of run last).node ≡ k
   pub comes : ((start_of run last).node ≡ send.node) ⊎ ((is_redbox (place_of run (start_of run last).node) ≡ true) × IsReached run send frame (start_of run last).node)

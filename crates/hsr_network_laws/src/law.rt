@@ -8,7 +8,7 @@ ghost use Rattle.hsr_network_laws.specs.Stations.{OnceToStation};
 
 /// In a closed run of a network of DANHs and RedBoxes in modes H and U, QuadBoxes and Stations, with nothing forgotten that was
 /// needed and nothing mistaken, and where each RedBox numbers a frame of its Station once and before it hears of it, each
-/// node that a frame is for took it up just once if some way to it lost no copy of the frame, and nothing else went up
+/// node that a frame is for took it up just once if some channel to it lost no copy of the frame, and nothing else went up
 /// (IEC 62439-3 clause 5.3). A frame to a Station's own address is promised to come to nobody else, and not twice: whether it
 /// comes depends on what the RedBox of the Station has heard.
 pub fn once_in_network()
@@ -16,14 +16,14 @@ pub fn once_in_network()
 {}
 
 /// In a closed run of a network, with nothing forgotten that was needed and nothing mistaken, and where each RedBox numbers a
-/// frame of its Station once and before it hears of it, a Station took a single frame to it up just once if some way lost no
+/// frame of its Station once and before it hears of it, a Station took a single frame to it up just once if some channel lost no
 /// copy of it to the node that the Station is joined with, and from there on, and if that node, where it is a RedBox, knew the
 /// address each time that it handled the frame.
 pub fn once_to_station()
     ensures { OnceToStation }
 {}
 
-/// A set of ways, to whose ends a send comes, that holds the ways from its sender and is closed under going on, leads to
+/// A set of channels, to whose ends a send comes, that holds the channels from its sender and is closed under going on, leads to
 /// just the nodes that the send reaches.
 pub fn search_decides()
     ensures { SearchDecides }

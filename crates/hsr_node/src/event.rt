@@ -28,6 +28,7 @@ pub enum Event {
         from: u8,
         dst: Mac,
         vlan: Option<u16>,
+        /// The EtherType.
         kind: u16,
         payload: Octets,
     },

@@ -1,5 +1,6 @@
 //! A node with the record of all that happened to it.
-ghost use Rattle.std.specs.Prelude.{◌≡◌, ◌⊎◌, ◌≤◌, ◌^◌, [], ◌∷◌, ◌++◌, length, reverse, Ok, Err, IfErr, IfOk, MatchResult};
+ghost use Rattle.std.specs.Prelude.{◌≡◌, ◌⊎◌, ◌^◌, [], ◌∷◌, ◌++◌, length, reverse, Ok, Err, IfErr, IfOk, MatchResult};
+ghost use Rattle.hsr_duptable.specs.Table.{IsTableSize};
 ghost use Rattle.hsr_node.specs.declared.event.StepFault.TheVariants.{NoMemory as NoRoom};
 ghost use Rattle.hsr_frame.specs.Counters.{AreWithin};
 
@@ -49,7 +50,7 @@ impl<const C: usize> Kept<C> {
     /// `NoMemory` if allocation fails.
     pub fn new(alloc: Global, number: usize, place: Place) -> Result<Kept<C>, NoMemory>
         requires station { HasOwnAddress place }
-        requires entries { (1 ≤ C) × (C ≤ 65535) }
+        requires entries { IsTableSize C }
         ensures { IfOk result (λ kept. kept
             ≡ record { number = number; place = place; entries = [] }) }
     {

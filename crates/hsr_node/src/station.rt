@@ -58,16 +58,16 @@ impl Station {
         at: u64,
         from: u8,
         dst: Mac,
-        kind: u16,
+        ethertype: u16,
         len: usize,
     ) -> Result<Outcome, StepFault>
-        ensures { (result, self.new) ≡ after_send self.old at from dst kind len }
+        ensures { (result, self.new) ≡ after_send self.old at from dst ethertype len }
     {
         // An event that doesn't fit comes before all other reasons (RULES, Stations, and what leaves by a port).
         let Some(src) = self.macs.as_slice().get(usize::from(from)) else {
             return Err(StepFault::WrongEvent);
         };
-        if let Some(fault) = send_fault(*src, self.accepted, dst, kind, len) {
+        if let Some(fault) = send_fault(*src, self.accepted, dst, ethertype, len) {
             return Err(StepFault::Send(fault));
         }
         self.counters.sent += 1;
@@ -119,9 +119,9 @@ impl Station {
                 from,
                 dst,
                 vlan: _,
-                kind,
+                kind: ethertype,
                 payload,
-            } => self.send(at, *from, *dst, *kind, payload.as_slice().len()),
+            } => self.send(at, *from, *dst, *ethertype, payload.as_slice().len()),
             Event::Supervise(_) => Err(StepFault::WrongEvent),
             Event::Arrive { port, carried } => {
                 if *port == 0 {

@@ -14,4 +14,4 @@ mod refusals;
 mod telling;
 mod wiring;
 
-pub use telling::told;
+pub use telling::plan_fault_line;

@@ -36,7 +36,7 @@ fn in_table(source: Source<'_>, table: Key) -> Option<Misplaced> {
     None
 }
 
-/// The key of the top that a stream or an event has, at a place.
+/// The key of the top that a stream or an event has, at an offset.
 fn in_list(spot: Spot, word: &[u8], at: usize) -> Option<Misplaced> {
     match spot {
         Spot::Top => None,
@@ -47,7 +47,7 @@ fn in_list(spot: Spot, word: &[u8], at: usize) -> Option<Misplaced> {
     }
 }
 
-/// The key of the top that a fault at a place is about, and that stands below a header: a word that a stream or an
+/// The key of the top that a fault at an offset is about, and that stands below a header: a word that a stream or an
 /// event doesn't have, or what is no ring, no stations, no address and no mode.
 pub(crate) fn out_of_place(source: Source<'_>, fault: &PlanFault, at: usize) -> Option<Misplaced> {
     match &fault.what {

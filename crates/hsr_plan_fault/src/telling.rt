@@ -37,7 +37,7 @@ fn start_of(source: Source<'_>, spot: Spot) -> usize {
     }
 }
 
-/// Where a key of the table stands that begins at a place.
+/// Where a key of the table stands that begins at an offset.
 fn key_of(source: Source<'_>, spot: Spot, start: usize, word: &[u8]) -> Option<usize> {
     match spot {
         Spot::Top => top_key(source, word),
@@ -56,7 +56,7 @@ fn unknown_node(source: Source<'_>, name: &[u8]) -> Option<usize> {
     }
 }
 
-/// Where a name stands in the value of one of these keys of the table that begins at a place.
+/// Where a name stands in the value of one of these keys of the table that begins at an offset.
 fn name_of(source: Source<'_>, keys: &[Key], name: &[u8], start: usize) -> Option<usize> {
     for key in keys.iter() {
         if let Some(at) = name_in(source, key.text().as_bytes(), name, start) {
@@ -123,7 +123,7 @@ fn bad_name_at(
     }
 }
 
-/// Where the word of a fault stands, in its table that begins at a place.
+/// Where the word of a fault stands, in its table that begins at an offset.
 fn word_in(source: Source<'_>, spot: Spot, start: usize, what: &What) -> Option<usize> {
     match what {
         What::Unknown(word) => key_of(source, spot, start, word.as_bytes()),
@@ -137,7 +137,7 @@ fn word_in(source: Source<'_>, spot: Spot, start: usize, what: &What) -> Option<
 }
 
 /// Where the word of a fault stands, or else its table.
-fn place_of(source: Source<'_>, fault: &PlanFault) -> usize {
+fn offset_of(source: Source<'_>, fault: &PlanFault) -> usize {
     // Searched for in the text again: the reading proves which fault is first, and doesn't keep where its word stands.
     let start = start_of(source, fault.spot);
     match word_in(source, fault.spot, start, &fault.what) {
@@ -270,12 +270,12 @@ fn put_fault(
         text: text.as_bytes(),
         bare: bare.as_slice(),
     };
-    let place = place_of(source, fault);
+    let offset = offset_of(source, fault);
     // A key that belongs at the top says more than the fault of the table into which it fell.
-    if let Some(found) = out_of_place(source, fault, place) {
+    if let Some(found) = out_of_place(source, fault, offset) {
         return put_misplaced(line, source.text, found);
     }
-    put_place(line, source.text, place)?;
+    put_place(line, source.text, offset)?;
     put_what(line, fault.spot, &fault.what)
 }
 
@@ -301,7 +301,7 @@ fn put_topology(alloc: Global, line: &mut Vec<u8>, text: &str) -> Result<(), NoM
 /// feed. Line and column are those of the word that the fault is about, in its own table, outside of comments and of
 /// other strings; of a missing word, those of its table; and of a text that is no TOML those at which that shows.
 /// `NoMemory` if allocation fails.
-pub fn told(alloc: Global, text: &str, fault: &PlanFault) -> Result<Vec<u8>, NoMemory>
+pub fn plan_fault_line(alloc: Global, text: &str, fault: &PlanFault) -> Result<Vec<u8>, NoMemory>
     ensures { IfOk result (λ v. IsLine v.items) }
 {
     let mut words = Vec::new(alloc);

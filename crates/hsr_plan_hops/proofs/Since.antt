@@ -94,7 +94,7 @@ module _ (us : ℕ) (links : List (List End)) (s : Stage) (more : List Order) (a
   pub in_time_behind : (step : steps.Step) → is_on_time us s.moment (next_copy s) step ≡ true → is_first s.moment s.begun step ≡ true → IsInTime us (behind links s step more after)
   in_time_behind (Clock at) on_time first = none_more (at - us) at (on_way s.world s.flights)
       (at_moment us s.moment at (earliest us s.moment s.begun) (on_way s.world s.flights) wait (le_of_lt (ltb-true s.moment at first)) on_time)
-  in_time_behind (Send n from dst vlan kind payload) on_time first = telling on_time
+  in_time_behind (Send n from dst vlan ethertype payload) on_time first = telling on_time
   in_time_behind (Supervise n about) on_time first = telling on_time
   in_time_behind (Age n) on_time first = telling on_time
   in_time_behind (Put n port) on_time first =

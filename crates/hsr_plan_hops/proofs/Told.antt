@@ -42,7 +42,7 @@ unknown_first : (capacity : ℕ) (w : World) (step : steps.Step) (told more : Li
 unknown_first capacity w (Supervise n (Proxied mac)) told more does unknown = does
 unknown_first capacity w (Supervise n Own) told more does unknown = absurd unknown
 unknown_first capacity w (Clock at) told more does unknown = absurd unknown
-unknown_first capacity w (Send n from dst vlan kind payload) told more does unknown = absurd unknown
+unknown_first capacity w (Send n from dst vlan ethertype payload) told more does unknown = absurd unknown
 unknown_first capacity w (Age n) told more does unknown = absurd unknown
 unknown_first capacity w (Put n port) told more does unknown = absurd unknown
 unknown_first capacity w (Take l dir) told more does unknown = absurd unknown

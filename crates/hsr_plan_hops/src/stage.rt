@@ -42,7 +42,7 @@ impl<'a, const C: usize> Stage<'a, C> {
     }
 
     /// What is told from here on.
-    pub(crate) fn tell(&mut self, more: &'a [Order])
+    pub(crate) fn set_told(&mut self, more: &'a [Order])
         ensures { self.new ≡ telling self.old more.now }
     {
         self.told = more;

@@ -122,7 +122,7 @@ pub(crate) fn obeys<'a, const C: usize>(
     match tries(told, us, step, more, weaving)? {
         None => Ok(()),
         Some(fault) if is_unknown(step, fault) => {
-            weaving.stage.tell(more);
+            weaving.stage.set_told(more);
             Ok(())
         }
         Some(_) => Err(Unmoved::Differs),

@@ -36,7 +36,7 @@ from_one least xs from = record { above = above; rise = rise }
 
 behind : (now : ℕ) (o : Order) → now ≤ moment_behind now o
 behind now (order.Step (Clock at)) = omega arith
-behind now (order.Step (Send k from dst vlan kind payload)) = omega arith
+behind now (order.Step (Send k from dst vlan ethertype payload)) = omega arith
 behind now (order.Step (Supervise k about)) = omega arith
 behind now (order.Step (Age k)) = omega arith
 behind now (order.Step (Put k port)) = omega arith

@@ -6,7 +6,7 @@ use Rattle.hsr_scenario.specs.declared.steps.Order.TheVariants.{Step}
 
 -- an order sends a frame, or a supervision frame
 abbrev pub is_sending : Order → Bool
-is_sending (Step (Send k from dst vlan kind payload)) = true
+is_sending (Step (Send k from dst vlan ethertype payload)) = true
 is_sending (Step (Supervise k about)) = true
 is_sending order = false
 

@@ -17,7 +17,7 @@ use hsr_finished_run::{CheckFault, Disagree};
 use hsr_frame::NoMemory;
 use hsr_ring::{Unfinished, finished};
 use hsr_scenario::{Scenario, TEXT_LIMIT, What, read};
-use hsr_scenario_fault::{told, told_step, words_of_check, words_of_step};
+use hsr_scenario_fault::{scenario_fault_line, told_step, words_of_check, words_of_step};
 use hsr_text::{InputFault, put_decimal, read_text};
 use hsr_world_steps::{DrainFault, WorldFault};
 use std::alloc::Global;
@@ -88,7 +88,7 @@ fn judged(alloc: Global, octets: &[u8]) -> Result<(), Wrong>
             if matches!(fault.what, What::NoMemory) {
                 Err(Wrong::Told(Err(NoMemory)))
             } else {
-                Err(Wrong::Told(told(alloc, text, &fault)))
+                Err(Wrong::Told(scenario_fault_line(alloc, text, &fault)))
             }
         }
     }

@@ -325,13 +325,14 @@ fn put_from(text: &mut Vec<u8>, from: u8) -> Result<(), NoMemory>
 
 /// Puts to whom what is sent last.
 #[tactic(auto, unfolding(crate::specs::Spelled::frame_text))]
-fn put_frame(text: &mut Vec<u8>, dst: Mac, kind: u16, payload: &[u8]) -> Result<(), NoMemory>
-    ensures { OnOk result (text.new.items ≡ text.old.items ++ frame_text dst kind payload.now) }
+fn put_frame(text: &mut Vec<u8>, dst: Mac, ethertype: u16, payload: &[u8]) -> Result<(), NoMemory>
+    ensures { OnOk result (text.new.items
+        ≡ text.old.items ++ frame_text dst ethertype payload.now) }
 {
     put(text, ", to=")?;
     put_mac(text, dst)?;
     put(text, ", type=0x")?;
-    put_pair(text, kind)?;
+    put_pair(text, ethertype)?;
     put_octets_at(text, "payload", payload)
 }
 
@@ -382,12 +383,12 @@ fn put_step(text: &mut Vec<u8>, nodes: &[Node], step: &Step) -> Result<(), NoMem
             from,
             dst,
             vlan,
-            kind,
+            kind: ethertype,
             payload,
         } => {
             put_at_node(text, "send", nodes, *node)?;
             put_from(text, *from)?;
-            put_frame(text, *dst, *kind, payload.as_slice())?;
+            put_frame(text, *dst, *ethertype, payload.as_slice())?;
             put_vlan(text, *vlan)
         }
         Step::Supervise { node, about } => {

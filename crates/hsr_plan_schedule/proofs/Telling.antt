@@ -3,7 +3,7 @@ use Rattle.std.proofs.Common.{◌≡◌, ℕ, ◌+◌, ◌<◌, ◌∙◌, ◌++
 use Rattle.std.proofs.lemmas.List.{drop_more}
 use Rattle.hsr_topology.specs.declared.end.End.{End}
 use Rattle.hsr_scenario.specs.declared.steps.Order.{Order}
-use Rattle.hsr_plan_schedule.specs.Orders.{Told, change, changes, downs, flag, is_down, speak, speak_of, tell, tell_all}
+use Rattle.hsr_plan_schedule.specs.Orders.{Told, change, changes, downs, flag, is_down, speak, speak_of, tell_occasion, tell_all}
 use Rattle.hsr_plan_schedule.specs.Setting.{Setting}
 use Rattle.hsr_plan_schedule.specs.declared.occasion.Occasion.{Occasion}
 
@@ -20,7 +20,7 @@ changes_step seen after before i d h =
     ∙ sym (append_assoc seen (change (get_or before i d) (flag after i) i) (changes after (i + 1) (drop (i + 1) before)))
 
 pub tell_step : (g : Setting) (told : Told) (os : List Occasion) (i : ℕ) (d : Occasion) → i < length os
-    → tell_all g told (drop i os) ≡ tell_all g (tell g (get_or os i d) told) (drop (i + 1) os)
+    → tell_all g told (drop i os) ≡ tell_all g (tell_occasion g (get_or os i d) told) (drop (i + 1) os)
 tell_step g told os i d h = ap (tell_all g told) (drop_more os i d h)
 
 pub speak_step : (g : Setting) (k : ℕ) (told : Told) (macs : List (List ℕ)) (i : ℕ) (d : List ℕ) → i < length macs

@@ -155,12 +155,12 @@ happens g (happening.On k) told = changed g.links (slice_set told.off k false) t
 happens g (happening.Life k) told = if flag told.off k then told else live g k told
 happens g (happening.Send sent) told = if flag told.off sent.sender.node then told else send_if g (slice_get g.streams sent.stream) sent told
 
-abbrev pub tell : Setting → Occasion → Told → Told
-tell g o told = happens g o.what (clocked o.at told)
+abbrev pub tell_occasion : Setting → Occasion → Told → Told
+tell_occasion g o told = happens g o.what (clocked o.at told)
 
 abbrev pub tell_all : Setting → Told → List Occasion → Told
 tell_all g told [] = told
-tell_all g told (o ∷ os) = tell_all g (tell g o told) os
+tell_all g told (o ∷ os) = tell_all g (tell_occasion g o told) os
 
 -- nothing told, at the moment 0
 abbrev pub start : Setting → Told

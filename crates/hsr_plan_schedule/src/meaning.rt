@@ -78,7 +78,7 @@ fn all_listed(alloc: Global, plan: &Plan) -> Result<Listed, PlanFault>
 }
 
 /// The orders that tell occasions of a plan.
-fn told(
+fn orders_of_plan(
     alloc: Global,
     plan: &Plan,
     wired: &Wired,
@@ -104,7 +104,7 @@ fn told_in_order(alloc: Global, plan: &Plan, listed: Listed) -> Result<Meaning, 
     // Listed and in order are two functions, so that each owns one list that it may have to drop.
     let mut occasions = listed.occasions;
     sort(&mut occasions)?;
-    let orders = told(alloc, plan, &wired, occasions.as_slice())?;
+    let orders = orders_of_plan(alloc, plan, &wired, occasions.as_slice())?;
     Ok(Meaning {
         nodes: wired.nodes,
         topology: wired.topology,

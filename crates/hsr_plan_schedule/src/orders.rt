@@ -1,6 +1,6 @@
 //! The orders of a scenario that tell what happens in a plan.
 ghost use Rattle.std.specs.Prelude.{◌≡◌, ◌++◌, slice_get, slice_set, IfOk, OnOk};
-ghost use Rattle.hsr_plan_schedule.specs.Orders.{change, changed, changes, clocked, comes, downs, drain, drained, ends_off, flag, happens, hear, hear_on, is_down, is_to_speak, live, name_if, named_send, orders_of, send_if, sending, speak, speak_of, start, tell, tell_all, type_of};
+ghost use Rattle.hsr_plan_schedule.specs.Orders.{change, changed, changes, clocked, comes, downs, drain, drained, ends_off, flag, happens, hear, hear_on, is_down, is_to_speak, live, name_if, named_send, orders_of, send_if, sending, speak, speak_of, start, tell_occasion, tell_all, type_of};
 
 use crate::hearing::{Heard, interlink_to, macs_behind};
 use crate::occasion::{Happening, Occasion, Sender, Sent};
@@ -413,13 +413,13 @@ impl Told {
     }
 
     /// Tells an occasion.
-    fn tell(
+    fn tell_occasion(
         &mut self,
         alloc: Global,
         setting: &Setting<'_>,
         occasion: Occasion,
     ) -> Result<(), NoMemory>
-        ensures { OnOk result (self.new ≡ tell setting.now occasion self.old) }
+        ensures { OnOk result (self.new ≡ tell_occasion setting.now occasion self.old) }
     {
         self.clock(occasion.at)?;
         self.happen(alloc, setting, occasion.what)
@@ -437,7 +437,7 @@ fn tell_all(
     ensures { OnOk result (told.new ≡ tell_all setting.now told.old occasions.now) }
 {
     for occasion in occasions.iter() {
-        told.tell(alloc, setting, *occasion)?;
+        told.tell_occasion(alloc, setting, *occasion)?;
     }
     Ok(())
 }

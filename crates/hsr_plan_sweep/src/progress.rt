@@ -1,8 +1,9 @@
 //! How far a sweep is, as a terminal shows it.
 ghost use Rattle.std.specs.Prelude.{◌≡◌, false};
 
+use hsr_frame::NoMemory;
 use hsr_text::put_decimal;
-use std::alloc::{AllocError, Global};
+use std::alloc::Global;
 use std::io::Write;
 
 /// How many runs there are, and whether that is shown.
@@ -13,7 +14,7 @@ pub(crate) struct Progress {
 }
 
 /// A line that replaces the one before, with how many runs are done.
-fn line(alloc: Global, done: usize, runs: usize) -> Result<Vec<u8>, AllocError> {
+fn line(alloc: Global, done: usize, runs: usize) -> Result<Vec<u8>, NoMemory> {
     let mut line = Vec::new(alloc);
     line.extend_from_slice(b"\rsweep: run ")?;
     put_decimal(&mut line, done as u64)?;

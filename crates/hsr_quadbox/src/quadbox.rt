@@ -1,6 +1,7 @@
 //! A node with two ports in each of two rings.
-ghost use Rattle.std.specs.Prelude.{◌≡◌, ◌≤◌, ◌^◌, IfOk};
+ghost use Rattle.std.specs.Prelude.{◌≡◌, ◌^◌, IfOk};
 ghost use Rattle.hsr_frame.specs.Counters.{step_limit};
+ghost use Rattle.hsr_duptable.specs.Table.{IsTableSize};
 ghost use Rattle.hsr_quadbox.specs.Step.{verdict_of};
 
 use crate::wanted::{QuadPort, arrival_wants};
@@ -50,7 +51,7 @@ impl<const C: usize> QuadBox<C> {
 
     /// A QuadBox to which nothing came yet; `NoMemory` if allocation fails.
     pub fn new(alloc: Global) -> Result<Self, NoMemory>
-        requires { (1 ≤ C) × (C ≤ 65535) }
+        requires { IsTableSize C }
         ensures { IfOk result (λ quad. quad ≡ new_machine) }
     {
         // Nothing goes up: a QuadBox has no address, and takes no frame for itself.

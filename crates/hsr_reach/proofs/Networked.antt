@@ -9,7 +9,7 @@ use Rattle.hsr_node.specs.declared.place.Place.TheVariants.{Danh, RedBox, QuadBo
 use Rattle.hsr_topology.specs.declared.end.End.{End}
 use Rattle.hsr_topology.specs.Wired.{EndsLeadBack, IsWired}
 use Rattle.hsr_run_laws.specs.Run.{Run, ends_of, from_end, place_of, to_end}
-use Rattle.hsr_network_laws.specs.Network.{IsNetwork, Way, is_edge_of, is_in_h_or_u, start_of, stop_of}
+use Rattle.hsr_network_laws.specs.Network.{IsNetwork, Channel, is_edge_of, is_in_h_or_u, start_of, stop_of}
 use Rattle.hsr_network_laws.proofs.Wired.{wired_network}
 use Rattle.hsr_reach.specs.Addressed.{AreLike, IsUnlikeAt, LikeBelow}
 use Rattle.hsr_reach.specs.Networks.{AreGoingRound, HasLikeEnds, HaveOwnAddresses, IsFirstUnlike}
@@ -54,5 +54,5 @@ network_is run wired back modes own like = wired_network run wired back modes ow
     sides_at l Forth below = like l [] below
     sides_at l Back below = sym (like l [] below)
 
-    sides : (way : Way) → way.link < length run.links → is_edge_of run (start_of run way) ≡ is_edge_of run (stop_of run way)
-    sides way below = sides_at way.link way.dir below
+    sides : (channel : Channel) → channel.link < length run.links → is_edge_of run (start_of run channel) ≡ is_edge_of run (stop_of run channel)
+    sides channel below = sides_at channel.link channel.dir below

@@ -1,4 +1,4 @@
--- A search goes on, way by way.
+-- A search goes on, channel by channel.
 use Rattle.std.proofs.Common.{◌≡◌, ◌⊎◌, inl, inr, ℕ, ◌+◌, ◌*◌, ◌/◌, ◌%◌, ◌<◌, ◌≤◌, ◌==◌, ◌&&◌, not, Bool, true, false, if◌then◌else◌, List, [], ◌∷◌, length, slice_index_or, Option, Some, None, refl, sym, ap, ◌∙◌, subst, arith, zero, suc, ⊎_elim, eq-eqb, eqb-true}
 use Rattle.std.proofs.lemmas.Bool.{cases_Bool, cases_lt, false≢true}
 use Rattle.hsr_frame.specs.Grammar.{Fields}
@@ -6,42 +6,42 @@ use Rattle.hsr_node.specs.declared.event.Probe.{Probe}
 use Rattle.hsr_link.specs.declared.row.Dir.{Dir}
 use Rattle.hsr_link.specs.declared.row.Dir.TheVariants.{Forth, Back}
 use Rattle.hsr_run_laws.specs.Run.{Run}
-use Rattle.hsr_network_laws.specs.Network.{Way, start_of, stop_of}
+use Rattle.hsr_network_laws.specs.Network.{Channel, start_of, stop_of}
 use Rattle.hsr_network_laws.specs.Search.{IsSearched}
-use Rattle.hsr_network_laws.specs.Ways.{Carries, ComesOver, IsFirstWay, IsNextWay, on, sent}
+use Rattle.hsr_network_laws.specs.Channels.{Carries, ComesOver, IsFirstChannel, IsNextChannel, on, sent}
 use Rattle.hsr_bitset.specs.Numbers.{has}
-use Rattle.hsr_reach.specs.Numbered.{dir_at, dir_number, is_found, number_of, way_at}
+use Rattle.hsr_reach.specs.Numbered.{dir_at, dir_number, is_found, number_of, channel_at}
 use Rattle.hsr_reach.specs.Spread.{Follows, Grows, IsAdded, IsAsBefore, IsFront, IsPut, IsSpread, IsTakenOut, OnlyFollows, left_below, left_over, next_node, weight}
-use Rattle.hsr_reach.specs.Started.{ways_from}
+use Rattle.hsr_reach.specs.Started.{channels_from}
 use Rattle.hsr_reach.proofs.Started.{stands}
 
 -- ---- numbers
 
-pub numbered : (way : Way) → way_at (number_of way) ≡ way
-numbered way = by_dir way.dir
+pub numbered : (channel : Channel) → channel_at (number_of channel) ≡ channel
+numbered channel = by_dir channel.dir
   where
-    by_dir : (dir : Dir) → way_at (2 * way.link + dir_number dir) ≡ record { link = way.link; dir = dir }
+    by_dir : (dir : Dir) → channel_at (2 * channel.link + dir_number dir) ≡ record { link = channel.link; dir = dir }
     by_dir Forth =
-        let link : (2 * way.link + 0) / 2 ≡ way.link = omega arith in
-        let rest : (2 * way.link + 0) % 2 ≡ 0 = omega arith in
-        let even = eq-eqb ((2 * way.link + 0) % 2) 0 rest in
+        let link : (2 * channel.link + 0) / 2 ≡ channel.link = omega arith in
+        let rest : (2 * channel.link + 0) % 2 ≡ 0 = omega arith in
+        let even = eq-eqb ((2 * channel.link + 0) % 2) 0 rest in
         λ i. record { link = link i; dir = (λ (b : Bool). if b then Forth else Back) (even i) }
     by_dir Back =
-        let link : (2 * way.link + 1) / 2 ≡ way.link = omega arith in
-        let odd : ((2 * way.link + 1) % 2 == 0) ≡ false = grind arith in
+        let link : (2 * channel.link + 1) / 2 ≡ channel.link = omega arith in
+        let odd : ((2 * channel.link + 1) % 2 == 0) ≡ false = grind arith in
         λ i. record { link = link i; dir = (λ (b : Bool). if b then Forth else Back) (odd i) }
 
-pub number_back : (n : ℕ) → number_of (way_at n) ≡ n
+pub number_back : (n : ℕ) → number_of (channel_at n) ≡ n
 number_back n = by_rest (n % 2 == 0) refl
   where
     by_rest : (b : Bool) → (n % 2 == 0) ≡ b → 2 * (n / 2) + dir_number (if b then Forth else Back) ≡ n
     by_rest true is = let even = eqb-true (n % 2) 0 is in omega (arith, even)
     by_rest false is = let odd : n % 2 ≡ 1 = grind (arith, is) in omega (arith, odd)
 
-pub few : (links : ℕ) (way : Way) → way.link < links → number_of way < 2 * links
-few links way below = by_dir way.dir
+pub few : (links : ℕ) (channel : Channel) → channel.link < links → number_of channel < 2 * links
+few links channel below = by_dir channel.dir
   where
-    by_dir : (dir : Dir) → 2 * way.link + dir_number dir < 2 * links
+    by_dir : (dir : Dir) → 2 * channel.link + dir_number dir < 2 * links
     by_dir Forth = omega (arith, below)
     by_dir Back = omega (arith, below)
 
@@ -89,18 +89,18 @@ module _ (run : Run) where
       let same = eq-eqb number number refl in
       put.now_found number below ∙ ap (λ b. if b then true else has f number) same
 
--- ---- the ways that follow one
+-- ---- the channels that follow one
 
-pub record IsSpreadBelow (run : Run) (send : Probe) (frame : Fields) (from : Option Way) (ways : List Way) (j : ℕ) (f w f1 w1 : List ℕ) : Type 0 where
+pub record IsSpreadBelow (run : Run) (send : Probe) (frame : Fields) (from : Option Channel) (channels : List Channel) (j : ℕ) (f w f1 w1 : List ℕ) : Type 0 where
   pub grows : Grows run f w f1 w1
   pub only : OnlyFollows run send frame from f f1
-  pub all : (i : ℕ) (d : Way) → i < j → Carries run send (slice_index_or ways i d) → Follows run send frame from (slice_index_or ways i d) → has f1 (number_of (slice_index_or ways i d)) ≡ true
+  pub all : (i : ℕ) (d : Channel) → i < j → Carries run send (slice_index_or channels i d) → Follows run send frame from (slice_index_or channels i d) → has f1 (number_of (slice_index_or channels i d)) ≡ true
 
-module _ (run : Run) (send : Probe) (frame : Fields) (from : Option Way) where
-  pub spread_start : (ways : List Way) (f w : List ℕ) → IsSpreadBelow run send frame from ways 0 f w f w
-  spread_start ways f w = record {
+module _ (run : Run) (send : Probe) (frame : Fields) (from : Option Channel) where
+  pub spread_start : (channels : List Channel) (f w : List ℕ) → IsSpreadBelow run send frame from channels 0 f w f w
+  spread_start channels f w = record {
     grows = grows_not run f w;
-    only = λ way below missing is. absurd (false≢true (sym missing ∙ is));
+    only = λ channel below missing is. absurd (false≢true (sym missing ∙ is));
     all = λ i d low. absurd (omega (arith, low));
   }
 
@@ -109,108 +109,108 @@ module _ (run : Run) (send : Probe) (frame : Fields) (from : Option Way) where
   index_any (x ∷ xs) zero d e below = refl
   index_any (x ∷ xs) (suc k) d e below = index_any xs k d e (omega (arith, below))
 
-  pub spread_more : (ways : List Way) (j : ℕ) (way : Way) (b : Bool) (f w f1 w1 f2 w2 : List ℕ) → length run.links ≤ 128 → j < length ways → slice_index_or ways j way ≡ way → way.link < length run.links →
-      (b ≡ true → Carries run send way × Follows run send frame from way) → (Carries run send way × Follows run send frame from way → b ≡ true) →
-      IsPut b (number_of way) f1 w1 f2 w2 → IsSpreadBelow run send frame from ways j f w f1 w1 → IsSpreadBelow run send frame from ways (j + 1) f w f2 w2
-  spread_more ways j way b f w f1 w1 f2 w2 small inside at below takes so_takes put s = record {
+  pub spread_more : (channels : List Channel) (j : ℕ) (channel : Channel) (b : Bool) (f w f1 w1 f2 w2 : List ℕ) → length run.links ≤ 128 → j < length channels → slice_index_or channels j channel ≡ channel → channel.link < length run.links →
+      (b ≡ true → Carries run send channel × Follows run send frame from channel) → (Carries run send channel × Follows run send frame from channel → b ≡ true) →
+      IsPut b (number_of channel) f1 w1 f2 w2 → IsSpreadBelow run send frame from channels j f w f1 w1 → IsSpreadBelow run send frame from channels (j + 1) f w f2 w2
+  spread_more channels j channel b f w f1 w1 f2 w2 small inside at below takes so_takes put s = record {
     grows = grows_on run f w f1 w1 f2 w2 s.grows more;
     only = λ other low missing is. ⊎_elim (λ before. s.only other low missing before) (λ new. newly other low new is) (cases_Bool (has f1 (number_of other)));
     all = λ i d low carries follows.
         ⊎_elim
-        (λ lower. still run f1 w1 f2 w2 more (number_of (slice_index_or ways i d)) (in_set i d carries) (s.all i d lower carries follows))
+        (λ lower. still run f1 w1 f2 w2 more (number_of (slice_index_or channels i d)) (in_set i d carries) (s.all i d lower carries follows))
         (λ high. let same : i ≡ j = omega (arith, low, high) in here i d same carries follows)
         (cases_lt i j);
   }
     where
-      number_low : number_of way < 2 * length run.links
-      number_low = few (length run.links) way below
+      number_low : number_of channel < 2 * length run.links
+      number_low = few (length run.links) channel below
 
       more : Grows run f1 w1 f2 w2
-      more = put_grows run b (number_of way) f1 w1 f2 w2 number_low put
+      more = put_grows run b (number_of channel) f1 w1 f2 w2 number_low put
 
-      in_set : (i : ℕ) (d : Way) → Carries run send (slice_index_or ways i d) → number_of (slice_index_or ways i d) < 512
-      in_set i d carries = let low = few (length run.links) (slice_index_or ways i d) carries.below in omega (arith, low, small)
+      in_set : (i : ℕ) (d : Channel) → Carries run send (slice_index_or channels i d) → number_of (slice_index_or channels i d) < 512
+      in_set i d carries = let low = few (length run.links) (slice_index_or channels i d) carries.below in omega (arith, low, small)
 
-      here : (i : ℕ) (d : Way) → i ≡ j → Carries run send (slice_index_or ways i d) → Follows run send frame from (slice_index_or ways i d) → has f2 (number_of (slice_index_or ways i d)) ≡ true
+      here : (i : ℕ) (d : Channel) → i ≡ j → Carries run send (slice_index_or channels i d) → Follows run send frame from (slice_index_or channels i d) → has f2 (number_of (slice_index_or channels i d)) ≡ true
       here i d same carries follows =
-          let is : slice_index_or ways i d ≡ way = ap (λ n. slice_index_or ways n d) same ∙ (index_any ways j d way inside ∙ at) in
-          let P : Way → Type 0 = λ x. Carries run send x in
-          let Q : Way → Type 0 = λ x. Follows run send frame from x in
-          let R : Bool → Type 0 = λ t. IsPut t (number_of way) f1 w1 f2 w2 in
+          let is : slice_index_or channels i d ≡ channel = ap (λ n. slice_index_or channels n d) same ∙ (index_any channels j d channel inside ∙ at) in
+          let P : Channel → Type 0 = λ x. Carries run send x in
+          let Q : Channel → Type 0 = λ x. Follows run send frame from x in
+          let R : Bool → Type 0 = λ t. IsPut t (number_of channel) f1 w1 f2 w2 in
           let chosen = so_takes (subst P is carries, subst Q is follows) in
-          ap (λ (x : Way). has f2 (number_of x)) is ∙ put_there run (number_of way) f1 w1 f2 w2 (omega (arith, number_low, small)) (subst R chosen put)
+          ap (λ (x : Channel). has f2 (number_of x)) is ∙ put_there run (number_of channel) f1 w1 f2 w2 (omega (arith, number_low, small)) (subst R chosen put)
 
-      newly : (other : Way) → other.link < length run.links → has f1 (number_of other) ≡ false → has f2 (number_of other) ≡ true → Carries run send other × Follows run send frame from other
+      newly : (other : Channel) → other.link < length run.links → has f1 (number_of other) ≡ false → has f2 (number_of other) ≡ true → Carries run send other × Follows run send frame from other
       newly other low missing is =
           let few_other = few (length run.links) other low in
-          by_is b refl (number_of other == number_of way) refl (put.now_found (number_of other) (omega (arith, few_other, small)))
+          by_is b refl (number_of other == number_of channel) refl (put.now_found (number_of other) (omega (arith, few_other, small)))
         where
-          by_is : (t : Bool) → b ≡ t → (e : Bool) → (number_of other == number_of way) ≡ e → has f2 (number_of other) ≡ (if t && e then true else has f1 (number_of other)) →
+          by_is : (t : Bool) → b ≡ t → (e : Bool) → (number_of other == number_of channel) ≡ e → has f2 (number_of other) ≡ (if t && e then true else has f1 (number_of other)) →
               Carries run send other × Follows run send frame from other
           by_is false off e same found = absurd (false≢true (sym (found ∙ missing) ∙ is))
           by_is true takes_it false same found = absurd (false≢true (sym (found ∙ missing) ∙ is))
           by_is true takes_it true same found =
-              let number : number_of way ≡ number_of other = sym (eqb-true (number_of other) (number_of way) same) in
-              let equal : way ≡ other = sym (numbered way) ∙ (ap way_at number ∙ numbered other) in
-              let P : Way → Type 0 = λ x. Carries run send x × Follows run send frame from x in
+              let number : number_of channel ≡ number_of other = sym (eqb-true (number_of other) (number_of channel) same) in
+              let equal : channel ≡ other = sym (numbered channel) ∙ (ap channel_at number ∙ numbered other) in
+              let P : Channel → Type 0 = λ x. Carries run send x × Follows run send frame from x in
               subst P equal (takes takes_it)
 
-  pub spread_all : (ways : List Way) (j : ℕ) (f w f1 w1 : List ℕ) → ways ≡ ways_from (next_node run send from) 0 run.links → length ways ≤ j →
-      IsSpreadBelow run send frame from ways j f w f1 w1 → IsSpread run send frame from f w f1 w1
-  spread_all ways j f w f1 w1 is most s = record {
+  pub spread_all : (channels : List Channel) (j : ℕ) (f w f1 w1 : List ℕ) → channels ≡ channels_from (next_node run send from) 0 run.links → length channels ≤ j →
+      IsSpreadBelow run send frame from channels j f w f1 w1 → IsSpread run send frame from f w f1 w1
+  spread_all channels j f w f1 w1 is most s = record {
     grows = s.grows;
     only = s.only;
-    all = λ way carries follows.
-        let there = stands run (next_node run send from) way carries.below (starts from way follows) in
+    all = λ channel carries follows.
+        let there = stands run (next_node run send from) channel carries.below (starts from channel follows) in
         let low = there.below in
         let long = ap length is in
-        let same : slice_index_or ways there.place way ≡ way = ap (λ xs. slice_index_or xs there.place way) is ∙ there.is way in
-        let P : Way → Type 0 = λ x. Carries run send x in
-        let Q : Way → Type 0 = λ x. Follows run send frame from x in
-        sym (ap (λ (x : Way). has f1 (number_of x)) same)
-        ∙ s.all there.place way (omega (arith, low, long, most)) (subst P (sym same) carries) (subst Q (sym same) follows);
+        let same : slice_index_or channels there.place channel ≡ channel = ap (λ xs. slice_index_or xs there.place channel) is ∙ there.is channel in
+        let P : Channel → Type 0 = λ x. Carries run send x in
+        let Q : Channel → Type 0 = λ x. Follows run send frame from x in
+        sym (ap (λ (x : Channel). has f1 (number_of x)) same)
+        ∙ s.all there.place channel (omega (arith, low, long, most)) (subst P (sym same) carries) (subst Q (sym same) follows);
   }
     where
-      starts : (o : Option Way) (way : Way) → Follows run send frame o way → (start_of run way).node ≡ next_node run send o
-      starts None way follows = follows.node
-      starts (Some before) way follows = follows.node
+      starts : (o : Option Channel) (channel : Channel) → Follows run send frame o channel → (start_of run channel).node ≡ next_node run send o
+      starts None channel follows = follows.node
+      starts (Some before) channel follows = follows.node
 
 -- ---- the search
 
 module _ (run : Run) (send : Probe) (frame : Fields) (small : length run.links ≤ 128) where
-  in_set : (way : Way) → way.link < length run.links → number_of way < 512
-  in_set way below = let low = few (length run.links) way below in omega (arith, low, small)
+  in_set : (channel : Channel) → channel.link < length run.links → number_of channel < 512
+  in_set channel below = let low = few (length run.links) channel below in omega (arith, low, small)
 
   -- from the sender
   pub front_start : (f w f1 w1 : List ℕ) → ((n : ℕ) → has f n ≡ false) → ((n : ℕ) → has w n ≡ false) → IsSpread run send frame None f w f1 w1 → IsFront run send frame f1 w1
   front_start f w f1 w1 no_f no_w s = record {
-    comes = λ way below is. let new = s.only way below (no_f (number_of way)) is in sent way new.0 new.1;
+    comes = λ channel below is. let new = s.only channel below (no_f (number_of channel)) is in sent channel new.0 new.1;
     waits = λ n low waits. ⊎_elim
         (λ (a : IsAsBefore f w f1 w1 n). absurd (false≢true (sym (a.waits ∙ no_w n) ∙ waits)))
         (λ (a : IsAdded run f f1 w1 n). (a.is, a.below))
         (s.grows n low);
     first = s.all;
-    next = λ way next below is idle carries goes. ⊎_elim
-        (λ (a : IsAsBefore f w f1 w1 (number_of way)). absurd (false≢true (sym (a.same ∙ no_f (number_of way)) ∙ is)))
-        (λ (a : IsAdded run f f1 w1 (number_of way)). absurd (false≢true (sym idle ∙ a.waits)))
-        (s.grows (number_of way) (in_set way below));
+    next = λ channel next below is idle carries goes. ⊎_elim
+        (λ (a : IsAsBefore f w f1 w1 (number_of channel)). absurd (false≢true (sym (a.same ∙ no_f (number_of channel)) ∙ is)))
+        (λ (a : IsAdded run f f1 w1 (number_of channel)). absurd (false≢true (sym idle ∙ a.waits)))
+        (s.grows (number_of channel) (in_set channel below));
   }
 
-  -- what waits is a way, to whose end the send comes
-  pub waiting_way : (f w : List ℕ) (n : ℕ) → IsFront run send frame f w → n < 512 → has w n ≡ true → (way_at n).link < length run.links
-  waiting_way f w n front low waits = let here = (front.waits n low waits).1 in omega (arith, here)
+  -- what waits is a channel, to whose end the send comes
+  pub waiting_channel : (f w : List ℕ) (n : ℕ) → IsFront run send frame f w → n < 512 → has w n ≡ true → (channel_at n).link < length run.links
+  waiting_channel f w n front low waits = let here = (front.waits n low waits).1 in omega (arith, here)
 
-  pub front_next : (f w w1 f2 w2 : List ℕ) (n : ℕ) → IsFront run send frame f w → IsTakenOut n w w1 → IsSpread run send frame (Some (way_at n)) f w1 f2 w2 → IsFront run send frame f2 w2
+  pub front_next : (f w w1 f2 w2 : List ℕ) (n : ℕ) → IsFront run send frame f w → IsTakenOut n w w1 → IsSpread run send frame (Some (channel_at n)) f w1 f2 w2 → IsFront run send frame f2 w2
   front_next f w w1 f2 w2 n front out s = record {
-    comes = λ way below is. ⊎_elim
-        (λ was. front.comes way below was)
-        (λ new. let takes = s.only way below new is in on (way_at n) way from_here takes.0 takes.1)
-        (cases_Bool (has f (number_of way)));
+    comes = λ channel below is. ⊎_elim
+        (λ was. front.comes channel below was)
+        (λ new. let takes = s.only channel below new is in on (channel_at n) channel from_here takes.0 takes.1)
+        (cases_Bool (has f (number_of channel)));
     waits = λ k low waits. ⊎_elim
         (λ (a : IsAsBefore f w1 f2 w2 k). let was = waited k low (sym a.waits ∙ waits) in let old = front.waits k low was in (a.same ∙ old.0, old.1))
         (λ (a : IsAdded run f f2 w2 k). (a.is, a.below))
         (s.grows k low);
-    first = λ way carries is. still run f w1 f2 w2 s.grows (number_of way) (in_set way carries.below) (front.first way carries is);
+    first = λ channel carries is. still run f w1 f2 w2 s.grows (number_of channel) (in_set channel carries.below) (front.first channel carries is);
     next = goes_on;
   }
     where
@@ -221,38 +221,38 @@ module _ (run : Run) (send : Probe) (frame : Fields) (small : length run.links �
           by_is true left = absurd (false≢true (sym left ∙ is))
           by_is false left = sym left ∙ is
 
-      from_here : ComesOver run send frame (way_at n)
+      from_here : ComesOver run send frame (channel_at n)
       from_here =
           let found = (front.waits n out.below out.waited).0 in
-          front.comes (way_at n) (waiting_way f w n front out.below out.waited) (ap (has f) (number_back n) ∙ found)
+          front.comes (channel_at n) (waiting_channel f w n front out.below out.waited) (ap (has f) (number_back n) ∙ found)
 
-      goes_on : (way next : Way) → way.link < length run.links → has f2 (number_of way) ≡ true → has w2 (number_of way) ≡ false → Carries run send next → IsNextWay run send frame way next → has f2 (number_of next) ≡ true
-      goes_on way next below is idle carries goes = ⊎_elim
-          (λ (a : IsAsBefore f w1 f2 w2 (number_of way)). by_is (number_of way == n) refl (sym a.same ∙ is) (sym a.waits ∙ idle) (out.left (number_of way) (in_set way below)))
-          (λ (a : IsAdded run f f2 w2 (number_of way)). absurd (false≢true (sym idle ∙ a.waits)))
-          (s.grows (number_of way) (in_set way below))
+      goes_on : (channel next : Channel) → channel.link < length run.links → has f2 (number_of channel) ≡ true → has w2 (number_of channel) ≡ false → Carries run send next → IsNextChannel run send frame channel next → has f2 (number_of next) ≡ true
+      goes_on channel next below is idle carries goes = ⊎_elim
+          (λ (a : IsAsBefore f w1 f2 w2 (number_of channel)). by_is (number_of channel == n) refl (sym a.same ∙ is) (sym a.waits ∙ idle) (out.left (number_of channel) (in_set channel below)))
+          (λ (a : IsAdded run f f2 w2 (number_of channel)). absurd (false≢true (sym idle ∙ a.waits)))
+          (s.grows (number_of channel) (in_set channel below))
         where
-          by_is : (e : Bool) → (number_of way == n) ≡ e → has f (number_of way) ≡ true → has w1 (number_of way) ≡ false → has w1 (number_of way) ≡ (if e then false else has w (number_of way)) → has f2 (number_of next) ≡ true
+          by_is : (e : Bool) → (number_of channel == n) ≡ e → has f (number_of channel) ≡ true → has w1 (number_of channel) ≡ false → has w1 (number_of channel) ≡ (if e then false else has w (number_of channel)) → has f2 (number_of next) ≡ true
           by_is true same was free left =
-              let at : way ≡ way_at n = sym (numbered way) ∙ ap way_at (eqb-true (number_of way) n same) in
-              let P : Way → Type 0 = λ x. IsNextWay run send frame x next in
+              let at : channel ≡ channel_at n = sym (numbered channel) ∙ ap channel_at (eqb-true (number_of channel) n same) in
+              let P : Channel → Type 0 = λ x. IsNextChannel run send frame x next in
               s.all next carries (subst P at goes)
           by_is false same was free left =
-              still run f w1 f2 w2 s.grows (number_of next) (in_set next carries.below) (front.next way next below was (sym left ∙ free) carries goes)
+              still run f w1 f2 w2 s.grows (number_of next) (in_set next carries.below) (front.next channel next below was (sym left ∙ free) carries goes)
 
   -- nothing waits
   pub searched : (f w : List ℕ) → IsFront run send frame f w → ((n : ℕ) → n < 512 → has w n ≡ false) → IsSearched run send frame (is_found run f)
   searched f w front none = record {
-    comes = λ way is. let both = Rattle.std.proofs.lemmas.Bool.and_parts (Rattle.std.specs.Prelude.nat_lt way.link (length run.links)) (has f (number_of way)) is in
-        front.comes way (Rattle.std.proofs.Common.ltb-true way.link (length run.links) both.0) both.1;
-    first = λ way carries is. found way carries.below (front.first way carries is);
-    next = λ way next is carries goes. let both = Rattle.std.proofs.lemmas.Bool.and_parts (Rattle.std.specs.Prelude.nat_lt way.link (length run.links)) (has f (number_of way)) is in
-        let below = Rattle.std.proofs.Common.ltb-true way.link (length run.links) both.0 in
-        found next carries.below (front.next way next below both.1 (none (number_of way) (in_set way below)) carries goes);
+    comes = λ channel is. let both = Rattle.std.proofs.lemmas.Bool.and_parts (Rattle.std.specs.Prelude.nat_lt channel.link (length run.links)) (has f (number_of channel)) is in
+        front.comes channel (Rattle.std.proofs.Common.ltb-true channel.link (length run.links) both.0) both.1;
+    first = λ channel carries is. found channel carries.below (front.first channel carries is);
+    next = λ channel next is carries goes. let both = Rattle.std.proofs.lemmas.Bool.and_parts (Rattle.std.specs.Prelude.nat_lt channel.link (length run.links)) (has f (number_of channel)) is in
+        let below = Rattle.std.proofs.Common.ltb-true channel.link (length run.links) both.0 in
+        found next carries.below (front.next channel next below both.1 (none (number_of channel) (in_set channel below)) carries goes);
   }
     where
-      found : (way : Way) → way.link < length run.links → has f (number_of way) ≡ true → is_found run f way ≡ true
-      found way below is = Rattle.std.proofs.lemmas.Bool.and_from (Rattle.std.specs.Prelude.nat_lt way.link (length run.links)) (has f (number_of way)) (Rattle.std.proofs.Common.lt-ltb way.link (length run.links) below) is
+      found : (channel : Channel) → channel.link < length run.links → has f (number_of channel) ≡ true → is_found run f channel ≡ true
+      found channel below is = Rattle.std.proofs.lemmas.Bool.and_from (Rattle.std.specs.Prelude.nat_lt channel.link (length run.links)) (has f (number_of channel)) (Rattle.std.proofs.Common.lt-ltb channel.link (length run.links) below) is
 
 -- ---- the search ends
 

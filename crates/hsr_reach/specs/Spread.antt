@@ -1,33 +1,33 @@
 -- How a search goes on.
---     Follows      a send may take a way, from its sender or from the end of another way
+--     Follows      a send may take a channel, from its sender or from the end of another channel
 --     IsFront      what a search has found, and what of it waits to be gone on from
---     IsSpread     all that follows a way is found
+--     IsSpread     all that follows a channel is found
 --     left_over    how much there is to do at most
 use Rattle.std.specs.Prelude.{ℕ, zero, suc, ◌+◌, ◌*◌, ◌<◌, ◌≡◌, ◌==◌, ◌⊎◌, ◌&&◌, not, Bool, true, false, if◌then◌else◌, List, length, Option, Some, None}
 use Rattle.hsr_frame.specs.Grammar.{Fields}
 use Rattle.hsr_node.specs.declared.event.Probe.{Probe}
 use Rattle.hsr_run_laws.specs.Run.{Run}
-use Rattle.hsr_network_laws.specs.Network.{Way, stop_of}
-use Rattle.hsr_network_laws.specs.Ways.{Carries, ComesOver, IsFirstWay, IsNextWay}
+use Rattle.hsr_network_laws.specs.Network.{Channel, stop_of}
+use Rattle.hsr_network_laws.specs.Channels.{Carries, ComesOver, IsFirstChannel, IsNextChannel}
 use Rattle.hsr_bitset.specs.Numbers.{has}
 use Rattle.hsr_reach.specs.Numbered.{number_of}
 
-abbrev pub Follows : Run → Probe → Fields → Option Way → Way → Type 0
-Follows run send frame None way = IsFirstWay run send frame way
-Follows run send frame (Some before) way = IsNextWay run send frame before way
+abbrev pub Follows : Run → Probe → Fields → Option Channel → Channel → Type 0
+Follows run send frame None channel = IsFirstChannel run send frame channel
+Follows run send frame (Some before) channel = IsNextChannel run send frame before channel
 
 -- the node from which a send goes on
-abbrev pub next_node : Run → Probe → Option Way → ℕ
+abbrev pub next_node : Run → Probe → Option Channel → ℕ
 next_node run send None = send.node
 next_node run send (Some before) = (stop_of run before).node
 
--- a send comes to the end of each way that is found, and what waits is found
+-- a send comes to the end of each channel that is found, and what waits is found
 pub record IsFront (run : Run) (send : Probe) (frame : Fields) (found waiting : List ℕ) : Type 0 where
-  pub comes : (way : Way) → way.link < length run.links → has found (number_of way) ≡ true → ComesOver run send frame way
+  pub comes : (channel : Channel) → channel.link < length run.links → has found (number_of channel) ≡ true → ComesOver run send frame channel
   pub waits : (n : ℕ) → n < 512 → has waiting n ≡ true → (has found n ≡ true) × (n < 2 * length run.links)
-  pub first : (way : Way) → Carries run send way → IsFirstWay run send frame way → has found (number_of way) ≡ true
-  pub next : (way next : Way) → way.link < length run.links → has found (number_of way) ≡ true → has waiting (number_of way) ≡ false →
-      Carries run send next → IsNextWay run send frame way next → has found (number_of next) ≡ true
+  pub first : (channel : Channel) → Carries run send channel → IsFirstChannel run send frame channel → has found (number_of channel) ≡ true
+  pub next : (channel next : Channel) → channel.link < length run.links → has found (number_of channel) ≡ true → has waiting (number_of channel) ≡ false →
+      Carries run send next → IsNextChannel run send frame channel next → has found (number_of next) ≡ true
 
 -- a number is as it was
 pub record IsAsBefore (found waiting new_found new_waiting : List ℕ) (n : ℕ) : Type 0 where
@@ -44,16 +44,16 @@ pub record IsAdded (run : Run) (found new_found new_waiting : List ℕ) (n : ℕ
 abbrev pub Grows : Run → List ℕ → List ℕ → List ℕ → List ℕ → Type 0
 Grows run found waiting new_found new_waiting = (n : ℕ) → n < 512 → IsAsBefore found waiting new_found new_waiting n ⊎ IsAdded run found new_found new_waiting n
 
--- each way that is found now, and wasn't, carries the send and follows
-abbrev pub OnlyFollows : Run → Probe → Fields → Option Way → List ℕ → List ℕ → Type 0
+-- each channel that is found now, and wasn't, carries the send and follows
+abbrev pub OnlyFollows : Run → Probe → Fields → Option Channel → List ℕ → List ℕ → Type 0
 OnlyFollows run send frame from found new_found =
-    (way : Way) → way.link < length run.links → has found (number_of way) ≡ false → has new_found (number_of way) ≡ true → Carries run send way × Follows run send frame from way
+    (channel : Channel) → channel.link < length run.links → has found (number_of channel) ≡ false → has new_found (number_of channel) ≡ true → Carries run send channel × Follows run send frame from channel
 
--- all ways that carry the send and follow are found, and no other is new
-pub record IsSpread (run : Run) (send : Probe) (frame : Fields) (from : Option Way) (found waiting new_found new_waiting : List ℕ) : Type 0 where
+-- all channels that carry the send and follow are found, and no other is new
+pub record IsSpread (run : Run) (send : Probe) (frame : Fields) (from : Option Channel) (found waiting new_found new_waiting : List ℕ) : Type 0 where
   pub grows : Grows run found waiting new_found new_waiting
   pub only : OnlyFollows run send frame from found new_found
-  pub all : (way : Way) → Carries run send way → Follows run send frame from way → has new_found (number_of way) ≡ true
+  pub all : (channel : Channel) → Carries run send channel → Follows run send frame from channel → has new_found (number_of channel) ≡ true
 
 -- ---- what is left to do
 

@@ -1,6 +1,6 @@
-//! Which ways a send takes on.
+//! Which channels a send takes on.
 ghost use Rattle.std.specs.Prelude.{◌≡◌};
-ghost use Rattle.hsr_network_laws.specs.Ways.{keeps_own, lets_out, passes_on};
+ghost use Rattle.hsr_network_laws.specs.Channels.{keeps_own, lets_out, passes_on};
 
 use hsr_frame::{Mode, is_supervision};
 use hsr_node::Place;

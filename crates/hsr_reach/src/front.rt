@@ -5,7 +5,7 @@ ghost use Rattle.hsr_reach.specs.Spread.{IsPut, IsTakenOut};
 
 use hsr_bitset::Numbers;
 
-/// The ways that a search has found, and those of them from which it has still to go on, by their numbers.
+/// The channels that a search has found, and those of them from which it has still to go on, by their numbers.
 #[derive(Clone, Copy)]
 pub(crate) struct Front {
     pub(crate) found: Numbers,
@@ -30,7 +30,7 @@ impl Front {
         ensures { IsPut is_one number self.old.found self.old.waiting self.new.found
             self.new.waiting }
     {
-        // What was found before doesn't wait once more, so each way is gone on from once.
+        // What was found before doesn't wait once more, so each channel is gone on from once.
         if is_one && !self.found.has(number) {
             self.found.put(number, true);
             self.waiting.put(number, true);

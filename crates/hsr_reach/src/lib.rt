@@ -5,11 +5,11 @@
 //! - `addresses`: whether addresses are their owners' alone
 //! - `sides`: whether links join what is alike
 //! - `network`: what a network asks of nodes and links
-//! - `way`: a direction of a link, and its number
-//! - `starting`: the ways that start at each node
-//! - `follow`: which ways a send takes on
+//! - `channel`: a direction of a link, and its number
+//! - `starting`: the channels that start at each node
+//! - `follow`: which channels a send takes on
 //! - `front`: what a search has found
-//! - `search`: the search for the ways that a send takes
+//! - `search`: the search for the channels that a send takes
 #![tactic(auto)]
 
 mod addresses;
@@ -19,10 +19,10 @@ mod network;
 mod search;
 mod sides;
 mod starting;
-mod way;
+mod channel;
 
 pub use addresses::share_address;
 pub use network::{are_going_round, first_unlike_link, have_own_addresses, is_in_h_or_u};
-pub use search::Ways;
+pub use search::Channels;
 pub use sides::is_edge;
-pub use way::Way;
+pub use channel::Channel;

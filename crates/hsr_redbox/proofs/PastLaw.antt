@@ -256,14 +256,14 @@ age-case capacity machine past now later r =
 
 pub kept : (capacity : ℕ) (machine : Machine) (past : List Deed) (call : Call) → IsPastOf capacity machine past → Kept capacity machine (step capacity machine call) (past_step capacity machine.own machine.mode past call)
 unfolding send_step life_step arrive_step
-kept capacity machine past (deeds.sending at dst kind len) r =
+kept capacity machine past (deeds.sending at dst ethertype len) r =
     let now = now_at machine at in
     let knows = knows-latest machine.proxies (sources_of machine.own past) now r.proxies in
-    let after = step capacity machine (deeds.sending at dst kind len) in
-    subst (λ m. Kept capacity machine after (deeds.send_from past (max m at) (handling_send machine.own (knows_among (sources_of machine.own past) (max m at)) dst kind) (send_refusal machine.own (count_of is_step past) dst kind len))) r.moment
-    (subst (λ n. Kept capacity machine after (deeds.send_from past now (handling_send machine.own (knows_among (sources_of machine.own past) now) dst kind) (send_refusal machine.own n dst kind len))) r.accepted
-    (subst (λ k. Kept capacity machine after (deeds.send_from past now (handling_send machine.own k dst kind) (send_refusal machine.own machine.accepted dst kind len))) knows
-    (send-case capacity machine past now (handling_send machine.own (is_known now machine.proxies.heard) dst kind) (send_refusal machine.own machine.accepted dst kind len) (later-max machine.moment at) r)))
+    let after = step capacity machine (deeds.sending at dst ethertype len) in
+    subst (λ m. Kept capacity machine after (deeds.send_from past (max m at) (handling_send machine.own (knows_among (sources_of machine.own past) (max m at)) dst ethertype) (send_refusal machine.own (count_of is_step past) dst ethertype len))) r.moment
+    (subst (λ n. Kept capacity machine after (deeds.send_from past now (handling_send machine.own (knows_among (sources_of machine.own past) now) dst ethertype) (send_refusal machine.own n dst ethertype len))) r.accepted
+    (subst (λ k. Kept capacity machine after (deeds.send_from past now (handling_send machine.own k dst ethertype) (send_refusal machine.own machine.accepted dst ethertype len))) knows
+    (send-case capacity machine past now (handling_send machine.own (is_known now machine.proxies.heard) dst ethertype) (send_refusal machine.own machine.accepted dst ethertype len) (later-max machine.moment at) r)))
 kept capacity machine past (deeds.supervising at about) r =
     let now = now_at machine at in
     let knows = knows-latest machine.proxies (sources_of machine.own past) now r.proxies in

@@ -74,9 +74,9 @@ send_or_refuse capacity machine now handling None = let after = after_send capac
 
 -- a send, by its destination, type and length
 unfoldable pub send_step : ℕ → Machine → ℕ → List ℕ → ℕ → ℕ → Result BoxSent SendFault × Machine
-send_step capacity machine at dst kind len =
+send_step capacity machine at dst ethertype len =
     let now = now_at machine at in
-    send_or_refuse capacity machine now (handling_send machine.own (is_known now machine.proxies.heard) dst kind) (send_refusal machine.own machine.accepted dst kind len)
+    send_or_refuse capacity machine now (handling_send machine.own (is_known now machine.proxies.heard) dst ethertype) (send_refusal machine.own machine.accepted dst ethertype len)
 
 -- ---- a supervision frame
 

@@ -2,6 +2,7 @@
 ghost use Rattle.std.specs.Prelude.{◌≡◌, ◌≢◌, ◌+◌, ◌-◌, ◌≤◌, ◌<◌, ◌^◌, length, map, true, IfOk, OnOk, IfNone, Option, Result};
 ghost use Rattle.hsr_frame.specs.Counters.{step_limit};
 ghost use Rattle.hsr_frame.specs.Layout.{ethertype_hsr, ethertype_vlan, max_payload};
+ghost use Rattle.hsr_duptable.specs.Table.{IsTableSize};
 
 use crate::call::{BoxPort, BoxSent, BoxVerdict, LifeFault};
 use crate::marking::mark_numbered;
@@ -65,7 +66,7 @@ impl<const C: usize> RedBox<C> {
     /// A node that has done nothing. No group has its address. `NoMemory` if allocation fails.
     pub fn new(alloc: Global, own: Mac, mode: Mode) -> Result<Self, NoMemory>
         requires station { ¬ IsGroup own }
-        requires entries { (1 ≤ C) × (C ≤ 65535) }
+        requires entries { IsTableSize C }
         ensures { IfOk result (λ redbox. redbox ≡ new_machine own mode) }
     {
         let egresses = Exits {
@@ -97,20 +98,21 @@ impl<const C: usize> RedBox<C> {
         at: u64,
         dst: Mac,
         _vlan: Option<u16>,
-        kind: u16,
+        ethertype: u16,
         payload: &[u8],
     ) -> Result<BoxSent, SendFault>
-        ensures step { (result, self.new) ≡ send_step C self.old at dst kind (length payload.now) }
+        ensures step { (result, self.new)
+            ≡ send_step C self.old at dst ethertype (length payload.now) }
         // What is sent is a frame.
-        ensures formed { OnOk result ((kind ≢ ethertype_vlan) × (kind ≢ ethertype_hsr)
+        ensures formed { OnOk result ((ethertype ≢ ethertype_vlan) × (ethertype ≢ ethertype_hsr)
             × (length payload.now ≤ max_payload)) }
     {
-        if let Some(fault) = send_fault(self.own, self.accepted, dst, kind, payload.len()) {
+        if let Some(fault) = send_fault(self.own, self.accepted, dst, ethertype, payload.len()) {
             return Err(fault);
         }
         // An earlier moment counts as the last one (RULES, Sending).
         let now = self.moment.max(at);
-        let handling = send_handling(self.own, &self.proxies, dst, kind, now);
+        let handling = send_handling(self.own, &self.proxies, dst, ethertype, now);
         let exits = handling.wants.exits;
         let sent = BoxSent {
             seq: number_of(handling.source, self.next),

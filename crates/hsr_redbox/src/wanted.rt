@@ -82,9 +82,9 @@ fn plain_handling(own: Mac, proxies: &ProxyTable, frame: &FrameView<'_>, now: u6
 }
 
 /// What is done with a send, by its destination and type.
-pub fn send_handling(own: Mac, proxies: &ProxyTable, dst: Mac, kind: u16, now: u64) -> Handling
+pub fn send_handling(own: Mac, proxies: &ProxyTable, dst: Mac, ethertype: u16, now: u64) -> Handling
     requires { proxies.now.last ≤ now }
-    ensures { result ≡ handling_send own (is_known now proxies.now.heard) dst kind }
+    ensures { result ≡ handling_send own (is_known now proxies.now.heard) dst ethertype }
 {
     // Without a number: frames on an interlink carry no tag.
     if proxies.knows(dst, now) {
@@ -95,7 +95,7 @@ pub fn send_handling(own: Mac, proxies: &ProxyTable, dst: Mac, kind: u16, now: u
     }
     let ports = Exits::both_ports();
     // Supervision is for the ring alone.
-    if dst.is_group() && !is_supervision(dst, kind) {
+    if dst.is_group() && !is_supervision(dst, ethertype) {
         return numbered(own, Exits { c: true, ..ports });
     }
     numbered(own, ports)

@@ -15,7 +15,7 @@ use hsr_node_text::put_count;
 use hsr_options::Scope;
 use hsr_reach::is_edge;
 use hsr_topology::{End, is_used};
-use std::alloc::{AllocError, Global};
+use std::alloc::Global;
 
 /// Whether a port is on a ring, and has no link.
 fn is_unlinked<const C: usize>(closed: &Closed<C>, node: usize, place: &Place, port: u8) -> bool
@@ -33,13 +33,14 @@ fn put_unlinked<const C: usize>(
     node: usize,
     place: &Place,
     port: u8,
-) -> Result<(), AllocError>
+) -> Result<(), NoMemory>
     requires { place.now ≡ place_of closed.now.run node }
     ensures { OnOk result (text.new.items ≡ text.old.items
         ++ unlinked_line closed.now.run node port) }
 {
     put_count(text, b"unlinked ", node as u64)?;
-    text.extend_from_slice(&[b'.', place.letter(port), b'\n'])
+    text.extend_from_slice(&[b'.', place.letter(port), b'\n'])?;
+    Ok(())
 }
 
 /// Puts the line of a port, if it is on a ring and has no link.
@@ -49,7 +50,7 @@ fn put_unlinked_if<const C: usize>(
     node: usize,
     place: &Place,
     port: u8,
-) -> Result<(), AllocError>
+) -> Result<(), NoMemory>
     requires { place.now ≡ place_of closed.now.run node }
     ensures { OnOk result (text.new.items ≡ text.old.items
         ++ unlinked_if closed.now.run node port) }
@@ -67,7 +68,7 @@ fn put_unlinked_ports<const C: usize>(
     closed: &Closed<C>,
     node: usize,
     place: &Place,
-) -> Result<(), AllocError>
+) -> Result<(), NoMemory>
     requires { place.now ≡ place_of closed.now.run node }
     ensures { OnOk result (text.new.items ≡ text.old.items ++ unlinked_ports closed.now.run node
         (ports place.now)) }
@@ -82,7 +83,7 @@ fn put_unlinked_ports<const C: usize>(
 fn put_all_unlinked<const C: usize>(
     text: &mut Vec<u8>,
     closed: &Closed<C>,
-) -> Result<(), AllocError>
+) -> Result<(), NoMemory>
     ensures { OnOk result (text.new.items ≡ text.old.items ++ unlinked_lines closed.now.run
         (length closed.now.run.places)) }
 {
@@ -94,16 +95,17 @@ fn put_all_unlinked<const C: usize>(
 
 /// Puts the line of a send that no node is for.
 #[tactic(auto, unfolding(crate::specs::Report::nobody_line))]
-fn put_nobody(text: &mut Vec<u8>, send: Probe) -> Result<(), AllocError>
+fn put_nobody(text: &mut Vec<u8>, send: Probe) -> Result<(), NoMemory>
     ensures { OnOk result (text.new.items ≡ text.old.items ++ nobody_line send) }
 {
     put_count(text, b"nobody ", send.node as u64)?;
     put_count(text, b":", send.place as u64)?;
-    text.extend_from_slice(b"\n")
+    text.extend_from_slice(b"\n")?;
+    Ok(())
 }
 
 /// Puts the line of a send, if no node is for it.
-fn put_nobody_if(text: &mut Vec<u8>, delivery: &Delivery) -> Result<(), AllocError>
+fn put_nobody_if(text: &mut Vec<u8>, delivery: &Delivery) -> Result<(), NoMemory>
     ensures { OnOk result (text.new.items ≡ text.old.items ++ nobody_if delivery.now) }
 {
     if delivery.due.is_empty() {
@@ -115,7 +117,7 @@ fn put_nobody_if(text: &mut Vec<u8>, delivery: &Delivery) -> Result<(), AllocErr
 
 /// Puts the lines of those sends that no node is for.
 #[tactic(auto, using(hsr_frame::proofs::OneMore::grown))]
-fn put_nobodies(text: &mut Vec<u8>, sends: &[Delivery]) -> Result<(), AllocError>
+fn put_nobodies(text: &mut Vec<u8>, sends: &[Delivery]) -> Result<(), NoMemory>
     ensures { OnOk result (text.new.items ≡ text.old.items ++ flat_map nobody_if sends.now) }
 {
     for delivery in sends {

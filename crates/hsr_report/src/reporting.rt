@@ -15,7 +15,7 @@ use hsr_link::{Fate, Row};
 use hsr_node::Role;
 use hsr_node_text::{put_count, put_counters};
 use hsr_options::{Asked, Scope};
-use std::alloc::{AllocError, Global};
+use std::alloc::Global;
 
 fn is_taken(row: &Row) -> bool
     ensures { result ≡ is_row_taken row.now }
@@ -37,20 +37,21 @@ fn lost_of(rows: &[Row]) -> usize
     rows.iter().filter(|row| row.fate.is_lost()).count()
 }
 
-/// Puts the line of a link: its number, and how many copies were put on it, taken and lost. `AllocError` if allocation
+/// Puts the line of a link: its number, and how many copies were put on it, taken and lost. `NoMemory` if allocation
 /// fails; a front of the line may stand there then.
 #[tactic(auto, unfolding(crate::specs::Report::link_line))]
-pub fn put_link(text: &mut Vec<u8>, link: usize, rows: &[Row]) -> Result<(), AllocError>
+pub fn put_link(text: &mut Vec<u8>, link: usize, rows: &[Row]) -> Result<(), NoMemory>
     ensures { OnOk result (text.new.items ≡ text.old.items ++ link_line link rows.now) }
 {
     put_count(text, b"link ", link as u64)?;
     put_count(text, b" put ", rows.len() as u64)?;
     put_count(text, b" taken ", taken_of(rows) as u64)?;
     put_count(text, b" lost ", lost_of(rows) as u64)?;
-    text.extend_from_slice(b"\n")
+    text.extend_from_slice(b"\n")?;
+    Ok(())
 }
 
-/// Puts the line of a node: its number, its role, and how often each thing happened there. `AllocError` if allocation
+/// Puts the line of a node: its number, its role, and how often each thing happened there. `NoMemory` if allocation
 /// fails; a front of the line may stand there then.
 #[tactic(auto, unfolding(crate::specs::Report::node_text))]
 pub fn put_node(
@@ -58,7 +59,7 @@ pub fn put_node(
     node: usize,
     role: Role,
     counters: &Counters,
-) -> Result<(), AllocError>
+) -> Result<(), NoMemory>
     requires { AreWithin counters.now (2 ^ 62) }
     ensures { OnOk result (text.new.items ≡ text.old.items ++ node_text node role counters.now) }
 {
@@ -69,7 +70,7 @@ pub fn put_node(
     put_counters(text, counters)
 }
 
-/// Puts the line of the bench: how many entries a table has, and how many nodes and links there are. `AllocError` if
+/// Puts the line of the bench: how many entries a table has, and how many nodes and links there are. `NoMemory` if
 /// allocation fails; a front of the line may stand there then.
 #[tactic(auto, unfolding(crate::specs::Report::head_text))]
 pub fn put_head(
@@ -77,17 +78,18 @@ pub fn put_head(
     capacity: usize,
     nodes: usize,
     links: usize,
-) -> Result<(), AllocError>
+) -> Result<(), NoMemory>
     ensures { OnOk result (text.new.items ≡ text.old.items ++ head_text capacity nodes links) }
 {
     put_count(text, b"bench 1 table ", capacity as u64)?;
     put_count(text, b" nodes ", nodes as u64)?;
     put_count(text, b" links ", links as u64)?;
-    text.extend_from_slice(b"\n")
+    text.extend_from_slice(b"\n")?;
+    Ok(())
 }
 
 /// Puts the line of the bench of a finished run.
-fn put_first<const C: usize>(text: &mut Vec<u8>, closed: &Closed<C>) -> Result<(), AllocError>
+fn put_first<const C: usize>(text: &mut Vec<u8>, closed: &Closed<C>) -> Result<(), NoMemory>
     ensures line { OnOk result (text.new.items ≡ text.old.items ++ head_line closed.now.run) }
     ensures finished { IsFinished closed.now }
 {
@@ -96,7 +98,7 @@ fn put_first<const C: usize>(text: &mut Vec<u8>, closed: &Closed<C>) -> Result<(
 }
 
 /// Puts the line of each node.
-fn put_nodes<const C: usize>(text: &mut Vec<u8>, closed: &Closed<C>) -> Result<(), AllocError>
+fn put_nodes<const C: usize>(text: &mut Vec<u8>, closed: &Closed<C>) -> Result<(), NoMemory>
     ensures { OnOk result (text.new.items ≡ text.old.items ++ node_lines closed.now.run
         (length closed.now.run.places)) }
 {
@@ -107,7 +109,7 @@ fn put_nodes<const C: usize>(text: &mut Vec<u8>, closed: &Closed<C>) -> Result<(
 }
 
 /// Puts the line of each link.
-fn put_links<const C: usize>(text: &mut Vec<u8>, closed: &Closed<C>) -> Result<(), AllocError>
+fn put_links<const C: usize>(text: &mut Vec<u8>, closed: &Closed<C>) -> Result<(), NoMemory>
     ensures { OnOk result (text.new.items ≡ text.old.items ++ link_lines closed.now.run
         (length closed.now.run.links)) }
 {
@@ -153,7 +155,7 @@ pub fn report<const C: usize>(
     ensures text { IfOk result (λ text. IsReportOf scope asked closed.now.run finding text.items) }
     ensures finished { OnOk result (IsFinished closed.now) }
 {
-    // Formed before the rest and lent: a function that owns one value has few ways out on which others are dropped.
+    // Formed before the rest and lent: a function that owns one value has few egresses on which others are dropped.
     let parts = parts(alloc, closed, asked)?;
     report_with(alloc, closed, scope, finding, parts.as_slice())
 }

@@ -7,7 +7,7 @@ use hsr_audit::{BudgetFault, budget};
 use hsr_finished_run::Closed;
 use hsr_frame::NoMemory;
 use hsr_node_text::put_count;
-use std::alloc::{AllocError, Global};
+use std::alloc::Global;
 
 /// What a run spent of its tables.
 #[derive(Clone, Copy, Debug, PartialEq, Eq)]
@@ -32,9 +32,9 @@ pub fn spending_of<const C: usize>(alloc: Global, closed: &Closed<C>) -> Result<
     }
 }
 
-/// Puts the line of the budget (RULES, The report). `AllocError` if allocation fails; a front of the line may stand
+/// Puts the line of the budget (RULES, The report). `NoMemory` if allocation fails; a front of the line may stand
 /// there then.
-pub fn put_spending(text: &mut Vec<u8>, spending: Spending) -> Result<(), AllocError>
+pub fn put_spending(text: &mut Vec<u8>, spending: Spending) -> Result<(), NoMemory>
     ensures { OnOk result (text.new.items ≡ text.old.items ++ spending_line spending) }
 {
     match spending {
@@ -45,5 +45,6 @@ pub fn put_spending(text: &mut Vec<u8>, spending: Spending) -> Result<(), AllocE
         }
         Spending::Crowded { moment } => put_count(text, b"budget crowded ", moment)?,
     }
-    text.extend_from_slice(b"\n")
+    text.extend_from_slice(b"\n")?;
+    Ok(())
 }

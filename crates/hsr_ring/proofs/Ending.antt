@@ -15,7 +15,8 @@ use Rattle.hsr_node.specs.declared.place.Place.{Place}
 use Rattle.hsr_link.specs.declared.row.Row.{Row}
 use Rattle.hsr_topology.proofs.Ends.{end_is, end_same}
 use Rattle.hsr_finished_run.specs.Checked.{Agrees, IfDisagree, IsFirst, IsOpen}
-use Rattle.hsr_run_laws.specs.Closed.{IsClosed, IsTableSize}
+use Rattle.hsr_duptable.specs.Table.{IsTableSize}
+use Rattle.hsr_run_laws.specs.Closed.{IsClosed}
 use Rattle.hsr_finished_run.specs.Finished.{Finished, IsPlanned, planned_by}
 use Rattle.hsr_finished_run.specs.Finished as finished
 use Rattle.hsr_finished_run.specs.InOrder.{came}
@@ -87,7 +88,7 @@ linked_at : (links : List (List End)) (k : ℕ) (entries : List Entry) (i : ℕ)
 linked_at links k entries i d h below = by_event (get_or entries i d).event (λ port none. none_at port entries i d none below)
   where
     by_event : (e : Event) → ((port : ℕ) → came port entries ≡ [] → copy_at port e ≡ None) → is_linked links k e ≡ true
-    by_event (Send from dst vlan kind payload) f = refl
+    by_event (Send from dst vlan ethertype payload) f = refl
     by_event (Supervise about) f = refl
     by_event Age f = refl
     by_event (Arrive port copy) f = ⊎_elim (λ is. is) (λ none. here none (ap (λ b. cond b (Some copy) None) (eq-eqb port port refl)) (f port none)) (h port)

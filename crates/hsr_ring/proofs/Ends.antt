@@ -91,7 +91,7 @@ same_injected w l dir octets false = same_span w l _ refl
 pub keeps_ends : (capacity : ℕ) (w : World) (step : Step) → AreSame (or_same w (tried capacity w step)) w
 unfolding tried
 keeps_ends capacity w (Clock at) = record { places = refl; ends = refl }
-keeps_ends capacity w (Send n from dst vlan kind payload) = guarded w (has_node w n) _ _ (same_own capacity w n (event.Send from dst vlan kind payload))
+keeps_ends capacity w (Send n from dst vlan ethertype payload) = guarded w (has_node w n) _ _ (same_own capacity w n (event.Send from dst vlan ethertype payload))
 keeps_ends capacity w (Supervise n about) = guarded w (has_node w n) _ _ (same_own capacity w n (event.Supervise about))
 keeps_ends capacity w (Age n) = guarded w (has_node w n) _ _ (same_own capacity w n event.Age)
 keeps_ends capacity w (Put n port) = guarded w (has_node w n) _ _ (guarded w (has_port w n port) _ _ (same_put w (spot_from (record { node = n; port = port }) 0 w.spans)))

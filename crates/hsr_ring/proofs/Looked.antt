@@ -32,7 +32,7 @@ use Rattle.hsr_world_steps.specs.declared.step.Step.{Step}
 use Rattle.hsr_world_steps.specs.declared.step.Step.TheVariants.{Clock, Send, Supervise, Age, Put, Take, Judge, Cut, Mend, Inject}
 use Rattle.hsr_world_steps.specs.declared.step.WorldFault.{WorldFault}
 use Rattle.hsr_world_steps.specs.declared.step.WorldFault.TheVariants.{NoSuchLink, NoSuchNode, NoSuchPort, TooLong}
-use Rattle.hsr_run_laws.specs.Closed.{IsTableSize}
+use Rattle.hsr_duptable.specs.Table.{IsTableSize}
 use Rattle.hsr_run_laws.specs.Run.{no_end}
 use Rattle.hsr_world_laws.specs.Reached.{IsReached}
 use Rattle.hsr_world_laws.proofs.Reached.{reached-step}
@@ -251,7 +251,7 @@ own_entry capacity w list step k n e boxes =
 untouched : (capacity : ℕ) (w : World) (list : List Port) (k : ℕ) → AreTold w.places w.spans list → (step : Step) → Untouched w list step k (or_same w (tried capacity w step))
 unfolding tried
 untouched capacity w list k told (Clock at) = unchanged k _ _ _ w
-untouched capacity w list k told (Send n from dst vlan kind payload) = own_entry capacity w list (Send n from dst vlan kind payload) k n (event.Send from dst vlan kind payload) refl
+untouched capacity w list k told (Send n from dst vlan ethertype payload) = own_entry capacity w list (Send n from dst vlan ethertype payload) k n (event.Send from dst vlan ethertype payload) refl
 untouched capacity w list k told (Supervise n about) = own_entry capacity w list (Supervise n about) k n (event.Supervise about) refl
 untouched capacity w list k told (Age n) = own_entry capacity w list (Age n) k n event.Age refl
 untouched capacity w list k told (Put n port) = by_port (has_node w n) (has_port w n port) refl refl
@@ -331,7 +331,7 @@ same_hand v w e (Take l dir) =
     to Back a b e = ap (λ (x : Ends). x.back_to) e
 same_hand v w e (Judge n port) = refl
 same_hand v w e (Clock at) = refl
-same_hand v w e (Send n from dst vlan kind payload) = refl
+same_hand v w e (Send n from dst vlan ethertype payload) = refl
 same_hand v w e (Supervise n about) = refl
 same_hand v w e (Age n) = refl
 same_hand v w e (Put n port) = refl

@@ -5,7 +5,7 @@ use Rattle.hsr_topology.specs.Links.{is_same_end}
 use Rattle.hsr_topology.specs.declared.end.End.{End}
 use Rattle.hsr_link.specs.declared.row.Dir.{Dir}
 use Rattle.hsr_node.specs.declared.place.Place.{Place}
-use Rattle.hsr_run_laws.specs.Closed.{IsTableSize}
+use Rattle.hsr_duptable.specs.Table.{IsTableSize}
 use Rattle.hsr_world_laws.specs.Spans.{Span, Spot, lane_of}
 use Rattle.hsr_world_laws.specs.Reached.{IsReached}
 use Rattle.hsr_world_laws.specs.World.{World, span_in}
@@ -46,7 +46,7 @@ hand_of spans _ = None
 
 -- the node whose outboxes may get a copy
 abbrev pub node_of : Step → Option ℕ
-node_of (Send n from dst vlan kind payload) = Some n
+node_of (Send n from dst vlan ethertype payload) = Some n
 node_of (Supervise n about) = Some n
 node_of (Age n) = Some n
 node_of (Judge n port) = Some n

@@ -1,5 +1,6 @@
 //! The finished run that orders lead to.
 ghost use Rattle.std.specs.Prelude.{◌≡◌, ◌≤◌, IfErr, IfOk};
+ghost use Rattle.hsr_duptable.specs.Table.{IsTableSize};
 ghost use Rattle.hsr_ring.specs.Finishing.{IsFinishedBy, IsUnfinishedBy};
 ghost use Rattle.hsr_ring.specs.Playing.{Plays};
 ghost use Rattle.hsr_world_laws.specs.World.{new_world};
@@ -31,7 +32,7 @@ fn played<const C: usize>(
     capacity: usize,
     orders: &[Order],
 ) -> Result<World<C>, Unfinished>
-    requires entries { (1 ≤ C) × (C ≤ 65535) }
+    requires entries { IsTableSize C }
     requires room { (1 ≤ capacity) × (capacity ≤ 4096) }
     ensures ok { IfOk result (λ w. Plays C orders.now
         (new_world capacity topology.places topology.links) w) }
@@ -55,7 +56,7 @@ pub fn finished<const C: usize>(
     capacity: usize,
     orders: &[Order],
 ) -> Result<Closed<C>, Unfinished>
-    requires entries { (1 ≤ C) × (C ≤ 65535) }
+    requires entries { IsTableSize C }
     requires room { (1 ≤ capacity) × (capacity ≤ 4096) }
     ensures ok { IfOk result (λ c. IsFinishedBy C topology capacity orders.now c) }
     ensures err { IfErr result (λ u. IsUnfinishedBy C topology capacity orders.now u) }

@@ -1,7 +1,8 @@
 //! A world in code, and its steps.
 //!
-//! A fault of a call below is handed on by `match` and not by `?`, which gets no proof at these ways out.
+//! A fault of a call below is handed on by `match` and not by `?`, which gets no proof at these returns.
 ghost use Rattle.std.specs.Prelude.{◌≡◌, ◌⊎◌, ◌<◌, ◌≤◌, ◌^◌, Ok, Err, OnOk, IfErr, IfNone, IfOk, map, length, option_map, reverse};
+ghost use Rattle.hsr_duptable.specs.Table.{IsTableSize};
 ghost use Rattle.hsr_ring.specs.Views.{in_world};
 ghost use Rattle.hsr_world_links.specs.Ports.{port_fault, AreTold};
 ghost use Rattle.hsr_world_links.specs.Views.{put_at_spot, spot_view};
@@ -68,7 +69,7 @@ impl<const C: usize> Running<C> {
         topology: &Topology,
         capacity: usize,
     ) -> Result<Running<C>, hsr_frame::NoMemory>
-        requires entries { (1 ≤ C) × (C ≤ 65535) }
+        requires entries { IsTableSize C }
         requires room { (1 ≤ capacity) × (capacity ≤ 4096) }
         ensures { IfOk result (λ running. running
             ≡ new_world capacity topology.now.places topology.now.links) }
@@ -390,15 +391,15 @@ impl<const C: usize> Running<C> {
         from: u8,
         dst: Mac,
         vlan: Option<u16>,
-        kind: u16,
+        ethertype: u16,
         payload: &Octets,
     ) -> Result<(), WorldFault>
         requires { AreTouching self.old.places self.old.spans
             (map (λ links. links.items) touching.now) }
-        ensures ok { OnOk result (tried C self.old (Send node from dst vlan kind payload.now)
+        ensures ok { OnOk result (tried C self.old (Send node from dst vlan ethertype payload.now)
             ≡ Ok self.new) }
         ensures err { IfErr result (λ f. (self.new ≡ self.old)
-            × ((f ≡ NoMemory) ⊎ (tried C self.old (Send node from dst vlan kind payload.now)
+            × ((f ≡ NoMemory) ⊎ (tried C self.old (Send node from dst vlan ethertype payload.now)
             ≡ Err f))) }
     {
         // A copy, since the step is borrowed and the event owns its payload.
@@ -412,7 +413,7 @@ impl<const C: usize> Running<C> {
                 from,
                 dst,
                 vlan,
-                kind,
+                kind: ethertype,
                 payload,
             },
         )
@@ -442,9 +443,9 @@ impl<const C: usize> Running<C> {
                 from,
                 dst,
                 vlan,
-                kind,
+                kind: ethertype,
                 payload,
-            } => self.send(touching, *node, *from, *dst, *vlan, *kind, payload),
+            } => self.send(touching, *node, *from, *dst, *vlan, *ethertype, payload),
             Step::Supervise { node, about } => self.supervise(touching, *node, *about),
             Step::Age { node } => self.age(touching, *node),
             Step::Put { node, port } => self.put(ports, *node, *port),
@@ -528,7 +529,6 @@ impl<const C: usize> Running<C> {
 
 impl<const C: usize> Running<C> {
     ghost use Rattle.hsr_finished_run.specs.Checked.{IfDisagree, IsOpen};
-    ghost use Rattle.hsr_run_laws.specs.Closed.{IsTableSize};
     ghost use Rattle.hsr_run_laws.specs.Once.{IsCalm};
     ghost use Rattle.hsr_run_laws.specs.Premises.{NumberedFirst};
     ghost use Rattle.hsr_world_laws.specs.Lawful.{IsEnded, finished_of};

@@ -3,6 +3,7 @@
 //! A world is two layers. `Running` steps exactly as the definition says. `World` keeps in its type that it was reached
 //! from the first world of its topology by steps, so what holds of every such world holds of it.
 ghost use Rattle.std.specs.Prelude.{◌≡◌, ◌≤◌, ◌<◌, ◌⊎◌, ◌^◌, Ok, Err, None, OnOk, IfErr, IfOk, length, reverse};
+ghost use Rattle.hsr_duptable.specs.Table.{IsTableSize};
 ghost use Rattle.hsr_world_steps.specs.declared.step.WorldFault.TheVariants.{NoMemory as NoRoom};
 
 use crate::fit::{places_fit, step_fits};
@@ -55,7 +56,7 @@ impl<const C: usize> World<C> {
     /// A world at moment 0 in which nothing was done, with room for `capacity` copies, 1 to 4096, in each direction of a link.
     /// `NoMemory` where room is refused.
     pub fn new(alloc: Global, topology: Topology, capacity: usize) -> Result<World<C>, NoMemory>
-        requires entries { (1 ≤ C) × (C ≤ 65535) }
+        requires entries { IsTableSize C }
         requires room { (1 ≤ capacity) × (capacity ≤ 4096) }
         ensures { IfOk result (λ world. world ≡ new_world capacity topology.places topology.links) }
     {

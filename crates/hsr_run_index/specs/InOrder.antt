@@ -14,12 +14,12 @@ use Rattle.hsr_run_index.specs.declared.agreement.Passage.{Passage}
 use Rattle.hsr_run_index.specs.declared.agreement.Passage.TheVariants.{Put, Taken}
 
 -- the copy of a row that was put, or taken
-abbrev pub told_copy : Passage → Dir → Row → Option Carried
-told_copy Put = put_copy
-told_copy Taken = taken_copy
+abbrev pub copy_of_passage : Passage → Dir → Row → Option Carried
+copy_of_passage Put = put_copy
+copy_of_passage Taken = taken_copy
 
 abbrev pub told : Passage → Dir → List Row → List Carried
-told which dir rows = filter_map (told_copy which dir) rows
+told which dir rows = filter_map (copy_of_passage which dir) rows
 
 -- the copy that the n-th entry of a record let leave by a port
 abbrev pub passed_by : Owner → ℕ → ℕ → Entry → Option Carried

@@ -1,7 +1,7 @@
 //! Whether links agree with the records of the nodes at their ends.
 ghost use Rattle.std.specs.Prelude.{◌≡◌, ◌↔◌, [], ◌∷◌, IfOk, IfSome, IsTrue, MatchOption};
 ghost use Rattle.std.specs.List.{cons_option};
-ghost use Rattle.hsr_run_index.specs.InOrder.{PutsFit, TakensFit, came, came_by, passed, passed_by, told, told_copy};
+ghost use Rattle.hsr_run_index.specs.InOrder.{PutsFit, TakensFit, came, came_by, passed, passed_by, told, copy_of_passage};
 
 use crate::counts::is_as_often;
 use hsr_frame::NoMemory;
@@ -21,7 +21,7 @@ pub enum Passage {
 
 /// Whether the copy of a row was put, or taken, in a direction.
 fn is_told(which: Passage, dir: Dir, row: &Row) -> bool
-    ensures { (if result then Some row.now.carried else None) ≡ told_copy which dir row.now }
+    ensures { (if result then Some row.now.carried else None) ≡ copy_of_passage which dir row.now }
 {
     match which {
         Passage::Put => row.dir == dir && !row.injected,

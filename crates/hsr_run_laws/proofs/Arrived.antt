@@ -96,7 +96,7 @@ module _ (capacity : ℕ) (owner : Owner) (may : Knowing) (e : Egress) (send : P
 
       by_event : (event : Event) → x.event ≡ event → AllByRecursion (WouldGo owner may port e send) (cons_option (copy_at port event) (arrivals port past)) →
           list_any (is_copy send) (cons_option (copy_at port event) (arrivals port past)) ≡ true → Rest → Goal
-      by_event (Send from dst vlan kind payload) is all some rest = older (rest all some)
+      by_event (Send from dst vlan ethertype payload) is all some rest = older (rest all some)
       by_event (Supervise about) is all some rest = older (rest all some)
       by_event Age is all some rest = older (rest all some)
       by_event (Arrive number copy) is all some rest = by_port (number == port) number copy (eqb-true number port) is all some rest

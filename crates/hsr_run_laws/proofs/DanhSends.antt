@@ -41,11 +41,11 @@ SendsOrNot mac mode event outcome =
     ((sent_by (Danh mac mode) event outcome ≡ None) × ((r : RingExit) → copy_octets (Danh mac mode) event outcome (exit_port r) ≡ None))
     ⊎ ((s : Sending) × (sent_by (Danh mac mode) event outcome ≡ Some s) × IsOwnSend mac mode event outcome s)
 
-send_octets : (mac : List ℕ) (mode : Mode) (from : ℕ) (dst : List ℕ) (vlan : Option ℕ) (kind : ℕ) (payload : List ℕ) (seq : ℕ) (o : Option Fields) → asked_frame (address_at (Danh mac mode) from) dst vlan kind payload ≡ o → (r : RingExit) →
-    copy_octets (Danh mac mode) (Send from dst vlan kind payload) (Sent (Some seq) (true ∷ true ∷ false ∷ false ∷ [])) (exit_port r) ≡ written (side_of (Danh mac mode) (exit_port r)) (Some seq) o
+send_octets : (mac : List ℕ) (mode : Mode) (from : ℕ) (dst : List ℕ) (vlan : Option ℕ) (ethertype : ℕ) (payload : List ℕ) (seq : ℕ) (o : Option Fields) → asked_frame (address_at (Danh mac mode) from) dst vlan ethertype payload ≡ o → (r : RingExit) →
+    copy_octets (Danh mac mode) (Send from dst vlan ethertype payload) (Sent (Some seq) (true ∷ true ∷ false ∷ false ∷ [])) (exit_port r) ≡ written (side_of (Danh mac mode) (exit_port r)) (Some seq) o
 unfolding copy_octets passed_octets
-send_octets mac mode from dst vlan kind payload seq o is by_a = ap (written (side_of (Danh mac mode) 0) (Some seq)) is
-send_octets mac mode from dst vlan kind payload seq o is by_b = ap (written (side_of (Danh mac mode) 1) (Some seq)) is
+send_octets mac mode from dst vlan ethertype payload seq o is by_a = ap (written (side_of (Danh mac mode) 0) (Some seq)) is
+send_octets mac mode from dst vlan ethertype payload seq o is by_b = ap (written (side_of (Danh mac mode) 1) (Some seq)) is
 
 life_out : (mac : List ℕ) (mode : Mode) (about : About) (seq life : ℕ) (o : Option Fields) → life_frame (Some mac) about life ≡ o → (r : RingExit) →
     copy_octets (Danh mac mode) (Supervise about) (Life seq life (true ∷ true ∷ false ∷ false ∷ [])) (exit_port r) ≡ written (side_of (Danh mac mode) (exit_port r)) (Some seq) o
@@ -69,21 +69,21 @@ nothing_aged mac mode event outcome port e = ap (λ ev. copy_octets (Danh mac mo
     shut true = refl
     shut false = refl
 
-pub danh_sends : (capacity number : ℕ) (mac : List ℕ) (mode : Mode) (past : List Entry) (at from : ℕ) (dst : List ℕ) (vlan : Option ℕ) (kind : ℕ) (payload : List ℕ) (outcome : Outcome) →
-    answer capacity (danh number mac mode) past at (Send from dst vlan kind payload) ≡ Ok outcome → SendsOrNot mac mode (Send from dst vlan kind payload) outcome
-danh_sends capacity number mac mode past at from dst vlan kind payload outcome ok = by_from (from == 0) refl ok
+pub danh_sends : (capacity number : ℕ) (mac : List ℕ) (mode : Mode) (past : List Entry) (at from : ℕ) (dst : List ℕ) (vlan : Option ℕ) (ethertype : ℕ) (payload : List ℕ) (outcome : Outcome) →
+    answer capacity (danh number mac mode) past at (Send from dst vlan ethertype payload) ≡ Ok outcome → SendsOrNot mac mode (Send from dst vlan ethertype payload) outcome
+danh_sends capacity number mac mode past at from dst vlan ethertype payload outcome ok = by_from (from == 0) refl ok
   where
     event : Event
-    event = Send from dst vlan kind payload
+    event = Send from dst vlan ethertype payload
 
     address : Bool → Option (List ℕ)
     address t = if t then Some mac else None
 
-    by_frame : (o : Option Fields) → asked_frame (address_at (Danh mac mode) from) dst vlan kind payload ≡ o → (seq : ℕ) → is_same_address dst mac ≡ false → SendsOrNot mac mode (Send from dst vlan kind payload) (Sent (Some seq) (true ∷ true ∷ false ∷ false ∷ []))
+    by_frame : (o : Option Fields) → asked_frame (address_at (Danh mac mode) from) dst vlan ethertype payload ≡ o → (seq : ℕ) → is_same_address dst mac ≡ false → SendsOrNot mac mode (Send from dst vlan ethertype payload) (Sent (Some seq) (true ∷ true ∷ false ∷ false ∷ []))
     by_frame None is seq other =
-        inl (ap (sending_of (Some seq)) is, λ r. send_octets mac mode from dst vlan kind payload seq None is r ∙ written_none mac mode seq r)
+        inl (ap (sending_of (Some seq)) is, λ r. send_octets mac mode from dst vlan ethertype payload seq None is r ∙ written_none mac mode seq r)
     by_frame (Some f) is seq other =
-        let two = asked_source (address_at (Danh mac mode) from) dst vlan kind payload f is in
+        let two = asked_source (address_at (Danh mac mode) from) dst vlan ethertype payload f is in
         inr (
           record { frame = f; seq = Some seq },
           ap (sending_of (Some seq)) is,
@@ -92,7 +92,7 @@ danh_sends capacity number mac mode past at from dst vlan kind payload outcome o
             number = refl;
             source = asked_here f two.0;
             elsewhere = λ single same. other_address dst mac other (sym two.1 ∙ same);
-            octets = λ r. send_octets mac mode from dst vlan kind payload seq (Some f) is r ∙ written_some mac mode seq f r;
+            octets = λ r. send_octets mac mode from dst vlan ethertype payload seq (Some f) is r ∙ written_some mac mode seq f r;
           },
         )
       where
@@ -112,13 +112,13 @@ danh_sends capacity number mac mode past at from dst vlan kind payload outcome o
         by_fault None e = cc
         by_fault (Some fault) e = absurd cc
 
-    by_from : (t : Bool) → (from == 0) ≡ t → send_answer capacity (danh number mac mode) past at (if t then Some mac else None) dst kind (length payload) ≡ Ok outcome → SendsOrNot mac mode (Send from dst vlan kind payload) outcome
+    by_from : (t : Bool) → (from == 0) ≡ t → send_answer capacity (danh number mac mode) past at (if t then Some mac else None) dst ethertype (length payload) ≡ Ok outcome → SendsOrNot mac mode (Send from dst vlan ethertype payload) outcome
     by_from false is e = absurd cc
     by_from true is e =
         let two = accepted (is_same_address dst mac) refl
-        ((kind == 0x892F || kind == 0x8100, Some ReservedType) ∷ (steps past == 2 ^ 62, Some refused.Spent) ∷ (nat_lt 1500 (length payload), Some TooLong) ∷ []) e in
-        let P : Outcome → Type 0 = λ o. SendsOrNot mac mode (Send from dst vlan kind payload) o in
-        subst P two.0 (by_frame (asked_frame (address_at (Danh mac mode) from) dst vlan kind payload) refl (next_number past) two.1)
+        ((ethertype == 0x892F || ethertype == 0x8100, Some ReservedType) ∷ (steps past == 2 ^ 62, Some refused.Spent) ∷ (nat_lt 1500 (length payload), Some TooLong) ∷ []) e in
+        let P : Outcome → Type 0 = λ o. SendsOrNot mac mode (Send from dst vlan ethertype payload) o in
+        subst P two.0 (by_frame (asked_frame (address_at (Danh mac mode) from) dst vlan ethertype payload) refl (next_number past) two.1)
 
 pub danh_lives : (capacity number : ℕ) (mac : List ℕ) (mode : Mode) (past : List Entry) (at : ℕ) (about : About) (outcome : Outcome) →
     answer capacity (danh number mac mode) past at (Supervise about) ≡ Ok outcome → SendsOrNot mac mode (Supervise about) outcome

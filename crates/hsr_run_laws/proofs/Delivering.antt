@@ -36,7 +36,7 @@ module _ (capacity : ℕ) (owner : Owner) where
   delivers_is x past send ok yes_it = by_event x.event refl yes_it
     where
       by_event : (event : Event) → x.event ≡ event → delivers_by send event x.outcome ≡ true → Delivers x past send
-      by_event (Send from dst vlan kind payload) is h = absurd (false≢true h)
+      by_event (Send from dst vlan ethertype payload) is h = absurd (false≢true h)
       by_event (Supervise about) is h = absurd (false≢true h)
       by_event Age is h = absurd (false≢true h)
       by_event (Arrive port copy) is h =

@@ -194,7 +194,7 @@ record_keeps run budget k below (x ∷ past) legal stands of_send first in_time 
   where
     by_event : (event : Event) → OfArrival (IsOfSend run) event → IsInTime run (now (x ∷ past)) event → Each (λ x past. Remembers run.capacity (owner_of run k) past (now (x ∷ past)) x.event) past →
         Remembers run.capacity (owner_of run k) past (now (x ∷ past)) event
-    by_event (Send from dst vlan kind payload) o t rest = tt
+    by_event (Send from dst vlan ethertype payload) o t rest = tt
     by_event (Supervise about) o t rest = tt
     by_event Age o t rest = tt
     by_event (Arrive port copy) o t rest = λ ring e wanted some.

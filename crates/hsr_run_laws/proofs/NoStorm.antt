@@ -69,7 +69,7 @@ pub pass_from : (capacity : ℕ) (owner : Owner) (n : ℕ) (x : Entry) (past : L
 pass_from capacity owner n x past copy ok p = by_event x.event refl
   where
     by_event : (event : Event) → x.event ≡ event → (copy.probe ≡ Some (record { node = owner.number; place = length past })) ⊎ PassCame capacity owner x past copy
-    by_event (Send from dst vlan kind payload) is = inl (p.probe ∙ ap (probe_handled (record { node = owner.number; place = length past })) is)
+    by_event (Send from dst vlan ethertype payload) is = inl (p.probe ∙ ap (probe_handled (record { node = owner.number; place = length past })) is)
     by_event (Supervise about) is = inl (p.probe ∙ ap (probe_handled (record { node = owner.number; place = length past })) is)
     by_event Age is = inl (p.probe ∙ ap (probe_handled (record { node = owner.number; place = length past })) is)
     by_event (Arrive port come) is =

@@ -166,7 +166,7 @@ note_from capacity owner e x past note ok n = by_event x.event refl
     here = record { node = owner.number; place = length past }
 
     by_event : (event : Event) → x.event ≡ event → (note.probe ≡ Some (record { node = owner.number; place = length past })) ⊎ NoteCame capacity owner e x past note
-    by_event (Send from dst vlan kind payload) is = inl (n.probe ∙ ap (probe_handled (record { node = owner.number; place = length past })) is)
+    by_event (Send from dst vlan ethertype payload) is = inl (n.probe ∙ ap (probe_handled (record { node = owner.number; place = length past })) is)
     by_event (Supervise about) is = inl (n.probe ∙ ap (probe_handled (record { node = owner.number; place = length past })) is)
     by_event Age is = inl (n.probe ∙ ap (probe_handled (record { node = owner.number; place = length past })) is)
     by_event (Arrive port copy) is = inr (came_with capacity owner e x past note port copy ok n is)

@@ -38,14 +38,14 @@ numbered_at n (x ∷ past) = if n == length past then numbered past else numbere
 -- each frame of a DANH's own gets the next number
 pub danh_number : (capacity number : ℕ) (mac : List ℕ) (mode : Mode) (past : List Entry) (at : ℕ) (event : Event) (outcome : Outcome) → answer capacity (danh number mac mode) past at event ≡ Ok outcome → is_sending event ≡ true →
     number_in outcome ≡ Some (next_number past)
-danh_number capacity number mac mode past at (Send from dst vlan kind payload) outcome ok is = by_from (from == 0) ok
+danh_number capacity number mac mode past at (Send from dst vlan ethertype payload) outcome ok is = by_from (from == 0) ok
   where
     by_fault : (o : Option SendFault) → sent_or_refused o (Sent (Some (next_number past)) (true ∷ true ∷ false ∷ false ∷ [])) ≡ Ok outcome → number_in outcome ≡ Some (next_number past)
     by_fault None e = let same : Sent (Some (next_number past)) (true ∷ true ∷ false ∷ false ∷ []) ≡ outcome = cc in sym (ap number_in same)
     by_fault (Some fault) e = absurd cc
 
-    by_from : (t : Bool) → send_answer capacity (danh number mac mode) past at (if t then Some mac else None) dst kind (length payload) ≡ Ok outcome → number_in outcome ≡ Some (next_number past)
-    by_from true e = by_fault (send_refusal mac (steps past) dst kind (length payload)) e
+    by_from : (t : Bool) → send_answer capacity (danh number mac mode) past at (if t then Some mac else None) dst ethertype (length payload) ≡ Ok outcome → number_in outcome ≡ Some (next_number past)
+    by_from true e = by_fault (send_refusal mac (steps past) dst ethertype (length payload)) e
     by_from false e = absurd cc
 danh_number capacity number mac mode past at (Supervise (Proxied other)) outcome ok is = absurd cc
 danh_number capacity number mac mode past at (Supervise Own) outcome ok is = by_spent (steps past == 2 ^ 62) ok
@@ -58,7 +58,7 @@ danh_number capacity number mac mode past at Age outcome ok is = absurd (false�
 
 -- and nothing else does
 pub numbered_sends : (capacity number : ℕ) (mac : List ℕ) (mode : Mode) (past : List Entry) (at : ℕ) (event : Event) (outcome : Outcome) → answer capacity (danh number mac mode) past at event ≡ Ok outcome → is_some (number_in outcome) ≡ is_sending event
-numbered_sends capacity number mac mode past at (Send from dst vlan kind payload) outcome ok = ap is_some (danh_number capacity number mac mode past at (Send from dst vlan kind payload) outcome ok refl)
+numbered_sends capacity number mac mode past at (Send from dst vlan ethertype payload) outcome ok = ap is_some (danh_number capacity number mac mode past at (Send from dst vlan ethertype payload) outcome ok refl)
 numbered_sends capacity number mac mode past at (Supervise about) outcome ok = ap is_some (danh_number capacity number mac mode past at (Supervise about) outcome ok refl)
 numbered_sends capacity number mac mode past at Age outcome ok = let same : Aged ≡ outcome = cc in ap (λ o. is_some (number_in o)) (sym same)
 numbered_sends capacity number mac mode past at (Arrive port copy) outcome ok =

@@ -167,10 +167,10 @@ module _ (capacity number : ℕ) (mac : List ℕ) (mode : Mode) where
           subst P same some.2
 
       by_event : (event : Event) → x.event ≡ event → IsOwnSend mac mode x.event x.outcome s × (probe_handled (record { node = number; place = length past }) x.event ≡ Some (record { node = number; place = length past }))
-      by_event (Send from dst vlan kind payload) e =
+      by_event (Send from dst vlan ethertype payload) e =
           let A : Event → Type 0 = λ ev. answer capacity me past (now (x ∷ past)) ev ≡ Ok x.outcome in
           let S : Event → Type 0 = λ ev. SendsOrNot mac mode ev x.outcome in
-          (this (subst S (sym e) (danh_sends capacity number mac mode past (now (x ∷ past)) from dst vlan kind payload x.outcome (subst A e ok))), ap (probe_handled (record { node = number; place = length past })) e)
+          (this (subst S (sym e) (danh_sends capacity number mac mode past (now (x ∷ past)) from dst vlan ethertype payload x.outcome (subst A e ok))), ap (probe_handled (record { node = number; place = length past })) e)
       by_event (Supervise about) e =
           let A : Event → Type 0 = λ ev. answer capacity me past (now (x ∷ past)) ev ≡ Ok x.outcome in
           let S : Event → Type 0 = λ ev. SendsOrNot mac mode ev x.outcome in

@@ -22,7 +22,7 @@ use Rattle.hsr_run_laws.proofs.Noting.{IsNoteOf, new_note}
 -- P of what an arrival brings
 abbrev pub OfArrival : (Carried → Type 0) → Event → Type 0
 OfArrival P (Arrive port copy) = P copy
-OfArrival P (Send from dst vlan kind payload) = Unit {0}
+OfArrival P (Send from dst vlan ethertype payload) = Unit {0}
 OfArrival P (Supervise about) = Unit {0}
 OfArrival P Age = Unit {0}
 
@@ -48,7 +48,7 @@ each_from_ports P (x ∷ past) all = (step x.event all, each_from_ports P past (
     rest port (Some c) h = h.1
 
     step : (event : Event) → ((port : ℕ) → AllByRecursion P (cons_option (copy_at port event) (arrivals port past))) → OfArrival P event
-    step (Send from dst vlan kind payload) all = tt
+    step (Send from dst vlan ethertype payload) all = tt
     step (Supervise about) all = tt
     step Age all = tt
     step (Arrive number copy) all =
@@ -108,11 +108,11 @@ IsSource (RedBox mac mode) src = src ≡ mac
 IsSource QuadBox src = ⊥
 IsSource (Station macs) src = (from : ℕ) × (slice_get macs.items from ≡ Some src)
 
-pub asked_source : (address : Option (List ℕ)) (dst : List ℕ) (vlan : Option ℕ) (kind : ℕ) (payload : List ℕ) (f : Fields) → asked_frame address dst vlan kind payload ≡ Some f →
+pub asked_source : (address : Option (List ℕ)) (dst : List ℕ) (vlan : Option ℕ) (ethertype : ℕ) (payload : List ℕ) (f : Fields) → asked_frame address dst vlan ethertype payload ≡ Some f →
     (address ≡ Some f.src) × (f.dst ≡ dst)
-asked_source None dst vlan kind payload f h = absurd cc
-asked_source (Some src) dst vlan kind payload f h =
-    let same = same_frame (record { dst = dst; src = src; vlan = vlan; kind = kind; rest = payload }) f h in
+asked_source None dst vlan ethertype payload f h = absurd cc
+asked_source (Some src) dst vlan ethertype payload f h =
+    let same = same_frame (record { dst = dst; src = src; vlan = vlan; kind = ethertype; rest = payload }) f h in
     (ap (λ (g : Fields). Some g.src) same, ap (λ (g : Fields). g.dst) (sym same))
 
 pub sending_frame : (seq : Option ℕ) (frame : Option Fields) (s : Sending) → sending_of seq frame ≡ Some s → (frame ≡ Some s.frame) × (s.seq ≡ seq)

@@ -181,7 +181,7 @@ each_arrival P capacity number mac mode (x ∷ past) legal on_a on_b = step x.ev
     step : (event : Event) (outcome : Rattle.hsr_node.specs.declared.event.Outcome.Outcome) → answer capacity (danh number mac mode) past (now (x ∷ past)) event ≡ Ok outcome →
         AllByRecursion P (cons_option (copy_at 0 event) (arrivals 0 past)) → AllByRecursion P (cons_option (copy_at 1 event) (arrivals 1 past)) → Rest →
         OfArrival P event × Each (λ x past. OfArrival P x.event) past
-    step (Send from dst vlan kind payload) outcome ok on_a on_b rest = (tt, rest on_a on_b)
+    step (Send from dst vlan ethertype payload) outcome ok on_a on_b rest = (tt, rest on_a on_b)
     step (Supervise about) outcome ok on_a on_b rest = (tt, rest on_a on_b)
     step Age outcome ok on_a on_b rest = (tt, rest on_a on_b)
     step (Arrive port copy) outcome ok on_a on_b rest = ports port copy (danh_port capacity number mac mode past (now (x ∷ past)) port copy outcome ok) on_a on_b rest

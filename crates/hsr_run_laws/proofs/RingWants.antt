@@ -23,10 +23,10 @@ use Rattle.hsr_run_laws.proofs.Danh.{Forwards, RingExit, by_a, by_b, egress, exi
 use Rattle.hsr_run_laws.proofs.Same.{address_other, address_same, same_address}
 
 -- no supervision frame is to a single address
-pub no_life : (dst : List ℕ) (kind : ℕ) → is_group dst ≡ false → is_supervision dst kind ≡ false
-no_life dst kind single = by_test (is_same_address dst supervision_address) refl
+pub no_life : (dst : List ℕ) (ethertype : ℕ) → is_group dst ≡ false → is_supervision dst ethertype ≡ false
+no_life dst ethertype single = by_test (is_same_address dst supervision_address) refl
   where
-    by_test : (b : Bool) → is_same_address dst supervision_address ≡ b → (b && (kind == ethertype_supervision)) ≡ false
+    by_test : (b : Bool) → is_same_address dst supervision_address ≡ b → (b && (ethertype == ethertype_supervision)) ≡ false
     by_test false e = refl
     by_test true e = absurd (false≢true (sym single ∙ ap is_group (same_address dst supervision_address e)))
 

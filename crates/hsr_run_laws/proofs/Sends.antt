@@ -99,9 +99,9 @@ module _ (capacity number : ℕ) (mac : List ℕ) (mode : Mode) where
           )
 
       by_event : (event : Event) → x.event ≡ event → NoneOrSo whole r (pass_of me (exit_port r) x past)
-      by_event (Send from dst vlan kind payload) e =
+      by_event (Send from dst vlan ethertype payload) e =
           let S : Event → Type 0 = λ ev. SendsOrNot mac mode ev x.outcome in
-          own (subst S (sym e) (danh_sends capacity number mac mode past (now (x ∷ past)) from dst vlan kind payload x.outcome (answered (Send from dst vlan kind payload) e)))
+          own (subst S (sym e) (danh_sends capacity number mac mode past (now (x ∷ past)) from dst vlan ethertype payload x.outcome (answered (Send from dst vlan ethertype payload) e)))
       by_event (Supervise about) e =
           let S : Event → Type 0 = λ ev. SendsOrNot mac mode ev x.outcome in
           own (subst S (sym e) (danh_lives capacity number mac mode past (now (x ∷ past)) about x.outcome (answered (Supervise about) e)))

@@ -20,10 +20,10 @@ use Rattle.hsr_run_laws.proofs.Records.{Answered, sending_frame}
 use Rattle.hsr_run_laws.proofs.Ring.{legal}
 
 pub sent_number : (place : Place) (event : Event) (outcome : Outcome) (s : Sending) → sent_by place event outcome ≡ Some s → (s.seq ≡ number_in outcome) × (is_sending event ≡ true)
-sent_number place (Send from dst vlan kind payload) (Sent seq ports) s h = ((sending_frame seq (asked_frame (address_at place from) dst vlan kind payload) s h).1, refl)
-sent_number place (Send from dst vlan kind payload) (Life seq life ports) s h = absurd cc
-sent_number place (Send from dst vlan kind payload) (Judged up_too ports seq why) s h = absurd cc
-sent_number place (Send from dst vlan kind payload) Aged s h = absurd cc
+sent_number place (Send from dst vlan ethertype payload) (Sent seq ports) s h = ((sending_frame seq (asked_frame (address_at place from) dst vlan ethertype payload) s h).1, refl)
+sent_number place (Send from dst vlan ethertype payload) (Life seq life ports) s h = absurd cc
+sent_number place (Send from dst vlan ethertype payload) (Judged up_too ports seq why) s h = absurd cc
+sent_number place (Send from dst vlan ethertype payload) Aged s h = absurd cc
 sent_number place (Supervise about) (Life seq life ports) s h = ((sending_frame (Some seq) (life_frame (ring_address place) about life) s h).1, refl)
 sent_number place (Supervise about) (Sent seq ports) s h = absurd cc
 sent_number place (Supervise about) (Judged up_too ports seq why) s h = absurd cc
@@ -52,7 +52,7 @@ each_counted whole (x ∷ past) agree = (
 
 -- the key of a DANH's own frame
 pub own_key_is : (mac : List ℕ) (mode : Mode) (event : Event) (outcome : Outcome) → is_sending event ≡ true → key_handled (Danh mac mode) event outcome ≡ own_key (Some mac) (number_in outcome)
-own_key_is mac mode (Send from dst vlan kind payload) outcome is = refl
+own_key_is mac mode (Send from dst vlan ethertype payload) outcome is = refl
 own_key_is mac mode (Supervise about) outcome is = refl
 own_key_is mac mode (Arrive port copy) outcome is = absurd (false≢true is)
 own_key_is mac mode Age outcome is = absurd (false≢true is)

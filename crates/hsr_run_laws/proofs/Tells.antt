@@ -210,7 +210,7 @@ module _ (run : Run) (macs : List (List ℕ)) (closed : IsClosed run) (ring : Is
           subst P (sym o.named) (subst Q (sym keyed.named) (subst R equal (is_of_itself o.send)))
 
       by_event : (event : Event) → OfArrival (IsOfSend run) event → IsInTime run (now (x ∷ past)) event → KnowsOwn run.capacity (danh k (mac_at macs k) (mode_at run k)) past (now (x ∷ past)) event
-      by_event (Send from dst vlan kind payload) o t = tt
+      by_event (Send from dst vlan ethertype payload) o t = tt
       by_event (Supervise about) o t = tt
       by_event Age o t = tt
       by_event (Arrive port copy) o t = λ on_ring e wanted key is.

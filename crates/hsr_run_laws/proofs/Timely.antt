@@ -35,7 +35,7 @@ note_kind capacity owner e x past note ok n = by_event x.event refl (note_from c
 
     by_event : (event : Event) → x.event ≡ event → Own ⊎ NoteCame capacity owner e x past note → Goal
     by_event event is (inr came) = inr came
-    by_event (Send from dst vlan kind payload) is (inl own) = inl (own, ap is_sending is)
+    by_event (Send from dst vlan ethertype payload) is (inl own) = inl (own, ap is_sending is)
     by_event (Supervise about) is (inl own) = inl (own, ap is_sending is)
     by_event Age is (inl own) =
         let A : Event → Type 0 = λ ev. answer capacity owner past (now (x ∷ past)) ev ≡ Ok x.outcome in
@@ -50,7 +50,7 @@ is_send_at n [] = false
 is_send_at n (x ∷ past) = if n == length past then is_sending x.event else is_send_at n past
 
 pub sent_is_sending : (place : Place) (event : Event) (outcome : Outcome) (s : Sending) → sent_by place event outcome ≡ Some s → is_sending event ≡ true
-sent_is_sending place (Send from dst vlan kind payload) outcome s h = refl
+sent_is_sending place (Send from dst vlan ethertype payload) outcome s h = refl
 sent_is_sending place (Supervise about) outcome s h = refl
 sent_is_sending place (Arrive port copy) outcome s h = absurd cc
 sent_is_sending place Age outcome s h = absurd cc

@@ -61,6 +61,6 @@ record_numbers_none run owner (x ∷ past) no_box legal = (step x.event x.outcom
     step (Arrive port copy) (Sent seq ports) ok = tt
     step (Arrive port copy) (Life seq life ports) ok = tt
     step (Arrive port copy) Aged ok = tt
-    step (Send from dst vlan kind payload) outcome ok = tt
+    step (Send from dst vlan ethertype payload) outcome ok = tt
     step (Supervise about) outcome ok = tt
     step Age outcome ok = tt

@@ -74,12 +74,12 @@ lives_at QuadBox about life f h = absurd cc
 lives_at (Station macs) about life f h = absurd cc
 
 pub sent_source : (place : Place) (event : Event) (outcome : Outcome) (s : Sending) → sent_by place event outcome ≡ Some s → IsSource place s.frame.src
-sent_source place (Send from dst vlan kind payload) (Sent seq ports) s h =
-    let f = (sending_frame seq (asked_frame (address_at place from) dst vlan kind payload) s h).0 in
-    asked_at place from s.frame.src (asked_source (address_at place from) dst vlan kind payload s.frame f).0
-sent_source place (Send from dst vlan kind payload) (Life seq life ports) s h = absurd cc
-sent_source place (Send from dst vlan kind payload) (Judged up_too ports seq why) s h = absurd cc
-sent_source place (Send from dst vlan kind payload) Aged s h = absurd cc
+sent_source place (Send from dst vlan ethertype payload) (Sent seq ports) s h =
+    let f = (sending_frame seq (asked_frame (address_at place from) dst vlan ethertype payload) s h).0 in
+    asked_at place from s.frame.src (asked_source (address_at place from) dst vlan ethertype payload s.frame f).0
+sent_source place (Send from dst vlan ethertype payload) (Life seq life ports) s h = absurd cc
+sent_source place (Send from dst vlan ethertype payload) (Judged up_too ports seq why) s h = absurd cc
+sent_source place (Send from dst vlan ethertype payload) Aged s h = absurd cc
 sent_source place (Supervise about) (Life seq life ports) s h = lives_at place about life s.frame (sending_frame (Some seq) (life_frame (ring_address place) about life) s h).0
 sent_source place (Supervise about) (Sent seq ports) s h = absurd cc
 sent_source place (Supervise about) (Judged up_too ports seq why) s h = absurd cc

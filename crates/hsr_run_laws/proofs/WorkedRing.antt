@@ -187,14 +187,14 @@ none_mistaken key probe (n ∷ ns) h =
 
 keeps : (owner : Owner) (past : List Entry) (at : ℕ) (event : Event) → ((e : Egress) → OwnNotes owner past at event e) → Remembers 512 owner past at event
 keeps owner past at (Arrive port copy) all = λ ring e wanted noted. subst (λ ns. list_any (is_note_of copy.probe) ns ≡ true) (sym (all e).0) noted
-keeps owner past at (Send from dst vlan kind payload) all = tt
+keeps owner past at (Send from dst vlan ethertype payload) all = tt
 keeps owner past at (Supervise about) all = tt
 keeps owner past at Age all = tt
 
 tells : (owner : Owner) (past : List Entry) (at : ℕ) (event : Event) → ((e : Egress) → OwnNotes owner past at event e) → KnowsOwn 512 owner past at event
 tells owner past at (Arrive port copy) all = λ ring e wanted key is.
     ap (λ ns. list_any (is_mistaken key copy.probe) ns) (all e).0 ∙ none_mistaken key copy.probe (notes owner e past) (all e).1
-tells owner past at (Send from dst vlan kind payload) all = tt
+tells owner past at (Send from dst vlan ethertype payload) all = tt
 tells owner past at (Supervise about) all = tt
 tells owner past at Age all = tt
 

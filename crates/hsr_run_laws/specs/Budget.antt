@@ -23,7 +23,7 @@ pub record Sent : Type 0 where
   pub moment : ℕ
 
 abbrev pub is_sending : Event → Bool
-is_sending (Send from dst vlan kind payload) = true
+is_sending (Send from dst vlan ethertype payload) = true
 is_sending (Supervise about) = true
 is_sending (Arrive port copy) = false
 is_sending Age = false

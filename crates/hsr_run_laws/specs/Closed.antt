@@ -1,11 +1,11 @@
 -- A run is closed: nothing is under way, and what the nodes did, what went over the links and what was sent agree.
 --     PutAgrees, TakenAgrees   agreement of a link with the records of the nodes at its ends
 --     IsOfSend                 origin of a copy
---     IsTableSize              size of the duplicate tables
 --     IsClosed                 a closed run
 use Rattle.std.specs.Prelude.{ℕ, ◌<◌, ◌≤◌, ◌≡◌, ◌⊎◌, false, [], length, Option, Some, Ok, IsPermutation}
 use Rattle.std.specs.List.{AllByRecursion}
 use Rattle.std.specs.Option.{option_or}
+use Rattle.hsr_duptable.specs.Table.{IsTableSize}
 use Rattle.hsr_tag.specs.Seen.{classified}
 use Rattle.hsr_tag.specs.Tag.{TaggedFields}
 use Rattle.hsr_tag.specs.declared.seen.Seen.TheVariants.{Tagged}
@@ -54,10 +54,6 @@ pub record IsOfSend (run : Run) (copy : Carried) : Type 0 where
   pub number : (tagged : TaggedFields) → classified copy.octets ≡ Ok (Tagged tagged) → number_of run send sending ≡ Some tagged.seq
 
 -- ---- closed
-
--- a duplicate table has 1 to 65535 entries, fewer than there are sequence numbers (IEC 62439-3 clause 5)
-abbrev pub IsTableSize : ℕ → Type 0
-IsTableSize entries = (1 ≤ entries) × (entries ≤ 65535)
 
 -- a row is finished: a node put its copy, which is of a send, and the copy waits no more
 pub record IsSettled (run : Run) (row : Row) : Type 0 where

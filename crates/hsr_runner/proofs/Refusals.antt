@@ -57,7 +57,7 @@ misfit_of : (topology : Topology) (at : ℕ) (o : Order) (planned : Planned) →
 unfolding misfit_in
 misfit_of topology at Drain planned is = absurd cc
 misfit_of topology at (Step (Clock now)) planned is = absurd cc
-misfit_of topology at (Step (Send node from dst vlan kind payload)) planned is = ap (misfit_in topology) is
+misfit_of topology at (Step (Send node from dst vlan ethertype payload)) planned is = ap (misfit_in topology) is
 misfit_of topology at (Step (Supervise node about)) planned is = ap (misfit_in topology) is
 misfit_of topology at (Step (Age node)) planned is = ap (misfit_in topology) is
 misfit_of topology at (Step (Put node port)) planned is = absurd cc
@@ -92,7 +92,7 @@ misfit_plain : (topology : Topology) (o : Order) → is_plain (misfit topology o
 unfolding is_plain
 misfit_plain topology Drain = refl
 misfit_plain topology (Step (Clock now)) = refl
-misfit_plain topology (Step (Send node from dst vlan kind payload)) = if_plain (nat_lt node (length topology.places)) None (Some NoSuchNode) refl refl
+misfit_plain topology (Step (Send node from dst vlan ethertype payload)) = if_plain (nat_lt node (length topology.places)) None (Some NoSuchNode) refl refl
 misfit_plain topology (Step (Supervise node about)) = if_plain (nat_lt node (length topology.places)) None (Some NoSuchNode) refl refl
 misfit_plain topology (Step (Age node)) = if_plain (nat_lt node (length topology.places)) None (Some NoSuchNode) refl refl
 misfit_plain topology (Step (Put node port)) = refl

@@ -50,7 +50,7 @@ too_long octets = if nat_lt 2048 (length octets) then Some TooLong else None
 
 -- its node or link isn't there, or more than 2048 octets are injected
 abbrev pub misfit : Topology → Order → Option WorldFault
-misfit topology (order.Step (Send node from dst vlan kind payload)) = if_node topology node
+misfit topology (order.Step (Send node from dst vlan ethertype payload)) = if_node topology node
 misfit topology (order.Step (Supervise node about)) = if_node topology node
 misfit topology (order.Step (Age node)) = if_node topology node
 misfit topology (order.Step (Cut link)) = if_link topology link None

@@ -17,7 +17,7 @@ is_fine _ = false
 
 -- what a step at a moment brings about at a node
 abbrev pub planned_at : ℕ → Order → Option Planned
-planned_at at (Step (Send node from dst vlan kind payload)) = Some (record { node = node; at = at; event = event.Send from dst vlan kind payload })
+planned_at at (Step (Send node from dst vlan ethertype payload)) = Some (record { node = node; at = at; event = event.Send from dst vlan ethertype payload })
 planned_at at (Step (Supervise node about)) = Some (record { node = node; at = at; event = event.Supervise about })
 planned_at at (Step (Age node)) = Some (record { node = node; at = at; event = event.Age })
 planned_at at _ = None

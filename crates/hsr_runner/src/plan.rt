@@ -42,7 +42,7 @@ pub(crate) fn planned_at(at: u64, order: &Order) -> Result<Option<Planned>, NoMe
             from,
             dst,
             vlan,
-            kind,
+            kind: ethertype,
             payload,
         } => Ok(Some(Planned {
             node: *node,
@@ -51,7 +51,7 @@ pub(crate) fn planned_at(at: u64, order: &Order) -> Result<Option<Planned>, NoMe
                 from: *from,
                 dst: *dst,
                 vlan: *vlan,
-                kind: *kind,
+                kind: *ethertype,
                 // A copy, since the scenario keeps its own.
                 payload: payload.clone()?,
             },

@@ -48,11 +48,11 @@ send nodes ms = do
   _ ← only (key.Do ∷ key.Node ∷ key.To ∷ key.Kind ∷ key.Payload ∷ key.Vlan ∷ key.From ∷ []) ms
   node ← needed faults key.Node (used_name nodes) ms
   dst ← needed faults key.To (word faults mac_of) ms
-  kind ← needed faults key.Kind (between faults 0 65535) ms
+  ethertype ← needed faults key.Kind (between faults 0 65535) ms
   payload ← optional faults key.Payload [] (word faults octets_of) ms
   vlan ← optional faults key.Vlan None (perhaps (between faults 0 65535)) ms
   from ← optional faults key.From 0 (between faults 0 15) ms
-  Ok (Send node from dst vlan kind payload)
+  Ok (Send node from dst vlan ethertype payload)
 
 unfoldable pub life : List Named → Members → Result Step What
 life nodes ms = do

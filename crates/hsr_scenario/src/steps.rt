@@ -133,7 +133,7 @@ fn pair(key: Key, value: &Value) -> Result<u16, What>
 }
 
 /// The type of a send.
-fn kind(table: &Table) -> Result<u16, What>
+fn ethertype(table: &Table) -> Result<u16, What>
     ensures { Gives (λ n. n) result (needed faults key.Kind (between faults 0 65535)
         (table_view table.now)) }
 {
@@ -208,7 +208,7 @@ fn send(alloc: Global, nodes: &[Named], table: &Table) -> Result<Step, What>
     only(table, &SEND_KEYS)?;
     let node = used_node(nodes, table)?;
     let dst = destination(table)?;
-    let kind = kind(table)?;
+    let ethertype = ethertype(table)?;
     let payload = payload(alloc, table)?;
     let vlan = vlan(table)?;
     let from = from(table)?;
@@ -217,7 +217,7 @@ fn send(alloc: Global, nodes: &[Named], table: &Table) -> Result<Step, What>
         from,
         dst,
         vlan,
-        kind,
+        kind: ethertype,
         payload,
     })
 }

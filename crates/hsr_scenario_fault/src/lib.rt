@@ -20,4 +20,4 @@ mod words;
 
 pub use reasons::{words_of_check, words_of_step};
 pub use refused::told_step;
-pub use telling::told;
+pub use telling::scenario_fault_line;

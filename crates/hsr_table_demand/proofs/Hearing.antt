@@ -46,7 +46,7 @@ one_at (Some box.I) own at seen = one_source own at seen
 
 one_heard : (place : Place) (at : ℕ) (event : Event) → IsOne at (heard_from place at event)
 one_heard (RedBox mac mode) at (Arrive port copy) = one_at (box_port port) mac at (classified copy.octets)
-one_heard (RedBox mac mode) at (Send from dst vlan kind payload) = inl refl
+one_heard (RedBox mac mode) at (Send from dst vlan ethertype payload) = inl refl
 one_heard (RedBox mac mode) at (Supervise about) = inl refl
 one_heard (RedBox mac mode) at Age = inl refl
 one_heard (Danh mac mode) at event = inl refl

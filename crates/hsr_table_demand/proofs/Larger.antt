@@ -61,9 +61,9 @@ AreAlike m n owner past at (Arrive port copy) = (t : TaggedFields) → came copy
 AreAlike m n owner past at event = Unit {0}
 
 answer_same : (m n : ℕ) (owner : Owner) (past : List Entry) (at : ℕ) (event : Event) → AreAlike m n owner past at event → answer m owner past at event ≡ answer n owner past at event
-answer_same m n owner past at (Send from dst vlan kind payload) alike = by_address (address_at owner.place from)
+answer_same m n owner past at (Send from dst vlan ethertype payload) alike = by_address (address_at owner.place from)
   where
-    by_address : (o : Option (List ℕ)) → send_answer m owner past at o dst kind (length payload) ≡ send_answer n owner past at o dst kind (length payload)
+    by_address : (o : Option (List ℕ)) → send_answer m owner past at o dst ethertype (length payload) ≡ send_answer n owner past at o dst ethertype (length payload)
     by_address None = refl
     by_address (Some src) = refl
 answer_same m n owner past at (Supervise about) alike = refl
@@ -131,7 +131,7 @@ module _ (run : Run) (k n : ℕ) where
       ((send : Probe) (e : Egress) → (send.node ≡ k → ⊥) → AllByRecursion (HasKey send (send_key run send).key) (notes (owner_of run k) e past)) → OfArrival (IsOfSend run) event →
       Remembers run.capacity (owner_of run k) past at event → Remembers n (owner_of run k) past at event → KnowsOwn run.capacity (owner_of run k) past at event → KnowsOwn n (owner_of run k) past at event →
       AreAlike n run.capacity (owner_of run k) past at event
-  alike past at (Send from dst vlan kind payload) keys of_sends here there own owns = tt
+  alike past at (Send from dst vlan ethertype payload) keys of_sends here there own owns = tt
   alike past at (Supervise about) keys of_sends here there own owns = tt
   alike past at Age keys of_sends here there own owns = tt
   alike past at (Arrive port copy) keys o here there own owns = λ t tagged e wanted.
@@ -175,7 +175,7 @@ none_sooner p young (note ∷ ns) (suc m) (suc n) low none = by_age (young note)
     by_age false none rest = rest none
 
 knows_sooner : (m n : ℕ) (owner : Owner) (past : List Entry) (at : ℕ) (event : Event) → m ≤ n → KnowsOwn n owner past at event → KnowsOwn m owner past at event
-knows_sooner m n owner past at (Send from dst vlan kind payload) low own = tt
+knows_sooner m n owner past at (Send from dst vlan ethertype payload) low own = tt
 knows_sooner m n owner past at (Supervise about) low own = tt
 knows_sooner m n owner past at Age low own = tt
 knows_sooner m n owner past at (Arrive port copy) low own = λ ring e wanted key keyed.

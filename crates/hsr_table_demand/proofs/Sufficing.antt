@@ -138,7 +138,7 @@ kept capacity owner past at port copy e rem w younger note l =
 
 young : (capacity : ℕ) (owner : Owner) (past : List Entry) (at : ℕ) (event : Event) → Remembers capacity owner past at event → IsYoung owner past at event
 young capacity owner past at (Arrive port copy) rem = λ e w younger note l. (kept capacity owner past at port copy e rem w younger note l).0
-young capacity owner past at (Send from dst vlan kind payload) rem = tt
+young capacity owner past at (Send from dst vlan ethertype payload) rem = tt
 young capacity owner past at (Supervise about) rem = tt
 young capacity owner past at Age rem = tt
 
@@ -147,7 +147,7 @@ fits capacity owner past at (Arrive port copy) n rem needs =
     let room = (kept capacity owner past at port copy needs.egress rem needs.wanted needs.younger needs.note needs.latest).1 in
     let count = needs.count in
     omega (arith, room, count)
-fits capacity owner past at (Send from dst vlan kind payload) n rem needs = absurd needs
+fits capacity owner past at (Send from dst vlan ethertype payload) n rem needs = absurd needs
 fits capacity owner past at (Supervise about) n rem needs = absurd needs
 fits capacity owner past at Age n rem needs = absurd needs
 
@@ -160,7 +160,7 @@ remembers capacity owner past at (Arrive port copy) unexpired room = λ ring e w
     let low = room (length l.younger + 1) (record { egress = e; wanted = w; younger = l.younger; note = l.note; latest = l.is; unexpired = fresh; count = refl }) in
     let A : List Noted → Type 0 = λ ns. list_any (is_note_of copy.probe) (filter (is_unexpired at) (take capacity ns)) ≡ true in
     subst A (sym l.is.all) (kept_latest (is_note_of copy.probe) at l.note l.is.older l.is.of_send fresh l.younger capacity (omega (arith, low)))
-remembers capacity owner past at (Send from dst vlan kind payload) unexpired room = tt
+remembers capacity owner past at (Send from dst vlan ethertype payload) unexpired room = tt
 remembers capacity owner past at (Supervise about) unexpired room = tt
 remembers capacity owner past at Age unexpired room = tt
 

@@ -120,7 +120,7 @@ module _ (owner : Owner) (past : List Entry) (at : ℕ) (here : Probe) where
       at_widest (wanted_in owner.place (knows owner.place past at (Arrive port copy)) (Arrive port copy)) (λ e. reach_in at copy.probe (notes owner e past)) needs.egress (wanted_is port copy needs.egress needs.wanted) in
       let count = needs.count in
       omega (arith, same, most, count)
-  needs_most (Send from dst vlan kind payload) n needs = absurd needs
+  needs_most (Send from dst vlan ethertype payload) n needs = absurd needs
   needs_most (Supervise about) n needs = absurd needs
   needs_most Age n needs = absurd needs
 
@@ -139,7 +139,7 @@ module _ (owner : Owner) (past : List Entry) (at : ℕ) (here : Probe) where
         unexpired = r.unexpired;
         count = omega (arith, reach, counted);
       }
-  needs_met (Send from dst vlan kind payload) n some is = absurd (omega (arith, some, is))
+  needs_met (Send from dst vlan ethertype payload) n some is = absurd (omega (arith, some, is))
   needs_met (Supervise about) n some is = absurd (omega (arith, some, is))
   needs_met Age n some is = absurd (omega (arith, some, is))
 

@@ -74,7 +74,7 @@ forgets_by capacity log r at = any_wanted r.wanted (λ e. is_gone capacity at r.
 abbrev pub mistakes_by : ℕ → Log → Reading → Option Key → ℕ → Bool
 mistakes_by capacity log r came at = any_wanted r.wanted (λ e. is_mixed_up capacity at came r.send (reverse (marks_at log e)))
 
--- a send was noted at some way out
+-- a send was noted at some egress
 abbrev pub was_marked : Log → Option Probe → Bool
 was_marked log send = list_any (λ e. list_any (is_note_of send) (reverse (marks_at log e))) (up ∷ a ∷ b ∷ c ∷ d ∷ [])
 

@@ -7,10 +7,10 @@ ghost use Rattle.hex.specs.Hex.{decode_of, decode_pairs, encode_upper, hex_digit
 ghost use Rattle.hsr_text.specs.Words.{Gives, cut, decimal_of, hex_octets_of, hex_pair_of, mac_text, word_at};
 
 use hex::FromHex;
-use hsr_frame::Mac;
+use hsr_frame::{Mac, NoMemory};
 use itoa::Buffer;
 use memchr::memchr;
-use std::alloc::{AllocError, Global};
+use std::alloc::Global;
 
 /// Why a word isn't read.
 #[derive(Clone, Copy, Debug, PartialEq, Eq)]
@@ -141,43 +141,45 @@ pub fn hex_octets(alloc: Global, word: &[u8]) -> Result<Vec<u8>, WordFault>
     }
 }
 
-/// Puts a number in decimal digits last. `AllocError` if allocation fails: then nothing changes.
-pub fn put_decimal(text: &mut Vec<u8>, n: u64) -> Result<(), AllocError>
+/// Puts a number in decimal digits last. `NoMemory` if allocation fails: then nothing changes.
+pub fn put_decimal(text: &mut Vec<u8>, n: u64) -> Result<(), NoMemory>
     ensures ok { OnOk result (text.new.items ≡ text.old.items ++ decimal_text n) }
     ensures err { OnErr result (text.new.items ≡ text.old.items) }
 {
     let mut buffer = Buffer::new();
-    text.extend_from_slice(buffer.format(n).as_bytes())
+    text.extend_from_slice(buffer.format(n).as_bytes())?;
+    Ok(())
 }
 
-/// Puts a name and a number in decimal digits last. `AllocError` if allocation fails; the name may stand there then.
-pub fn put_count(text: &mut Vec<u8>, name: &[u8], n: u64) -> Result<(), AllocError>
+/// Puts a name and a number in decimal digits last. `NoMemory` if allocation fails; the name may stand there then.
+pub fn put_count(text: &mut Vec<u8>, name: &[u8], n: u64) -> Result<(), NoMemory>
     ensures { OnOk result (text.new.items ≡ text.old.items ++ (name.now ++ decimal_text n)) }
 {
     text.extend_from_slice(name)?;
     put_decimal(text, n)
 }
 
-/// Puts the text of an address last, six pairs of digits of upper case with hyphens between them. `AllocError` if
+/// Puts the text of an address last, six pairs of digits of upper case with hyphens between them. `NoMemory` if
 /// allocation fails.
 #[tactic(auto, unfolding(crate::specs::Words::mac_text))]
-pub fn put_mac(alloc: Global, text: &mut Vec<u8>, mac: Mac) -> Result<(), AllocError>
+pub fn put_mac(alloc: Global, text: &mut Vec<u8>, mac: Mac) -> Result<(), NoMemory>
     ensures { OnOk result (text.new.items ≡ text.old.items ++ mac_text mac) }
 {
     // An address prints itself, so its form stands in one place, hsr_frame.
     let address = format!(in alloc; "{mac}")?;
-    text.extend_from_slice(address.as_bytes())
+    text.extend_from_slice(address.as_bytes())?;
+    Ok(())
 }
 
-/// Puts octets in hexadecimal digits of upper case last. `AllocError` if allocation fails: then nothing changes.
-pub fn put_hex(text: &mut Vec<u8>, octets: &[u8]) -> Result<(), AllocError>
+/// Puts octets in hexadecimal digits of upper case last. `NoMemory` if allocation fails: then nothing changes.
+pub fn put_hex(text: &mut Vec<u8>, octets: &[u8]) -> Result<(), NoMemory>
     ensures ok { OnOk result (text.new.items ≡ text.old.items ++ encode_upper octets.now) }
     ensures err { OnErr result (text.new.items ≡ text.old.items) }
 {
     let start = text.len();
     // More digits than a length can count fit into no memory.
-    let digits = octets.len().checked_mul(2).ok_or(AllocError)?;
-    let end = start.checked_add(digits).ok_or(AllocError)?;
+    let digits = octets.len().checked_mul(2).ok_or(NoMemory)?;
+    let end = start.checked_add(digits).ok_or(NoMemory)?;
     // All room at once, so that the loop fills a slice and can't fail.
     text.resize(end, 0)?;
     write_hex(&mut text.as_mut_slice()[start..], octets);

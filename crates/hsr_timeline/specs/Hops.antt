@@ -9,7 +9,7 @@ use Rattle.hsr_link.specs.declared.row.Dir.{Dir}
 use Rattle.hsr_link.specs.declared.row.Row.{Row}
 use Rattle.hsr_topology.specs.declared.end.End.{End}
 use Rattle.hsr_run_laws.specs.Run.{Run, ends_of, from_end, owner_of, record_of, rows_of, to_end}
-use Rattle.hsr_run_index.specs.InOrder.{came_by, passed_by, told_copy}
+use Rattle.hsr_run_index.specs.InOrder.{came_by, passed_by, copy_of_passage}
 use Rattle.hsr_run_index.specs.declared.agreement.Passage.TheVariants.{Put, Taken}
 use Rattle.hsr_timeline.specs.declared.origin.Spot.{Spot}
 use Rattle.hsr_timeline.specs.declared.hop.Hop.{Hop}
@@ -29,10 +29,11 @@ came_at run end = map (came_by end.port) (record_of run end.node)
 
 -- the place of the entry that passed the copy of a row, and of the entry that judged it
 abbrev pub passed_place : Run → ℕ → Dir → ℕ → Option ℕ
-passed_place run l dir j = partner (passed_at run (from_end dir (ends_of run l))) (map (told_copy Put dir) (rows_of run l)) j
+passed_place run l dir j =
+    partner (passed_at run (from_end dir (ends_of run l))) (map (copy_of_passage Put dir) (rows_of run l)) j
 
 abbrev pub judged_place : Run → ℕ → Dir → ℕ → Option ℕ
-judged_place run l dir j = partner (came_at run (to_end dir (ends_of run l))) (map (told_copy Taken dir) (rows_of run l)) j
+judged_place run l dir j = partner (came_at run (to_end dir (ends_of run l))) (map (copy_of_passage Taken dir) (rows_of run l)) j
 
 abbrev pub spot_at : ℕ → Option ℕ → Option Spot
 spot_at node place = option_map (λ p. record { node = node; place = p }) place

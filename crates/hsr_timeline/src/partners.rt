@@ -4,7 +4,7 @@
 //! walk, where a search for each copy would grow with the square of the run.
 ghost use Rattle.std.specs.Prelude.{◌≡◌, ◌+◌, ◌<◌, ◌^◌, ◌∷◌, [], ◌++◌, count_by, if◌then◌else◌, length, map, option_map, IfOk, OnOk};
 ghost use Rattle.hsr_node.specs.declared.event.Carried as spec;
-ghost use Rattle.hsr_run_index.specs.InOrder.{told_copy};
+ghost use Rattle.hsr_run_index.specs.InOrder.{copy_of_passage};
 ghost use Rattle.hsr_run_index.specs.Often.{count_of, is_same_carried};
 ghost use Rattle.hsr_timeline.specs.Partners.{is_at, partners, places};
 ghost use Rattle.hsr_timeline.specs.IndexedCopies.{found_at, places_in};
@@ -80,8 +80,8 @@ fn places_of<'b>(kept: &'b PlacesByCopy<'_>, copy: &'b Carried) -> &'b [usize]
 }
 
 /// The copy of a row, if it was put, or taken, in a direction.
-fn told<'a>(which: Passage, dir: Dir, row: &'a Row) -> Option<&'a Carried>
-    ensures { option_map (λ c. c.now) result ≡ told_copy which dir row.now }
+fn copy_of_passage<'a>(which: Passage, dir: Dir, row: &'a Row) -> Option<&'a Carried>
+    ensures { option_map (λ c. c.now) result ≡ copy_of_passage which dir row.now }
 {
     let is_told = match which {
         // What was injected was passed by no entry.
@@ -121,13 +121,13 @@ pub(crate) fn partners(
     rows: &[Row],
 ) -> Result<Vec<Option<usize>>, NoMemory>
     ensures { IfOk result (λ places. places.items
-        ≡ partners copies.now (map (told_copy which dir) rows.now)) }
+        ≡ partners copies.now (map (copy_of_passage which dir) rows.now)) }
 {
     let kept = places_by_copy(alloc, copies)?;
     let mut counts = IndexMap::new(alloc);
     let mut places = Vec::new(alloc);
     for (j, row) in rows.iter().enumerate() {
-        let place = next_partner(&kept, &mut counts, told(which, dir, row))?;
+        let place = next_partner(&kept, &mut counts, copy_of_passage(which, dir, row))?;
         places.push(place)?;
     }
     Ok(places)

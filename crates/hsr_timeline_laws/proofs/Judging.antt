@@ -19,7 +19,7 @@ use Rattle.hsr_topology.specs.Links.{link_from}
 use Rattle.hsr_topology.specs.Wired.{IsJoin, IsWired}
 use Rattle.hsr_topology.specs.declared.end.End.{End}
 use Rattle.hsr_topology.proofs.Back.{back_of_wired}
-use Rattle.hsr_run_index.specs.InOrder.{came_by, told_copy}
+use Rattle.hsr_run_index.specs.InOrder.{came_by, copy_of_passage}
 use Rattle.hsr_run_index.specs.declared.agreement.Passage.TheVariants.{Taken}
 use Rattle.hsr_run_index.proofs.Often.{carried_itself, carried_tells}
 use Rattle.hsr_timeline.specs.declared.origin.Spot.{Spot}
@@ -97,7 +97,7 @@ one_partner xs ys i j place a b =
 -- a copy comes by one port
 one_port : (event : Event) (a b : ℕ) (c d : Carried) → copy_at a event ≡ Some c → copy_at b event ≡ Some d → a ≡ b
 one_port (Arrive x copy) a b c d is other = sym (eqb-true x a (cond_some (x == a) copy c is).0) ∙ eqb-true x b (cond_some (x == b) copy d other).0
-one_port (Send from dst vlan kind payload) a b c d is other = absurd (cc)
+one_port (Send from dst vlan ethertype payload) a b c d is other = absurd (cc)
 one_port (Supervise about) a b c d is other = absurd (cc)
 one_port Age a b c d is other = absurd (cc)
 
@@ -154,8 +154,8 @@ module _ (run : Run) (l : ℕ) (j : ℕ) (row : Row) (q : Spot) (judged : (hop_o
 
   let_in : (x : Entry) × (copy : Carried) × (slice_get (record_of run q.node) q.place ≡ Some x) × (came_by end.port x ≡ Some copy)
   let_in =
-      let f = found (came_at run end) (map (told_copy Taken row.dir) (rows_of run l)) j q.place place_is in
-      let copied = there (came_at run end) q.place f.0 (stands (came_at run end) f.0 (count_by (is_at f.0) (take j (map (told_copy Taken row.dir) (rows_of run l)))) q.place f.2) in
+      let f = found (came_at run end) (map (copy_of_passage Taken row.dir) (rows_of run l)) j q.place place_is in
+      let copied = there (came_at run end) q.place f.0 (stands (came_at run end) f.0 (count_by (is_at f.0) (take j (map (copy_of_passage Taken row.dir) (rows_of run l)))) q.place f.2) in
       let mapped : option_map (came_by end.port) (slice_get (record_of run end.node) q.place) ≡ Some (Some f.0) = sym (slice_get-map (came_by end.port) (record_of run end.node) q.place) ∙ copied in
       of f.0 (slice_get (record_of run end.node) q.place) refl mapped
     where
@@ -178,7 +178,7 @@ one_judged run wired l m i j row other q below under is was here also =
     let links = one_link run wired l m row.dir other.dir below under ends in
     let moved : judged_place run l row.dir j ≡ judged_place run m other.dir j = ap (λ k. judged_place run k row.dir j) links.0 ∙ ap (λ d. judged_place run m d j) links.1 in
     let numbers : i ≡ j =
-    one_partner (came_at run a) (map (told_copy Taken row.dir) (rows_of run l)) i j q.place (place_is run l i row q here) (moved ∙ place_is run m j other q also) in
+    one_partner (came_at run a) (map (copy_of_passage Taken row.dir) (rows_of run l)) i j q.place (place_is run l i row q here) (moved ∙ place_is run m j other q also) in
     let rows : row ≡ other = same_Some row other (sym is ∙ (ap (λ k. slice_get (rows_of run k) i) links.0 ∙ (ap (slice_get (rows_of run m)) numbers ∙ was))) in
     λ t. hop_of run (links.0 t) (numbers t) (rows t)
 

@@ -19,7 +19,7 @@ use Rattle.hsr_link.specs.declared.row.Row.{Row}
 use Rattle.hsr_run_laws.specs.Closed.{IsClosed, IsSettled}
 use Rattle.hsr_run_laws.specs.Run.{Run, ends_of, from_end, owner_of, past_of, record_of, rows_of, to_end}
 use Rattle.hsr_topology.specs.declared.end.End.{End}
-use Rattle.hsr_run_index.specs.InOrder.{came_by, passed, passed_by, told_copy}
+use Rattle.hsr_run_index.specs.InOrder.{came_by, passed, passed_by, copy_of_passage}
 use Rattle.hsr_run_index.specs.Often.{is_same_carried}
 use Rattle.hsr_run_index.specs.declared.agreement.Passage.TheVariants.{Put, Taken}
 use Rattle.hsr_run_index.proofs.Often.{as_often, carried_itself, each_often}
@@ -136,7 +136,7 @@ abbrev Stands : Run → Option Spot → Type 0
 Stands run o = (spot : Spot) × (o ≡ Some spot) × (spot.place < length (record_of run spot.node))
 
 module _ (run : Run) (closed : IsClosed run) (l : ℕ) (in_links : l < length run.links) where
-  same_often : (dir : Dir) (copy : Carried) → count_by (is_at copy) (passed_at run (from_end dir (ends_of run l))) ≡ count_by (is_at copy) (map (told_copy Put dir) (rows_of run l))
+  same_often : (dir : Dir) (copy : Carried) → count_by (is_at copy) (passed_at run (from_end dir (ends_of run l))) ≡ count_by (is_at copy) (map (copy_of_passage Put dir) (rows_of run l))
   same_often dir copy =
       let end : End = from_end dir (ends_of run l) in
       let owner : Owner = owner_of run end.node in
@@ -150,9 +150,9 @@ module _ (run : Run) (closed : IsClosed run) (l : ℕ) (in_links : l < length ru
   passed_there j row below is own =
       let end : End = from_end row.dir (ends_of run l) in
       let xs : List (Option Carried) = passed_at run end in
-      let ys : List (Option Carried) = map (told_copy Put row.dir) (rows_of run l) in
-      let long = length-map (rows_of run l) (told_copy Put row.dir) in
-      let told : get_or ys j None ≡ Some row.carried = get_or-map (told_copy Put row.dir) (rows_of run l) j row None below ∙ (ap (put_copy row.dir) is ∙ same_put row own) in
+      let ys : List (Option Carried) = map (copy_of_passage Put row.dir) (rows_of run l) in
+      let long = length-map (rows_of run l) (copy_of_passage Put row.dir) in
+      let told : get_or ys j None ≡ Some row.carried = get_or-map (copy_of_passage Put row.dir) (rows_of run l) j row None below ∙ (ap (put_copy row.dir) is ∙ same_put row own) in
       let found = partner_there xs ys j row.carried (omega (arith, long, below)) told (same_often row.dir row.carried) in
       let within = partner_within xs ys j found.0 found.1 in
       let entries = passed_long (owner_of run end.node) end.port 0 (record_of run end.node) in
@@ -170,7 +170,7 @@ module _ (run : Run) (closed : IsClosed run) (l : ℕ) (in_links : l < length ru
           let f : spot_at end.node (Some place) ≡ Some spot = ap (spot_at end.node) (sym e) ∙ is in
           let g : record { node = end.node; place = place } ≡ spot = cc in
           let long = length-map (record_of run end.node) (came_by end.port) in
-          let within : place < length (came_at run end) = partner_within (came_at run end) (map (told_copy Taken row.dir) (rows_of run l)) j place e in
+          let within : place < length (came_at run end) = partner_within (came_at run end) (map (copy_of_passage Taken row.dir) (rows_of run l)) j place e in
           let P : Spot → Type 0 = λ s. s.place < length (record_of run s.node) in
           subst P g (omega (arith, within, long))
 

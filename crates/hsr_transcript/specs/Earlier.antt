@@ -11,7 +11,8 @@ use Rattle.hsr_node.specs.Record.{IsLegalBy}
 use Rattle.hsr_node.specs.Times.{Times}
 use Rattle.hsr_node.specs.Units.{in_milliseconds, in_unit}
 use Rattle.hsr_link.specs.declared.row.Dir.{Dir}
-use Rattle.hsr_run_laws.specs.Closed.{HasLink, IsSettled, IsTableSize, PutAgrees, TakenAgrees}
+use Rattle.hsr_duptable.specs.Table.{IsTableSize}
+use Rattle.hsr_run_laws.specs.Closed.{HasLink, IsSettled, PutAgrees, TakenAgrees}
 use Rattle.hsr_run_laws.specs.Run.{Run, owner_of, past_of, record_of, rows_of}
 use Rattle.hsr_topology.specs.Wired.{IsWired}
 use Rattle.hsr_finished_run.specs.Finished.{Finished, IsPlanned}

@@ -1,6 +1,6 @@
 //! The form of a whole text, read section by section.
 //!
-//! Each function reads one section and hands what it has to the next one, so that each loop and each way out has a
+//! Each function reads one section and hands what it has to the next one, so that each loop and each early return has a
 //! proof of its own. Faults are handed on by `match` and not by `?`, which gets no proof where a clause says which
 //! fault comes first.
 ghost use Rattle.std.specs.Prelude.{◌≡◌, ◌+◌, ◌≤◌, ◌<◌, ◌^◌, ℕ, List, IfOk, length};
@@ -13,12 +13,13 @@ ghost use Rattle.hsr_transcript.specs.CodeReads.{Gives, Says};
 use crate::fault::ReadFault;
 use crate::plain::Plain;
 use crate::sections::{Progress, fixed, nothing_more, section, version};
+use hsr_frame::NoMemory;
 use hsr_link::Row;
 use hsr_node::{Entry, Place};
 use hsr_text::TimeUnit;
 use hsr_topology::End;
 use hsr_transcript_lines::{EntryLine, LinkLine, NumberLine, PlaceLine, RowLine, put_number};
-use std::alloc::{AllocError, Global};
+use std::alloc::Global;
 use std::io::{BufRead, BufReader, Read};
 
 /// Reads the record of each node, with moments in this unit.
@@ -282,7 +283,7 @@ fn behind_table<R: BufRead>(
 }
 
 /// The line of the tables.
-fn table_line(alloc: Global, capacity: usize) -> Result<Vec<u8>, AllocError>
+fn table_line(alloc: Global, capacity: usize) -> Result<Vec<u8>, NoMemory>
     ensures { IfOk result (λ line. line.items ≡ head (codes "table") capacity) }
 {
     let mut line = Vec::new(alloc);

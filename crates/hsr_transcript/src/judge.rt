@@ -1,5 +1,6 @@
 //! Judges what a text says that is in form: topology, order, and each entry.
-ghost use Rattle.std.specs.Prelude.{◌≡◌, ◌≤◌};
+ghost use Rattle.std.specs.Prelude.{◌≡◌};
+ghost use Rattle.hsr_duptable.specs.Table.{IsTableSize};
 ghost use Rattle.hsr_transcript.specs.CodeReads.{seen};
 ghost use Rattle.hsr_transcript.specs.Judged.{Judged, standing_of};
 ghost use Rattle.hsr_transcript.specs.Plain.{plain_view};
@@ -16,7 +17,7 @@ use std::alloc::Global;
 /// refused, else of the line `main` where the order doesn't fit, else of the first entry whose event is refused or whose
 /// outcome is another one.
 pub(crate) fn judge<const C: usize>(alloc: Global, plain: Plain) -> Result<Records<C>, ReadFault>
-    requires { (1 ≤ C) × (C ≤ 65535) }
+    requires { IsTableSize C }
     ensures { Judged C (plain_view plain) (seen (standing_of C) result) }
 {
     let Plain {

@@ -3,9 +3,10 @@ ghost use Rattle.std.specs.Prelude.{◌≡◌};
 ghost use Rattle.hsr_transcript_lines.specs.Parsed.{read_version};
 ghost use Rattle.hsr_transcript_lines.specs.Spelled.{version_text};
 
+use hsr_frame::NoMemory;
 use hsr_text::{TimeUnit, WordFault};
 use hsr_transcript_lines::LineKind;
-use std::alloc::{AllocError, Global};
+use std::alloc::Global;
 
 /// The first line, whose version says in which unit the text tells moments.
 #[derive(Clone, Copy)]
@@ -47,8 +48,9 @@ impl LineKind for VersionLine {
 
     ghost fits = { λ _ _. Unit {0} };
 
-    fn put(&self, text: &mut Vec<u8>, unit: &TimeUnit) -> Result<(), AllocError> {
-        text.extend_from_slice(version_text(*unit).as_bytes())
+    fn put(&self, text: &mut Vec<u8>, unit: &TimeUnit) -> Result<(), NoMemory> {
+        text.extend_from_slice(version_text(*unit).as_bytes())?;
+        Ok(())
     }
 
     fn parse(

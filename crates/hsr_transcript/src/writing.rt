@@ -13,20 +13,23 @@ ghost use Rattle.hsr_transcript.specs.Written.{Written};
 
 use crate::fault::WriteFault;
 use hsr_finished_run::{Closed, Planned};
+use hsr_frame::NoMemory;
 use hsr_text::TimeUnit;
 use hsr_transcript_lines::{
     EntryLine, LinkLine, NumberLine, PlaceLine, RowLine, put_head, put_section,
 };
-use std::alloc::{AllocError, Global};
+use std::alloc::Global;
 use std::io::Write;
 
 /// The node of each entry of the main worker, in order.
-fn turns(alloc: Global, plan: &[Planned]) -> Result<Vec<u64>, AllocError>
+fn turns(alloc: Global, plan: &[Planned]) -> Result<Vec<u64>, NoMemory>
     ensures { IfOk result (λ turns. turns.items ≡ map (λ p. p.node) plan.now) }
 {
-    plan.iter()
+    let turns = plan
+        .iter()
         .map(|planned| planned.node as u64)
-        .collect(alloc)
+        .collect(alloc)?;
+    Ok(turns)
 }
 
 /// Puts the lines up to the order of the main worker's entries.
@@ -34,7 +37,7 @@ fn put_front<const C: usize>(
     alloc: Global,
     text: &mut Vec<u8>,
     closed: &Closed<C>,
-) -> Result<(), AllocError>
+) -> Result<(), NoMemory>
     ensures written { OnOk result (text.new.items
         ≡ text.old.items
         ++ text_of (said_front closed.now.run.capacity (said_in Microseconds closed.now))) }
@@ -59,7 +62,7 @@ fn put_records<const C: usize>(
     alloc: Global,
     text: &mut Vec<u8>,
     closed: &Closed<C>,
-) -> Result<(), AllocError>
+) -> Result<(), NoMemory>
     ensures written { OnOk result (text.new.items
         ≡ text.old.items
         ++ text_of (lines_each
@@ -86,7 +89,7 @@ fn put_records<const C: usize>(
 }
 
 /// Puts the rows of each link.
-fn put_carried<const C: usize>(text: &mut Vec<u8>, closed: &Closed<C>) -> Result<(), AllocError>
+fn put_carried<const C: usize>(text: &mut Vec<u8>, closed: &Closed<C>) -> Result<(), NoMemory>
     ensures written { OnOk result (text.new.items
         ≡ text.old.items
         ++ text_of (lines_each (λ _. carried_lines) closed.now.run.links closed.now.run.rows)) }
@@ -102,7 +105,7 @@ fn put_carried<const C: usize>(text: &mut Vec<u8>, closed: &Closed<C>) -> Result
 
 /// The whole text of a run.
 #[tactic(auto, unfolding(crate::specs::Transcript::said_lines))]
-fn whole_text<const C: usize>(alloc: Global, closed: &Closed<C>) -> Result<Vec<u8>, AllocError>
+fn whole_text<const C: usize>(alloc: Global, closed: &Closed<C>) -> Result<Vec<u8>, NoMemory>
     ensures written { IfOk result (λ text. text.items ≡ run_text closed.now) }
     ensures fits { OnOk result (Fits closed.now) }
 {

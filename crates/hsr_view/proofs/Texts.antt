@@ -8,7 +8,7 @@ use Rattle.hsr_duptable.specs.Sizes.{capacity_of}
 use Rattle.hsr_transcript.specs.Answers.{Answers, IsTextOf}
 use Rattle.hsr_transcript.specs.declared.fault.ReadFault.{ReadFault}
 use Rattle.hsr_view.specs.Ends.{Ends}
-use Rattle.hsr_view.specs.Fault.{told}
+use Rattle.hsr_view.specs.Fault.{fault_of_read}
 use Rattle.hsr_view.specs.Given.{given_of}
 use Rattle.hsr_view.specs.Reads.{ReadsHead, front}
 use Rattle.hsr_view.specs.Refusals.{IsUnshown, IsUnshownOf}
@@ -20,7 +20,7 @@ use Rattle.hsr_view.proofs.Heads.{of_text}
 
 module _ (what : What) (scenario : Option (List ℕ)) where
   pub unread : (capacity : ℕ) (given : Option Given) (rests : Option (List ℕ)) (head : List ℕ) (why : ReadFault) (fault : Fault) →
-      fault ≡ told why given → IfSome rests (λ rest. Answers capacity (Err why) (head ++ rest)) → IfSome rests (λ rest. IsUnshownOf capacity given (head ++ rest) what scenario fault)
+      fault ≡ fault_of_read why given → IfSome rests (λ rest. Answers capacity (Err why) (head ++ rest)) → IfSome rests (λ rest. IsUnshownOf capacity given (head ++ rest) what scenario fault)
   unread capacity given None head why fault is answers = tt
   unread capacity given (Some rest) head why fault is answers = inr (inl (why, is, answers))
 

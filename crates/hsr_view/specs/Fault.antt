@@ -65,10 +65,10 @@ fault_line Memory = codes "fault: memory"
 -- ---- refusals
 
 -- why a text is none of a finished run; where it is one that another program knows, with what it is
-abbrev pub told : ReadFault → Option Given → Fault
-told read.Version (Some given) = Other given false
-told read.End (Some given) = Other given true
-told fault given = Transcript fault
+abbrev pub fault_of_read : ReadFault → Option Given → Fault
+fault_of_read read.Version (Some given) = Other given false
+fault_of_read read.End (Some given) = Other given true
+fault_of_read fault given = Transcript fault
 
 abbrev pub choice_fault : ChoiceFault → Fault
 choice_fault choice.NoLink = Link

@@ -24,7 +24,7 @@ use Rattle.hsr_diagram.specs.declared.picturing.PictureFault.{PictureFault}
 use Rattle.hsr_diagram.specs.declared.span.Span.{Span}
 use Rattle.hsr_transcript.specs.Answers.{Answers, IsTextOf}
 use Rattle.hsr_transcript.specs.declared.fault.ReadFault.{ReadFault}
-use Rattle.hsr_view.specs.Fault.{nothing_fault, picture_fault, told}
+use Rattle.hsr_view.specs.Fault.{nothing_fault, picture_fault, fault_of_read}
 use Rattle.hsr_view.specs.Viewing.{AreNames, AreSends, IsSend, leaves_none, probe_of, send_words, topology_of}
 use Rattle.hsr_view.specs.declared.views.What.{What}
 use Rattle.hsr_view.specs.declared.views.What.TheVariants as asked
@@ -126,7 +126,7 @@ IsUnshown f what scenario fault =
 
 -- the text is that of no run, for this cause; what else it may be is given
 abbrev pub IsUnread : ℕ → Option Given → List ℕ → Fault → Type 0
-IsUnread capacity given text fault = (read : ReadFault) × (fault ≡ told read given) × Answers capacity (Err read) text
+IsUnread capacity given text fault = (read : ReadFault) × (fault ≡ fault_of_read read given) × Answers capacity (Err read) text
 
 -- the text is of a run of which nothing can be shown
 abbrev pub IsUnshowable : ℕ → List ℕ → What → Option (List ℕ) → Fault → Type 0

@@ -1,6 +1,6 @@
 //! Why nothing is shown.
 ghost use Rattle.std.specs.Prelude.{◌≡◌, Some};
-ghost use Rattle.hsr_view.specs.Fault.{extent_text, fault_line, moments_text, told};
+ghost use Rattle.hsr_view.specs.Fault.{extent_text, fault_line, moments_text, fault_of_read};
 
 use crate::given::Given;
 use crate::unnamed::Unnamed;
@@ -149,8 +149,8 @@ impl From<PictureFault> for Fault {
 }
 
 /// Why a text is none of a finished run; where it is one that another program knows, with what it is.
-pub(crate) fn told(fault: ReadFault, given: Option<Given>) -> Fault
-    ensures { result ≡ told fault given }
+pub(crate) fn fault_of_read(fault: ReadFault, given: Option<Given>) -> Fault
+    ensures { result ≡ fault_of_read fault given }
 {
     match (fault, given) {
         (ReadFault::Version, Some(given)) => Fault::Other {

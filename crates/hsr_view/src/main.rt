@@ -32,7 +32,7 @@ mod views;
 use crate::asked::Asked;
 use crate::command_line::{WordFault, asked};
 use crate::fault::Fault;
-use crate::running::{tell, view_run};
+use crate::running::{report_ending, view_run};
 use crate::unnamed::{Unnamed, no_text};
 use hsr_scenario::TEXT_LIMIT;
 use hsr_text::arguments;
@@ -87,7 +87,7 @@ fn view_input<H: AllocGlobal + Files + Input + Print, E: Write>(
 ) -> io::Result<u8> {
     let scenario = match scenario_at(rt, asked.names) {
         Ok(scenario) => scenario,
-        Err(fault) => return tell(errors, Err(fault)),
+        Err(fault) => return report_ending(errors, Err(fault)),
     };
     let scenario = match &scenario {
         Some(text) => Some(text.as_str()),
@@ -135,7 +135,7 @@ fn run<H: AllocGlobal + Env + Files + Input + Print, E: Write>(
     let code = match asked(rt.alloc(), words.as_slice()) {
         Ok(asked) => view_input(rt, asked, errors),
         Err(WordFault::Usage { text }) => refuse(errors, text.as_str()),
-        Err(WordFault::Memory) => tell(errors, Err(Fault::Memory)),
+        Err(WordFault::Memory) => report_ending(errors, Err(Fault::Memory)),
     };
     exit_of(code)
 }
@@ -145,7 +145,7 @@ fn main(rt: HostRuntime) -> io::Result<ExitCode> {
     match run(&rt, &mut errors) {
         // The arguments themselves take memory.
         Err(error) if error.kind() == ErrorKind::OutOfMemory => {
-            exit_of(tell(&mut errors, Err(Fault::Memory)))
+            exit_of(report_ending(&mut errors, Err(Fault::Memory)))
         }
         ended => ended,
     }

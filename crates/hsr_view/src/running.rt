@@ -66,7 +66,7 @@ fn view<R: Read, W: Write>(
 
 /// Tells how it ended: a fault's line, and the status of the process. The error of `errors`, where the line can't be
 /// written there.
-pub fn tell<E: Write>(errors: &mut E, ended: Result<(), Fault>) -> io::Result<u8>
+pub fn report_ending<E: Write>(errors: &mut E, ended: Result<(), Fault>) -> io::Result<u8>
     ensures { IfOk result (λ code. Tells (E.contents errors.old)
         (E.contents errors.new) ended code) }
 {
@@ -97,5 +97,5 @@ pub fn view_run<R: Read, W: Write, E: Write>(
         (W.contents writer.new) (E.contents errors.old) (E.contents errors.new) code)) }
 {
     let ended = view(alloc, what, scenario, reader, writer);
-    tell(errors, ended)
+    report_ending(errors, ended)
 }

@@ -1,9 +1,10 @@
 //! What is shown of a transcript.
-ghost use Rattle.std.specs.Prelude.{◌≡◌, ◌≤◌, ◌⊎◌, ◌++◌, ◌∷◌, [], Err, None, IfErr, IfOk, IfSome, OnOk, option_map};
+ghost use Rattle.std.specs.Prelude.{◌≡◌, ◌⊎◌, ◌++◌, ◌∷◌, [], Err, None, IfErr, IfOk, IfSome, OnOk, option_map};
+ghost use Rattle.hsr_duptable.specs.Table.{IsTableSize};
 ghost use Rattle.hsr_timeline.specs.Fronts.{lists_of};
 ghost use Rattle.hsr_duptable.specs.Sizes.{capacity_of};
 ghost use Rattle.hsr_transcript.specs.Answers.{Answers, IsTextOf};
-ghost use Rattle.hsr_view.specs.Fault.{nothing_fault, told};
+ghost use Rattle.hsr_view.specs.Fault.{nothing_fault, fault_of_read};
 ghost use Rattle.hsr_view.specs.Given.{given_of};
 ghost use Rattle.hsr_view.specs.Reads.{front};
 ghost use Rattle.hsr_view.specs.Refusals.{HasStray, IsBlank, IsMisnamed, IsStray, IsUncaptured, IsUndrawn, IsUnshown, IsUnshownOf, TellsNothing};
@@ -11,7 +12,7 @@ ghost use Rattle.hsr_view.specs.Viewing.{AreNames, AreSends, IsCaptureOf, IsPict
 ghost use Rattle.hsr_view.specs.declared.fault.Fault.TheVariants.{Memory, Send};
 
 use crate::agreeing::{is_memory, steps_of};
-use crate::fault::{Extent, Fault, Moments, told};
+use crate::fault::{Extent, Fault, Moments, fault_of_read};
 use crate::given::{begins, given_of};
 use crate::head::front;
 use crate::unnamed::{other, unread};
@@ -220,7 +221,7 @@ fn read_run<const C: usize, R: Read>(
     head: &[u8],
     reader: &mut R,
 ) -> Result<Closed<C>, ReadFault>
-    requires entries { (1 ≤ C) × (C ≤ 65535) }
+    requires entries { IsTableSize C }
     ensures run { IfOk result (λ closed. IfSome (R.remaining reader.old) (λ rest. IsTextOf C closed
         (head.now ++ rest))) }
     ensures none { IfErr result (λ fault. IfSome (R.remaining reader.old) (λ rest. Answers C
@@ -280,7 +281,7 @@ fn shown_with<const C: usize, R: Read>(
     what: &What<'_>,
     scenario: Option<&str>,
 ) -> Result<Vec<u8>, Fault>
-    requires entries { (1 ≤ C) × (C ≤ 65535) }
+    requires entries { IsTableSize C }
     ensures shown { IfOk result (λ octets. IfSome (R.remaining reader.old) (λ rest.
         IsShownOf C (head.now ++ rest) what.now
         (option_map (λ s. s.now) scenario.entry) octets.items)) }
@@ -290,7 +291,7 @@ fn shown_with<const C: usize, R: Read>(
 {
     match read_run::<C, R>(alloc, head, reader) {
         Ok(closed) => shown_of(alloc, &closed, what, scenario),
-        Err(fault) => Err(told(fault, given_of(front(head)))),
+        Err(fault) => Err(fault_of_read(fault, given_of(front(head)))),
     }
 }
 

@@ -147,7 +147,7 @@ always_of_send capacity places links w o =
 -- ---- numbered first
 
 numbers_first : (capacity : ℕ) (links : List (List End)) (w : World) (owner : Owner) (past : List Entry) (e : Event) (o : Outcome) → IsFirst w.places w.records links owner past e o → NumbersFirst (run_of capacity links w) owner past e o
-numbers_first capacity links w owner past (event.Send from dst vlan kind payload) o h = tt
+numbers_first capacity links w owner past (event.Send from dst vlan ethertype payload) o h = tt
 numbers_first capacity links w owner past (event.Supervise about) o h = tt
 numbers_first capacity links w owner past event.Age o h = tt
 numbers_first capacity links w owner past (event.Arrive port copy) (outcome.Sent seq ports) h = tt

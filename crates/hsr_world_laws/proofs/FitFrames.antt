@@ -42,7 +42,7 @@ use Rattle.hsr_world_laws.proofs.Wires.{run_keeps}
 -- ---- one frame
 
 plain_of : (f g : Fields) → length f.dst ≡ 6 → length f.src ≡ 6 → IfSome f.vlan (λ control. control < 2 ^ 16) → f.kind < 2 ^ 16 → frame_of f ≡ Some g → IsPlain g
-plain_of f g dst src vlan kind h = by_test (is_group f.src) (f.kind == 0x892F) (f.kind == 0x8100) (nat_lt 1500 (length f.rest)) refl refl refl refl h
+plain_of f g dst src vlan ethertype h = by_test (is_group f.src) (f.kind == 0x892F) (f.kind == 0x8100) (nat_lt 1500 (length f.rest)) refl refl refl refl h
   where
     by_test : (p q r s : Bool) → is_group f.src ≡ p → (f.kind == 0x892F) ≡ q → (f.kind == 0x8100) ≡ r → nat_lt 1500 (length f.rest) ≡ s → (if p || q || r || s then None else Some f) ≡ Some g → IsPlain g
     by_test true q r s a b c d h = absurd cc
@@ -57,7 +57,7 @@ plain_of f g dst src vlan kind h = by_test (is_group f.src) (f.kind == 0x892F) (
             dst = dst;
             src = src;
             vlan = vlan;
-            kind = kind;
+            kind = ethertype;
             rest = omega (arith, short);
             station = λ group. false≢true (sym a ∙ eq-eqb (slice_index f.src 0 % 2) 1 group);
             one_tag = λ e. false≢true (sym c ∙ eq-eqb f.kind 0x8100 e);
@@ -93,13 +93,13 @@ ring_six (RedBox mac mode) src fit h = let same : mac ≡ src = cc in ap length 
 ring_six QuadBox src fit h = absurd cc
 ring_six (Station macs) src fit h = absurd cc
 
-asked_plain : (place : Place) (from : ℕ) (dst : List ℕ) (vlan : Option ℕ) (kind : ℕ) (payload : List ℕ) (f : Fields) → FitsPlace place → IsFit dst vlan kind →
-    asked_frame (address_at place from) dst vlan kind payload ≡ Some f → IsPlain f
-asked_plain place from dst vlan kind payload f fit w h = by_address (address_at place from) refl h
+asked_plain : (place : Place) (from : ℕ) (dst : List ℕ) (vlan : Option ℕ) (ethertype : ℕ) (payload : List ℕ) (f : Fields) → FitsPlace place → IsFit dst vlan ethertype →
+    asked_frame (address_at place from) dst vlan ethertype payload ≡ Some f → IsPlain f
+asked_plain place from dst vlan ethertype payload f fit w h = by_address (address_at place from) refl h
   where
-    by_address : (o : Option (List ℕ)) → address_at place from ≡ o → asked_frame o dst vlan kind payload ≡ Some f → IsPlain f
+    by_address : (o : Option (List ℕ)) → address_at place from ≡ o → asked_frame o dst vlan ethertype payload ≡ Some f → IsPlain f
     by_address None e h = absurd cc
-    by_address (Some src) e h = plain_of (record { dst = dst; src = src; vlan = vlan; kind = kind; rest = payload }) f w.address (own_six place from src fit e) w.tag w.type h
+    by_address (Some src) e h = plain_of (record { dst = dst; src = src; vlan = vlan; kind = ethertype; rest = payload }) f w.address (own_six place from src fit e) w.tag w.type h
 
 life_plain : (place : Place) (about : About) (life : ℕ) (f : Fields) → FitsPlace place → life_frame (ring_address place) about life ≡ Some f → IsPlain f
 life_plain place about life f fit h = by_address (ring_address place) refl h
@@ -110,12 +110,12 @@ life_plain place about life f fit h = by_address (ring_address place) refl h
         plain_of (record { dst = supervision_address; src = own; vlan = None; kind = 0x88FB; rest = payload.spelling (life_said own about life) }) f refl (ring_six place own fit e) tt (omega arith) h
 
 sent_plain : (place : Place) (e : Event) (o : Outcome) (s : Sending) → FitsPlace place → FitsEvent e → sent_by place e o ≡ Some s → IsPlain s.frame
-sent_plain place (event.Send from dst vlan kind payload) (outcome.Sent seq ports) s fit w h =
-    asked_plain place from dst vlan kind payload s.frame fit w (sending_frame seq (asked_frame (address_at place from) dst vlan kind payload) s h).0
+sent_plain place (event.Send from dst vlan ethertype payload) (outcome.Sent seq ports) s fit w h =
+    asked_plain place from dst vlan ethertype payload s.frame fit w (sending_frame seq (asked_frame (address_at place from) dst vlan ethertype payload) s h).0
 sent_plain place (event.Supervise about) (outcome.Life seq life ports) s fit w h = life_plain place about life s.frame fit (sending_frame (Some seq) (life_frame (ring_address place) about life) s h).0
-sent_plain place (event.Send from dst vlan kind payload) (outcome.Life seq life ports) s fit w h = absurd cc
-sent_plain place (event.Send from dst vlan kind payload) (outcome.Judged up_too ports seq cause) s fit w h = absurd cc
-sent_plain place (event.Send from dst vlan kind payload) outcome.Aged s fit w h = absurd cc
+sent_plain place (event.Send from dst vlan ethertype payload) (outcome.Life seq life ports) s fit w h = absurd cc
+sent_plain place (event.Send from dst vlan ethertype payload) (outcome.Judged up_too ports seq cause) s fit w h = absurd cc
+sent_plain place (event.Send from dst vlan ethertype payload) outcome.Aged s fit w h = absurd cc
 sent_plain place (event.Supervise about) (outcome.Sent seq ports) s fit w h = absurd cc
 sent_plain place (event.Supervise about) (outcome.Judged up_too ports seq cause) s fit w h = absurd cc
 sent_plain place (event.Supervise about) outcome.Aged s fit w h = absurd cc
@@ -181,8 +181,8 @@ met w false r f k all = all
 fit_step : (capacity : ℕ) (w : World) (s : Step) → FitsStep s → Kept w (or_same w (tried capacity w s))
 unfolding tried
 fit_step capacity w (step.Clock at) fit = λ all. all
-fit_step capacity w (step.Send n from dst vlan kind payload) fit =
-    met w (has_node w n) _ _ (fit_entered capacity w (planned w n (event.Send from dst vlan kind payload)) 0 n (event.Send from dst vlan kind payload) fit refl)
+fit_step capacity w (step.Send n from dst vlan ethertype payload) fit =
+    met w (has_node w n) _ _ (fit_entered capacity w (planned w n (event.Send from dst vlan ethertype payload)) 0 n (event.Send from dst vlan ethertype payload) fit refl)
 fit_step capacity w (step.Supervise n about) fit = met w (has_node w n) _ _ (fit_entered capacity w (planned w n (event.Supervise about)) 0 n (event.Supervise about) tt refl)
 fit_step capacity w (step.Age n) fit = met w (has_node w n) _ _ (fit_entered capacity w (planned w n event.Age) 0 n event.Age tt refl)
 fit_step capacity w (step.Put n port) fit =

@@ -229,8 +229,8 @@ node_below capacity w n h e = let counted = h.counted in let below = below_by n 
 pub keeps : (capacity : ℕ) (w : World) (step : Step) → IsSound capacity w → IsSound capacity (or_same w (tried capacity w step))
 unfolding tried
 keeps capacity w (Clock at) h = record { counted = h.counted; legal = h.legal; agree = h.agree; distinct = h.distinct }
-keeps capacity w (Send n from dst vlan kind payload) h =
-    guarded capacity w (has_node w n) _ _ h (λ e. sound_own capacity w n (event.Send from dst vlan kind payload) (node_below capacity w n h e) (λ port. refl) h)
+keeps capacity w (Send n from dst vlan ethertype payload) h =
+    guarded capacity w (has_node w n) _ _ h (λ e. sound_own capacity w n (event.Send from dst vlan ethertype payload) (node_below capacity w n h e) (λ port. refl) h)
 keeps capacity w (Supervise n about) h = guarded capacity w (has_node w n) _ _ h (λ e. sound_own capacity w n (event.Supervise about) (node_below capacity w n h e) (λ port. refl) h)
 keeps capacity w (Age n) h = guarded capacity w (has_node w n) _ _ h (λ e. sound_own capacity w n event.Age (node_below capacity w n h e) (λ port. refl) h)
 keeps capacity w (Put n port) h =

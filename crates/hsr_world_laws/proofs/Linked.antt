@@ -73,7 +73,7 @@ linked_added wires records n x below came h m port = ⊎_elim
     by_copy (Some c) e f old = inl (f c refl)
 
     came_at : (e : Event) → ((q : ℕ) (c : Carried) → e ≡ event.Arrive q c → is_led_to wires (record { node = n; port = q }) ≡ true) → (c : Carried) → copy_at port e ≡ Some c → is_led_to wires (record { node = n; port = port }) ≡ true
-    came_at (event.Send from dst vlan kind payload) f c h = absurd cc
+    came_at (event.Send from dst vlan ethertype payload) f c h = absurd cc
     came_at (event.Supervise about) f c h = absurd cc
     came_at event.Age f c h = absurd cc
     came_at (event.Arrive q d) f c h = by_port (q == port) (eqb-true q port) h
@@ -143,8 +143,8 @@ unchanged wires old new e h = subst (IsLinked wires) (sym e) h
 linked_step : (capacity : ℕ) (w : World) (step : Step) → IsSound capacity w → IsLinked (map wire w.spans) w.records → IsLinked (map wire w.spans) (or_same w (tried capacity w step)).records
 unfolding tried
 linked_step capacity w (Clock at) s h = h
-linked_step capacity w (Send n from dst vlan kind payload) s h =
-    met _ w (has_node w n) _ _ h (λ e. linked_entered capacity _ w (planned w n (event.Send from dst vlan kind payload)) 0 n (event.Send from dst vlan kind payload) (node_below capacity w n s e) (λ x c e. absurd (cc)) h h)
+linked_step capacity w (Send n from dst vlan ethertype payload) s h =
+    met _ w (has_node w n) _ _ h (λ e. linked_entered capacity _ w (planned w n (event.Send from dst vlan ethertype payload)) 0 n (event.Send from dst vlan ethertype payload) (node_below capacity w n s e) (λ x c e. absurd (cc)) h h)
 linked_step capacity w (Supervise n about) s h =
     met _ w (has_node w n) _ _ h (λ e. linked_entered capacity _ w (planned w n (event.Supervise about)) 0 n (event.Supervise about) (node_below capacity w n s e) (λ x c e. absurd (cc)) h h)
 linked_step capacity w (Age n) s h = met _ w (has_node w n) _ _ h (λ e. linked_entered capacity _ w (planned w n event.Age) 0 n event.Age (node_below capacity w n s e) (λ x c e. absurd (cc)) h h)

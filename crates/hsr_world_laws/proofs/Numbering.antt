@@ -50,24 +50,24 @@ station_unnumbered capacity number QuadBox past at e o station sends ok = absurd
 station_unnumbered capacity number (Station macs) past at (event.Arrive port copy) o station sends ok = absurd (false≢true sends)
 station_unnumbered capacity number (Station macs) past at event.Age o station sends ok = absurd (false≢true sends)
 station_unnumbered capacity number (Station macs) past at (event.Supervise about) o station sends ok = absurd cc
-station_unnumbered capacity number (Station macs) past at (event.Send from dst vlan kind payload) o station sends ok = by_address (address_at (Station macs) from) ok
+station_unnumbered capacity number (Station macs) past at (event.Send from dst vlan ethertype payload) o station sends ok = by_address (address_at (Station macs) from) ok
   where
     owner : Owner
     owner = record { number = number; place = Station macs }
 
     first : Outcome
-    first = sent_as (sending (Station macs) (knows (Station macs) past at event.Age) dst kind) (next_number past)
+    first = sent_as (sending (Station macs) (knows (Station macs) past at event.Age) dst ethertype) (next_number past)
 
-    is_first : (r : Result Outcome StepFault) → r ≡ Ok o → Ok (sent_as (sending (Station macs) (knows (Station macs) past at event.Age) dst kind) (next_number past)) ≡ r → number_in o ≡ None
+    is_first : (r : Result Outcome StepFault) → r ≡ Ok o → Ok (sent_as (sending (Station macs) (knows (Station macs) past at event.Age) dst ethertype) (next_number past)) ≡ r → number_in o ≡ None
     is_first r e f =
-        let same : sent_as (sending (Station macs) (knows (Station macs) past at event.Age) dst kind) (next_number past) ≡ o = cc in
+        let same : sent_as (sending (Station macs) (knows (Station macs) past at event.Age) dst ethertype) (next_number past) ≡ o = cc in
         ap number_in (sym same)
 
-    by_refusal : (f : Option SendFault) → sent_or_refused f (sent_as (sending (Station macs) (knows (Station macs) past at event.Age) dst kind) (next_number past)) ≡ Ok o → number_in o ≡ None
+    by_refusal : (f : Option SendFault) → sent_or_refused f (sent_as (sending (Station macs) (knows (Station macs) past at event.Age) dst ethertype) (next_number past)) ≡ Ok o → number_in o ≡ None
     by_refusal (Some fault) e = absurd cc
     by_refusal None e = is_first _ e refl
 
-    by_address : (x : Option (List ℕ)) → send_answer capacity (record { number = number; place = Station macs }) past at x dst kind (length payload) ≡ Ok o → number_in o ≡ None
+    by_address : (x : Option (List ℕ)) → send_answer capacity (record { number = number; place = Station macs }) past at x dst ethertype (length payload) ≡ Ok o → number_in o ≡ None
     by_address None e = absurd cc
     by_address (Some src) e = by_refusal _ e
 
@@ -99,7 +99,7 @@ none_given capacity owner send (x ∷ past) legal none =
         omega (arith, count, more, one, none)
 
     step : (e : Event) (o : Outcome) → answer capacity owner past (now (x ∷ past)) e ≡ Ok o → count_by (is_copy send) (option_to_list (copy_at 2 e)) ≡ 0 → gives send e o ≡ None
-    step (event.Send from dst vlan kind payload) o ok none = refl
+    step (event.Send from dst vlan ethertype payload) o ok none = refl
     step (event.Supervise about) o ok none = refl
     step event.Age o ok none = refl
     step (event.Arrive port copy) (outcome.Sent seq ports) ok none = refl
@@ -176,7 +176,7 @@ IsFirst places records links owner past event outcome = Unit {0}
 
 pub first_kept : (places : List Place) (records : List (List Entry)) (links : List (List End)) (n : ℕ) (x : Entry) → n < length records → (owner : Owner) (past : List Entry) (e : Event) (o : Outcome) →
     IsFirst places records links owner past e o → IsFirst places (set records n (x ∷ record_in records n)) links owner past e o
-first_kept places records links n x below owner past (event.Send from dst vlan kind payload) o h = tt
+first_kept places records links n x below owner past (event.Send from dst vlan ethertype payload) o h = tt
 first_kept places records links n x below owner past (event.Supervise about) o h = tt
 first_kept places records links n x below owner past event.Age o h = tt
 first_kept places records links n x below owner past (event.Arrive port copy) (outcome.Sent seq ports) h = tt
@@ -280,7 +280,7 @@ module _ (capacity : ℕ) (places : List Place) (records : List (List Entry)) (l
           absurd cc
 
       at_event : (e : Event) → OfArrival (IsCopyOf places records links) e → OfArrival (Untagged new.of_send.send) e
-      at_event (event.Send from dst vlan kind payload) h = tt
+      at_event (event.Send from dst vlan ethertype payload) h = tt
       at_event (event.Supervise about) h = tt
       at_event event.Age h = tt
       at_event (event.Arrive port c) h = untagged c h

@@ -226,7 +226,7 @@ holds_added capacity links w worker n e o below ok legal frames arrived h = reco
         numbered capacity w.places w.records links n x copy m k j.up_too j.out_ports j.cause below ((arrived m copy is).1 k number) is j.is q.send q.sending q.named q.sent
 
     newest : (f : Event) (v : Outcome) → e ≡ f → o ≡ v → IsFirst w.places more links (owner_in w.places n) past f v
-    newest (event.Send from dst vlan kind payload) v is out = tt
+    newest (event.Send from dst vlan ethertype payload) v is out = tt
     newest (event.Supervise about) v is out = tt
     newest event.Age v is out = tt
     newest (event.Arrive port copy) (outcome.Sent seq ports) is out = tt
@@ -339,8 +339,8 @@ pub holds_step : (capacity : ℕ) (links : List (List End)) (w : World) (step : 
     HoldsOwn links (or_same w (tried capacity w step))
 unfolding tried
 holds_step capacity links w (Clock at) s wired h = λ none frames. let before = h none frames in record { copies = record { spans = before.copies.spans; came = before.copies.came }; first = before.first }
-holds_step capacity links w (Send n from dst vlan kind payload) s wired h =
-    met links w (has_node w n) _ _ h (λ e. holds_own capacity links w n (event.Send from dst vlan kind payload) (node_below capacity w n s e) (λ x copy e. absurd (cc)) s h)
+holds_step capacity links w (Send n from dst vlan ethertype payload) s wired h =
+    met links w (has_node w n) _ _ h (λ e. holds_own capacity links w n (event.Send from dst vlan ethertype payload) (node_below capacity w n s e) (λ x copy e. absurd (cc)) s h)
 holds_step capacity links w (Supervise n about) s wired h =
     met links w (has_node w n) _ _ h (λ e. holds_own capacity links w n (event.Supervise about) (node_below capacity w n s e) (λ x copy e. absurd (cc)) s h)
 holds_step capacity links w (Age n) s wired h = met links w (has_node w n) _ _ h (λ e. holds_own capacity links w n event.Age (node_below capacity w n s e) (λ x copy e. absurd (cc)) s h)

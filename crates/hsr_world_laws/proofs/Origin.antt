@@ -225,10 +225,10 @@ frame_sent place port seq (Some f) octets h = (record { frame = f; seq = seq }, 
 own_sent : (place : Place) (e : Event) (o : Outcome) (port : ℕ) (octets : List ℕ) → ((x : ℕ) (copy : Carried) → e ≡ event.Arrive x copy → ⊥) →
     passed_octets place e o port ≡ Some octets → (s : Sending) × (sent_by place e o ≡ Some s)
 unfolding passed_octets
-own_sent place (event.Send from dst vlan kind payload) (outcome.Sent seq ports) port octets away h = frame_sent place port seq (asked_frame (address_at place from) dst vlan kind payload) octets h
-own_sent place (event.Send from dst vlan kind payload) (outcome.Life seq life ports) port octets away h = absurd (no_octets h)
-own_sent place (event.Send from dst vlan kind payload) (outcome.Judged up ports seq cause) port octets away h = absurd (no_octets h)
-own_sent place (event.Send from dst vlan kind payload) outcome.Aged port octets away h = absurd (no_octets h)
+own_sent place (event.Send from dst vlan ethertype payload) (outcome.Sent seq ports) port octets away h = frame_sent place port seq (asked_frame (address_at place from) dst vlan ethertype payload) octets h
+own_sent place (event.Send from dst vlan ethertype payload) (outcome.Life seq life ports) port octets away h = absurd (no_octets h)
+own_sent place (event.Send from dst vlan ethertype payload) (outcome.Judged up ports seq cause) port octets away h = absurd (no_octets h)
+own_sent place (event.Send from dst vlan ethertype payload) outcome.Aged port octets away h = absurd (no_octets h)
 own_sent place (event.Supervise about) (outcome.Sent seq ports) port octets away h = absurd (no_octets h)
 own_sent place (event.Supervise about) (outcome.Life seq life ports) port octets away h = frame_sent place port (Some seq) (life_frame (ring_address place) about life) octets h
 own_sent place (event.Supervise about) (outcome.Judged up ports seq cause) port octets away h = absurd (no_octets h)
@@ -262,9 +262,9 @@ pass_named owner port x past c h = by_octets (copy_octets owner.place x.event x.
 
     by_event : (e : Event) (o : Outcome) (octets : List ℕ) → x.event ≡ e → x.outcome ≡ o → passed_octets owner.place e o port ≡ Some octets → c.probe ≡ probe_handled here e → Named owner x past c.probe
     by_event (event.Arrive n copy) o octets same told h named = inl (n, copy, same, named)
-    by_event (event.Send from dst vlan kind payload) o octets same told h named =
-        let s = own_sent owner.place (event.Send from dst vlan kind payload) o port octets (λ n copy e. absurd (cc)) h in
-        inr (s.0, named, ap (λ e. sent_by owner.place e x.outcome) same ∙ (ap (sent_by owner.place (event.Send from dst vlan kind payload)) told ∙ s.1))
+    by_event (event.Send from dst vlan ethertype payload) o octets same told h named =
+        let s = own_sent owner.place (event.Send from dst vlan ethertype payload) o port octets (λ n copy e. absurd (cc)) h in
+        inr (s.0, named, ap (λ e. sent_by owner.place e x.outcome) same ∙ (ap (sent_by owner.place (event.Send from dst vlan ethertype payload)) told ∙ s.1))
     by_event (event.Supervise about) o octets same told h named =
         let s = own_sent owner.place (event.Supervise about) o port octets (λ n copy e. absurd (cc)) h in
         inr (s.0, named, ap (λ e. sent_by owner.place e x.outcome) same ∙ (ap (sent_by owner.place (event.Supervise about)) told ∙ s.1))
@@ -308,7 +308,7 @@ origins_span w l span more within h =
 -- ---- an entry is added
 
 pub all_came : (P : Carried → Type 0) (e : Event) → ((x : ℕ) (copy : Carried) → e ≡ event.Arrive x copy → P copy) → (port : ℕ) → AllByRecursion P (option_to_list (copy_at port e))
-all_came P (event.Send from dst vlan kind payload) f port = tt
+all_came P (event.Send from dst vlan ethertype payload) f port = tt
 all_came P (event.Supervise about) f port = tt
 all_came P event.Age f port = tt
 all_came P (event.Arrive x copy) f port = by_case (x == port)
@@ -495,8 +495,8 @@ met_or w false r f h met = h
 origins_keep : (capacity : ℕ) (w : World) (step : Step) → IsSound capacity w → HaveOrigins w → HaveOrigins (or_same w (tried capacity w step))
 unfolding tried
 origins_keep capacity w (Clock at) s h = record { spans = h.spans; came = h.came }
-origins_keep capacity w (Send n from dst vlan kind payload) s h =
-    met_or w (has_node w n) _ _ h (λ e. origins_own capacity w n (event.Send from dst vlan kind payload) (node_below capacity w n s e) (λ x copy e. absurd (cc)) h)
+origins_keep capacity w (Send n from dst vlan ethertype payload) s h =
+    met_or w (has_node w n) _ _ h (λ e. origins_own capacity w n (event.Send from dst vlan ethertype payload) (node_below capacity w n s e) (λ x copy e. absurd (cc)) h)
 origins_keep capacity w (Supervise n about) s h = met_or w (has_node w n) _ _ h (λ e. origins_own capacity w n (event.Supervise about) (node_below capacity w n s e) (λ x copy e. absurd (cc)) h)
 origins_keep capacity w (Age n) s h = met_or w (has_node w n) _ _ h (λ e. origins_own capacity w n event.Age (node_below capacity w n s e) (λ x copy e. absurd (cc)) h)
 origins_keep capacity w (Put n port) s h =

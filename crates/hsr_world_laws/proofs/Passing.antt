@@ -57,15 +57,15 @@ outcome_fits : (r : Result Outcome StepFault) (first outcome : Outcome) → r �
 outcome_fits r first outcome is fits e = let same : first ≡ outcome = cc in subst (λ o. Fits (number_in o)) same fits
 
 pub numbers_fit : (capacity : ℕ) (owner : Owner) (past : List Entry) (at : ℕ) (event : Event) (o : Outcome) → answer capacity owner past at event ≡ Ok o → Fits (number_in o)
-numbers_fit capacity owner past at (event.Send from dst vlan kind payload) o ok = by_address (address_at owner.place from) ok
+numbers_fit capacity owner past at (event.Send from dst vlan ethertype payload) o ok = by_address (address_at owner.place from) ok
   where
     by_refusal : (h : Handling) (f : Option SendFault) → sent_or_refused f (sent_as h (next_number past)) ≡ Ok o → Fits (number_in o)
     by_refusal h (Some fault) e = absurd cc
     by_refusal h None e = outcome_fits _ (sent_as h (next_number past)) o e (number_fits h.source past) refl
 
-    by_address : (a : Option (List ℕ)) → send_answer capacity owner past at a dst kind (length payload) ≡ Ok o → Fits (number_in o)
+    by_address : (a : Option (List ℕ)) → send_answer capacity owner past at a dst ethertype (length payload) ≡ Ok o → Fits (number_in o)
     by_address None e = absurd cc
-    by_address (Some src) e = by_refusal (sending owner.place (knows owner.place past at event.Age) dst kind) _ e
+    by_address (Some src) e = by_refusal (sending owner.place (knows owner.place past at event.Age) dst ethertype) _ e
 numbers_fit capacity owner past at (event.Supervise about) o ok = by_place owner.place about ok
   where
     lived : (f : Option LifeFault) → lived_or_refused past f ≡ Ok o → Fits (number_in o)
@@ -164,14 +164,14 @@ nothing_written place port seq octets h = let none = written_none place port seq
 own_written : (place : Place) (e : Event) (o : Outcome) (port : ℕ) (octets : List ℕ) → ((x : ℕ) (copy : Carried) → e ≡ event.Arrive x copy → ⊥) →
     passed_octets place e o port ≡ Some octets → OwnWritten place e o octets
 unfolding passed_octets
-own_written place (event.Send from dst vlan kind payload) (outcome.Sent seq ports) port octets away h = by_frame (asked_frame (address_at place from) dst vlan kind payload) refl h
+own_written place (event.Send from dst vlan ethertype payload) (outcome.Sent seq ports) port octets away h = by_frame (asked_frame (address_at place from) dst vlan ethertype payload) refl h
   where
-    by_frame : (f : Option Fields) → asked_frame (address_at place from) dst vlan kind payload ≡ f → written (side_of place port) seq f ≡ Some octets → OwnWritten place (event.Send from dst vlan kind payload) (outcome.Sent seq ports) octets
+    by_frame : (f : Option Fields) → asked_frame (address_at place from) dst vlan ethertype payload ≡ f → written (side_of place port) seq f ≡ Some octets → OwnWritten place (event.Send from dst vlan ethertype payload) (outcome.Sent seq ports) octets
     by_frame None e h = absurd (nothing_written place port seq octets h)
     by_frame (Some f) e h = record { sending = record { frame = f; seq = seq }; sent = ap (sending_of seq) e; written = λ plain fits. written_is place port seq f octets plain fits h }
-own_written place (event.Send from dst vlan kind payload) (outcome.Life seq life ports) port octets away h = absurd cc
-own_written place (event.Send from dst vlan kind payload) (outcome.Judged up ports seq cause) port octets away h = absurd cc
-own_written place (event.Send from dst vlan kind payload) outcome.Aged port octets away h = absurd cc
+own_written place (event.Send from dst vlan ethertype payload) (outcome.Life seq life ports) port octets away h = absurd cc
+own_written place (event.Send from dst vlan ethertype payload) (outcome.Judged up ports seq cause) port octets away h = absurd cc
+own_written place (event.Send from dst vlan ethertype payload) outcome.Aged port octets away h = absurd cc
 own_written place (event.Supervise about) (outcome.Sent seq ports) port octets away h = absurd cc
 own_written place (event.Supervise about) (outcome.Life seq life ports) port octets away h = by_frame (life_frame (ring_address place) about life) refl h
   where
@@ -257,7 +257,7 @@ passed_copy places records links n port x past c newest fits frames arrived h = 
     by_event (event.Arrive m copy) is named passed =
         let both = arrived m copy is in
         arrived_copy places records links (owner_in places n).place m port copy c x.outcome fits frames both.1 named passed both.0
-    by_event (event.Send from dst vlan kind payload) is named passed = own (event.Send from dst vlan kind payload) is (λ m copy e. absurd (cc)) named passed
+    by_event (event.Send from dst vlan ethertype payload) is named passed = own (event.Send from dst vlan ethertype payload) is (λ m copy e. absurd (cc)) named passed
     by_event (event.Supervise about) is named passed = own (event.Supervise about) is (λ m copy e. absurd (cc)) named passed
     by_event event.Age is named passed = own event.Age is (λ m copy e. absurd (cc)) named passed
 

@@ -164,7 +164,7 @@ met w false r f h k = h
 plans_step : (capacity : ℕ) (w : World) (s : Step) → Plans w → Plans (or_same w (tried capacity w s))
 unfolding tried
 plans_step capacity w (Clock at) h = record { counted = h.counted; nodes = h.nodes; each = h.each }
-plans_step capacity w (Send n from dst vlan kind payload) h = met w (has_node w n) _ _ h (λ e. plans_main capacity w n (event.Send from dst vlan kind payload) (ltb-true n (length w.places) e) h)
+plans_step capacity w (Send n from dst vlan ethertype payload) h = met w (has_node w n) _ _ h (λ e. plans_main capacity w n (event.Send from dst vlan ethertype payload) (ltb-true n (length w.places) e) h)
 plans_step capacity w (Supervise n about) h = met w (has_node w n) _ _ h (λ e. plans_main capacity w n (event.Supervise about) (ltb-true n (length w.places) e) h)
 plans_step capacity w (Age n) h = met w (has_node w n) _ _ h (λ e. plans_main capacity w n event.Age (ltb-true n (length w.places) e) h)
 plans_step capacity w (Put n port) h = met w (has_node w n) _ _ h (λ e. met w (has_port w n port) _ _ h (λ f. plans_put w (spot_from (record { node = n; port = port }) 0 w.spans) h))

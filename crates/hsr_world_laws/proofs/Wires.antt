@@ -110,8 +110,8 @@ met w false r f k = same w
 pub step_keeps : (capacity : ℕ) (w : World) (step : Step) → IsKept w (or_same w (tried capacity w step))
 unfolding tried
 step_keeps capacity w (Clock at) = record { places = refl; records = refl; wires = refl }
-step_keeps capacity w (Send n from dst vlan kind payload) =
-    met w (has_node w n) _ _ (kept_entered capacity w (planned w n (event.Send from dst vlan kind payload)) 0 n (event.Send from dst vlan kind payload) (record { places = refl; records = refl; wires = refl }))
+step_keeps capacity w (Send n from dst vlan ethertype payload) =
+    met w (has_node w n) _ _ (kept_entered capacity w (planned w n (event.Send from dst vlan ethertype payload)) 0 n (event.Send from dst vlan ethertype payload) (record { places = refl; records = refl; wires = refl }))
 step_keeps capacity w (Supervise n about) = met w (has_node w n) _ _ (kept_entered capacity w (planned w n (event.Supervise about)) 0 n (event.Supervise about) (record { places = refl; records = refl; wires = refl }))
 step_keeps capacity w (Age n) = met w (has_node w n) _ _ (kept_entered capacity w (planned w n event.Age) 0 n event.Age (record { places = refl; records = refl; wires = refl }))
 step_keeps capacity w (Put n port) = met w (has_node w n) _ _ (met w (has_port w n port) _ _ (kept_put w (spot_from (record { node = n; port = port }) 0 w.spans)))

@@ -8,7 +8,8 @@
 --     AlwaysPlaced          nodes and links stay
 use Rattle.std.specs.Prelude.{ℕ, ◌≡◌, ◌||◌, not, Bool, false, List, length, map, reverse, is_some, Some, Ok}
 use Rattle.std.specs.List.{list_any}
-use Rattle.hsr_run_laws.specs.Closed.{IsClosed, IsOfSend, IsTableSize}
+use Rattle.hsr_duptable.specs.Table.{IsTableSize}
+use Rattle.hsr_run_laws.specs.Closed.{IsClosed, IsOfSend}
 use Rattle.hsr_finished_run.specs.Finished.{IsFinished, IsPlanned}
 use Rattle.hsr_run_laws.specs.Premises.{NumberedFirst}
 use Rattle.hsr_run_laws.specs.Run.{Run, owner_in, record_in}

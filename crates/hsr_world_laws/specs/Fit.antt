@@ -9,17 +9,17 @@ use Rattle.hsr_world_steps.specs.declared.step.Step.{Step}
 use Rattle.hsr_world_steps.specs.declared.step.Step.TheVariants as step
 
 -- what a send asks for
-pub record IsFit (dst : List ℕ) (vlan : Option ℕ) (kind : ℕ) : Type 0 where
+pub record IsFit (dst : List ℕ) (vlan : Option ℕ) (ethertype : ℕ) : Type 0 where
   pub address : length dst ≡ 6
   pub tag : IfSome vlan (λ control. control < 2 ^ 16)
-  pub type : kind < 2 ^ 16
+  pub type : ethertype < 2 ^ 16
 
 abbrev pub FitsStep : Step → Type 0
-FitsStep (step.Send node from dst vlan kind payload) = IsFit dst vlan kind
+FitsStep (step.Send node from dst vlan ethertype payload) = IsFit dst vlan ethertype
 FitsStep _ = Unit {0}
 
 abbrev pub FitsEvent : Event → Type 0
-FitsEvent (event.Send from dst vlan kind payload) = IsFit dst vlan kind
+FitsEvent (event.Send from dst vlan ethertype payload) = IsFit dst vlan ethertype
 FitsEvent _ = Unit {0}
 
 abbrev pub FitsPlace : Place → Type 0

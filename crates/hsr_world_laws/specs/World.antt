@@ -140,7 +140,7 @@ if_port w n port result = if has_node w n then (if has_port w n port then result
 -- what a step makes of a world, or the first reason why it is refused
 unfoldable pub tried : ℕ → World → Step → Result World WorldFault
 tried capacity w (Clock at) = Ok (record w { moment = at })
-tried capacity w (Send n from dst vlan kind payload) = by_main capacity w n (event.Send from dst vlan kind payload)
+tried capacity w (Send n from dst vlan ethertype payload) = by_main capacity w n (event.Send from dst vlan ethertype payload)
 tried capacity w (Supervise n about) = by_main capacity w n (event.Supervise about)
 tried capacity w (Age n) = by_main capacity w n event.Age
 tried capacity w (Put n port) = if_port w n port (put_at w (spot_from (record { node = n; port = port }) 0 w.spans))

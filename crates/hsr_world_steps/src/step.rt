@@ -19,6 +19,7 @@ pub enum Step {
         from: u8,
         dst: Mac,
         vlan: Option<u16>,
+        /// The EtherType.
         kind: u16,
         payload: Octets,
     },

@@ -9,9 +9,9 @@ pub returns-in-Some-clause-reached : goal.returns-in-Some-clause-reached
 returns-in-Some-clause-reached g c =
     let run : Run = c.args.self.now in
     let dst : List ℕ = c.args.frame.now.dst in
-    let kind : ℕ = c.args.frame.now.kind in
-    let P : List ℕ → Type 0 = ReachAlike run c.args.send.node dst kind in
-    let found : P c.in-Some.nodes = subst (λ (o : Option (List ℕ)). IfSome o P) (sym c.found_of.ensures ∙ c.in-Some.is) (c.requires.found dst kind) in
+    let ethertype : ℕ = c.args.frame.now.kind in
+    let P : List ℕ → Type 0 = ReachAlike run c.args.send.node dst ethertype in
+    let found : P c.in-Some.nodes = subst (λ (o : Option (List ℕ)). IfSome o P) (sym c.found_of.ensures ∙ c.in-Some.is) (c.requires.found dst ethertype) in
     found c.args.send c.args.frame.now refl refl refl c.requires.whole
 
 pub returns-clause-found : goal.returns-clause-found

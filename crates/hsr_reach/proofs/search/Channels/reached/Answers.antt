@@ -1,7 +1,7 @@
 use Rattle.std.proofs.Common.{ℕ}
 use Rattle.hsr_run_laws.specs.Run.{Run}
 use Rattle.hsr_reach.specs.Numbered.{is_found}
-use Rattle.hsr_reach.proofs.search.Ways.reached.Goals as goal
+use Rattle.hsr_reach.proofs.search.Channels.reached.Goals as goal
 
 pub returns : goal.returns
 returns g c = λ k below.

@@ -1,28 +1,28 @@
 //! A direction of a link, and its number.
 ghost use Rattle.std.specs.Prelude.{◌≡◌, ◌<◌};
-ghost use Rattle.hsr_reach.specs.Numbered.{number_of, way_at};
+ghost use Rattle.hsr_reach.specs.Numbered.{number_of, channel_at};
 
 use hsr_link::Dir;
 use std::marker::Model;
 
 /// A direction of a link, by the link's number.
 #[derive(Clone, Copy, Debug, PartialEq, Eq)]
-pub struct Way {
+pub struct Channel {
     pub link: usize,
     pub dir: Dir,
 }
 
-impl Model for Way {
-    ghost use Rattle.hsr_network_laws.specs.Network.{Way};
+impl Model for Channel {
+    ghost use Rattle.hsr_network_laws.specs.Network.{Channel};
 
-    ghost Value = { Way };
+    ghost Value = { Channel };
 
     ghost view = { λ w. record { link = w.link; dir = w.dir } };
 
     ghost inverse = { λ w. record { link = w.link; dir = w.dir } };
 }
 
-impl Way {
+impl Channel {
     /// Its number: twice the link's, and one more where it goes back.
     pub fn number(self) -> usize
         requires { self.link < 256 }
@@ -35,11 +35,11 @@ impl Way {
             }
     }
 
-    /// The way with a number.
-    pub(crate) fn at(number: usize) -> Way
-        ensures { result ≡ way_at number }
+    /// The channel with a number.
+    pub(crate) fn at(number: usize) -> Channel
+        ensures { result ≡ channel_at number }
     {
-        Way {
+        Channel {
             link: number / 2,
             dir: if number % 2 == 0 {
                 Dir::Forth

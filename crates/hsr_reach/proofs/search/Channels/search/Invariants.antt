@@ -1,5 +1,5 @@
 use Rattle.hsr_reach.specs.Spread.{IsFront, left_over}
-use Rattle.hsr_reach.proofs.search.Ways.search.Given as goal
+use Rattle.hsr_reach.proofs.search.Channels.search.Given as goal
 
 abbrev pub invariant-loop-number : goal.invariant-loop-number
 invariant-loop-number g l = IsFront l.fn.self l.fn.send l.fn.frame l.front.found l.front.waiting

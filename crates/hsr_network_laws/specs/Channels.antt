@@ -1,7 +1,7 @@
--- The ways of a frame through a network.
+-- The channels of a frame through a network.
 --     passes_on, lets_out   which nodes pass it on, and by which ports, where no Station has its destination
---     Carries               no copy of a send was lost on a way
---     ComesOver             a send comes to the end of a way, over ways that carry it
+--     Carries               no copy of a send was lost on a channel
+--     ComesOver             a send comes to the end of a channel, over channels that carry it
 --     IsReached             and to a node
 use Rattle.std.specs.Prelude.{ℕ, ◌<◌, ◌≡◌, ◌==◌, ◌&&◌, ◌||◌, not, Bool, true, false, length}
 use Rattle.std.specs.List.{list_any}
@@ -18,7 +18,7 @@ use Rattle.hsr_link.specs.declared.row.Dir.{Dir}
 use Rattle.hsr_link.specs.declared.row.Row.{Row}
 use Rattle.hsr_run_laws.specs.Once.{is_copy}
 use Rattle.hsr_run_laws.specs.Run.{Run, place_of, rows_of}
-use Rattle.hsr_network_laws.specs.Network.{Way, start_of, stop_of}
+use Rattle.hsr_network_laws.specs.Network.{Channel, start_of, stop_of}
 
 -- ---- nodes
 
@@ -49,33 +49,33 @@ lets_out frame (Station macs) port = true
 abbrev pub is_loss : Probe → Dir → Row → Bool
 is_loss send dir row = goes dir row && is_copy send row.carried && is_lost row.fate
 
--- no copy of a send was lost on a way
-pub record Carries (run : Run) (send : Probe) (way : Way) : Type 0 where
-  pub below : way.link < length run.links
-  pub kept : list_any (is_loss send way.dir) (rows_of run way.link) ≡ false
+-- no copy of a send was lost on a channel
+pub record Carries (run : Run) (send : Probe) (channel : Channel) : Type 0 where
+  pub below : channel.link < length run.links
+  pub kept : list_any (is_loss send channel.dir) (rows_of run channel.link) ≡ false
 
--- ---- ways
+-- ---- channels
 
 -- from the sender
-pub record IsFirstWay (run : Run) (send : Probe) (frame : Fields) (way : Way) : Type 0 where
-  pub node : (start_of run way).node ≡ send.node
-  pub out : lets_out frame (place_of run (start_of run way).node) (start_of run way).port ≡ true
+pub record IsFirstChannel (run : Run) (send : Probe) (frame : Fields) (channel : Channel) : Type 0 where
+  pub node : (start_of run channel).node ≡ send.node
+  pub out : lets_out frame (place_of run (start_of run channel).node) (start_of run channel).port ≡ true
 
--- from the end of a way by another port of that node, unless back to the sender
-pub record IsNextWay (run : Run) (send : Probe) (frame : Fields) (way next : Way) : Type 0 where
-  pub node : (start_of run next).node ≡ (stop_of run way).node
-  pub port : (start_of run next).port ≡ (stop_of run way).port → ⊥
-  pub passes : passes_on send.node frame (stop_of run way).node (place_of run (stop_of run way).node) (stop_of run way).port ≡ true
+-- from the end of a channel by another port of that node, unless back to the sender
+pub record IsNextChannel (run : Run) (send : Probe) (frame : Fields) (channel next : Channel) : Type 0 where
+  pub node : (start_of run next).node ≡ (stop_of run channel).node
+  pub port : (start_of run next).port ≡ (stop_of run channel).port → ⊥
+  pub passes : passes_on send.node frame (stop_of run channel).node (place_of run (stop_of run channel).node) (stop_of run channel).port ≡ true
   pub out : lets_out frame (place_of run (start_of run next).node) (start_of run next).port ≡ true
   pub away : (stop_of run next).node ≡ send.node → ⊥
 
--- to the end of a way
-pub data ComesOver (run : Run) (send : Probe) (frame : Fields) : Way → Type 0 where
-  sent : (way : Way) → Carries run send way → IsFirstWay run send frame way → ComesOver run send frame way
-  on : (way next : Way) → ComesOver run send frame way → Carries run send next → IsNextWay run send frame way next → ComesOver run send frame next
+-- to the end of a channel
+pub data ComesOver (run : Run) (send : Probe) (frame : Fields) : Channel → Type 0 where
+  sent : (channel : Channel) → Carries run send channel → IsFirstChannel run send frame channel → ComesOver run send frame channel
+  on : (channel next : Channel) → ComesOver run send frame channel → Carries run send next → IsNextChannel run send frame channel next → ComesOver run send frame next
 
 -- to a node
 pub record IsReached (run : Run) (send : Probe) (frame : Fields) (k : ℕ) : Type 0 where
-  pub way : Way
-  pub comes : ComesOver run send frame way
-  pub here : (stop_of run way).node ≡ k
+  pub channel : Channel
+  pub comes : ComesOver run send frame channel
+  pub here : (stop_of run channel).node ≡ k
