@@ -12,7 +12,7 @@ use crate::fault::{Fault, Status};
 use crate::left::open_text;
 use crate::notes::Notes;
 use crate::reading::scenario_of;
-use crate::shown::{asks_budget, deliver, audit_and_show};
+use crate::shown::{asks_budget, audit_and_show, deliver};
 use crate::text::read_text;
 use hsr_duptable::TableSize;
 use hsr_finished_run::{CheckFault, Closed};

@@ -10,7 +10,7 @@ ghost use Rattle.hsr_commands.specs.declared.fault.Status.TheVariants.{Fault as 
 use crate::fault::{Fault, Status};
 use crate::notes::Notes;
 use crate::reading::scenario_of;
-use crate::shown::{asks_budget, deliver, audit_and_show};
+use crate::shown::{asks_budget, audit_and_show, deliver};
 use crate::text::read_text;
 use hsr_duptable::TableSize;
 use hsr_finished_run::Closed;

@@ -13,13 +13,7 @@ use std::alloc::Global;
 
 /// Puts two numbers, each behind a name.
 #[tactic(auto, unfolding(crate::specs::Lines::pair_text))]
-fn put_pair(
-    text: &mut Vec<u8>,
-    first: &[u8],
-    n: u64,
-    second: &[u8],
-    m: u64,
-) -> Result<(), NoMemory>
+fn put_pair(text: &mut Vec<u8>, first: &[u8], n: u64, second: &[u8], m: u64) -> Result<(), NoMemory>
     ensures { OnOk result (text.new.items ≡ text.old.items ++ pair_text first.now n second.now m) }
 {
     put_count(text, first, n)?;

@@ -11,7 +11,13 @@ use crate::node::STEP_LIMIT;
 /// Why a send is refused, if it is: it goes to its own source, its type is that of a VLAN or HSR tag, as
 /// many steps as a node accepts are spent, or its payload has more than `MAX_PAYLOAD` octets. The first reason counts.
 /// `accepted` counts the sends, supervisions and arrivals so far, `len` is in octets (the order is this profile's).
-pub fn send_fault(src: Mac, accepted: u64, dst: Mac, ethertype: u16, len: usize) -> Option<SendFault>
+pub fn send_fault(
+    src: Mac,
+    accepted: u64,
+    dst: Mac,
+    ethertype: u16,
+    len: usize,
+) -> Option<SendFault>
     requires { accepted ≤ 2 ^ 62 }
     ensures fault { result ≡ send_refusal src accepted dst ethertype len }
     ensures room { IfNone result (accepted < 2 ^ 62) }

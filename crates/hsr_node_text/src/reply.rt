@@ -47,11 +47,7 @@ fn put_copies(text: &mut Vec<u8>, frame: Option<FrameView<'_>>, seq: u16) -> Res
 
 /// Puts the lines of a send that was accepted.
 /// `sent <number>`, and the copies of the frame for A and B, where there is a frame. `NoMemory` where room is refused.
-pub fn put_sent(
-    text: &mut Vec<u8>,
-    frame: Option<FrameView<'_>>,
-    seq: u16,
-) -> Result<(), NoMemory>
+pub fn put_sent(text: &mut Vec<u8>, frame: Option<FrameView<'_>>, seq: u16) -> Result<(), NoMemory>
     ensures { OnOk result (text.new.items ≡ text.old.items ++ sent_text frame.entry seq) }
 {
     put_count(text, b"sent ", u64::from(seq))?;
