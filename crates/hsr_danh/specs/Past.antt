@@ -1,11 +1,10 @@
 -- The machine that keeps its whole past, and answers by filtering it.
-use Rattle.std.specs.Prelude.{◌≡◌, ℕ, ◌+◌, ◌%◌, ◌==◌, ◌&&◌, not, max, Bool, true, false, List, [], ◌∷◌, ◌++◌, map, reverse, Option, Some, None, Result, Ok, Err, if◌then◌else◌}
+use Rattle.std.specs.Prelude.{◌≡◌, ℕ, ◌+◌, ◌%◌, ◌==◌, max, Bool, true, false, List, [], ◌∷◌, ◌++◌, map, reverse, Option, Some, None, Result, Ok, Err, if◌then◌else◌}
 use Rattle.hsr_frame.specs.Counters.{step_limit}
 use Rattle.hsr_frame.specs.Cause.{is_duplicate, is_returned, is_foreign, is_local, is_untagged, is_tagged, is_malformed}
-use Rattle.hsr_frame.specs.Egress.{Egress, up, a, b, c, d}
+use Rattle.hsr_frame.specs.Egress.{Egress, up, a, b, c, d, exits_of, has_exit}
 use Rattle.hsr_frame.specs.Send.{send_refusal}
 use Rattle.hsr_frame.specs.declared.counters.Counters.{Counters}
-use Rattle.hsr_frame.specs.declared.egress.Exits.{Exits}
 use Rattle.hsr_frame.specs.declared.fault.FrameFault.{FrameFault}
 use Rattle.hsr_frame.specs.declared.fault.SendFault.{SendFault}
 use Rattle.hsr_frame.specs.declared.fault.Spent.{Spent}
@@ -14,16 +13,15 @@ use Rattle.hsr_frame.specs.declared.node.Mode.{Mode}
 use Rattle.hsr_frame.specs.declared.node.RingPort.{RingPort}
 use Rattle.hsr_tag.specs.Seen.{classified}
 use Rattle.hsr_tag.specs.declared.seen.Seen.{Seen}
-use Rattle.hsr_duptable.specs.Key.{Key}
 use Rattle.hsr_duptable.specs.Notes.{note_if}
 use Rattle.hsr_duptable.specs.declared.note.Note.{Note}
 use Rattle.hsr_tables.specs.Known.{known}
 use Rattle.hsr_tables.specs.Nodes.{Hearing, rows_known}
 use Rattle.hsr_tables.specs.declared.nodes.NodeRow.{NodeRow}
 use Rattle.hsr_danh.specs.Machine.{Machine, new_machine}
-use Rattle.hsr_role.specs.Arrival.{judged_by, key_in}
-use Rattle.hsr_role.specs.Past.{answers_of, hearing_in, is_bad_life, log_remembers, note_of}
+use Rattle.hsr_role.specs.Past.{answers_of, hearing_in, is_bad_life, note_of, passes_from}
 use Rattle.hsr_role.specs.Numbers.{number_range}
+use Rattle.hsr_role.specs.Tables.{judged_as}
 use Rattle.hsr_danh.specs.Step.{age_step, arrive_step, life_step, send_step, verdict_of}
 use Rattle.hsr_danh.specs.Wanted.{wanted}
 use Rattle.hsr_danh.specs.declared.danh.Sent.{Sent}
@@ -101,13 +99,6 @@ number_after past = count_of is_numbered past % number_range
 
 -- ---- the log of an egress: a note for each numbered frame that it passed, the oldest first, never shortened
 
-abbrev pub is_ring : Egress → Bool
-is_ring up = false
-is_ring a = true
-is_ring b = true
-is_ring c = false
-is_ring d = false
-
 abbrev pub passed : Verdict → Egress → Bool
 passed verdict up = verdict.up
 passed verdict a = verdict.a
@@ -116,17 +107,14 @@ passed verdict c = false
 passed verdict d = false
 
 abbrev pub noted_by : List ℕ → Egress → ℕ → Did → List Note
-noted_by own egress now (sent_frame seq) = note_if (is_ring egress) (record { src = own; seq = seq }) now
-noted_by own egress now (sent_life seq) = note_if (is_ring egress) (record { src = own; seq = seq }) now
+noted_by own egress now (sent_frame seq) = note_if (has_exit (exits_of (a ∷ b ∷ [])) egress) (record { src = own; seq = seq }) now
+noted_by own egress now (sent_life seq) = note_if (has_exit (exits_of (a ∷ b ∷ [])) egress) (record { src = own; seq = seq }) now
 noted_by own egress now (judged_frame x seen verdict) = note_of seen (passed verdict egress) now
 noted_by own egress now gave_up = []
 
 abbrev pub log_of : List ℕ → Egress → List Deed → List Note
 log_of own egress [] = []
 log_of own egress (deed ∷ past) = log_of own egress past ++ noted_by own egress deed.now deed.did
-
-abbrev pub remembers_of : ℕ → List ℕ → List Deed → ℕ → Key → Egress → Bool
-remembers_of capacity own past now key egress = log_remembers capacity (log_of own egress past) now key
 
 -- ---- hearings: readable tagged supervision frames of other nodes, the earliest first
 
@@ -189,14 +177,9 @@ life_from past at false =
     (lived (Ok (record { seq = number_after past; life = count_of is_life past % number_range })), done past at (sent_life (number_after past)))
 
 -- a tagged frame passes where it is wanted and not remembered
-abbrev pub passes_from : ℕ → List ℕ → List Deed → ℕ → Exits → Result Seen FrameFault → Exits
-passes_from capacity own past now exits seen = judged_by (λ key.
-    let remembers = remembers_of capacity own past now key in
-    record exits { up = exits.up && not (remembers up); a = exits.a && not (remembers a); b = exits.b && not (remembers b) }) exits (key_in seen)
-
 abbrev pub verdict_from : ℕ → List ℕ → Mode → List Deed → ℕ → RingPort → Result Seen FrameFault → Verdict
 verdict_from capacity own mode past now x seen =
-    let wants = wanted own mode x seen in verdict_of wants (passes_from capacity own past now wants.exits seen)
+    let wants = wanted own mode x seen in verdict_of (judged_as wants (passes_from capacity (λ egress. log_of own egress past) wants.exits seen now))
 
 abbrev pub arrive_from : ℕ → List ℕ → Mode → List Deed → ℕ → RingPort → Result Seen FrameFault → Bool → Answer × List Deed
 arrive_from capacity own mode past at x seen true = (judged (Err (record {})), past)

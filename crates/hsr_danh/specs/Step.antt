@@ -1,12 +1,10 @@
 -- One step of a DANH: the answer to a call, and what the node holds after it.
-use Rattle.std.specs.Prelude.{ℕ, ◌+◌, ◌%◌, ◌==◌, ◌&&◌, not, max, Bool, true, false, List, [], ◌∷◌, Option, Some, None, Result, Ok, Err}
-use Rattle.hsr_frame.specs.Counters.{bit, step_limit}
-use Rattle.hsr_frame.specs.Egress.{cause_of, exits_of}
+use Rattle.std.specs.Prelude.{ℕ, ◌+◌, ◌%◌, ◌==◌, max, Bool, true, false, List, [], ◌∷◌, Option, Some, None, Result, Ok, Err}
+use Rattle.hsr_frame.specs.Counters.{step_limit}
+use Rattle.hsr_frame.specs.Egress.{exits_of}
 use Rattle.hsr_frame.specs.Egress as egress
 use Rattle.hsr_frame.specs.Send.{send_refusal}
 use Rattle.hsr_frame.specs.declared.counters.Counters.{Counters}
-use Rattle.hsr_frame.specs.declared.egress.Exits.{Exits}
-use Rattle.hsr_frame.specs.declared.egress.Wants.{Wants}
 use Rattle.hsr_frame.specs.declared.fault.FrameFault.{FrameFault}
 use Rattle.hsr_frame.specs.declared.fault.SendFault.{SendFault}
 use Rattle.hsr_frame.specs.declared.fault.Spent.{Spent}
@@ -14,26 +12,18 @@ use Rattle.hsr_frame.specs.declared.node.Life.{Life}
 use Rattle.hsr_frame.specs.declared.node.RingPort.{RingPort}
 use Rattle.hsr_tag.specs.Seen.{classified}
 use Rattle.hsr_tag.specs.declared.seen.Seen.{Seen}
-use Rattle.hsr_duptable.specs.Key.{Key}
-use Rattle.hsr_duptable.specs.Table.{after_age, after_pass, remembers}
-use Rattle.hsr_role.specs.Arrival.{counted_with, heard_of, judged_by, key_in}
+use Rattle.hsr_role.specs.Arrival.{heard_of}
 use Rattle.hsr_role.specs.Numbers.{number_range}
+use Rattle.hsr_role.specs.Tables.{after_passes, aged, counted_with, judged}
+use Rattle.hsr_role.specs.declared.judged.Judged.{Judged}
 use Rattle.hsr_danh.specs.Wanted.{wanted}
-use Rattle.hsr_danh.specs.Machine.{Machine, Notes}
+use Rattle.hsr_danh.specs.Machine.{Machine}
 use Rattle.hsr_danh.specs.declared.danh.Sent.{Sent}
 use Rattle.hsr_danh.specs.declared.danh.Verdict.{Verdict}
 
 -- the effective moment: one that is earlier than the last is read as the last
 abbrev pub now_at : Machine → ℕ → ℕ
 now_at machine at = max machine.moment at
-
--- the tables after a frame with this key left by these egresses
-abbrev pub after_passes : ℕ → Notes → Exits → Key → ℕ → Notes
-after_passes capacity notes passes key now = record {
-  up = after_pass capacity notes.up passes.up key now;
-  a = after_pass capacity notes.a passes.a key now;
-  b = after_pass capacity notes.b passes.b key now;
-}
 
 -- ---- a frame of the node's own
 
@@ -68,38 +58,20 @@ life_step capacity machine at = life_or_spent capacity machine (now_at machine a
 
 -- ---- an arrival
 
--- a wanted frame passes where it isn't remembered
-abbrev pub passes_of : Notes → Exits → Key → ℕ → Exits
-passes_of notes exits key now = record exits {
-  up = exits.up && not (remembers notes.up key now);
-  a = exits.a && not (remembers notes.a key now);
-  b = exits.b && not (remembers notes.b key now);
-}
-
--- where an arrival passes, and the tables after that: only a tagged one is looked for and noted
-abbrev pub judged : ℕ → Notes → Exits → Result Seen FrameFault → ℕ → Exits × Notes
-judged capacity notes exits seen now =
-    judged_by (λ key. let passes = passes_of notes exits key now in (passes, after_passes capacity notes passes key now)) (exits, notes) (key_in seen)
-
-abbrev pub verdict_of : Wants → Exits → Verdict
-verdict_of wants passes = record { up = passes.up; a = passes.a; b = passes.b; cause = cause_of wants passes }
-
--- how many ports passed an arrival
-abbrev pub copies_of : Verdict → ℕ
-copies_of verdict = bit verdict.a + bit verdict.b
+-- the verdict of a DANH, by its egresses
+abbrev pub verdict_of : Judged → Verdict
+verdict_of judged = record { up = judged.passes.up; a = judged.passes.a; b = judged.passes.b; cause = judged.cause }
 
 -- what came to ring port x, at the effective moment
 abbrev pub after_arrival : ℕ → Machine → ℕ → RingPort → Result Seen FrameFault → Verdict × Machine
 after_arrival capacity machine now x seen =
-    let wants = wanted machine.own machine.mode x seen in
-    let outcome = judged capacity machine.notes wants.exits seen now in
-    let hearing = heard_of machine.own machine.nodes x seen now in
-    let verdict = verdict_of wants outcome.0 in (
-      verdict,
+    let outcome = judged capacity machine.notes (wanted machine.own machine.mode x seen) seen now in
+    let hearing = heard_of machine.own machine.nodes x seen now in (
+      verdict_of outcome.0,
       record machine {
         notes = outcome.1;
         nodes = hearing.1;
-        counters = counted_with machine.counters verdict.cause verdict.up (copies_of verdict) hearing.0;
+        counters = counted_with machine.counters outcome.0 hearing.0;
         moment = now;
         accepted = machine.accepted + 1;
       },
@@ -113,9 +85,6 @@ unfoldable pub arrive_step : ℕ → Machine → ℕ → RingPort → List ℕ �
 arrive_step capacity machine at x octets = arrive_or_spent capacity machine (now_at machine at) x octets (machine.accepted == step_limit)
 
 -- ---- ageing, which isn't counted as a step
-
-abbrev pub aged : Notes → ℕ → Notes
-aged notes now = record { up = after_age notes.up now; a = after_age notes.a now; b = after_age notes.b now }
 
 abbrev pub age_step : Machine → ℕ → Machine
 age_step machine at = record machine { notes = aged machine.notes (now_at machine at); moment = now_at machine at }

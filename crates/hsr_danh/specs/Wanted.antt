@@ -1,28 +1,22 @@
--- Which egresses of a DANH want an arrival: the cases of the table, tried downwards.
-use Rattle.std.specs.Prelude.{List, [], ◌∷◌, ℕ, Result, Ok, Err}
-use Rattle.hsr_frame.specs.Address.{is_group, is_same_address}
-use Rattle.hsr_frame.specs.Cases.{first_of}
-use Rattle.hsr_frame.specs.Egress.{up, beyond, in_mode, nowhere, onward, to}
+-- Which egresses of a DANH want an arrival: it has no interlink.
+use Rattle.std.specs.Prelude.{List, ℕ, None, Result}
+use Rattle.hsr_frame.specs.declared.egress.Exits.{Exits}
 use Rattle.hsr_frame.specs.declared.egress.Wants.{Wants}
 use Rattle.hsr_frame.specs.declared.fault.FrameFault.{FrameFault}
-use Rattle.hsr_frame.specs.declared.node.Cause.TheVariants.{Returned, Untagged, Malformed}
 use Rattle.hsr_frame.specs.declared.node.Mode.{Mode}
 use Rattle.hsr_frame.specs.declared.node.RingPort.{RingPort}
 use Rattle.hsr_tag.specs.Tag.{TaggedFields}
 use Rattle.hsr_tag.specs.declared.seen.Seen.{Seen}
-use Rattle.hsr_tag.specs.declared.seen.Seen.TheVariants.{Plain, Tagged}
+use Rattle.hsr_role.specs.Wanted as of_ring
 
--- a tagged frame that came to ring port x
+-- the egresses of a DANH
+abbrev pub egresses : Exits
+egresses = of_ring.ring_exits None
+
+-- a tagged frame that came to ring port x, in mode H or U
 abbrev pub wanted_tagged : List ℕ → Mode → RingPort → TaggedFields → Wants
-wanted_tagged own mode x frame = first_of
-    ((is_same_address frame.src own, nowhere Returned)
-    ∷ (is_same_address frame.dst own, to (up ∷ onward mode x))
-    ∷ (is_group frame.dst, to (up ∷ beyond x ∷ []))
-    ∷ [])
-    (to (beyond x ∷ []))
+wanted_tagged own mode x frame = of_ring.wanted_tagged own mode None x frame
 
 -- what came to ring port x
 abbrev pub wanted : List ℕ → Mode → RingPort → Result Seen FrameFault → Wants
-wanted own mode x (Err fault) = nowhere (Malformed fault)
-wanted own mode x (Ok (Plain frame)) = nowhere Untagged
-wanted own mode x (Ok (Tagged frame)) = in_mode mode (wanted_tagged own mode x frame)
+wanted own mode x seen = of_ring.wanted own mode None x seen

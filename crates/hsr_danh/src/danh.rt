@@ -3,15 +3,13 @@ ghost use Rattle.std.specs.Prelude.{◌≡◌, ◌≢◌, ◌≤◌, ◌<◌, �
 ghost use Rattle.hsr_frame.specs.Counters.{step_limit};
 ghost use Rattle.hsr_frame.specs.Layout.{ethertype_hsr, ethertype_vlan, max_payload};
 
-use crate::tables::Tables;
-use crate::wanted::wants_of;
 use arrayvec::ArrayVec;
 use hsr_duptable::Key;
 use hsr_frame::{
     Cause, Counters, Exits, Life, Mac, Mode, NoMemory, RingPort, STEP_LIMIT, SendFault, Spent,
-    Wants, send_fault,
+    send_fault,
 };
-use hsr_role::{NUMBER_RANGE, count, hear};
+use hsr_role::{EgressTables, Judged, NUMBER_RANGE, count, hear, ring_wants};
 use hsr_tables::{NodeRow, NodeTable, ROW_LIMIT};
 use hsr_tag::look_at;
 use std::alloc::Global;
@@ -39,7 +37,7 @@ pub struct Verdict {
 pub struct Danh<const C: usize> {
     own: Mac,
     mode: Mode,
-    tables: Tables<C>,
+    tables: EgressTables<C>,
     nodes: NodeTable,
     next: u16,
     counters: Counters,
@@ -70,7 +68,11 @@ impl<const C: usize> Danh<C> {
         requires entries { (1 ≤ C) × (C ≤ 65535) }
         ensures { IfOk result (λ danh. danh ≡ new_machine own mode) }
     {
-        let tables = Tables::new(alloc)?;
+        let egresses = Exits {
+            up: true,
+            ..Exits::both_ports()
+        };
+        let tables = EgressTables::new(alloc, egresses)?;
         Ok(Danh {
             own,
             mode,
@@ -143,21 +145,13 @@ impl<const C: usize> Danh<C> {
         }
         let now = self.moment.max(at);
         let seen = look_at(octets);
-        let wants = wants_of(self.own, self.mode, port, &seen);
-        let passes = self.tables.judge(wants.exits, &seen, now);
-        let verdict = verdict_on(wants, passes);
+        let wants = ring_wants(self.own, self.mode, None, port, &seen, now);
+        let judged = self.tables.judge(wants, &seen, now);
         let readable = hear(&mut self.nodes, self.own, port, &seen, now);
-        let copies = copies_of(verdict);
-        count(
-            &mut self.counters,
-            verdict.cause,
-            verdict.up,
-            copies,
-            readable,
-        );
+        count(&mut self.counters, judged, readable);
         self.moment = now;
         self.accepted += 1;
-        Ok(verdict)
+        Ok(verdict_of(judged))
     }
 
     /// Gives up the notes that are expired at a moment in microseconds. That changes no later answer.
@@ -193,24 +187,16 @@ impl<const C: usize> Danh<C> {
     }
 }
 
-ghost use Rattle.hsr_danh.specs.Step.{copies_of, verdict_of};
+ghost use Rattle.hsr_danh.specs.Step.{verdict_of};
 
-/// The verdict on what these of the egresses that want it pass.
-fn verdict_on(wants: Wants, passes: Exits) -> Verdict
-    ensures { result ≡ verdict_of wants passes }
+/// The verdict of a DANH, by its egresses.
+fn verdict_of(judged: Judged) -> Verdict
+    ensures { result ≡ verdict_of judged }
 {
     Verdict {
-        up: passes.up,
-        a: passes.a,
-        b: passes.b,
-        cause: wants.cause_of(passes),
+        up: judged.passes.up,
+        a: judged.passes.a,
+        b: judged.passes.b,
+        cause: judged.cause,
     }
-}
-
-/// How many ports passed an arrival.
-fn copies_of(verdict: Verdict) -> u64
-    ensures value { result ≡ copies_of verdict }
-    ensures few { result ≤ 3 }
-{
-    u64::from(verdict.a) + u64::from(verdict.b)
 }

@@ -126,7 +126,7 @@ returned mode true rest other e h = nothing_left mode e
 returned mode false rest other e h = absurd (false≢true h)
 
 danh_returned : (mac : List ℕ) (mode : Mode) (x : RingPort) (t : TaggedFields) (e : Egress) → t.src ≡ mac → has_exit (in_mode mode (of_danh.wanted_tagged mac mode x t)).exits e ≡ false
-danh_returned mac mode x t e own = returned mode (is_same_address t.src mac) ((is_same_address t.dst mac, to (up ∷ onward mode x)) ∷ (is_group t.dst, to (up ∷ beyond x ∷ [])) ∷ []) (to (beyond x ∷ [])) e (address_same t.src mac own)
+danh_returned mac mode x t e own = returned mode (is_same_address t.src mac) ((is_same_address t.dst mac, to (up ∷ onward mode x)) ∷ (is_supervision t.dst t.kind, to (up ∷ beyond x ∷ [])) ∷ (is_group t.dst, to (up ∷ beyond x ∷ [])) ∷ []) (to (beyond x ∷ [])) e (address_same t.src mac own)
 
 box_returned : (mac : List ℕ) (mode : Mode) (known : List ℕ → Bool) (x : RingPort) (t : TaggedFields) (e : Egress) → t.src ≡ mac → has_exit (in_mode mode (of_redbox.wanted_tagged mac mode known x t)).exits e ≡ false
 box_returned mac mode known x t e own =

@@ -4,7 +4,7 @@
 --     noted_in     where an entry is noted
 --     Reading      all of it
 use Rattle.std.specs.Prelude.{ℕ, Bool, if◌then◌else◌, List, [], ◌∷◌, fold, Option, Some, None, is_some, option_map, Result}
-use Rattle.hsr_frame.specs.Egress.{up, a, b, c, d, no_exits, to}
+use Rattle.hsr_frame.specs.Egress.{up, a, b, c, d, no_exits}
 use Rattle.hsr_frame.specs.declared.egress.Exits.{Exits}
 use Rattle.hsr_frame.specs.declared.fault.FrameFault.{FrameFault}
 use Rattle.hsr_tag.specs.Seen.{classified}
@@ -12,7 +12,7 @@ use Rattle.hsr_tag.specs.declared.seen.Seen.{Seen}
 use Rattle.hsr_tables.specs.Proxies.{Proxies, is_known, learned, no_proxies}
 use Rattle.hsr_redbox.specs.Wanted.{unnumbered}
 use Rattle.hsr_redbox.specs.declared.wanted.Handling.{Handling}
-use Rattle.hsr_quadbox.specs.Wanted.{others}
+use Rattle.hsr_quadbox.specs.Wanted.{wanted}
 use Rattle.hsr_node.specs.Record.{handling, heard_from, is_noted, key_handled, now, probe_handled}
 use Rattle.hsr_node.specs.Step.{quad_port}
 use Rattle.hsr_node.specs.declared.entry.Entry.{Entry}
@@ -44,9 +44,9 @@ exits_of (Some h) = h.wants.exits
 abbrev pub wanted_from : Place → (List ℕ → Bool) → ℕ → Result Seen FrameFault → Exits
 wanted_from place known port seen = if is_on_ring place port then exits_of (handling place known port seen) else no_exits
 
--- a QuadBox wants what is tagged at its other ports
-abbrev pub quadbox_exits : ℕ → Exits
-quadbox_exits port = exits_of (option_map (λ x. unnumbered (to (others x))) (quad_port port))
+-- where a QuadBox wants what came to a port
+abbrev pub quadbox_exits : ℕ → Result Seen FrameFault → Exits
+quadbox_exits port seen = exits_of (option_map (λ x. unnumbered (wanted x seen)) (quad_port port))
 
 abbrev pub wanted_in : Place → (List ℕ → Bool) → Event → Exits
 wanted_in place known (Arrive port copy) = wanted_from place known port (classified copy.octets)

@@ -39,7 +39,7 @@ use Rattle.hsr_network_law.proofs.Links.{Arrived, Left, carried_on}
 use Rattle.hsr_network_law.proofs.Sending.{KnownWhereSent, known_left}
 use Rattle.hsr_network_law.proofs.Sides.{exit_of, one_port}
 use Rattle.hsr_network_law.proofs.Unknown.{OfSource, each_unknown_before}
-use Rattle.hsr_network_law.proofs.Unwanted.{no_life}
+use Rattle.hsr_law.proofs.RingWants.{no_life}
 use Rattle.hsr_network_law.proofs.Wants.{among_at, ring_down, station_up}
 
 -- an address is known

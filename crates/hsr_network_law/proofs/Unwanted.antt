@@ -1,8 +1,8 @@
 -- What no node wants: what is no frame, what it sent itself, what came plain from a ring, and, for a Station, anything on.
-use Rattle.std.proofs.Common.{ap, Bool, Err, List, None, Ok, Option, Some, [], arith, false, if◌then◌else◌, inr, refl, suc, sym, true, zero, ℕ, ◌&&◌, ◌<◌, ◌==◌, ◌||◌, ◌∙◌, ◌∷◌, ◌≡◌}
+use Rattle.std.proofs.Common.{ap, Bool, Err, List, None, Ok, Option, Some, [], arith, false, if◌then◌else◌, inr, refl, suc, sym, true, zero, ℕ, ◌<◌, ◌==◌, ◌||◌, ◌∙◌, ◌∷◌, ◌≡◌}
 use Rattle.std.specs.Prelude.{option_map, slice_get}
 use Rattle.std.proofs.lemmas.Bool.{false≢true, or_left, or_right}
-use Rattle.hsr_frame.specs.Address.{is_among, is_group, is_same_address, supervision_address}
+use Rattle.hsr_frame.specs.Address.{is_among, is_group, is_same_address}
 use Rattle.hsr_frame.specs.Cases.{first_of}
 use Rattle.hsr_frame.specs.Egress.{Egress, beyond, has_exit, in_mode, is_supervision, nowhere, onward, to, up}
 use Rattle.hsr_frame.specs.Egress as out
@@ -31,12 +31,11 @@ use Rattle.hsr_node.specs.Record.{box_handling, station_wanted}
 use Rattle.hsr_node.specs.Step.{box_port, quad_port, ring_port}
 use Rattle.hsr_node.specs.declared.place.Place.{Place}
 use Rattle.hsr_node.specs.declared.place.Place.TheVariants.{Danh, RedBox, QuadBox, Station}
-use Rattle.hsr_frame.specs.Layout.{ethertype_supervision}
 use Rattle.hsr_network_law.proofs.Wants.{not_among}
-use Rattle.hsr_law.proofs.RingWants.{wants_not_up}
+use Rattle.hsr_law.proofs.RingWants.{no_life, wants_not_up}
 use Rattle.hsr_law.proofs.Danh.{danh_tagged}
 use Rattle.hsr_law.proofs.Records.{IsSource}
-use Rattle.hsr_law.proofs.Same.{address_other, address_same, same_address}
+use Rattle.hsr_law.proofs.Same.{address_other, address_same}
 use Rattle.hsr_law.proofs.Views.{Came}
 use Rattle.hsr_law.proofs.Wanted.{no_exit}
 use Rattle.hsr_network_law.specs.Network.{HasAddress, is_edge, is_station}
@@ -200,14 +199,6 @@ station_not_up : (own mine : Bool) → mine ≡ false → has_exit (first_of ((o
 station_not_up own true m = absurd (false≢true (sym m))
 station_not_up true false m = refl
 station_not_up false false m = refl
-
--- no supervision frame is single
-pub no_life : (dst : List ℕ) (kind : ℕ) → is_group dst ≡ false → is_supervision dst kind ≡ false
-no_life dst kind single = by_test (is_same_address dst supervision_address) refl
-  where
-    by_test : (b : Bool) → is_same_address dst supervision_address ≡ b → (b && (kind == ethertype_supervision)) ≡ false
-    by_test false e = refl
-    by_test true e = absurd (false≢true (sym single ∙ ap is_group (same_address dst supervision_address e)))
 
 -- of what comes tagged, and of what comes plain
 pub single_tagged : (place : Place) (known : List ℕ → Bool) (port : ℕ) (t : TaggedFields) → is_group t.dst ≡ false → (HasAddress place t.dst → ⊥) → wants place known port (Ok (Tagged t)) up ≡ false

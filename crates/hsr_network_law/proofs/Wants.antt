@@ -62,26 +62,28 @@ open_mode H w h = refl
 open_mode U w h = refl
 open_mode N w h = absurd (false≢true h)
 
--- by the source, the destination and the kind of address
-abbrev danh_by : Mode → Bool → Bool → Bool → RingPort → Egress → Bool
-danh_by mode own same group p e =
-    has_exit (first_of ((own, nowhere Returned) ∷ (same, to (up ∷ onward mode p)) ∷ (group, to (up ∷ beyond p ∷ [])) ∷ []) (to (beyond p ∷ []))).exits e
+-- by the source, the destination and the kinds of frame and address
+abbrev danh_by : Mode → Bool → Bool → Bool → Bool → RingPort → Egress → Bool
+danh_by mode own same life group p e =
+    has_exit (first_of ((own, nowhere Returned) ∷ (same, to (up ∷ onward mode p)) ∷ (life, to (up ∷ beyond p ∷ [])) ∷ (group, to (up ∷ beyond p ∷ [])) ∷ []) (to (beyond p ∷ []))).exits e
 
-danh_across : (mode : Mode) (own same group : Bool) (p : RingPort) → own ≡ false → (keeps_own mode ≡ true → same ≡ false) → danh_by mode own same group p (beyond p) ≡ true
-danh_across mode true same group p o k = absurd (false≢true (sym o))
-danh_across H false true group p o k = absurd (false≢true (sym (k refl)))
-danh_across N false true group p o k = absurd (false≢true (sym (k refl)))
-danh_across U false true group ring.A o k = refl
-danh_across U false true group ring.B o k = refl
-danh_across mode false false true ring.A o k = refl
-danh_across mode false false true ring.B o k = refl
-danh_across mode false false false ring.A o k = refl
-danh_across mode false false false ring.B o k = refl
+danh_across : (mode : Mode) (own same life group : Bool) (p : RingPort) → own ≡ false → (keeps_own mode ≡ true → same ≡ false) → danh_by mode own same life group p (beyond p) ≡ true
+danh_across mode true same life group p o k = absurd (false≢true (sym o))
+danh_across H false true life group p o k = absurd (false≢true (sym (k refl)))
+danh_across N false true life group p o k = absurd (false≢true (sym (k refl)))
+danh_across U false true life group ring.A o k = refl
+danh_across U false true life group ring.B o k = refl
+danh_across mode false false true group ring.A o k = refl
+danh_across mode false false true group ring.B o k = refl
+danh_across mode false false false true ring.A o k = refl
+danh_across mode false false false true ring.B o k = refl
+danh_across mode false false false false ring.A o k = refl
+danh_across mode false false false false ring.B o k = refl
 
 danh_on : (mac : List ℕ) (mode : Mode) → goes_round mode ≡ true → (x : RingPort) (t : TaggedFields) → (t.src ≡ mac → ⊥) → (keeps_own mode ≡ true → t.dst ≡ mac → ⊥) → has_exit (in_mode mode (of_danh.wanted_tagged mac mode x t)).exits (beyond x) ≡ true
 danh_on mac mode round x t src dst =
     ap (λ (w : Wants). has_exit w.exits (beyond x)) (open_mode mode (of_danh.wanted_tagged mac mode x t) round)
-    ∙ danh_across mode (is_same_address t.src mac) (is_same_address t.dst mac) (is_group t.dst) x (address_other t.src mac src) (λ k. address_other t.dst mac (dst k))
+    ∙ danh_across mode (is_same_address t.src mac) (is_same_address t.dst mac) (is_supervision t.dst t.kind) (is_group t.dst) x (address_other t.src mac src) (λ k. address_other t.dst mac (dst k))
 
 danh_wants : (mac : List ℕ) (mode : Mode) → goes_round mode ≡ true → (known : List ℕ → Bool) (t : TaggedFields) (port n : ℕ) → port < 2 → n < 2 → (n ≡ port → ⊥) → (t.src ≡ mac → ⊥) → (keeps_own mode ≡ true → t.dst ≡ mac → ⊥) →
     wants (Danh mac mode) known port (Ok (Tagged t)) (exit_of n) ≡ true

@@ -1,5 +1,5 @@
 -- The replay is the same in a finer unit: each note and hearing is as old as before, by the new unit.
-use Rattle.std.proofs.Common.{◌≡◌, ◌↔◌, ℕ, zero, ◌+◌, ◌-◌, ◌*◌, ◌%◌, ◌<◌, ◌≤◌, ◌^◌, ◌==◌, ◌||◌, max, nat_lt, not, Bool, true, false, cond, List, [], ◌∷◌, ◌++◌, length, map, take, filter, Option, Some, None, option_map, is_some, Result, Ok, Err, refl, ap, ap₂, sym, ◌∙◌, subst, ⊎_elim, mul_comm, zero-mul, zero-lt-suc, le_of_lt, mul-le-mul_right, mul-lt-mul_of_pos_right, lt-ltb, le-ltb, ltb-true, ltb-false}
+use Rattle.std.proofs.Common.{◌≡◌, ℕ, ◌+◌, ◌-◌, ◌*◌, ◌%◌, ◌<◌, ◌≤◌, ◌^◌, ◌==◌, ◌||◌, max, nat_lt, not, Bool, true, false, cond, List, [], ◌∷◌, ◌++◌, length, map, take, filter, Option, Some, None, option_map, is_some, Result, Ok, Err, refl, ap, ap₂, sym, ◌∙◌, ⊎_elim, mul_comm, zero-mul, zero-lt-suc, le_of_lt, mul-le-mul_right, mul-lt-mul_of_pos_right, lt-ltb, le-ltb, ltb-true, ltb-false}
 use Rattle.std.proofs.Math.Nat.{max-eq_left, max-eq_right, mul-sub}
 use Rattle.std.proofs.Math.Path.{fun_ext}
 use Rattle.std.proofs.lemmas.Bool.{cases_Bool}
@@ -22,16 +22,15 @@ use Rattle.hsr_redbox.specs.declared.call.BoxPort.{BoxPort}
 use Rattle.hsr_redbox.specs.declared.call.BoxPort.TheVariants.{A, B, I}
 use Rattle.hsr_redbox.specs.declared.wanted.Handling.{Handling}
 use Rattle.hsr_node.specs.Copies.{address_at}
-use Rattle.hsr_node.specs.Record.{Noted, Owner, answer_by, arrive_answer_by, count_of, handling, has_key, heard, heard_from, is_aged, is_life, is_noted, judged_as, key_handled, knows_by, life_answer_by, lived_or_refused, lives, next_number, note_if, note_of, notes, now, number_in, passing, probe_handled, remembered_within, remembers_by, send_answer_by, sending, sent_as, sent_or_refused, source_at, steps, Each, IsLegal, IsLegalBy}
+use Rattle.hsr_node.specs.Record.{Noted, Owner, answer_by, arrive_answer_by, count_of, handling, has_key, heard, heard_from, is_aged, is_life, is_noted, judged_as, key_handled, knows_by, life_answer_by, lived_or_refused, lives, next_number, note_if, note_of, notes, now, number_in, passing, probe_handled, remembered_within, remembers_by, send_answer_by, sending, sent_as, sent_or_refused, source_at, steps, IsLegal, IsLegalBy}
 use Rattle.hsr_node.specs.Step.{box_port}
-use Rattle.hsr_node.specs.Times.{Times, finer_times, usual}
+use Rattle.hsr_node.specs.Times.{Times, finer_times}
 use Rattle.hsr_node.specs.Units.{AnswersInFinerUnit, LegalFromMilliseconds, LegalInFinerUnit, entry_in_unit, in_milliseconds, in_unit}
 use Rattle.hsr_node.specs.declared.entry.Entry.{Entry}
 use Rattle.hsr_node.specs.declared.event.Event.{Event}
 use Rattle.hsr_node.specs.declared.event.Event.TheVariants.{Age, Arrive, Send, Supervise}
 use Rattle.hsr_node.specs.declared.event.Outcome.{Outcome}
 use Rattle.hsr_node.specs.declared.event.Probe.{Probe}
-use Rattle.hsr_node.specs.declared.event.StepFault.{StepFault}
 use Rattle.hsr_node.specs.declared.event.StepFault.TheVariants.{Spent}
 use Rattle.hsr_node.specs.declared.place.Place.{Place}
 use Rattle.hsr_node.specs.declared.place.Place.TheVariants.{Danh, QuadBox, RedBox, Station}

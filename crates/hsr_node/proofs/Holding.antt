@@ -59,9 +59,9 @@ holds capacity owner past n h = by_kind owner.number owner.place n h
         let moment = r.moment ∙ h.tells.moment in
         let logs = λ (e : Egress). ap (λ (own : List ℕ). danh_deeds.log_of own e h.did) h.own ∙ h.tells.log e in
         record {
-          on_up = is-remembered capacity o past up machine.notes.up (danh_deeds.log_of machine.own up h.did) machine.moment machine.accepted r.within.up moment r.on_up (logs up);
-          on_a = is-remembered capacity o past a machine.notes.a (danh_deeds.log_of machine.own a h.did) machine.moment machine.accepted r.within.a moment r.on_a (logs a);
-          on_b = is-remembered capacity o past b machine.notes.b (danh_deeds.log_of machine.own b h.did) machine.moment machine.accepted r.within.b moment r.on_b (logs b);
+          on_up = is-remembered capacity o past up machine.notes.up (danh_deeds.log_of machine.own up h.did) machine.moment machine.accepted r.within.up moment (r.logs up) (logs up);
+          on_a = is-remembered capacity o past a machine.notes.a (danh_deeds.log_of machine.own a h.did) machine.moment machine.accepted r.within.a moment (r.logs a) (logs a);
+          on_b = is-remembered capacity o past b machine.notes.b (danh_deeds.log_of machine.own b h.did) machine.moment machine.accepted r.within.b moment (r.logs b) (logs b);
           nodes = λ at. rows-told machine.nodes (danh_deeds.hearings_of machine.own h.did) _ at r.nodes (ap (λ (own : List ℕ). reverse (danh_deeds.hearings_of own h.did)) h.own ∙ h.tells.heard);
           next = r.next ∙ ap (λ k. k % 65536) h.tells.numbered;
           moment = moment;
@@ -73,10 +73,10 @@ holds capacity owner past n h = by_kind owner.number owner.place n h
         let moment = r.moment ∙ h.tells.moment in
         let logs = λ (e : Egress). ap (λ (own : List ℕ). box_deeds.log_of own e h.did) h.own ∙ h.tells.log e in
         record {
-          on_up = is-remembered capacity o past up machine.notes.up (box_deeds.log_of machine.own up h.did) machine.moment machine.accepted r.within.up moment r.logs.on_up (logs up);
-          on_a = is-remembered capacity o past a machine.notes.a (box_deeds.log_of machine.own a h.did) machine.moment machine.accepted r.within.a moment r.logs.on_a (logs a);
-          on_b = is-remembered capacity o past b machine.notes.b (box_deeds.log_of machine.own b h.did) machine.moment machine.accepted r.within.b moment r.logs.on_b (logs b);
-          on_interlink = is-remembered capacity o past c machine.notes.interlink (box_deeds.log_of machine.own c h.did) machine.moment machine.accepted r.within.interlink moment r.logs.on_interlink (logs c);
+          on_up = is-remembered capacity o past up machine.notes.up (box_deeds.log_of machine.own up h.did) machine.moment machine.accepted r.within.up moment (r.logs up) (logs up);
+          on_a = is-remembered capacity o past a machine.notes.a (box_deeds.log_of machine.own a h.did) machine.moment machine.accepted r.within.a moment (r.logs a) (logs a);
+          on_b = is-remembered capacity o past b machine.notes.b (box_deeds.log_of machine.own b h.did) machine.moment machine.accepted r.within.b moment (r.logs b) (logs b);
+          on_interlink = is-remembered capacity o past c machine.notes.c (box_deeds.log_of machine.own c h.did) machine.moment machine.accepted r.within.c moment (r.logs c) (logs c);
           nodes = λ at. rows-told machine.nodes (box_deeds.hearings_of machine.own h.did) _ at r.nodes (ap (λ (own : List ℕ). reverse (box_deeds.hearings_of own h.did)) h.own ∙ h.tells.hearing);
           stations = λ at. ap (λ (t : Proxies). known at t.heard) r.proxies ∙ knows_latest (box_deeds.sources_of machine.own h.did) at
               ∙ ap (λ (xs : List (List ℕ × ℕ)). known at (latest_heard (λ h. h.0) xs)) (ap (λ (own : List ℕ). reverse (box_deeds.sources_of own h.did)) h.own ∙ h.tells.sources);
@@ -89,10 +89,10 @@ holds capacity owner past n h = by_kind owner.number owner.place n h
         let r = h.is_told in
         let moment = r.moment ∙ h.tells.moment in
         record {
-          on_a = is-remembered capacity o past a machine.notes.a _ machine.moment machine.accepted r.within.a moment r.logs.a (h.tells.log quad.A);
-          on_b = is-remembered capacity o past b machine.notes.b _ machine.moment machine.accepted r.within.b moment r.logs.b (h.tells.log quad.B);
-          on_c = is-remembered capacity o past c machine.notes.c _ machine.moment machine.accepted r.within.c moment r.logs.c (h.tells.log quad.C);
-          on_d = is-remembered capacity o past d machine.notes.d _ machine.moment machine.accepted r.within.d moment r.logs.d (h.tells.log quad.D);
+          on_a = is-remembered capacity o past a machine.notes.a _ machine.moment machine.accepted r.within.a moment (r.logs quad.A) (h.tells.log quad.A);
+          on_b = is-remembered capacity o past b machine.notes.b _ machine.moment machine.accepted r.within.b moment (r.logs quad.B) (h.tells.log quad.B);
+          on_c = is-remembered capacity o past c machine.notes.c _ machine.moment machine.accepted r.within.c moment (r.logs quad.C) (h.tells.log quad.C);
+          on_d = is-remembered capacity o past d machine.notes.d _ machine.moment machine.accepted r.within.d moment (r.logs quad.D) (h.tells.log quad.D);
           moment = moment;
           counted = quadbox.counters-held capacity number machine past h;
         }

@@ -1,12 +1,11 @@
 -- A DANH answers as its record does.
-use Rattle.std.proofs.Common.{◌≡◌, ℕ, ◌+◌, ◌%◌, ◌^◌, ◌==◌, ◌&&◌, not, Bool, true, false, if◌then◌else◌, List, [], ◌∷◌, ◌++◌, length, reverse, Option, Some, None, Result, Ok, Err, refl, sym, ap, ap₂, subst, ◌∙◌, arith, add-zero}
+use Rattle.std.proofs.Common.{◌≡◌, ℕ, ◌+◌, ◌%◌, ◌^◌, ◌==◌, Bool, true, false, if◌then◌else◌, List, [], ◌∷◌, ◌++◌, length, reverse, Option, Some, None, Result, Ok, Err, refl, sym, ap, ap₂, subst, ◌∙◌, arith, add-zero}
 use Rattle.std.specs.Prelude.{max, is_some, option_map}
 use Rattle.std.specs.List.{cons_option}
 use Rattle.std.proofs.lemmas.List.{reverse-append}
-use Rattle.hsr_frame.specs.Address.{is_group, is_same_address}
 use Rattle.hsr_frame.specs.Cause.{is_duplicate, is_returned, is_foreign, is_local, is_untagged, is_tagged, is_malformed}
 use Rattle.hsr_frame.specs.Counters.{bit}
-use Rattle.hsr_frame.specs.Egress.{Egress, up, a, b, c, d, beyond, cause_of, nowhere, onward, to}
+use Rattle.hsr_frame.specs.Egress.{Egress, up, a, b, c, d, cause_of}
 use Rattle.hsr_frame.specs.Send.{send_refusal}
 use Rattle.hsr_frame.specs.declared.counters.Counters.{Counters}
 use Rattle.hsr_frame.specs.declared.egress.Exits.{Exits}
@@ -14,15 +13,11 @@ use Rattle.hsr_frame.specs.declared.egress.Wants.{Wants}
 use Rattle.hsr_frame.specs.declared.fault.FrameFault.{FrameFault}
 use Rattle.hsr_frame.specs.declared.fault.SendFault.{SendFault}
 use Rattle.hsr_frame.specs.declared.fault.SendFault.TheVariants.{Spent}
-use Rattle.hsr_frame.specs.declared.node.Cause.TheVariants.{Returned}
 use Rattle.hsr_frame.specs.declared.fault.Spent.{Spent as IsSpent}
 use Rattle.hsr_frame.specs.declared.node.Life.{Life}
 use Rattle.hsr_frame.specs.declared.node.Mode.{Mode}
-use Rattle.hsr_frame.specs.declared.node.Mode.TheVariants.{H, N, U}
 use Rattle.hsr_frame.specs.declared.node.RingPort.{RingPort}
-use Rattle.hsr_frame.specs.declared.node.RingPort.TheVariants as ring
 use Rattle.hsr_tag.specs.Seen.{classified, is_told, payload_in}
-use Rattle.hsr_tag.specs.Tag.{TaggedFields}
 use Rattle.hsr_tag.specs.declared.seen.Seen.{Seen}
 use Rattle.hsr_tag.specs.declared.seen.Seen.TheVariants.{Plain, Tagged}
 use Rattle.hsr_duptable.specs.Key.{Key}
@@ -34,6 +29,9 @@ use Rattle.hsr_danh.specs.Machine.{Machine, new_machine}
 use Rattle.hsr_danh.specs.Past as deeds
 use Rattle.hsr_danh.specs.Past.{Answer, Deed, done, gave_up, judged_frame, sent_frame, sent_life}
 use Rattle.hsr_role.specs.Arrival.{key_of}
+use Rattle.hsr_role.specs.Past.{log_remembers, passes_from}
+use Rattle.hsr_role.proofs.Keeping.{passes-same, unwanted-shut}
+use Rattle.hsr_role.proofs.Wants.{wanted-c, wanted-d}
 use Rattle.hsr_danh.specs.Step.{arrive_step, life_step, send_step}
 use Rattle.hsr_danh.specs.Wanted.{wanted}
 use Rattle.hsr_danh.specs.declared.danh.Sent.{Sent as DanhSent}
@@ -220,28 +218,8 @@ judged-tells number mac mode did past worker at port x copy v is_x t = record {
 
 -- ---- the verdict
 
--- only up and the ring ports want an arrival
-only-two : (mode : Mode) (x : RingPort) (p q r : Bool) (e : Egress)
-    → let wants : Wants = if p then nowhere Returned else (if q then to (up ∷ onward mode x) else (if r then to (up ∷ beyond x ∷ []) else to (beyond x ∷ []))) in
-    (wants.exits.c ≡ false) × (wants.exits.d ≡ false)
-only-two mode x true q r e = (refl, refl)
-only-two H x false true r e = (refl, refl)
-only-two N x false true r e = (refl, refl)
-only-two U ring.A false true r e = (refl, refl)
-only-two U ring.B false true r e = (refl, refl)
-only-two mode ring.A false false true e = (refl, refl)
-only-two mode ring.B false false true e = (refl, refl)
-only-two mode ring.A false false false e = (refl, refl)
-only-two mode ring.B false false false e = (refl, refl)
-
-no-others : (mac : List ℕ) (mode : Mode) (x : RingPort) (frame : TaggedFields)
-    → let wants : Wants = wanted mac mode x (Ok (Tagged frame)) in (wants.exits.c ≡ false) × (wants.exits.d ≡ false)
-no-others mac H x frame = only-two H x (is_same_address frame.src mac) (is_same_address frame.dst mac) (is_group frame.dst) up
-no-others mac N x frame = only-two N x (is_same_address frame.src mac) (is_same_address frame.dst mac) (is_group frame.dst) up
-no-others mac U x frame = only-two U x (is_same_address frame.src mac) (is_same_address frame.dst mac) (is_group frame.dst) up
-
 remembers-same : (capacity number : ℕ) (mac : List ℕ) (mode : Mode) (did : List Deed) (past : List Entry) (at : ℕ) (key : Key) (e : Egress) → Tells number mac mode did past
-    → deeds.remembers_of capacity mac did at key e ≡ remembers capacity (owner_of number mac mode) past at key e
+    → log_remembers capacity (deeds.log_of mac e did) at key ≡ remembers capacity (owner_of number mac mode) past at key e
 remembers-same capacity number mac mode did past at key e t =
     ap (λ log. has_key key (remembered capacity entry_forget log at)) (t.log e) ∙ remembers-oldest capacity at key (notes (owner_of number mac mode) e past)
 
@@ -251,33 +229,16 @@ verdict-same : (capacity number : ℕ) (mac : List ℕ) (mode : Mode) (did : Lis
 verdict-same capacity number mac mode did past at next x (Err fault) t = refl
 verdict-same capacity number mac mode did past at next x (Ok (Plain frame)) t = refl
 verdict-same capacity number mac mode did past at next x (Ok (Tagged frame)) t =
-    let wants : Wants = wanted mac mode x (Ok (Tagged frame)) in
-    let exits : Exits = wants.exits in
-    let none = no-others mac mode x frame in
-    let held : (e : Egress) → Bool = λ e. remembers capacity (owner_of number mac mode) past at (key_of frame) e in
-    let same = λ (e : Egress). remembers-same capacity number mac mode did past at (key_of frame) e t in
-    let passes : record {
-      up = exits.up && not (held up);
-      a = exits.a && not (held a);
-      b = exits.b && not (held b);
-      c = exits.c && not (held c);
-      d = exits.d && not (held d);
-    } ≡ deeds.passes_from capacity mac did at exits (Ok (Tagged frame))
-    = λ i. record {
-      up = exits.up && not (sym (same up) i);
-      a = exits.a && not (sym (same a) i);
-      b = exits.b && not (sym (same b) i);
-      c = off exits.c (held c) none.0 i;
-      d = off exits.d (held d) none.1 i;
-    } in
-    ap (λ (p : Exits). judged_as (unnumbered wants) p next) passes
-    ∙ λ i. outcome.Judged (deeds.passes_from capacity mac did at exits (Ok (Tagged frame))).up
-    ((deeds.passes_from capacity mac did at exits (Ok (Tagged frame))).a ∷ (deeds.passes_from capacity mac did at exits (Ok (Tagged frame))).b ∷ none.0 i ∷ none.1 i ∷ []) None
-    (cause_of wants (deeds.passes_from capacity mac did at exits (Ok (Tagged frame))))
-  where
-    off : (p q : Bool) → p ≡ false → p && not q ≡ p
-    off true q e = absurd (cc)
-    off false q e = refl
+    let seen : Result Seen FrameFault = Ok (Tagged frame) in
+    let wants : Wants = wanted mac mode x seen in
+    let key = key_of frame in
+    let told : Egress → Bool = λ e. log_remembers capacity (deeds.log_of mac e did) at key in
+    let old : Exits = passes_from capacity (λ e. deeds.log_of mac e did) wants.exits seen at in
+    let no_c = unwanted-shut wants.exits.c (told c) (wanted-c mac mode x seen) in
+    let no_d = unwanted-shut wants.exits.d (told d) (wanted-d mac mode None x seen) in
+    ap (λ (p : Exits). judged_as (unnumbered wants) p next)
+    (passes-same wants.exits (remembers capacity (owner_of number mac mode) past at key) told (λ e. sym (remembers-same capacity number mac mode did past at key e t)))
+    ∙ λ i. outcome.Judged old.up (old.a ∷ old.b ∷ no_c i ∷ no_d i ∷ []) None (cause_of wants old)
 
 -- ---- one event
 

@@ -13,7 +13,6 @@ use Rattle.hsr_frame.specs.declared.fault.Spent.{Spent as IsSpent}
 use Rattle.hsr_frame.specs.declared.node.Cause.{Cause}
 use Rattle.hsr_frame.specs.declared.node.Cause.TheVariants as cause
 use Rattle.hsr_tag.specs.Seen.{classified}
-use Rattle.hsr_tag.specs.Tag.{TaggedFields}
 use Rattle.hsr_tag.specs.declared.seen.Seen.{Seen}
 use Rattle.hsr_tag.specs.declared.seen.Seen.TheVariants.{Plain, Tagged}
 use Rattle.hsr_duptable.specs.Key.{Key}
@@ -22,10 +21,11 @@ use Rattle.hsr_duptable.specs.Notes.{has_key, entry_forget}
 use Rattle.hsr_redbox.specs.Wanted.{unnumbered}
 use Rattle.hsr_quadbox.specs.Machine.{Machine, new_machine}
 use Rattle.hsr_quadbox.specs.Past as deeds
-use Rattle.hsr_quadbox.specs.Past.{Answer, Deed, IsTold, Judged, aged, judged, judgement, verdict_on}
+use Rattle.hsr_quadbox.specs.Past.{Answer, Deed, IsTold, Judged, aged, egress_of, judged, judgement, verdict_on}
 use Rattle.hsr_role.specs.Arrival.{key_of}
 use Rattle.hsr_role.specs.Past.{note_of}
-use Rattle.hsr_quadbox.specs.Step.{arrive_step, copies_of}
+use Rattle.hsr_role.specs.Tables.{copies_of}
+use Rattle.hsr_quadbox.specs.Step.{arrive_step}
 use Rattle.hsr_quadbox.specs.Wanted.{wanted}
 use Rattle.hsr_quadbox.specs.declared.quadbox.QuadVerdict.{QuadVerdict}
 use Rattle.hsr_quadbox.specs.declared.wanted.QuadPort.{QuadPort}
@@ -47,13 +47,6 @@ use Rattle.hsr_node.proofs.Told.{Call, Keeps, Stays, logged, one-more, unlogged}
 
 abbrev owner_of : ℕ → Owner
 owner_of number = record { number = number; place = place.QuadBox }
-
--- where a port lets frames out
-abbrev egress_of : QuadPort → Egress
-egress_of quad.A = a
-egress_of quad.B = b
-egress_of quad.C = c
-egress_of quad.D = d
 
 -- deeds and a record tell the same
 pub record Tells (number : ℕ) (did : List Deed) (past : List Entry) : Type 0 where
@@ -155,13 +148,6 @@ judged-tells number did past worker at port x copy passes t = record {
 
 -- ---- the verdict
 
--- nothing is wanted up
-never-up : (x : QuadPort) (frame : TaggedFields) → (wanted x (Ok (Tagged frame))).exits.up ≡ false
-never-up quad.A frame = refl
-never-up quad.B frame = refl
-never-up quad.C frame = refl
-never-up quad.D frame = refl
-
 remembers-same : (capacity number : ℕ) (did : List Deed) (past : List Entry) (at : ℕ) (key : Key) (port : QuadPort) → Tells number did past
     → has_key key (remembered capacity entry_forget (deeds.log port did) at) ≡ remembers capacity (owner_of number) past at key (egress_of port)
 remembers-same capacity number did past at key port t =
@@ -175,7 +161,7 @@ verdict-same capacity number did past at next x (Ok (Plain frame)) t = refl
 verdict-same capacity number did past at next x (Ok (Tagged frame)) t =
     let wants : Wants = wanted x (Ok (Tagged frame)) in
     let exits : Exits = wants.exits in
-    let none = never-up x frame in
+    let none = law.never-up x (Ok (Tagged frame)) in
     let held : (e : Egress) → Bool = λ e. remembers capacity (owner_of number) past (max (now past) at) (key_of frame) e in
     let moment : max (deeds.greatest did) at ≡ max (now past) at = ap (λ m. max m at) t.moment in
     let same : (port : QuadPort) → held (egress_of port) ≡ has_key (key_of frame) (remembered capacity entry_forget (deeds.log port did) (max (deeds.greatest did) at)) = λ port.
@@ -189,7 +175,7 @@ verdict-same capacity number did past at next x (Ok (Tagged frame)) t =
       d = exits.d && not (held d);
     } ≡ passed
     = λ i. record {
-      up = off exits.up (held up) none i;
+      up = law.off exits.up (held up) none i;
       a = exits.a && not (same quad.A i);
       b = exits.b && not (same quad.B i);
       c = exits.c && not (same quad.C i);
@@ -197,10 +183,6 @@ verdict-same capacity number did past at next x (Ok (Tagged frame)) t =
     } in
     ap (λ (p : Exits). judged_as (unnumbered wants) p next) passes
     ∙ λ i. outcome.Judged (none i) (passed.a ∷ passed.b ∷ passed.c ∷ passed.d ∷ []) None (cause_of wants passed)
-  where
-    off : (p q : Bool) → p ≡ false → p && not q ≡ p
-    off true q e = absurd (cc)
-    off false q e = refl
 
 -- ---- one event
 

@@ -1,12 +1,12 @@
 -- A RedBox answers as its record does.
-use Rattle.std.proofs.Common.{◌≡◌, ℕ, ◌+◌, ◌%◌, ◌^◌, ◌==◌, ◌&&◌, not, Bool, true, false, if◌then◌else◌, cond, List, [], ◌∷◌, ◌++◌, length, reverse, Option, Some, None, Result, Ok, Err, refl, sym, ap, ap₂, subst, ◌∙◌, add-zero}
+use Rattle.std.proofs.Common.{◌≡◌, ℕ, ◌+◌, ◌%◌, ◌^◌, ◌==◌, Bool, true, false, if◌then◌else◌, cond, List, [], ◌∷◌, ◌++◌, length, reverse, Option, Some, None, Result, Ok, Err, refl, sym, ap, ap₂, subst, ◌∙◌, add-zero}
 use Rattle.std.specs.Prelude.{max, is_some, option_map}
 use Rattle.std.specs.List.{cons_option, list_any}
 use Rattle.std.proofs.lemmas.List.{reverse-append}
 use Rattle.hsr_frame.specs.Address.{is_group, is_same_address}
 use Rattle.hsr_frame.specs.Cause.{is_duplicate, is_returned, is_foreign, is_local, is_untagged, is_tagged, is_malformed}
 use Rattle.hsr_frame.specs.Counters.{bit}
-use Rattle.hsr_frame.specs.Egress.{Egress, up, a, b, c, d, beyond, cause_of, is_supervision, nowhere, onward, to, with_exit, has_exit}
+use Rattle.hsr_frame.specs.Egress.{Egress, up, a, b, c, d, cause_of, is_supervision, nowhere, to, with_exit, has_exit}
 use Rattle.hsr_frame.specs.Grammar.{Fields}
 use Rattle.hsr_frame.specs.Send.{send_refusal}
 use Rattle.hsr_frame.specs.declared.counters.Counters.{Counters}
@@ -19,11 +19,9 @@ use Rattle.hsr_frame.specs.declared.fault.Spent.{Spent as IsSpent}
 use Rattle.hsr_frame.specs.declared.node.Cause.TheVariants as cause
 use Rattle.hsr_frame.specs.declared.node.Life.{Life}
 use Rattle.hsr_frame.specs.declared.node.Mode.{Mode}
-use Rattle.hsr_frame.specs.declared.node.Mode.TheVariants.{H, N, U}
 use Rattle.hsr_frame.specs.declared.node.RingPort.{RingPort}
 use Rattle.hsr_frame.specs.declared.node.RingPort.TheVariants as ring
 use Rattle.hsr_tag.specs.Seen.{classified, is_told, payload_in}
-use Rattle.hsr_tag.specs.Tag.{TaggedFields}
 use Rattle.hsr_tag.specs.declared.seen.Seen.{Seen}
 use Rattle.hsr_tag.specs.declared.seen.Seen.TheVariants.{Plain, Tagged}
 use Rattle.hsr_duptable.specs.Key.{Key}
@@ -32,6 +30,10 @@ use Rattle.hsr_duptable.specs.Notes.{has_key, entry_forget, note_if as noted_if}
 use Rattle.hsr_supervision.specs.Payload.{read_of}
 use Rattle.hsr_tables.specs.Known.{known, latest_heard}
 use Rattle.hsr_tables.specs.Nodes.{Hearing}
+use Rattle.hsr_role.specs.Tables.{judged_as as verdict_as}
+use Rattle.hsr_role.specs.Past.{log_remembers, passes_from}
+use Rattle.hsr_role.proofs.Keeping.{passes-same, unwanted-shut}
+use Rattle.hsr_role.proofs.Wants.{wanted-d}
 use Rattle.hsr_redbox.specs.Machine.{Machine, new_machine}
 use Rattle.hsr_redbox.specs.Past as deeds
 use Rattle.hsr_redbox.specs.Past.{Answer, Deed, Did, done, gave_up, judged_interlink, judged_ring, linked, sent_frame, sent_life, source_in}
@@ -236,11 +238,11 @@ counted-same mac mode past worker at port copy v unreadable bad = λ i. let k : 
 
 ring-tells : (number : ℕ) (mac : List ℕ) (mode : Mode) (did : List Deed) (past : List Entry) (worker at port : ℕ) (y : BoxPort) (x : RingPort) (copy : Carried) (wants : Wants) (passes : Exits)
     → box_port port ≡ Some y → is_some_ring (Some y) ≡ true → ring_of (Some y) ≡ Some x → Tells number mac mode did past
-    → let v : BoxVerdict = verdict_of wants passes None in
+    → let v : BoxVerdict = verdict_of (verdict_as wants passes) None in
     Tells number mac mode (done did (at_least did at) (judged_ring x (classified copy.octets) v))
     (record { worker = worker; at = at; event = Arrive port copy; outcome = box_judged v } ∷ past)
 ring-tells number mac mode did past worker at port y x copy wants passes is_y is_ring is_x t =
-    let v : BoxVerdict = verdict_of wants passes None in
+    let v : BoxVerdict = verdict_of (verdict_as wants passes) None in
     record {
       moment = ap (λ m. max m at) t.moment;
       steps = ap (λ n. n + 1) t.steps;
@@ -265,12 +267,12 @@ ring-tells number mac mode did past worker at port y x copy wants passes is_y is
     hears : hears_at (place.RedBox mac mode) port ≡ Some mac
     hears = ap (λ (p : Bool). if p then Some mac else None) (ap is_some_ring is_y ∙ is_ring)
 
-    unreadable : deeds.is_unreadable mac (judged_ring x (classified copy.octets) (verdict_of wants passes None)) ≡ is_unreadable_for (hears_at (place.RedBox mac mode) port) (classified copy.octets)
+    unreadable : deeds.is_unreadable mac (judged_ring x (classified copy.octets) (verdict_of (verdict_as wants passes) None)) ≡ is_unreadable_for (hears_at (place.RedBox mac mode) port) (classified copy.octets)
     unreadable = ap (λ own. is_unreadable_for own (classified copy.octets)) (sym hears)
 
     by_seen : (e : Egress) (seen : Result Seen FrameFault)
-        → deeds.log_of mac e did ++ deeds.noted_by mac e (at_least did at) (judged_ring x seen (verdict_of wants passes None))
-        ≡ oldest_first (cons_option (note_if (is_noted (box_judged (verdict_of wants passes None)) e) (key_in seen None) (max (now past) at) copy.probe) (notes (owner_of number mac mode) e past))
+        → deeds.log_of mac e did ++ deeds.noted_by mac e (at_least did at) (judged_ring x seen (verdict_of (verdict_as wants passes) None))
+        ≡ oldest_first (cons_option (note_if (is_noted (box_judged (verdict_of (verdict_as wants passes) None)) e) (key_in seen None) (max (now past) at) copy.probe) (notes (owner_of number mac mode) e past))
     by_seen e (Err fault) = unlogged (deeds.log_of mac e did) (notes (owner_of number mac mode) e past) (t.log e)
     by_seen e (Ok (Plain frame)) = unlogged (deeds.log_of mac e did) (notes (owner_of number mac mode) e past) (t.log e)
     by_seen e (Ok (Tagged frame)) = by_egress e
@@ -279,8 +281,8 @@ ring-tells number mac mode did past worker at port y x copy wants passes is_y is
             ≡ oldest_first (cons_option (note_if passed (Some (key_of frame)) (max (now past) at) copy.probe) (notes (owner_of number mac mode) e past))
         one e passed = logged passed (key_of frame) (at_least did at) (max (now past) at) copy.probe (deeds.log_of mac e did) (notes (owner_of number mac mode) e past) (ap (λ m. max m at) t.moment) (t.log e)
 
-        by_egress : (e : Egress) → deeds.log_of mac e did ++ noted_if (deeds.passed (verdict_of wants passes None) e) (key_of frame) (at_least did at)
-            ≡ oldest_first (cons_option (note_if (is_noted (box_judged (verdict_of wants passes None)) e) (Some (key_of frame)) (max (now past) at) copy.probe) (notes (owner_of number mac mode) e past))
+        by_egress : (e : Egress) → deeds.log_of mac e did ++ noted_if (deeds.passed (verdict_of (verdict_as wants passes) None) e) (key_of frame) (at_least did at)
+            ≡ oldest_first (cons_option (note_if (is_noted (box_judged (verdict_of (verdict_as wants passes) None)) e) (Some (key_of frame)) (max (now past) at) copy.probe) (notes (owner_of number mac mode) e past))
         by_egress up = one up passes.up
         by_egress a = one a passes.a
         by_egress b = one b passes.b
@@ -387,48 +389,15 @@ knows-same number mac mode did past at t =
 
 -- ---- verdicts
 
-off : (p q : Bool) → p ≡ false → p && not q ≡ p
-off true q e = absurd (cc)
-off false q e = refl
-
--- no arrival at a ring port wants a fourth port
-no-fourth : (mac : List ℕ) (mode : Mode) (knows : List ℕ → Bool) (x : RingPort) (frame : TaggedFields)
-    → (wanted mac mode knows x (Ok (Tagged frame))).exits.d ≡ false
-no-fourth mac mode knows x frame = by_mode mode
-  where
-    by_case : (mode : Mode) (x : RingPort) (p q r s t : Bool)
-        → (if p then nowhere cause.Returned else (if q then to (up ∷ onward mode x) else (if r then to (up ∷ beyond x ∷ []) else (if s then to (up ∷ interlink ∷ beyond x ∷ [])
-        else (if t then to (interlink ∷ onward mode x) else to (beyond x ∷ [])))))).exits.d ≡ false
-    by_case mode x true q r s t = refl
-    by_case H x false true r s t = refl
-    by_case N x false true r s t = refl
-    by_case U ring.A false true r s t = refl
-    by_case U ring.B false true r s t = refl
-    by_case mode ring.A false false true s t = refl
-    by_case mode ring.B false false true s t = refl
-    by_case mode ring.A false false false true t = refl
-    by_case mode ring.B false false false true t = refl
-    by_case H x false false false false true = refl
-    by_case N x false false false false true = refl
-    by_case U ring.A false false false false true = refl
-    by_case U ring.B false false false false true = refl
-    by_case mode ring.A false false false false false = refl
-    by_case mode ring.B false false false false false = refl
-
-    by_mode : (mode : Mode) → (wanted mac mode knows x (Ok (Tagged frame))).exits.d ≡ false
-    by_mode H = by_case H x (is_same_address frame.src mac) (is_same_address frame.dst mac) (is_supervision frame.dst frame.kind) (is_group frame.dst) (knows frame.dst)
-    by_mode N = by_case N x (is_same_address frame.src mac) (is_same_address frame.dst mac) (is_supervision frame.dst frame.kind) (is_group frame.dst) (knows frame.dst)
-    by_mode U = by_case U x (is_same_address frame.src mac) (is_same_address frame.dst mac) (is_supervision frame.dst frame.kind) (is_group frame.dst) (knows frame.dst)
-
 remembers-same : (capacity number : ℕ) (mac : List ℕ) (mode : Mode) (did : List Deed) (past : List Entry) (at : ℕ) (key : Key) (e : Egress) → Tells number mac mode did past
-    → deeds.remembers_of capacity mac did at key e ≡ remembers capacity (owner_of number mac mode) past at key e
+    → log_remembers capacity (deeds.log_of mac e did) at key ≡ remembers capacity (owner_of number mac mode) past at key e
 remembers-same capacity number mac mode did past at key e t =
     ap (λ log. has_key key (remembered capacity entry_forget log at)) (t.log e) ∙ remembers-oldest capacity at key (notes (owner_of number mac mode) e past)
 
 -- by what is known
 abbrev ring_verdict : ℕ → List ℕ → Mode → List Deed → ℕ → (List ℕ → Bool) → RingPort → Result Seen FrameFault → BoxVerdict
 ring_verdict capacity mac mode did at knows x seen =
-    let wants = wanted mac mode knows x seen in verdict_of wants (deeds.passes_from capacity mac did at wants.exits seen) None
+    let wants = wanted mac mode knows x seen in verdict_of (verdict_as wants (passes_from capacity (λ e. deeds.log_of mac e did) wants.exits seen at)) None
 
 ring-same : (capacity number : ℕ) (mac : List ℕ) (mode : Mode) (did : List Deed) (past : List Entry) (at next : ℕ) (knows : List ℕ → Bool) (x : RingPort) (seen : Result Seen FrameFault) → Tells number mac mode did past
     → judged_as (unnumbered (wanted mac mode knows x seen)) (passing (remembers capacity (owner_of number mac mode) past at) (wanted mac mode knows x seen).exits seen) next
@@ -436,28 +405,15 @@ ring-same : (capacity number : ℕ) (mac : List ℕ) (mode : Mode) (did : List D
 ring-same capacity number mac mode did past at next knows x (Err fault) t = refl
 ring-same capacity number mac mode did past at next knows x (Ok (Plain frame)) t = refl
 ring-same capacity number mac mode did past at next knows x (Ok (Tagged frame)) t =
-    let wants : Wants = wanted mac mode knows x (Ok (Tagged frame)) in
-    let exits : Exits = wants.exits in
-    let none = no-fourth mac mode knows x frame in
-    let held : (e : Egress) → Bool = λ e. remembers capacity (owner_of number mac mode) past at (key_of frame) e in
-    let same = λ (e : Egress). remembers-same capacity number mac mode did past at (key_of frame) e t in
-    let old : Exits = deeds.passes_from capacity mac did at exits (Ok (Tagged frame)) in
-    let passes : record {
-      up = exits.up && not (held up);
-      a = exits.a && not (held a);
-      b = exits.b && not (held b);
-      c = exits.c && not (held c);
-      d = exits.d && not (held d);
-    } ≡ old
-    = λ i. record {
-      up = exits.up && not (sym (same up) i);
-      a = exits.a && not (sym (same a) i);
-      b = exits.b && not (sym (same b) i);
-      c = exits.c && not (sym (same c) i);
-      d = off exits.d (held d) none i;
-    } in
-    ap (λ (p : Exits). judged_as (unnumbered wants) p next) passes
-    ∙ λ i. outcome.Judged old.up (old.a ∷ old.b ∷ old.c ∷ none i ∷ []) None (cause_of wants old)
+    let seen : Result Seen FrameFault = Ok (Tagged frame) in
+    let wants : Wants = wanted mac mode knows x seen in
+    let key = key_of frame in
+    let told : Egress → Bool = λ e. log_remembers capacity (deeds.log_of mac e did) at key in
+    let old : Exits = passes_from capacity (λ e. deeds.log_of mac e did) wants.exits seen at in
+    let no_d = unwanted-shut wants.exits.d (told d) (wanted-d mac mode (Some knows) x seen) in
+    ap (λ (p : Exits). judged_as (unnumbered wants) p next)
+    (passes-same wants.exits (remembers capacity (owner_of number mac mode) past at key) told (λ e. sym (remembers-same capacity number mac mode did past at key e t)))
+    ∙ λ i. outcome.Judged old.up (old.a ∷ old.b ∷ old.c ∷ no_d i ∷ []) None (cause_of wants old)
 
 -- what comes from the interlink passes wherever it is wanted
 local-same : (capacity number : ℕ) (mac : List ℕ) (mode : Mode) (past : List Entry) (at next : ℕ) (knows : List ℕ → Bool) (seen : Result Seen FrameFault)
@@ -599,7 +555,7 @@ ring-case capacity number worker at port y x copy machine did past s is_y is_rin
         of_past = k.1;
         own = k.2;
         mode_is = k.3;
-        tells = ring-tells number mac mode did past worker at port y x copy wants (deeds.passes_from capacity mac did old wants.exits seen) is_y is_ring is_x t;
+        tells = ring-tells number mac mode did past worker at port y x copy wants (passes_from capacity (λ e. deeds.log_of mac e did) wants.exits seen old) is_y is_ring is_x t;
       },
     )
 

@@ -34,7 +34,7 @@ pub record RedBoxHolds (capacity : ℕ) (owner : Owner) (past : List Entry) (mac
   pub on_up : IsRemembered capacity owner past up machine.notes.up
   pub on_a : IsRemembered capacity owner past a machine.notes.a
   pub on_b : IsRemembered capacity owner past b machine.notes.b
-  pub on_interlink : IsRemembered capacity owner past c machine.notes.interlink
+  pub on_interlink : IsRemembered capacity owner past c machine.notes.c
   pub nodes : (at : ℕ) → map (λ r. r.0) (known at machine.nodes.rows) ≡ rows owner.place past at
   -- the addresses that are known on the interlink
   pub stations : (at : ℕ) → known at machine.proxies.heard ≡ known at (latest_heard (λ h. h.0) (heard owner.place past))

@@ -5,7 +5,7 @@
 --     IsLegal      each outcome is what the past below it answers
 --     notes        what was noted at one egress, never shortened
 --     remembered   what is remembered of that
-use Rattle.std.specs.Prelude.{ℕ, ◌+◌, ◌-◌, ◌%◌, ◌^◌, ◌≡◌, ◌==◌, ◌&&◌, ◌||◌, not, max, nat_lt, Bool, true, false, if◌then◌else◌, List, [], ◌∷◌, ◌++◌, length, take, filter, slice_get, unwrap_or, Option, Some, None, option_map, is_some, Result, Ok, Err}
+use Rattle.std.specs.Prelude.{ℕ, ◌+◌, ◌-◌, ◌%◌, ◌^◌, ◌≡◌, ◌==◌, ◌||◌, not, max, nat_lt, Bool, true, false, if◌then◌else◌, List, [], ◌∷◌, ◌++◌, length, take, filter, slice_get, unwrap_or, Option, Some, None, option_map, is_some, Result, Ok, Err}
 use Rattle.std.specs.List.{list_any, cons_option}
 use Rattle.hsr_frame.specs.Address.{is_among, is_group, is_same_address}
 use Rattle.hsr_frame.specs.Cases.{first_of}
@@ -31,6 +31,7 @@ use Rattle.hsr_tables.specs.Known.{known_within, latest_heard}
 use Rattle.hsr_tables.specs.Nodes.{Hearing, hearing_if, rows_known}
 use Rattle.hsr_tables.specs.declared.nodes.NodeRow.{NodeRow}
 use Rattle.hsr_role.specs.Arrival.{key_of}
+use Rattle.hsr_role.specs.Tables.{passes_by}
 use Rattle.hsr_danh.specs.Wanted as of_danh
 use Rattle.hsr_redbox.specs.Past.{source_in}
 use Rattle.hsr_redbox.specs.Step.{life_refusal, number_of}
@@ -301,13 +302,7 @@ sending (Station macs) known dst kind = unnumbered (to (a ∷ []))
 abbrev pub passing : (Key → Egress → Bool) → Exits → Result Seen FrameFault → Exits
 passing is_held exits (Err fault) = exits
 passing is_held exits (Ok (Plain frame)) = exits
-passing is_held exits (Ok (Tagged frame)) = let is_new : Egress → Bool = λ e. not (is_held (key_of frame) e) in record {
-  up = exits.up && is_new up;
-  a = exits.a && is_new a;
-  b = exits.b && is_new b;
-  c = exits.c && is_new c;
-  d = exits.d && is_new d;
-}
+passing is_held exits (Ok (Tagged frame)) = passes_by (is_held (key_of frame)) exits
 
 abbrev pub ports : Exits → List Bool
 ports exits = exits.a ∷ exits.b ∷ exits.c ∷ exits.d ∷ []

@@ -1,7 +1,7 @@
 -- What a record is where its moments are told in a finer unit.
 --     in_unit          each moment times so many
 --     SameInFinerUnit  the replay is the same
-use Rattle.std.specs.Prelude.{ℕ, zero, ◌*◌, ◌<◌, ◌≡◌, ◌↔◌, List, map}
+use Rattle.std.specs.Prelude.{ℕ, ◌*◌, ◌<◌, ◌≡◌, ◌↔◌, List, map}
 use Rattle.hsr_node.specs.Record.{IsLegal, IsLegalBy, Owner, answer_by}
 use Rattle.hsr_node.specs.Times.{Times, finer_times}
 use Rattle.hsr_node.specs.declared.entry.Entry.{Entry}

@@ -1,11 +1,12 @@
 -- The stepping machine answers as the one that keeps its past.
-use Rattle.std.proofs.Common.{◌≡◌, ℕ, ◌+◌, ◌≤◌, ◌==◌, Bool, true, false, not, ◌&&◌, List, [], ◌∷◌, length, refl, ap, sym, ◌∙◌, append-nil, filter, subst, arith, Some, Result, Ok, Err, if◌then◌else◌}
+use Rattle.std.proofs.Common.{◌≡◌, ℕ, ◌+◌, ◌≤◌, ◌==◌, Bool, true, false, not, ◌&&◌, List, [], ◌∷◌, ◌++◌, length, refl, ap, sym, ◌∙◌, add-zero, filter, subst, arith, Some, Result, Ok, Err, if◌then◌else◌}
 use Rattle.std.specs.Prelude.{max}
 use Rattle.std.specs.List.{sum_by}
 use Rattle.std.proofs.lemmas.List.Sums.{sum_by-cons}
 use Rattle.hsr_frame.specs.Cause.{is_duplicate, is_malformed, is_untagged}
 use Rattle.hsr_frame.specs.Counters.{counted, no_counts, step_limit}
-use Rattle.hsr_frame.specs.Egress.{cause_of, is_any}
+use Rattle.hsr_frame.specs.Egress.{up, cause_of, has_exit, is_any}
+use Rattle.hsr_frame.specs.declared.counters.Counters.{Counters}
 use Rattle.hsr_frame.specs.declared.egress.Exits.{Exits}
 use Rattle.hsr_frame.specs.declared.fault.FrameFault.{FrameFault}
 use Rattle.hsr_frame.specs.declared.node.Cause.{Cause}
@@ -13,66 +14,63 @@ use Rattle.hsr_frame.specs.declared.node.Cause.TheVariants.{Passed, Duplicate, U
 use Rattle.hsr_tag.specs.Seen.{classified}
 use Rattle.hsr_tag.specs.declared.seen.Seen.{Seen}
 use Rattle.hsr_tag.specs.declared.seen.Seen.TheVariants.{Plain, Tagged}
-use Rattle.hsr_duptable.specs.Key.{Key}
 use Rattle.hsr_duptable.specs.Log.{StandsFor}
-use Rattle.hsr_duptable.specs.Notes.{entry_forget}
-use Rattle.hsr_duptable.specs.Table.{Table, remembers, IsWithin}
-use Rattle.hsr_duptable.specs.declared.note.Note.{Note}
-use Rattle.hsr_duptable.proofs.LogLaws.{StandsFor-age, StandsFor-new, StandsFor-pass}
-use Rattle.hsr_duptable.proofs.Within.{IsWithin-age, IsWithin-empty}
-use Rattle.hsr_role.specs.Past.{log_remembers}
-use Rattle.hsr_role.proofs.Pasts.{answers-same, remembers-same}
-use Rattle.hsr_quadbox.specs.Wanted.{wanted}
-use Rattle.hsr_quadbox.specs.Machine.{Machine, Notes, NotesAreWithin, new_machine}
+use Rattle.hsr_duptable.specs.Table.{remembers}
 use Rattle.hsr_role.specs.Arrival.{key_of}
-use Rattle.hsr_quadbox.specs.Step.{after_arrival, age_step, arrive_or_spent, arrive_step, copies_of, judged as judged_notes, now_at, verdict_of}
-use Rattle.hsr_quadbox.specs.Past.{AnswersAsPast, Answer, IsTold, StandForLogs, Call, arriving, ageing, Deed, judged, aged, Judged, arrivals, counts, greatest, judgement, judge_or_spent, log, machine_call, passes_in, past_call, verdict_on}
+use Rattle.hsr_role.specs.Past.{log_remembers, note_of}
+use Rattle.hsr_role.specs.Tables.{copies_of, counted_with, judged as judged_notes, judged_as, passed as passed_notes, table_of}
+use Rattle.hsr_role.specs.declared.judged.Judged.{Judged as Verdict}
+use Rattle.hsr_role.proofs.Keeping.{AreWithin-aged, AreWithin-new, AreWithin-passed, last-earlier, passed-shut, remembers-logged, stands-aged, stands-new, stands-passed}
+use Rattle.hsr_role.proofs.Pasts.{answers-same, later-max}
+use Rattle.hsr_quadbox.specs.Wanted.{egresses, wanted}
+use Rattle.hsr_quadbox.specs.Machine.{Machine, new_machine}
+use Rattle.hsr_quadbox.specs.Step.{after_arrival, age_step, arrive_or_spent, arrive_step, now_at, verdict_of}
+use Rattle.hsr_quadbox.specs.Past.{AnswersAsPast, Answer, IsTold, Call, arriving, ageing, Deed, judged, aged, Judged, arrivals, counts, egress_of, greatest, judgement, judge_or_spent, log, machine_call, passed_by, passes_in, past_call, verdict_on}
 use Rattle.hsr_quadbox.specs.declared.quadbox.QuadVerdict.{QuadVerdict}
 use Rattle.hsr_quadbox.specs.declared.wanted.QuadPort.{QuadPort}
 use Rattle.hsr_quadbox.specs.declared.wanted.QuadPort.TheVariants.{A, B, C, D}
-use Rattle.hsr_quadbox.proofs.Steps.{NotesAreWithin-judged}
 
 -- ---- where an arrival passes
 
-not_remembered : (capacity : ℕ) (table : Table) (past : List Note) (key : Key) (now moment accepted : ℕ) → moment ≤ now → IsWithin table moment accepted → StandsFor capacity table past
-    → not (remembers table key now) ≡ not (log_remembers capacity past now key)
-not_remembered capacity table past key now moment accepted h w s = ap not (remembers-same capacity table past now key (omega (arith, w.last)) w.forget s)
+-- nothing is wanted up
+pub never-up : (x : QuadPort) (seen : Result Seen FrameFault) → (wanted x seen).exits.up ≡ false
+never-up x (Err fault) = refl
+never-up x (Ok (Plain frame)) = refl
+never-up A (Ok (Tagged frame)) = refl
+never-up B (Ok (Tagged frame)) = refl
+never-up C (Ok (Tagged frame)) = refl
+never-up D (Ok (Tagged frame)) = refl
 
-passes-told : (capacity : ℕ) (notes : Notes) (past : List Deed) (exits : Exits) (seen : Result Seen FrameFault) (now moment accepted : ℕ) → moment ≤ now
-    → NotesAreWithin notes moment accepted → StandForLogs capacity notes past
-    → (judged_notes capacity notes exits seen now).0 ≡ passes_in capacity past exits seen now
-passes-told capacity notes past exits (Err fault) now moment accepted h w s = refl
-passes-told capacity notes past exits (Ok (Plain frame)) now moment accepted h w s = refl
-passes-told capacity notes past exits (Ok (Tagged frame)) now moment accepted h w s =
-    let a = not_remembered capacity notes.a (log A past) (key_of frame) now moment accepted h w.a s.a in
-    let b = not_remembered capacity notes.b (log B past) (key_of frame) now moment accepted h w.b s.b in
-    let c = not_remembered capacity notes.c (log C past) (key_of frame) now moment accepted h w.c s.c in
-    let d = not_remembered capacity notes.d (log D past) (key_of frame) now moment accepted h w.d s.d in
-    λ i. record exits { a = exits.a && a i; b = exits.b && b i; c = exits.c && c i; d = exits.d && d i }
+pub off : (p q : Bool) → p ≡ false → p && not q ≡ p
+off true q e = absurd (cc)
+off false q e = refl
+
+passes-told : (capacity : ℕ) (machine : Machine) (past : List Deed) (x : QuadPort) (seen : Result Seen FrameFault) (now : ℕ) → machine.moment ≤ now → IsTold capacity machine past
+    → let exits = (wanted x seen).exits in (passed_notes capacity machine.notes exits seen now).0 ≡ passes_in capacity past exits seen now
+passes-told capacity machine past x (Err fault) now h told = refl
+passes-told capacity machine past x (Ok (Plain frame)) now h told = refl
+passes-told capacity machine past x (Ok (Tagged frame)) now h told =
+    let exits = (wanted x (Ok (Tagged frame))).exits in
+    let key = key_of frame in
+    let none = never-up x (Ok (Tagged frame)) in
+    let same : (port : QuadPort) → remembers (table_of machine.notes (egress_of port)) key now ≡ log_remembers capacity (log port past) now key = λ port.
+    remembers-logged capacity machine.notes (log port past) machine.moment now machine.accepted key (egress_of port) h told.within (told.logs port) in
+    λ i. record {
+      up = off exits.up (remembers machine.notes.up key now) none i;
+      a = exits.a && not (same A i);
+      b = exits.b && not (same B i);
+      c = exits.c && not (same C i);
+      d = exits.d && not (same D i);
+    }
 
 -- ---- what is noted
 
--- the deed that the machine's passes make
-abbrev deed_of : ℕ → Notes → ℕ → QuadPort → Result Seen FrameFault → ℕ → Deed
-deed_of capacity notes at x seen now = judged (record { at = at; port = x; seen = seen; passes = (judged_notes capacity notes (wanted x seen).exits seen now).0 })
-
-logs-judged : (capacity : ℕ) (notes : Notes) (past : List Deed) (at : ℕ) (x : QuadPort) (seen : Result Seen FrameFault) (moment accepted : ℕ) → moment ≤ max (greatest past) at
-    → NotesAreWithin notes moment accepted → StandForLogs capacity notes past
-    → let now = max (greatest past) at in
-    StandForLogs capacity (judged_notes capacity notes (wanted x seen).exits seen now).1 (deed_of capacity notes at x seen now ∷ past)
-logs-judged capacity notes past at x (Err fault) moment accepted h w s =
-    record { a = rw (append-nil (log A past)) s.a; b = rw (append-nil (log B past)) s.b; c = rw (append-nil (log C past)) s.c; d = rw (append-nil (log D past)) s.d }
-logs-judged capacity notes past at x (Ok (Plain frame)) moment accepted h w s =
-    record { a = rw (append-nil (log A past)) s.a; b = rw (append-nil (log B past)) s.b; c = rw (append-nil (log C past)) s.c; d = rw (append-nil (log D past)) s.d }
-logs-judged capacity notes past at x (Ok (Tagged frame)) moment accepted h w s =
-    let now = max (greatest past) at in
-    let passes = (judged_notes capacity notes (wanted x (Ok (Tagged frame))).exits (Ok (Tagged frame)) now).0 in
-    record {
-      a = StandsFor-pass capacity notes.a (log A past) passes.a (key_of frame) now (omega (arith, w.a.last)) s.a;
-      b = StandsFor-pass capacity notes.b (log B past) passes.b (key_of frame) now (omega (arith, w.b.last)) s.b;
-      c = StandsFor-pass capacity notes.c (log C past) passes.c (key_of frame) now (omega (arith, w.c.last)) s.c;
-      d = StandsFor-pass capacity notes.d (log D past) passes.d (key_of frame) now (omega (arith, w.d.last)) s.d;
-    }
+-- a port passes what its egress does
+passed-told : (passes : Exits) (port : QuadPort) → has_exit passes (egress_of port) ≡ passed_by port passes
+passed-told passes A = refl
+passed-told passes B = refl
+passed-told passes C = refl
+passed-told passes D = refl
 
 -- ---- what is counted
 
@@ -117,18 +115,20 @@ counts-judged past j =
     counts-one_more j (such is_duplicate) (such is_untagged) (such is_malformed) (sum_by copies (arrivals past)) (copies j) (ours j.port j.seen j.passes)
     ∙ same_counts (sym (sum_by-cons copies j (arrivals past))) refl refl refl
 
+-- the count of what doesn't go up, and is no supervision
+counted-told : (k : Counters) (verdict : Verdict) → verdict.passes.up ≡ false → counted_with k verdict true ≡ counted k verdict.cause false (copies_of verdict.passes)
+counted-told k verdict none = λ i. let arrived = counted k verdict.cause (none i) (copies_of verdict.passes) in record arrived { bad_life = add-zero arrived.bad_life i }
+
 -- ---- one call
 
 pub told-new : (capacity : ℕ) → IsTold capacity new_machine []
-told-new capacity =
-    let stands = StandsFor-new capacity entry_forget in
-    record {
-      logs = record { a = stands; b = stands; c = stands; d = stands };
-      within = record { a = IsWithin-empty; b = IsWithin-empty; c = IsWithin-empty; d = IsWithin-empty };
-      moment = refl;
-      accepted = refl;
-      counters = refl;
-    }
+told-new capacity = record {
+  logs = λ port. stands-new capacity egresses (egress_of port);
+  within = AreWithin-new egresses;
+  moment = refl;
+  accepted = refl;
+  counters = refl;
+}
 
 -- an arrival at the effective moment: the verdict on the deed that it is
 told-judged : (capacity : ℕ) (machine : Machine) (past : List Deed) (at : ℕ) (x : QuadPort) (seen : Result Seen FrameFault) → IsTold capacity machine past
@@ -138,36 +138,29 @@ told-judged : (capacity : ℕ) (machine : Machine) (past : List Deed) (at : ℕ)
 told-judged capacity machine past at x seen told =
     let now = max (greatest past) at in
     let later : machine.moment ≤ now = omega (arith, told.moment) in
-    let exits = (wanted x seen).exits in
+    let wants = wanted x seen in
+    let outcome = judged_notes capacity machine.notes wants seen now in
     let deed : Exits → Judged = λ passes. record { at = at; port = x; seen = seen; passes = passes } in
-    let passes = passes-told capacity machine.notes past exits seen now machine.moment machine.accepted later told.within told.logs in
+    let passes = passes-told capacity machine past x seen now later told in
+    let none = passed-shut capacity machine.notes wants.exits seen now up (never-up x seen) in
     let after = (after_arrival capacity machine now x seen).1 in
-    let one_told : IsTold capacity after (deed_of capacity machine.notes at x seen now ∷ past) = record {
-      logs = logs-judged capacity machine.notes past at x seen machine.moment machine.accepted later told.within told.logs;
-      within = NotesAreWithin-judged capacity machine.notes exits seen machine.moment now machine.accepted later told.within;
+    let one_told : IsTold capacity after (judged (deed outcome.0.passes) ∷ past) = record {
+      logs = λ port. subst (λ (p : Bool). StandsFor capacity (table_of outcome.1 (egress_of port)) (log port past ++ note_of seen p now)) (passed-told outcome.0.passes port)
+          (stands-passed capacity machine.notes (log port past) wants.exits seen now (egress_of port) (last-earlier told.within later (egress_of port)) (told.logs port));
+      within = AreWithin-passed capacity machine.notes wants.exits seen machine.moment now machine.accepted later told.within;
       moment = refl;
       accepted = omega (arith, told.accepted);
-      counters = rw told.counters (counts-judged past (deed (judged_notes capacity machine.notes exits seen now).0));
+      counters = rw told.counters (counted-told (counts past) outcome.0 none ∙ counts-judged past (deed outcome.0.passes));
     } in
-    (ap (verdict_of (wanted x seen)) passes, subst (λ (p : Exits). IsTold capacity after (judged (deed p) ∷ past)) passes one_told)
+    (ap (λ (p : Exits). verdict_of (judged_as wants p)) passes, subst (λ (p : Exits). IsTold capacity after (judged (deed p) ∷ past)) passes one_told)
 
 told-aged : (capacity : ℕ) (machine : Machine) (past : List Deed) (at : ℕ) → IsTold capacity machine past → IsTold capacity (age_step machine at) (aged at ∷ past)
 told-aged capacity machine past at told =
     let now = now_at machine at in
-    let notes = machine.notes in
+    let later = later-max machine.moment at in
     record {
-      logs = record {
-        a = StandsFor-age capacity notes.a (log A past) now (omega (arith, told.within.a.last)) told.logs.a;
-        b = StandsFor-age capacity notes.b (log B past) now (omega (arith, told.within.b.last)) told.logs.b;
-        c = StandsFor-age capacity notes.c (log C past) now (omega (arith, told.within.c.last)) told.logs.c;
-        d = StandsFor-age capacity notes.d (log D past) now (omega (arith, told.within.d.last)) told.logs.d;
-      };
-      within = record {
-        a = IsWithin-age notes.a machine.moment now machine.accepted told.within.a;
-        b = IsWithin-age notes.b machine.moment now machine.accepted told.within.b;
-        c = IsWithin-age notes.c machine.moment now machine.accepted told.within.c;
-        d = IsWithin-age notes.d machine.moment now machine.accepted told.within.d;
-      };
+      logs = λ port. stands-aged capacity machine.notes (log port past) now (egress_of port) (last-earlier told.within later (egress_of port)) (told.logs port);
+      within = AreWithin-aged machine.notes machine.moment now machine.accepted later told.within;
       moment = ap (λ (m : ℕ). max m at) told.moment;
       accepted = told.accepted;
       counters = told.counters;

@@ -3,6 +3,7 @@ use Rattle.std.specs.Prelude.{ℕ, ◌≡◌, ◌==◌, ◌&&◌, not, max, Bool
 use Rattle.std.specs.List.{sum_by}
 use Rattle.hsr_frame.specs.Cause.{is_duplicate, is_malformed, is_untagged}
 use Rattle.hsr_frame.specs.Counters.{no_counts, step_limit}
+use Rattle.hsr_frame.specs.Egress.{Egress, a, b, c, d}
 use Rattle.hsr_frame.specs.declared.counters.Counters.{Counters}
 use Rattle.hsr_frame.specs.declared.egress.Exits.{Exits}
 use Rattle.hsr_frame.specs.declared.fault.FrameFault.{FrameFault}
@@ -14,10 +15,11 @@ use Rattle.hsr_duptable.specs.Key.{Key}
 use Rattle.hsr_duptable.specs.Log.{StandsFor}
 use Rattle.hsr_duptable.specs.declared.note.Note.{Note}
 use Rattle.hsr_quadbox.specs.Wanted.{wanted}
-use Rattle.hsr_quadbox.specs.Machine.{Machine, Notes, NotesAreWithin, new_machine}
+use Rattle.hsr_quadbox.specs.Machine.{Machine, new_machine}
 use Rattle.hsr_role.specs.Arrival.{judged_by, key_in}
 use Rattle.hsr_role.specs.Past.{answers_of, log_remembers, note_of}
-use Rattle.hsr_quadbox.specs.Step.{age_step, arrive_step, copies_of, verdict_of}
+use Rattle.hsr_role.specs.Tables.{AreWithin, copies_of, judged_as, table_of}
+use Rattle.hsr_quadbox.specs.Step.{age_step, arrive_step, verdict_of}
 use Rattle.hsr_quadbox.specs.declared.quadbox.QuadVerdict.{QuadVerdict}
 use Rattle.hsr_quadbox.specs.declared.wanted.QuadPort.{QuadPort}
 use Rattle.hsr_quadbox.specs.declared.wanted.QuadPort.TheVariants.{A, B, C, D}
@@ -79,7 +81,7 @@ judgement capacity past at x seen = record {
 }
 
 abbrev pub verdict_on : Judged → QuadVerdict
-verdict_on j = verdict_of (wanted j.port j.seen) j.passes
+verdict_on j = verdict_of (judged_as (wanted j.port j.seen) j.passes)
 
 -- ---- counts
 
@@ -103,17 +105,18 @@ counts past = record no_counts {
 
 -- ---- the stepping machine beside it
 
--- each table stands for the log of its port
-pub record StandForLogs (capacity : ℕ) (notes : Notes) (past : List Deed) : Type 0 where
-  pub a : StandsFor capacity notes.a (log A past)
-  pub b : StandsFor capacity notes.b (log B past)
-  pub c : StandsFor capacity notes.c (log C past)
-  pub d : StandsFor capacity notes.d (log D past)
+-- the egress by which a port lets frames out
+abbrev pub egress_of : QuadPort → Egress
+egress_of A = a
+egress_of B = b
+egress_of C = c
+egress_of D = d
 
 -- What a stepping machine holds is told by the past.
 pub record IsTold (capacity : ℕ) (machine : Machine) (past : List Deed) : Type 0 where
-  pub logs : StandForLogs capacity machine.notes past
-  pub within : NotesAreWithin machine.notes machine.moment machine.accepted
+  -- each table stands for the log of its port
+  pub logs : (port : QuadPort) → StandsFor capacity (table_of machine.notes (egress_of port)) (log port past)
+  pub within : AreWithin machine.notes machine.moment machine.accepted
   pub moment : machine.moment ≡ greatest past
   pub accepted : machine.accepted ≡ length (arrivals past)
   pub counters : machine.counters ≡ counts past

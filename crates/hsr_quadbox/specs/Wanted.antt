@@ -1,6 +1,7 @@
 -- Which egresses of a QuadBox want an arrival.
 use Rattle.std.specs.Prelude.{List, [], ◌∷◌, Result, Ok, Err}
-use Rattle.hsr_frame.specs.Egress.{Egress, a, b, c, d, nowhere, to}
+use Rattle.hsr_frame.specs.Egress.{Egress, a, b, c, d, exits_of, nowhere, to}
+use Rattle.hsr_frame.specs.declared.egress.Exits.{Exits}
 use Rattle.hsr_frame.specs.declared.egress.Wants.{Wants}
 use Rattle.hsr_frame.specs.declared.fault.FrameFault.{FrameFault}
 use Rattle.hsr_frame.specs.declared.node.Cause.TheVariants.{Untagged, Malformed}
@@ -15,6 +16,10 @@ others A = b ∷ c ∷ d ∷ []
 others B = a ∷ c ∷ d ∷ []
 others C = a ∷ b ∷ d ∷ []
 others D = a ∷ b ∷ c ∷ []
+
+-- the egresses of a QuadBox
+abbrev pub egresses : Exits
+egresses = exits_of (a ∷ b ∷ c ∷ d ∷ [])
 
 -- what came to port x: a tagged frame is wanted at the other ports, whatever it is
 abbrev pub wanted : QuadPort → Result Seen FrameFault → Wants

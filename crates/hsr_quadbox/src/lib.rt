@@ -2,16 +2,14 @@
 //!
 //! Its modules, in the order in which to read them:
 //! - `wanted`: which ports want an arrival
-//! - `tables`: what each port remembers
 //! - `quadbox`: the node, its calls
 //! - `past`: the law over any calls
 #![tactic(auto)]
 
 mod past;
 mod quadbox;
-mod tables;
 mod wanted;
 
 pub use past::answers_as_past;
 pub use quadbox::{QuadBox, QuadVerdict};
-pub use wanted::QuadPort;
+pub use wanted::{QuadPort, arrival_wants};

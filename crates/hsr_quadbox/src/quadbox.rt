@@ -1,11 +1,11 @@
 //! A node with two ports in each of two rings.
 ghost use Rattle.std.specs.Prelude.{◌≡◌, ◌≤◌, ◌^◌, IfOk};
 ghost use Rattle.hsr_frame.specs.Counters.{step_limit};
-ghost use Rattle.hsr_quadbox.specs.Step.{copies_of, verdict_of};
+ghost use Rattle.hsr_quadbox.specs.Step.{verdict_of};
 
-use crate::tables::PortTables;
 use crate::wanted::{QuadPort, arrival_wants};
-use hsr_frame::{Cause, Counters, Exits, NoMemory, STEP_LIMIT, Spent, Wants};
+use hsr_frame::{Cause, Counters, Exits, NoMemory, STEP_LIMIT, Spent};
+use hsr_role::{EgressTables, Judged, count};
 use hsr_tag::look_at;
 use std::alloc::Global;
 use std::marker::Model;
@@ -22,22 +22,20 @@ pub struct QuadVerdict {
 /// earlier than the last is read as the last. Only `new` takes memory.
 #[derive(Drop)]
 pub struct QuadBox<const C: usize> {
-    tables: PortTables<C>,
+    tables: EgressTables<C>,
     counters: Counters,
     moment: u64,
     accepted: u64,
 }
 
 impl<const C: usize> Model for QuadBox<C> {
-    ghost use Rattle.std.specs.Prelude.{◌≤◌};
-    ghost use Rattle.hsr_frame.specs.Counters.{AreWithin, step_limit};
-    ghost use Rattle.hsr_quadbox.specs.Machine.{Machine, NotesAreWithin};
+    ghost use Rattle.hsr_quadbox.specs.Machine.{IsSound, Machine};
 
     ghost Value = { Machine };
 
     ghost view = { λ q. record { notes = q.tables; counters = q.counters; moment = q.moment; accepted = q.accepted } };
 
-    ghost invariant = { λ q. NotesAreWithin q.tables q.moment q.accepted × (q.accepted ≤ step_limit) × AreWithin q.counters q.accepted };
+    ghost invariant = { λ q. IsSound (record { notes = q.tables; counters = q.counters; moment = q.moment; accepted = q.accepted }) };
 }
 
 impl<const C: usize> QuadBox<C> {
@@ -50,7 +48,12 @@ impl<const C: usize> QuadBox<C> {
         requires { (1 ≤ C) × (C ≤ 65535) }
         ensures { IfOk result (λ quad. quad ≡ new_machine) }
     {
-        let tables = PortTables::new(alloc)?;
+        let egresses = Exits {
+            c: true,
+            d: true,
+            ..Exits::both_ports()
+        };
+        let tables = EgressTables::new(alloc, egresses)?;
         Ok(QuadBox {
             tables,
             counters: Counters::new(),
@@ -71,12 +74,11 @@ impl<const C: usize> QuadBox<C> {
         let now = self.moment.max(at);
         let seen = look_at(octets);
         let wants = arrival_wants(port, &seen);
-        let passes = self.tables.judge(wants.exits, &seen, now);
-        let verdict = verdict_of(wants, passes);
-        self.counters.count(verdict.cause, false, copies_of(passes));
+        let judged = self.tables.judge(wants, &seen, now);
+        count(&mut self.counters, judged, true);
         self.moment = now;
         self.accepted += 1;
-        Ok(verdict)
+        Ok(verdict_of(judged))
     }
 
     /// Gives up what is expired at a moment in microseconds. That changes no later answer.
@@ -97,19 +99,13 @@ impl<const C: usize> QuadBox<C> {
     }
 }
 
-/// The verdict on an arrival that these ports passed.
-fn verdict_of(wants: Wants, passes: Exits) -> QuadVerdict
-    ensures { result ≡ verdict_of wants passes }
+/// The verdict of a QuadBox, by its ports.
+fn verdict_of(judged: Judged) -> QuadVerdict
+    ensures { result ≡ verdict_of judged }
 {
+    let passes = judged.passes;
     QuadVerdict {
         out: [passes.a, passes.b, passes.c, passes.d],
-        cause: wants.cause_of(passes),
+        cause: judged.cause,
     }
-}
-
-/// How many ports passed an arrival.
-fn copies_of(passes: Exits) -> u64
-    ensures { result ≡ copies_of passes }
-{
-    u64::from(passes.a) + u64::from(passes.b) + u64::from(passes.c) + u64::from(passes.d)
 }

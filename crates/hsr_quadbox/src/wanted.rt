@@ -15,8 +15,8 @@ pub enum QuadPort {
     D,
 }
 
-/// The egresses that want what came to a port: a tagged frame goes on by the three other ports.
-pub(crate) fn arrival_wants(port: QuadPort, seen: &Result<SeenView<'_>, FrameFault>) -> Wants
+/// The egresses that want what came to a port: a tagged frame goes on by the three other ports (IEC 62439-3 clause 5.3).
+pub fn arrival_wants(port: QuadPort, seen: &Result<SeenView<'_>, FrameFault>) -> Wants
     ensures { result ≡ wanted port seen.now }
 {
     let seen = match seen {

@@ -1,12 +1,12 @@
 -- The stepping machine answers as its whole past.
-use Rattle.std.proofs.Common.{◌≡◌, ℕ, ◌+◌, ◌%◌, ◌≤◌, ◌==◌, ◌&&◌, not, Bool, true, false, if◌then◌else◌, List, [], ◌∷◌, ◌++◌, map, Option, Some, None, Result, Ok, Err, refl, sym, ap, ap₂, subst, ◌∙◌, arith, add-zero}
+use Rattle.std.proofs.Common.{◌≡◌, ℕ, ◌+◌, ◌%◌, ◌≤◌, ◌==◌, not, Bool, true, false, if◌then◌else◌, List, [], ◌∷◌, ◌++◌, map, Option, Some, None, Result, Ok, Err, refl, sym, ap, ap₂, subst, ◌∙◌, arith, add-zero}
 use Rattle.std.specs.Prelude.{max, fold, is_some}
 use Rattle.std.specs.List.{list_any}
 use Rattle.std.proofs.lemmas.List.{append-nil}
 use Rattle.std.proofs.lemmas.List.Sums.{fold-append}
 use Rattle.hsr_frame.specs.Address.{is_same_address}
 use Rattle.hsr_frame.specs.Counters.{bit, step_limit}
-use Rattle.hsr_frame.specs.Egress.{Egress, up, a, b, exits_of, with_exit, has_exit}
+use Rattle.hsr_frame.specs.Egress.{Egress, up, a, b, c, d, exits_of, with_exit, has_exit}
 use Rattle.hsr_frame.specs.Send.{send_refusal}
 use Rattle.hsr_frame.specs.declared.counters.Counters.{Counters}
 use Rattle.hsr_frame.specs.declared.egress.Exits.{Exits}
@@ -19,44 +19,37 @@ use Rattle.hsr_frame.specs.declared.node.RingPort.TheVariants as ring
 use Rattle.hsr_tag.specs.Seen.{classified}
 use Rattle.hsr_tag.specs.declared.seen.Seen.{Seen}
 use Rattle.hsr_tag.specs.declared.seen.Seen.TheVariants.{Plain, Tagged}
-use Rattle.hsr_duptable.specs.Key.{Key}
 use Rattle.hsr_duptable.specs.Log.{StandsFor}
-use Rattle.hsr_duptable.specs.Notes.{entry_forget}
 use Rattle.hsr_duptable.specs.declared.note.Note.{Note}
-use Rattle.hsr_duptable.proofs.LogLaws.{StandsFor-age, StandsFor-new, StandsFor-pass, StandsFor-same}
-use Rattle.hsr_duptable.proofs.Within.{IsWithin-age, IsWithin-empty}
 use Rattle.hsr_tables.specs.Known.{known}
 use Rattle.hsr_tables.specs.Nodes.{Nodes, heard, no_nodes}
 use Rattle.hsr_tables.specs.Proxies.{Proxies, is_known, learned, no_proxies}
 use Rattle.hsr_tables.proofs.NodeLaws.{rows_of_latest}
 use Rattle.hsr_tables.proofs.ProxyLaws.{knows_latest}
-use Rattle.hsr_role.specs.Past.{answers_of, is_bad_life}
-use Rattle.hsr_role.proofs.Counts.{counted-plus}
-use Rattle.hsr_role.proofs.Pasts.{answers-same, heard-same, heard-told, later-max, remembers-same}
-use Rattle.hsr_redbox.specs.Machine.{AreWithin, Machine, Notes, new_machine}
-use Rattle.hsr_role.specs.Arrival.{counted_with, heard_of, key_of}
+use Rattle.hsr_role.specs.Arrival.{heard_of}
 use Rattle.hsr_role.specs.Numbers.{number_range}
-use Rattle.hsr_redbox.specs.Step.{after_arrival, after_frame, after_interlink, after_marks, after_ring, age_step, aged, arrive_or_spent, arrive_step, copies_of, heard_from, judged, life_or_refuse, life_refusal, life_step, now_at, send_or_refuse, send_step, sent_of, verdict_of}
-use Rattle.hsr_redbox.specs.Wanted.{handling_interlink, handling_send, interlink, wanted}
+use Rattle.hsr_role.specs.Past.{answers_of, is_bad_life, note_of, passes_from}
+use Rattle.hsr_role.specs.Tables.{AreWithin, Notes, aged, copies_of, counted_with, judged, judged_as, table_of}
+use Rattle.hsr_role.specs.declared.judged.Judged.{Judged}
+use Rattle.hsr_role.proofs.Counts.{counted-plus, counts_plus}
+use Rattle.hsr_role.proofs.Keeping.{AreWithin-aged, AreWithin-new, AreWithin-passed, last-earlier, passed-logged, passed-shut, stands-aged, stands-new, stands-passed, stands-passes, stands-same}
+use Rattle.hsr_role.proofs.Pasts.{answers-same, heard-same, heard-told, later-max}
+use Rattle.hsr_role.proofs.Wants.{wanted-d}
+use Rattle.hsr_redbox.specs.Machine.{Machine, new_machine}
+use Rattle.hsr_redbox.specs.Step.{after_arrival, after_frame, after_interlink, after_marks, after_ring, age_step, arrive_or_spent, arrive_step, heard_from, life_or_refuse, life_refusal, life_step, now_at, number_of, send_or_refuse, send_step, sent_of, verdict_of}
+use Rattle.hsr_redbox.specs.Wanted.{egresses, handling_interlink, handling_send, interlink, wanted}
 use Rattle.hsr_redbox.specs.Past as deeds
-use Rattle.hsr_redbox.specs.Past.{Answer, Call, Deed, Did, count_of, counters_of, done, gave_up, hearings_of, is_step, is_unreadable, judged_interlink, judged_ring, knows_among, known_among, linked, log_of, mark_if, moment_of, noted_by, now_after, number_after, passes_from, past_step, remembers_of, sent_frame, sent_life, source_in, sources_of, step}
+use Rattle.hsr_redbox.specs.Past.{Answer, Call, Deed, Did, count_of, counters_of, done, gave_up, hearings_of, is_step, is_unreadable, judged_interlink, judged_ring, knows_among, known_among, linked, log_of, mark_if, moment_of, noted_by, now_after, number_after, past_step, sent_frame, sent_life, source_in, sources_of, step}
 use Rattle.hsr_redbox.specs.declared.wanted.Handling.{Handling}
 use Rattle.hsr_redbox.specs.declared.call.BoxPort.{BoxPort}
 use Rattle.hsr_redbox.specs.declared.call.BoxPort.TheVariants.{A, B, I}
 use Rattle.hsr_redbox.specs.declared.call.BoxVerdict.{BoxVerdict}
 use Rattle.hsr_redbox.specs.declared.call.LifeFault.{LifeFault}
-use Rattle.hsr_redbox.proofs.Steps.{notes-judged, notes-marked}
-
--- each table stands for the log of its egress
-pub record LogsOf (capacity : ℕ) (notes : Notes) (log : Egress → List Note) : Type 0 where
-  pub on_up : StandsFor capacity notes.up (log up)
-  pub on_a : StandsFor capacity notes.a (log a)
-  pub on_b : StandsFor capacity notes.b (log b)
-  pub on_interlink : StandsFor capacity notes.interlink (log interlink)
+use Rattle.hsr_redbox.proofs.Steps.{interlink-fits, notes-marked}
 
 -- what a machine holds is what its past gives
 pub record IsPastOf (capacity : ℕ) (machine : Machine) (past : List Deed) : Type 0 where
-  pub logs : LogsOf capacity machine.notes (λ egress. log_of machine.own egress past)
+  pub logs : (egress : Egress) → StandsFor capacity (table_of machine.notes egress) (log_of machine.own egress past)
   pub within : AreWithin machine.notes machine.moment machine.accepted
   pub nodes : machine.nodes ≡ fold heard no_nodes (hearings_of machine.own past)
   pub proxies : machine.proxies ≡ fold learned no_proxies (sources_of machine.own past)
@@ -71,46 +64,36 @@ Kept capacity machine s p = (s.0 ≡ p.0) × IsPastOf capacity s.1 p.1 × (s.1.o
 
 -- ---- logs
 
-logs-same : (capacity : ℕ) (notes : Notes) (log : Egress → List Note) → LogsOf capacity notes log → LogsOf capacity notes (λ egress. log egress ++ [])
-logs-same capacity notes log l = record {
-  on_up = StandsFor-same capacity notes.up (log up) l.on_up;
-  on_a = StandsFor-same capacity notes.a (log a) l.on_a;
-  on_b = StandsFor-same capacity notes.b (log b) l.on_b;
-  on_interlink = StandsFor-same capacity notes.interlink (log interlink) l.on_interlink;
-}
+log-marked : (capacity : ℕ) (notes : Notes) (log : List Note) (exits : Exits) (source : Option (List ℕ)) (seq now : ℕ) (egress : Egress) → (table_of notes egress).last ≤ now → StandsFor capacity (table_of notes egress) log
+    → StandsFor capacity (table_of (after_marks capacity notes exits source seq now) egress) (log ++ mark_if source seq (has_exit exits egress) now)
+log-marked capacity notes log exits None seq now egress h s = stands-same capacity notes log egress s
+log-marked capacity notes log exits (Some src) seq now egress h s = stands-passes capacity notes log exits (record { src = src; seq = seq }) now egress h s
 
-logs-marked : (capacity : ℕ) (notes : Notes) (log : Egress → List Note) (exits : Exits) (source : Option (List ℕ)) (seq moment now accepted : ℕ) → moment ≤ now → AreWithin notes moment accepted → LogsOf capacity notes log
-    → LogsOf capacity (after_marks capacity notes exits source seq now) (λ egress. log egress ++ mark_if source seq (has_exit exits egress) now)
-logs-marked capacity notes log exits None seq moment now accepted h w l = logs-same capacity notes log l
-logs-marked capacity notes log exits (Some src) seq moment now accepted h w l =
-    let key : Key = record { src = src; seq = seq } in
-    record {
-      on_up = StandsFor-pass capacity notes.up (log up) exits.up key now (omega (arith, w.up.last)) l.on_up;
-      on_a = StandsFor-pass capacity notes.a (log a) exits.a key now (omega (arith, w.a.last)) l.on_a;
-      on_b = StandsFor-pass capacity notes.b (log b) exits.b key now (omega (arith, w.b.last)) l.on_b;
-      on_interlink = StandsFor-pass capacity notes.interlink (log interlink) exits.c key now (omega (arith, w.interlink.last)) l.on_interlink;
-    }
-
-logs-judged : (capacity : ℕ) (own : List ℕ) (notes : Notes) (log : Egress → List Note) (wants : Wants) (x : RingPort) (seen : Result Seen FrameFault) (moment now accepted : ℕ) → moment ≤ now → AreWithin notes moment accepted → LogsOf capacity notes log
-    → let outcome = judged capacity notes wants.exits seen now in
-    LogsOf capacity outcome.1 (λ egress. log egress ++ noted_by own egress now (judged_ring x seen (verdict_of wants outcome.0 None)))
-logs-judged capacity own notes log wants x (Err fault) moment now accepted h w l = logs-same capacity notes log l
-logs-judged capacity own notes log wants x (Ok (Plain frame)) moment now accepted h w l = logs-same capacity notes log l
-logs-judged capacity own notes log wants x (Ok (Tagged frame)) moment now accepted h w l =
-    let key = key_of frame in
-    let passes = (judged capacity notes wants.exits (Ok (Tagged frame)) now).0 in
-    record {
-      on_up = StandsFor-pass capacity notes.up (log up) passes.up key now (omega (arith, w.up.last)) l.on_up;
-      on_a = StandsFor-pass capacity notes.a (log a) passes.a key now (omega (arith, w.a.last)) l.on_a;
-      on_b = StandsFor-pass capacity notes.b (log b) passes.b key now (omega (arith, w.b.last)) l.on_b;
-      on_interlink = StandsFor-pass capacity notes.interlink (log interlink) passes.c key now (omega (arith, w.interlink.last)) l.on_interlink;
-    }
+-- a RedBox passes an arrival up, by its ring ports and by its interlink alone
+passed-told : (judgement : Judged) → judgement.passes.d ≡ false → (egress : Egress) → has_exit judgement.passes egress ≡ deeds.passed (verdict_of judgement None) egress
+passed-told judgement no_d up = refl
+passed-told judgement no_d a = refl
+passed-told judgement no_d b = refl
+passed-told judgement no_d c = refl
+passed-told judgement no_d d = no_d
 
 -- ---- numbers and counters
 
 numbered-same : (source : Option (List ℕ)) (next count : ℕ) → next ≡ count % number_range → (next + bit (is_some source)) % number_range ≡ (if is_some source then count + 1 else count) % number_range
 numbered-same None next count e = omega (arith, e)
 numbered-same (Some src) next count e = omega (arith, e)
+
+-- three ports at most pass an arrival
+copies-told : (judgement : Judged) (seq : Option ℕ) → judgement.passes.d ≡ false → copies_of judgement.passes ≡ deeds.copies_of (verdict_of judgement seq)
+copies-told judgement seq no_d =
+    let passes = judgement.passes in
+    ap (λ p. bit passes.a + bit passes.b + bit passes.c + bit p) no_d ∙ add-zero (bit passes.a + bit passes.b + bit passes.c)
+
+-- an arrival is counted as the past counts it
+counted-told : (k : Counters) (judgement : Judged) (seq : Option ℕ) (readable bad : Bool) → judgement.passes.d ≡ false → not readable ≡ bad
+    → counted_with k judgement readable ≡ counts_plus k judgement.cause judgement.passes.up (deeds.copies_of (verdict_of judgement seq)) bad
+counted-told k judgement seq readable bad no_d e =
+    counted-plus k judgement readable bad e ∙ ap (λ n. counts_plus k judgement.cause judgement.passes.up n bad) (copies-told judgement seq no_d)
 
 -- nothing more was forwarded
 still : (n : ℕ) → n ≡ n + 0
@@ -150,9 +133,8 @@ marked : (capacity : ℕ) (machine : Machine) (past : List Deed) (now : ℕ) (pr
     → counters ≡ counters_of machine.own (record { now = now; did = did } ∷ past)
     → IsPastOf capacity (after_frame capacity (record machine { proxies = proxies }) now exits source counters) (record { now = now; did = did } ∷ past)
 marked capacity machine past now proxies exits source counters did later r noted silent counts steps learnt counted =
-    let logs = logs-marked capacity machine.notes (λ egress. log_of machine.own egress past) exits source machine.next machine.moment now machine.accepted later r.within r.logs in
     record {
-      logs = record { on_up = rw (noted up) logs.on_up; on_a = rw (noted a) logs.on_a; on_b = rw (noted b) logs.on_b; on_interlink = rw (noted interlink) logs.on_interlink };
+      logs = λ egress. rw (noted egress) (log-marked capacity machine.notes (log_of machine.own egress past) exits source machine.next now egress (last-earlier r.within later egress) (r.logs egress));
       within = notes-marked capacity machine.notes exits source machine.next machine.moment now machine.accepted later r.within;
       nodes = rw silent (heard-same machine.nodes (hearings_of machine.own past) r.nodes);
       proxies = learnt;
@@ -201,9 +183,11 @@ interlink-case capacity machine past now seen later r =
     let after = after_interlink capacity machine now seen in
     let by : (List ℕ → Bool) → ℕ → BoxVerdict × List Deed = λ knows n. (linked (handling_interlink machine.own knows seen) n, done past now (judged_interlink seen (handling_interlink machine.own knows seen) n)) in
     let h = handling_interlink machine.own (is_known now proxies.heard) seen in
-    let counters : Counters = let v = linked h machine.next in counted_with machine.counters v.cause v.up (copies_of v) true in
+    let verdict = judged_as h.wants h.wants.exits in
+    let counters : Counters = counted_with machine.counters verdict true in
     let counted : counters ≡ counters_of machine.own (done past now (judged_interlink seen h machine.next)) =
-    ap (λ (k : Counters). let v = linked h machine.next in counted_with k v.cause v.up (copies_of v) true) r.counters ∙ (let v = linked h machine.next in counted-plus (counters_of machine.own past) v.cause v.up (copies_of v) true false refl) in
+    ap (λ (k : Counters). counted_with k verdict true) r.counters
+    ∙ counted-told (counters_of machine.own past) verdict (number_of h.source machine.next) true false (interlink-fits machine.own (is_known now proxies.heard) seen).1 refl in
     subst (λ knows. Kept capacity machine after (by knows (number_after past))) (knows-latest proxies sources now learnt)
     (subst (λ n. Kept capacity machine after (by (is_known now proxies.heard) n)) r.next (
       refl,
@@ -214,41 +198,32 @@ interlink-case capacity machine past now seen later r =
 
 -- ---- arrivals at a ring port
 
-passes-same : (capacity : ℕ) (machine : Machine) (past : List Deed) (now : ℕ) (exits : Exits) (seen : Result Seen FrameFault) → machine.moment ≤ now → IsPastOf capacity machine past
-    → (judged capacity machine.notes exits seen now).0 ≡ passes_from capacity machine.own past now exits seen
-passes-same capacity machine past now exits (Err fault) h r = refl
-passes-same capacity machine past now exits (Ok (Plain frame)) h r = refl
-passes-same capacity machine past now exits (Ok (Tagged frame)) h r =
-    let key = key_of frame in
-    let on_up = remembers-same capacity machine.notes.up (log_of machine.own up past) now key (omega (arith, r.within.up.last)) r.within.up.forget r.logs.on_up in
-    let on_a = remembers-same capacity machine.notes.a (log_of machine.own a past) now key (omega (arith, r.within.a.last)) r.within.a.forget r.logs.on_a in
-    let on_b = remembers-same capacity machine.notes.b (log_of machine.own b past) now key (omega (arith, r.within.b.last)) r.within.b.forget r.logs.on_b in
-    let on_interlink = remembers-same capacity machine.notes.interlink (log_of machine.own interlink past) now key (omega (arith, r.within.interlink.last)) r.within.interlink.forget r.logs.on_interlink in
-    λ i. record exits { up = exits.up && not (on_up i); a = exits.a && not (on_a i); b = exits.b && not (on_b i); c = exits.c && not (on_interlink i) }
-
 ring-case : (capacity : ℕ) (machine : Machine) (past : List Deed) (now : ℕ) (x : RingPort) (seen : Result Seen FrameFault) → machine.moment ≤ now → IsPastOf capacity machine past
     → Kept capacity machine (after_ring capacity machine now x seen) (deeds.ring_from capacity machine.own machine.mode past now x seen)
 ring-case capacity machine past now x seen later r =
     let after = after_ring capacity machine now x seen in
-    let wants = wanted machine.own machine.mode (is_known now machine.proxies.heard) x seen in
-    let by : Wants → Exits → BoxVerdict × List Deed = λ w passes. (verdict_of w passes None, done past now (judged_ring x seen (verdict_of w passes None))) in
-    let outcome = judged capacity machine.notes wants.exits seen now in
-    let verdict = verdict_of wants outcome.0 None in
+    let knows = is_known now machine.proxies.heard in
+    let wants = wanted machine.own machine.mode knows x seen in
+    let by : Wants → Exits → BoxVerdict × List Deed = λ w passes. let verdict = verdict_of (judged_as w passes) None in (verdict, done past now (judged_ring x seen verdict)) in
+    let outcome = judged capacity machine.notes wants seen now in
+    let verdict = verdict_of outcome.0 None in
     let hearing = heard_of machine.own machine.nodes x seen now in
     let told = heard-told machine.own machine.nodes x seen now in
     let more = deeds.heard_by machine.own now (judged_ring x seen verdict) in
-    subst (λ knows. let w = wanted machine.own machine.mode knows x seen in Kept capacity machine after (by w (passes_from capacity machine.own past now w.exits seen)))
+    let no_d = passed-shut capacity machine.notes wants.exits seen now d (wanted-d machine.own machine.mode (Some knows) x seen) in
+    subst (λ knows. let w = wanted machine.own machine.mode knows x seen in Kept capacity machine after (by w (passes_from capacity (λ egress. log_of machine.own egress past) w.exits seen now)))
     (knows-latest machine.proxies (sources_of machine.own past) now r.proxies)
-    (subst (λ passes. Kept capacity machine after (by wants passes)) (passes-same capacity machine past now wants.exits seen later r) (
+    (subst (λ passes. Kept capacity machine after (by wants passes)) (passed-logged capacity machine.notes (λ egress. log_of machine.own egress past) wants.exits seen machine.moment now machine.accepted later r.within r.logs) (
       refl,
       record {
-        logs = logs-judged capacity machine.own machine.notes (λ egress. log_of machine.own egress past) wants x seen machine.moment now machine.accepted later r.within r.logs;
-        within = notes-judged capacity machine.notes wants.exits seen machine.moment now machine.accepted later r.within;
+        logs = λ egress. subst (λ (p : Bool). StandsFor capacity (table_of outcome.1 egress) (log_of machine.own egress past ++ note_of seen p now)) (passed-told outcome.0 no_d egress)
+            (stands-passed capacity machine.notes (log_of machine.own egress past) wants.exits seen now egress (last-earlier r.within later egress) (r.logs egress));
+        within = AreWithin-passed capacity machine.notes wants.exits seen machine.moment now machine.accepted later r.within;
         nodes = told.0 ∙ ap (λ (n : Nodes). fold heard n more) r.nodes ∙ sym (fold-append heard no_nodes (hearings_of machine.own past) more);
         proxies = learned-same machine.proxies (sources_of machine.own past) r.proxies;
         next = r.next;
-        counters = ap (λ (k : Counters). counted_with k verdict.cause verdict.up (copies_of verdict) hearing.0) r.counters
-            ∙ counted-plus (counters_of machine.own past) verdict.cause verdict.up (copies_of verdict) hearing.0 (is_bad_life machine.own seen) told.1;
+        counters = ap (λ (k : Counters). counted_with k outcome.0 hearing.0) r.counters
+            ∙ counted-told (counters_of machine.own past) outcome.0 None hearing.0 (is_bad_life machine.own seen) no_d told.1;
         moment = refl;
         accepted = ap (λ n. n + 1) r.accepted;
       },
@@ -272,21 +247,11 @@ arrive-case capacity machine past now port octets false later r = let k = by_por
 age-case : (capacity : ℕ) (machine : Machine) (past : List Deed) (now : ℕ) → machine.moment ≤ now → IsPastOf capacity machine past
     → IsPastOf capacity (record machine { notes = aged machine.notes now; moment = now }) (done past now gave_up)
 age-case capacity machine past now later r =
-    let log : Egress → List Note = λ egress. log_of machine.own egress past in
     let k : Counters = counters_of machine.own past in
     record {
-      logs = logs-same capacity (aged machine.notes now) log (record {
-        on_up = StandsFor-age capacity machine.notes.up (log up) now (omega (arith, r.within.up.last)) r.logs.on_up;
-        on_a = StandsFor-age capacity machine.notes.a (log a) now (omega (arith, r.within.a.last)) r.logs.on_a;
-        on_b = StandsFor-age capacity machine.notes.b (log b) now (omega (arith, r.within.b.last)) r.logs.on_b;
-        on_interlink = StandsFor-age capacity machine.notes.interlink (log interlink) now (omega (arith, r.within.interlink.last)) r.logs.on_interlink;
-      });
-      within = record {
-        up = IsWithin-age machine.notes.up machine.moment now machine.accepted r.within.up;
-        a = IsWithin-age machine.notes.a machine.moment now machine.accepted r.within.a;
-        b = IsWithin-age machine.notes.b machine.moment now machine.accepted r.within.b;
-        interlink = IsWithin-age machine.notes.interlink machine.moment now machine.accepted r.within.interlink;
-      };
+      logs = λ egress. stands-same capacity (aged machine.notes now) (log_of machine.own egress past) egress
+          (stands-aged capacity machine.notes (log_of machine.own egress past) now egress (last-earlier r.within later egress) (r.logs egress));
+      within = AreWithin-aged machine.notes machine.moment now machine.accepted later r.within;
       nodes = heard-same machine.nodes (hearings_of machine.own past) r.nodes;
       proxies = learned-same machine.proxies (sources_of machine.own past) r.proxies;
       next = r.next;
@@ -337,8 +302,8 @@ runs-on capacity own mode machine past call r =
 
 pub begins : (capacity : ℕ) (own : List ℕ) (mode : Mode) → IsPastOf capacity (new_machine own mode) []
 begins capacity own mode = record {
-  logs = let new = StandsFor-new capacity entry_forget in record { on_up = new; on_a = new; on_b = new; on_interlink = new };
-  within = record { up = IsWithin-empty; a = IsWithin-empty; b = IsWithin-empty; interlink = IsWithin-empty };
+  logs = stands-new capacity egresses;
+  within = AreWithin-new egresses;
   nodes = refl;
   proxies = refl;
   next = refl;

@@ -1,29 +1,30 @@
 -- What the program does in a step is the step of the definition, and keeps what holds of each RedBox.
-use Rattle.std.proofs.Common.{◌≡◌, ℕ, ◌+◌, ◌%◌, ◌<◌, ◌≤◌, Bool, true, false, not, List, [], ◌∷◌, Option, Some, None, Result, Ok, Err, ap, sym, refl, arith, ◌∙◌}
-use Rattle.hsr_frame.specs.Counters.{AreWithin as CountersWithin, bit, step_limit}
-use Rattle.hsr_frame.proofs.Counting.{AreWithin-counted_bad}
+use Rattle.std.proofs.Common.{◌≡◌, ℕ, ◌+◌, ◌%◌, ◌<◌, ◌≤◌, Bool, true, false, List, [], ◌∷◌, Option, Some, None, Result, Ok, Err, ap, sym, refl, ◌∙◌}
+use Rattle.hsr_frame.specs.Address.{is_group, is_same_address}
+use Rattle.hsr_frame.specs.Cases.{first_of}
+use Rattle.hsr_frame.specs.Counters.{step_limit}
+use Rattle.hsr_frame.specs.Egress.{up, a, b, d, exits_of, is_supervision, nowhere, to, with_exit}
 use Rattle.hsr_frame.specs.Send.{send_refusal}
-use Rattle.hsr_frame.specs.declared.counters.Counters.{Counters}
 use Rattle.hsr_frame.specs.declared.egress.Exits.{Exits}
 use Rattle.hsr_frame.specs.declared.fault.FrameFault.{FrameFault}
 use Rattle.hsr_frame.specs.declared.fault.SendFault.{SendFault}
+use Rattle.hsr_frame.specs.declared.node.About.{About}
+use Rattle.hsr_frame.specs.declared.node.Cause.TheVariants.{Returned, Local}
 use Rattle.hsr_frame.specs.declared.node.RingPort.{RingPort}
+use Rattle.hsr_tag.specs.Seen.{classified}
 use Rattle.hsr_tag.specs.declared.seen.Seen.{Seen}
 use Rattle.hsr_tag.specs.declared.seen.Seen.TheVariants.{Plain, Tagged}
-use Rattle.hsr_duptable.specs.Key.{Key}
-use Rattle.hsr_duptable.proofs.Within.{IsWithin-more, IsWithin-pass}
 use Rattle.hsr_tables.specs.Nodes.{Nodes}
-use Rattle.hsr_redbox.specs.Machine.{AreWithin, Machine, Notes}
-use Rattle.hsr_frame.specs.Egress.{a, b, exits_of, with_exit}
-use Rattle.hsr_frame.specs.declared.egress.Wants.{Wants}
-use Rattle.hsr_tag.specs.Seen.{classified}
 use Rattle.hsr_tables.specs.Proxies.{Proxies, is_known}
-use Rattle.hsr_redbox.specs.Wanted.{handling_interlink, handling_send, interlink, wanted}
-use Rattle.hsr_role.specs.Arrival.{counted_with, heard_of, key_of}
+use Rattle.hsr_role.specs.Arrival.{heard_of}
 use Rattle.hsr_role.specs.Numbers.{number_range}
+use Rattle.hsr_role.specs.Tables.{AreWithin, Notes, among, copies_of, counted_with, judged, judged_as}
+use Rattle.hsr_role.specs.declared.judged.Judged.{Judged}
+use Rattle.hsr_role.proofs.Keeping.{AreWithin-more, AreWithin-passes, copies-few}
 use Rattle.hsr_role.proofs.Spending.{spent, unspent}
-use Rattle.hsr_redbox.specs.Step.{after_arrival, after_frame, after_handling, after_interlink, after_marks, after_passes, after_ring, arrive_or_spent, arrive_step, copies_of, heard_from, judged, life_or_refuse, life_refusal, life_step, now_at, number_of, passes_of, send_or_refuse, send_step, sent_of, verdict_of}
-use Rattle.hsr_frame.specs.declared.node.About.{About}
+use Rattle.hsr_redbox.specs.Machine.{Machine}
+use Rattle.hsr_redbox.specs.Step.{after_arrival, after_frame, after_handling, after_interlink, after_marks, after_ring, arrive_or_spent, arrive_step, heard_from, life_or_refuse, life_refusal, life_step, now_at, number_of, send_or_refuse, send_step, sent_of, verdict_of}
+use Rattle.hsr_redbox.specs.Wanted.{egresses, handling_interlink, handling_send, interlink, numbered, unnumbered, wanted}
 use Rattle.hsr_redbox.specs.declared.call.BoxPort.{BoxPort}
 use Rattle.hsr_redbox.specs.declared.call.BoxVerdict.{BoxVerdict}
 use Rattle.hsr_redbox.specs.declared.call.LifeFault.{LifeFault}
@@ -31,46 +32,59 @@ use Rattle.hsr_redbox.specs.declared.wanted.Handling.{Handling}
 
 -- ---- the tables
 
-notes-passed : (capacity : ℕ) (notes : Notes) (passes : Exits) (key : Key) (moment now accepted : ℕ) → moment ≤ now → AreWithin notes moment accepted → AreWithin (after_passes capacity notes passes key now) now (accepted + 1)
-notes-passed capacity notes passes key moment now accepted h w = record {
-  up = IsWithin-pass capacity notes.up passes.up key moment now accepted h w.up;
-  a = IsWithin-pass capacity notes.a passes.a key moment now accepted h w.a;
-  b = IsWithin-pass capacity notes.b passes.b key moment now accepted h w.b;
-  interlink = IsWithin-pass capacity notes.interlink passes.c key moment now accepted h w.interlink;
-}
-
--- tables that are left alone
-pub notes-left : (notes : Notes) (moment now accepted more : ℕ) → moment ≤ now → accepted ≤ more → AreWithin notes moment accepted → AreWithin notes now more
-notes-left notes moment now accepted more h k w = record {
-  up = IsWithin-more notes.up moment now accepted more h k w.up;
-  a = IsWithin-more notes.a moment now accepted more h k w.a;
-  b = IsWithin-more notes.b moment now accepted more h k w.b;
-  interlink = IsWithin-more notes.interlink moment now accepted more h k w.interlink;
-}
-
 pub notes-marked : (capacity : ℕ) (notes : Notes) (exits : Exits) (source : Option (List ℕ)) (seq moment now accepted : ℕ) → moment ≤ now → AreWithin notes moment accepted
     → AreWithin (after_marks capacity notes exits source seq now) now (accepted + 1)
-notes-marked capacity notes exits None seq moment now accepted h w = notes-left notes moment now accepted (accepted + 1) h (omega arith) w
-notes-marked capacity notes exits (Some src) seq moment now accepted h w = notes-passed capacity notes exits (record { src = src; seq = seq }) moment now accepted h w
+notes-marked capacity notes exits None seq moment now accepted h w = AreWithin-more notes moment now accepted h w
+notes-marked capacity notes exits (Some src) seq moment now accepted h w = AreWithin-passes capacity notes exits (record { src = src; seq = seq }) moment now accepted h w
 
-pub notes-judged : (capacity : ℕ) (notes : Notes) (exits : Exits) (seen : Result Seen FrameFault) (moment now accepted : ℕ) → moment ≤ now → AreWithin notes moment accepted
-    → AreWithin (judged capacity notes exits seen now).1 now (accepted + 1)
-notes-judged capacity notes exits (Err fault) moment now accepted h w = notes-left notes moment now accepted (accepted + 1) h (omega arith) w
-notes-judged capacity notes exits (Ok (Plain frame)) moment now accepted h w = notes-left notes moment now accepted (accepted + 1) h (omega arith) w
-notes-judged capacity notes exits (Ok (Tagged frame)) moment now accepted h w = notes-passed capacity notes (passes_of notes exits (key_of frame) now) (key_of frame) moment now accepted h w
+pub marked-there : (capacity : ℕ) (notes : Notes) (exits : Exits) (source : Option (List ℕ)) (seq now : ℕ) → (after_marks capacity notes exits source seq now).there ≡ notes.there
+marked-there capacity notes exits None seq now = refl
+marked-there capacity notes exits (Some src) seq now = refl
 
--- ---- the counters
+-- ---- where frames go that pass without a look
 
-bit-le : (b : Bool) → bit b ≤ 1
-bit-le true = omega arith
-bit-le false = omega arith
+-- they go by egresses of the RedBox, and so they do where they are noted on the interlink too
+abbrev pub Fits : Handling → Type 0
+Fits h = (h.wants.exits ≡ among h.wants.exits egresses) × (h.wants.exits.d ≡ false) × (with_exit interlink h.wants.exits ≡ among (with_exit interlink h.wants.exits) egresses)
 
-pub counters-counted : (counters : Counters) (verdict : BoxVerdict) (readable : Bool) (accepted : ℕ) → CountersWithin counters accepted → CountersWithin (counted_with counters verdict.cause verdict.up (copies_of verdict) readable) (accepted + 1)
-counters-counted counters verdict readable accepted w =
-    AreWithin-counted_bad counters verdict.cause verdict.up (not readable) (copies_of verdict) accepted (three verdict.a verdict.b verdict.interlink) w
-  where
-    three : (x y z : Bool) → bit x + bit y + bit z ≤ 3
-    three x y z = let p = bit-le x in let q = bit-le y in let r = bit-le z in omega (arith, p, q, r)
+plain-fits : (src : List ℕ) (own same near group : Bool)
+    → Fits (first_of
+    ((own, unnumbered (nowhere Returned))
+    ∷ (same, unnumbered (to (up ∷ [])))
+    ∷ (near, unnumbered (nowhere Local))
+    ∷ (group, numbered src (to (up ∷ a ∷ b ∷ [])))
+    ∷ [])
+    (numbered src (to (a ∷ b ∷ []))))
+plain-fits src true same near group = (refl, refl, refl)
+plain-fits src false true near group = (refl, refl, refl)
+plain-fits src false false true group = (refl, refl, refl)
+plain-fits src false false false true = (refl, refl, refl)
+plain-fits src false false false false = (refl, refl, refl)
+
+pub interlink-fits : (own : List ℕ) (knows : List ℕ → Bool) (seen : Result Seen FrameFault) → Fits (handling_interlink own knows seen)
+interlink-fits own knows (Err fault) = (refl, refl, refl)
+interlink-fits own knows (Ok (Tagged frame)) = (refl, refl, refl)
+interlink-fits own knows (Ok (Plain frame)) = plain-fits frame.src (is_same_address frame.src own) (is_same_address frame.dst own) (knows frame.dst) (is_group frame.dst)
+
+sent-fits : (own : List ℕ) (near life group : Bool)
+    → Fits (first_of
+    ((near, unnumbered (to (interlink ∷ [])))
+    ∷ (life, numbered own (to (a ∷ b ∷ [])))
+    ∷ (group, numbered own (to (a ∷ b ∷ interlink ∷ [])))
+    ∷ [])
+    (numbered own (to (a ∷ b ∷ []))))
+sent-fits own true life group = (refl, refl, refl)
+sent-fits own false true group = (refl, refl, refl)
+sent-fits own false false true = (refl, refl, refl)
+sent-fits own false false false = (refl, refl, refl)
+
+pub send-fits : (own : List ℕ) (knows : List ℕ → Bool) (dst : List ℕ) (kind : ℕ) → Fits (handling_send own knows dst kind)
+send-fits own knows dst kind = sent-fits own (knows dst) (is_supervision dst kind) (is_group dst)
+
+-- ---- copies: at most three ports pass an arrival
+
+pub copies-handled : (own : List ℕ) (knows : List ℕ → Bool) (seen : Result Seen FrameFault) → copies_of (handling_interlink own knows seen).wants.exits ≤ 3
+copies-handled own knows seen = copies-few (handling_interlink own knows seen).wants.exits d refl (interlink-fits own knows seen).1
 
 -- ---- frames of the node's own
 
@@ -115,39 +129,29 @@ unfolding arrive_step
 arrive-accepted capacity machine at port octets seen now verdict new some read at_now step =
     ap (λ (p : BoxVerdict × Machine). (Ok p.0, p.1)) (step ∙ rw (at_now, read) refl) ∙ ap (arrive_or_spent capacity machine (now_at machine at) port octets) (sym (unspent machine.accepted some))
 
-pub ring-step : (capacity : ℕ) (machine : Machine) (now : ℕ) (x : RingPort) (seen : Result Seen FrameFault) (wants : Wants) (passes : Exits) (notes : Notes) (readable : Bool) (nodes : Nodes) (verdict : BoxVerdict) (counters : Counters)
-    → wants ≡ wanted machine.own machine.mode (is_known now machine.proxies.heard) x seen
-    → (passes, notes) ≡ judged capacity machine.notes wants.exits seen now
+pub ring-step : (capacity : ℕ) (machine : Machine) (now : ℕ) (x : RingPort) (seen : Result Seen FrameFault) (verdict : Judged) (notes : Notes) (readable : Bool) (nodes : Nodes)
+    → (verdict, notes) ≡ judged capacity machine.notes (wanted machine.own machine.mode (is_known now machine.proxies.heard) x seen) seen now
     → (readable, nodes) ≡ heard_of machine.own machine.nodes x seen now
-    → verdict ≡ verdict_of wants passes None
-    → counters ≡ counted_with machine.counters verdict.cause verdict.up (copies_of verdict) readable
-    → (verdict, record machine { notes = notes; nodes = nodes; counters = counters; moment = now; accepted = machine.accepted + 1 }) ≡ after_ring capacity machine now x seen
-ring-step capacity machine now x seen wants passes notes readable nodes verdict counters wanted_is outcome hearing verdict_is count =
-    let whole : Wants → Exits × Notes → Bool × Nodes → BoxVerdict × Machine = λ w o h. (
-      verdict_of w o.0 None,
-      record machine {
-        notes = o.1;
-        nodes = h.1;
-        counters = let v = verdict_of w o.0 None in counted_with machine.counters v.cause v.up (copies_of v) h.0;
-        moment = now;
-        accepted = machine.accepted + 1;
-      },
+    → (verdict_of verdict None, record machine { notes = notes; nodes = nodes; counters = counted_with machine.counters verdict readable; moment = now; accepted = machine.accepted + 1 }) ≡ after_ring capacity machine now x seen
+ring-step capacity machine now x seen verdict notes readable nodes outcome hearing =
+    let whole : Judged × Notes → Bool × Nodes → BoxVerdict × Machine = λ o h. (
+      verdict_of o.0 None,
+      record machine { notes = o.1; nodes = h.1; counters = counted_with machine.counters o.0 h.0; moment = now; accepted = machine.accepted + 1 },
     ) in
-    let wanted_here = wanted machine.own machine.mode (is_known now machine.proxies.heard) x seen in
-    let tail : BoxVerdict → Counters → BoxVerdict × Machine = λ v k. (v, record machine { notes = notes; nodes = nodes; counters = k; moment = now; accepted = machine.accepted + 1 }) in
-    ap (λ k. tail verdict k) count
-    ∙ ap (λ v. tail v (counted_with machine.counters v.cause v.up (copies_of v) readable)) verdict_is
-    ∙ ap (λ o. whole wants o (readable, nodes)) outcome
-    ∙ ap (λ w. whole w (judged capacity machine.notes w.exits seen now) (readable, nodes)) wanted_is
-    ∙ ap (λ h. whole wanted_here (judged capacity machine.notes wanted_here.exits seen now) h) hearing
+    let wants = wanted machine.own machine.mode (is_known now machine.proxies.heard) x seen in
+    ap (λ o. whole o (readable, nodes)) outcome ∙ ap (λ h. whole (judged capacity machine.notes wants seen now) h) hearing
 
-pub interlink-step : (capacity : ℕ) (machine : Machine) (now : ℕ) (seen : Result Seen FrameFault) (proxies : Proxies) (h : Handling) (verdict : BoxVerdict) (new : Machine)
+pub interlink-step : (capacity : ℕ) (machine : Machine) (now : ℕ) (seen : Result Seen FrameFault) (proxies : Proxies) (h : Handling) (verdict : Judged) (new : Machine)
     → proxies ≡ heard_from machine.own machine.proxies seen now
     → h ≡ handling_interlink machine.own (is_known now proxies.heard) seen
-    → verdict ≡ verdict_of h.wants h.wants.exits (number_of h.source machine.next)
-    → new ≡ after_frame capacity (record machine { proxies = proxies; moment = now }) now (with_exit interlink h.wants.exits) h.source (counted_with machine.counters verdict.cause verdict.up (copies_of verdict) true)
-    → (verdict, new) ≡ after_interlink capacity machine now seen
+    → verdict ≡ judged_as h.wants h.wants.exits
+    → new ≡ after_frame capacity (record machine { proxies = proxies; moment = now }) now (with_exit interlink h.wants.exits) h.source (counted_with machine.counters verdict true)
+    → (verdict_of verdict (number_of h.source machine.next), new) ≡ after_interlink capacity machine now seen
 interlink-step capacity machine now seen proxies h verdict new heard handled judged left =
     let after : Proxies → Handling → BoxVerdict × Machine = λ p k. after_handling capacity (record machine { proxies = p }) now k in
-    let tail : BoxVerdict → BoxVerdict × Machine = λ v. (v, after_frame capacity (record machine { proxies = proxies; moment = now }) now (with_exit interlink h.wants.exits) h.source (counted_with machine.counters v.cause v.up (copies_of v) true)) in
-    ap (λ m. (verdict, m)) left ∙ ap tail judged ∙ ap (λ k. after proxies k) handled ∙ ap (λ p. after p (handling_interlink machine.own (is_known now p.heard) seen)) heard
+    let tail : Judged → BoxVerdict × Machine = λ v. (
+      verdict_of v (number_of h.source machine.next),
+      after_frame capacity (record machine { proxies = proxies; moment = now }) now (with_exit interlink h.wants.exits) h.source (counted_with machine.counters v true),
+    ) in
+    ap (λ m. (verdict_of verdict (number_of h.source machine.next), m)) left ∙ ap tail judged ∙ ap (λ k. after proxies k) handled
+    ∙ ap (λ p. after p (handling_interlink machine.own (is_known now p.heard) seen)) heard

@@ -1,24 +1,18 @@
 -- What a contract sees of a RedBox: all that it holds.
-use Rattle.std.specs.Prelude.{ℕ, List, ◌≤◌, ◌<◌}
+use Rattle.std.specs.Prelude.{◌≡◌, ℕ, List, ◌≤◌}
 use Rattle.hsr_frame.specs.Address.{IsGroup}
 use Rattle.hsr_frame.specs.Counters.{AreWithin as CountersWithin, no_counts, step_limit}
 use Rattle.hsr_frame.specs.declared.counters.Counters.{Counters}
 use Rattle.hsr_frame.specs.declared.node.Mode.{Mode}
-use Rattle.hsr_duptable.specs.Notes.{entry_forget}
-use Rattle.hsr_duptable.specs.Table.{IsWithin, Table, empty_table}
 use Rattle.hsr_tables.specs.Nodes.{Nodes, no_nodes}
 use Rattle.hsr_tables.specs.Proxies.{Proxies, no_proxies}
-
--- what each egress remembers
-pub record Notes : Type 0 where
-  pub up : Table
-  pub a : Table
-  pub b : Table
-  pub interlink : Table
+use Rattle.hsr_role.specs.Tables.{AreWithin, Notes, no_notes}
+use Rattle.hsr_redbox.specs.Wanted.{egresses}
 
 pub record Machine : Type 0 where
   pub own : List ℕ
   pub mode : Mode
+  -- what each egress remembers
   pub notes : Notes
   -- the addresses that were heard on the interlink
   pub proxies : Proxies
@@ -32,14 +26,11 @@ pub record Machine : Type 0 where
   -- how many sends, supervisions and arrivals were accepted
   pub accepted : ℕ
 
-abbrev pub no_notes : Notes
-no_notes = record { up = empty_table entry_forget; a = empty_table entry_forget; b = empty_table entry_forget; interlink = empty_table entry_forget }
-
 abbrev pub new_machine : List ℕ → Mode → Machine
 new_machine own mode = record {
   own = own;
   mode = mode;
-  notes = no_notes;
+  notes = no_notes egresses;
   proxies = no_proxies;
   nodes = no_nodes;
   next = 0;
@@ -48,31 +39,10 @@ new_machine own mode = record {
   accepted = 0;
 }
 
--- no table's time is ahead of the node's, and none noted more than the node accepted
-pub record AreWithin (notes : Notes) (moment accepted : ℕ) : Type 0 where
-  pub up : IsWithin notes.up moment accepted
-  pub a : IsWithin notes.a moment accepted
-  pub b : IsWithin notes.b moment accepted
-  pub interlink : IsWithin notes.interlink moment accepted
-
--- no table's time is ahead of this moment
-pub record AreEarlier (notes : Notes) (now : ℕ) : Type 0 where
-  pub up : notes.up.last ≤ now
-  pub a : notes.a.last ≤ now
-  pub b : notes.b.last ≤ now
-  pub interlink : notes.interlink.last ≤ now
-
--- a frame can be noted at this moment
-pub record AreReady (notes : Notes) (now : ℕ) : Type 0 where
-  pub earlier : AreEarlier notes now
-  pub up : notes.up.noted < step_limit
-  pub a : notes.a.noted < step_limit
-  pub b : notes.b.noted < step_limit
-  pub interlink : notes.interlink.noted < step_limit
-
 -- what holds of each RedBox
 pub record IsSound (machine : Machine) : Type 0 where
   pub station : ¬ IsGroup machine.own
+  pub there : machine.notes.there ≡ egresses
   pub notes : AreWithin machine.notes machine.moment machine.accepted
   pub proxies : machine.proxies.last ≤ machine.moment
   pub nodes : machine.nodes.last ≤ machine.moment

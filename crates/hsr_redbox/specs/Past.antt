@@ -1,13 +1,12 @@
 -- The machine that keeps its whole past, and answers by filtering it.
-use Rattle.std.specs.Prelude.{◌≡◌, ℕ, ◌+◌, ◌%◌, ◌==◌, ◌&&◌, not, max, Bool, true, false, List, [], ◌∷◌, ◌++◌, map, reverse, Option, Some, None, is_some, Result, Ok, Err, if◌then◌else◌}
+use Rattle.std.specs.Prelude.{◌≡◌, ℕ, ◌+◌, ◌%◌, ◌==◌, max, Bool, true, false, List, [], ◌∷◌, ◌++◌, map, reverse, Option, Some, None, is_some, Result, Ok, Err, if◌then◌else◌}
 use Rattle.std.specs.List.{list_any}
-use Rattle.hsr_frame.specs.Counters.{step_limit}
+use Rattle.hsr_frame.specs.Counters.{bit, step_limit}
 use Rattle.hsr_frame.specs.Address.{is_same_address}
 use Rattle.hsr_frame.specs.Cause.{is_duplicate, is_returned, is_foreign, is_local, is_untagged, is_tagged, is_malformed}
 use Rattle.hsr_frame.specs.Egress.{Egress, up, a, b, c, d, exits_of, with_exit, has_exit}
 use Rattle.hsr_frame.specs.Send.{send_refusal}
 use Rattle.hsr_frame.specs.declared.counters.Counters.{Counters}
-use Rattle.hsr_frame.specs.declared.egress.Exits.{Exits}
 use Rattle.hsr_frame.specs.declared.fault.FrameFault.{FrameFault}
 use Rattle.hsr_frame.specs.declared.fault.SendFault.{SendFault}
 use Rattle.hsr_frame.specs.declared.fault.Spent.{Spent}
@@ -18,17 +17,16 @@ use Rattle.hsr_frame.specs.declared.node.RingPort.TheVariants as ring
 use Rattle.hsr_tag.specs.Seen.{classified}
 use Rattle.hsr_tag.specs.declared.seen.Seen.{Seen}
 use Rattle.hsr_tag.specs.declared.seen.Seen.TheVariants.{Plain, Tagged}
-use Rattle.hsr_duptable.specs.Key.{Key}
 use Rattle.hsr_duptable.specs.Notes.{note_if}
 use Rattle.hsr_duptable.specs.declared.note.Note.{Note}
 use Rattle.hsr_tables.specs.Known.{known, latest_heard}
 use Rattle.hsr_tables.specs.Nodes.{Hearing, rows_known}
 use Rattle.hsr_tables.specs.declared.nodes.NodeRow.{NodeRow}
 use Rattle.hsr_redbox.specs.Machine.{Machine, new_machine}
-use Rattle.hsr_role.specs.Arrival.{judged_by, key_in}
-use Rattle.hsr_role.specs.Past.{answers_of, hearing_in, is_bad_life, log_remembers, note_of}
+use Rattle.hsr_role.specs.Past.{answers_of, hearing_in, is_bad_life, note_of, passes_from}
 use Rattle.hsr_role.specs.Numbers.{number_range}
-use Rattle.hsr_redbox.specs.Step.{age_step, arrive_step, copies_of, life_refusal, life_step, number_of, send_step, sent_of, verdict_of}
+use Rattle.hsr_role.specs.Tables.{judged_as}
+use Rattle.hsr_redbox.specs.Step.{age_step, arrive_step, life_refusal, life_step, number_of, send_step, sent_of, verdict_of}
 use Rattle.hsr_redbox.specs.Wanted.{handling_interlink, handling_send, interlink, wanted}
 use Rattle.hsr_redbox.specs.declared.wanted.Handling.{Handling}
 use Rattle.hsr_frame.specs.declared.node.About.{About}
@@ -134,9 +132,6 @@ abbrev pub log_of : List ℕ → Egress → List Deed → List Note
 log_of own egress [] = []
 log_of own egress (deed ∷ past) = log_of own egress past ++ noted_by own egress deed.now deed.did
 
-abbrev pub remembers_of : ℕ → List ℕ → List Deed → ℕ → Key → Egress → Bool
-remembers_of capacity own past now key egress = log_remembers capacity (log_of own egress past) now key
-
 -- ---- hearings on the ring: readable tagged supervision frames of other nodes, the earliest first
 
 abbrev pub heard_by : List ℕ → ℕ → Did → List Hearing
@@ -181,12 +176,16 @@ knows_among sources at mac = list_any (λ h. is_same_address h.0 mac) (known_amo
 
 -- the verdict on a frame that passes wherever it is wanted
 abbrev pub linked : Handling → ℕ → BoxVerdict
-linked handling seq = verdict_of handling.wants handling.wants.exits (number_of handling.source seq)
+linked handling seq = verdict_of (judged_as handling.wants handling.wants.exits) (number_of handling.source seq)
 
 abbrev pub has : (BoxVerdict → Bool) → Did → Bool
 has p (judged_ring x seen verdict) = p verdict
 has p (judged_interlink seen handling seq) = p (linked handling seq)
 has p _ = false
+
+-- how many ports passed an arrival
+abbrev pub copies_of : BoxVerdict → ℕ
+copies_of verdict = bit verdict.a + bit verdict.b + bit verdict.interlink
 
 abbrev pub copies : Did → ℕ
 copies (judged_ring x seen verdict) = copies_of verdict
@@ -227,20 +226,10 @@ life_from past now None =
     (lived (Ok (record { seq = number_after past; life = count_of is_life past % number_range })), done past now (sent_life (number_after past)))
 
 -- a tagged frame of the ring passes where it is wanted and not remembered
-abbrev pub passes_from : ℕ → List ℕ → List Deed → ℕ → Exits → Result Seen FrameFault → Exits
-passes_from capacity own past now exits seen = judged_by (λ key.
-    let remembers = remembers_of capacity own past now key in
-    record exits {
-      up = exits.up && not (remembers up);
-      a = exits.a && not (remembers a);
-      b = exits.b && not (remembers b);
-      c = exits.c && not (remembers interlink);
-    }) exits (key_in seen)
-
 abbrev pub ring_from : ℕ → List ℕ → Mode → List Deed → ℕ → RingPort → Result Seen FrameFault → BoxVerdict × List Deed
 ring_from capacity own mode past now x seen =
     let wants = wanted own mode (knows_among (sources_of own past) now) x seen in
-    let verdict = verdict_of wants (passes_from capacity own past now wants.exits seen) None in
+    let verdict = verdict_of (judged_as wants (passes_from capacity (λ egress. log_of own egress past) wants.exits seen now)) None in
     (verdict, done past now (judged_ring x seen verdict))
 
 -- a frame of the interlink passes wherever it is wanted, by what is known once its own source is heard

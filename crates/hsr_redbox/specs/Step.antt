@@ -1,13 +1,12 @@
 -- One step of a RedBox: the answer to a call, and what the node holds after it.
-use Rattle.std.specs.Prelude.{ℕ, ◌+◌, ◌%◌, ◌==◌, ◌&&◌, not, max, Bool, true, false, List, [], ◌∷◌, Option, Some, None, option_map, is_some, Result, Ok, Err, if◌then◌else◌}
+use Rattle.std.specs.Prelude.{ℕ, ◌+◌, ◌%◌, ◌==◌, not, max, Bool, true, false, List, [], ◌∷◌, Option, Some, None, option_map, is_some, Result, Ok, Err, if◌then◌else◌}
 use Rattle.hsr_frame.specs.Address.{is_same_address}
 use Rattle.hsr_frame.specs.Cases.{first_of}
 use Rattle.hsr_frame.specs.Counters.{bit, step_limit}
-use Rattle.hsr_frame.specs.Egress.{a, b, cause_of, exits_of, with_exit}
+use Rattle.hsr_frame.specs.Egress.{a, b, exits_of, with_exit}
 use Rattle.hsr_frame.specs.Send.{send_refusal}
 use Rattle.hsr_frame.specs.declared.counters.Counters.{Counters}
 use Rattle.hsr_frame.specs.declared.egress.Exits.{Exits}
-use Rattle.hsr_frame.specs.declared.egress.Wants.{Wants}
 use Rattle.hsr_frame.specs.declared.fault.FrameFault.{FrameFault}
 use Rattle.hsr_frame.specs.declared.fault.SendFault.{SendFault}
 use Rattle.hsr_frame.specs.declared.fault.Spent.{Spent}
@@ -17,13 +16,13 @@ use Rattle.hsr_frame.specs.declared.node.RingPort.TheVariants as ring
 use Rattle.hsr_tag.specs.Seen.{classified}
 use Rattle.hsr_tag.specs.declared.seen.Seen.{Seen}
 use Rattle.hsr_tag.specs.declared.seen.Seen.TheVariants.{Plain, Tagged}
-use Rattle.hsr_duptable.specs.Key.{Key}
-use Rattle.hsr_duptable.specs.Table.{after_age, after_pass, remembers}
 use Rattle.hsr_tables.specs.Proxies.{Proxies, is_known, learned}
-use Rattle.hsr_role.specs.Arrival.{counted_with, heard_of, judged_by, key_in}
+use Rattle.hsr_role.specs.Arrival.{heard_of}
 use Rattle.hsr_role.specs.Numbers.{number_range}
+use Rattle.hsr_role.specs.Tables.{Notes, after_passes, aged, counted_with, judged, judged_as}
+use Rattle.hsr_role.specs.declared.judged.Judged.{Judged}
 use Rattle.hsr_redbox.specs.Wanted.{handling_interlink, handling_send, interlink, wanted}
-use Rattle.hsr_redbox.specs.Machine.{Machine, Notes}
+use Rattle.hsr_redbox.specs.Machine.{Machine}
 use Rattle.hsr_redbox.specs.declared.wanted.Handling.{Handling}
 use Rattle.hsr_frame.specs.declared.node.About.{About}
 use Rattle.hsr_frame.specs.declared.node.About.TheVariants.{Own, Proxied}
@@ -37,15 +36,6 @@ use Rattle.hsr_redbox.specs.declared.call.LifeFault.TheVariants as refused
 -- the effective moment: one that is earlier than the last is read as the last
 abbrev pub now_at : Machine → ℕ → ℕ
 now_at machine at = max machine.moment at
-
--- the tables after a frame with this key left by these egresses
-abbrev pub after_passes : ℕ → Notes → Exits → Key → ℕ → Notes
-after_passes capacity notes passes key now = record {
-  up = after_pass capacity notes.up passes.up key now;
-  a = after_pass capacity notes.a passes.a key now;
-  b = after_pass capacity notes.b passes.b key now;
-  interlink = after_pass capacity notes.interlink passes.c key now;
-}
 
 -- ---- a frame with a number or none, by the source for which it gets the number
 
@@ -118,41 +108,22 @@ life_step capacity machine at about =
 
 -- ---- an arrival
 
-abbrev pub verdict_of : Wants → Exits → Option ℕ → BoxVerdict
-verdict_of wants passes seq = record { up = passes.up; a = passes.a; b = passes.b; interlink = passes.c; seq = seq; cause = cause_of wants passes }
-
--- how many ports passed an arrival
-abbrev pub copies_of : BoxVerdict → ℕ
-copies_of verdict = bit verdict.a + bit verdict.b + bit verdict.interlink
+-- the verdict of a RedBox, by its egresses
+abbrev pub verdict_of : Judged → Option ℕ → BoxVerdict
+verdict_of judged seq = record { up = judged.passes.up; a = judged.passes.a; b = judged.passes.b; interlink = judged.passes.c; seq = seq; cause = judged.cause }
 
 -- ---- an arrival at a ring port
-
--- a wanted frame passes where it isn't remembered
-abbrev pub passes_of : Notes → Exits → Key → ℕ → Exits
-passes_of notes exits key now = record exits {
-  up = exits.up && not (remembers notes.up key now);
-  a = exits.a && not (remembers notes.a key now);
-  b = exits.b && not (remembers notes.b key now);
-  c = exits.c && not (remembers notes.interlink key now);
-}
-
--- where an arrival passes, and the tables after that: only a tagged one is looked for and noted
-abbrev pub judged : ℕ → Notes → Exits → Result Seen FrameFault → ℕ → Exits × Notes
-judged capacity notes exits seen now =
-    judged_by (λ key. let passes = passes_of notes exits key now in (passes, after_passes capacity notes passes key now)) (exits, notes) (key_in seen)
 
 -- what came to ring port x, at the effective moment
 abbrev pub after_ring : ℕ → Machine → ℕ → RingPort → Result Seen FrameFault → BoxVerdict × Machine
 after_ring capacity machine now x seen =
-    let wants = wanted machine.own machine.mode (is_known now machine.proxies.heard) x seen in
-    let outcome = judged capacity machine.notes wants.exits seen now in
-    let hearing = heard_of machine.own machine.nodes x seen now in
-    let verdict = verdict_of wants outcome.0 None in (
-      verdict,
+    let outcome = judged capacity machine.notes (wanted machine.own machine.mode (is_known now machine.proxies.heard) x seen) seen now in
+    let hearing = heard_of machine.own machine.nodes x seen now in (
+      verdict_of outcome.0 None,
       record machine {
         notes = outcome.1;
         nodes = hearing.1;
-        counters = counted_with machine.counters verdict.cause verdict.up (copies_of verdict) hearing.0;
+        counters = counted_with machine.counters outcome.0 hearing.0;
         moment = now;
         accepted = machine.accepted + 1;
       },
@@ -169,8 +140,10 @@ heard_from own proxies (Ok (Plain frame)) now = if is_same_address frame.src own
 -- a frame that is handled so passes wherever it is wanted; one with a number is noted on the interlink too, so that no copy of it is given back
 abbrev pub after_handling : ℕ → Machine → ℕ → Handling → BoxVerdict × Machine
 after_handling capacity machine now handling =
-    let verdict = verdict_of handling.wants handling.wants.exits (number_of handling.source machine.next) in
-    (verdict, after_frame capacity machine now (with_exit interlink handling.wants.exits) handling.source (counted_with machine.counters verdict.cause verdict.up (copies_of verdict) true))
+    let verdict = judged_as handling.wants handling.wants.exits in (
+      verdict_of verdict (number_of handling.source machine.next),
+      after_frame capacity machine now (with_exit interlink handling.wants.exits) handling.source (counted_with machine.counters verdict true),
+    )
 
 -- what came to the interlink, at the effective moment: its source is heard before it is decided
 abbrev pub after_interlink : ℕ → Machine → ℕ → Result Seen FrameFault → BoxVerdict × Machine
@@ -193,14 +166,6 @@ unfoldable pub arrive_step : ℕ → Machine → ℕ → BoxPort → List ℕ �
 arrive_step capacity machine at port octets = arrive_or_spent capacity machine (now_at machine at) port octets (machine.accepted == step_limit)
 
 -- ---- ageing, which isn't counted as a step
-
-abbrev pub aged : Notes → ℕ → Notes
-aged notes now = record {
-  up = after_age notes.up now;
-  a = after_age notes.a now;
-  b = after_age notes.b now;
-  interlink = after_age notes.interlink now;
-}
 
 abbrev pub age_step : Machine → ℕ → Machine
 age_step machine at = record machine { notes = aged machine.notes (now_at machine at); moment = now_at machine at }

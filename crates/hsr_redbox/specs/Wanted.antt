@@ -3,10 +3,11 @@
 use Rattle.std.specs.Prelude.{List, [], ◌∷◌, ℕ, Bool, Some, None, Result, Ok, Err}
 use Rattle.hsr_frame.specs.Address.{is_group, is_same_address}
 use Rattle.hsr_frame.specs.Cases.{first_of}
-use Rattle.hsr_frame.specs.Egress.{Egress, up, a, b, c, beyond, in_mode, is_supervision, nowhere, onward, to}
+use Rattle.hsr_frame.specs.Egress.{Egress, up, a, b, c, exits_of, is_supervision, nowhere, to}
+use Rattle.hsr_frame.specs.declared.egress.Exits.{Exits}
 use Rattle.hsr_frame.specs.declared.egress.Wants.{Wants}
 use Rattle.hsr_frame.specs.declared.fault.FrameFault.{FrameFault}
-use Rattle.hsr_frame.specs.declared.node.Cause.TheVariants.{Returned, Local, Untagged, Malformed}
+use Rattle.hsr_frame.specs.declared.node.Cause.TheVariants.{Returned, Local, Malformed}
 use Rattle.hsr_frame.specs.declared.node.Cause.TheVariants as cause
 use Rattle.hsr_frame.specs.declared.node.Mode.{Mode}
 use Rattle.hsr_frame.specs.declared.node.RingPort.{RingPort}
@@ -14,29 +15,25 @@ use Rattle.hsr_frame.specs.Grammar.{Fields}
 use Rattle.hsr_tag.specs.Tag.{TaggedFields}
 use Rattle.hsr_tag.specs.declared.seen.Seen.{Seen}
 use Rattle.hsr_tag.specs.declared.seen.Seen.TheVariants.{Plain, Tagged}
+use Rattle.hsr_role.specs.Wanted as of_ring
 use Rattle.hsr_redbox.specs.declared.wanted.Handling.{Handling}
 
 abbrev pub interlink : Egress
 interlink = c
 
+-- the egresses of a RedBox
+abbrev pub egresses : Exits
+egresses = exits_of (up ∷ a ∷ b ∷ interlink ∷ [])
+
 -- ---- an arrival at a ring port
 
--- a tagged frame that came to ring port x
+-- a tagged frame that came to ring port x, in mode H or U
 abbrev pub wanted_tagged : List ℕ → Mode → (List ℕ → Bool) → RingPort → TaggedFields → Wants
-wanted_tagged own mode knows x frame = first_of
-    ((is_same_address frame.src own, nowhere Returned)
-    ∷ (is_same_address frame.dst own, to (up ∷ onward mode x))
-    ∷ (is_supervision frame.dst frame.kind, to (up ∷ beyond x ∷ []))
-    ∷ (is_group frame.dst, to (up ∷ interlink ∷ beyond x ∷ []))
-    ∷ (knows frame.dst, to (interlink ∷ onward mode x))
-    ∷ [])
-    (to (beyond x ∷ []))
+wanted_tagged own mode knows x frame = of_ring.wanted_tagged own mode (Some knows) x frame
 
 -- what came to ring port x
 abbrev pub wanted : List ℕ → Mode → (List ℕ → Bool) → RingPort → Result Seen FrameFault → Wants
-wanted own mode knows x (Err fault) = nowhere (Malformed fault)
-wanted own mode knows x (Ok (Plain frame)) = nowhere Untagged
-wanted own mode knows x (Ok (Tagged frame)) = in_mode mode (wanted_tagged own mode knows x frame)
+wanted own mode knows x seen = of_ring.wanted own mode (Some knows) x seen
 
 -- ---- a frame of the interlink, and one of the RedBox's own
 

@@ -2,16 +2,16 @@
 //!
 //! Its modules, in the order in which to read them:
 //! - `call`: what it is asked, and what it answers
-//! - `wanted`: which egresses want a frame
-//! - `tables`: what each egress remembers
+//! - `wanted`: which egresses want a frame of the interlink, or of its own
+//! - `marking`: the note of a frame that leaves without a look
 //! - `redbox`: the node, its calls
 //! - `past`: the law over any calls
 #![tactic(auto)]
 
 mod call;
+mod marking;
 mod past;
 mod redbox;
-mod tables;
 mod wanted;
 
 pub use call::{BoxPort, BoxSent, BoxVerdict, LifeFault};

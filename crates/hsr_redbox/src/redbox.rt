@@ -4,14 +4,14 @@ ghost use Rattle.hsr_frame.specs.Counters.{step_limit};
 ghost use Rattle.hsr_frame.specs.Layout.{ethertype_hsr, ethertype_vlan, max_payload};
 
 use crate::call::{BoxPort, BoxSent, BoxVerdict, LifeFault};
-use crate::tables::Tables;
-use crate::wanted::{interlink_handling, ring_wants, send_handling};
+use crate::marking::mark_numbered;
+use crate::wanted::{interlink_handling, send_handling};
 use arrayvec::ArrayVec;
 use hsr_frame::{
     About, Counters, Exits, FrameFault, Life, Mac, Mode, NoMemory, RingPort, STEP_LIMIT, SendFault,
-    Spent, Wants, send_fault,
+    Spent, send_fault,
 };
-use hsr_role::{NUMBER_RANGE, count, hear};
+use hsr_role::{EgressTables, Judged, NUMBER_RANGE, count, hear, ring_wants};
 use hsr_tables::{NodeRow, NodeTable, ProxyTable, ROW_LIMIT};
 use hsr_tag::{EitherView, SeenView, look_at};
 use std::alloc::Global;
@@ -24,7 +24,7 @@ use std::marker::Model;
 pub struct RedBox<const C: usize> {
     own: Mac,
     mode: Mode,
-    tables: Tables<C>,
+    tables: EgressTables<C>,
     proxies: ProxyTable,
     nodes: NodeTable,
     next: u16,
@@ -47,8 +47,10 @@ impl<const C: usize> RedBox<C> {
     ghost use Rattle.hsr_frame.specs.Address.{IsGroup};
     ghost use Rattle.hsr_frame.specs.Counters.{AreWithin};
     ghost use Rattle.hsr_tables.specs.Known.{known};
+    ghost use Rattle.hsr_role.specs.Tables.{among};
     ghost use Rattle.hsr_redbox.specs.Machine.{new_machine};
     ghost use Rattle.hsr_redbox.specs.Step.{after_frame, after_interlink, after_ring, age_step, arrive_step, life_step, now_at, send_step};
+    ghost use Rattle.hsr_redbox.specs.Wanted.{egresses};
 
     /// A node that has done nothing. No group has its address. `NoMemory` where room for its tables is refused.
     pub fn new(alloc: Global, own: Mac, mode: Mode) -> Result<Self, NoMemory>
@@ -56,7 +58,12 @@ impl<const C: usize> RedBox<C> {
         requires entries { (1 ≤ C) × (C ≤ 65535) }
         ensures { IfOk result (λ redbox. redbox ≡ new_machine own mode) }
     {
-        let tables = Tables::new(alloc)?;
+        let egresses = Exits {
+            up: true,
+            c: true,
+            ..Exits::both_ports()
+        };
+        let tables = EgressTables::new(alloc, egresses)?;
         Ok(RedBox {
             own,
             mode,
@@ -161,21 +168,13 @@ impl<const C: usize> RedBox<C> {
         requires later { self.old.moment ≤ now }
         ensures { (result, self.new) ≡ after_ring C self.old now x seen.now }
     {
-        let wants = ring_wants(self.own, self.mode, &self.proxies, x, seen, now);
-        let passes = self.tables.judge(wants.exits, seen, now);
+        let wants = ring_wants(self.own, self.mode, Some(&self.proxies), x, seen, now);
+        let judged = self.tables.judge(wants, seen, now);
         let readable = hear(&mut self.nodes, self.own, x, seen, now);
-        let verdict = verdict_on(wants, passes, None);
-        let copies = copies_of(verdict);
-        count(
-            &mut self.counters,
-            verdict.cause,
-            verdict.up,
-            copies,
-            readable,
-        );
+        count(&mut self.counters, judged, readable);
         self.moment = now;
         self.accepted += 1;
-        verdict
+        verdict_of(judged, None)
     }
 
     /// Judges what came to the interlink, at the effective moment.
@@ -189,23 +188,23 @@ impl<const C: usize> RedBox<C> {
         let handling = interlink_handling(self.own, &self.proxies, seen, now);
         let exits = handling.wants.exits;
         let seq = number_of(handling.source, self.next);
-        let verdict = verdict_on(handling.wants, exits, seq);
+        let judged = Judged::new(handling.wants, exits);
         let mut counters = self.counters;
-        let copies = copies_of(verdict);
-        count(&mut counters, verdict.cause, verdict.up, copies, true);
+        count(&mut counters, judged, true);
         // noted on the interlink too, so that no copy that comes back is given back
         self.leave(Exits { c: true, ..exits }, handling.source, counters, now);
-        verdict
+        verdict_of(judged, seq)
     }
 
     /// Takes one more step, in which a frame leaves by these egresses: one with a number is noted there.
     fn leave(&mut self, exits: Exits, source: Option<Mac>, counters: Counters, now: u64)
         requires steps { self.old.accepted < step_limit }
         requires later { self.old.moment ≤ now }
+        requires there { exits ≡ among exits egresses }
         requires within { AreWithin counters (self.old.accepted + 1) }
         ensures { self.new ≡ after_frame C self.old now exits source counters }
     {
-        self.tables.mark(exits, source, self.next, now);
+        mark_numbered(&mut self.tables, exits, source, self.next, now);
         self.next = self.next.wrapping_add(u16::from(source.is_some()));
         self.counters = counters;
         self.moment = now;
@@ -254,7 +253,7 @@ impl<const C: usize> RedBox<C> {
 }
 
 ghost use Rattle.hsr_tables.specs.Proxies.{is_known};
-ghost use Rattle.hsr_redbox.specs.Step.{copies_of, heard_from, life_refusal, number_of, speaks_for, verdict_of};
+ghost use Rattle.hsr_redbox.specs.Step.{heard_from, life_refusal, number_of, speaks_for, verdict_of};
 
 /// The number that a frame gets, if it has a source to get it for.
 fn number_of(source: Option<Mac>, next: u16) -> Option<u16>
@@ -293,17 +292,17 @@ fn life_fault(proxies: &ProxyTable, accepted: u64, about: About, now: u64) -> Op
     }
 }
 
-/// The verdict on what these of the egresses that want it pass.
-fn verdict_on(wants: Wants, passes: Exits, seq: Option<u16>) -> BoxVerdict
-    ensures { result ≡ verdict_of wants passes seq }
+/// The verdict of a RedBox, by its egresses, on what got this number, if it got one.
+fn verdict_of(judged: Judged, seq: Option<u16>) -> BoxVerdict
+    ensures { result ≡ verdict_of judged seq }
 {
     BoxVerdict {
-        up: passes.up,
-        a: passes.a,
-        b: passes.b,
-        interlink: passes.c,
+        up: judged.passes.up,
+        a: judged.passes.a,
+        b: judged.passes.b,
+        interlink: judged.passes.c,
         seq,
-        cause: wants.cause_of(passes),
+        cause: judged.cause,
     }
 }
 
@@ -320,12 +319,4 @@ fn learn(proxies: &mut ProxyTable, own: Mac, seen: &Result<SeenView<'_>, FrameFa
         EitherView::Plain(frame) if frame.src != own => proxies.learn(frame.src, now),
         _ => {}
     }
-}
-
-/// How many ports passed an arrival.
-fn copies_of(verdict: BoxVerdict) -> u64
-    ensures value { result ≡ copies_of verdict }
-    ensures few { result ≤ 3 }
-{
-    u64::from(verdict.a) + u64::from(verdict.b) + u64::from(verdict.interlink)
 }

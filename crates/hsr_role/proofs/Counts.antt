@@ -1,11 +1,13 @@
 -- What is counted of an arrival, count by count.
-use Rattle.std.proofs.Common.{◌≡◌, ℕ, ◌+◌, not, Bool, true, false, if◌then◌else◌, refl, ap, ◌∙◌, add-zero}
+use Rattle.std.proofs.Common.{◌≡◌, ℕ, ◌+◌, ◌≤◌, not, Bool, true, false, if◌then◌else◌, refl, ap, ◌∙◌, add-zero}
 use Rattle.hsr_frame.specs.Cause.{is_duplicate, is_returned, is_foreign, is_local, is_untagged, is_tagged, is_malformed}
-use Rattle.hsr_frame.specs.Counters.{bit, counted_cause}
+use Rattle.hsr_frame.specs.Counters.{AreWithin, bit, counted, counted_cause}
 use Rattle.hsr_frame.specs.declared.counters.Counters.{Counters}
 use Rattle.hsr_frame.specs.declared.node.Cause.{Cause}
 use Rattle.hsr_frame.specs.declared.node.Cause.TheVariants as cause
-use Rattle.hsr_role.specs.Arrival.{counted_with}
+use Rattle.hsr_frame.proofs.Counting.{AreWithin-counted_bad}
+use Rattle.hsr_role.specs.Tables.{copies_of, counted_with}
+use Rattle.hsr_role.specs.declared.judged.Judged.{Judged}
 
 pub one-more : (p : Bool) (n : ℕ) → n + bit p ≡ (if p then n + 1 else n)
 one-more true n = refl
@@ -28,16 +30,22 @@ counts_plus k why up copies bad = record {
   bad_life = if bad then k.bad_life + 1 else k.bad_life;
 }
 
-pub counted-plus : (k : Counters) (why : Cause) (up : Bool) (copies : ℕ) (readable bad : Bool) → not readable ≡ bad → counted_with k why up copies readable ≡ counts_plus k why up copies bad
-counted-plus k why up copies readable bad e = by_cause why
+pub counted-plus : (k : Counters) (judged : Judged) (readable bad : Bool) → not readable ≡ bad → counted_with k judged readable ≡ counts_plus k judged.cause judged.passes.up (copies_of judged.passes) bad
+counted-plus k judged readable bad e = by_cause judged.cause
   where
+    up : Bool
+    up = judged.passes.up
+
+    copies : ℕ
+    copies = copies_of judged.passes
+
     ups : k.up + bit up ≡ (if up then k.up + 1 else k.up)
     ups = one-more up k.up
 
     bads : k.bad_life + bit (not readable) ≡ (if bad then k.bad_life + 1 else k.bad_life)
     bads = ap (λ p. k.bad_life + bit p) e ∙ one-more bad k.bad_life
 
-    by_cause : (w : Cause) → counted_with k w up copies readable ≡ counts_plus k w up copies bad
+    by_cause : (w : Cause) → (let arrived = counted k w up copies in record arrived { bad_life = arrived.bad_life + bit (not readable) }) ≡ counts_plus k w up copies bad
     by_cause (cause.Malformed fault) = λ i. record (counted_cause k (cause.Malformed fault)) { up = ups i; forwarded = k.forwarded + copies; bad_life = bads i }
     by_cause cause.Passed = λ i. record (counted_cause k cause.Passed) { up = ups i; forwarded = k.forwarded + copies; bad_life = bads i }
     by_cause cause.Duplicate = λ i. record (counted_cause k cause.Duplicate) { up = ups i; forwarded = k.forwarded + copies; bad_life = bads i }
@@ -46,3 +54,9 @@ counted-plus k why up copies readable bad e = by_cause why
     by_cause cause.Local = λ i. record (counted_cause k cause.Local) { up = ups i; forwarded = k.forwarded + copies; bad_life = bads i }
     by_cause cause.Untagged = λ i. record (counted_cause k cause.Untagged) { up = ups i; forwarded = k.forwarded + copies; bad_life = bads i }
     by_cause cause.Tagged = λ i. record (counted_cause k cause.Tagged) { up = ups i; forwarded = k.forwarded + copies; bad_life = bads i }
+
+-- an arrival that at most three ports passed
+pub AreWithin-arrived : (counters : Counters) (judged : Judged) (readable : Bool) (accepted : ℕ) → copies_of judged.passes ≤ 3 → AreWithin counters accepted
+    → AreWithin (counted_with counters judged readable) (accepted + 1)
+AreWithin-arrived counters judged readable accepted few w =
+    AreWithin-counted_bad counters judged.cause judged.passes.up (not readable) (copies_of judged.passes) accepted few w

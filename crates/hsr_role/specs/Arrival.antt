@@ -1,9 +1,6 @@
 -- What DANH, RedBox and QuadBox do alike with an arrival.
-use Rattle.std.specs.Prelude.{ℕ, ◌+◌, Bool, true, not, List, Option, Some, None, Result, Ok, Err, if◌then◌else◌}
-use Rattle.hsr_frame.specs.Counters.{bit, counted}
-use Rattle.hsr_frame.specs.declared.counters.Counters.{Counters}
+use Rattle.std.specs.Prelude.{ℕ, Bool, true, List, Option, Some, None, Result, Ok, Err, if◌then◌else◌}
 use Rattle.hsr_frame.specs.declared.fault.FrameFault.{FrameFault}
-use Rattle.hsr_frame.specs.declared.node.Cause.{Cause}
 use Rattle.hsr_frame.specs.declared.node.RingPort.{RingPort}
 use Rattle.hsr_tag.specs.Tag.{TaggedFields}
 use Rattle.hsr_tag.specs.Seen.{is_told, payload_in}
@@ -33,10 +30,3 @@ judged_by found left (Some key) = found key
 -- a tagged supervision frame of another node is heard, duplicates too; whether it could be read, and the nodes after it
 abbrev pub heard_of : List ℕ → Nodes → RingPort → Result Seen FrameFault → ℕ → Bool × Nodes
 heard_of own nodes x seen now = if is_told own seen then listened nodes (payload_in seen) x now else (true, nodes)
-
--- ---- what is counted
-
--- the counters after a verdict with so many copies, and after a supervision payload that could be read or not
-abbrev pub counted_with : Counters → Cause → Bool → ℕ → Bool → Counters
-counted_with counters cause up copies readable =
-    let arrived = counted counters cause up copies in record arrived { bad_life = arrived.bad_life + bit (not readable) }

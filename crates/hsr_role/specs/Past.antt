@@ -1,5 +1,7 @@
 -- What the machines that keep the whole past of a DANH, a RedBox or a QuadBox have alike.
 use Rattle.std.specs.Prelude.{ℕ, Bool, false, List, [], ◌∷◌, is_err, Result, if◌then◌else◌}
+use Rattle.hsr_frame.specs.Egress.{Egress}
+use Rattle.hsr_frame.specs.declared.egress.Exits.{Exits}
 use Rattle.hsr_frame.specs.declared.fault.FrameFault.{FrameFault}
 use Rattle.hsr_frame.specs.declared.node.RingPort.{RingPort}
 use Rattle.hsr_supervision.specs.Payload.{read_of}
@@ -11,6 +13,7 @@ use Rattle.hsr_duptable.specs.Notes.{entry_forget, has_key, note_if}
 use Rattle.hsr_duptable.specs.declared.note.Note.{Note}
 use Rattle.hsr_tables.specs.Nodes.{Hearing, hearing_if}
 use Rattle.hsr_role.specs.Arrival.{judged_by, key_in}
+use Rattle.hsr_role.specs.Tables.{passes_by}
 
 -- ---- the answers to some calls, and what is held after them
 
@@ -30,6 +33,10 @@ note_of seen passed now = judged_by (λ key. note_if passed key now) [] (key_in 
 -- of the last notes of a log, as many as a table has entries, one is younger than `entry_forget` microseconds and has the key
 abbrev pub log_remembers : ℕ → List Note → ℕ → Key → Bool
 log_remembers capacity log now key = has_key key (remembered capacity entry_forget log now)
+
+-- where an arrival passes that some egresses want: a tagged one where the log of the egress doesn't remember it
+abbrev pub passes_from : ℕ → (Egress → List Note) → Exits → Result Seen FrameFault → ℕ → Exits
+passes_from capacity logs exits seen now = judged_by (λ key. passes_by (λ e. log_remembers capacity (logs e) now key) exits) exits (key_in seen)
 
 -- ---- what was heard on the ring
 

@@ -1,10 +1,9 @@
-//! The key, the hearing and the count of what came to a port.
-ghost use Rattle.std.specs.Prelude.{◌≡◌, ◌≤◌, ◌^◌};
-ghost use Rattle.hsr_frame.specs.Counters.{AreWithin, step_limit};
-ghost use Rattle.hsr_role.specs.Arrival.{counted_with, heard_of, key_in};
+//! The key and the hearing of what came to a port.
+ghost use Rattle.std.specs.Prelude.{◌≡◌, ◌≤◌};
+ghost use Rattle.hsr_role.specs.Arrival.{heard_of, key_in};
 
 use hsr_duptable::Key;
-use hsr_frame::{Cause, Counters, FrameFault, Mac, RingPort, is_supervision};
+use hsr_frame::{FrameFault, Mac, RingPort, is_supervision};
 use hsr_tables::NodeTable;
 use hsr_tag::{EitherView, SeenView};
 
@@ -45,15 +44,4 @@ pub fn hear(
         }
         _ => true,
     }
-}
-
-/// Counts an arrival by its cause, whether it went up and how many copies left by ports, and a supervision payload that
-/// could not be read.
-pub fn count(counters: &mut Counters, cause: Cause, up: bool, copies: u64, readable: bool)
-    requires within { AreWithin counters.old step_limit }
-    requires few { copies ≤ 3 }
-    ensures { counters.new ≡ counted_with counters.old cause up copies readable }
-{
-    counters.count(cause, up, copies);
-    counters.bad_life += u64::from(!readable);
 }

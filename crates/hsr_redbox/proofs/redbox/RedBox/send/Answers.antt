@@ -1,13 +1,29 @@
-use Rattle.std.proofs.Common.{◌≡◌, ◌+◌, length, subst, Ok}
+use Rattle.std.proofs.Common.{◌≡◌, ◌+◌, length, subst, Ok, arith}
 use Rattle.hsr_frame.specs.declared.counters.Counters.{Counters}
 use Rattle.hsr_redbox.specs.Machine.{Machine}
 use Rattle.hsr_redbox.specs.Step.{after_frame, send_step, sent_of}
-use Rattle.hsr_redbox.proofs.Steps.{send-accepted, send-refused}
+use Rattle.hsr_tables.specs.Proxies.{is_known}
+use Rattle.hsr_redbox.proofs.Steps.{send-accepted, send-fits, send-refused}
 use Rattle.hsr_redbox.proofs.redbox.RedBox.send.Goals as goal
 
 pub returns-in-Some-clause-step : goal.returns-in-Some-clause-step
 returns-in-Some-clause-step g c =
     rw (← c.self.view_is) (send-refused g.row.C _ c.args.at c.args.dst c.args.kind (length c.args.payload.now) c.in-Some.fault c.in-Some.ensures.fault)
+
+pub leave-requires : goal.leave-requires
+leave-requires g c = rw (← c.self.view_is) (
+  omega arith,
+  (
+    omega (arith, c.in_default.ensures.room),
+    (
+      omega (arith, c.max-now.ensures),
+      (
+        rw c.send_handling-handling.ensures (send-fits c.self.inside.own (is_known c.max-now.result c.self.inside.proxies.heard) c.args.dst c.args.kind).0,
+        record { up = omega (arith, c.self.invariant.counters.up); forwarded = omega (arith, c.self.invariant.counters.forwarded); others = omega (arith, c.self.invariant.counters.others) },
+      ),
+    ),
+  ),
+)
 
 pub returns-clause-step : goal.returns-clause-step
 returns-clause-step g c =
