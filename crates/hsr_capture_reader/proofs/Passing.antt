@@ -1,8 +1,7 @@
 -- What is passed over: octets of a value, and of a block.
-use Rattle.std.proofs.Common.{◌≡◌, ◌≢◌, ◌==◌, ℕ, zero, suc, ◌<◌, ◌≤◌, List, [], ◌∷◌, length, slice_index, take, drop, refl, sym, ◌∙◌, arith, eq-eqb, if◌then◌else◌, Option, Some, None}
+use Rattle.std.proofs.Common.{◌≡◌, ◌≢◌, ◌==◌, ℕ, zero, suc, ◌<◌, ◌≤◌, List, [], ◌∷◌, length, take, drop, refl, ◌∙◌, arith, eq-eqb, if◌then◌else◌, Some, None}
 use Rattle.std.proofs.lemmas.Bool.{ne_eqb}
 use Rattle.hsr_capture_reader.specs.declared.numbers.ByteOrder.{ByteOrder}
-use Rattle.hsr_capture_reader.specs.declared.numbers.ByteOrder.TheVariants.{Little, Big}
 use Rattle.hsr_capture_reader.specs.Numbers.{number16}
 use Rattle.hsr_capture_reader.specs.Options.{option_past, padded_len}
 

@@ -1,5 +1,5 @@
 -- The packets of a pcap file, one after the other: what is left behind a packet answers for all.
-use Rattle.std.proofs.Common.{◌≡◌, ℕ, zero, suc, ◌+◌, ◌-◌, ◌<◌, ◌≤◌, Bool, true, false, List, [], ◌∷◌, length, drop, refl, sym, ap, ◌∙◌, arith, Result, Ok, Err, Option, Some, None}
+use Rattle.std.proofs.Common.{◌≡◌, ℕ, zero, suc, ◌+◌, ◌<◌, true, List, [], ◌∷◌, length, drop, refl, sym, ap, ◌∙◌, arith, Result, Ok, Err, Some, None}
 use Rattle.std.proofs.lemmas.List.{nil_from_length}
 use Rattle.hsr_capture_reader.specs.declared.fault.CaptureFault.{CaptureFault}
 use Rattle.hsr_capture_reader.specs.declared.fault.Refusal.{Refusal}
@@ -7,7 +7,7 @@ use Rattle.hsr_capture_reader.specs.declared.fault.ReadFault.{ReadFault}
 use Rattle.hsr_capture_reader.specs.declared.pcap.Format.{Format}
 use Rattle.hsr_capture_reader.specs.Numbers.{number32}
 use Rattle.hsr_capture_reader.specs.Reading.{Fails, ReadingFields, ◌>>=◌}
-use Rattle.hsr_capture_reader.specs.Pcapng.{CapturedFields, pushed}
+use Rattle.hsr_capture_reader.specs.Pcapng.{pushed}
 use Rattle.hsr_capture_reader.specs.Pcap.{captured_at, kept_at, packets_past, then_on}
 use Rattle.hsr_capture_reader.proofs.Walking.{fails_alike, fails_with}
 

@@ -1,5 +1,5 @@
 -- The blocks that hsr_pcapng writes are read back as themselves.
-use Rattle.std.proofs.Common.{◌≡◌, ℕ, ◌+◌, ◌-◌, ◌%◌, ◌^◌, ◌<◌, ◌≤◌, List, [], ◌∷◌, ◌++◌, length, take, drop, replicate, refl, sym, ap, ◌∙◌, append_assoc, length-append, arith, Result, Ok, Option, Some}
+use Rattle.std.proofs.Common.{◌≡◌, ℕ, ◌+◌, ◌-◌, ◌%◌, ◌^◌, ◌<◌, List, [], ◌∷◌, ◌++◌, length, take, drop, refl, ◌∙◌, append_assoc, length-append, arith, Some}
 use Rattle.std.specs.Prelude.{slice_range}
 use Rattle.std.specs.Int.{w32, to_le_bytes}
 use Rattle.std.proofs.lemmas.List.{take_at, drop_at, length-replicate}
@@ -8,10 +8,10 @@ use Rattle.hsr_capture_reader.specs.declared.numbers.ByteOrder.{ByteOrder}
 use Rattle.hsr_capture_reader.specs.declared.numbers.ByteOrder.TheVariants.{Little}
 use Rattle.hsr_capture_reader.specs.declared.blocks.Start.{Start}
 use Rattle.hsr_capture_reader.specs.Numbers.{number32}
-use Rattle.hsr_capture_reader.specs.Blocks.{BlockFields, block_of, blocks_past, onto, order_at}
-use Rattle.hsr_capture_reader.specs.Written.{IsReadAs, ahead_of}
+use Rattle.hsr_capture_reader.specs.Blocks.{block_of, order_at}
+use Rattle.hsr_capture_reader.specs.Written.{IsReadAs}
 use Rattle.hsr_capture_reader.proofs.Walking.{stands_first}
-use Rattle.hsr_capture_reader.proofs.Written.{read32, starts}
+use Rattle.hsr_capture_reader.proofs.Written.{starts}
 
 -- its type and its body
 body_is : (place kind : ℕ) (body more : List ℕ) → kind < 2 ^ 32

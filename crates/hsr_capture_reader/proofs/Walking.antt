@@ -1,5 +1,5 @@
 -- The blocks of a pcapng file, one after the other: what is left behind a block answers for all.
-use Rattle.std.proofs.Common.{◌≡◌, ℕ, zero, suc, ◌+◌, ◌-◌, ◌<◌, ◌≤◌, Bool, true, false, List, [], ◌∷◌, length, drop, refl, sym, ap, ◌∙◌, add-one, arith, Result, Ok, Err, Option, Some, None}
+use Rattle.std.proofs.Common.{◌≡◌, ℕ, zero, suc, ◌+◌, ◌-◌, ◌<◌, ◌≤◌, true, false, List, [], ◌∷◌, length, drop, refl, sym, ap, ◌∙◌, arith, Result, Ok, Err, Some, None}
 use Rattle.std.proofs.lemmas.List.{nil_from_length}
 use Rattle.hsr_capture_reader.specs.declared.fault.CaptureFault.{CaptureFault}
 use Rattle.hsr_capture_reader.specs.declared.fault.Refusal.{Refusal}
@@ -7,7 +7,7 @@ use Rattle.hsr_capture_reader.specs.declared.fault.ReadFault.{ReadFault}
 use Rattle.hsr_capture_reader.specs.declared.fault.ReadFault.TheVariants.{Refused, NoMemory}
 use Rattle.hsr_capture_reader.specs.declared.blocks.Start.{Start}
 use Rattle.hsr_capture_reader.specs.declared.numbers.ByteOrder.{ByteOrder}
-use Rattle.hsr_capture_reader.specs.Blocks.{BlockFields, Blocks, block_of, blocks_past, length_in, no_more, onto, order_in, start_of}
+use Rattle.hsr_capture_reader.specs.Blocks.{block_of, blocks_past, length_in, no_more, onto, order_in, start_of}
 use Rattle.hsr_capture_reader.specs.Reading.{Fails, ReadingFields, ◌>>=◌}
 use Rattle.hsr_capture_reader.specs.Pcapng.{read_blocks, told}
 

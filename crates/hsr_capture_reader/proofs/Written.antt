@@ -1,13 +1,11 @@
 -- What hsr_pcapng writes is read back: its numbers, its options, its blocks.
-use Rattle.std.proofs.Common.{◌≡◌, ◌≢◌, ℕ, zero, suc, ◌+◌, ◌-◌, ◌*◌, ◌/◌, ◌%◌, ◌^◌, ◌<◌, ◌≤◌, Bool, true, false, ltb, eqb, List, [], ◌∷◌, ◌++◌, length, slice_index, get_or, take, drop, replicate, refl, sym, ap, ◌∙◌, append_assoc, length-append, arith, eq-eqb, Result, Ok, Err, Option, Some, None}
+use Rattle.std.proofs.Common.{◌≡◌, ◌≢◌, ℕ, ◌+◌, ◌-◌, ◌/◌, ◌%◌, ◌^◌, ◌<◌, false, ltb, List, [], ◌∷◌, ◌++◌, length, take, drop, refl, ap, ◌∙◌, append_assoc, length-append, arith, eq-eqb, Ok, Some}
 use Rattle.std.specs.Int.{w16, w32, to_le_bytes}
 use Rattle.std.proofs.lemmas.Bool.{le-ltb, ne_eqb}
 use Rattle.std.proofs.lemmas.List.{take_at, drop_at, length-replicate, get_or-append-add}
 use Rattle.hsr_pcapng.specs.Blocks as written
 use Rattle.hsr_capture_reader.specs.declared.numbers.ByteOrder.{ByteOrder}
 use Rattle.hsr_capture_reader.specs.declared.numbers.ByteOrder.TheVariants.{Little}
-use Rattle.hsr_capture_reader.specs.declared.blocks.Start.{Start}
-use Rattle.hsr_capture_reader.specs.declared.fault.CaptureFault.{CaptureFault}
 use Rattle.hsr_capture_reader.specs.Numbers.{number16, number32}
 use Rattle.hsr_capture_reader.specs.Options.{option_past, padded_len}
 use Rattle.hsr_capture_reader.specs.Blocks.{order_at, start_of}

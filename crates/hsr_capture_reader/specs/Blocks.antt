@@ -3,7 +3,7 @@
 --     start_of      the byte order and the length of the block that stands first
 --     block_of      that block
 --     blocks_past   the blocks of a file, and how they end
-use Rattle.std.specs.Prelude.{ℕ, zero, suc, ◌+◌, ◌-◌, ◌%◌, ◌==◌, ◌&&◌, ◌||◌, not, nat_lt, Bool, true, false, if◌then◌else◌, List, [], ◌∷◌, length, take, drop, slice_range, Option, Some, None, Result, Ok, Err}
+use Rattle.std.specs.Prelude.{ℕ, zero, suc, ◌+◌, ◌-◌, ◌%◌, ◌==◌, ◌&&◌, ◌||◌, not, nat_lt, Bool, true, false, if◌then◌else◌, List, [], ◌∷◌, length, slice_range, Option, Some, None, Result, Ok, Err}
 use Rattle.hsr_frame.specs.Cases.{first_of}
 use Rattle.hsr_capture_reader.specs.declared.fault.CaptureFault.{CaptureFault}
 use Rattle.hsr_capture_reader.specs.declared.fault.CaptureFault.TheVariants as fault

@@ -1,5 +1,5 @@
 -- A whole capture: what the octets of a file tell, in whichever format it is.
-use Rattle.std.specs.Prelude.{ℕ, ◌^◌, ◌==◌, ◌&&◌, Bool, false, nat_lt, if◌then◌else◌, List, [], ◌∷◌, length, Option, Some, None, Result, Ok, Err}
+use Rattle.std.specs.Prelude.{ℕ, ◌==◌, ◌&&◌, Bool, false, nat_lt, List, [], ◌∷◌, length, Option, Some, None, Result, Ok}
 use Rattle.hsr_frame.specs.Cases.{first_of}
 use Rattle.hsr_capture_reader.specs.declared.fault.CaptureFault.TheVariants as fault
 use Rattle.hsr_capture_reader.specs.declared.fault.Refusal.{Refusal}

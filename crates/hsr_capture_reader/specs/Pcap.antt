@@ -2,7 +2,7 @@
 --     format_of      what its magic number says: the byte order, and whether fractions of a second are nanoseconds
 --     kept_at        how many octets of the packet that stands first were captured
 --     packets_past   what its packets tell
-use Rattle.std.specs.Prelude.{ℕ, zero, suc, ◌+◌, ◌*◌, ◌/◌, ◌%◌, ◌^◌, ◌==◌, nat_lt, Bool, true, false, if◌then◌else◌, List, [], ◌∷◌, length, take, drop, Option, Some, None, Result, Ok, Err}
+use Rattle.std.specs.Prelude.{ℕ, zero, suc, ◌+◌, ◌*◌, ◌/◌, ◌%◌, ◌==◌, nat_lt, true, false, if◌then◌else◌, List, [], ◌∷◌, length, take, drop, Option, Some, None, Result, Ok, Err}
 use Rattle.hsr_frame.specs.Cases.{first_of}
 use Rattle.hsr_capture_reader.specs.declared.fault.CaptureFault.{CaptureFault}
 use Rattle.hsr_capture_reader.specs.declared.fault.CaptureFault.TheVariants as fault

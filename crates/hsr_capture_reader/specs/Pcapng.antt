@@ -7,7 +7,7 @@
 --     statistics_told   the statistics of an interface (section 4.6)
 --     obsolete_told     an obsolete packet (appendix A)
 --     told              any block: what isn't known is passed over
-use Rattle.std.specs.Prelude.{ℕ, ◌+◌, ◌-◌, ◌*◌, ◌/◌, ◌%◌, ◌^◌, ◌==◌, min, max, not, nat_lt, nat_le, Bool, if◌then◌else◌, List, [], ◌∷◌, ◌++◌, length, take, drop, slice_get, slice_set, slice_index_or, Option, Some, None, option_map, unwrap_or, Result, Ok, Err}
+use Rattle.std.specs.Prelude.{ℕ, ◌+◌, ◌-◌, ◌*◌, ◌/◌, ◌%◌, ◌==◌, min, max, not, nat_lt, nat_le, Bool, if◌then◌else◌, List, [], ◌∷◌, length, take, drop, slice_get, slice_set, slice_index_or, Option, Some, None, unwrap_or, Result, Ok, Err}
 use Rattle.hsr_frame.specs.Cases.{first_of}
 use Rattle.hsr_capture_reader.specs.declared.fault.CaptureFault.{CaptureFault}
 use Rattle.hsr_capture_reader.specs.declared.fault.CaptureFault.TheVariants as fault
@@ -18,7 +18,7 @@ use Rattle.hsr_capture_reader.specs.declared.fields.Way.{Way}
 use Rattle.hsr_capture_reader.specs.declared.fields.Way.TheVariants.{In, Out}
 use Rattle.hsr_capture_reader.specs.declared.numbers.ByteOrder.{ByteOrder}
 use Rattle.hsr_capture_reader.specs.declared.numbers.ByteOrder.TheVariants.{Little}
-use Rattle.hsr_capture_reader.specs.Numbers.{number16, number32, joined}
+use Rattle.hsr_capture_reader.specs.Numbers.{number16, number32}
 use Rattle.hsr_capture_reader.specs.Clock.{moment_of}
 use Rattle.hsr_capture_reader.specs.Fields.{InterfaceFields, PacketFields, add_dropped, capped_sum, set_dropped}
 use Rattle.hsr_capture_reader.specs.Options.{option_of, octet_option, wide_option}

@@ -1,5 +1,5 @@
 -- What was read of a capture so far, and what it answers where memory suffices.
-use Rattle.std.specs.Prelude.{◌≡◌, ℕ, Bool, false, List, [], ◌∷◌, ◌++◌, Option, None, Result, Ok, Err}
+use Rattle.std.specs.Prelude.{◌≡◌, ℕ, Bool, false, List, [], ◌∷◌, ◌++◌, None, Result, Ok, Err}
 use Rattle.hsr_capture_reader.specs.declared.fields.Losses.{Losses}
 use Rattle.hsr_capture_reader.specs.declared.fault.Refusal.{Refusal}
 use Rattle.hsr_capture_reader.specs.declared.fault.ReadFault.{ReadFault}

@@ -1,5 +1,5 @@
 -- What hsr_pcapng writes is read back as it was written.
-use Rattle.std.specs.Prelude.{◌≡◌, ℕ, ◌+◌, ◌<◌, ◌^◌, List, ◌∷◌, ◌++◌, length}
+use Rattle.std.specs.Prelude.{◌≡◌, ℕ, ◌+◌, List, ◌∷◌, ◌++◌, length}
 use Rattle.hsr_pcapng.specs.Blocks as written
 use Rattle.hsr_capture_reader.specs.declared.numbers.ByteOrder.{ByteOrder}
 use Rattle.hsr_capture_reader.specs.declared.numbers.ByteOrder.TheVariants.{Little}

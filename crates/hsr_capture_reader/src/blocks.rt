@@ -67,8 +67,8 @@ pub(crate) struct Start {
     pub(crate) len: usize,
 }
 
-/// The byte order and the length of the block that stands first, with its head and its foot, behind blocks of a byte order; nothing
-/// where the file breaks off before its end.
+/// The byte order and the length of the block that stands first, with its head and its foot, behind blocks of a byte order;
+/// nothing where the file breaks off before its end.
 #[tactic(auto, unfolding(crate::specs::Blocks::start_of))]
 pub(crate) fn start_of(before: ByteOrder, octets: &[u8]) -> Result<Option<Start>, CaptureFault>
     ensures value { result ≡ start_of before octets.now }

@@ -87,9 +87,9 @@ fn capture_in<'a>(reading: Reading<'a>) -> Capture<'a>
 }
 
 impl<'a> Capture<'a> {
-    /// What a file tells, in either format; where it doesn't say how many octets of each packet are a frame check sequence, so many
-    /// are. `Refused` where something is wrong with it, with the first such place; `NoMemory` where room is refused. It takes time and
-    /// room in proportion to the length of the file, and copies no octet of a packet.
+    /// What a file tells, in either format; where it doesn't say how many octets of each packet are a frame check sequence, so
+    /// many are. `Refused` where something is wrong with it, with the first such place; `NoMemory` where room is refused. No octet
+    /// of a packet is copied.
     #[tactic(auto, unfolding(crate::specs::Capture::capture_of))]
     pub fn read(alloc: Global, fcs: u8, octets: &'a [u8]) -> Result<Capture<'a>, ReadFault>
         ensures { Gives result (capture_of fcs octets.now) }

@@ -53,8 +53,8 @@ fn capped(n: u128) -> u64
 }
 
 impl Clock {
-    /// The moment of a stamp: nanoseconds since 1970, rounded down. What comes before counts as 0, and what comes after 2^64 - 1 as
-    /// that.
+    /// The moment of a stamp: nanoseconds since 1970, rounded down. What comes before counts as 0, and what comes after 2^64 - 1
+    /// as that.
     #[tactic(auto, unfolding(crate::specs::Clock::moment_of))]
     pub fn moment(&self, ticks: u64) -> u64
         ensures { result ≡ moment_of self.now ticks }

@@ -98,7 +98,8 @@ fn kept_at(order: ByteOrder, octets: &[u8]) -> Result<Option<usize>, CaptureFaul
 /// The same, of the packet at a place in its file.
 fn kept_there(place: usize, order: ByteOrder, octets: &[u8]) -> Result<Option<usize>, ReadFault>
     ensures found { IfOk result (λ s. kept_at order octets.now ≡ Ok s) }
-    ensures refused { IfErr result (λ e. (f : CaptureFault) × (kept_at order octets.now ≡ Err f) × (e ≡ Refused (record { place = place; fault = f }))) }
+    ensures refused { IfErr result (λ e. (f : CaptureFault) × (kept_at order octets.now ≡ Err f)
+        × (e ≡ Refused (record { place = place; fault = f }))) }
     ensures room { IfOk result (λ s. IfSome s (λ kept. 16 + kept ≤ length octets.now)) }
 {
     match kept_at(order, octets) {
@@ -137,8 +138,8 @@ fn captured_at<'a>(fcs: u8, format: Format, octets: &'a [u8]) -> Captured<'a>
     }
 }
 
-/// A packet that stands first, at a place of its file, with what was read before, and how many octets it has with its header; where the
-/// file breaks off before its end, what was read.
+/// A packet that stands first, at a place of its file, with what was read before, and how many octets it has with its header;
+/// where the file breaks off before its end, what was read.
 #[tactic(auto, using(crate::proofs::PcapWalking::packets_go_on, crate::proofs::PcapWalking::packet_fails, crate::proofs::PcapWalking::packets_break_off, crate::proofs::PcapWalking::packet_is_refused))]
 fn packet_told<'a>(
     reading: Reading<'a>,
@@ -148,10 +149,14 @@ fn packet_told<'a>(
     left: &'a [u8],
 ) -> Result<(Reading<'a>, Option<usize>), ReadFault>
     requires { 0 < length left.now }
-    ensures goes_on { IfOk result (λ s. IfSome s.1 (λ n. packets_past 0 place fcs format reading.entry left.now ≡ packets_past 0 (place + n) fcs format s.0 (drop n left.now))) }
+    ensures goes_on { IfOk result (λ s. IfSome s.1 (λ n.
+        packets_past 0 place fcs format reading.entry left.now
+        ≡ packets_past 0 (place + n) fcs format s.0 (drop n left.now))) }
     ensures room { IfOk result (λ s. IfSome s.1 (λ n. (0 < n) × (n ≤ length left.now))) }
-    ensures ends { IfOk result (λ s. IfNone s.1 (packets_past 0 place fcs format reading.entry left.now ≡ Ok s.0)) }
-    ensures fails { IfErr result (λ e. Fails e (packets_past 0 place fcs format reading.entry left.now)) }
+    ensures ends { IfOk result (λ s. IfNone s.1
+        (packets_past 0 place fcs format reading.entry left.now ≡ Ok s.0)) }
+    ensures fails { IfErr result (λ e.
+        Fails e (packets_past 0 place fcs format reading.entry left.now)) }
 {
     let mut reading = reading;
     let Some(kept) = kept_there(place, format.order, left)? else {

@@ -15,11 +15,12 @@ use crate::pcapng::told;
 use crate::reading::{Reading, nothing_read, refused};
 use std::alloc::Global;
 
-/// Where the block at a place of its file starts and ends, behind blocks of a byte order; nothing where the file breaks off before
-/// its end.
+/// Where the block at a place of its file starts and ends, behind blocks of a byte order; nothing where the file breaks off
+/// before its end.
 fn start_at(place: usize, before: ByteOrder, octets: &[u8]) -> Result<Option<Start>, ReadFault>
     ensures found { IfOk result (λ s. start_of before octets.now ≡ Ok s) }
-    ensures refused { IfErr result (λ e. (f : CaptureFault) × (start_of before octets.now ≡ Err f) × (e ≡ Refused (record { place = place; fault = f }))) }
+    ensures refused { IfErr result (λ e. (f : CaptureFault) × (start_of before octets.now ≡ Err f)
+        × (e ≡ Refused (record { place = place; fault = f }))) }
     ensures shortest { IfOk result (λ s. IfSome s (λ start. 12 ≤ start.len)) }
     ensures room { IfOk result (λ s. IfSome s (λ start. start.len ≤ length octets.now)) }
 {
@@ -29,8 +30,8 @@ fn start_at(place: usize, before: ByteOrder, octets: &[u8]) -> Result<Option<Sta
     }
 }
 
-/// A block that stands first, at a place of its file, with what was read before, and where it starts and ends; where the file breaks
-/// off before its end, what was read.
+/// A block that stands first, at a place of its file, with what was read before, and where it starts and ends; where the file
+/// breaks off before its end, what was read.
 #[tactic(auto, using(crate::proofs::Walking::goes_on, crate::proofs::Walking::fails_there, crate::proofs::Walking::breaks_off, crate::proofs::Walking::is_refused))]
 fn block_told<'a>(
     fcs: u8,
@@ -40,11 +41,16 @@ fn block_told<'a>(
     left: &'a [u8],
 ) -> Result<(Reading<'a>, Option<Start>), ReadFault>
     requires { 0 < length left.now }
-    ensures goes_on { IfOk result (λ s. IfSome s.1 (λ start. read_blocks fcs reading.entry (blocks_past 0 place before left.now)
-        ≡ read_blocks fcs s.0 (blocks_past 0 (place + start.len) start.order (drop start.len left.now)))) }
-    ensures room { IfOk result (λ s. IfSome s.1 (λ start. (0 < start.len) × (start.len ≤ length left.now))) }
-    ensures ends { IfOk result (λ s. IfNone s.1 (read_blocks fcs reading.entry (blocks_past 0 place before left.now) ≡ Ok s.0)) }
-    ensures fails { IfErr result (λ e. Fails e (read_blocks fcs reading.entry (blocks_past 0 place before left.now))) }
+    ensures goes_on { IfOk result (λ s. IfSome s.1 (λ start.
+        read_blocks fcs reading.entry (blocks_past 0 place before left.now)
+        ≡ read_blocks fcs s.0
+        (blocks_past 0 (place + start.len) start.order (drop start.len left.now)))) }
+    ensures room { IfOk result (λ s. IfSome s.1 (λ start.
+        (0 < start.len) × (start.len ≤ length left.now))) }
+    ensures ends { IfOk result (λ s. IfNone s.1
+        (read_blocks fcs reading.entry (blocks_past 0 place before left.now) ≡ Ok s.0)) }
+    ensures fails { IfErr result (λ e.
+        Fails e (read_blocks fcs reading.entry (blocks_past 0 place before left.now))) }
 {
     let mut reading = reading;
     let Some(start) = start_at(place, before, left)? else {

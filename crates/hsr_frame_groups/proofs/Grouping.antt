@@ -1,11 +1,10 @@
 -- Copies grouped by frame, one after the other.
-use Rattle.std.proofs.Common.{◌≡◌, ℕ, zero, suc, ◌+◌, ◌-◌, ◌<◌, ◌≤◌, ◌==◌, Bool, true, false, cond, eqb, ltb, List, [], ◌∷◌, ◌++◌, length, take, find, get_or, refl, sym, ap, subst, ◌∙◌, arith, below_more, Option, Some, None}
-use Rattle.std.specs.Prelude.{nat_eq, IfNone, IfSome, option_map, reverse, slice_get, slice_index}
+use Rattle.std.proofs.Common.{◌≡◌, ℕ, zero, suc, ◌+◌, ◌-◌, ◌<◌, ◌≤◌, Bool, true, false, cond, List, [], ◌∷◌, ◌++◌, length, take, get_or, refl, sym, ap, subst, ◌∙◌, arith, below_more, Option, Some, None}
+use Rattle.std.specs.Prelude.{nat_eq, IfSome, option_map, reverse, slice_get, slice_index}
 use Rattle.std.proofs.lemmas.Bool.{le-ltb, eqb-true}
-use Rattle.std.proofs.lemmas.List.{take_more, reverse-append, get_or_append_left, get_or_push, length_push}
+use Rattle.std.proofs.lemmas.List.{take_more, reverse-append, get_or_append_left, get_or_push}
 use Rattle.hsr_recent_table.specs.Recent.{Knows, Put, horizon_of, latest, moment_of, value_of}
 use Rattle.hsr_recent_table.specs.declared.table.RecentTable.{RecentTable}
-use Rattle.hsr_frame_copies.specs.Alike.{says_same}
 use Rattle.hsr_frame_groups.specs.Frames.{AreBefore, ArePutFor, CaughtFields, IsFirst, IsPutFor, IsReady, chosen, first_by, first_copy, frame_time, joined_to, joins, key_of, latest_frame, past_of, put_for}
 
 -- ---- places

@@ -1,6 +1,6 @@
 -- What a table goes on knowing.
-use Rattle.std.proofs.Common.{◌≡◌, ◌≢◌, ℕ, ◌+◌, ◌≤◌, ◌<◌, ◌==◌, Bool, true, false, cond, eqb, List, ◌∷◌, find, refl, sym, ap, subst, ◌∙◌, arith, Option, Some, None}
-use Rattle.std.specs.Prelude.{nat_eq, IfNone, IfSome, option_map}
+use Rattle.std.proofs.Common.{◌≡◌, ℕ, ◌+◌, ◌≤◌, Bool, true, false, cond, List, ◌∷◌, refl, ap, ◌∙◌, arith, Option, Some, None}
+use Rattle.std.specs.Prelude.{nat_eq, IfSome, option_map}
 use Rattle.std.specs.HashMap.{get}
 use Rattle.hsr_recent_table.specs.declared.table.RecentTable.{RecentTable}
 use Rattle.hsr_recent_table.specs.Recent.{Knows, KnowsKey, Put, latest, value_of}

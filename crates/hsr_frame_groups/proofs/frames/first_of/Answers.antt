@@ -1,4 +1,4 @@
-use Rattle.std.proofs.Common.{sym, subst, arith}
+use Rattle.std.proofs.Common.{sym, subst}
 use Rattle.hsr_frame_groups.specs.Frames.{IsFirst}
 use Rattle.hsr_frame_groups.proofs.Grouping.{is_chosen, is_none_told, there}
 use Rattle.hsr_frame_groups.proofs.frames.first_of.Goals as goal
