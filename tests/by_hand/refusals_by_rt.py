@@ -1,5 +1,5 @@
 """Refuses each request for memory in turn by `rt try --fail-alloc`, which builds the programs for it: of the short rows of tests/run refusals,
-and of the tests of single calls of hsr_call_tests. It needs the Rattle kit.
+and of the tests of single calls of hsr_memory_tests. It needs the Rattle kit.
 
     python3 tests/by_hand/refusals_by_rt.py            all requests of a row over one build, for a kit that takes `--fail-alloc 1..`
     python3 tests/by_hand/refusals_by_rt.py FROM TO    these requests, each by a build of its own: about three minutes for each
@@ -18,7 +18,7 @@ from lib.refusing import Run
 from lib.running import Tally
 from parts import refusals
 
-TESTS = "hsr_call_tests"
+TESTS = "hsr_memory_tests"
 
 
 def rt_try(crate, flags, words, given):

@@ -8,7 +8,7 @@ from lib.running import Job, Tally
 
 PRELOAD = ("refuse",)
 SECONDS = 90
-CRATE = "hsr_call_tests"
+CRATE = "hsr_memory_tests"
 
 
 def is_passed(run):

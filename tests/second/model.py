@@ -137,7 +137,7 @@ class Node:
         self.mode = said.get("mode", "H")
         self.moment = self.next = self.lives = self.sent = self.up = self.forwarded = 0
         self.causes = dict.fromkeys(CAUSES, 0)
-        self.notes = {}  # by way out: (source and number, moment, send), the oldest first
+        self.notes = {}  # by egress: (source and number, moment, send), the oldest first
         self.heard = []  # (address, moment) of stations, the latest last
         self.record = []
         self.frames = {}  # of its own, by place

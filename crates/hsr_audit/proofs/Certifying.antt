@@ -10,10 +10,10 @@ use Rattle.hsr_node.specs.declared.event.Probe.{Probe}
 use Rattle.hsr_node.specs.declared.place.Place.{Place}
 use Rattle.hsr_audit.specs.Certificate.{certified_as, certified_below, certified_in}
 use Rattle.hsr_audit.specs.Listed.{certified_to, dst_of, frame_to, is_for, listed_at, listed_by, receivers_below, sent_to}
-use Rattle.hsr_law.specs.Once.{is_addressed}
-use Rattle.hsr_law.specs.Run.{Run, owner_of, past_of}
-use Rattle.hsr_law.specs.Premises.{mac_at}
-use Rattle.hsr_needed.proofs.Places.{past_length, past_more}
+use Rattle.hsr_run_laws.specs.Once.{is_addressed}
+use Rattle.hsr_run_laws.specs.Run.{Run, owner_of, past_of}
+use Rattle.hsr_run_laws.specs.Premises.{mac_at}
+use Rattle.hsr_table_demand.proofs.Places.{past_length, past_more}
 
 -- ---- receivers
 

@@ -8,17 +8,17 @@ use Rattle.hsr_audit.specs.declared.doubt.AuditFault.TheVariants as fault
 use Rattle.hsr_audit.specs.declared.doubt.Doubt.{Doubt}
 use Rattle.hsr_audit.specs.declared.doubt.Doubt.TheVariants as doubt
 use Rattle.hsr_audit.specs.Certificate.{Certified, IsCertified, certified}
-use Rattle.hsr_law.specs.Closed.{IsClosed}
-use Rattle.hsr_law.specs.Once.{ExactlyOnce}
+use Rattle.hsr_run_laws.specs.Closed.{IsClosed}
+use Rattle.hsr_run_laws.specs.Once.{ExactlyOnce}
 use Rattle.hsr_audit.specs.Round.{IsClear, IsOwnRing}
 use Rattle.hsr_topology.specs.Wired.{IsWired}
-use Rattle.hsr_law.specs.Premises.{KnowsOwn, NothingForgotten, NothingMistaken, OneLossyLink, IsRing, Remembers}
-use Rattle.hsr_law.specs.Run.{Run, owner_of, record_of}
-use Rattle.hsr_network_law.specs.Late.{NothingLate, is_numbered_late}
-use Rattle.hsr_premises.specs.Flaws.{IsFirstFlaw, IsFirstNot, IsInTimeAt, KnowsOwnAt, RemembersAt}
-use Rattle.hsr_premises.specs.declared.flaw.Flaw.{Flaw}
-use Rattle.hsr_premises.specs.declared.flaw.Flaw.TheVariants.{Forgot, Late, Mistaken}
-use Rattle.hsr_needed.proofs.Places.{from_each}
+use Rattle.hsr_run_laws.specs.Premises.{KnowsOwn, NothingForgotten, NothingMistaken, OneLossyLink, IsRing, Remembers}
+use Rattle.hsr_run_laws.specs.Run.{Run, owner_of, record_of}
+use Rattle.hsr_network_laws.specs.Late.{NothingLate, is_numbered_late}
+use Rattle.hsr_table_flaws.specs.Flaws.{IsFirstFlaw, IsFirstNot, IsInTimeAt, KnowsOwnAt, RemembersAt}
+use Rattle.hsr_table_flaws.specs.declared.flaw.Flaw.{Flaw}
+use Rattle.hsr_table_flaws.specs.declared.flaw.Flaw.TheVariants.{Forgot, Late, Mistaken}
+use Rattle.hsr_table_demand.proofs.Places.{from_each}
 use Rattle.hsr_audit.proofs.Premised.{danhs_of_ring, modes_of_ring, own_of_ring, ring_of_own}
 
 -- ---- a place where a premise fails

@@ -7,12 +7,12 @@ use Rattle.hsr_node.specs.declared.place.Place.{Place}
 use Rattle.hsr_node.specs.declared.place.Place.TheVariants.{QuadBox}
 use Rattle.hsr_link.specs.declared.row.Dir.{Dir}
 use Rattle.hsr_link.specs.declared.row.Dir.TheVariants.{Forth, Back}
-use Rattle.hsr_law.specs.Premises.{is_redbox}
-use Rattle.hsr_law.specs.Run.{Run, place_of}
-use Rattle.hsr_numbers.specs.Numbers.{has}
-use Rattle.hsr_network_law.specs.Network.{Way, start_of, stop_of}
-use Rattle.hsr_ways.specs.Numbered.{number_of}
-use Rattle.hsr_audit.specs.Coming.{Comes, IsLastWay, is_to_station}
+use Rattle.hsr_run_laws.specs.Premises.{is_redbox}
+use Rattle.hsr_run_laws.specs.Run.{Run, place_of}
+use Rattle.hsr_bitset.specs.Numbers.{has}
+use Rattle.hsr_network_laws.specs.Network.{Channel, start_of, stop_of}
+use Rattle.hsr_reach.specs.Numbered.{number_of}
+use Rattle.hsr_audit.specs.Coming.{Comes, IsLastChannel, is_to_station}
 use Rattle.hsr_audit.specs.Reaching.{IsSpreadOf, is_last_in}
 use Rattle.hsr_audit.specs.declared.cutoff.Spread.{Spread}
 
@@ -32,52 +32,52 @@ unnot false h = sym h
 not_of : (b : Bool) → b ≡ false → not b ≡ true
 not_of b is = ap not is
 
--- no way of the links below one is the last way to a node
+-- no channel of the links below one is the last channel to a node
 abbrev pub NoneLastBelow : Run → ℕ → Spread → ℕ → ℕ → Type 0
-NoneLastBelow run sender spread k n = (way : Way) → way.link < n → is_last_in run sender spread k way ≡ false
+NoneLastBelow run sender spread k n = (channel : Channel) → channel.link < n → is_last_in run sender spread k channel ≡ false
 
 pub none_more : (run : Run) (sender : ℕ) (spread : Spread) (k n : ℕ) → is_last_in run sender spread k (record { link = n; dir = Forth }) ≡ false → is_last_in run sender spread k (record { link = n; dir = Back }) ≡ false →
     NoneLastBelow run sender spread k n → NoneLastBelow run sender spread k (n + 1)
-none_more run sender spread k n forth back before way low =
-    ⊎_elim (λ lower. before way lower)
-    (λ high. let same : n ≡ way.link = omega (arith, low, high) in
-    let P : ℕ → Type 0 = λ l. is_last_in run sender spread k (record { link = l; dir = way.dir }) ≡ false in
-    subst P same (by_dir way.dir))
-    (cases_lt way.link n)
+none_more run sender spread k n forth back before channel low =
+    ⊎_elim (λ lower. before channel lower)
+    (λ high. let same : n ≡ channel.link = omega (arith, low, high) in
+    let P : ℕ → Type 0 = λ l. is_last_in run sender spread k (record { link = l; dir = channel.dir }) ≡ false in
+    subst P same (by_dir channel.dir))
+    (cases_lt channel.link n)
   where
     by_dir : (dir : Dir) → is_last_in run sender spread k (record { link = n; dir = dir }) ≡ false
     by_dir Forth = forth
     by_dir Back = back
 
 module _ (run : Run) (send : Probe) (frame : Fields) (spread : Spread) (found : IsSpreadOf run send frame spread) (k : ℕ) where
-  -- what is found tells of a last way
-  pub last_is : (way : Way) → way.link < length run.links → is_last_in run send.node spread k way ≡ true → IsLastWay run send frame k way
-  last_is way below is =
-      let one = and_parts ((stop_of run way).node == k && not (has spread.lossy (number_of way))) ((start_of run way).node == send.node || (is_redbox (place_of run (start_of run way).node) && has spread.nodes (start_of run way).node)) is in
-      let two = and_parts ((stop_of run way).node == k) (not (has spread.lossy (number_of way))) one.0 in
+  -- what is found tells of a last channel
+  pub last_is : (channel : Channel) → channel.link < length run.links → is_last_in run send.node spread k channel ≡ true → IsLastChannel run send frame k channel
+  last_is channel below is =
+      let one = and_parts ((stop_of run channel).node == k && not (has spread.lossy (number_of channel))) ((start_of run channel).node == send.node || (is_redbox (place_of run (start_of run channel).node) && has spread.nodes (start_of run channel).node)) is in
+      let two = and_parts ((stop_of run channel).node == k) (not (has spread.lossy (number_of channel))) one.0 in
       record {
-        carries = record { below = below; kept = sym (found.lossy way below) ∙ not-true (has spread.lossy (number_of way)) two.1 };
-        here = eqb-true (stop_of run way).node k two.0;
+        carries = record { below = below; kept = sym (found.lossy channel below) ∙ not-true (has spread.lossy (number_of channel)) two.1 };
+        here = eqb-true (stop_of run channel).node k two.0;
         comes = ⊎_elim
-            (λ own. inl (eqb-true (start_of run way).node send.node own))
+            (λ own. inl (eqb-true (start_of run channel).node send.node own))
             (λ far.
-            let parts = and_parts (is_redbox (place_of run (start_of run way).node)) (has spread.nodes (start_of run way).node) far in
-            inr (parts.0, (found.nodes (start_of run way).node (box_below run.places (start_of run way).node parts.0)).0 parts.1))
-            (or_cases ((start_of run way).node == send.node) (is_redbox (place_of run (start_of run way).node) && has spread.nodes (start_of run way).node) one.1);
+            let parts = and_parts (is_redbox (place_of run (start_of run channel).node)) (has spread.nodes (start_of run channel).node) far in
+            inr (parts.0, (found.nodes (start_of run channel).node (box_below run.places (start_of run channel).node parts.0)).0 parts.1))
+            (or_cases ((start_of run channel).node == send.node) (is_redbox (place_of run (start_of run channel).node) && has spread.nodes (start_of run channel).node) one.1);
       }
 
-  pub is_last : (way : Way) → IsLastWay run send frame k way → is_last_in run send.node spread k way ≡ true
-  is_last way last =
-      both ((stop_of run way).node == k && not (has spread.lossy (number_of way))) ((start_of run way).node == send.node || (is_redbox (place_of run (start_of run way).node) && has spread.nodes (start_of run way).node))
-      (both ((stop_of run way).node == k) (not (has spread.lossy (number_of way))) (eq-eqb (stop_of run way).node k last.here) (not_of (has spread.lossy (number_of way)) (found.lossy way last.carries.below ∙ last.carries.kept)))
+  pub is_last : (channel : Channel) → IsLastChannel run send frame k channel → is_last_in run send.node spread k channel ≡ true
+  is_last channel last =
+      both ((stop_of run channel).node == k && not (has spread.lossy (number_of channel))) ((start_of run channel).node == send.node || (is_redbox (place_of run (start_of run channel).node) && has spread.nodes (start_of run channel).node))
+      (both ((stop_of run channel).node == k) (not (has spread.lossy (number_of channel))) (eq-eqb (stop_of run channel).node k last.here) (not_of (has spread.lossy (number_of channel)) (found.lossy channel last.carries.below ∙ last.carries.kept)))
       (⊎_elim
-      (λ own. or_left ((start_of run way).node == send.node) (is_redbox (place_of run (start_of run way).node) && has spread.nodes (start_of run way).node) (eq-eqb (start_of run way).node send.node own))
-      (λ far. or_right ((start_of run way).node == send.node) (is_redbox (place_of run (start_of run way).node) && has spread.nodes (start_of run way).node)
-      (both (is_redbox (place_of run (start_of run way).node)) (has spread.nodes (start_of run way).node) far.0 ((found.nodes (start_of run way).node (box_below run.places (start_of run way).node far.0)).1 far.1)))
+      (λ own. or_left ((start_of run channel).node == send.node) (is_redbox (place_of run (start_of run channel).node) && has spread.nodes (start_of run channel).node) (eq-eqb (start_of run channel).node send.node own))
+      (λ far. or_right ((start_of run channel).node == send.node) (is_redbox (place_of run (start_of run channel).node) && has spread.nodes (start_of run channel).node)
+      (both (is_redbox (place_of run (start_of run channel).node)) (has spread.nodes (start_of run channel).node) far.0 ((found.nodes (start_of run channel).node (box_below run.places (start_of run channel).node far.0)).1 far.1)))
       last.comes)
 
-  pub comes_by : is_to_station frame (place_of run k) ≡ true → (way : Way) → way.link < length run.links → is_last_in run send.node spread k way ≡ true → Comes run send frame k
-  comes_by below way inside is = record { ring = λ other. absurd (false≢true (sym other ∙ below)); below = λ station. (way, last_is way inside is) }
+  pub comes_by : is_to_station frame (place_of run k) ≡ true → (channel : Channel) → channel.link < length run.links → is_last_in run send.node spread k channel ≡ true → Comes run send frame k
+  comes_by below channel inside is = record { ring = λ other. absurd (false≢true (sym other ∙ below)); below = λ station. (channel, last_is channel inside is) }
 
   pub comes_not : is_to_station frame (place_of run k) ≡ true → (n : ℕ) → length run.links ≡ n → NoneLastBelow run send.node spread k n → Comes run send frame k → ⊥
   comes_not below n all none comes =
@@ -95,8 +95,8 @@ module _ (run : Run) (send : Probe) (frame : Fields) (spread : Spread) (found : 
   pub ring_same : is_to_station frame (place_of run k) ≡ false → k < length run.places → (has spread.nodes k ≡ true) ↔ Comes run send frame k
   ring_same other low = (comes_ring other low, ring_has other low)
 
-  pub found_same : is_to_station frame (place_of run k) ≡ true → (way : Way) → way.link < length run.links → is_last_in run send.node spread k way ≡ true → (true ≡ true) ↔ Comes run send frame k
-  found_same below way inside is = (λ e. comes_by below way inside is, λ c. refl)
+  pub found_same : is_to_station frame (place_of run k) ≡ true → (channel : Channel) → channel.link < length run.links → is_last_in run send.node spread k channel ≡ true → (true ≡ true) ↔ Comes run send frame k
+  found_same below channel inside is = (λ e. comes_by below channel inside is, λ c. refl)
 
   pub none_same : is_to_station frame (place_of run k) ≡ true → (n : ℕ) → length run.links ≡ n → NoneLastBelow run send.node spread k n → (false ≡ true) ↔ Comes run send frame k
   none_same below n all none = (λ e. absurd (false≢true e), λ c. absurd (comes_not below n all none c))

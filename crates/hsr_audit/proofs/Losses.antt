@@ -1,7 +1,7 @@
 -- The links that lost copies, of those that were looked at.
 use Rattle.std.specs.Prelude.{ℕ, ◌<◌, ◌≡◌, Bool, true, false}
-use Rattle.hsr_law.specs.Premises.{any_lost}
-use Rattle.hsr_law.specs.Run.{Run, rows_of}
+use Rattle.hsr_run_laws.specs.Premises.{any_lost}
+use Rattle.hsr_run_laws.specs.Run.{Run, rows_of}
 
 abbrev pub loses : Run → ℕ → Bool
 loses run l = any_lost (rows_of run l)

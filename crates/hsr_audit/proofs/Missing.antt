@@ -16,15 +16,15 @@ use Rattle.hsr_link.specs.declared.row.Dir.{Dir}
 use Rattle.hsr_link.specs.declared.row.Dir.TheVariants.{Forth, Back}
 use Rattle.hsr_topology.specs.declared.end.End.{End}
 use Rattle.hsr_tables.specs.Proxies.{Proxies, is_known}
-use Rattle.hsr_law.specs.Closed.{IsSend}
-use Rattle.hsr_law.specs.Premises.{is_redbox}
-use Rattle.hsr_law.specs.Run.{Run, ends_of, from_end, is_of, owner_of, past_of, place_of, record_of, to_end}
-use Rattle.hsr_needed.specs.Read.{heard_in, stations_of}
-use Rattle.hsr_needed.proofs.Hearing.{known_same, stations_last}
-use Rattle.hsr_needed.proofs.Places.{no_entry, past_length, past_more}
-use Rattle.hsr_needed.proofs.Walking.{place_at}
-use Rattle.hsr_network_law.specs.Network.{Way, start_of, stop_of}
-use Rattle.hsr_network_law.specs.Stations.{finds}
+use Rattle.hsr_run_laws.specs.Closed.{IsSend}
+use Rattle.hsr_run_laws.specs.Premises.{is_redbox}
+use Rattle.hsr_run_laws.specs.Run.{Run, ends_of, from_end, is_of, owner_of, past_of, place_of, record_of, to_end}
+use Rattle.hsr_table_demand.specs.Read.{heard_in, stations_of}
+use Rattle.hsr_table_demand.proofs.Hearing.{known_same, stations_last}
+use Rattle.hsr_table_demand.proofs.Places.{no_entry, past_length, past_more}
+use Rattle.hsr_table_demand.proofs.Walking.{place_at}
+use Rattle.hsr_network_laws.specs.Network.{Channel, start_of, stop_of}
+use Rattle.hsr_network_laws.specs.Stations.{finds}
 use Rattle.hsr_audit.specs.Coming.{IsBoxOf, IsKnown, is_to_station}
 use Rattle.hsr_audit.specs.Sends.{probe_at}
 use Rattle.hsr_audit.specs.Missed.{IsFirstMissed, IsLowest, IsLowestOf, IsMissed, IsUnknown, IsUnknownOf, MissedBelow, MissedOn, is_box_of, is_due_below, is_lower, leads_below, lower_of, sending_at, sent_in, sent_of}
@@ -56,20 +56,20 @@ module _ (run : Run) (sender : ℕ) (frame : Fields) (k : ℕ) where
       let parts = and_parts (is_redbox (place_of run k)) (list_any (leads_below run.places sender frame k) run.links) is in
       let some = some_link (leads_below run.places sender frame k) run.links parts.1 in
       let ends = ends_of run some.0 in
-      ⊎_elim (λ forth. by_way parts.0 (record { link = some.0; dir = Forth }) some.1 forth) (λ back. by_way parts.0 (record { link = some.0; dir = Back }) some.1 back)
+      ⊎_elim (λ forth. by_channel parts.0 (record { link = some.0; dir = Forth }) some.1 forth) (λ back. by_channel parts.0 (record { link = some.0; dir = Back }) some.1 back)
       (or_cases (((from_end Forth ends).node == k) && is_due_below run.places sender frame (to_end Forth ends).node) (((to_end Forth ends).node == k) && is_due_below run.places sender frame (from_end Forth ends).node) some.2)
     where
-      by_way : is_redbox (place_of run k) ≡ true → (way : Way) → way.link < length run.links → (((start_of run way).node == k) && is_due_below run.places sender frame (stop_of run way).node) ≡ true → IsBoxOf run sender frame k
-      by_way is_box way below leads =
-          let two = and_parts ((start_of run way).node == k) (is_due_below run.places sender frame (stop_of run way).node) leads in
-          let due = and_parts (is_to_station frame (place_of run (stop_of run way).node)) (Rattle.hsr_deliveries.specs.Delivered.is_due run sender frame.dst frame.kind (stop_of run way).node) two.1 in
-          record { node = node; box = is_box; way = way; below = below; starts = eqb-true (start_of run way).node k two.0; station = due.0; due = due.1 }
+      by_channel : is_redbox (place_of run k) ≡ true → (channel : Channel) → channel.link < length run.links → (((start_of run channel).node == k) && is_due_below run.places sender frame (stop_of run channel).node) ≡ true → IsBoxOf run sender frame k
+      by_channel is_box channel below leads =
+          let two = and_parts ((start_of run channel).node == k) (is_due_below run.places sender frame (stop_of run channel).node) leads in
+          let due = and_parts (is_to_station frame (place_of run (stop_of run channel).node)) (Rattle.hsr_deliveries.specs.Delivered.is_due run sender frame.dst frame.kind (stop_of run channel).node) two.1 in
+          record { node = node; box = is_box; channel = channel; below = below; starts = eqb-true (start_of run channel).node k two.0; station = due.0; due = due.1 }
 
   pub is_box : IsBoxOf run sender frame k → is_box_of run.places run.links sender frame k ≡ true
   is_box b =
       both (is_redbox (place_of run k)) (list_any (leads_below run.places sender frame k) run.links) b.box
-      (link_some (leads_below run.places sender frame k) run.links b.way.link b.below (by_dir b.way.link b.way.dir (both ((start_of run b.way).node == k) (is_due_below run.places sender frame (stop_of run b.way).node) (eq-eqb (start_of run b.way).node k b.starts)
-      (both (is_to_station frame (place_of run (stop_of run b.way).node)) (Rattle.hsr_deliveries.specs.Delivered.is_due run sender frame.dst frame.kind (stop_of run b.way).node) b.station b.due))))
+      (link_some (leads_below run.places sender frame k) run.links b.channel.link b.below (by_dir b.channel.link b.channel.dir (both ((start_of run b.channel).node == k) (is_due_below run.places sender frame (stop_of run b.channel).node) (eq-eqb (start_of run b.channel).node k b.starts)
+      (both (is_to_station frame (place_of run (stop_of run b.channel).node)) (Rattle.hsr_deliveries.specs.Delivered.is_due run sender frame.dst frame.kind (stop_of run b.channel).node) b.station b.due))))
     where
       by_dir : (l : ℕ) (dir : Dir) → (((from_end dir (ends_of run l)).node == k) && is_due_below run.places sender frame (to_end dir (ends_of run l)).node) ≡ true → leads_below run.places sender frame k (ends_of run l) ≡ true
       by_dir l Forth leads = or_left (((from_end Forth (ends_of run l)).node == k) && is_due_below run.places sender frame (to_end Forth (ends_of run l)).node) (((to_end Forth (ends_of run l)).node == k) && is_due_below run.places sender frame (from_end Forth (ends_of run l)).node) leads

@@ -1,8 +1,8 @@
 -- Where a fact of the places of records fails first.
 use Rattle.std.proofs.Common.{◌≡◌, ℕ, ◌+◌, ◌<◌, length, subst, arith, ⊎_elim}
 use Rattle.std.proofs.lemmas.Bool.{cases_lt}
-use Rattle.hsr_law.specs.Run.{Run, record_of}
-use Rattle.hsr_premises.specs.Flaws.{IsFirstNot}
+use Rattle.hsr_run_laws.specs.Run.{Run, record_of}
+use Rattle.hsr_table_flaws.specs.Flaws.{IsFirstNot}
 use Rattle.hsr_audit.specs.Placed.{HoldsBelow, HoldsIn, IsFirstOf}
 
 pub holds_more : (P : ℕ → ℕ → Type 0) (k n : ℕ) → P k n → HoldsBelow P k n → HoldsBelow P k (n + 1)

@@ -8,13 +8,13 @@ use Rattle.hsr_node.specs.declared.place.Place.{Place}
 use Rattle.hsr_node.specs.declared.place.Place.TheVariants.{Danh, RedBox, QuadBox, Station}
 use Rattle.hsr_topology.proofs.Ends.{end_is, end_same}
 use Rattle.hsr_topology.proofs.Faults.{no_group}
-use Rattle.hsr_network_law.specs.Network.{HasAddress, is_in_h_or_u}
-use Rattle.hsr_ways.specs.Networks.{AreGoingRound, HaveOwnAddresses}
+use Rattle.hsr_network_laws.specs.Network.{HasAddress, is_in_h_or_u}
+use Rattle.hsr_reach.specs.Networks.{AreGoingRound, HaveOwnAddresses}
 use Rattle.hsr_audit.specs.Danhs.{IsDanhRing, is_danh, mac_of, macs_of, mode_of}
 use Rattle.hsr_topology.specs.Links.{is_same_end}
-use Rattle.hsr_law.specs.Premises.{IsRing, Joins, mac_at}
+use Rattle.hsr_run_laws.specs.Premises.{IsRing, Joins, mac_at}
 use Rattle.hsr_audit.specs.Round.{IsRound, address_of, is_joint, is_joint_of}
-use Rattle.hsr_law.specs.Run.{Run, ends_of, from_end, place_of}
+use Rattle.hsr_run_laws.specs.Run.{Run, ends_of, from_end, place_of}
 use Rattle.hsr_topology.specs.declared.end.End.{End}
 use Rattle.std.proofs.lemmas.List.{length-map}
 use Rattle.std.proofs.lemmas.List.Elements.{All-get_or}

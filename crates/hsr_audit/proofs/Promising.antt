@@ -10,25 +10,25 @@ use Rattle.hsr_node.specs.declared.place.Place.{Place}
 use Rattle.hsr_node.specs.declared.place.Place.TheVariants.{Danh, RedBox, QuadBox, Station}
 use Rattle.hsr_node.specs.declared.sending.Sending.{Sending}
 use Rattle.hsr_frame.specs.Egress.{is_supervision}
-use Rattle.hsr_law.specs.Premises.{IsRing, NothingForgotten, NothingMistaken, OneLossyLink, is_redbox}
+use Rattle.hsr_run_laws.specs.Premises.{IsRing, NothingForgotten, NothingMistaken, OneLossyLink, is_redbox}
 use Rattle.hsr_deliveries.specs.Delivered.{Delivery, IsComplete, deliveries, is_due, is_for, times}
 use Rattle.hsr_deliveries.proofs.Completing.{IsAsDue, all_complete}
-use Rattle.hsr_law.specs.Closed.{IsClosed, IsSend}
+use Rattle.hsr_run_laws.specs.Closed.{IsClosed, IsSend}
 use Rattle.hsr_link.specs.declared.row.Dir.TheVariants.{Forth}
 use Rattle.hsr_topology.specs.declared.end.End.{End}
-use Rattle.hsr_law.specs.Run.{Run, from_end, past_of, place_of, record_of, to_end}
-use Rattle.hsr_law.proofs.Same.{same_address}
-use Rattle.hsr_network_law.proofs.Delivered.{not_to_itself}
-use Rattle.hsr_network_law.specs.Delivered.{IsOnceInNetwork, OnceInNetwork, is_covered, is_meant}
-use Rattle.hsr_network_law.specs.Late.{LateDecides}
-use Rattle.hsr_network_law.specs.Lives.{LivesStay, is_joined_with_station, is_station_at, joins_stations}
-use Rattle.hsr_network_law.specs.Rings.{IsCrossed, RingIsCrossed}
-use Rattle.hsr_network_law.specs.Network.{HasAddress, IsNetwork, is_station, is_station_with, start_of}
-use Rattle.hsr_network_law.specs.Stations.{IsReachedBelow, OnceToStation}
-use Rattle.hsr_network_law.proofs.Wants.{among_at}
-use Rattle.hsr_premises.specs.Flaws.{IsFirstFlaw}
-use Rattle.hsr_premises.specs.declared.flaw.Flaw.{Flaw}
-use Rattle.hsr_premises.specs.declared.flaw.Flaw.TheVariants.{Forgot, Late, Mistaken}
+use Rattle.hsr_run_laws.specs.Run.{Run, from_end, past_of, place_of, record_of, to_end}
+use Rattle.hsr_run_laws.proofs.Same.{same_address}
+use Rattle.hsr_network_laws.proofs.Delivered.{not_to_itself}
+use Rattle.hsr_network_laws.specs.Delivered.{IsOnceInNetwork, OnceInNetwork, is_covered, is_meant}
+use Rattle.hsr_network_laws.specs.Late.{LateDecides}
+use Rattle.hsr_network_laws.specs.Lives.{LivesStay, is_joined_with_station, is_station_at, joins_stations}
+use Rattle.hsr_network_laws.specs.Rings.{IsCrossed, RingIsCrossed}
+use Rattle.hsr_network_laws.specs.Network.{HasAddress, IsNetwork, is_station, is_station_with, start_of}
+use Rattle.hsr_network_laws.specs.Stations.{IsReachedBelow, OnceToStation}
+use Rattle.hsr_network_laws.proofs.Wants.{among_at}
+use Rattle.hsr_table_flaws.specs.Flaws.{IsFirstFlaw}
+use Rattle.hsr_table_flaws.specs.declared.flaw.Flaw.{Flaw}
+use Rattle.hsr_table_flaws.specs.declared.flaw.Flaw.TheVariants.{Forgot, Late, Mistaken}
 use Rattle.hsr_audit.specs.Coming.{Comes, is_to_station}
 use Rattle.hsr_audit.specs.Danhs.{HasPremises}
 use Rattle.hsr_audit.specs.Doubts.{IsFirst, IsFirstFault, IsNetworkPremised, IsRefused, IsSo, IsSound, doubt_at, of_network}
@@ -259,7 +259,7 @@ module _ (run : Run) (closed : IsClosed run) (once : IsOnceInNetwork run) (to_st
                 (record {
                   node = box_below run.places (start_of run last.0).node box;
                   box = box;
-                  way = last.0;
+                  channel = last.0;
                   below = last.1.carries.below;
                   starts = refl;
                   station = subst S (sym last.1.here) station;

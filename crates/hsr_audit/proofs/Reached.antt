@@ -6,7 +6,7 @@ use Rattle.hsr_node.specs.declared.event.Probe.{Probe}
 use Rattle.hsr_node.specs.declared.sending.Sending.{Sending}
 use Rattle.hsr_deliveries.specs.Delivered.{is_due}
 use Rattle.hsr_frame.specs.Grammar.{Fields}
-use Rattle.hsr_law.specs.Run.{Run, past_of, place_of}
+use Rattle.hsr_run_laws.specs.Run.{Run, past_of, place_of}
 use Rattle.hsr_audit.specs.Coming.{Comes}
 use Rattle.hsr_audit.specs.Sends.{ComesDue, IsCutOff, IsServedAt, probe_at}
 use Rattle.hsr_audit.specs.Reaching.{IsCutAt, IsFirstUnserved, IsUnserved, ServedBelow}

@@ -9,11 +9,11 @@ use Rattle.hsr_node.specs.declared.entry.Entry.{Entry}
 use Rattle.hsr_node.specs.declared.event.Probe.{Probe}
 use Rattle.hsr_node.specs.declared.place.Place.{Place}
 use Rattle.hsr_node.specs.declared.sending.Sending.{Sending}
-use Rattle.hsr_law.specs.Closed.{IsSend}
-use Rattle.hsr_law.specs.Run.{Run, past_of, place_of, record_of}
-use Rattle.hsr_law.proofs.Records.{IsAtPlace, all_at_place}
-use Rattle.hsr_needed.proofs.Places.{from_each, past_length}
-use Rattle.hsr_needed.proofs.Walking.{place_at}
+use Rattle.hsr_run_laws.specs.Closed.{IsSend}
+use Rattle.hsr_run_laws.specs.Run.{Run, past_of, place_of, record_of}
+use Rattle.hsr_run_laws.proofs.Records.{IsAtPlace, all_at_place}
+use Rattle.hsr_table_demand.proofs.Places.{from_each, past_length}
+use Rattle.hsr_table_demand.proofs.Walking.{place_at}
 use Rattle.hsr_audit.specs.Sends.{HasSend, IsCoveredAt, IsNoSendAt, is_promised, probe_at}
 
 pub send_here : (run : Run) (k i : ℕ) (d : Entry) → i < length (record_of run k) →

@@ -10,18 +10,18 @@ use Rattle.std.proofs.lemmas.List.Folds.{Any-from_list_any, fold-map, list_any_a
 use Rattle.std.proofs.lemmas.List.Sorted.{length_permutation, list_any-IsPermutation, sum_by-IsPermutation}
 use Rattle.std.proofs.lemmas.List.Sums.{length-filter}
 use Rattle.hsr_node.specs.Record.{now}
-use Rattle.hsr_law.specs.Budget.{BudgetKeeps, BudgetTells, IsBudgetHeld, IsInTime, OnceInBudget, Sent, is_within, sends_of}
-use Rattle.hsr_law.specs.Closed.{IsClosed}
-use Rattle.hsr_law.specs.Once.{HasNodes, IsCalm, NoStorm}
-use Rattle.hsr_law.specs.Premises.{BoxlessNumbersFirst, NothingForgotten}
-use Rattle.hsr_law.specs.Run.{Run, record_of}
+use Rattle.hsr_run_laws.specs.Budget.{BudgetKeeps, BudgetTells, IsBudgetHeld, IsInTime, OnceInBudget, Sent, is_within, sends_of}
+use Rattle.hsr_run_laws.specs.Closed.{IsClosed}
+use Rattle.hsr_run_laws.specs.Once.{HasNodes, IsCalm, NoStorm}
+use Rattle.hsr_run_laws.specs.Premises.{BoxlessNumbersFirst, NothingForgotten}
+use Rattle.hsr_run_laws.specs.Run.{Run, record_of}
 use Rattle.hsr_audit.specs.Budgeted.{AreInTime, IsEnough, IsFirstBreach, IsFirstCrowded, IsInTimeAt, IsMost, IsOverspent, IsSendMoment, crowd}
-use Rattle.hsr_premises.specs.Flaws.{IsFirstNot}
+use Rattle.hsr_table_flaws.specs.Flaws.{IsFirstNot}
 use Rattle.hsr_audit.specs.Timed.{AllInTimeBelow, AreSendMoments, IsFirstLate, moment_sent}
-use Rattle.hsr_windows.specs.Windows.{IsFirstOver, IsMostBelow, crowd_in, lies_in}
+use Rattle.hsr_table_demand.specs.Windows.{IsFirstOver, IsMostBelow, crowd_in, lies_in}
 use Rattle.hsr_audit.specs.declared.breach.BudgetFault.{BudgetFault}
 use Rattle.hsr_audit.specs.declared.breach.BudgetFault.TheVariants.{Late, Crowded, NoMemory}
-use Rattle.hsr_needed.proofs.Places.{each_from, from_each}
+use Rattle.hsr_table_demand.proofs.Places.{each_from, from_each}
 
 -- ---- the moments of sends, and the sends
 

@@ -11,11 +11,11 @@ use Rattle.hsr_node.specs.declared.entry.Entry.{Entry}
 use Rattle.hsr_node.specs.declared.event.Event.{Event}
 use Rattle.hsr_node.specs.declared.event.Event.TheVariants.{Send, Supervise, Arrive, Age}
 use Rattle.hsr_node.specs.declared.event.Probe.{Probe}
-use Rattle.hsr_law.specs.Budget.{IsInTime, Sent, is_sending, moment_at, moment_of, sends_at, sends_below, sends_of}
-use Rattle.hsr_law.specs.Run.{Run, past_of, record_of}
+use Rattle.hsr_run_laws.specs.Budget.{IsInTime, Sent, is_sending, moment_at, moment_of, sends_at, sends_below, sends_of}
+use Rattle.hsr_run_laws.specs.Run.{Run, past_of, record_of}
 use Rattle.hsr_audit.specs.Budgeted.{IsInTimeAt}
 use Rattle.hsr_audit.specs.Timed.{AreSendMoments, is_in_time, is_timely, is_timely_of, moment_in, moment_sent, moments_in, moments_of, moments_recorded, sent_moments, sent_moments_below}
-use Rattle.hsr_needed.proofs.Places.{past_length, past_more}
+use Rattle.hsr_table_demand.proofs.Places.{past_length, past_more}
 
 -- ---- one more entry
 
@@ -98,7 +98,7 @@ so_timely : (sent at : ℕ) → sent ≤ at → at < sent + 400000 → is_timely
 so_timely sent at since until = and_from (nat_le sent at) (nat_lt (at - sent) 400000) (le-leb sent at since) (lt-ltb (at - sent) 400000 (omega (arith, since, until)))
 
 in_time : (run : Run) (at : ℕ) (event : Event) → is_in_time (moments_of run) at event ≡ true → IsInTime run at event
-in_time run at (Send from dst vlan kind payload) h = tt
+in_time run at (Send from dst vlan ethertype payload) h = tt
 in_time run at (Supervise about) h = tt
 in_time run at Age h = tt
 in_time run at (Arrive port copy) h = λ send named.
@@ -107,7 +107,7 @@ in_time run at (Arrive port copy) h = λ send named.
     subst Q (moment_is run send) (timely (moment_in (moments_of run) send) at (subst P named h))
 
 late : (run : Run) (at : ℕ) (event : Event) → is_in_time (moments_of run) at event ≡ false → IsInTime run at event → ⊥
-late run at (Send from dst vlan kind payload) h all = false≢true (sym h)
+late run at (Send from dst vlan ethertype payload) h all = false≢true (sym h)
 late run at (Supervise about) h all = false≢true (sym h)
 late run at Age h all = false≢true (sym h)
 late run at (Arrive port copy) h all = by_probe copy.probe h all

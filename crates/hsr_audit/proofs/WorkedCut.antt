@@ -21,13 +21,13 @@ use Rattle.hsr_link.specs.declared.row.Dir.{Dir}
 use Rattle.hsr_link.specs.declared.row.Dir.TheVariants.{Forth, Back}
 use Rattle.hsr_link.specs.declared.row.Fate.TheVariants.{LostDown}
 use Rattle.hsr_link.specs.declared.row.Row.{Row}
-use Rattle.hsr_law.specs.Closed.{HasLink, IsClosed, IsOfSend, IsSettled, PutAgrees, TakenAgrees}
-use Rattle.hsr_law.specs.Once.{IsExactlyOnce, delivers}
-use Rattle.hsr_law.specs.Premises.{IsRing, NothingForgotten, NothingMistaken, OneLossyLink, any_lost, is_mistaken, is_note_of, mac_at}
-use Rattle.hsr_law.specs.Run.{Run, owner_of, past_of, place_of, record_of, rows_of}
-use Rattle.hsr_law.proofs.Once.{exactly_once}
-use Rattle.hsr_law.proofs.Worked.{copy, entry, far, frame, group, join, judged, mac, nothing_else, of_tagged, row, tagged_copy}
-use Rattle.hsr_law.proofs.WorkedRing as whole
+use Rattle.hsr_run_laws.specs.Closed.{HasLink, IsClosed, IsOfSend, IsSettled, PutAgrees, TakenAgrees}
+use Rattle.hsr_run_laws.specs.Once.{IsExactlyOnce, delivers}
+use Rattle.hsr_run_laws.specs.Premises.{IsRing, NothingForgotten, NothingMistaken, OneLossyLink, any_lost, is_mistaken, is_note_of, mac_at}
+use Rattle.hsr_run_laws.specs.Run.{Run, owner_of, past_of, place_of, record_of, rows_of}
+use Rattle.hsr_run_laws.proofs.Once.{exactly_once}
+use Rattle.hsr_run_laws.proofs.Worked.{copy, entry, far, frame, group, join, judged, mac, nothing_else, of_tagged, row, tagged_copy}
+use Rattle.hsr_run_laws.proofs.WorkedRing as whole
 
 -- the copy of a path is lost on its way
 abbrev lost : Dir → ℕ → Row

@@ -9,11 +9,11 @@ use Rattle.hsr_node.specs.Record.{Each, now}
 use Rattle.hsr_node.specs.declared.event.Probe.{Probe}
 use Rattle.hsr_link.specs.Rows.{put_copies}
 use Rattle.hsr_link.specs.declared.row.Dir.{Dir}
-use Rattle.hsr_law.specs.Budget.{IsBudgetHeld, IsInTime, is_within, sends_of}
-use Rattle.hsr_law.specs.Once.{IsExactlyOnce, is_copy}
-use Rattle.hsr_law.specs.Premises.{HasNoRedBox, IsRing, NothingForgotten, NothingMistaken, NumberedFirst, OneLossyLink}
-use Rattle.hsr_law.specs.Run.{Run, past_of, record_of, rows_of}
-use Rattle.hsr_premises.specs.Flaws.{HoldsAt, IsFirstNot}
+use Rattle.hsr_run_laws.specs.Budget.{IsBudgetHeld, IsInTime, is_within, sends_of}
+use Rattle.hsr_run_laws.specs.Once.{IsExactlyOnce, is_copy}
+use Rattle.hsr_run_laws.specs.Premises.{HasNoRedBox, IsRing, NothingForgotten, NothingMistaken, NumberedFirst, OneLossyLink}
+use Rattle.hsr_run_laws.specs.Run.{Run, past_of, record_of, rows_of}
+use Rattle.hsr_table_flaws.specs.Flaws.{HoldsAt, IsFirstNot}
 use Rattle.hsr_audit.specs.declared.breach.BudgetFault.{BudgetFault}
 use Rattle.hsr_audit.specs.declared.breach.BudgetFault.TheVariants.{Late, Crowded, NoMemory}
 

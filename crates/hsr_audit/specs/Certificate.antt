@@ -10,8 +10,8 @@ use Rattle.hsr_node.specs.Record.{Owner}
 use Rattle.hsr_node.specs.declared.entry.Entry.{Entry}
 use Rattle.hsr_node.specs.declared.event.Probe.{Probe}
 use Rattle.hsr_audit.specs.Danhs.{IsPremised}
-use Rattle.hsr_law.specs.Once.{IsExactlyOnce, is_addressed}
-use Rattle.hsr_law.specs.Run.{Run, owner_of, past_of}
+use Rattle.hsr_run_laws.specs.Once.{IsExactlyOnce, is_addressed}
+use Rattle.hsr_run_laws.specs.Run.{Run, owner_of, past_of}
 
 -- a send, and the nodes that it is for
 pub record Certified : Type 0 where

@@ -10,11 +10,11 @@ use Rattle.hsr_node.specs.declared.event.Probe.{Probe}
 use Rattle.hsr_node.specs.declared.place.Place.{Place}
 use Rattle.hsr_node.specs.declared.sending.Sending.{Sending}
 use Rattle.hsr_deliveries.specs.Delivered.{is_due}
-use Rattle.hsr_law.specs.Premises.{is_redbox}
-use Rattle.hsr_law.specs.Run.{Run, place_of}
-use Rattle.hsr_network_law.specs.Network.{Way, is_station, start_of, stop_of}
-use Rattle.hsr_network_law.specs.Stations.{FindsEach}
-use Rattle.hsr_network_law.specs.Ways.{Carries, IsReached}
+use Rattle.hsr_run_laws.specs.Premises.{is_redbox}
+use Rattle.hsr_run_laws.specs.Run.{Run, place_of}
+use Rattle.hsr_network_laws.specs.Network.{Channel, is_station, start_of, stop_of}
+use Rattle.hsr_network_laws.specs.Stations.{FindsEach}
+use Rattle.hsr_network_laws.specs.Channels.{Carries, IsReached}
 
 -- ---- to a node
 
@@ -22,17 +22,17 @@ use Rattle.hsr_network_law.specs.Ways.{Carries, IsReached}
 abbrev pub is_to_station : Fields → Place → Bool
 is_to_station frame place = not (is_group frame.dst) && is_station place
 
--- A way ends at a node, and lost no copy of a send. It starts at the sender, or at a RedBox that the send reaches.
-pub record IsLastWay (run : Run) (send : Probe) (frame : Fields) (k : ℕ) (way : Way) : Type 0 where
-  pub carries : Carries run send way
-  pub here : (stop_of run way).node ≡ k
-  pub comes : ((start_of run way).node ≡ send.node) ⊎ ((is_redbox (place_of run (start_of run way).node) ≡ true) × IsReached run send frame (start_of run way).node)
+-- A channel ends at a node, and lost no copy of a send. It starts at the sender, or at a RedBox that the send reaches.
+pub record IsLastChannel (run : Run) (send : Probe) (frame : Fields) (k : ℕ) (channel : Channel) : Type 0 where
+  pub carries : Carries run send channel
+  pub here : (stop_of run channel).node ≡ k
+  pub comes : ((start_of run channel).node ≡ send.node) ⊎ ((is_redbox (place_of run (start_of run channel).node) ≡ true) × IsReached run send frame (start_of run channel).node)
 
 -- A send comes to each node that it reaches; but a frame to one address comes to a Station by the node that the Station is joined
 -- with, whatever that one knew.
 pub record Comes (run : Run) (send : Probe) (frame : Fields) (k : ℕ) : Type 0 where
   pub ring : is_to_station frame (place_of run k) ≡ false → IsReached run send frame k
-  pub below : is_to_station frame (place_of run k) ≡ true → (way : Way) × IsLastWay run send frame k way
+  pub below : is_to_station frame (place_of run k) ≡ true → (channel : Channel) × IsLastChannel run send frame k channel
 
 -- ---- known
 
@@ -40,11 +40,11 @@ pub record Comes (run : Run) (send : Probe) (frame : Fields) (k : ℕ) : Type 0 
 pub record IsBoxOf (run : Run) (sender : ℕ) (frame : Fields) (k : ℕ) : Type 0 where
   pub node : k < length run.places
   pub box : is_redbox (place_of run k) ≡ true
-  pub way : Way
-  pub below : way.link < length run.links
-  pub starts : (start_of run way).node ≡ k
-  pub station : is_to_station frame (place_of run (stop_of run way).node) ≡ true
-  pub due : is_due run sender frame.dst frame.kind (stop_of run way).node ≡ true
+  pub channel : Channel
+  pub below : channel.link < length run.links
+  pub starts : (start_of run channel).node ≡ k
+  pub station : is_to_station frame (place_of run (stop_of run channel).node) ≡ true
+  pub due : is_due run sender frame.dst frame.kind (stop_of run channel).node ≡ true
 
 -- such a RedBox knew the destination each time that it handled the send
 abbrev pub IsKnown : Run → Probe → Sending → Type 0

@@ -7,8 +7,8 @@ use Rattle.hsr_frame.specs.declared.node.Mode.{Mode}
 use Rattle.hsr_frame.specs.declared.node.Mode.TheVariants.{N}
 use Rattle.hsr_node.specs.declared.place.Place.{Place}
 use Rattle.hsr_node.specs.declared.place.Place.TheVariants.{Danh, RedBox, QuadBox, Station}
-use Rattle.hsr_law.specs.Premises.{IsRing, Joins, NothingForgotten, NothingMistaken, OneLossyLink}
-use Rattle.hsr_law.specs.Run.{Run, ends_of, place_of}
+use Rattle.hsr_run_laws.specs.Premises.{IsRing, Joins, NothingForgotten, NothingMistaken, OneLossyLink}
+use Rattle.hsr_run_laws.specs.Run.{Run, ends_of, place_of}
 
 -- ---- nodes and links
 

@@ -1,17 +1,17 @@
 -- Why a run can't be certified: when each doubt is so, and the doubts of each scope in their order.
 --     IsSo                  when a doubt is so
---     Row                   a row of a table: the number of a kind of doubt, and what holds of a run that is clear of it
+--     Row, clears           a row of a table: a kind of doubt, and what holds of a run that is clear of it
 --     of_ring, of_network   the table of each audit
 --     IsFirst               a doubt of a table is so, and the run is clear of those before it
 use Rattle.std.specs.Prelude.{ℕ, ◌<◌, ◌==◌, Bool, true, false, List, [], ◌∷◌, length}
-use Rattle.hsr_law.specs.Premises.{NothingForgotten, NothingMistaken, OneLossyLink}
-use Rattle.hsr_law.specs.Run.{Run}
-use Rattle.hsr_network_law.specs.Late.{NothingLate}
-use Rattle.hsr_network_law.specs.Network.{IsNetwork}
-use Rattle.hsr_premises.specs.Flaws.{IsFirstNot, IsInTimeAt, KnowsOwnAt, RemembersAt}
-use Rattle.hsr_premises.specs.declared.flaw.Flaw.{Flaw}
-use Rattle.hsr_premises.specs.declared.flaw.Flaw.TheVariants as flaw
-use Rattle.hsr_ways.specs.Networks.{AreGoingRound, HaveOwnAddresses, IsFirstUnlike}
+use Rattle.hsr_run_laws.specs.Premises.{NothingForgotten, NothingMistaken, OneLossyLink}
+use Rattle.hsr_run_laws.specs.Run.{Run}
+use Rattle.hsr_network_laws.specs.Late.{NothingLate}
+use Rattle.hsr_network_laws.specs.Network.{IsNetwork}
+use Rattle.hsr_table_flaws.specs.Flaws.{IsFirstNot, IsInTimeAt, KnowsOwnAt, RemembersAt}
+use Rattle.hsr_table_flaws.specs.declared.flaw.Flaw.{Flaw}
+use Rattle.hsr_table_flaws.specs.declared.flaw.Flaw.TheVariants as flaw
+use Rattle.hsr_reach.specs.Networks.{AreGoingRound, HaveOwnAddresses, IsFirstUnlike}
 use Rattle.hsr_audit.specs.Danhs.{IsDanhRing}
 use Rattle.hsr_audit.specs.Sends.{AreKnown, ArePromised, AreServed, HasSend, IsCoveredAt, IsCutOff, IsKnownAt, IsServedAt}
 use Rattle.hsr_audit.specs.declared.doubt.AuditFault.{AuditFault}
@@ -53,23 +53,27 @@ IsSo run (Uncovered k i) = IsFirstNot run (IsCoveredAt run) k i
 
 -- ---- tables
 
--- the doubts of a number, and what holds of a run that gives none of them
+-- a kind of doubt by its number, and what holds of a run that gives none of that kind
 pub record Row : Type 1 where
   pub number : ℕ
   pub IsClear : Run → Type 0
 
-abbrev pub row : ℕ → (Run → Type 0) → Row
-row n P = record { number = n; IsClear = P }
+-- A doubt stands here for all of its kind: which node, place or link it names is the same to a table.
+abbrev pub clears : Doubt → (Run → Type 0) → Row
+clears doubt P = record { number = number doubt; IsClear = P }
 
 -- the doubts of a ring's audit
 abbrev pub of_ring : List Row
-of_ring = row 0 IsDanhRing ∷ row 2 AreGoingRound ∷ row 3 HaveOwnAddresses ∷ row 5 OneLossyLink ∷ row 6 NothingForgotten ∷ row 7 NothingMistaken ∷ []
+of_ring =
+    clears NotRing IsDanhRing ∷ clears Mode AreGoingRound ∷ clears SameAddress HaveOwnAddresses ∷ clears TwoLinks OneLossyLink
+    ∷ clears (Forgot 0 0) NothingForgotten ∷ clears (Mistaken 0 0) NothingMistaken ∷ []
 
 -- the doubts of a network's audit
 abbrev pub of_network : List Row
 of_network =
-    row 1 HasSend ∷ row 2 AreGoingRound ∷ row 3 HaveOwnAddresses ∷ row 4 IsNetwork ∷ row 6 NothingForgotten ∷ row 7 NothingMistaken
-    ∷ row 8 NothingLate ∷ row 9 AreServed ∷ row 10 AreKnown ∷ row 11 ArePromised ∷ []
+    clears Empty HasSend ∷ clears Mode AreGoingRound ∷ clears SameAddress HaveOwnAddresses ∷ clears (Side 0) IsNetwork
+    ∷ clears (Forgot 0 0) NothingForgotten ∷ clears (Mistaken 0 0) NothingMistaken ∷ clears (NumberedLate 0 0) NothingLate
+    ∷ clears (CutOff 0 0 0) AreServed ∷ clears (UnknownStation 0 0) AreKnown ∷ clears (Uncovered 0 0) ArePromised ∷ []
 
 -- ---- the first doubt
 
@@ -112,7 +116,7 @@ abbrev pub IsRefused : Type 0 → AuditFault → Type 0
 IsRefused P (fault.Doubt doubt) = ¬ P
 IsRefused P fault.NoMemory = Unit {0}
 
--- ---- as hsr_premises says it
+-- ---- as hsr_table_flaws says it
 
 abbrev pub doubt_at : Flaw → Doubt
 doubt_at (flaw.Forgot k i) = Forgot k i

@@ -9,7 +9,7 @@ use Rattle.hsr_node.specs.declared.entry.Entry.{Entry}
 use Rattle.hsr_node.specs.declared.event.Probe.{Probe}
 use Rattle.hsr_node.specs.declared.place.Place.{Place}
 use Rattle.hsr_audit.specs.Certificate.{Certified, certified_in, receivers}
-use Rattle.hsr_law.specs.Once.{is_addressed}
+use Rattle.hsr_run_laws.specs.Once.{is_addressed}
 
 -- a frame of which the destination alone counts
 abbrev pub frame_to : List ℕ → Fields

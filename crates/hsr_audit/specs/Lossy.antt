@@ -1,16 +1,16 @@
--- The ways on which a send lost copies.
+-- The channels on which a send lost copies.
 use Rattle.std.specs.Prelude.{ℕ, ◌<◌, ◌≡◌, ◌==◌, ◌&&◌, Bool, List}
 use Rattle.std.specs.List.{list_any}
 use Rattle.hsr_link.specs.Rows.{is_same_dir}
 use Rattle.hsr_deliveries.specs.declared.loss.Loss.{Loss}
-use Rattle.hsr_network_law.specs.Network.{Way}
-use Rattle.hsr_numbers.specs.Numbers.{has}
-use Rattle.hsr_ways.specs.Numbered.{number_of}
+use Rattle.hsr_network_laws.specs.Network.{Channel}
+use Rattle.hsr_bitset.specs.Numbers.{has}
+use Rattle.hsr_reach.specs.Numbered.{number_of}
 
--- a copy was lost on a way
-abbrev pub is_on : Way → Loss → Bool
-is_on way loss = (loss.link == way.link) && is_same_dir way.dir loss.dir
+-- a copy was lost on a channel
+abbrev pub is_on : Channel → Loss → Bool
+is_on channel loss = (loss.link == channel.link) && is_same_dir channel.dir loss.dir
 
--- a set has just the ways, of the first 256 links, of these losses
+-- a set has just the channels, of the first 256 links, of these losses
 abbrev pub AreWaysOf : List Loss → List ℕ → Type 0
-AreWaysOf losses set = (way : Way) → way.link < 256 → has set (number_of way) ≡ list_any (is_on way) losses
+AreWaysOf losses set = (channel : Channel) → channel.link < 256 → has set (number_of channel) ≡ list_any (is_on channel) losses

@@ -15,11 +15,11 @@ use Rattle.hsr_node.specs.declared.sending.Sending.{Sending}
 use Rattle.hsr_link.specs.declared.row.Dir.TheVariants.{Forth}
 use Rattle.hsr_topology.specs.declared.end.End.{End}
 use Rattle.hsr_deliveries.specs.Delivered.{is_for}
-use Rattle.hsr_law.specs.Closed.{IsSend}
-use Rattle.hsr_law.specs.Premises.{is_redbox}
-use Rattle.hsr_law.specs.Run.{Run, from_end, is_of, owner_of, past_of, record_of, to_end}
-use Rattle.hsr_network_law.specs.Stations.{finds}
-use Rattle.hsr_premises.specs.Flaws.{IsFirstNot}
+use Rattle.hsr_run_laws.specs.Closed.{IsSend}
+use Rattle.hsr_run_laws.specs.Premises.{is_redbox}
+use Rattle.hsr_run_laws.specs.Run.{Run, from_end, is_of, owner_of, past_of, record_of, to_end}
+use Rattle.hsr_network_laws.specs.Stations.{finds}
+use Rattle.hsr_table_flaws.specs.Flaws.{IsFirstNot}
 use Rattle.hsr_audit.specs.Coming.{IsBoxOf, is_to_station}
 use Rattle.hsr_audit.specs.Sends.{AreKnown, IsKnownAt}
 

@@ -4,9 +4,9 @@ use Rattle.std.specs.List.{AllByRecursion}
 use Rattle.hsr_node.specs.declared.event.Probe.{Probe}
 use Rattle.hsr_node.specs.declared.sending.Sending.{Sending}
 use Rattle.hsr_deliveries.specs.Delivered.{Delivery, IsComplete, deliveries, is_due, times}
-use Rattle.hsr_law.specs.Closed.{IsSend}
-use Rattle.hsr_law.specs.Run.{Run}
-use Rattle.hsr_network_law.specs.Delivered.{IsOnceInNetwork}
+use Rattle.hsr_run_laws.specs.Closed.{IsSend}
+use Rattle.hsr_run_laws.specs.Run.{Run}
+use Rattle.hsr_network_laws.specs.Delivered.{IsOnceInNetwork}
 use Rattle.hsr_audit.specs.Doubts.{IsNetworkPremised}
 
 -- each node that a send is due at took it up just once

@@ -1,7 +1,7 @@
 -- A fact of each place of each record, and where it fails first.
 use Rattle.std.specs.Prelude.{ℕ, ◌<◌, length, Option, Some, None}
-use Rattle.hsr_law.specs.Run.{Run, record_of}
-use Rattle.hsr_premises.specs.Flaws.{IsFirstNot}
+use Rattle.hsr_run_laws.specs.Run.{Run, record_of}
+use Rattle.hsr_table_flaws.specs.Flaws.{IsFirstNot}
 
 abbrev pub HoldsBelow : (ℕ → ℕ → Type 0) → ℕ → ℕ → Type 0
 HoldsBelow P k n = (i : ℕ) → i < n → P k i

@@ -3,13 +3,13 @@ use Rattle.std.specs.Prelude.{ℕ, ◌<◌, ◌≡◌, ◌↔◌, ◌==◌, ◌&
 use Rattle.hsr_frame.specs.Grammar.{Fields}
 use Rattle.hsr_node.specs.declared.event.Probe.{Probe}
 use Rattle.hsr_deliveries.specs.Delivered.{is_due}
-use Rattle.hsr_law.specs.Premises.{is_redbox}
-use Rattle.hsr_law.specs.Run.{Run, place_of}
-use Rattle.hsr_network_law.specs.Network.{Way, start_of, stop_of}
-use Rattle.hsr_network_law.specs.Ways.{IsReached}
-use Rattle.hsr_numbers.specs.Numbers.{has}
-use Rattle.hsr_premises.specs.Flaws.{IsFirstNot}
-use Rattle.hsr_ways.specs.Numbered.{IsLossOf, number_of}
+use Rattle.hsr_run_laws.specs.Premises.{is_redbox}
+use Rattle.hsr_run_laws.specs.Run.{Run, place_of}
+use Rattle.hsr_network_laws.specs.Network.{Channel, start_of, stop_of}
+use Rattle.hsr_network_laws.specs.Channels.{IsReached}
+use Rattle.hsr_bitset.specs.Numbers.{has}
+use Rattle.hsr_table_flaws.specs.Flaws.{IsFirstNot}
+use Rattle.hsr_reach.specs.Numbered.{IsLossOf, number_of}
 use Rattle.hsr_audit.specs.Coming.{Comes}
 use Rattle.hsr_audit.specs.Sends.{IsCutOff, IsServedAt}
 use Rattle.hsr_audit.specs.Placed.{HoldsBelow, HoldsIn, IsFirstOf}
@@ -19,15 +19,15 @@ use Rattle.hsr_audit.specs.declared.cutoff.Spread.{Spread}
 abbrev pub AreReached : Run → Probe → Fields → List ℕ → Type 0
 AreReached run send frame nodes = (k : ℕ) → k < length run.places → (has nodes k ≡ true) ↔ IsReached run send frame k
 
--- the nodes that a send reaches, and the ways on which copies of it were lost
+-- the nodes that a send reaches, and the channels on which copies of it were lost
 pub record IsSpreadOf (run : Run) (send : Probe) (frame : Fields) (spread : Spread) : Type 0 where
   pub nodes : AreReached run send frame spread.nodes
   pub lossy : IsLossOf run send spread.lossy
 
--- by these a way ends at a node, lost no copy of a send, and starts at its sender or at a RedBox that it reaches
-abbrev pub is_last_in : Run → ℕ → Spread → ℕ → Way → Bool
-is_last_in run sender spread k way =
-    (((stop_of run way).node == k) && not (has spread.lossy (number_of way))) && (((start_of run way).node == sender) || (is_redbox (place_of run (start_of run way).node) && has spread.nodes (start_of run way).node))
+-- by these a channel ends at a node, lost no copy of a send, and starts at its sender or at a RedBox that it reaches
+abbrev pub is_last_in : Run → ℕ → Spread → ℕ → Channel → Bool
+is_last_in run sender spread k channel =
+    (((stop_of run channel).node == k) && not (has spread.lossy (number_of channel))) && (((start_of run channel).node == sender) || (is_redbox (place_of run (start_of run channel).node) && has spread.nodes (start_of run channel).node))
 
 -- ---- one send
 

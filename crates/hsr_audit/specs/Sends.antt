@@ -9,9 +9,9 @@ use Rattle.hsr_frame.specs.Grammar.{Fields}
 use Rattle.hsr_node.specs.declared.event.Probe.{Probe}
 use Rattle.hsr_node.specs.declared.sending.Sending.{Sending}
 use Rattle.hsr_deliveries.specs.Delivered.{is_due}
-use Rattle.hsr_law.specs.Closed.{IsSend}
-use Rattle.hsr_law.specs.Run.{Run}
-use Rattle.hsr_network_law.specs.Lives.{is_joined_with_station}
+use Rattle.hsr_run_laws.specs.Closed.{IsSend}
+use Rattle.hsr_run_laws.specs.Run.{Run}
+use Rattle.hsr_network_laws.specs.Lives.{is_joined_with_station}
 use Rattle.hsr_audit.specs.Coming.{Comes, IsKnown}
 
 -- ---- one send

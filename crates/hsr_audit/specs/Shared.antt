@@ -8,14 +8,14 @@ use Rattle.hsr_frame.specs.Address.{is_same_address}
 use Rattle.hsr_frame.specs.Grammar.{Fields}
 use Rattle.hsr_node.specs.declared.event.Probe.{Probe}
 use Rattle.hsr_deliveries.specs.Delivered.{lost}
-use Rattle.hsr_law.specs.Run.{Run}
+use Rattle.hsr_run_laws.specs.Run.{Run}
 use Rattle.hsr_audit.specs.Reaching.{AreReached}
 
 abbrev pub found_of : {S : Type 0} → IndexMap (List ℕ × ℕ) (List ℕ) S → List ℕ → ℕ → Option (List ℕ)
-found_of found dst kind = get (λ x y. is_same_address x.0 y.0 && nat_eq x.1 y.1) found (dst, kind)
+found_of found dst ethertype = get (λ x y. is_same_address x.0 y.0 && nat_eq x.1 y.1) found (dst, ethertype)
 
 abbrev pub ReachAlike : Run → ℕ → List ℕ → ℕ → List ℕ → Type 0
-ReachAlike run node dst kind nodes = (send : Probe) (frame : Fields) → send.node ≡ node → frame.dst ≡ dst → frame.kind ≡ kind → lost run send ≡ [] → AreReached run send frame nodes
+ReachAlike run node dst ethertype nodes = (send : Probe) (frame : Fields) → send.node ≡ node → frame.dst ≡ dst → frame.kind ≡ ethertype → lost run send ≡ [] → AreReached run send frame nodes
 
 abbrev pub AreFound : {S : Type 0} → Run → ℕ → IndexMap (List ℕ × ℕ) (List ℕ) S → Type 0
-AreFound run node found = (dst : List ℕ) (kind : ℕ) → IfSome (found_of found dst kind) (ReachAlike run node dst kind)
+AreFound run node found = (dst : List ℕ) (ethertype : ℕ) → IfSome (found_of found dst ethertype) (ReachAlike run node dst ethertype)

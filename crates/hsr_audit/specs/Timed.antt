@@ -12,8 +12,8 @@ use Rattle.hsr_node.specs.declared.entry.Entry.{Entry}
 use Rattle.hsr_node.specs.declared.event.Event.{Event}
 use Rattle.hsr_node.specs.declared.event.Event.TheVariants.{Arrive}
 use Rattle.hsr_node.specs.declared.event.Probe.{Probe}
-use Rattle.hsr_law.specs.Budget.{Sent, is_sending, sends_of}
-use Rattle.hsr_law.specs.Run.{Run, past_of, record_of}
+use Rattle.hsr_run_laws.specs.Budget.{Sent, is_sending, sends_of}
+use Rattle.hsr_run_laws.specs.Run.{Run, past_of, record_of}
 use Rattle.hsr_audit.specs.Budgeted.{IsInTimeAt}
 
 -- ---- moments

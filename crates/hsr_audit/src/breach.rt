@@ -17,6 +17,6 @@ pub enum BudgetFault {
     /// In the 800000 microseconds from this moment on there are more sends than a table has entries. The least such moment
     /// of a send is named.
     Crowded { moment: u64 },
-    /// Room was refused.
+    /// Allocation failed.
     NoMemory,
 }

@@ -1,16 +1,16 @@
 //! Whether a duplicate table is large enough for what a run sent.
 ghost use Rattle.std.specs.Prelude.{IfErr, IfOk};
-ghost use Rattle.hsr_closing.specs.Finished.{IsFinished};
-ghost use Rattle.hsr_law.specs.Budget.{IsBudgetHeld};
+ghost use Rattle.hsr_finished_run.specs.Finished.{IsFinished};
+ghost use Rattle.hsr_run_laws.specs.Budget.{IsBudgetHeld};
 ghost use Rattle.hsr_audit.specs.Budgeted.{IsEnough, IsFirstBreach, IsMost, IsOverspent};
 
 use crate::breach::{Budget, BudgetFault};
 use crate::late::first_late;
 use crate::moments::moments_of;
-use hsr_closing::Closed;
+use hsr_finished_run::Closed;
 use hsr_frame::NoMemory;
-use hsr_law::{boxless, budget_keeps, budget_tells, no_storm, once_in_budget};
-use hsr_windows::{most_crowded, most_of};
+use hsr_run_laws::{boxless, budget_keeps, budget_tells, no_storm, once_in_budget};
+use hsr_table_demand::{most_crowded, most_of};
 use std::alloc::Global;
 
 /// The budget of a run, or the first reason why the run isn't within it.
@@ -23,6 +23,7 @@ fn budget_of<const C: usize>(alloc: Global, closed: &Closed<C>) -> Result<Budget
     let Ok(moments) = moments_of(alloc, closed) else {
         return Err(BudgetFault::NoMemory);
     };
+    // A late arrival is named before a crowded window, whatever the moments (RULES, The report).
     if let Some((node, place)) = first_late(closed, &moments.records) {
         return Err(BudgetFault::Late { node, place });
     }
@@ -35,7 +36,7 @@ fn budget_of<const C: usize>(alloc: Global, closed: &Closed<C>) -> Result<Budget
 /// Whether duplicate tables of C entries are large enough for what a finished run sent, and how many sends came together at
 /// most. The run is within budget where each arrival's effective moment is its send's or less than 400000 microseconds
 /// later, and in no 800000 microseconds from a send on there were more than C sends, of all nodes and of every kind. Else
-/// the first late arrival is named, or the first crowded moment. `NoMemory` where room is refused.
+/// the first late arrival is named, or the first crowded moment. `NoMemory` if allocation fails.
 ///
 /// Within budget no table forgot an entry that was needed, in whatever order threads or drains moved the copies
 /// (IEC 62439-3 clause 5), and no direction of a link carried a frame twice. That holds where there are no RedBoxes, and
@@ -52,6 +53,7 @@ pub fn budget<const C: usize>(alloc: Global, closed: &Closed<C>) -> Result<Budge
     ensures first { IfErr result (IsFirstBreach closed.now.run) }
     ensures refused { IfErr result (IsOverspent closed.now.run) }
 {
+    // Laws: they do nothing when they run, and give the clauses above their proofs.
     budget_keeps();
     budget_tells();
     once_in_budget();
@@ -60,8 +62,9 @@ pub fn budget<const C: usize>(alloc: Global, closed: &Closed<C>) -> Result<Budge
     budget_of(alloc, closed)
 }
 
-/// The greatest number of sends of all nodes and of every kind in the 800000 microseconds that begin at the effective moment of a send; 0
-/// where nothing was sent. A table with so many entries isn't crowded by this run. `NoMemory` where room is refused.
+/// The greatest number of sends of all nodes and of every kind in the 800000 microseconds that begin at the effective
+/// moment of a send; 0 where nothing was sent. A table with that many entries isn't crowded by this run. `NoMemory` if
+/// allocation fails.
 pub fn most_sends<const C: usize>(alloc: Global, closed: &Closed<C>) -> Result<usize, NoMemory>
     ensures { IfOk result (IsMost closed.now.run) }
 {

@@ -53,7 +53,8 @@ fn is_for(mac: Mac, dst: Mac, sender: usize, node: usize) -> bool
 /// The nodes that a frame is for.
 #[tactic(auto, using(crate::proofs::Certifying::receivers_more))]
 fn receivers(alloc: Global, macs: &[Mac], sender: usize, dst: Mac) -> Result<Vec<usize>, NoMemory>
-    ensures { IfOk result (λ nodes. nodes.items ≡ receivers_below macs.now sender dst (length macs.now)) }
+    ensures { IfOk result (λ nodes. nodes.items ≡ receivers_below macs.now sender dst
+        (length macs.now)) }
 {
     let mut nodes = Vec::new(alloc);
     for (node, mac) in macs.iter().enumerate() {
@@ -72,7 +73,8 @@ fn list_entry(
     place: &Place,
     x: &Entry,
 ) -> Result<(), NoMemory>
-    ensures { OnOk result (sends.new.items ≡ sends.old.items ++ listed_by macs.now probe place.now x.now) }
+    ensures { OnOk result (sends.new.items ≡ sends.old.items
+        ++ listed_by macs.now probe place.now x.now) }
 {
     let Some(dst) = sent_to(place, x) else {
         return Ok(());
@@ -92,7 +94,8 @@ pub(crate) fn list_record(
     place: &Place,
     entries: &[Entry],
 ) -> Result<(), NoMemory>
-    ensures { OnOk result (sends.new.items ≡ sends.old.items ++ listed_at macs.now number place.now entries.now (length entries.now)) }
+    ensures { OnOk result (sends.new.items ≡ sends.old.items
+        ++ listed_at macs.now number place.now entries.now (length entries.now)) }
 {
     for (i, x) in entries.iter().enumerate() {
         let probe = Probe {

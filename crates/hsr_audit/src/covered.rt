@@ -1,10 +1,10 @@
 //! Which sends the law of networks covers, and which are to Stations.
 ghost use Rattle.std.specs.Prelude.{◌≡◌, ◌&&◌, not};
 ghost use Rattle.hsr_frame.specs.Egress as egress;
-ghost use Rattle.hsr_law.specs.Premises.{is_redbox};
+ghost use Rattle.hsr_run_laws.specs.Premises.{is_redbox};
 ghost use Rattle.hsr_audit.specs.Coming.{is_to_station};
-ghost use Rattle.hsr_network_law.specs.Lives.{is_joined_with_station, is_station_at, joins_stations};
-ghost use Rattle.hsr_network_law.specs.Network.{is_station};
+ghost use Rattle.hsr_network_laws.specs.Lives.{is_joined_with_station, is_station_at, joins_stations};
+ghost use Rattle.hsr_network_laws.specs.Network.{is_station};
 
 use hsr_frame::is_supervision;
 use hsr_node::Place;
@@ -57,7 +57,8 @@ fn is_joined_with_station(places: &[Place], links: &[[End; 2]], node: usize) -> 
 
 /// Whether a frame that a node sends isn't supervision of a Station that is joined with a Station.
 pub(crate) fn is_promised(topology: &Topology, sender: usize, frame: &FrameView<'_>) -> bool
-    ensures { result ≡ not (egress.is_supervision frame.now.dst frame.now.kind && is_joined_with_station topology.now.places topology.now.links sender) }
+    ensures { result ≡ not (egress.is_supervision frame.now.dst frame.now.kind
+        && is_joined_with_station topology.now.places topology.now.links sender) }
 {
     let (places, links) = (topology.places(), topology.links());
     !(is_supervision(frame.dst, frame.kind) && is_joined_with_station(places, links, sender))

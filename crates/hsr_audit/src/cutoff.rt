@@ -1,26 +1,26 @@
 //! The first send that doesn't come to a node that it is due at.
 ghost use Rattle.std.specs.Prelude.{◌≡◌, ◌↔◌, ◌<◌, [], length, IfOk, IsTrue, OnOk};
 ghost use Rattle.hsr_deliveries.specs.Delivered.{lost};
-ghost use Rattle.hsr_law.specs.Premises.{is_redbox};
-ghost use Rattle.hsr_law.specs.Run.{place_of, record_of};
+ghost use Rattle.hsr_run_laws.specs.Premises.{is_redbox};
+ghost use Rattle.hsr_run_laws.specs.Run.{place_of, record_of};
 ghost use Rattle.hsr_audit.specs.Coming.{Comes};
 ghost use Rattle.hsr_audit.specs.Reaching.{AreReached, IsCutAt, IsCutIn, IsFirstCut, IsFirstUnserved, IsSpreadOf, is_last_in};
 ghost use Rattle.hsr_audit.specs.Shared.{AreFound};
-ghost use Rattle.hsr_network_law.specs.Network.{start_of};
-ghost use Rattle.hsr_ways.specs.Numbered.{IsLossOf};
+ghost use Rattle.hsr_network_laws.specs.Network.{start_of};
+ghost use Rattle.hsr_reach.specs.Numbered.{IsLossOf};
 
 use crate::covered::{is_redbox, is_to_station};
-use crate::lossy::ways_of;
+use crate::lossy::channels_of;
 use crate::sends::send_at;
 use crate::shared::{Found, found_of, keep};
-use hsr_closing::Closed;
+use hsr_bitset::Numbers;
 use hsr_deliveries::{Loss, Losses, is_due};
+use hsr_finished_run::Closed;
 use hsr_frame::NoMemory;
 use hsr_link::Dir;
 use hsr_node::{Place, Probe};
-use hsr_numbers::Numbers;
+use hsr_reach::{Channel, Channels};
 use hsr_tag::FrameView;
-use hsr_ways::{Way, Ways};
 use indexmap::IndexMap;
 use std::alloc::Global;
 use std::marker::Model;
@@ -33,40 +33,40 @@ pub(crate) struct Cut {
     pub(crate) receiver: usize,
 }
 
-/// The nodes that a send reaches, and the ways on which copies of it were lost, by their numbers.
+/// The nodes that a send reaches, and the channels on which copies of it were lost, by their numbers.
 #[derive(Clone, Copy)]
 struct Spread {
     nodes: Numbers,
     lossy: Numbers,
 }
 
-/// A finished run, the ways that start at each of its nodes, and the losses of each of its sends.
+/// A finished run, the channels that start at each of its nodes, and the losses of each of its sends.
 #[derive(Drop)]
 pub(crate) struct Reach<'a, const C: usize> {
     closed: &'a Closed<C>,
-    ways: Ways<'a, C>,
+    channels: Channels<'a, C>,
     losses: Losses<'a, C>,
 }
 
 impl<'a, const C: usize> Model for Reach<'a, C> {
     ghost use Rattle.std.specs.Prelude.{◌≡◌};
-    ghost use Rattle.hsr_law.specs.Run.{Run};
+    ghost use Rattle.hsr_run_laws.specs.Run.{Run};
 
     ghost Value = { Run };
 
     ghost view = { λ r. r.closed.now.run };
 
-    ghost invariant = { λ r. (r.ways ≡ r.closed.now.run) × (r.losses ≡ r.closed.now.run) };
+    ghost invariant = { λ r. (r.channels ≡ r.closed.now.run) × (r.losses ≡ r.closed.now.run) };
 }
 
 impl<'a, const C: usize> Reach<'a, C> {
-    /// What a finished run tells of ways and losses.
+    /// What a finished run tells of channels and losses.
     pub(crate) fn new(alloc: Global, closed: &'a Closed<C>) -> Result<Reach<'a, C>, NoMemory>
         ensures { IfOk result (λ reach. reach ≡ closed.now.run) }
     {
         Ok(Reach {
             closed,
-            ways: Ways::new(alloc, closed)?,
+            channels: Channels::new(alloc, closed)?,
             losses: Losses::new(alloc, closed)?,
         })
     }
@@ -79,25 +79,28 @@ impl<'a, const C: usize> Reach<'a, C> {
         &self.closed.topology().places()[node]
     }
 
-    /// The ways on which copies of a send were lost, where these are all its losses.
+    /// The channels on which copies of a send were lost, where these are all its losses.
     fn lossy(&self, send: Probe, losses: &[Loss]) -> Numbers
         requires { losses.now ≡ lost self.now send }
         ensures { IsLossOf self.now send result }
     {
+        // What it answers isn't used: its contract says that the run is finished, so it has 128 links at most, and the set
+        // each channel.
         let _ = self.closed.topology();
-        ways_of(losses)
+        channels_of(losses)
     }
 
-    /// The nodes that a send reaches, where it lost copies on these ways.
+    /// The nodes that a send reaches, where it lost copies on these channels.
     fn search(&self, send: Probe, frame: &FrameView<'_>, lossy: &Numbers) -> Numbers
         requires node { send.node < length self.now.places }
         requires lossy { IsLossOf self.now send lossy.now }
         ensures { AreReached self.now send frame.now result }
     {
-        self.ways.reached(send, frame, lossy)
+        self.channels.reached(send, frame, lossy)
     }
 
-    /// The nodes that a send reaches that lost nothing: those of an earlier one to its destination, of its type, if there was one.
+    /// The nodes that a send reaches that lost nothing: those of an earlier one to its destination, of its type, if
+    /// there was one.
     fn shared(
         &self,
         found: &mut Found,
@@ -112,6 +115,7 @@ impl<'a, const C: usize> Reach<'a, C> {
         ensures reached { IfOk result (λ nodes. AreReached self.now send frame.now nodes) }
         ensures found { OnOk result (AreFound self.now send.node found.new) }
     {
+        // Sends that lost nothing and go alike take the same channels, so they share a search.
         if let Some(nodes) = found_of(found, frame) {
             return Ok(nodes);
         }
@@ -120,8 +124,8 @@ impl<'a, const C: usize> Reach<'a, C> {
         Ok(nodes)
     }
 
-    /// The nodes that a send reaches, and the ways on which copies of it were lost, where these nodes were found of earlier sends of
-    /// its node.
+    /// The nodes that a send reaches, and the channels on which copies of it were lost, where these nodes were found of
+    /// earlier sends of its node.
     fn spread(
         &self,
         alloc: Global,
@@ -144,13 +148,13 @@ impl<'a, const C: usize> Reach<'a, C> {
         Ok(Spread { nodes, lossy })
     }
 
-    /// The node where a way starts.
-    fn start(&self, way: Way) -> usize
-        requires { way.link < length self.now.links }
-        ensures { result ≡ (start_of self.now way).node }
+    /// The node where a channel starts.
+    fn start(&self, channel: Channel) -> usize
+        requires { channel.link < length self.now.links }
+        ensures { result ≡ (start_of self.now channel).node }
     {
-        let [a, b] = self.closed.topology().links()[way.link];
-        match way.dir {
+        let [a, b] = self.closed.topology().links()[channel.link];
+        match channel.dir {
             Dir::Forth => a.node,
             Dir::Back => b.node,
         }
@@ -166,20 +170,21 @@ impl<'a, const C: usize> Reach<'a, C> {
         }
     }
 
-    /// Whether a way ends at a node and lost no copy of a send, and starts at its sender or at a RedBox that it reaches.
-    fn is_last(&self, sender: usize, spread: &Spread, node: usize, way: Way) -> bool
-        requires { way.link < length self.now.links }
-        ensures { result ≡ is_last_in self.now sender spread.now node way }
+    /// Whether a channel ends at a node and lost no copy of a send, and starts at its sender or at a RedBox that it reaches.
+    fn is_last(&self, sender: usize, spread: &Spread, node: usize, channel: Channel) -> bool
+        requires { channel.link < length self.now.links }
+        ensures { result ≡ is_last_in self.now sender spread.now node channel }
     {
+        // As above: a channel's number asks for few links.
         let _ = self.closed.topology();
-        let start = self.start(way);
-        self.ways.stop(way).node == node
-            && !spread.lossy.has(way.number())
+        let start = self.start(channel);
+        self.channels.stop(channel).node == node
+            && !spread.lossy.has(channel.number())
             && (start == sender || self.is_redbox(start) && spread.nodes.has(start))
     }
 
-    /// Whether a send comes to a node: whether it reaches it; but a frame to one address comes to a Station by the node that the
-    /// Station is joined with.
+    /// Whether a send comes to a node: whether it reaches it; but a frame to one address comes to a Station by the node
+    /// that the Station is joined with.
     fn comes(&self, send: Probe, frame: &FrameView<'_>, spread: &Spread, node: usize) -> bool
         requires node { node < length self.now.places }
         requires spread { IsSpreadOf self.now send frame.now spread.now }
@@ -191,8 +196,8 @@ impl<'a, const C: usize> Reach<'a, C> {
         }
         for link in 0..topology.links().len() {
             let (forth, back) = (Dir::Forth, Dir::Back);
-            if self.is_last(send.node, spread, node, Way { link, dir: forth })
-                || self.is_last(send.node, spread, node, Way { link, dir: back })
+            if self.is_last(send.node, spread, node, Channel { link, dir: forth })
+                || self.is_last(send.node, spread, node, Channel { link, dir: back })
             {
                 return true;
             }
@@ -243,6 +248,7 @@ impl<'a, const C: usize> Reach<'a, C> {
         requires { node < length self.now.places }
         ensures { IfOk result (IsCutIn self.now node (length (record_of self.now node))) }
     {
+        // Anew for each node: where a send goes depends on its sender.
         let mut found = IndexMap::new(alloc);
         for place in 0..self.closed.entries(node).len() {
             if let Some(receiver) = self.cut_at(alloc, &mut found, node, place)? {

@@ -3,15 +3,15 @@ ghost use Rattle.std.specs.Prelude.{◌≡◌};
 ghost use Rattle.hsr_audit.specs.Doubts.{doubt_at};
 
 use hsr_frame::NoMemory;
-use hsr_premises::Flaw;
+use hsr_table_flaws::Flaw;
 use std::fmt;
 
-/// Why a run can't be certified, in the order in which the reasons are tried: each of a ring's audit or of a network's, or of both.
-/// Of those that name a place of a node's record the lowest node is named, and its lowest place.
+/// Why a run can't be certified, in the order in which the reasons are tried: each of a ring's audit or of a network's,
+/// or of both. Of those that name a place of a node's record the lowest node is named, and its lowest place.
 #[derive(Clone, Copy, Debug, PartialEq, Eq)]
 pub enum Doubt {
-    /// The nodes and links aren't a ring of two DANHs or more, whatever their modes and addresses: link i joins B of node i with A
-    /// of the next one.
+    /// The nodes and links aren't a ring of two DANHs or more, whatever their modes and addresses: link i joins B of
+    /// node i with A of the next one.
     NotRing,
     /// Nothing was sent.
     Empty,
@@ -40,7 +40,7 @@ pub enum Doubt {
         node: usize,
         place: usize,
     },
-    /// A send is due at a node to which no way lost no copy of it; the lowest such node.
+    /// A send is due at a node to which no channel lost no copy of it; the lowest such node.
     CutOff {
         node: usize,
         place: usize,
@@ -63,7 +63,7 @@ pub enum Doubt {
 pub enum AuditFault {
     /// The first doubt.
     Doubt(Doubt),
-    /// Room was refused.
+    /// Allocation failed.
     NoMemory,
 }
 
@@ -77,7 +77,8 @@ impl From<NoMemory> for AuditFault {
     }
 }
 
-/// A word, and the numbers of what it names: a link, or a node and a place, and for a cut the node that the send doesn't come to.
+/// A word, and the numbers of what it names: a link, or a node and a place, and for a cut the node that the send
+/// doesn't come to.
 impl fmt::Display for Doubt {
     ghost use Rattle.std.specs.Prelude.{Some};
     ghost use Rattle.hsr_audit.specs.Words.{doubt_text};

@@ -2,18 +2,19 @@
 ghost use Rattle.std.specs.Prelude.{◌≡◌, ◌<◌, length, MatchOption};
 ghost use Rattle.hsr_audit.specs.Budgeted.{AreInTime, IsInTimeAt};
 ghost use Rattle.hsr_audit.specs.Timed.{InTimeBelow, IsFirstLate, is_in_time, is_timely, lists_of, moments_of};
-ghost use Rattle.hsr_law.specs.Run.{record_of};
-ghost use Rattle.hsr_premises.specs.Flaws.{IsFirstNot};
+ghost use Rattle.hsr_run_laws.specs.Run.{record_of};
+ghost use Rattle.hsr_table_flaws.specs.Flaws.{IsFirstNot};
 
 use crate::moments::moment_in;
-use hsr_closing::Closed;
 use hsr_duptable::ENTRY_FORGET;
+use hsr_finished_run::Closed;
 use hsr_node::{Event, Probe};
 
 /// Whether a moment is that of a send, or less than the time later for which a frame is remembered.
 fn is_timely(sent: u64, at: u64) -> bool
     ensures { result ≡ is_timely sent at }
 {
+    // Compared first, so that the difference isn't below 0.
     sent <= at && at - sent < ENTRY_FORGET
 }
 
@@ -34,7 +35,8 @@ fn is_in_time(moments: &[Vec<u64>], at: u64, event: &Event) -> bool
 fn late_in<const C: usize>(closed: &Closed<C>, moments: &[Vec<u64>], node: usize) -> Option<usize>
     requires node { node < length closed.now.run.places }
     requires moments { lists_of moments.now ≡ moments_of closed.now.run }
-    ensures { MatchOption result (InTimeBelow closed.now.run node (length (record_of closed.now.run node))) (IsFirstLate closed.now.run node) }
+    ensures { MatchOption result (InTimeBelow closed.now.run node
+        (length (record_of closed.now.run node))) (IsFirstLate closed.now.run node) }
 {
     for (place, x) in closed.entries(node).iter().enumerate() {
         let at = moment_in(moments, Probe { node, place });
@@ -51,7 +53,8 @@ pub(crate) fn first_late<const C: usize>(
     moments: &[Vec<u64>],
 ) -> Option<(usize, usize)>
     requires { lists_of moments.now ≡ moments_of closed.now.run }
-    ensures { MatchOption result (AreInTime closed.now.run) (λ late. IsFirstNot closed.now.run (IsInTimeAt closed.now.run) late.0 late.1) }
+    ensures { MatchOption result (AreInTime closed.now.run) (λ late. IsFirstNot closed.now.run
+        (IsInTimeAt closed.now.run) late.0 late.1) }
 {
     for node in 0..closed.topology().places().len() {
         if let Some(place) = late_in(closed, moments, node) {

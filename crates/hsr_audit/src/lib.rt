@@ -1,6 +1,7 @@
-//! The audit of a finished run: a certificate of delivery, or the first reason for doubt, of a ring of DANHs or of any network; and
-//! its budget: whether duplicate tables are large enough for what was sent. What runs, their topologies and the laws over them are is
-//! offered again, and so is who got what and how many entries were needed, so that who audits needs this crate alone.
+//! The audit of a finished run: a certificate of delivery, or the first reason for doubt, of a ring of DANHs or of any
+//! network; and its budget: whether duplicate tables are large enough for what was sent. What runs, their topologies
+//! and the laws over them are is offered again, and so is who got what and how many entries were needed, so that who
+//! audits needs this crate alone.
 //!
 //! Its modules, in the order in which to read them:
 //! - `doubt`: why a run isn't certified
@@ -9,7 +10,7 @@
 //! - `ring`: the audit of a ring of DANHs, its call
 //! - `sends`: whether there is a send, and the first that isn't covered
 //! - `covered`: which sends the law of networks covers, and which are to Stations
-//! - `lossy`: the ways on which a send lost copies
+//! - `lossy`: the channels on which a send lost copies
 //! - `shared`: what was found of sends that lost nothing, for those that are like them
 //! - `cutoff`: the first send that doesn't come to a node
 //! - `missed`: the lowest send to a Station that its RedBox didn't know each time
@@ -40,12 +41,14 @@ pub use breach::{Budget, BudgetFault};
 pub use budgeting::{budget, most_sends};
 pub use certificate::{Certificate, Certified};
 pub use doubt::{AuditFault, Doubt};
-pub use hsr_closing::{CheckFault, Closed, Disagree, Parts, Planned, Records, passes_of};
 pub use hsr_deliveries::{
     Deliveries, Delivery, Loss, deliveries, once_is_complete, put_deliveries,
 };
-pub use hsr_law::{boxless, budget_keeps, budget_tells, exactly_once, no_storm, once_in_budget};
-pub use hsr_needed::{Needed, legal_with_needed, needed};
+pub use hsr_finished_run::{CheckFault, Closed, Disagree, Parts, Planned, Records, passes_of};
+pub use hsr_run_laws::{
+    boxless, budget_keeps, budget_tells, exactly_once, no_storm, once_in_budget,
+};
+pub use hsr_table_demand::{Needed, legal_with_needed, needed};
 pub use hsr_topology::{End, Topology, TopologyFault};
 pub use network::{NetworkCertificate, audit_network};
 pub use ring::audit;

@@ -1,34 +1,36 @@
-//! The ways on which a send lost copies.
+//! The channels on which a send lost copies.
 ghost use Rattle.std.specs.Prelude.{◌≡◌, ◌<◌, ◌==◌, ◌&&◌, ◌||◌, if◌then◌else◌, true};
 ghost use Rattle.hsr_audit.specs.Lossy.{AreWaysOf, is_on};
-ghost use Rattle.hsr_network_law.specs.Network as law;
-ghost use Rattle.hsr_numbers.specs.Numbers.{has};
-ghost use Rattle.hsr_ways.specs.Numbered.{number_of};
+ghost use Rattle.hsr_network_laws.specs.Network as law;
+ghost use Rattle.hsr_bitset.specs.Numbers.{has};
+ghost use Rattle.hsr_reach.specs.Numbered.{number_of};
 
+use hsr_bitset::Numbers;
 use hsr_deliveries::Loss;
-use hsr_numbers::Numbers;
-use hsr_ways::Way;
+use hsr_reach::Channel;
 
-/// Puts the way of a loss into a set, if its link is one of the first 256.
-fn put_way(set: &mut Numbers, loss: &Loss)
-    ensures { (way : law.Way) → way.link < 256 → has set.new (number_of way) ≡ (is_on way loss.now || has set.old (number_of way)) }
+/// Puts the channel of a loss into a set, if its link is one of the first 256.
+fn put_channel(set: &mut Numbers, loss: &Loss)
+    ensures { (channel : law.Channel) → channel.link < 256 → has set.new (number_of channel)
+        ≡ (is_on channel loss.now || has set.old (number_of channel)) }
 {
+    // A channel's number asks for this. No link of a topology is left out, since there are 128 at most.
     if loss.link < 256 {
-        let way = Way {
+        let channel = Channel {
             link: loss.link,
             dir: loss.dir,
         };
-        set.put(way.number(), true);
+        set.put(channel.number(), true);
     }
 }
 
-/// The ways of losses, by their numbers.
-pub(crate) fn ways_of(losses: &[Loss]) -> Numbers
+/// The channels of losses, by their numbers.
+pub(crate) fn channels_of(losses: &[Loss]) -> Numbers
     ensures { AreWaysOf losses.now result }
 {
     let mut set = Numbers::new();
     for loss in losses {
-        put_way(&mut set, loss);
+        put_channel(&mut set, loss);
     }
     set
 }

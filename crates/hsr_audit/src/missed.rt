@@ -1,16 +1,16 @@
 //! The lowest send to a Station that a RedBox didn't know each time that it handled it.
 ghost use Rattle.std.specs.Prelude.{◌≡◌, ◌↔◌, ◌<◌, ◌≤◌, length, IsTrue};
 ghost use Rattle.std.specs.List.{list_any};
-ghost use Rattle.hsr_law.specs.Run.{past_of};
+ghost use Rattle.hsr_run_laws.specs.Run.{past_of};
 ghost use Rattle.hsr_audit.specs.Missed.{IsFirstMissed, IsLowest, IsUnknown, IsUnknownOf, MissedBelow, MissedOn, is_box_of, is_due_below, is_lower, leads_below, lower_of, sending_at};
 ghost use Rattle.hsr_node.specs.Record.{probe_handled};
 ghost use Rattle.hsr_tables.specs.Proxies.{is_known};
 
 use crate::covered::{is_redbox, is_to_station};
-use hsr_closing::Closed;
 use hsr_deliveries::is_due;
-use hsr_needed::hear;
+use hsr_finished_run::Closed;
 use hsr_node::{Event, Place, Probe, SentView, sent_view};
+use hsr_table_demand::hear;
 use hsr_tables::ProxyTable;
 use hsr_tag::FrameView;
 use hsr_topology::{End, Topology};
@@ -78,7 +78,8 @@ fn leads_below(
 
 /// Whether a link joins a node with such a Station, of any links.
 fn any_leads_below(topology: &Topology, sender: usize, frame: &FrameView<'_>, node: usize) -> bool
-    ensures { result ≡ list_any (leads_below topology.now.places sender frame.now node) topology.now.links }
+    ensures { result ≡ list_any (leads_below topology.now.places sender frame.now node)
+        topology.now.links }
 {
     let (places, links) = (topology.places(), topology.links());
     links
@@ -133,7 +134,8 @@ fn unknown_of<const C: usize>(
 ) -> Option<Probe>
     requires node { node < length closed.now.run.places }
     requires at { stations.now.last ≤ at }
-    ensures { IsLowest (IsUnknownOf closed.now.run node (is_known at stations.now.heard) send) result }
+    ensures { IsLowest (IsUnknownOf closed.now.run node
+        (is_known at stations.now.heard) send) result }
 {
     let send = send?;
     if is_unknown(closed, node, stations, at, send) {
@@ -154,6 +156,7 @@ fn missed_by<const C: usize>(closed: &Closed<C>, node: usize) -> Option<Probe>
     let mut lowest = None;
     for (place, x) in closed.entries(node).iter().enumerate() {
         moment = moment.max(x.at);
+        // Heard first: a RedBox knows a frame's source before it decides on the frame.
         hear(&mut stations, box_place, moment, &x.event);
         let send = handled(Probe { node, place }, &x.event);
         lowest = lower_of(lowest, unknown_of(closed, node, &stations, moment, send));

@@ -1,12 +1,12 @@
 //! The effective moments of a run.
 ghost use Rattle.std.specs.Prelude.{◌≡◌, ◌++◌, ◌∷◌, [], length, reverse, IfOk, OnOk, IsPermutation};
 ghost use Rattle.std.specs.List.Sorted.{IsNonDecreasing};
-ghost use Rattle.hsr_law.specs.Budget.{is_sending};
-ghost use Rattle.hsr_closing.specs.Finished.{IsFinished};
+ghost use Rattle.hsr_run_laws.specs.Budget.{is_sending};
+ghost use Rattle.hsr_finished_run.specs.Finished.{IsFinished};
 ghost use Rattle.hsr_audit.specs.Timed.{AreSendMoments, lists_of, moment_in, moments_of, moments_recorded, sent_moments_below, sent_moments};
 
-use hsr_closing::Closed;
 use hsr_deliveries::push_if;
+use hsr_finished_run::Closed;
 use hsr_frame::NoMemory;
 use hsr_node::{Entry, Event, Probe};
 use std::alloc::Global;
@@ -28,7 +28,8 @@ fn is_sending(event: &Event) -> bool
 /// The effective moment of each entry of a record. Those of its sends are put last among others.
 fn moments_in(alloc: Global, sends: &mut Vec<u64>, entries: &[Entry]) -> Result<Vec<u64>, NoMemory>
     ensures moments { IfOk result (λ moments. moments.items ≡ moments_recorded entries.now) }
-    ensures sends { OnOk result (sends.new.items ≡ sends.old.items ++ sent_moments (reverse entries.now)) }
+    ensures sends { OnOk result (sends.new.items ≡ sends.old.items
+        ++ sent_moments (reverse entries.now)) }
 {
     let mut moments = Vec::new(alloc);
     let mut moment = 0_u64;
@@ -53,7 +54,8 @@ fn gather<const C: usize>(alloc: Global, closed: &Closed<C>) -> Result<Moments, 
     ensures capacity { closed.now.run.capacity ≡ C }
     ensures finished { IsFinished closed.now }
     ensures records { IfOk result (λ m. lists_of m.records.items ≡ moments_of closed.now.run) }
-    ensures sends { IfOk result (λ m. m.sends.items ≡ sent_moments_below closed.now.run (length closed.now.run.places)) }
+    ensures sends { IfOk result (λ m. m.sends.items ≡ sent_moments_below closed.now.run
+        (length closed.now.run.places)) }
 {
     let mut records = Vec::new(alloc);
     let mut sends = Vec::new(alloc);
@@ -69,6 +71,7 @@ fn sort(moments: &mut Vec<u64>)
     ensures rise { IsNonDecreasing moments.new.items }
     ensures same { IsPermutation moments.old.items moments.new.items }
 {
+    // Equal moments can't be told apart, so their order doesn't matter.
     moments.sort_unstable();
 }
 

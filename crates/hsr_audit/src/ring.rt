@@ -4,19 +4,19 @@ ghost use Rattle.hsr_audit.specs.Certificate.{IsCertified, certified};
 ghost use Rattle.hsr_audit.specs.Doubts.{IsFirstFault, IsRefused, of_ring};
 ghost use Rattle.hsr_audit.specs.Danhs.{HasPremises};
 ghost use Rattle.hsr_audit.specs.Round.{IsClear, IsOwnRing};
-ghost use Rattle.hsr_closing.specs.Finished.{IsFinished};
+ghost use Rattle.hsr_finished_run.specs.Finished.{IsFinished};
 ghost use Rattle.hsr_deliveries.specs.Delivered.{AreComplete};
 
 use crate::certificate::{Certificate, Certified, list_record};
 use crate::doubt::{AuditFault, Doubt, doubt_at};
 use crate::round::{addresses, is_round, loses_on_one};
-use hsr_closing::Closed;
 use hsr_deliveries::once_is_complete;
+use hsr_finished_run::Closed;
 use hsr_frame::{Mac, NoMemory};
-use hsr_law::exactly_once;
-use hsr_network_law::ring_is_crossed;
-use hsr_premises::first_flaw;
-use hsr_ways::{are_going_round, have_own_addresses};
+use hsr_network_laws::ring_is_crossed;
+use hsr_reach::{are_going_round, have_own_addresses};
+use hsr_run_laws::exactly_once;
+use hsr_table_flaws::first_flaw;
 use std::alloc::Global;
 
 /// The addresses round the ring, or the first doubt that the nodes and links give.
@@ -49,7 +49,7 @@ fn clear_macs<const C: usize>(alloc: Global, closed: &Closed<C>) -> Result<Vec<M
     if !loses_on_one(closed) {
         return Err(AuditFault::Doubt(Doubt::TwoLinks));
     }
-    // no RedBox, so nothing is numbered late
+    // A law: a ring of DANHs has no RedBox, so nothing is numbered late.
     ring_is_crossed();
     match first_flaw(alloc, closed)? {
         Some(flaw) => Err(AuditFault::Doubt(doubt_at(flaw))),
@@ -80,6 +80,7 @@ fn certify<const C: usize>(alloc: Global, closed: &Closed<C>) -> Result<Certific
     ensures fault { IfErr result (IsFirstFault of_ring closed.now.run) }
 {
     let macs = clear_macs(alloc, closed)?;
+    // Laws: they do nothing when they run, and give the clauses above their proofs.
     exactly_once();
     once_is_complete();
     let sends = list_sends(alloc, closed, &macs)?;
@@ -87,10 +88,10 @@ fn certify<const C: usize>(alloc: Global, closed: &Closed<C>) -> Result<Certific
 }
 
 /// The certificate of a finished run: each of its sends, with the nodes that it is for, each of which took its frame up
-/// just once (IEC 62439-3 clause 5.3). There is one exactly where the nodes and links are a ring of DANHs in modes H and U with
-/// addresses of their own, copies were lost on at most one link, and nothing was forgotten that was needed and nothing
-/// mistaken; else the first doubt is named. Each send of a certified run is complete, as `deliveries` tells. `NoMemory` where
-/// room is refused.
+/// just once (IEC 62439-3 clause 5.3). There is one exactly where the nodes and links are a ring of DANHs in modes H
+/// and U with addresses of their own, copies were lost on at most one link, and nothing was forgotten that was needed
+/// and nothing mistaken; else the first doubt is named. Each send of a certified run is complete, as `deliveries`
+/// tells. `NoMemory` if allocation fails.
 pub fn audit<const C: usize>(alloc: Global, closed: &Closed<C>) -> Result<Certificate, AuditFault>
     ensures certified { IfOk result (λ c. IsCertified closed.now.run c.sends.items) }
     ensures complete { OnOk result (AreComplete closed.now.run) }

@@ -2,10 +2,10 @@
 ghost use Rattle.std.specs.Prelude.{◌≡◌, ◌↔◌, ◌<◌, [], ◌++◌, filter_map, length, IfOk, IsTrue, OnOk};
 ghost use Rattle.std.specs.List.{cons_option, list_all};
 ghost use Rattle.hsr_audit.specs.Danhs.{is_danh};
-ghost use Rattle.hsr_law.specs.Premises.{OneLossyLink, any_lost};
+ghost use Rattle.hsr_run_laws.specs.Premises.{OneLossyLink, any_lost};
 ghost use Rattle.hsr_audit.specs.Round.{IsRound, JoinedBelow, address_of, is_joint, is_joint_of};
 
-use hsr_closing::Closed;
+use hsr_finished_run::Closed;
 use hsr_frame::{Mac, NoMemory};
 use hsr_link::Row;
 use hsr_node::Place;
@@ -36,10 +36,11 @@ fn is_joint(link: [End; 2], node: usize, next: usize) -> bool
             port: 0,
         },
     );
+    // Its ends stand in either order (RULES, Finished runs).
     (is_same_end(a, out) && is_same_end(b, into)) || (is_same_end(a, into) && is_same_end(b, out))
 }
 
-/// Whether a link is the one of its number round a ring of so many.
+/// Whether a link is the one of its number round a ring of `count` nodes.
 #[tactic(auto, unfolding(crate::specs::Round::is_joint_of))]
 fn is_joint_of(link: [End; 2], number: usize, count: usize) -> bool
     requires { number < count }
@@ -68,7 +69,8 @@ pub(crate) fn is_round(places: &[Place], links: &[[End; 2]]) -> bool
 
 /// Adds the address of a DANH to others.
 fn push_address(macs: &mut Vec<Mac>, place: &Place) -> Result<(), NoMemory>
-    ensures { OnOk result (macs.new.items ≡ macs.old.items ++ cons_option (address_of place.now) []) }
+    ensures { OnOk result (macs.new.items ≡ macs.old.items
+        ++ cons_option (address_of place.now) []) }
 {
     if let Place::Danh { mac, .. } = place {
         macs.push(*mac)?;

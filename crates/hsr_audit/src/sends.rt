@@ -1,13 +1,13 @@
 //! Whether there is a send, and the first that isn't covered.
 ghost use Rattle.std.specs.Prelude.{◌≡◌, ◌↔◌, ◌<◌, true, false, length, IsTrue};
-ghost use Rattle.hsr_closing.specs.Finished.{IsFinished};
-ghost use Rattle.hsr_law.specs.Run.{past_of, place_of, record_of};
+ghost use Rattle.hsr_finished_run.specs.Finished.{IsFinished};
+ghost use Rattle.hsr_run_laws.specs.Run.{past_of, place_of, record_of};
 ghost use Rattle.hsr_audit.specs.Sends.{HasSend, IsCoveredAt, IsNoSendAt};
 ghost use Rattle.hsr_audit.specs.Placed.{HoldsBelow, IsFirstIn, IsFirstPair};
 ghost use Rattle.hsr_node.specs.Flow.{send_at};
 
 use crate::covered::is_promised;
-use hsr_closing::Closed;
+use hsr_finished_run::Closed;
 use hsr_node::{SentView, sent_view};
 
 /// What an entry of a node sends, if it is a send.
@@ -38,7 +38,8 @@ fn is_send_at<const C: usize>(closed: &Closed<C>, node: usize, place: usize) -> 
 fn has_send_in<const C: usize>(closed: &Closed<C>, node: usize) -> bool
     requires { node < length closed.now.run.places }
     ensures some { result ≡ true → HasSend closed.now.run }
-    ensures none { result ≡ false → HoldsBelow (IsNoSendAt closed.now.run) node (length (record_of closed.now.run node)) }
+    ensures none { result ≡ false → HoldsBelow (IsNoSendAt closed.now.run) node
+        (length (record_of closed.now.run node)) }
 {
     for place in 0..closed.entries(node).len() {
         if is_send_at(closed, node, place) {
@@ -75,7 +76,8 @@ fn is_covered_at<const C: usize>(closed: &Closed<C>, node: usize, place: usize) 
 /// The first send of a node that isn't covered, by its place.
 fn uncovered_in<const C: usize>(closed: &Closed<C>, node: usize) -> Option<usize>
     requires { node < length closed.now.run.places }
-    ensures { IsFirstIn (IsCoveredAt closed.now.run) node (length (record_of closed.now.run node)) result }
+    ensures { IsFirstIn (IsCoveredAt closed.now.run) node
+        (length (record_of closed.now.run node)) result }
 {
     for place in 0..closed.entries(node).len() {
         if !is_covered_at(closed, node, place) {

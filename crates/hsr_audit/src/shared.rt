@@ -3,8 +3,8 @@ ghost use Rattle.std.specs.Prelude.{◌≡◌, ◌&&◌, nat_eq, if◌then◌els
 ghost use Rattle.hsr_frame.specs.Address.{is_same_address};
 ghost use Rattle.hsr_audit.specs.Shared.{found_of};
 
+use hsr_bitset::Numbers;
 use hsr_frame::{Mac, NoMemory};
-use hsr_numbers::Numbers;
 use hsr_tag::FrameView;
 use indexmap::IndexMap;
 
@@ -20,7 +20,9 @@ pub(crate) fn found_of(found: &Found, frame: &FrameView<'_>) -> Option<Numbers>
 
 /// Keeps the nodes that were found for a frame's destination and type.
 pub(crate) fn keep(found: &mut Found, frame: &FrameView<'_>, nodes: Numbers) -> Result<(), NoMemory>
-    ensures { OnOk result ((dst : List ℕ) → (kind : ℕ) → found_of found.new dst kind ≡ (if is_same_address frame.now.dst dst && nat_eq frame.now.kind kind then Some nodes else found_of found.old dst kind)) }
+    ensures { OnOk result ((dst : List ℕ) → (ethertype : ℕ) → found_of found.new dst ethertype
+        ≡ (if is_same_address frame.now.dst dst && nat_eq frame.now.kind ethertype then Some nodes
+        else found_of found.old dst ethertype)) }
 {
     found.insert((frame.dst, frame.kind), nodes)?;
     Ok(())

@@ -2,16 +2,16 @@
 use Rattle.std.specs.Prelude.{ℕ, ◌<◌, ◌≡◌, ◌⊎◌, Bool, false, List, [], ◌++◌, length, codes, string_bytes, Option, Result, Ok, Err}
 use Rattle.std.specs.Io.KnownBytes.{Appends, Keeps}
 use Rattle.clap.specs.Words.{Text}
-use Rattle.hsr_engines.specs.Fault.{code_of, fault_line}
-use Rattle.hsr_engines.specs.declared.fault.Fault.TheVariants.{Memory, Write}
-use Rattle.hsr_engines.specs.declared.fault.Status.{Status}
-use Rattle.hsr_engines.specs.declared.fault.Status.TheVariants.{Certified, Fault as Stopped, Doubt, Open}
+use Rattle.hsr_commands.specs.Fault.{code_of, fault_line}
+use Rattle.hsr_commands.specs.declared.fault.Fault.TheVariants.{Memory, Write}
+use Rattle.hsr_commands.specs.declared.fault.Status.{Status}
+use Rattle.hsr_commands.specs.declared.fault.Status.TheVariants.{Certified, Fault as Stopped, Doubt, Open}
 use Rattle.hsr_explanation.specs.Lines.{lines_of}
 use Rattle.hsr_options.specs.declared.chosen.Options.{Options}
 use Rattle.hsr_options.specs.declared.chosen.Options.TheVariants.{Node, Run, Threads, Audit}
-use Rattle.hsr_words.specs.Options.{IsRefused, Says}
-use Rattle.hsr_words.specs.declared.fault.OptionFault.{OptionFault}
-use Rattle.hsr_words.specs.declared.fault.OptionFault.TheVariants.{Usage, Memory as NoRoom}
+use Rattle.hsr_cli.specs.Options.{IsRefused, Says}
+use Rattle.hsr_cli.specs.declared.fault.OptionFault.{OptionFault}
+use Rattle.hsr_cli.specs.declared.fault.OptionFault.TheVariants.{Usage, Memory as NoRoom}
 use Rattle.hsr_bench.specs.Performing.{Performs}
 
 -- the line of a fault, of no other end

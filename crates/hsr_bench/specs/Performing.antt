@@ -2,15 +2,15 @@
 use Rattle.std.specs.Prelude.{ℕ, List, Option}
 use Rattle.hsr_text.specs.Lines.{lines_of}
 use Rattle.hsr_danh.specs.Machine.{new_machine}
-use Rattle.hsr_engines.specs.AuditRun.{AuditEnds}
-use Rattle.hsr_engines.specs.Output.{Ended, output}
-use Rattle.hsr_options.specs.Tables.{capacity_of}
-use Rattle.hsr_engines.specs.Reading.{scenario_of}
-use Rattle.hsr_engines.specs.OpenRun.{RunEnds}
-use Rattle.hsr_engines.specs.ThreadsRun.{ThreadsEnds}
+use Rattle.hsr_commands.specs.AuditRun.{AuditEnds}
+use Rattle.hsr_commands.specs.Output.{Ended, output}
+use Rattle.hsr_duptable.specs.Sizes.{capacity_of}
+use Rattle.hsr_commands.specs.Reading.{scenario_of}
+use Rattle.hsr_commands.specs.OpenRun.{RunEnds}
+use Rattle.hsr_commands.specs.ThreadsRun.{ThreadsEnds}
 use Rattle.hsr_options.specs.declared.chosen.Options.{Options}
 use Rattle.hsr_options.specs.declared.chosen.Options.TheVariants.{Node, Run, Threads, Audit}
-use Rattle.hsr_engines.specs.declared.fault.Status.{Status}
+use Rattle.hsr_commands.specs.declared.fault.Status.{Status}
 
 -- the lines of a text are answered, or it is run as a scenario, alone or in threads, or audited as a transcript; each with tables of
 -- the chosen size

@@ -4,9 +4,9 @@ ghost use Rattle.std.specs.Io.KnownBytes.{Appends};
 ghost use Rattle.hsr_bench.specs.Benching.{Answers, AppendsLines, Benches, IsDone, Tells, explains};
 
 use crate::performing::perform;
-use hsr_engines::{Explanation, Fault, Notes, Status, put_explanation};
+use hsr_cli::{OptionFault, options};
+use hsr_commands::{Explanation, Fault, Notes, Status, put_explanation};
 use hsr_options::Options;
-use hsr_words::{OptionFault, options};
 use std::alloc::Global;
 use std::io::{self, Read, Write};
 use std::marker::Sync;
@@ -35,7 +35,7 @@ fn explain<E: Write>(alloc: Global, errors: &mut E, lines: &[Vec<u8>]) -> io::Re
 }
 
 /// Tells how a run ended: a fault's line on standard error, what is explained behind it, and the status of the process.
-fn tell<E: Write>(
+fn report_ending<E: Write>(
     alloc: Global,
     errors: &mut E,
     status: Status,
@@ -103,7 +103,7 @@ fn answer<H: Threads + Wait + Sync, R: Read, W: Write, E: Write>(
         Ok(chosen) => {
             let mut notes = Notes::new(alloc, explains(chosen));
             let status = done(rt, alloc, reader, writer, chosen, &mut notes);
-            tell(alloc, errors, status, explains(chosen), &notes.explanation)
+            report_ending(alloc, errors, status, explains(chosen), &notes.explanation)
         }
         Err(OptionFault::Usage { text }) => {
             put_line(errors, text.as_str())?;
@@ -113,7 +113,7 @@ fn answer<H: Threads + Wait + Sync, R: Read, W: Write, E: Write>(
         Err(OptionFault::Memory) => {
             // Before any choice is known, so nothing more is explained.
             let short = Status::Fault(Fault::Memory);
-            tell(alloc, errors, short, false, &Explanation::new(alloc))
+            report_ending(alloc, errors, short, false, &Explanation::new(alloc))
         }
     }
 }

@@ -12,9 +12,9 @@ mod benching;
 mod performing;
 
 pub use benching::bench;
-pub use hsr_engines::{
-    Asked, Fault, Form, NodeOptions, Scope, Showing, Status, Table, TimeUnit, TranscriptFault,
+pub use hsr_cli::{OptionFault, options};
+pub use hsr_commands::{
+    Asked, Fault, Form, NodeOptions, Scope, Showing, Status, TableSize, TimeUnit, TranscriptFault,
     audit_run, node_run, scenario_run, threads_run,
 };
 pub use hsr_options::Options;
-pub use hsr_words::{OptionFault, options};

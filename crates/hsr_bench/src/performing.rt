@@ -2,7 +2,7 @@
 ghost use Rattle.std.specs.Prelude.{IfSome};
 ghost use Rattle.hsr_bench.specs.Performing.{Performs};
 
-use hsr_engines::{Notes, Status, audit_run, node_run, scenario_run, threads_run};
+use hsr_commands::{Notes, Status, audit_run, node_run, scenario_run, threads_run};
 use hsr_options::Options;
 use std::alloc::Global;
 use std::io::{Read, Write};

@@ -1,4 +1,4 @@
-//! The bench's program: its words, its standard streams and its memory, handed over to `bench`.
+//! The bench's program: its arguments, its standard streams and its memory, handed over to `bench`.
 #![tactic(auto)]
 
 use hsr_bench::bench;
@@ -11,7 +11,7 @@ use std::sync::Wait;
 use std::thread::Threads;
 use std::{env, io};
 
-/// Does what the words ask for, over the standard streams.
+/// Does what the arguments ask for, over the standard streams.
 fn run<H: AllocGlobal + Env + Input + Print + Threads + Wait + Sync, E: Write>(
     rt: &H,
     errors: &mut E,
@@ -33,7 +33,7 @@ fn run<H: AllocGlobal + Env + Input + Print + Threads + Wait + Sync, E: Write>(
 
 fn main(rt: HostRuntime) -> io::Result<ExitCode> {
     match run(&rt, &mut rt.stderr()) {
-        // the words themselves take memory
+        // The arguments themselves take memory.
         Err(error) if error.kind() == ErrorKind::OutOfMemory => {
             eprintln!(rt; "fault: memory")?;
             Ok(ExitCode::from(1))

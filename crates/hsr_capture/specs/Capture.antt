@@ -7,9 +7,9 @@ use Rattle.std.specs.List.{flat_map}
 use Rattle.hsr_link.specs.declared.row.Dir.{Dir}
 use Rattle.hsr_link.specs.declared.row.Dir.TheVariants.{Forth, Back}
 use Rattle.hsr_link.specs.declared.row.Row.{Row}
-use Rattle.hsr_law.specs.Run.{Run, rows_of}
+use Rattle.hsr_run_laws.specs.Run.{Run, rows_of}
 use Rattle.hsr_pcapng.specs.Blocks.{interface, packet, section_header}
-use Rattle.hsr_story.specs.declared.shown.Shown.{Shown}
+use Rattle.hsr_timeline.specs.declared.shown.Shown.{Shown}
 use Rattle.hsr_capture.specs.Comments.{comment, interface_description, interface_name}
 
 -- ---- interfaces

@@ -22,10 +22,10 @@ use Rattle.hsr_link.specs.declared.row.Dir.{Dir}
 use Rattle.hsr_link.specs.declared.row.Fate.{Fate}
 use Rattle.hsr_link.specs.declared.row.Fate.TheVariants.{LostDown, LostCut, LostOverrun}
 use Rattle.hsr_link.specs.declared.row.Row.{Row}
-use Rattle.hsr_law.specs.Run.{Run, ends_of, from_end, record_of, rows_of, to_end}
+use Rattle.hsr_run_laws.specs.Run.{Run, ends_of, from_end, record_of, rows_of, to_end}
 use Rattle.hsr_topology.specs.declared.end.End.{End}
-use Rattle.hsr_names.specs.Names.{name_of, port_text}
-use Rattle.hsr_story.specs.declared.shown.Shown.{Shown}
+use Rattle.hsr_timeline.specs.Names.{name_of, port_text}
+use Rattle.hsr_timeline.specs.declared.shown.Shown.{Shown}
 
 -- ---- interfaces
 

@@ -1,17 +1,17 @@
 //! The whole capture.
 ghost use Rattle.std.specs.Prelude.{◌≡◌, ℕ, ◌<◌, ◌++◌, All, length, IfErr, IfOk, OnOk};
 ghost use Rattle.std.specs.List.{flat_map};
-ghost use Rattle.hsr_order.specs.Fronts.{lists_of};
+ghost use Rattle.hsr_timeline.specs.Fronts.{lists_of};
 ghost use Rattle.hsr_pcapng.specs.Faults.{IfTooLong};
 ghost use Rattle.hsr_capture.specs.Capture.{capture, interface_of, interfaces_below, packet_of};
 ghost use Rattle.hsr_capture.specs.Fits.{Fits, LinkFits, ShownFits};
 ghost use Rattle.hsr_link.specs.declared.row.Dir.TheVariants.{Forth, Back};
 
 use crate::packets::{put_direction, put_shown};
-use hsr_closing::Closed;
+use hsr_finished_run::Closed;
 use hsr_link::Dir;
 use hsr_pcapng::{BlockFault, put_section_header};
-use hsr_story::Shown;
+use hsr_timeline::Shown;
 use std::alloc::Global;
 
 /// Puts both interfaces of a link last. `TooLong` exactly where one of them doesn't fit.

@@ -3,18 +3,17 @@ ghost use Rattle.std.specs.Prelude.{◌≡◌, ◌++◌, ◌∷◌, [], codes, i
 ghost use Rattle.hsr_frame.specs.declared.node.Cause.TheVariants.{Passed};
 ghost use Rattle.hsr_node.specs.Words.{letter};
 ghost use Rattle.hsr_tag.specs.Seen.{classified};
-ghost use Rattle.hsr_law.specs.Run.{ends_of, record_of, to_end};
-ghost use Rattle.hsr_order.specs.Fronts.{lists_of};
+ghost use Rattle.hsr_run_laws.specs.Run.{ends_of, record_of, to_end};
+ghost use Rattle.hsr_timeline.specs.Fronts.{lists_of};
 ghost use Rattle.hsr_capture.specs.Comments.{became, comment, entry_text, interface_description, judge_if, judge_text, judge_words, judged_if, judged_text, judgement, letters_from, loss_reason, loss_text, name_from, number_text, outcome_text, send_if, send_text, send_words, sequence_text};
 
-use hsr_closing::Closed;
+use hsr_finished_run::Closed;
 use hsr_frame::{Cause, NoMemory};
 use hsr_link::{Dir, Fate, Row};
-use hsr_names::{put_name, put_port};
 use hsr_node::{Entry, Outcome, Place, Probe};
-use hsr_story::Shown;
 use hsr_tag::{EitherView, look_at};
 use hsr_text::{put, put_number, put_octets};
+use hsr_timeline::{Shown, put_name, put_port};
 use hsr_topology::End;
 
 /// Puts the name of an interface last: the port from which its copies come, and the one to which they go.

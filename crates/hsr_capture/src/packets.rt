@@ -1,18 +1,18 @@
 //! Interfaces and packets.
 ghost use Rattle.std.specs.Prelude.{◌≡◌, ◌<◌, ◌≤◌, ◌++◌, length, Some, IfErr, OnOk};
-ghost use Rattle.hsr_law.specs.Run.{rows_of};
-ghost use Rattle.hsr_order.specs.Fronts.{lists_of};
+ghost use Rattle.hsr_run_laws.specs.Run.{rows_of};
+ghost use Rattle.hsr_timeline.specs.Fronts.{lists_of};
 ghost use Rattle.hsr_capture.specs.Capture.{interface_number, interface_of, packet_if, packet_of};
 ghost use Rattle.hsr_capture.specs.Comments.{comment_of};
 ghost use Rattle.hsr_capture.specs.Fits.{DirectionFits, RowFits, ShownFits};
 ghost use Rattle.hsr_pcapng.specs.Faults.{IfTooLong};
 
 use crate::comments::{put_comment, put_interface_description, put_interface_name};
-use hsr_closing::Closed;
+use hsr_finished_run::Closed;
 use hsr_frame::NoMemory;
 use hsr_link::{Dir, Row};
 use hsr_pcapng::{BlockFault, put_interface, put_packet};
-use hsr_story::Shown;
+use hsr_timeline::Shown;
 use std::alloc::Global;
 
 /// Puts the interface of a link's direction last. `TooLong` exactly where it doesn't fit.

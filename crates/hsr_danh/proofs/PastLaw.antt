@@ -19,15 +19,15 @@ use Rattle.hsr_duptable.specs.Notes.{note_if}
 use Rattle.hsr_tables.specs.Known.{known}
 use Rattle.hsr_tables.specs.Nodes.{Nodes, heard, no_nodes}
 use Rattle.hsr_tables.proofs.NodeLaws.{rows_of_latest}
-use Rattle.hsr_role.specs.Arrival.{heard_of}
-use Rattle.hsr_role.specs.Numbers.{number_range}
-use Rattle.hsr_role.specs.Past.{answers_of, is_bad_life, note_of}
-use Rattle.hsr_role.specs.Tables.{AreWithin, aged, copies_of, counted_with, judged, judged_as, table_of}
-use Rattle.hsr_role.specs.declared.judged.Judged.{Judged}
-use Rattle.hsr_role.proofs.Counts.{counted-plus, counts_plus}
-use Rattle.hsr_role.proofs.Keeping.{AreWithin-aged, AreWithin-new, AreWithin-passed, AreWithin-passes, last-earlier, passed-logged, passed-shut, stands-aged, stands-new, stands-passed, stands-passes, stands-same}
-use Rattle.hsr_role.proofs.Pasts.{answers-same-as, heard-same, heard-told, later-max}
-use Rattle.hsr_role.proofs.Wants.{wanted-c, wanted-d}
+use Rattle.hsr_forwarding.specs.Arrival.{heard_of}
+use Rattle.hsr_forwarding.specs.Numbers.{number_range}
+use Rattle.hsr_forwarding.specs.Past.{answers_of, is_bad_life, note_of}
+use Rattle.hsr_forwarding.specs.Tables.{AreWithin, aged, copies_of, counted_with, judged, judged_as, table_of}
+use Rattle.hsr_forwarding.specs.declared.judged.Judged.{Judged}
+use Rattle.hsr_forwarding.proofs.Counts.{counted-plus, counts_plus}
+use Rattle.hsr_forwarding.proofs.Keeping.{AreWithin-aged, AreWithin-new, AreWithin-passed, AreWithin-passes, last-earlier, passed-logged, passed-shut, stands-aged, stands-new, stands-passed, stands-passes, stands-same}
+use Rattle.hsr_forwarding.proofs.Pasts.{answers-same-as, heard-same, heard-told, later-max}
+use Rattle.hsr_forwarding.proofs.Wants.{wanted-c, wanted-d}
 use Rattle.hsr_danh.specs.Machine.{Machine, new_machine}
 use Rattle.hsr_danh.specs.Step.{after_arrival, after_numbered, age_step, arrive_or_spent, arrive_step, life_or_spent, life_step, now_at, send_or_refuse, send_step, verdict_of}
 use Rattle.hsr_danh.specs.Wanted.{egresses, wanted}
@@ -186,9 +186,9 @@ age-case capacity machine past at r =
 
 pub kept : (capacity : ℕ) (machine : Machine) (past : List Deed) (call : Call) → IsPastOf capacity machine past → Kept capacity machine (step capacity machine call) (past_step capacity machine.own machine.mode past call)
 unfolding send_step life_step arrive_step
-kept capacity machine past (deeds.sending at dst kind len) r =
-    subst (λ n. Kept capacity machine (step capacity machine (deeds.sending at dst kind len)) (deeds.send_from past at (send_refusal machine.own n dst kind len))) r.accepted
-    (send-case capacity machine past at (send_refusal machine.own machine.accepted dst kind len) r)
+kept capacity machine past (deeds.sending at dst ethertype len) r =
+    subst (λ n. Kept capacity machine (step capacity machine (deeds.sending at dst ethertype len)) (deeds.send_from past at (send_refusal machine.own n dst ethertype len))) r.accepted
+    (send-case capacity machine past at (send_refusal machine.own machine.accepted dst ethertype len) r)
 kept capacity machine past (deeds.supervising at) r =
     subst (λ n. Kept capacity machine (step capacity machine (deeds.supervising at)) (deeds.life_from past at (n == step_limit))) r.accepted
     (life-case capacity machine past at (machine.accepted == step_limit) r)

@@ -9,11 +9,11 @@ use Rattle.hsr_frame.specs.declared.node.RingPort.{RingPort}
 use Rattle.hsr_tag.specs.Seen.{classified}
 use Rattle.hsr_tag.specs.declared.seen.Seen.{Seen}
 use Rattle.hsr_tables.specs.Nodes.{Nodes}
-use Rattle.hsr_role.specs.Arrival.{heard_of}
-use Rattle.hsr_role.specs.Numbers.{number_range}
-use Rattle.hsr_role.specs.Tables.{Notes, after_passes, counted_with, judged}
-use Rattle.hsr_role.specs.declared.judged.Judged.{Judged}
-use Rattle.hsr_role.proofs.Spending.{spent, unspent}
+use Rattle.hsr_forwarding.specs.Arrival.{heard_of}
+use Rattle.hsr_forwarding.specs.Numbers.{number_range}
+use Rattle.hsr_forwarding.specs.Tables.{Notes, after_passes, counted_with, judged}
+use Rattle.hsr_forwarding.specs.declared.judged.Judged.{Judged}
+use Rattle.hsr_forwarding.proofs.Spending.{spent, unspent}
 use Rattle.hsr_danh.specs.Machine.{Machine}
 use Rattle.hsr_danh.specs.Step.{after_arrival, arrive_or_spent, arrive_step, life_or_spent, life_step, now_at, send_or_refuse, send_step, verdict_of}
 use Rattle.hsr_danh.specs.Wanted.{wanted}
@@ -21,17 +21,17 @@ use Rattle.hsr_danh.specs.declared.danh.Verdict.{Verdict}
 
 -- ---- frames of the node's own
 
-pub send-refused : (capacity : ℕ) (machine : Machine) (at : ℕ) (dst : List ℕ) (kind len : ℕ) (fault : SendFault) → Some fault ≡ send_refusal machine.own machine.accepted dst kind len
-    → (Err fault, machine) ≡ send_step capacity machine at dst kind len
+pub send-refused : (capacity : ℕ) (machine : Machine) (at : ℕ) (dst : List ℕ) (ethertype len : ℕ) (fault : SendFault) → Some fault ≡ send_refusal machine.own machine.accepted dst ethertype len
+    → (Err fault, machine) ≡ send_step capacity machine at dst ethertype len
 unfolding send_step
-send-refused capacity machine at dst kind len fault e = ap (send_or_refuse capacity machine (now_at machine at)) e
+send-refused capacity machine at dst ethertype len fault e = ap (send_or_refuse capacity machine (now_at machine at)) e
 
-pub send-accepted : (capacity : ℕ) (machine : Machine) (at : ℕ) (dst : List ℕ) (kind len : ℕ) (notes : Notes) (now : ℕ) → None ≡ send_refusal machine.own machine.accepted dst kind len
+pub send-accepted : (capacity : ℕ) (machine : Machine) (at : ℕ) (dst : List ℕ) (ethertype len : ℕ) (notes : Notes) (now : ℕ) → None ≡ send_refusal machine.own machine.accepted dst ethertype len
     → now ≡ now_at machine at → notes ≡ after_passes capacity machine.notes (exits_of (a ∷ b ∷ [])) (record { src = machine.own; seq = machine.next }) now
     → (Ok (record { seq = machine.next }), record machine { notes = notes; next = (machine.next + 1) % number_range; counters = record machine.counters { sent = machine.counters.sent + 1 }; moment = now; accepted = machine.accepted + 1 })
-    ≡ send_step capacity machine at dst kind len
+    ≡ send_step capacity machine at dst ethertype len
 unfolding send_step
-send-accepted capacity machine at dst kind len notes now e at_now noted = rw (noted, at_now) (ap (send_or_refuse capacity machine (now_at machine at)) e)
+send-accepted capacity machine at dst ethertype len notes now e at_now noted = rw (noted, at_now) (ap (send_or_refuse capacity machine (now_at machine at)) e)
 
 pub life-spent : (capacity : ℕ) (machine : Machine) (at : ℕ) → machine.accepted ≡ step_limit → (Err (record {}), machine) ≡ life_step capacity machine at
 unfolding life_step

@@ -5,7 +5,7 @@ use Rattle.hsr_frame.specs.Counters.{AreWithin as CountersWithin, no_counts, ste
 use Rattle.hsr_frame.specs.declared.counters.Counters.{Counters}
 use Rattle.hsr_frame.specs.declared.node.Mode.{Mode}
 use Rattle.hsr_tables.specs.Nodes.{Nodes, no_nodes}
-use Rattle.hsr_role.specs.Tables.{AreWithin, Notes, no_notes}
+use Rattle.hsr_forwarding.specs.Tables.{AreWithin, Notes, no_notes}
 use Rattle.hsr_danh.specs.Wanted.{egresses}
 
 pub record Machine : Type 0 where

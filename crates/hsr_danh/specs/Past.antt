@@ -19,11 +19,11 @@ use Rattle.hsr_tables.specs.Known.{known}
 use Rattle.hsr_tables.specs.Nodes.{Hearing, rows_known}
 use Rattle.hsr_tables.specs.declared.nodes.NodeRow.{NodeRow}
 use Rattle.hsr_danh.specs.Machine.{Machine, new_machine}
-use Rattle.hsr_role.specs.Past.{answers_of, hearing_in, is_bad_life, left_by, note_of, passes_from}
-use Rattle.hsr_role.specs.Past as of_role
-pub use Rattle.hsr_role.specs.Past.{count_of, moment_of}
-use Rattle.hsr_role.specs.Numbers.{number_range}
-use Rattle.hsr_role.specs.Tables.{judged_as}
+use Rattle.hsr_forwarding.specs.Past.{answers_of, hearing_in, is_bad_life, left_by, note_of, passes_from}
+use Rattle.hsr_forwarding.specs.Past as of_role
+pub use Rattle.hsr_forwarding.specs.Past.{count_of, moment_of}
+use Rattle.hsr_forwarding.specs.Numbers.{number_range}
+use Rattle.hsr_forwarding.specs.Tables.{judged_as}
 use Rattle.hsr_danh.specs.Step.{age_step, arrive_step, life_step, send_step, verdict_of}
 use Rattle.hsr_danh.specs.Wanted.{wanted}
 use Rattle.hsr_danh.specs.declared.danh.Sent.{Sent}
@@ -32,7 +32,7 @@ use Rattle.hsr_danh.specs.declared.danh.Verdict.{Verdict}
 -- ---- calls and answers
 
 pub data Call : Type 0 where
-  sending : (at : ℕ) → (dst : List ℕ) → (kind len : ℕ) → Call
+  sending : (at : ℕ) → (dst : List ℕ) → (ethertype len : ℕ) → Call
   supervising : (at : ℕ) → Call
   arriving : (at : ℕ) → (x : RingPort) → (octets : List ℕ) → Call
   ageing : (at : ℕ) → Call
@@ -45,7 +45,7 @@ pub data Answer : Type 0 where
 
 -- the stepping machine
 abbrev pub step : ℕ → Machine → Call → Answer × Machine
-step capacity machine (sending at dst kind len) = let s = send_step capacity machine at dst kind len in (sent s.0, s.1)
+step capacity machine (sending at dst ethertype len) = let s = send_step capacity machine at dst ethertype len in (sent s.0, s.1)
 step capacity machine (supervising at) = let s = life_step capacity machine at in (lived s.0, s.1)
 step capacity machine (arriving at x octets) = let s = arrive_step capacity machine at x octets in (judged s.0, s.1)
 step capacity machine (ageing at) = (aged, age_step machine at)
@@ -165,7 +165,8 @@ arrive_from capacity own mode past at x seen false =
     (judged (Ok verdict), done past at (judged_frame x seen verdict))
 
 abbrev pub past_step : ℕ → List ℕ → Mode → List Deed → Call → Answer × List Deed
-past_step capacity own mode past (sending at dst kind len) = send_from past at (send_refusal own (count_of is_step past) dst kind len)
+past_step capacity own mode past (sending at dst ethertype len) =
+    send_from past at (send_refusal own (count_of is_step past) dst ethertype len)
 past_step capacity own mode past (supervising at) = life_from past at (count_of is_step past == step_limit)
 past_step capacity own mode past (arriving at x octets) = arrive_from capacity own mode past at x (classified octets) (count_of is_step past == step_limit)
 past_step capacity own mode past (ageing at) = (aged, done past at gave_up)

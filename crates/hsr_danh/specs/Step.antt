@@ -12,10 +12,10 @@ use Rattle.hsr_frame.specs.declared.node.Life.{Life}
 use Rattle.hsr_frame.specs.declared.node.RingPort.{RingPort}
 use Rattle.hsr_tag.specs.Seen.{classified}
 use Rattle.hsr_tag.specs.declared.seen.Seen.{Seen}
-use Rattle.hsr_role.specs.Arrival.{heard_of}
-use Rattle.hsr_role.specs.Numbers.{number_range}
-use Rattle.hsr_role.specs.Tables.{after_passes, aged, counted_with, judged}
-use Rattle.hsr_role.specs.declared.judged.Judged.{Judged}
+use Rattle.hsr_forwarding.specs.Arrival.{heard_of}
+use Rattle.hsr_forwarding.specs.Numbers.{number_range}
+use Rattle.hsr_forwarding.specs.Tables.{after_passes, aged, counted_with, judged}
+use Rattle.hsr_forwarding.specs.declared.judged.Judged.{Judged}
 use Rattle.hsr_danh.specs.Wanted.{wanted}
 use Rattle.hsr_danh.specs.Machine.{Machine}
 use Rattle.hsr_danh.specs.declared.danh.Sent.{Sent}
@@ -44,8 +44,8 @@ send_or_refuse capacity machine now None =
 
 -- a send, by its destination, type and length
 unfoldable pub send_step : ℕ → Machine → ℕ → List ℕ → ℕ → ℕ → Result Sent SendFault × Machine
-send_step capacity machine at dst kind len =
-    send_or_refuse capacity machine (now_at machine at) (send_refusal machine.own machine.accepted dst kind len)
+send_step capacity machine at dst ethertype len =
+    send_or_refuse capacity machine (now_at machine at) (send_refusal machine.own machine.accepted dst ethertype len)
 
 abbrev pub life_or_spent : ℕ → Machine → ℕ → Bool → Result Life Spent × Machine
 life_or_spent capacity machine now true = (Err (record {}), machine)

@@ -7,7 +7,7 @@ use Rattle.hsr_frame.specs.declared.node.Mode.{Mode}
 use Rattle.hsr_frame.specs.declared.node.RingPort.{RingPort}
 use Rattle.hsr_tag.specs.Tag.{TaggedFields}
 use Rattle.hsr_tag.specs.declared.seen.Seen.{Seen}
-use Rattle.hsr_role.specs.Wanted as of_ring
+use Rattle.hsr_forwarding.specs.Wanted as of_ring
 
 -- the egresses of a DANH
 abbrev pub egresses : Exits

@@ -2,14 +2,15 @@
 ghost use Rattle.std.specs.Prelude.{◌≡◌, ◌≢◌, ◌≤◌, ◌<◌, ◌^◌, length, map, IfOk, OnOk};
 ghost use Rattle.hsr_frame.specs.Counters.{step_limit};
 ghost use Rattle.hsr_frame.specs.Layout.{ethertype_hsr, ethertype_vlan, max_payload};
+ghost use Rattle.hsr_duptable.specs.Table.{IsTableSize};
 
 use arrayvec::ArrayVec;
 use hsr_duptable::Key;
+use hsr_forwarding::{EgressTables, Judged, NUMBER_RANGE, count, hear, ring_wants};
 use hsr_frame::{
     Cause, Counters, Exits, Life, Mac, Mode, NoMemory, RingPort, STEP_LIMIT, SendFault, Spent,
     send_fault,
 };
-use hsr_role::{EgressTables, Judged, NUMBER_RANGE, count, hear, ring_wants};
 use hsr_tables::{NodeRow, NodeTable, ROW_LIMIT};
 use hsr_tag::look_at;
 use std::alloc::Global;
@@ -42,6 +43,7 @@ pub struct Danh<const C: usize> {
     next: u16,
     counters: Counters,
     moment: u64,
+    // Counts steps of all kinds, so that one comparison with `STEP_LIMIT` keeps every counter within 64 bits.
     accepted: u64,
 }
 
@@ -52,7 +54,16 @@ impl<const C: usize> Model for Danh<C> {
 
     ghost view = { λ d. record { own = d.own; mode = d.mode; notes = d.tables; nodes = d.nodes; next = d.next; counters = d.counters; moment = d.moment; accepted = d.accepted } };
 
-    ghost invariant = { λ d. IsSound (record { own = d.own; mode = d.mode; notes = d.tables; nodes = d.nodes; next = d.next; counters = d.counters; moment = d.moment; accepted = d.accepted }) };
+    ghost invariant = { λ d. IsSound (record {
+      own = d.own;
+      mode = d.mode;
+      notes = d.tables;
+      nodes = d.nodes;
+      next = d.next;
+      counters = d.counters;
+      moment = d.moment;
+      accepted = d.accepted;
+    }) };
 }
 
 impl<const C: usize> Danh<C> {
@@ -62,10 +73,10 @@ impl<const C: usize> Danh<C> {
     ghost use Rattle.hsr_danh.specs.Machine.{new_machine};
     ghost use Rattle.hsr_danh.specs.Step.{age_step, arrive_step, life_step, now_at, send_step};
 
-    /// A node that has done nothing. No group has its address. `NoMemory` where room for its tables is refused.
+    /// A node that has done nothing. No group has its address. `NoMemory` if allocation fails.
     pub fn new(alloc: Global, own: Mac, mode: Mode) -> Result<Self, NoMemory>
         requires station { ¬ IsGroup own }
-        requires entries { (1 ≤ C) × (C ≤ 65535) }
+        requires entries { IsTableSize C }
         ensures { IfOk result (λ danh. danh ≡ new_machine own mode) }
     {
         let egresses = Exits {
@@ -95,18 +106,22 @@ impl<const C: usize> Danh<C> {
         at: u64,
         dst: Mac,
         _vlan: Option<u16>,
-        kind: u16,
+        ethertype: u16,
         payload: &[u8],
     ) -> Result<Sent, SendFault>
-        ensures step { (result, self.new) ≡ send_step C self.old at dst kind (length payload.now) }
+        ensures step { (result, self.new)
+            ≡ send_step C self.old at dst ethertype (length payload.now) }
         // What is sent is a frame.
-        ensures formed { OnOk result ((kind ≢ ethertype_vlan) × (kind ≢ ethertype_hsr) × (length payload.now ≤ max_payload)) }
+        ensures formed { OnOk result ((ethertype ≢ ethertype_vlan) × (ethertype ≢ ethertype_hsr)
+            × (length payload.now ≤ max_payload)) }
     {
-        if let Some(fault) = send_fault(self.own, self.accepted, dst, kind, payload.len()) {
+        if let Some(fault) = send_fault(self.own, self.accepted, dst, ethertype, payload.len()) {
             return Err(fault);
         }
+        // An earlier moment counts as the last one (RULES, Sending).
         let now = self.moment.max(at);
         let seq = self.next;
+        // Noted without a look: a send that gets a number is new (RULES, Arrivals).
         self.tables
             .mark(Exits::both_ports(), Key { src: self.own, seq }, now);
         self.next = seq.wrapping_add(1);
@@ -117,7 +132,7 @@ impl<const C: usize> Danh<C> {
     }
 
     /// Numbers a supervision frame and sends it by both ports (IEC 62439-3 clause 5.7); `life` counts the
-    /// earlier ones, modulo `NUMBER_RANGE`. Where `STEP_LIMIT` steps are spent it changes nothing.
+    /// earlier ones, modulo `NUMBER_RANGE`. `Spent` where `STEP_LIMIT` steps were accepted: then nothing changes.
     pub fn supervise(&mut self, at: u64) -> Result<Life, Spent>
         ensures { (result, self.new) ≡ life_step C self.old at }
     {
@@ -126,6 +141,7 @@ impl<const C: usize> Danh<C> {
         }
         let now = self.moment.max(at);
         let seq = self.next;
+        // The count goes on, and the frame has room for 16 bits of it.
         let life = (self.counters.life % NUMBER_RANGE) as u16;
         self.tables
             .mark(Exits::both_ports(), Key { src: self.own, seq }, now);
@@ -137,8 +153,8 @@ impl<const C: usize> Danh<C> {
     }
 
     /// Judges what came to a ring port (IEC 62439-3 clause 5.3): octets that are no frame and plain frames are counted
-    /// and dropped, tagged ones passed where they are wanted and not remembered. Where `STEP_LIMIT` steps are spent it
-    /// changes nothing.
+    /// and dropped, tagged ones passed where they are wanted and not remembered. `Spent` where `STEP_LIMIT` steps
+    /// were accepted: then nothing changes.
     pub fn arrive(&mut self, at: u64, port: RingPort, octets: &[u8]) -> Result<Verdict, Spent>
         ensures { (result, self.new) ≡ arrive_step C self.old at port octets.now }
     {
@@ -147,8 +163,10 @@ impl<const C: usize> Danh<C> {
         }
         let now = self.moment.max(at);
         let seen = look_at(octets);
+        // A DANH has no interlink, so it has no stations.
         let wants = ring_wants(self.own, self.mode, None, port, &seen, now);
         let judged = self.tables.judge(wants, &seen, now);
+        // Heard whatever the verdict: a duplicate tells too that its ring port is reached (IEC 62439-3 clause 5.7).
         let readable = hear(&mut self.nodes, self.own, port, &seen, now);
         count(&mut self.counters, judged, readable);
         self.moment = now;
@@ -156,7 +174,7 @@ impl<const C: usize> Danh<C> {
         Ok(verdict_of(judged))
     }
 
-    /// Gives up the notes that are expired at a moment in microseconds. That changes no later answer.
+    /// Drops the notes that are expired at a moment in microseconds. That changes no later answer.
     pub fn age(&mut self, at: u64)
         ensures { self.new ≡ age_step self.old at }
     {

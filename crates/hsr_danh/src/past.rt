@@ -1,7 +1,7 @@
 //! The law over any calls.
 ghost use Rattle.hsr_danh.specs.Past.{AnswersAsPast};
 
-/// Whatever is sent, told and arrives, and whenever notes are given up, the answers of a DANH are those of a machine that
+/// Whatever is sent, told and arrives, and whenever notes are dropped, the answers of a DANH are those of a machine that
 /// keeps its whole past and filters it, and its counters and the nodes that it knows are those of that past: a wanted
 /// frame passes an egress where no note has its source and number among the last `C` of that egress, as far as they are
 /// younger than the EntryForgetTime (IEC 62439-3 clause 5.3).

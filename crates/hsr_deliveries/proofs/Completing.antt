@@ -12,18 +12,18 @@ use Rattle.hsr_node.specs.declared.event.Probe.{Probe}
 use Rattle.hsr_node.specs.declared.place.Place.{Place}
 use Rattle.hsr_node.specs.declared.place.Place.TheVariants.{Danh}
 use Rattle.hsr_node.specs.declared.sending.Sending.{Sending}
-use Rattle.hsr_closing.proofs.Plan.{all_append}
-use Rattle.hsr_law.specs.Closed.{IsClosed, IsSend}
-use Rattle.hsr_law.specs.Once.{IsExactlyOnce, is_addressed}
-use Rattle.hsr_law.specs.Premises.{IsRing, mac_at}
-use Rattle.hsr_law.specs.Run.{Run, owner_of, past_of, place_of}
-use Rattle.hsr_law.proofs.Danh.{mode_at}
-use Rattle.hsr_law.proofs.Ring.{owner_is}
-use Rattle.hsr_law.proofs.Same.{same_address}
-use Rattle.hsr_law.proofs.Walk.{sent}
+use Rattle.hsr_finished_run.proofs.Plan.{all_append}
+use Rattle.hsr_run_laws.specs.Closed.{IsClosed, IsSend}
+use Rattle.hsr_run_laws.specs.Once.{IsExactlyOnce, is_addressed}
+use Rattle.hsr_run_laws.specs.Premises.{IsRing, mac_at}
+use Rattle.hsr_run_laws.specs.Run.{Run, owner_of, past_of, place_of}
+use Rattle.hsr_frame.proofs.OneMore.{passing_more}
+use Rattle.hsr_run_laws.proofs.Danh.{mode_at}
+use Rattle.hsr_run_laws.proofs.Ring.{owner_is}
+use Rattle.hsr_run_laws.proofs.Same.{same_address}
+use Rattle.hsr_run_laws.proofs.Walk.{sent}
 use Rattle.hsr_deliveries.specs.Delivered.{AreComplete, IsComplete, OnceIsComplete, deliveries_below, deliveries_in, delivery_by, delivery_of, is_due, is_for, is_missed, is_strayed, is_twice, nodes_below, times}
 use Rattle.hsr_deliveries.specs.Counted.{if_one}
-use Rattle.hsr_deliveries.proofs.Gathering.{nodes_more}
 
 -- ---- no nodes
 
@@ -31,7 +31,7 @@ no_nodes : (test : ℕ → Bool) (n : ℕ) → ((k : ℕ) → k < n → test k �
 no_nodes test zero never = refl
 no_nodes test (suc n) never =
     let next : suc n ≡ n + 1 = omega arith in
-    ap (λ m. nodes_below m test) next ∙ nodes_more test n
+    ap (λ m. nodes_below m test) next ∙ passing_more test n
     ∙ ap (λ ns. ns ++ if_one (test n) n) (no_nodes test n (λ k below. never k (omega (arith, below))))
     ∙ ap (λ b. if_one b n) (never n (omega arith))
 

@@ -1,16 +1,13 @@
 -- What indexes have of sends: counts, and lists of losses.
-use Rattle.std.proofs.Common.{◌≡◌, ℕ, ◌+◌, ◌<◌, ◌&&◌, Bool, true, false, cond, nat_eq, List, [], ◌∷◌, ◌++◌, length, take, get_or, count_by, Option, Some, None, unwrap_or, refl, sym, ap, ◌∙◌, arith, eqb-true}
+use Rattle.std.proofs.Common.{◌≡◌, ℕ, ◌+◌, ◌&&◌, Bool, true, false, cond, nat_eq, [], ◌∷◌, ◌++◌, Option, Some, None, unwrap_or, refl, sym, ap, ◌∙◌, arith, eqb-true}
 use Rattle.std.specs.Prelude.{Vec}
 use Rattle.std.specs.Global.{Global}
 use Rattle.std.proofs.lemmas.Bool.{and_parts}
-use Rattle.std.proofs.lemmas.List.Sums.{count_by-le-length, count_by_more_no, count_by_more_yes}
-use Rattle.std.proofs.lemmas.List.{append-nil, length-take}
+use Rattle.std.proofs.lemmas.List.{append-nil}
 use Rattle.indexmap.specs.IndexMap.{IndexMap, Updates}
-use Rattle.hsr_node.specs.declared.entry.Entry.{Entry}
 use Rattle.hsr_node.specs.declared.event.Probe.{Probe}
-use Rattle.hsr_law.specs.Once.{delivers}
-use Rattle.hsr_law.specs.Run.{is_of}
-use Rattle.hsr_law.proofs.Same.{probes_same}
+use Rattle.hsr_run_laws.specs.Run.{is_of}
+use Rattle.hsr_run_laws.proofs.Same.{probes_same}
 use Rattle.hsr_deliveries.specs.Counted.{items_if, losses_in, times_in, value_of}
 use Rattle.hsr_deliveries.specs.declared.loss.Loss.{Loss}
 
@@ -47,17 +44,3 @@ one_kept old new send loss losses more updates other =
 pub items_kept : (o : Option (Vec Loss Global)) (none : Vec Loss Global) → none.items ≡ [] → (unwrap_or o none).items ≡ items_if o
 items_kept None none is = is
 items_kept (Some losses) none is = refl
-
--- ---- records
-
-pub counted_more : (send : Probe) (xs : List Entry) (i : ℕ) (d : Entry) → i < length xs →
-    count_by (delivers send) (take (i + 1) xs) ≡ count_by (delivers send) (take i xs) + cond (delivers send (get_or xs i d)) 1 0
-counted_more send xs i d below = by_test (delivers send (get_or xs i d)) refl
-  where
-    by_test : (b : Bool) → delivers send (get_or xs i d) ≡ b → count_by (delivers send) (take (i + 1) xs) ≡ count_by (delivers send) (take i xs) + cond b 1 0
-    by_test true is = count_by_more_yes (delivers send) xs i d below is
-    by_test false is = let e = count_by_more_no (delivers send) xs i d below is in omega (arith, e)
-
-pub count_fits : (send : Probe) (xs : List Entry) (i n : ℕ) → n ≡ count_by (delivers send) (take i xs) → i < length xs → n < length xs
-count_fits send xs i n is below =
-    let most = count_by-le-length (delivers send) (take i xs) in let taken = length-take i xs in omega (arith, is, below, most, taken)

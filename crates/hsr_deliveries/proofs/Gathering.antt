@@ -1,40 +1,29 @@
 -- Deliveries of one more node, entry or record.
-use Rattle.std.proofs.Common.{◌≡◌, ℕ, ◌+◌, ◌<◌, ◌≤◌, suc, zero, Bool, List, [], ◌∷◌, ◌++◌, length, reverse, take, slice_index_or, Option, refl, sym, ap, ◌∙◌, subst, arith}
-use Rattle.std.specs.Prelude.{filter, filter_map, option_map}
-use Rattle.std.specs.List.{cons_option, range_with_len}
+use Rattle.std.proofs.Common.{◌≡◌, ℕ, ◌+◌, ◌<◌, ◌≤◌, suc, List, [], ◌∷◌, ◌++◌, length, reverse, take, slice_index_or, Option, refl, sym, ap, ◌∙◌, subst, arith}
+use Rattle.std.specs.Prelude.{filter_map, option_map}
+use Rattle.std.specs.List.{cons_option}
 use Rattle.std.proofs.lemmas.List.{length-reverse, length-take, reverse-append, take_all, take_more}
-use Rattle.std.proofs.lemmas.List.Elements.{filter-append, filter_map-append}
+use Rattle.std.proofs.lemmas.List.Elements.{filter_map-append}
+use Rattle.hsr_frame.proofs.OneMore.{passing_more}
 use Rattle.hsr_node.specs.Flow.{sent_by}
 use Rattle.hsr_node.specs.declared.entry.Entry.{Entry}
 use Rattle.hsr_node.specs.declared.event.Probe.{Probe}
 use Rattle.hsr_node.specs.declared.place.Place.{Place}
 use Rattle.hsr_link.specs.declared.row.Row.{Row}
-use Rattle.hsr_law.specs.Run.{Run, owner_of, past_of}
+use Rattle.hsr_run_laws.specs.Run.{Run, owner_of, past_of}
 use Rattle.hsr_deliveries.specs.Counted.{added, deliveries_at, delivered_by, if_one}
 use Rattle.hsr_deliveries.specs.Delivered.{deliveries_below, deliveries_in, delivery_below, delivery_of, is_due, is_missed, is_strayed, is_twice, loss_of, nodes_below, times}
 use Rattle.hsr_deliveries.specs.declared.loss.Loss.{Loss}
 
 -- ---- one more node
 
-range_more : (a n : ℕ) → range_with_len a (n + 1) ≡ range_with_len a n ++ (a + n) ∷ []
-range_more a zero = let e : a ≡ a + 0 = omega arith in ap (λ m. m ∷ []) e
-range_more a (suc n) =
-    let more : suc n + 1 ≡ suc (n + 1) = omega arith in
-    let last : (a + 1) + n ≡ a + suc n = omega arith in
-    ap (range_with_len a) more ∙ ap (λ ns. a ∷ ns) (range_more (a + 1) n ∙ ap (λ m. range_with_len (a + 1) n ++ m ∷ []) last)
-
-pub nodes_more : (test : ℕ → Bool) (k : ℕ) → nodes_below (k + 1) test ≡ nodes_below k test ++ if_one (test k) k
-nodes_more test k =
-    let last : 0 + k ≡ k = omega arith in
-    ap (filter test) (range_more 0 k ∙ ap (λ m. range_with_len 0 k ++ m ∷ []) last) ∙ filter-append test (range_with_len 0 k) (k ∷ [])
-
-pub delivery_more : (run : Run) (send : Probe) (at : ℕ) (dst : List ℕ) (kind k : ℕ) →
-    delivery_below run send at dst kind (k + 1) ≡ added (delivery_below run send at dst kind k) k (is_due run send.node dst kind k) (times run send k)
-delivery_more run send at dst kind k =
-    ap (λ ns. record (delivery_below run send at dst kind (k + 1)) { due = ns }) (nodes_more (is_due run send.node dst kind) k)
-    ∙ (ap (λ ns. record (delivery_below run send at dst kind (k + 1)) { due = nodes_below k (is_due run send.node dst kind) ++ if_one (is_due run send.node dst kind k) k; missed = ns }) (nodes_more (is_missed run send dst kind) k)
-    ∙ (ap (λ ns. record (added (delivery_below run send at dst kind k) k (is_due run send.node dst kind k) (times run send k)) { twice = ns; strayed = nodes_below (k + 1) (is_strayed run send dst kind) }) (nodes_more (is_twice run send dst kind) k)
-    ∙ ap (λ ns. record (added (delivery_below run send at dst kind k) k (is_due run send.node dst kind k) (times run send k)) { strayed = ns }) (nodes_more (is_strayed run send dst kind) k)))
+pub delivery_more : (run : Run) (send : Probe) (at : ℕ) (dst : List ℕ) (ethertype k : ℕ) →
+    delivery_below run send at dst ethertype (k + 1) ≡ added (delivery_below run send at dst ethertype k) k (is_due run send.node dst ethertype k) (times run send k)
+delivery_more run send at dst ethertype k =
+    ap (λ ns. record (delivery_below run send at dst ethertype (k + 1)) { due = ns }) (passing_more (is_due run send.node dst ethertype) k)
+    ∙ (ap (λ ns. record (delivery_below run send at dst ethertype (k + 1)) { due = nodes_below k (is_due run send.node dst ethertype) ++ if_one (is_due run send.node dst ethertype k) k; missed = ns }) (passing_more (is_missed run send dst ethertype) k)
+    ∙ (ap (λ ns. record (added (delivery_below run send at dst ethertype k) k (is_due run send.node dst ethertype k) (times run send k)) { twice = ns; strayed = nodes_below (k + 1) (is_strayed run send dst ethertype) }) (passing_more (is_twice run send dst ethertype) k)
+    ∙ ap (λ ns. record (added (delivery_below run send at dst ethertype k) k (is_due run send.node dst ethertype k) (times run send k)) { strayed = ns }) (passing_more (is_strayed run send dst ethertype) k)))
 
 -- ---- one more entry
 

@@ -1,4 +1,3 @@
 pub mod Counting
 pub mod Gathering
 pub mod Completing
-pub mod Growing

@@ -7,7 +7,7 @@ use Rattle.hsr_node.specs.Flow.{sent_by}
 use Rattle.hsr_node.specs.declared.event.Probe.{Probe}
 use Rattle.hsr_node.specs.declared.place.Place.{Place}
 use Rattle.hsr_node.specs.declared.entry.Entry.{Entry}
-use Rattle.hsr_law.specs.Run.{Run}
+use Rattle.hsr_run_laws.specs.Run.{Run}
 use Rattle.hsr_deliveries.specs.declared.loss.Loss.{Loss}
 use Rattle.hsr_deliveries.specs.Delivered.{Delivery, deliveries_in, delivery_of}
 

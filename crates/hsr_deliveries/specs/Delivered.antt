@@ -20,28 +20,28 @@ use Rattle.hsr_node.specs.declared.sending.Sending.{Sending}
 use Rattle.hsr_node.specs.Place.{owns}
 use Rattle.hsr_link.specs.Rows.{is_lost}
 use Rattle.hsr_link.specs.declared.row.Row.{Row}
-use Rattle.hsr_law.specs.Closed.{IsClosed}
-use Rattle.hsr_law.specs.Once.{IsExactlyOnce, delivers}
-use Rattle.hsr_law.specs.Premises.{IsRing}
-use Rattle.hsr_law.specs.Run.{Run, is_of, owner_of, past_of, place_of, record_of, rows_of}
+use Rattle.hsr_run_laws.specs.Closed.{IsClosed}
+use Rattle.hsr_run_laws.specs.Once.{IsExactlyOnce, delivers}
+use Rattle.hsr_run_laws.specs.Premises.{IsRing}
+use Rattle.hsr_run_laws.specs.Run.{Run, is_of, owner_of, past_of, place_of, record_of, rows_of}
 use Rattle.hsr_deliveries.specs.declared.loss.Loss.{Loss}
 
 -- ---- due
 
 -- frames to groups are for DANHs, RedBoxes and Stations; a supervision frame is for no Station
 abbrev pub takes_groups : Place → List ℕ → ℕ → Bool
-takes_groups (Danh mac mode) dst kind = true
-takes_groups (RedBox mac mode) dst kind = true
-takes_groups QuadBox dst kind = false
-takes_groups (Station macs) dst kind = not (is_supervision dst kind)
+takes_groups (Danh mac mode) dst ethertype = true
+takes_groups (RedBox mac mode) dst ethertype = true
+takes_groups QuadBox dst ethertype = false
+takes_groups (Station macs) dst ethertype = not (is_supervision dst ethertype)
 
 -- a frame of this destination and type is for a node
 abbrev pub is_for : Place → List ℕ → ℕ → Bool
-is_for place dst kind = if is_group dst then takes_groups place dst kind else owns place dst
+is_for place dst ethertype = if is_group dst then takes_groups place dst ethertype else owns place dst
 
 -- a send of one node is due at another that it is for, whatever modes, links and cuts there are
 abbrev pub is_due : Run → ℕ → List ℕ → ℕ → ℕ → Bool
-is_due run sender dst kind k = not (k == sender) && is_for (place_of run k) dst kind
+is_due run sender dst ethertype k = not (k == sender) && is_for (place_of run k) dst ethertype
 
 -- ---- took up
 
@@ -81,24 +81,24 @@ nodes_below n test = filter test (range_with_len 0 n)
 
 -- a node that a send is due at didn't take it up, or did more than once; or it did, and the send isn't due there
 abbrev pub is_missed : Run → Probe → List ℕ → ℕ → ℕ → Bool
-is_missed run send dst kind k = is_due run send.node dst kind k && times run send k == 0
+is_missed run send dst ethertype k = is_due run send.node dst ethertype k && times run send k == 0
 
 abbrev pub is_twice : Run → Probe → List ℕ → ℕ → ℕ → Bool
-is_twice run send dst kind k = is_due run send.node dst kind k && nat_lt 1 (times run send k)
+is_twice run send dst ethertype k = is_due run send.node dst ethertype k && nat_lt 1 (times run send k)
 
 abbrev pub is_strayed : Run → Probe → List ℕ → ℕ → ℕ → Bool
-is_strayed run send dst kind k = not (is_due run send.node dst kind k) && nat_lt 0 (times run send k)
+is_strayed run send dst ethertype k = not (is_due run send.node dst ethertype k) && nat_lt 0 (times run send k)
 
 -- all that is told of a send at a moment, as that was given, by the nodes below one
 abbrev pub delivery_below : Run → Probe → ℕ → List ℕ → ℕ → ℕ → Delivery
-delivery_below run send at dst kind n = record {
+delivery_below run send at dst ethertype n = record {
   send = send;
   at = at;
   dst = dst;
-  due = nodes_below n (is_due run send.node dst kind);
-  missed = nodes_below n (is_missed run send dst kind);
-  twice = nodes_below n (is_twice run send dst kind);
-  strayed = nodes_below n (is_strayed run send dst kind);
+  due = nodes_below n (is_due run send.node dst ethertype);
+  missed = nodes_below n (is_missed run send dst ethertype);
+  twice = nodes_below n (is_twice run send dst ethertype);
+  strayed = nodes_below n (is_strayed run send dst ethertype);
   lost = lost run send;
 }
 

@@ -1,9 +1,9 @@
 //! The deliveries of a finished run.
 ghost use Rattle.std.specs.Prelude.{◌≡◌, ◌<◌, ◌∷◌, [], ◌++◌, ℕ, List, length, IfOk, OnOk};
 ghost use Rattle.std.specs.List.{AllByRecursion};
-ghost use Rattle.hsr_closing.specs.Finished.{IsFinished};
-ghost use Rattle.hsr_law.specs.Once.{IsExactlyOnce};
-ghost use Rattle.hsr_law.specs.Premises.{IsRing};
+ghost use Rattle.hsr_finished_run.specs.Finished.{IsFinished};
+ghost use Rattle.hsr_run_laws.specs.Once.{IsExactlyOnce};
+ghost use Rattle.hsr_run_laws.specs.Premises.{IsRing};
 ghost use Rattle.hsr_deliveries.specs.Counted.{deliveries_at, delivered_by};
 ghost use Rattle.hsr_deliveries.specs.Delivered.{IsComplete, deliveries, delivery_below, lost, times};
 
@@ -13,7 +13,7 @@ use crate::law::once_is_complete;
 use crate::loss::Loss;
 use crate::losses::Losses;
 use crate::tally::Tally;
-use hsr_closing::Closed;
+use hsr_finished_run::Closed;
 use hsr_frame::{Mac, NoMemory};
 use hsr_node::{Entry, Place, Probe, sent_view};
 use std::alloc::Global;
@@ -23,19 +23,21 @@ use std::marker::Model;
 #[derive(Drop)]
 struct Traces<'a, const C: usize> {
     closed: &'a Closed<C>,
+    // Made in one pass over the records: each send is then looked up, and not searched for.
     tallies: Vec<Tally<'a>>,
     losses: Losses<'a, C>,
 }
 
 impl<'a, const C: usize> Model for Traces<'a, C> {
     ghost use Rattle.std.specs.Prelude.{◌≡◌};
-    ghost use Rattle.hsr_law.specs.Run.{Run};
+    ghost use Rattle.hsr_run_laws.specs.Run.{Run};
 
     ghost Value = { Run };
 
     ghost view = { λ t. t.closed.now.run };
 
-    ghost invariant = { λ t. (t.tallies.items ≡ t.closed.now.run.records) × (t.losses ≡ t.closed.now.run) };
+    ghost invariant = { λ t. (t.tallies.items ≡ t.closed.now.run.records)
+        × (t.losses ≡ t.closed.now.run) };
 }
 
 /// Puts a tally last.
@@ -110,14 +112,15 @@ fn delivery_of<const C: usize>(
     send: Probe,
     at: u64,
     dst: Mac,
-    kind: u16,
+    ethertype: u16,
 ) -> Result<Delivery, NoMemory>
-    ensures { IfOk result (λ delivery. delivery ≡ delivery_below traces.now send at dst kind (length traces.now.places)) }
+    ensures { IfOk result (λ delivery. delivery ≡ delivery_below traces.now send at dst ethertype
+        (length traces.now.places)) }
 {
     let lost = traces.lost(alloc, send)?;
     let mut delivery = Delivery::new(alloc, send, at, dst, lost);
     for (node, place) in traces.places().iter().enumerate() {
-        let is_due = is_due(place, send.node, node, dst, kind);
+        let is_due = is_due(place, send.node, node, dst, ethertype);
         delivery.add(node, is_due, traces.times(send, node))?;
     }
     Ok(delivery)
@@ -133,13 +136,15 @@ fn list_entry<const C: usize>(
     place: &Place,
     x: &Entry,
 ) -> Result<(), NoMemory>
-    ensures { OnOk result (sends.new.items ≡ sends.old.items ++ delivered_by traces.now send place.now x.now) }
+    ensures { OnOk result (sends.new.items ≡ sends.old.items
+        ++ delivered_by traces.now send place.now x.now) }
 {
+    // A supervision is a send here too (RULES, Who got what).
     let Some(sending) = sent_view(place, &x.event, &x.outcome) else {
         return Ok(());
     };
-    let (dst, kind) = (sending.frame.dst, sending.frame.kind);
-    let delivery = delivery_of(alloc, traces, send, x.at, dst, kind)?;
+    let (dst, ethertype) = (sending.frame.dst, sending.frame.kind);
+    let delivery = delivery_of(alloc, traces, send, x.at, dst, ethertype)?;
     sends.push(delivery)?;
     Ok(())
 }
@@ -154,7 +159,8 @@ fn list_record<const C: usize>(
     place: &Place,
     entries: &[Entry],
 ) -> Result<(), NoMemory>
-    ensures { OnOk result (sends.new.items ≡ sends.old.items ++ deliveries_at traces.now number place.now entries.now (length entries.now)) }
+    ensures { OnOk result (sends.new.items ≡ sends.old.items
+        ++ deliveries_at traces.now number place.now entries.now (length entries.now)) }
 {
     for (i, x) in entries.iter().enumerate() {
         let send = Probe {
@@ -187,13 +193,16 @@ fn list_sends<const C: usize>(alloc: Global, closed: &Closed<C>) -> Result<Vec<D
     Ok(sends)
 }
 
-/// Who got each send of a finished run, by node and place: the nodes that it was due at, which of these missed it or took it
-/// up twice, which others took it up, and its losses. Modes, links and cuts don't matter to where a send is due. Where a ring
-/// delivered each frame exactly once (IEC 62439-3 clause 5.3), each send is complete. `NoMemory` where room is refused.
+/// Who got each send of a finished run, by node and place: the nodes that it was due at, which of these missed it or
+/// took it up twice, which others took it up, and its losses. Modes, links and cuts don't matter to where a send is
+/// due. Where a ring delivered each frame exactly once (IEC 62439-3 clause 5.3), each send is complete. `NoMemory` if
+/// allocation fails.
 pub fn deliveries<const C: usize>(alloc: Global, closed: &Closed<C>) -> Result<Deliveries, NoMemory>
     ensures value { IfOk result (λ d. d.sends.items ≡ deliveries closed.now.run) }
-    ensures complete { IfOk result (λ d. (macs : List (List ℕ)) → IsRing closed.now.run macs → IsExactlyOnce closed.now.run macs → AllByRecursion IsComplete d.sends.items) }
+    ensures complete { IfOk result (λ d. (macs : List (List ℕ)) → IsRing closed.now.run macs
+        → IsExactlyOnce closed.now.run macs → AllByRecursion IsComplete d.sends.items) }
 {
+    // A law: it does nothing when it runs, and gives `complete` its proof.
     once_is_complete();
     Ok(Deliveries {
         sends: list_sends(alloc, closed)?,

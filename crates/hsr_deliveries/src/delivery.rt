@@ -9,9 +9,9 @@ use hsr_node::Probe;
 use std::alloc::Global;
 use std::marker::Model;
 
-/// Who got a send: its moment as it was given, in microseconds, and its destination; the nodes that it was due at, which of
-/// these didn't take it up or did more than once, and the other nodes that did, all by number and rising; and the copies of it
-/// that were lost, by link and place on the link.
+/// Who got a send: its moment as it was given, in microseconds, and its destination; the nodes that it was due at,
+/// which of these didn't take it up or did more than once, and the other nodes that did, all by number and rising; and
+/// the copies of it that were lost, by link and place on the link.
 ///
 /// To a group a send is due at each DANH, RedBox and Station but the sender, a supervision frame at no Station (IEC 62439-3
 /// clause 5.7); else at each node but the sender that has the address.
@@ -41,9 +41,10 @@ pub struct Deliveries {
     pub sends: Vec<Delivery>,
 }
 
-/// Adds an item to others, if it is one of them. `NoMemory` where room is refused.
+/// Adds an item to others, if it is one of them. `NoMemory` if allocation fails.
 pub fn push_if<T: Copy + Drop>(items: &mut Vec<T>, is_one: bool, item: T) -> Result<(), NoMemory>
-    ensures { OnOk result (items.new.items ≡ items.old.items ++ (if is_one then item ∷ [] else [])) }
+    ensures { OnOk result (items.new.items ≡ items.old.items
+        ++ (if is_one then item ∷ [] else [])) }
 {
     if is_one {
         items.push(item)?;
@@ -68,7 +69,7 @@ impl Delivery {
         }
     }
 
-    /// Adds what became of the send at one more node, which took it up so many times.
+    /// Adds what became of the send at one more node, and how many times this one took it up.
     pub(crate) fn add(&mut self, node: usize, is_due: bool, times: usize) -> Result<(), NoMemory>
         ensures { OnOk result (self.new ≡ added self.old node is_due times) }
     {

@@ -1,13 +1,13 @@
 //! The lost copies of each send.
 ghost use Rattle.std.specs.Prelude.{◌≡◌, ◌<◌, ◌∷◌, [], ◌++◌, filter_map, if◌then◌else◌, length, IfOk, OnOk, Some};
 ghost use Rattle.std.specs.List.{cons_option};
-ghost use Rattle.hsr_law.specs.Run.{is_of};
+ghost use Rattle.hsr_run_laws.specs.Run.{is_of};
 ghost use Rattle.hsr_deliveries.specs.Counted.{losses_in};
 ghost use Rattle.hsr_deliveries.specs.Delivered.{loss_of, lost, lost_below};
 ghost use Rattle.hsr_node.specs.declared.event.Probe as spec;
 
 use crate::loss::Loss;
-use hsr_closing::Closed;
+use hsr_finished_run::Closed;
 use hsr_frame::NoMemory;
 use hsr_link::Row;
 use hsr_node::Probe;
@@ -20,7 +20,8 @@ type ByProbe = IndexMap<(usize, usize), Vec<Loss>>;
 
 /// Keeps one more loss of a send.
 fn keep(alloc: Global, kept: &mut ByProbe, send: Probe, loss: Loss) -> Result<(), NoMemory>
-    ensures { OnOk result ((other : spec.Probe) → losses_in kept.new other ≡ losses_in kept.old other ++ (if is_of other (Some send) then loss ∷ [] else [])) }
+    ensures { OnOk result ((other : spec.Probe) → losses_in kept.new other
+        ≡ losses_in kept.old other ++ (if is_of other (Some send) then loss ∷ [] else [])) }
 {
     kept.entry((send.node, send.place))?
         .or_insert(Vec::new(alloc))
@@ -30,7 +31,8 @@ fn keep(alloc: Global, kept: &mut ByProbe, send: Probe, loss: Loss) -> Result<()
 
 /// Keeps the loss of a row's copy, if it was lost and is of a send.
 fn keep_row(alloc: Global, kept: &mut ByProbe, link: usize, row: &Row) -> Result<(), NoMemory>
-    ensures { OnOk result ((other : spec.Probe) → losses_in kept.new other ≡ losses_in kept.old other ++ cons_option (loss_of other link row.now) []) }
+    ensures { OnOk result ((other : spec.Probe) → losses_in kept.new other
+        ≡ losses_in kept.old other ++ cons_option (loss_of other link row.now) []) }
 {
     match row.carried.probe {
         Some(send) if row.fate.is_lost() => {
@@ -47,7 +49,8 @@ fn keep_row(alloc: Global, kept: &mut ByProbe, link: usize, row: &Row) -> Result
 
 /// Keeps the losses of a link, by place.
 fn keep_rows(alloc: Global, kept: &mut ByProbe, link: usize, rows: &[Row]) -> Result<(), NoMemory>
-    ensures { OnOk result ((other : spec.Probe) → losses_in kept.new other ≡ losses_in kept.old other ++ filter_map (loss_of other link) rows.now) }
+    ensures { OnOk result ((other : spec.Probe) → losses_in kept.new other
+        ≡ losses_in kept.old other ++ filter_map (loss_of other link) rows.now) }
 {
     for row in rows {
         keep_row(alloc, kept, link, row)?;
@@ -57,7 +60,8 @@ fn keep_rows(alloc: Global, kept: &mut ByProbe, link: usize, rows: &[Row]) -> Re
 
 /// The losses of a run, by their sends.
 fn losses_by_send<const C: usize>(alloc: Global, closed: &Closed<C>) -> Result<ByProbe, NoMemory>
-    ensures { IfOk result (λ kept. (send : spec.Probe) → losses_in kept send ≡ lost closed.now.run send) }
+    ensures { IfOk result (λ kept. (send : spec.Probe) → losses_in kept send
+        ≡ lost closed.now.run send) }
 {
     let mut kept = IndexMap::new(alloc);
     for link in 0..closed.topology().links().len() {
@@ -80,13 +84,14 @@ fn losses_of(alloc: Global, kept: &ByProbe, send: Probe) -> Result<Vec<Loss>, No
 /// A finished run, and the losses of each of its sends, found in one walk over its rows.
 #[derive(Drop)]
 pub struct Losses<'a, const C: usize> {
+    // Kept for its model: contracts speak of losses by the run that they are of.
     closed: &'a Closed<C>,
     by_send: ByProbe,
 }
 
 impl<'a, const C: usize> Model for Losses<'a, C> {
     ghost use Rattle.std.specs.Prelude.{◌≡◌};
-    ghost use Rattle.hsr_law.specs.Run.{Run};
+    ghost use Rattle.hsr_run_laws.specs.Run.{Run};
     ghost use Rattle.hsr_node.specs.declared.event.Probe as spec;
     ghost use Rattle.hsr_deliveries.specs.Counted.{losses_in};
     ghost use Rattle.hsr_deliveries.specs.Delivered.{lost};
@@ -95,11 +100,12 @@ impl<'a, const C: usize> Model for Losses<'a, C> {
 
     ghost view = { λ l. l.closed.now.run };
 
-    ghost invariant = { λ l. (send : spec.Probe) → losses_in l.by_send send ≡ lost l.closed.now.run send };
+    ghost invariant = { λ l. (send : spec.Probe) → losses_in l.by_send send
+        ≡ lost l.closed.now.run send };
 }
 
 impl<'a, const C: usize> Losses<'a, C> {
-    /// The losses of a run. `NoMemory` where room is refused.
+    /// The losses of a run. `NoMemory` if allocation fails.
     pub fn new(alloc: Global, closed: &'a Closed<C>) -> Result<Losses<'a, C>, NoMemory>
         ensures { IfOk result (λ losses. losses ≡ closed.now.run) }
     {
@@ -107,7 +113,7 @@ impl<'a, const C: usize> Losses<'a, C> {
         Ok(Losses { closed, by_send })
     }
 
-    /// Those of a send, by link and place on the link. `NoMemory` where room is refused.
+    /// Those of a send, by link and place on the link. `NoMemory` if allocation fails.
     pub fn of_send(&self, alloc: Global, send: Probe) -> Result<Vec<Loss>, NoMemory>
         ensures { IfOk result (λ losses. losses.items ≡ lost self.now send) }
     {

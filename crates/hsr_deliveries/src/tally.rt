@@ -1,7 +1,7 @@
 //! How often a node took each send up.
 ghost use Rattle.std.specs.Prelude.{◌≡◌, ◌+◌, ◌<◌, ◌^◌, count_by, if◌then◌else◌, IfOk, OnOk, Some};
-ghost use Rattle.hsr_law.specs.Once.{delivers};
-ghost use Rattle.hsr_law.specs.Run.{is_of};
+ghost use Rattle.hsr_run_laws.specs.Once.{delivers};
+ghost use Rattle.hsr_run_laws.specs.Run.{is_of};
 ghost use Rattle.hsr_deliveries.specs.Counted.{times_in};
 ghost use Rattle.hsr_node.specs.declared.event.Probe as spec;
 
@@ -17,13 +17,14 @@ type Counts = IndexMap<(usize, usize), usize>;
 /// A node's record, and how often the node took each send up.
 #[derive(Drop)]
 pub(crate) struct Tally<'a> {
+    // Kept for its model: contracts speak of a tally by the entries that it counts.
     entries: &'a [Entry],
     counts: Counts,
 }
 
 impl<'a> Model for Tally<'a> {
     ghost use Rattle.std.specs.Prelude.{◌≡◌, List, count_by};
-    ghost use Rattle.hsr_law.specs.Once.{delivers};
+    ghost use Rattle.hsr_run_laws.specs.Once.{delivers};
     ghost use Rattle.hsr_node.specs.declared.entry.Entry.{Entry};
     ghost use Rattle.hsr_node.specs.declared.event.Probe as spec;
     ghost use Rattle.hsr_deliveries.specs.Counted.{times_in};
@@ -32,7 +33,8 @@ impl<'a> Model for Tally<'a> {
 
     ghost view = { λ t. t.entries.now };
 
-    ghost invariant = { λ t. (send : spec.Probe) → times_in t.counts send ≡ count_by (delivers send) t.entries.now };
+    ghost invariant = { λ t. (send : spec.Probe) → times_in t.counts send
+        ≡ count_by (delivers send) t.entries.now };
 }
 
 /// The send of an arrival that went up.
@@ -57,18 +59,21 @@ fn times_in(counts: &Counts, send: Probe) -> usize
 /// Counts a send once more.
 fn count_one(counts: &mut Counts, send: Probe) -> Result<(), NoMemory>
     requires { times_in counts.old send + 1 < 2 ^ 64 }
-    ensures { OnOk result ((other : spec.Probe) → times_in counts.new other ≡ times_in counts.old other + (if is_of other (Some send) then 1 else 0)) }
+    ensures { OnOk result ((other : spec.Probe) → times_in counts.new other
+        ≡ times_in counts.old other + (if is_of other (Some send) then 1 else 0)) }
 {
     *counts.entry((send.node, send.place))?.or_insert(0) += 1;
     Ok(())
 }
 
 /// How often each send was taken up by the entries of a record.
-#[tactic(auto, using(crate::proofs::Counting::count_fits, crate::proofs::Counting::counted_more))]
+#[tactic(auto, using(hsr_frame::proofs::OneMore::count_fits, hsr_frame::proofs::OneMore::counted_more))]
 fn counted(alloc: Global, entries: &[Entry]) -> Result<Counts, NoMemory>
-    ensures { IfOk result (λ counts. (send : spec.Probe) → times_in counts send ≡ count_by (delivers send) entries.now) }
+    ensures { IfOk result (λ counts. (send : spec.Probe) → times_in counts send
+        ≡ count_by (delivers send) entries.now) }
 {
     let mut counts = IndexMap::new(alloc);
+    // The index is used by the loop's invariant alone.
     for (i, x) in entries.iter().enumerate() {
         if let Some(send) = taken_up(x) {
             count_one(&mut counts, send)?;

@@ -12,7 +12,7 @@ use Rattle.hsr_supervision.specs.Payload.{Fields as Said, read_of}
 use Rattle.hsr_supervision.specs.declared.payload.SupFault.{SupFault}
 use Rattle.hsr_tables.specs.Known.{known, latest_heard}
 use Rattle.hsr_tables.specs.Nodes.{Hearing, Nodes, heard as node_heard, heard_if, hearing_if, listened, no_nodes}
-use Rattle.hsr_role.specs.Arrival.{heard_of}
+use Rattle.hsr_forwarding.specs.Arrival.{heard_of}
 use Rattle.hsr_tables.specs.Proxies.{Proxies}
 use Rattle.hsr_tables.specs.declared.nodes.NodeRow.{NodeRow}
 use Rattle.hsr_tables.proofs.NodeLaws.{rows_of_latest}
@@ -24,8 +24,8 @@ use Rattle.hsr_node.specs.declared.event.Event.{Event}
 use Rattle.hsr_node.specs.declared.event.Event.TheVariants.{Send, Supervise, Arrive, Age}
 use Rattle.hsr_node.specs.declared.place.Place.{Place}
 use Rattle.hsr_node.specs.declared.place.Place.TheVariants.{Danh, RedBox, QuadBox, Station}
-use Rattle.hsr_needed.specs.Read.{stations_of}
-use Rattle.hsr_needed.proofs.Hearing.{folded as stations_folded}
+use Rattle.hsr_table_demand.specs.Read.{stations_of}
+use Rattle.hsr_table_demand.proofs.Hearing.{folded as stations_folded}
 use Rattle.hsr_devices.specs.Known.{hears_with, nodes_of, stations_known, with_own}
 
 -- an entry lets hear one node at most, at its moment

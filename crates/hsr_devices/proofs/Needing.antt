@@ -1,8 +1,8 @@
 -- What the tables of one more node needed.
 use Rattle.std.proofs.Common.{◌≡◌, ℕ, ◌+◌, List, [], ◌∷◌, ◌++◌, length, subst, arith}
-use Rattle.hsr_law.specs.Run.{Run}
-use Rattle.hsr_needed.specs.Needs.{IsMostAt}
-use Rattle.hsr_needed.specs.declared.most.Needed.{Needed}
+use Rattle.hsr_run_laws.specs.Run.{Run}
+use Rattle.hsr_table_demand.specs.Needs.{IsMostAt}
+use Rattle.hsr_table_demand.specs.declared.most.Needed.{Needed}
 use Rattle.hsr_devices.specs.Listing.{AreMost}
 
 pub most_push : (run : Run) (n k : ℕ) (ms : List Needed) (m : Needed) → AreMost run n ms → n + length ms ≡ k → IsMostAt run k m → AreMost run n (ms ++ m ∷ [])

@@ -35,12 +35,12 @@ use Rattle.hsr_node.specs.declared.event.Outcome.TheVariants.{Sent, Life, Judged
 use Rattle.hsr_node.specs.declared.event.StepFault.TheVariants.{Spent}
 use Rattle.hsr_node.specs.declared.place.Place.{Place}
 use Rattle.hsr_node.specs.declared.place.Place.TheVariants.{Danh, RedBox, QuadBox, Station}
-use Rattle.hsr_law.specs.Run.{owner_of, record_of}
-use Rattle.hsr_closing.specs.Finished.{Finished, IsFinished}
-use Rattle.hsr_law.proofs.Lists.{count_more}
-use Rattle.hsr_law.proofs.Records.{Answered, legal_each}
-use Rattle.hsr_law.proofs.Views.{Came, came, judged, knows_at}
-use Rattle.hsr_law.proofs.Wanted.{no_box_port, no_quad_port, no_ring_port}
+use Rattle.hsr_run_laws.specs.Run.{owner_of, record_of}
+use Rattle.hsr_finished_run.specs.Finished.{Finished, IsFinished}
+use Rattle.hsr_run_laws.proofs.Lists.{count_more}
+use Rattle.hsr_run_laws.proofs.Records.{Answered, legal_each}
+use Rattle.hsr_run_laws.proofs.Views.{Came, came, judged, knows_at}
+use Rattle.hsr_run_laws.proofs.Wanted.{no_box_port, no_quad_port, no_ring_port}
 use Rattle.hsr_devices.specs.Counted.{IsUpPassed, SumsAre, SumsAreCounters, becomes, is_at, is_counted, is_passed, judged_as as counted_as, leaves_by, summed}
 use Rattle.hsr_devices.specs.Listing.{AreSums}
 use Rattle.hsr_devices.specs.declared.counted.Counted.{Counted}

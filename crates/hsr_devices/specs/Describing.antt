@@ -6,7 +6,7 @@ use Rattle.hsr_frame.specs.Words.{mode_word}
 use Rattle.hsr_supervision.specs.declared.payload.SupKind.{SupKind}
 use Rattle.hsr_supervision.specs.declared.payload.SupKind.TheVariants.{PrpDiscard, PrpAccept, Hsr}
 use Rattle.hsr_tables.specs.declared.nodes.NodeRow.{NodeRow}
-use Rattle.hsr_names.specs.Names.{name_of}
+use Rattle.hsr_timeline.specs.Names.{name_of}
 use Rattle.hsr_node.specs.declared.place.Place.{Place}
 use Rattle.hsr_node.specs.declared.place.Place.TheVariants.{Danh, RedBox, QuadBox, Station}
 use Rattle.hsr_node.specs.Place.{owns}

@@ -11,10 +11,10 @@ use Rattle.hsr_node.specs.Record.{now, rows}
 use Rattle.hsr_node.specs.Words.{letters, role_in, role_word}
 use Rattle.hsr_node.specs.declared.place.Place.{Place}
 use Rattle.hsr_node.specs.declared.place.Place.TheVariants.{Danh, RedBox, QuadBox, Station}
-use Rattle.hsr_law.specs.Run.{Run, past_of, place_of, record_of}
-use Rattle.hsr_names.specs.Names.{name_of, port_text}
-use Rattle.hsr_needed.specs.Needs.{IsMostAt}
-use Rattle.hsr_needed.specs.declared.most.Needed.{Needed}
+use Rattle.hsr_run_laws.specs.Run.{Run, past_of, place_of, record_of}
+use Rattle.hsr_timeline.specs.Names.{name_of, port_text}
+use Rattle.hsr_table_demand.specs.Needs.{IsMostAt}
+use Rattle.hsr_table_demand.specs.declared.most.Needed.{Needed}
 use Rattle.hsr_devices.specs.Cells.{left, right}
 use Rattle.hsr_devices.specs.Counted.{SumsAre}
 use Rattle.hsr_devices.specs.Describing.{addresses_text, known_text, unheard_text}

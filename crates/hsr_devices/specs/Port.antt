@@ -7,7 +7,9 @@ use Rattle.hsr_link.specs.declared.row.Dir.TheVariants.{Forth, Back}
 use Rattle.hsr_link.specs.declared.row.Row.{Row}
 use Rattle.hsr_topology.specs.Links.{link_from}
 use Rattle.hsr_topology.specs.declared.end.End.{End}
-use Rattle.hsr_law.specs.Run.{Run, ends_of, rows_of, to_end}
+use Rattle.hsr_run_laws.specs.Run.{Run, ends_of, rows_of, to_end}
+use Rattle.hsr_devices.specs.declared.port.Copies.{Copies}
+use Rattle.hsr_devices.specs.declared.port.Copies.TheVariants.{Put, Taken}
 use Rattle.hsr_devices.specs.declared.port.PortLink.{PortLink}
 
 -- the directions of the copies that leave by the first end of a link or its second, and of those that come to it
@@ -23,12 +25,14 @@ in_dir false = Forth
 abbrev pub is_loss : Dir → Row → Bool
 is_loss dir row = is_same_dir dir row.dir && is_lost row.fate
 
--- the octets of a copy of a direction, if it was taken; and of any such copy
-abbrev pub octets_taken : Dir → Row → ℕ
-octets_taken dir row = if is_same_dir dir row.dir && is_taken row.fate then length row.carried.octets else 0
+-- a row is of a copy of a direction that was put on the link, as all are; or of one that was taken from it
+abbrev pub is_among : Copies → Dir → Row → Bool
+is_among Put dir row = is_same_dir dir row.dir
+is_among Taken dir row = is_same_dir dir row.dir && is_taken row.fate
 
-abbrev pub octets_put : Dir → Row → ℕ
-octets_put dir row = if is_same_dir dir row.dir then length row.carried.octets else 0
+-- the octets of such a copy
+abbrev pub octets_among : Copies → Dir → Row → ℕ
+octets_among copies dir row = if is_among copies dir row then length row.carried.octets else 0
 
 -- a link, and whether the port is its first end
 abbrev pub port_link_at : Run → ℕ × Bool → PortLink
@@ -37,8 +41,8 @@ port_link_at run at = record {
   peer = to_end (out_dir at.1) (ends_of run at.0);
   lost_in = count_by (is_loss (in_dir at.1)) (rows_of run at.0);
   lost_out = count_by (is_loss (out_dir at.1)) (rows_of run at.0);
-  octets_in = sum_by (octets_taken (in_dir at.1)) (rows_of run at.0);
-  octets_out = sum_by (octets_put (out_dir at.1)) (rows_of run at.0);
+  octets_in = sum_by (octets_among Taken (in_dir at.1)) (rows_of run at.0);
+  octets_out = sum_by (octets_among Put (out_dir at.1)) (rows_of run at.0);
 }
 
 -- the link of a port

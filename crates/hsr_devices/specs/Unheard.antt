@@ -9,7 +9,7 @@ use Rattle.hsr_node.specs.declared.entry.Entry.{Entry}
 use Rattle.hsr_node.specs.declared.place.Place.{Place}
 use Rattle.hsr_node.specs.declared.place.Place.TheVariants.{Danh, RedBox, QuadBox, Station}
 use Rattle.hsr_tables.specs.Nodes.{Hearing}
-use Rattle.hsr_law.specs.Run.{Run, past_of, place_of}
+use Rattle.hsr_run_laws.specs.Run.{Run, past_of, place_of}
 
 -- a supervision frame is about an address
 abbrev pub tells : List ℕ → Hearing → Bool

@@ -7,10 +7,11 @@ use hsr_frame::NoMemory;
 use hsr_text::{put_number, put_octets};
 use std::alloc::Global;
 
-/// Puts so many spaces last.
+/// Puts spaces last, `count` of them.
 fn put_spaces(text: &mut Vec<u8>, count: usize) -> Result<(), NoMemory>
     ensures { OnOk result (text.new.items ≡ text.old.items ++ replicate count 32) }
 {
+    // More than a length can count fits into no memory.
     let Some(length) = text.len().checked_add(count) else {
         return Err(NoMemory);
     };
@@ -45,6 +46,7 @@ pub(crate) fn put_count(
 ) -> Result<(), NoMemory>
     ensures { OnOk result (text.new.items ≡ text.old.items ++ right width (decimal n)) }
 {
+    // Formed by itself, since its length says how many spaces stand before it.
     let mut cell = Vec::new(alloc);
     put_number(&mut cell, n)?;
     put_right(text, width, cell.as_slice())

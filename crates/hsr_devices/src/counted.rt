@@ -105,8 +105,8 @@ pub fn count(entries: &[Entry], port: u8, what: Counted) -> usize
         .count()
 }
 
-/// What is counted at the four ports that a node may have sums up to its counters, each cause to its own; and at each port what was
-/// taken up was passed too.
+/// What is counted at the four ports that a node may have sums up to its counters, each cause to its own; and at each
+/// port what was taken up was passed too.
 pub fn sums_are_counters()
     ensures { SumsAreCounters }
 {}

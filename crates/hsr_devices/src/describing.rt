@@ -1,17 +1,17 @@
 //! What a node is, and what it knows, in words.
 ghost use Rattle.std.specs.Prelude.{◌≡◌, ◌++◌, OnOk, codes};
 ghost use Rattle.std.specs.List.{flat_map};
-ghost use Rattle.hsr_order.specs.Fronts.{lists_of};
+ghost use Rattle.hsr_timeline.specs.Fronts.{lists_of};
 ghost use Rattle.hsr_devices.specs.Describing.{addresses_text, heard_if, kind_text, known_text, macs_text, next_name, node_row_text, owner_if, owner_in, parted_names, redbox_if, station_text, unheard_text, who_text};
 ghost use Rattle.hsr_text.specs.Words.{mac_text};
 
 use crate::known::Known;
 use hsr_frame::{Mac, NoMemory};
-use hsr_names::put_name;
 use hsr_node::Place;
 use hsr_supervision::SupKind;
 use hsr_tables::NodeRow;
 use hsr_text::{put, put_mac, put_number, put_octets};
+use hsr_timeline::put_name;
 use std::alloc::Global;
 
 /// Puts an address behind two spaces last.
@@ -83,13 +83,14 @@ fn put_who(
     places: &[Place],
     mac: Mac,
 ) -> Result<(), NoMemory>
-    ensures { OnOk result (text.new.items ≡ text.old.items ++ who_text (lists_of names.now) places.now mac) }
+    ensures { OnOk result (text.new.items ≡ text.old.items
+        ++ who_text (lists_of names.now) places.now mac) }
 {
     put_mac(alloc, text, mac)?;
     put_owner(text, names, owner_in(places, mac))
 }
 
-/// What kind of node a supervision frame tells of.
+/// What kind of node a supervision frame tells of, by the type of its first TLV (IEC 62439-3 clause 5.7).
 fn kind_text(kind: SupKind) -> &'static [u8]
     ensures { result.now ≡ kind_text kind }
 {
@@ -108,7 +109,8 @@ fn put_redbox(
     places: &[Place],
     redbox: Option<Mac>,
 ) -> Result<(), NoMemory>
-    ensures { OnOk result (text.new.items ≡ text.old.items ++ redbox_if (lists_of names.now) places.now redbox) }
+    ensures { OnOk result (text.new.items ≡ text.old.items
+        ++ redbox_if (lists_of names.now) places.now redbox) }
 {
     match redbox {
         Some(mac) => {
@@ -144,7 +146,8 @@ fn put_node_row(
     places: &[Place],
     row: NodeRow,
 ) -> Result<(), NoMemory>
-    ensures { OnOk result (text.new.items ≡ text.old.items ++ node_row_text (lists_of names.now) places.now row) }
+    ensures { OnOk result (text.new.items ≡ text.old.items
+        ++ node_row_text (lists_of names.now) places.now row) }
 {
     put(text, "  knows ")?;
     put_who(alloc, text, names, places, row.mac)?;
@@ -165,7 +168,8 @@ fn put_station(
     mac: Mac,
     moment: u64,
 ) -> Result<(), NoMemory>
-    ensures { OnOk result (text.new.items ≡ text.old.items ++ station_text (lists_of names.now) places.now (mac, moment)) }
+    ensures { OnOk result (text.new.items ≡ text.old.items
+        ++ station_text (lists_of names.now) places.now (mac, moment)) }
 {
     put(text, "  knows ")?;
     put_who(alloc, text, names, places, mac)?;
@@ -183,7 +187,8 @@ fn put_nodes(
     places: &[Place],
     rows: &[NodeRow],
 ) -> Result<(), NoMemory>
-    ensures { OnOk result (text.new.items ≡ text.old.items ++ flat_map (node_row_text (lists_of names.now) places.now) rows.now) }
+    ensures { OnOk result (text.new.items ≡ text.old.items
+        ++ flat_map (node_row_text (lists_of names.now) places.now) rows.now) }
 {
     for row in rows {
         put_node_row(alloc, text, names, places, *row)?;
@@ -200,7 +205,8 @@ fn put_stations(
     places: &[Place],
     stations: &[(Mac, u64)],
 ) -> Result<(), NoMemory>
-    ensures { OnOk result (text.new.items ≡ text.old.items ++ flat_map (station_text (lists_of names.now) places.now) stations.now) }
+    ensures { OnOk result (text.new.items ≡ text.old.items
+        ++ flat_map (station_text (lists_of names.now) places.now) stations.now) }
 {
     for station in stations {
         put_station(alloc, text, names, places, station.0, station.1)?;
@@ -219,7 +225,8 @@ fn put_next_name(text: &mut Vec<u8>, names: &[Vec<u8>], node: usize) -> Result<(
 /// Puts the names of nodes last, each behind a comma.
 #[tactic(auto, using(hsr_frame::proofs::OneMore::grown))]
 fn put_next_names(text: &mut Vec<u8>, names: &[Vec<u8>], nodes: &[usize]) -> Result<(), NoMemory>
-    ensures { OnOk result (text.new.items ≡ text.old.items ++ flat_map (next_name (lists_of names.now)) nodes.now) }
+    ensures { OnOk result (text.new.items ≡ text.old.items
+        ++ flat_map (next_name (lists_of names.now)) nodes.now) }
 {
     for node in nodes {
         put_next_name(text, names, *node)?;
@@ -234,7 +241,8 @@ fn put_names(
     node: usize,
     others: &[usize],
 ) -> Result<(), NoMemory>
-    ensures { OnOk result (text.new.items ≡ text.old.items ++ parted_names (lists_of names.now) node others.now) }
+    ensures { OnOk result (text.new.items ≡ text.old.items
+        ++ parted_names (lists_of names.now) node others.now) }
 {
     put_name(text, names, node)?;
     put_next_names(text, names, others)
@@ -248,7 +256,8 @@ fn put_names_line(
     node: usize,
     others: &[usize],
 ) -> Result<(), NoMemory>
-    ensures { OnOk result (text.new.items ≡ text.old.items ++ (words.now ++ parted_names (lists_of names.now) node others.now ++ codes "\n")) }
+    ensures { OnOk result (text.new.items ≡ text.old.items ++ (words.now
+        ++ parted_names (lists_of names.now) node others.now ++ codes "\n")) }
 {
     put_octets(text, words)?;
     put_names(text, names, node, others)?;
@@ -261,7 +270,8 @@ pub(crate) fn put_unheard(
     names: &[Vec<u8>],
     nodes: &[usize],
 ) -> Result<(), NoMemory>
-    ensures { OnOk result (text.new.items ≡ text.old.items ++ unheard_text (lists_of names.now) nodes.now) }
+    ensures { OnOk result (text.new.items ≡ text.old.items
+        ++ unheard_text (lists_of names.now) nodes.now) }
 {
     match nodes.split_first() {
         None => Ok(()),
@@ -277,7 +287,9 @@ pub(crate) fn put_known(
     places: &[Place],
     known: &Known,
 ) -> Result<(), NoMemory>
-    ensures { OnOk result (text.new.items ≡ text.old.items ++ known_text (lists_of names.now) places.now known.now.nodes.items known.now.stations.items) }
+    ensures { OnOk result (text.new.items ≡ text.old.items
+        ++ known_text (lists_of names.now) places.now known.now.nodes.items
+        known.now.stations.items) }
 {
     put_nodes(alloc, text, names, places, known.nodes.as_slice())?;
     put_stations(alloc, text, names, places, known.stations.as_slice())

@@ -5,15 +5,15 @@ ghost use Rattle.hsr_tables.specs.Nodes.{heard as node_heard};
 ghost use Rattle.hsr_devices.specs.Known.{hears_with, stations_known};
 
 use arrayvec::ArrayVec;
+use hsr_forwarding::hear as hear_life;
 use hsr_frame::{Mac, RingPort};
-use hsr_needed::hear;
 use hsr_node::{Entry, Event, Place};
-use hsr_role::hear as hear_life;
+use hsr_table_demand::hear;
 use hsr_tables::{NodeRow, NodeTable, ProxyTable, ROW_LIMIT};
 use hsr_tag::look_at;
 
-/// What a node knows: the nodes of which it heard supervision frames on the ring, and of a RedBox the stations that it heard on its
-/// interlink, each with the moment in microseconds when it was heard last; the latest heard first.
+/// What a node knows: the nodes of which it heard supervision frames on the ring, and of a RedBox the stations that it
+/// heard on its interlink, each with the moment in microseconds when it was heard last; the latest heard first.
 #[derive(Clone, Debug, Drop)]
 pub struct Known {
     pub nodes: ArrayVec<NodeRow, ROW_LIMIT>,
@@ -46,12 +46,15 @@ fn hear_node(nodes: &mut NodeTable, place: &Place, at: u64, event: &Event)
 /// What a record lets its node know at the moment of the last entry: the nodes that are in the node's own table, and the
 /// stations.
 pub fn known_by(place: &Place, entries: &[Entry]) -> Known
-    ensures nodes { result.nodes.items ≡ rows place.now (reverse entries.now) (now (reverse entries.now)) }
+    ensures nodes { result.nodes.items ≡ rows place.now (reverse entries.now)
+        (now (reverse entries.now)) }
     ensures stations { result.stations.items ≡ stations_known place.now (reverse entries.now) }
 {
     let mut at = 0;
+    // Heard anew from the record: a closed run doesn't show what its nodes hold.
     let mut nodes = NodeTable::new();
     let mut stations = ProxyTable::new();
+    // The index is used by the loop's invariant alone.
     for (i, entry) in entries.iter().enumerate() {
         at = entry.at.max(at);
         hear_node(&mut nodes, place, at, &entry.event);

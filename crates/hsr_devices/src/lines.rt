@@ -24,7 +24,8 @@ pub(crate) struct Columns<'a> {
 /// Puts counts last, each in a column.
 #[tactic(auto, using(hsr_frame::proofs::OneMore::grown))]
 fn put_cells(alloc: Global, text: &mut Vec<u8>, width: usize, cells: &[u64]) -> Result<(), NoMemory>
-    ensures { OnOk result (text.new.items ≡ text.old.items ++ flat_map (cell_text width) cells.now) }
+    ensures { OnOk result (text.new.items ≡ text.old.items
+        ++ flat_map (cell_text width) cells.now) }
 {
     for cell in cells {
         put_count(alloc, text, width, *cell)?;
@@ -57,7 +58,8 @@ pub(crate) fn put_row(
     cells: &[u64],
     node: Option<u64>,
 ) -> Result<(), NoMemory>
-    ensures { OnOk result (text.new.items ≡ text.old.items ++ row_text width label.now cells.now node) }
+    ensures { OnOk result (text.new.items ≡ text.old.items
+        ++ row_text width label.now cells.now node) }
 {
     put_left(text, LABEL, label)?;
     put_cells(alloc, text, width, cells)?;
@@ -68,7 +70,8 @@ pub(crate) fn put_row(
 /// What is counted at each port.
 #[tactic(auto, unfolding(crate::specs::Lines::counts))]
 fn counts(alloc: Global, columns: &Columns<'_>, what: Counted) -> Result<Vec<u64>, NoMemory>
-    ensures { IfOk result (λ cells. cells.items ≡ counts columns.now.entries.now columns.now.ports what) }
+    ensures { IfOk result (λ cells. cells.items
+        ≡ counts columns.now.entries.now columns.now.ports what) }
 {
     let mut cells = Vec::new(alloc);
     for port in 0..columns.ports {
@@ -107,7 +110,8 @@ fn put_counted(
     what: Counted,
     node: Option<u64>,
 ) -> Result<(), NoMemory>
-    ensures { OnOk result (text.new.items ≡ text.old.items ++ counted_row columns.now.width columns.now.entries.now columns.now.ports what node) }
+    ensures { OnOk result (text.new.items ≡ text.old.items
+        ++ counted_row columns.now.width columns.now.entries.now columns.now.ports what node) }
 {
     let cells = counts(alloc, columns, what)?;
     put_row(
@@ -129,8 +133,10 @@ fn put_counted_if(
     what: Counted,
     node: u64,
 ) -> Result<(), NoMemory>
-    ensures { OnOk result (text.new.items ≡ text.old.items ++ counted_if columns.now.width columns.now.entries.now columns.now.ports what node) }
+    ensures { OnOk result (text.new.items ≡ text.old.items
+        ++ counted_if columns.now.width columns.now.entries.now columns.now.ports what node) }
 {
+    // Rows of what never came are left out.
     if node == 0 {
         return Ok(());
     }
@@ -166,7 +172,8 @@ fn put_wanted(
     columns: &Columns<'_>,
     node: Counters,
 ) -> Result<(), NoMemory>
-    ensures { OnOk result (text.new.items ≡ text.old.items ++ wanted_text columns.now.width columns.now.entries.now columns.now.ports node) }
+    ensures { OnOk result (text.new.items ≡ text.old.items
+        ++ wanted_text columns.now.width columns.now.entries.now columns.now.ports node) }
 {
     put_counted(alloc, text, columns, Counted::Arrived, None)?;
     put_counted(alloc, text, columns, Counted::Passed, None)?;
@@ -188,7 +195,8 @@ fn put_unwanted(
     columns: &Columns<'_>,
     node: Counters,
 ) -> Result<(), NoMemory>
-    ensures { OnOk result (text.new.items ≡ text.old.items ++ unwanted_text columns.now.width columns.now.entries.now columns.now.ports node) }
+    ensures { OnOk result (text.new.items ≡ text.old.items
+        ++ unwanted_text columns.now.width columns.now.entries.now columns.now.ports node) }
 {
     put_counted_if(alloc, text, columns, Counted::Returned, node.returned)?;
     put_counted_if(alloc, text, columns, Counted::Foreign, node.foreign)?;
@@ -208,7 +216,9 @@ pub(crate) fn put_arrivals(
     octets: &[u64],
     lost: &[u64],
 ) -> Result<(), NoMemory>
-    ensures { OnOk result (text.new.items ≡ text.old.items ++ arrivals_text columns.now.width columns.now.entries.now columns.now.ports node octets.now lost.now) }
+    ensures { OnOk result (text.new.items ≡ text.old.items
+        ++ arrivals_text columns.now.width columns.now.entries.now columns.now.ports node octets.now
+        lost.now) }
 {
     put_wanted(alloc, text, columns, node)?;
     put_unwanted(alloc, text, columns, node)?;
@@ -226,7 +236,9 @@ pub(crate) fn put_departures(
     octets: &[u64],
     lost: &[u64],
 ) -> Result<(), NoMemory>
-    ensures { OnOk result (text.new.items ≡ text.old.items ++ departures_text columns.now.width columns.now.entries.now columns.now.ports node octets.now lost.now) }
+    ensures { OnOk result (text.new.items ≡ text.old.items
+        ++ departures_text columns.now.width columns.now.entries.now columns.now.ports node
+        octets.now lost.now) }
 {
     put_counted(alloc, text, columns, Counted::Own, None)?;
     put_counted(

@@ -2,8 +2,8 @@
 ghost use Rattle.std.specs.Prelude.{◌≡◌, ◌<◌, ◌++◌, ◌∷◌, [], IfOk, OnOk, codes, fold, length, map};
 ghost use Rattle.std.specs.Fmt.{decimal};
 ghost use Rattle.std.specs.List.{flat_map};
-ghost use Rattle.hsr_law.specs.Run.{place_of};
-ghost use Rattle.hsr_order.specs.Fronts.{lists_of};
+ghost use Rattle.hsr_run_laws.specs.Run.{place_of};
+ghost use Rattle.hsr_timeline.specs.Fronts.{lists_of};
 ghost use Rattle.hsr_devices.specs.Listing.{AreMost, AreSums, IsListing, amount_at, amount_in, columns_text, device_text, devices_below, head_text, known_at, letter_cell, links_at, needed_if, needed_text, peer_text, peers_row, ports_row, sent_text, table_text, traffic_text, unheard_at, unreadable_if, unreadable_line, wider};
 ghost use Rattle.hsr_devices.specs.Cells.{right};
 
@@ -13,12 +13,12 @@ use crate::known::known_by;
 use crate::lines::{Columns, put_arrivals, put_departures};
 use crate::port::{PortLink, port_link};
 use crate::unheard::unheard;
-use hsr_closing::Closed;
+use hsr_finished_run::Closed;
 use hsr_frame::{Counters, NoMemory};
-use hsr_names::{put_name, put_port};
-use hsr_needed::{Needed, needed_at};
 use hsr_node::Place;
+use hsr_table_demand::{Needed, needed_at};
 use hsr_text::{put, put_number, put_octets};
+use hsr_timeline::{put_name, put_port};
 use hsr_topology::End;
 use std::alloc::Global;
 
@@ -99,7 +99,8 @@ fn peer(
     places: &[Place],
     link: &Option<PortLink>,
 ) -> Result<Vec<u8>, NoMemory>
-    ensures { IfOk result (λ text. text.items ≡ peer_text (lists_of names.now) places.now link.now) }
+    ensures { IfOk result (λ text. text.items
+        ≡ peer_text (lists_of names.now) places.now link.now) }
 {
     let mut text = Vec::new(alloc);
     match link {
@@ -124,7 +125,8 @@ fn peers(
     places: &[Place],
     links: &[Option<PortLink>],
 ) -> Result<Vec<Vec<u8>>, NoMemory>
-    ensures { IfOk result (λ texts. lists_of texts.items ≡ map (peer_text (lists_of names.now) places.now) links.now) }
+    ensures { IfOk result (λ texts. lists_of texts.items
+        ≡ map (peer_text (lists_of names.now) places.now) links.now) }
 {
     let mut texts = Vec::new(alloc);
     for link in links {
@@ -158,7 +160,8 @@ fn put_ports(text: &mut Vec<u8>, width: usize, place: &Place) -> Result<(), NoMe
 /// Puts letters last, each in a column.
 #[tactic(auto, using(hsr_frame::proofs::OneMore::grown))]
 fn put_letters(text: &mut Vec<u8>, width: usize, letters: &[u8]) -> Result<(), NoMemory>
-    ensures { OnOk result (text.new.items ≡ text.old.items ++ flat_map (letter_cell width) letters.now) }
+    ensures { OnOk result (text.new.items ≡ text.old.items
+        ++ flat_map (letter_cell width) letters.now) }
 {
     for letter in letters {
         put_right(text, width, [*letter].as_slice())?;
@@ -169,7 +172,8 @@ fn put_letters(text: &mut Vec<u8>, width: usize, letters: &[u8]) -> Result<(), N
 /// Puts texts last, each in a column.
 #[tactic(auto, using(hsr_frame::proofs::OneMore::grown))]
 fn put_each(text: &mut Vec<u8>, width: usize, texts: &[Vec<u8>]) -> Result<(), NoMemory>
-    ensures { OnOk result (text.new.items ≡ text.old.items ++ flat_map (λ cell. right width cell.items) texts.now) }
+    ensures { OnOk result (text.new.items ≡ text.old.items
+        ++ flat_map (λ cell. right width cell.items) texts.now) }
 {
     for cell in texts {
         put_right(text, width, cell.as_slice())?;
@@ -179,15 +183,18 @@ fn put_each(text: &mut Vec<u8>, width: usize, texts: &[Vec<u8>]) -> Result<(), N
 
 /// The same, by what the texts are.
 fn put_texts(text: &mut Vec<u8>, width: usize, texts: &[Vec<u8>]) -> Result<(), NoMemory>
-    ensures { OnOk result (text.new.items ≡ text.old.items ++ flat_map (right width) (lists_of texts.now)) }
+    ensures { OnOk result (text.new.items ≡ text.old.items
+        ++ flat_map (right width) (lists_of texts.now)) }
 {
+    // A call of its own turns a clause over vectors into one over lists.
     put_each(text, width, texts)
 }
 
 /// Puts the row of the ports to which a node's ports lead last.
 #[tactic(auto, unfolding(crate::specs::Listing::peers_row))]
 fn put_peers(text: &mut Vec<u8>, width: usize, peers: &[Vec<u8>]) -> Result<(), NoMemory>
-    ensures { OnOk result (text.new.items ≡ text.old.items ++ peers_row width (lists_of peers.now)) }
+    ensures { OnOk result (text.new.items ≡ text.old.items
+        ++ peers_row width (lists_of peers.now)) }
 {
     put_left(text, LABEL, b"  leads to")?;
     put_texts(text, width, peers)?;
@@ -203,7 +210,8 @@ fn put_head(
     node: usize,
     place: &Place,
 ) -> Result<(), NoMemory>
-    ensures { OnOk result (text.new.items ≡ text.old.items ++ head_text (lists_of names.now) node place.now) }
+    ensures { OnOk result (text.new.items ≡ text.old.items
+        ++ head_text (lists_of names.now) node place.now) }
 {
     put_name(text, names, node)?;
     put(text, "  ")?;
@@ -254,6 +262,7 @@ fn put_table(text: &mut Vec<u8>, entries: usize, needed: Needed) -> Result<(), N
 fn capacity<const C: usize>(closed: &Closed<C>) -> usize
     ensures { result ≡ closed.now.run.capacity }
 {
+    // Its contract says that the run's tables have `C` entries.
     let _topology = closed.topology();
     C
 }
@@ -266,7 +275,8 @@ fn put_needed(
     entries: usize,
     needed: Needed,
 ) -> Result<(), NoMemory>
-    ensures { OnOk result (text.new.items ≡ text.old.items ++ needed_text place.now entries needed) }
+    ensures { OnOk result (text.new.items ≡ text.old.items
+        ++ needed_text place.now entries needed) }
 {
     match place {
         Place::Station { .. } => Ok(()),
@@ -276,7 +286,8 @@ fn put_needed(
 
 /// Puts the line of a number behind words last.
 fn put_number_line(text: &mut Vec<u8>, words: &[u8], n: u64) -> Result<(), NoMemory>
-    ensures { OnOk result (text.new.items ≡ text.old.items ++ (words.now ++ decimal n ++ codes "\n")) }
+    ensures { OnOk result (text.new.items ≡ text.old.items ++ (words.now ++ decimal n
+        ++ codes "\n")) }
 {
     put_octets(text, words)?;
     put_number(text, n)?;
@@ -315,7 +326,8 @@ fn put_traffic<const C: usize>(
 ) -> Result<(), NoMemory>
     requires below { node < length closed.now.run.places }
     requires place { place.now ≡ place_of closed.now.run node }
-    ensures { OnOk result (text.new.items ≡ text.old.items ++ traffic_text width closed.now.run node place.now links.now) }
+    ensures { OnOk result (text.new.items ≡ text.old.items
+        ++ traffic_text width closed.now.run node place.now links.now) }
 {
     let counters = closed.counters(node);
     let columns = Columns {
@@ -357,7 +369,8 @@ fn put_columns<const C: usize>(
 ) -> Result<(), NoMemory>
     requires below { node < length closed.now.run.places }
     requires place { place.now ≡ place_of closed.now.run node }
-    ensures { OnOk result (text.new.items ≡ text.old.items ++ columns_text (lists_of names.now) closed.now.run node place.now) }
+    ensures { OnOk result (text.new.items ≡ text.old.items
+        ++ columns_text (lists_of names.now) closed.now.run node place.now) }
 {
     let links = links_at(alloc, closed, node, place.ports())?;
     let peers = peers(alloc, names, closed.topology().places(), links.as_slice())?;
@@ -378,7 +391,8 @@ fn put_knowledge<const C: usize>(
     place: &Place,
 ) -> Result<(), NoMemory>
     requires below { node < length closed.now.run.places }
-    ensures { OnOk result (text.new.items ≡ text.old.items ++ known_at (lists_of names.now) closed.now.run node place.now) }
+    ensures { OnOk result (text.new.items ≡ text.old.items
+        ++ known_at (lists_of names.now) closed.now.run node place.now) }
 {
     let known = known_by(place, closed.entries(node));
     put_known(alloc, text, names, closed.topology().places(), &known)
@@ -396,7 +410,8 @@ fn put_never_heard<const C: usize>(
 ) -> Result<(), NoMemory>
     requires below { node < length closed.now.run.places }
     requires place { place.now ≡ place_of closed.now.run node }
-    ensures { OnOk result (text.new.items ≡ text.old.items ++ unheard_at (lists_of names.now) closed.now.run node place.now) }
+    ensures { OnOk result (text.new.items ≡ text.old.items
+        ++ unheard_at (lists_of names.now) closed.now.run node place.now) }
 {
     match place {
         Place::Danh { .. } | Place::RedBox { .. } => {
@@ -420,7 +435,8 @@ fn put_device<const C: usize>(
 ) -> Result<(), NoMemory>
     requires below { node < length closed.now.run.places }
     requires place { place.now ≡ place_of closed.now.run node }
-    ensures { OnOk result (text.new.items ≡ text.old.items ++ device_text (lists_of names.now) closed.now.run node place.now needed) }
+    ensures { OnOk result (text.new.items ≡ text.old.items
+        ++ device_text (lists_of names.now) closed.now.run node place.now needed) }
 {
     put_head(alloc, text, names, node, place)?;
     put_sent(text, closed.counters(node))?;
@@ -444,7 +460,7 @@ fn all_needed<const C: usize>(alloc: Global, closed: &Closed<C>) -> Result<Vec<N
     Ok(needed)
 }
 
-/// Puts the lines of all devices last, where their tables needed so much.
+/// Puts the lines of all devices last, with how many entries the tables of each needed.
 fn put_devices<const C: usize>(
     alloc: Global,
     text: &mut Vec<u8>,
@@ -453,7 +469,9 @@ fn put_devices<const C: usize>(
     needed: &[Needed],
 ) -> Result<(), NoMemory>
     requires { length needed.now ≡ length closed.now.run.places }
-    ensures { OnOk result (text.new.items ≡ text.old.items ++ devices_below (lists_of names.now) closed.now.run needed.now (length closed.now.run.places)) }
+    ensures { OnOk result (text.new.items ≡ text.old.items
+        ++ devices_below (lists_of names.now) closed.now.run needed.now
+        (length closed.now.run.places)) }
 {
     let places = closed.topology().places();
     for node in 0..places.len() {
@@ -470,21 +488,23 @@ fn put_devices<const C: usize>(
     Ok(())
 }
 
-/// The devices of a finished run, node by node: what each is; where its ports lead, what came and left there with the node's own
-/// counters beside it, its octets, and what was lost on the way; how many entries its duplicate tables have, how many were needed, and by
-/// which entry of its record first; how many supervision frames it couldn't read, if there were any; the nodes and stations that it
-/// knows at the moment of its last entry, as its own tables have them; and the other DANHs and RedBoxes of which supervision never told
-/// it.
-/// A node without a name is `n` and its number. `NoMemory` where room is refused. What is counted at the ports of a node sums up to
-/// its counters, and what was taken up was passed too.
+/// The devices of a finished run, node by node: what each is; where its ports lead, what came and left there with the
+/// node's own counters beside it, its octets, and what was lost on the way; how many entries its duplicate tables have,
+/// how many were needed, and by which entry of its record first; how many supervision frames it couldn't read, if there
+/// were any; the nodes and stations that it knows at the moment of its last entry, as its own tables have them; and the
+/// other DANHs and RedBoxes of which supervision never told it. A node without a name is `n` and its number. `NoMemory`
+/// if allocation fails. What is counted at the ports of a node sums up to its counters, and what was taken up was
+/// passed too.
 pub fn devices<const C: usize>(
     alloc: Global,
     closed: &Closed<C>,
     names: &[Vec<u8>],
 ) -> Result<Vec<u8>, NoMemory>
-    ensures listing { IfOk result (λ text. IsListing (lists_of names.now) closed.now.run text.items) }
+    ensures listing { IfOk result (λ text.
+        IsListing (lists_of names.now) closed.now.run text.items) }
     ensures sums { AreSums closed.now.run }
 {
+    // Its contract says that the run is finished, from which `sums` follows.
     let _topology = closed.topology();
     let needed = all_needed(alloc, closed)?;
     let mut text = Vec::new(alloc);

@@ -3,16 +3,16 @@ ghost use Rattle.std.specs.Prelude.{◌≡◌, ◌<◌, ◌≤◌, ◌+◌, ◌^
 ghost use Rattle.std.specs.List.{sum_by};
 ghost use Rattle.hsr_link.specs.Rows.{goes};
 ghost use Rattle.hsr_topology.specs.Links.{link_from};
-ghost use Rattle.hsr_devices.specs.Port.{in_dir, is_loss, octets_put, octets_taken, out_dir, port_link, port_link_at};
+ghost use Rattle.hsr_devices.specs.Port.{in_dir, is_among, is_loss, octets_among, out_dir, port_link, port_link_at};
 ghost use Rattle.hsr_devices.specs.Uncounted.{IsUncounted};
 
-use hsr_closing::Closed;
+use hsr_finished_run::Closed;
 use hsr_frame::NoMemory;
 use hsr_link::{Dir, Fate, Row};
 use hsr_topology::End;
 
-/// The link of a port, counted from 0: the port at its other end, how many copies were lost on their way in and on their way out, and the
-/// octets of those that came and of all that were put there.
+/// The link of a port, counted from 0: the port at its other end, how many copies were lost on their way in and on
+/// their egress, and the octets of those that came and of all that were put there.
 #[derive(Clone, Copy, Debug, PartialEq, Eq)]
 pub struct PortLink {
     pub link: usize,
@@ -54,22 +54,28 @@ fn is_loss(dir: Dir, row: &Row) -> bool
     goes(dir, row) && row.fate.is_lost()
 }
 
-/// The octets of a copy of a direction, if it was taken.
-fn octets_taken(dir: Dir, row: &Row) -> u64
-    ensures { result ≡ octets_taken dir row.now }
+/// Which copies of a direction: all that were put on a link, or those that were taken from it.
+#[derive(Clone, Copy)]
+enum Copies {
+    Put,
+    Taken,
+}
+
+/// Whether a row is of such a copy of a direction.
+fn is_among(copies: Copies, dir: Dir, row: &Row) -> bool
+    ensures { result ≡ is_among copies dir row.now }
 {
-    if goes(dir, row) && matches!(row.fate, Fate::Taken) {
-        row.carried.octets.as_slice().len() as u64
-    } else {
-        0
+    match copies {
+        Copies::Put => goes(dir, row),
+        Copies::Taken => goes(dir, row) && matches!(row.fate, Fate::Taken),
     }
 }
 
-/// The octets of a copy of a direction.
-fn octets_put(dir: Dir, row: &Row) -> u64
-    ensures { result ≡ octets_put dir row.now }
+/// The octets of a row's copy, if it is such a copy of a direction.
+fn octets_among(copies: Copies, dir: Dir, row: &Row) -> u64
+    ensures { result ≡ octets_among copies dir row.now }
 {
-    if goes(dir, row) {
+    if is_among(copies, dir, row) {
         row.carried.octets.as_slice().len() as u64
     } else {
         0
@@ -87,28 +93,15 @@ fn more(sum: u64, octets: u64) -> Result<u64, NoMemory>
     }
 }
 
-/// The octets of the copies of a direction that were taken.
+/// The octets of all such copies of a direction.
 #[tactic(auto, using(crate::proofs::Octets::front_sum))]
-fn octets_in(rows: &[Row], dir: Dir) -> Result<u64, NoMemory>
-    ensures ok { IfOk result (λ n. n ≡ sum_by (octets_taken dir) rows.now) }
-    ensures err { OnErr result (2 ^ 64 ≤ sum_by (octets_taken dir) rows.now) }
+fn octets(rows: &[Row], copies: Copies, dir: Dir) -> Result<u64, NoMemory>
+    ensures ok { IfOk result (λ n. n ≡ sum_by (octets_among copies dir) rows.now) }
+    ensures err { OnErr result (2 ^ 64 ≤ sum_by (octets_among copies dir) rows.now) }
 {
     let mut sum = 0;
     for row in rows {
-        sum = more(sum, octets_taken(dir, row))?;
-    }
-    Ok(sum)
-}
-
-/// The octets of the copies of a direction.
-#[tactic(auto, using(crate::proofs::Octets::front_sum))]
-fn octets_out(rows: &[Row], dir: Dir) -> Result<u64, NoMemory>
-    ensures ok { IfOk result (λ n. n ≡ sum_by (octets_put dir) rows.now) }
-    ensures err { OnErr result (2 ^ 64 ≤ sum_by (octets_put dir) rows.now) }
-{
-    let mut sum = 0;
-    for row in rows {
-        sum = more(sum, octets_put(dir, row))?;
+        sum = more(sum, octets_among(copies, dir, row))?;
     }
     Ok(sum)
 }
@@ -136,12 +129,13 @@ fn port_link_at<const C: usize>(
         peer: closed.to_end(link, out_dir(is_first)),
         lost_in: lost(rows, in_dir(is_first)),
         lost_out: lost(rows, out_dir(is_first)),
-        octets_in: octets_in(rows, in_dir(is_first))?,
-        octets_out: octets_out(rows, out_dir(is_first))?,
+        octets_in: octets(rows, Copies::Taken, in_dir(is_first))?,
+        octets_out: octets(rows, Copies::Put, out_dir(is_first))?,
     })
 }
 
-/// The link of a port, if it has one. `NoMemory` where its octets are more than 64 bits count, which fit into no memory, and only there.
+/// The link of a port, if it has one. `NoMemory` where its octets are more than 64 bits count, which fit into no
+/// memory, and only there.
 pub fn port_link<const C: usize>(closed: &Closed<C>, end: End) -> Result<Option<PortLink>, NoMemory>
     ensures ok { IfOk result (λ link. link ≡ port_link closed.now.run end) }
     ensures err { OnErr result (IsSomeAnd (port_link closed.now.run end) IsUncounted) }

@@ -1,13 +1,13 @@
 //! Of whom supervision never told a node.
 ghost use Rattle.std.specs.Prelude.{◌≡◌, ◌++◌, ◌∷◌, [], ◌<◌, if◌then◌else◌, length, reverse, IfOk, OnOk};
 ghost use Rattle.std.specs.List.{list_any};
-ghost use Rattle.hsr_law.specs.Run.{place_of};
+ghost use Rattle.hsr_run_laws.specs.Run.{place_of};
 ghost use Rattle.hsr_supervision.specs.Payload.{read_of};
 ghost use Rattle.hsr_devices.specs.Told.{about_of, is_mac, told_by, told_in};
 ghost use Rattle.hsr_devices.specs.Unheard.{is_told_of, is_unheard, is_unheard_of, unheard};
 
 use crate::known::hears_on;
-use hsr_closing::Closed;
+use hsr_finished_run::Closed;
 use hsr_frame::{FrameFault, Mac, NoMemory, is_supervision};
 use hsr_node::{Entry, Event, Place};
 use hsr_supervision::Supervision;
@@ -71,6 +71,7 @@ fn any_tells(place: &Place, entries: &[Entry], mac: Mac) -> bool
 fn is_told_of(place: &Place, entries: &[Entry], mac: Mac) -> bool
     ensures { result ≡ is_told_of place.now (reverse entries.now) mac }
 {
+    // The definition reads the newest entry first; here the order doesn't matter.
     any_tells(place, entries, mac)
 }
 
@@ -80,6 +81,7 @@ fn is_unheard_of(place: &Place, entries: &[Entry], other: &Place) -> bool
 {
     match other {
         Place::Danh { mac, .. } | Place::RedBox { mac, .. } => !is_told_of(place, entries, *mac),
+        // Supervision about a Station is its RedBox's.
         Place::QuadBox | Place::Station { .. } => false,
     }
 }
@@ -97,12 +99,14 @@ fn is_unheard<const C: usize>(
     requires other { other.now ≡ place_of closed.now.run number }
     ensures { result ≡ is_unheard closed.now.run node number }
 {
+    // Its whole record counts: a node table forgets after a minute, so it doesn't tell this.
     number != node && is_unheard_of(place, closed.entries(node), other)
 }
 
 /// Puts a node last, if it is one of them.
 fn push_if(nodes: &mut Vec<usize>, is_one: bool, node: usize) -> Result<(), NoMemory>
-    ensures { OnOk result (nodes.new.items ≡ nodes.old.items ++ (if is_one then node ∷ [] else [])) }
+    ensures { OnOk result (nodes.new.items ≡ nodes.old.items
+        ++ (if is_one then node ∷ [] else [])) }
 {
     if is_one {
         nodes.push(node)?;

@@ -2,7 +2,7 @@
 --     change_by   one of them
 --     changes     all, in their order
 use Rattle.std.specs.Prelude.{ℕ, ◌+◌, nat_lt, Bool, true, false, if◌then◌else◌, List, [], ◌∷◌, ◌++◌, Option, Some, None, option_to_list}
-use Rattle.hsr_step.specs.declared.step.Step.TheVariants.{Clock, Send, Supervise, Age, Cut, Mend}
+use Rattle.hsr_world_steps.specs.declared.step.Step.TheVariants.{Clock, Send, Supervise, Age, Cut, Mend}
 use Rattle.hsr_scenario.specs.declared.steps.Order.{Order}
 use Rattle.hsr_scenario.specs.declared.steps.Order.TheVariants.{Step}
 use Rattle.hsr_downs.specs.declared.changing.Change.{Change}
@@ -20,7 +20,7 @@ moment_after moment _ = moment
 
 -- a send, a supervision or an age: the plan of a run has these
 abbrev pub is_planned : Order → Bool
-is_planned (Step (Send node from dst vlan kind payload)) = true
+is_planned (Step (Send node from dst vlan ethertype payload)) = true
 is_planned (Step (Supervise node about)) = true
 is_planned (Step (Age node)) = true
 is_planned _ = false

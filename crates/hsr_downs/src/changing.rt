@@ -4,11 +4,11 @@ ghost use Rattle.hsr_downs.specs.Changes.{change_by, changes, is_planned, moment
 
 use hsr_frame::NoMemory;
 use hsr_scenario::Order;
-use hsr_step::Step;
+use hsr_world_steps::Step;
 use std::alloc::Global;
 
-/// A step that cuts or mends a link, by the link's number: its moment in microseconds, the greatest that any step before it sets, 0
-/// where none does; and how many sends, supervisions and ages stand before it.
+/// A step that cuts or mends a link, by the link's number: its moment in microseconds, the greatest that any step
+/// before it sets, 0 where none does; and how many sends, supervisions and ages stand before it.
 #[derive(Clone, Copy, Debug, PartialEq, Eq)]
 pub struct Change {
     pub link: usize,
@@ -17,7 +17,7 @@ pub struct Change {
     pub planned: usize,
 }
 
-/// What a step changes of a link, at a moment and behind so much that is planned.
+/// What a step changes of a link, at a moment and behind `planned` sends, supervisions and ages.
 fn change_by(moment: u64, planned: usize, order: &Order) -> Option<Change>
     ensures { result ≡ change_by moment planned order.now }
 {
@@ -80,7 +80,7 @@ fn push_if(list: &mut Vec<Change>, change: Option<Change>) -> Result<(), NoMemor
     Ok(())
 }
 
-/// The changes of links that the steps of a scenario make, in their order. `NoMemory` where room is refused.
+/// The changes of links that the steps of a scenario make, in their order. `NoMemory` if allocation fails.
 pub(crate) fn changes_of(alloc: Global, orders: &[Order]) -> Result<Vec<Change>, NoMemory>
     ensures { IfOk result (λ list. list.items ≡ changes orders.now) }
 {
@@ -88,6 +88,7 @@ pub(crate) fn changes_of(alloc: Global, orders: &[Order]) -> Result<Vec<Change>,
     let mut moment = 0;
     let mut planned = 0;
     let mut rest = orders;
+    // What is left is a variable, since the loop's invariant speaks of it.
     while let Some((order, more)) = rest.split_first() {
         push_if(&mut list, change_by(moment, planned, order))?;
         moment = moment_after(moment, order);

@@ -7,8 +7,8 @@ use hsr_frame::NoMemory;
 use hsr_scenario::Order;
 use std::alloc::Global;
 
-/// The time in which a link is down: from the step that cuts it to the next one that mends it, or cuts it once more; without one to the
-/// end of the run.
+/// The time in which a link is down: from the step that cuts it to the next one that mends it, or cuts it once more;
+/// without one to the end of the run.
 #[derive(Clone, Copy, Debug, PartialEq, Eq)]
 pub struct Down {
     pub cut: Change,
@@ -19,6 +19,7 @@ pub struct Down {
 fn next_of(link: usize, changes: &[Change]) -> Option<Change>
     ensures { result ≡ next_of link changes.now }
 {
+    // The index is used by the loop's invariant alone.
     for (i, change) in changes.iter().enumerate() {
         if change.link == link {
             return Some(*change);
@@ -46,6 +47,7 @@ fn downs_in(alloc: Global, changes: &[Change]) -> Result<Vec<Down>, NoMemory>
 {
     let mut list = Vec::new(alloc);
     let mut rest = changes;
+    // What is left is a variable, since the loop's invariant speaks of it.
     while let Some((change, more)) = rest.split_first() {
         push_down(&mut list, *change, more)?;
         rest = more;
@@ -53,8 +55,8 @@ fn downs_in(alloc: Global, changes: &[Change]) -> Result<Vec<Down>, NoMemory>
     Ok(list)
 }
 
-/// The times in which the steps of a scenario have links down, each from a cut to the next change of its link, in the order of the cuts.
-/// `NoMemory` where room is refused.
+/// The times in which the steps of a scenario have links down, each from a cut to the next change of its link, in the
+/// order of the cuts. `NoMemory` if allocation fails.
 pub fn downs(alloc: Global, orders: &[Order]) -> Result<Vec<Down>, NoMemory>
     ensures { IfOk result (λ list. list.items ≡ downs orders.now) }
 {

@@ -8,8 +8,8 @@ use hsr_scenario::Order;
 use hsr_topology::End;
 use std::alloc::Global;
 
-/// A change with which a node goes off, since the last of its links goes down that was up; or with which it comes on, since one of its
-/// links is up again.
+/// A change with which a node goes off, since the last of its links goes down that was up; or with which it comes on,
+/// since one of its links is up again.
 #[derive(Clone, Copy, Debug, PartialEq, Eq)]
 pub struct Switch {
     pub node: usize,
@@ -21,8 +21,10 @@ pub struct Switch {
 fn is_down(link: usize, changes: &[Change]) -> bool
     ensures { result ≡ is_down link changes.now }
 {
+    // Looked up among all changes before: who draws bounds their number.
     let mut is_down = false;
     let mut rest = changes;
+    // What is left is a variable, since the loop's invariant speaks of it.
     while let Some((change, more)) = rest.split_first() {
         if change.link == link {
             is_down = change.is_cut;
@@ -52,7 +54,8 @@ fn has_up(node: usize, changes: &[Change], links: &[[End; 2]]) -> bool
     false
 }
 
-/// Puts the switch of a node last, if it had a link that was up before a change and has none behind it, or the other way round.
+/// Puts the switch of a node last, if it had a link that was up before a change and has none behind it, or the other
+/// way round.
 fn push_if(
     list: &mut Vec<Switch>,
     node: usize,
@@ -60,7 +63,8 @@ fn push_if(
     was_up: bool,
     is_up: bool,
 ) -> Result<(), NoMemory>
-    ensures { OnOk result (list.new.items ≡ list.old.items ++ switch_between node change was_up is_up) }
+    ensures { OnOk result (list.new.items ≡ list.old.items
+        ++ switch_between node change was_up is_up) }
 {
     let has_turned = if was_up { !is_up } else { is_up };
     if has_turned {
@@ -82,7 +86,8 @@ fn push_switch(
     change: Change,
     node: usize,
 ) -> Result<(), NoMemory>
-    ensures { OnOk result (list.new.items ≡ list.old.items ++ switch_of links.now before.now after.now change node) }
+    ensures { OnOk result (list.new.items ≡ list.old.items
+        ++ switch_of links.now before.now after.now change node) }
 {
     let was_up = has_up(node, before, links);
     let is_up = has_up(node, after, links);
@@ -98,9 +103,11 @@ fn push_with(
     change: Change,
     ends: &[End],
 ) -> Result<(), NoMemory>
-    ensures { OnOk result (list.new.items ≡ list.old.items ++ switches_with links.now before.now after.now change ends.now) }
+    ensures { OnOk result (list.new.items ≡ list.old.items
+        ++ switches_with links.now before.now after.now change ends.now) }
 {
     let mut rest = ends;
+    // What is left is a variable, since the loop's invariant speaks of it.
     while let Some((end, more)) = rest.split_first() {
         push_switch(list, links, before, after, change, end.node)?;
         rest = more;
@@ -116,7 +123,8 @@ fn push_by(
     after: &[Change],
     change: Change,
 ) -> Result<(), NoMemory>
-    ensures { OnOk result (list.new.items ≡ list.old.items ++ switches_by links.now before.now after.now change) }
+    ensures { OnOk result (list.new.items ≡ list.old.items
+        ++ switches_by links.now before.now after.now change) }
 {
     match links.get(change.link) {
         Some(link) => push_with(list, links, before, after, change, link.as_slice()),
@@ -155,9 +163,9 @@ fn switches_in(
     Ok(list)
 }
 
-/// With which changes that the steps of a scenario make nodes of these links go off and come on, in the order of the changes: a node goes
-/// off with the one behind which none of its links is up, where one was up before; and comes on with the one behind which one is up again.
-/// `NoMemory` where room is refused.
+/// With which changes that the steps of a scenario make nodes of these links go off and come on, in the order of the
+/// changes: a node goes off with the one behind which none of its links is up, where one was up before; and comes on
+/// with the one behind which one is up again. `NoMemory` if allocation fails.
 pub fn switches(
     alloc: Global,
     links: &[[End; 2]],

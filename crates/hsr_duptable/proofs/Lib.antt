@@ -3,3 +3,4 @@ pub mod LogLaws
 pub mod Within
 pub mod Chains
 pub mod Walks
+pub mod Sizes

@@ -4,3 +4,4 @@ pub mod Buckets
 pub mod Chains
 pub mod Table
 pub mod Log
+pub mod Sizes

@@ -11,6 +11,10 @@ pub record Table : Type 0 where
   pub last : ℕ
   pub noted : ℕ
 
+-- a duplicate table has 1 to 65535 entries, fewer than there are sequence numbers (IEC 62439-3 clause 5)
+abbrev pub IsTableSize : ℕ → Type 0
+IsTableSize entries = (1 ≤ entries) × (entries ≤ 65535)
+
 abbrev pub empty_table : ℕ → Table
 empty_table forget = record { notes = []; forget = forget; last = 0; noted = 0 }
 

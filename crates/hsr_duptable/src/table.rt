@@ -1,6 +1,7 @@
 //! The duplicate table: a ring of notes in as many chains as it has room for notes.
 ghost use Rattle.std.specs.Prelude.{◌≡◌, ◌&&◌, not, ℕ, ◌^◌, ◌<◌, ◌≤◌, length, IfOk};
 ghost use Rattle.hsr_frame.specs.Counters.{step_limit};
+ghost use Rattle.hsr_duptable.specs.Table.{IsTableSize};
 ghost use Rattle.hsr_duptable.specs.Log.{AnswersAsLog};
 
 use crate::chain::{Entry, give_up_expired, look_up};
@@ -44,7 +45,7 @@ impl<const C: usize> DupTable<C> {
     /// A table that holds nothing, and remembers a frame until `forget` microseconds have passed;
     /// `NoMemory` where room for `C` notes or for the heads of `C` buckets is refused.
     pub fn new(alloc: Global, forget: u64) -> Result<Self, NoMemory>
-        requires { (1 ≤ C) × (C ≤ 65535) }
+        requires { IsTableSize C }
         ensures { IfOk result (λ table. table ≡ empty_table forget) }
     {
         let ring = HeapCircularBuffer::with_capacity(alloc, C)?;

@@ -2,7 +2,7 @@
 use crate::lines::Explanation;
 use crate::naming::{put_entry, put_number};
 use hsr_audit::{BudgetFault, budget, most_sends};
-use hsr_closing::Closed;
+use hsr_finished_run::Closed;
 use hsr_frame::NoMemory;
 use hsr_text::put_decimal;
 use hsr_toml::put;
@@ -46,8 +46,8 @@ fn of_crowded<const C: usize>(
     Ok(line)
 }
 
-/// Why a run isn't within the budget of its tables, and how many entries would be enough; nothing where it is. `NoMemory` where room is
-/// refused.
+/// Why a run isn't within the budget of its tables, and how many entries would be enough; nothing where it is.
+/// `NoMemory` if allocation fails.
 pub fn explain_budget<const C: usize>(
     alloc: Global,
     closed: &Closed<C>,

@@ -2,9 +2,9 @@
 use crate::naming::{put_link, put_number};
 use hsr_frame::NoMemory;
 use hsr_link::Row;
-use hsr_names::put_name;
 use hsr_ring::World;
 use hsr_scenario::Names;
+use hsr_timeline::put_name;
 use hsr_toml::put;
 use std::alloc::Global;
 
@@ -65,7 +65,7 @@ pub(crate) fn circling_of<const C: usize>(
     let mut parted = "";
     for link in 0..world.link_count() {
         let rows = rows_of(world, link);
-        // a link of a circle has about as many copies as its fullest
+        // Each link of a circle has about as many copies as its fullest one.
         if rows.len() >= most / 2 {
             put(&mut line, parted)?;
             put_circling(&mut line, named, link, rows)?;

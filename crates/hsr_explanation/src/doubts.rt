@@ -3,12 +3,12 @@ use crate::lines::Explanation;
 use crate::losing::put_lossy;
 use crate::naming::{put_entry, put_link, put_node};
 use hsr_audit::Doubt;
-use hsr_closing::Closed;
+use hsr_finished_run::Closed;
 use hsr_frame::NoMemory;
 use hsr_node::Place;
+use hsr_reach::{is_in_h_or_u, share_address};
 use hsr_report::Finding;
 use hsr_toml::put;
-use hsr_ways::{is_in_h_or_u, share_address};
 use std::alloc::Global;
 
 // ---- nodes
@@ -217,8 +217,8 @@ fn of_doubt<const C: usize>(
     }
 }
 
-/// What was found of a run: nothing more where it is certified; of a doubt what it means, whom it is about, by these names, and what to
-/// do. `NoMemory` where room is refused.
+/// What was found of a run: nothing more where it is certified; of a doubt what it means, whom it is about, by these
+/// names, and what to do. `NoMemory` if allocation fails.
 pub fn explain_finding<const C: usize>(
     alloc: Global,
     closed: &Closed<C>,

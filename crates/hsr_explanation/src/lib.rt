@@ -9,6 +9,8 @@
 //! - `faults`: why there is no run
 //! - `doubts`: why a run isn't certified
 //! - `budgets`: why a run isn't within the budget of its tables
+//!
+//! What is said is tested, and no contract tells it. A report and a status are the same with it and without it.
 #![tactic(auto)]
 
 mod budgets;

@@ -1,6 +1,6 @@
 //! An explanation, line by line.
 ghost use Rattle.std.specs.Prelude.{◌≡◌, ◌++◌, OnOk};
-ghost use Rattle.hsr_order.specs.Fronts.{lists_of};
+ghost use Rattle.hsr_timeline.specs.Fronts.{lists_of};
 ghost use Rattle.hsr_explanation.specs.Lines.{line_of, lines_of};
 
 use hsr_frame::NoMemory;
@@ -14,14 +14,14 @@ pub struct Explanation {
 }
 
 impl Explanation {
-    /// Nothing.
+    /// An explanation without lines.
     pub fn new(alloc: Global) -> Explanation {
         Explanation {
             lines: Vec::new(alloc),
         }
     }
 
-    /// Puts the lines of another last.
+    /// Puts the lines of another last. `NoMemory` if allocation fails; some of them may stand there then.
     pub fn join(&mut self, other: Explanation) -> Result<(), NoMemory> {
         for words in other.lines {
             self.lines.push(words)?;
@@ -41,13 +41,14 @@ fn put_line(text: &mut Vec<u8>, words: &[u8]) -> Result<(), NoMemory>
     ensures { OnOk result (text.new.items ≡ text.old.items ++ line_of words.now) }
 {
     text.extend_from_slice(b"explain: ")?;
+    // Names and keys come from a text, and a terminal is to obey nothing that stands there.
     put_shown(text, words)?;
     text.extend_from_slice(b"\n")?;
     Ok(())
 }
 
-/// Puts lines last, each as `explain: ` and its words, with a question mark in place of each control octet. `NoMemory` where room is
-/// refused.
+/// Puts lines last, each as `explain: ` and its words, with a question mark in place of each control octet. `NoMemory`
+/// if allocation fails.
 #[tactic(auto, using(crate::proofs::Listing::lines_step))]
 pub fn put_explanation(text: &mut Vec<u8>, lines: &[Vec<u8>]) -> Result<(), NoMemory>
     ensures { OnOk result (text.new.items ≡ text.old.items ++ lines_of (lists_of lines.now)) }

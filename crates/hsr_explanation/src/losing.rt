@@ -1,6 +1,6 @@
 //! Which links lost copies.
 use crate::naming::{put_link, put_number};
-use hsr_closing::Closed;
+use hsr_finished_run::Closed;
 use hsr_frame::NoMemory;
 use hsr_link::{Fate, Row};
 use hsr_toml::put;

@@ -1,16 +1,17 @@
 //! Nodes, entries and links, by their numbers and names.
-use hsr_closing::Closed;
+use hsr_finished_run::Closed;
 use hsr_frame::NoMemory;
-use hsr_names::{put_name, put_port};
 use hsr_node::Place;
 use hsr_scenario::read_names;
 use hsr_text::put_decimal;
+use hsr_timeline::{put_name, put_port};
 use hsr_toml::put;
 use hsr_topology::End;
 use std::alloc::Global;
 
-/// The names of the nodes of a scenario; none where octets are no scenario, or room is refused.
+/// The names of the nodes of a scenario; none where octets are no scenario, or if allocation fails.
 pub fn names_in(alloc: Global, octets: &[u8]) -> Vec<Vec<u8>> {
+    // Without names an explanation still has numbers.
     let Ok(text) = str::from_utf8(octets) else {
         return Vec::new(alloc);
     };
@@ -30,6 +31,7 @@ pub(crate) fn put_number(line: &mut Vec<u8>, word: &str, number: usize) -> Resul
 /// Puts a node last, by its number, and by its name where it has one.
 pub(crate) fn put_node(line: &mut Vec<u8>, names: &[Vec<u8>], node: usize) -> Result<(), NoMemory> {
     put_number(line, "node ", node)?;
+    // Without a name `put_name` would put the number once more.
     if names.get(node).is_some() {
         put(line, " (")?;
         put_name(line, names, node)?;

@@ -10,37 +10,37 @@ use Rattle.hsr_frame.specs.Address.{IsGroup}
 use Rattle.hsr_frame.specs.Layout.{ethertype_vlan, max_rest}
 use Rattle.hsr_frame.specs.Grammar.{Fields, spelling, IsRaw, raw_fault, fields_of}
 
-abbrev pub of_cells : (d s : List ℕ) (vlan : Option ℕ) (kind : ℕ) (rest : List ℕ) → Fields
-of_cells d s vlan kind rest = record {
+abbrev pub of_cells : (d s : List ℕ) (vlan : Option ℕ) (ethertype : ℕ) (rest : List ℕ) → Fields
+of_cells d s vlan ethertype rest = record {
   dst = slice_index d 0 ∷ slice_index d 1 ∷ slice_index d 2 ∷ slice_index d 3 ∷ slice_index d 4 ∷ slice_index d 5 ∷ [];
   src = slice_index s 0 ∷ slice_index s 1 ∷ slice_index s 2 ∷ slice_index s 3 ∷ slice_index s 4 ∷ slice_index s 5 ∷ [];
   vlan = vlan;
-  kind = kind;
+  kind = ethertype;
   rest = rest;
 }
 
 pair_number : (n : ℕ) → n < 2 ^ 16 → n / 256 % 256 * 256 + n % 256 ≡ n
 pair_number n lt = omega arith
 
-plain_fault : (d s : List ℕ) (kind : ℕ) (rest : List ℕ) → ¬ IsGroup s → kind < 2 ^ 16 → kind ≢ ethertype_vlan → length rest ≤ max_rest → raw_fault (spelling (of_cells d s None kind rest)) ≡ None
-plain_fault d s kind rest station fits one len = grind (arith, nat_tests)
+plain_fault : (d s : List ℕ) (ethertype : ℕ) (rest : List ℕ) → ¬ IsGroup s → ethertype < 2 ^ 16 → ethertype ≢ ethertype_vlan → length rest ≤ max_rest → raw_fault (spelling (of_cells d s None ethertype rest)) ≡ None
+plain_fault d s ethertype rest station fits one len = grind (arith, nat_tests)
 
-tagged_fault : (d s : List ℕ) (control kind : ℕ) (rest : List ℕ) → ¬ IsGroup s → kind < 2 ^ 16 → kind ≢ ethertype_vlan → length rest ≤ max_rest → raw_fault (spelling (of_cells d s (Some control) kind rest)) ≡ None
-tagged_fault d s control kind rest station fits one len = grind (arith, nat_tests)
+tagged_fault : (d s : List ℕ) (control ethertype : ℕ) (rest : List ℕ) → ¬ IsGroup s → ethertype < 2 ^ 16 → ethertype ≢ ethertype_vlan → length rest ≤ max_rest → raw_fault (spelling (of_cells d s (Some control) ethertype rest)) ≡ None
+tagged_fault d s control ethertype rest station fits one len = grind (arith, nat_tests)
 
-plain_fields : (d s : List ℕ) (kind : ℕ) (rest : List ℕ) → kind < 2 ^ 16 → kind ≢ ethertype_vlan → fields_of (spelling (of_cells d s None kind rest)) ≡ of_cells d s None kind rest
-plain_fields d s kind rest fits one =
-    let number = pair_number kind fits in
-    let plain = ne_eqb (kind / 256 % 256 * 256 + kind % 256) ethertype_vlan (λ e. one (omega arith)) in
+plain_fields : (d s : List ℕ) (ethertype : ℕ) (rest : List ℕ) → ethertype < 2 ^ 16 → ethertype ≢ ethertype_vlan → fields_of (spelling (of_cells d s None ethertype rest)) ≡ of_cells d s None ethertype rest
+plain_fields d s ethertype rest fits one =
+    let number = pair_number ethertype fits in
+    let plain = ne_eqb (ethertype / 256 % 256 * 256 + ethertype % 256) ethertype_vlan (λ e. one (omega arith)) in
     rw (plain, number) refl
 
-tagged_fields : (d s : List ℕ) (control kind : ℕ) (rest : List ℕ) → control < 2 ^ 16 → kind < 2 ^ 16 → fields_of (spelling (of_cells d s (Some control) kind rest)) ≡ of_cells d s (Some control) kind rest
-tagged_fields d s control kind rest small fits = rw (pair_number control small, pair_number kind fits) refl
+tagged_fields : (d s : List ℕ) (control ethertype : ℕ) (rest : List ℕ) → control < 2 ^ 16 → ethertype < 2 ^ 16 → fields_of (spelling (of_cells d s (Some control) ethertype rest)) ≡ of_cells d s (Some control) ethertype rest
+tagged_fields d s control ethertype rest small fits = rw (pair_number control small, pair_number ethertype fits) refl
 
-by_cells : (d s : List ℕ) (vlan : Option ℕ) (kind : ℕ) (rest : List ℕ) → IfSome vlan (λ control. control < 2 ^ 16) → ¬ IsGroup s → kind < 2 ^ 16 → kind ≢ ethertype_vlan → length rest ≤ max_rest
-    → (raw_fault (spelling (of_cells d s vlan kind rest)) ≡ None) × (fields_of (spelling (of_cells d s vlan kind rest)) ≡ of_cells d s vlan kind rest)
-by_cells d s None kind rest small station fits one len = (plain_fault d s kind rest station fits one len, plain_fields d s kind rest fits one)
-by_cells d s (Some control) kind rest small station fits one len = (tagged_fault d s control kind rest station fits one len, tagged_fields d s control kind rest small fits)
+by_cells : (d s : List ℕ) (vlan : Option ℕ) (ethertype : ℕ) (rest : List ℕ) → IfSome vlan (λ control. control < 2 ^ 16) → ¬ IsGroup s → ethertype < 2 ^ 16 → ethertype ≢ ethertype_vlan → length rest ≤ max_rest
+    → (raw_fault (spelling (of_cells d s vlan ethertype rest)) ≡ None) × (fields_of (spelling (of_cells d s vlan ethertype rest)) ≡ of_cells d s vlan ethertype rest)
+by_cells d s None ethertype rest small station fits one len = (plain_fault d s ethertype rest station fits one len, plain_fields d s ethertype rest fits one)
+by_cells d s (Some control) ethertype rest small station fits one len = (tagged_fault d s control ethertype rest station fits one len, tagged_fields d s control ethertype rest small fits)
 
 -- what is spelled as a frame has no fault, and its fields are the frame's
 again : (f : Fields) → IsRaw f → (raw_fault (spelling f) ≡ None) × (fields_of (spelling f) ≡ f)

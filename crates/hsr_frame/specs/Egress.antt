@@ -75,4 +75,4 @@ cause_of wants passes = if is_any passes then Passed else (if is_any wants.exits
 
 -- supervision frames go to their own group, and have a type of their own
 abbrev pub is_supervision : List ℕ → ℕ → Bool
-is_supervision dst kind = is_same_address dst supervision_address && kind == ethertype_supervision
+is_supervision dst ethertype = is_same_address dst supervision_address && ethertype == ethertype_supervision

@@ -8,9 +8,9 @@ use Rattle.hsr_frame.specs.declared.fault.SendFault.TheVariants.{SelfAddressed, 
 
 -- the first reason that applies: of the source, the steps accepted, the destination, the type and the payload's length
 abbrev pub send_refusal : List ℕ → ℕ → List ℕ → ℕ → ℕ → Option SendFault
-send_refusal src accepted dst kind len = first_of
+send_refusal src accepted dst ethertype len = first_of
     ((is_same_address dst src, Some SelfAddressed)
-    ∷ (kind == ethertype_hsr || kind == ethertype_vlan, Some ReservedType)
+    ∷ (ethertype == ethertype_hsr || ethertype == ethertype_vlan, Some ReservedType)
     ∷ (accepted == 2 ^ 62, Some Spent)
     ∷ (nat_lt max_payload len, Some TooLong)
     ∷ [])

@@ -95,8 +95,8 @@ impl Wants {
 }
 
 /// Whether a frame of this destination and type is a supervision frame (IEC 62439-3 clause 5.7).
-pub fn is_supervision(dst: Mac, kind: u16) -> bool
-    ensures { result ≡ is_supervision dst kind }
+pub fn is_supervision(dst: Mac, ethertype: u16) -> bool
+    ensures { result ≡ is_supervision dst ethertype }
 {
-    dst.is_supervision() && kind == ETHERTYPE_SUPERVISION
+    dst.is_supervision() && ethertype == ETHERTYPE_SUPERVISION
 }

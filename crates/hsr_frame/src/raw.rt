@@ -18,6 +18,7 @@ pub struct Raw {
     pub dst: Mac,
     pub src: Mac,
     pub vlan: Option<u16>,
+    /// The EtherType.
     pub kind: u16,
     pub rest: ArrayVec<u8, MAX_REST>,
 }
@@ -42,6 +43,7 @@ pub struct Head<'a> {
     pub dst: Mac,
     pub src: Mac,
     pub vlan: Option<u16>,
+    /// The EtherType.
     pub kind: u16,
     pub rest: &'a [u8],
 }
@@ -98,15 +100,15 @@ fn read_head(octets: &[u8]) -> Result<Head<'_>, FrameFault>
         None
     };
     // The last type stands just before the rest, with a VLAN tag and without.
-    let kind = u16_at(octets, head - 2);
-    if kind == ETHERTYPE_VLAN {
+    let ethertype = u16_at(octets, head - 2);
+    if ethertype == ETHERTYPE_VLAN {
         return Err(FrameFault::DoubleVlan);
     }
     Ok(Head {
         dst: mac_at(octets, 0),
         src,
         vlan,
-        kind,
+        kind: ethertype,
         rest,
     })
 }

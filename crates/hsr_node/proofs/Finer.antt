@@ -153,7 +153,7 @@ source_at-scaled k None own at seen = refl
 
 heard_from-scaled : (k : ℕ) (place : Place) (at : ℕ) (event : Event) → heard_from place (at * k) event ≡ map (hearing_in_unit k) (heard_from place at event)
 heard_from-scaled k (RedBox mac mode) at (Arrive port copy) = source_at-scaled k (box_port port) mac at (classified copy.octets)
-heard_from-scaled k (RedBox mac mode) at (Send from dst vlan kind payload) = refl
+heard_from-scaled k (RedBox mac mode) at (Send from dst vlan ethertype payload) = refl
 heard_from-scaled k (RedBox mac mode) at (Supervise about) = refl
 heard_from-scaled k (RedBox mac mode) at Age = refl
 heard_from-scaled k (Danh mac mode) at event = refl
@@ -220,13 +220,13 @@ knows_same k times place past at event positive = fun_ext (λ mac.
 
 -- ---- answers
 
-send_same : (k : ℕ) (times : Times) (capacity : ℕ) (owner : Owner) (past : List Entry) (at : ℕ) (from : Option (List ℕ)) (dst : List ℕ) (kind len : ℕ) → 0 < k
-    → send_answer_by (finer_times k times) capacity owner (in_unit k past) (at * k) from dst kind len ≡ send_answer_by times capacity owner past at from dst kind len
-send_same k times capacity owner past at None dst kind len positive = refl
-send_same k times capacity owner past at (Some src) dst kind len positive =
-    ap₂ (λ count known. sent_or_refused (send_refusal src count dst kind len) (sent_as (sending owner.place known dst kind) (next_number (in_unit k past))))
+send_same : (k : ℕ) (times : Times) (capacity : ℕ) (owner : Owner) (past : List Entry) (at : ℕ) (from : Option (List ℕ)) (dst : List ℕ) (ethertype len : ℕ) → 0 < k
+    → send_answer_by (finer_times k times) capacity owner (in_unit k past) (at * k) from dst ethertype len ≡ send_answer_by times capacity owner past at from dst ethertype len
+send_same k times capacity owner past at None dst ethertype len positive = refl
+send_same k times capacity owner past at (Some src) dst ethertype len positive =
+    ap₂ (λ count known. sent_or_refused (send_refusal src count dst ethertype len) (sent_as (sending owner.place known dst ethertype) (next_number (in_unit k past))))
     (steps_same k past) (knows_same k times owner.place past at Age positive)
-    ∙ ap (λ next. sent_or_refused (send_refusal src (steps past) dst kind len) (sent_as (sending owner.place (knows_by times owner.place past at Age) dst kind) next))
+    ∙ ap (λ next. sent_or_refused (send_refusal src (steps past) dst ethertype len) (sent_as (sending owner.place (knows_by times owner.place past at Age) dst ethertype) next))
     (next_same k past)
 
 lived_same : (k : ℕ) (past : List Entry) → lived_or_refused (in_unit k past) None ≡ lived_or_refused past None
@@ -257,8 +257,8 @@ arrive_same k times capacity owner past at (Some h) seen positive =
     (steps_same k past)
 
 pub answers_in_finer_unit : AnswersInFinerUnit
-answers_in_finer_unit k positive times capacity owner past at (Send from dst vlan kind payload) =
-    send_same k times capacity owner past at (address_at owner.place from) dst kind (length payload) positive
+answers_in_finer_unit k positive times capacity owner past at (Send from dst vlan ethertype payload) =
+    send_same k times capacity owner past at (address_at owner.place from) dst ethertype (length payload) positive
 answers_in_finer_unit k positive times capacity owner past at (Supervise about) = life_same k times owner.place past at about positive
 answers_in_finer_unit k positive times capacity owner past at (Arrive port copy) =
     ap (λ known. arrive_answer_by (finer_times k times) capacity owner (in_unit k past) (at * k) (handling owner.place known port (classified copy.octets)) (classified copy.octets))

@@ -26,11 +26,11 @@ use Rattle.hsr_tables.specs.Nodes.{Hearing}
 use Rattle.hsr_danh.specs.Machine.{Machine, new_machine}
 use Rattle.hsr_danh.specs.Past as deeds
 use Rattle.hsr_danh.specs.Past.{Answer, Deed, done, gave_up, judged_frame, sent_frame, sent_life}
-use Rattle.hsr_role.specs.Arrival.{key_of}
-use Rattle.hsr_role.specs.Past.{log_remembers, passes_from}
-use Rattle.hsr_role.proofs.Counts.{counts_plus}
-use Rattle.hsr_role.proofs.Keeping.{passes-same, unwanted-shut}
-use Rattle.hsr_role.proofs.Wants.{wanted-c, wanted-d}
+use Rattle.hsr_forwarding.specs.Arrival.{key_of}
+use Rattle.hsr_forwarding.specs.Past.{log_remembers, passes_from}
+use Rattle.hsr_forwarding.proofs.Counts.{counts_plus}
+use Rattle.hsr_forwarding.proofs.Keeping.{passes-same, unwanted-shut}
+use Rattle.hsr_forwarding.proofs.Wants.{wanted-c, wanted-d}
 use Rattle.hsr_danh.specs.Step.{arrive_step, life_step, send_step}
 use Rattle.hsr_danh.specs.Wanted.{wanted}
 use Rattle.hsr_danh.specs.declared.danh.Sent.{Sent as DanhSent}
@@ -77,11 +77,11 @@ pub record Held (capacity number : ℕ) (mac : List ℕ) (mode : Mode) (machine 
 -- ---- a frame of the node's own
 
 -- one that leaves by both ports with the next number
-sent-tells : (number : ℕ) (mac : List ℕ) (mode : Mode) (did : List Deed) (past : List Entry) (worker at from seq : ℕ) (dst : List ℕ) (vlan : Option ℕ) (kind : ℕ) (payload : List ℕ)
+sent-tells : (number : ℕ) (mac : List ℕ) (mode : Mode) (did : List Deed) (past : List Entry) (worker at from seq : ℕ) (dst : List ℕ) (vlan : Option ℕ) (ethertype : ℕ) (payload : List ℕ)
     → Tells number mac mode did past
     → Tells number mac mode (done did at (sent_frame seq))
-    (record { worker = worker; at = at; event = Send from dst vlan kind payload; outcome = outcome.Sent (Some seq) (true ∷ true ∷ false ∷ false ∷ []) } ∷ past)
-sent-tells number mac mode did past worker at from seq dst vlan kind payload t = record {
+    (record { worker = worker; at = at; event = Send from dst vlan ethertype payload; outcome = outcome.Sent (Some seq) (true ∷ true ∷ false ∷ false ∷ []) } ∷ past)
+sent-tells number mac mode did past worker at from seq dst vlan ethertype payload t = record {
   moment = ap (λ m. max m at) t.moment;
   steps = ap (λ n. n + 1) t.steps;
   numbered = ap (λ n. n + 1) t.numbered;
@@ -94,7 +94,7 @@ sent-tells number mac mode did past worker at from seq dst vlan kind payload t =
     key = record { src = mac; seq = seq }
 
     by_egress : (e : Egress) → deeds.log_of mac e (done did at (sent_frame seq))
-        ≡ oldest_first (notes (owner_of number mac mode) e (record { worker = worker; at = at; event = Send from dst vlan kind payload; outcome = outcome.Sent (Some seq) (true ∷ true ∷ false ∷ false ∷ []) } ∷ past))
+        ≡ oldest_first (notes (owner_of number mac mode) e (record { worker = worker; at = at; event = Send from dst vlan ethertype payload; outcome = outcome.Sent (Some seq) (true ∷ true ∷ false ∷ false ∷ []) } ∷ past))
     by_egress up = unlogged (deeds.log_of mac up did) (notes (owner_of number mac mode) up past) (t.log up)
     by_egress a = logged true key (max (deeds.moment_of did) at) (max (now past) at) (Some (record { node = number; place = length past })) (deeds.log_of mac a did) (notes (owner_of number mac mode) a past) (ap (λ m. max m at) t.moment) (t.log a)
     by_egress b = logged true key (max (deeds.moment_of did) at) (max (now past) at) (Some (record { node = number; place = length past })) (deeds.log_of mac b did) (notes (owner_of number mac mode) b past) (ap (λ m. max m at) t.moment) (t.log b)
@@ -233,17 +233,17 @@ judged_in _ = Err (record {})
 abbrev HeldBy : ℕ → ℕ → Machine → Machine → List Entry → Type 0
 HeldBy capacity number machine = Held capacity number machine.own machine.mode
 
-send-case : (capacity number worker at from : ℕ) (machine : Machine) (did : List Deed) (past : List Entry) (dst : List ℕ) (vlan : Option ℕ) (kind : ℕ) (payload : List ℕ)
+send-case : (capacity number worker at from : ℕ) (machine : Machine) (did : List Deed) (past : List Entry) (dst : List ℕ) (vlan : Option ℕ) (ethertype : ℕ) (payload : List ℕ)
     (s : Result DanhSent SendFault × Machine) (refusal : Option SendFault) → Tells number machine.own machine.mode did past
     → law.Kept capacity machine (deeds.sent s.0, s.1) (deeds.send_from did at refusal)
     → (sent_or_refused refusal (outcome.Sent (Some (next_number past)) (true ∷ true ∷ false ∷ false ∷ [])) ≡ told danh_sent refused.Send s.0)
-    × Stays (HeldBy capacity number machine) past (record { worker = worker; at = at; event = Send from dst vlan kind payload }) (told danh_sent refused.Send s.0) s.1
-send-case capacity number worker at from machine did past dst vlan kind payload s (Some fault) t k =
-    let call : Call = record { worker = worker; at = at; event = Send from dst vlan kind payload } in
+    × Stays (HeldBy capacity number machine) past (record { worker = worker; at = at; event = Send from dst vlan ethertype payload }) (told danh_sent refused.Send s.0) s.1
+send-case capacity number worker at from machine did past dst vlan ethertype payload s (Some fault) t k =
+    let call : Call = record { worker = worker; at = at; event = Send from dst vlan ethertype payload } in
     answered-by danh_sent refused.Send (HeldBy capacity number machine) past call (Err (refused.Send fault)) s.1 s.0 _ (ap sent_in k.0)
     (refl, record { did = did; of_past = k.1; own = k.2; mode_is = k.3; tells = t })
-send-case capacity number worker at from machine did past dst vlan kind payload s None t k =
-    let call : Call = record { worker = worker; at = at; event = Send from dst vlan kind payload } in
+send-case capacity number worker at from machine did past dst vlan ethertype payload s None t k =
+    let call : Call = record { worker = worker; at = at; event = Send from dst vlan ethertype payload } in
     let n : deeds.number_after did ≡ next_number past = ap (λ m. m % 65536) t.numbered in
     answered-by danh_sent refused.Send (HeldBy capacity number machine) past call (Ok (outcome.Sent (Some (next_number past)) (true ∷ true ∷ false ∷ false ∷ []))) s.1 s.0 _ (ap sent_in k.0) (
       ap (λ m. Ok (outcome.Sent (Some m) (true ∷ true ∷ false ∷ false ∷ []))) (sym n),
@@ -252,7 +252,7 @@ send-case capacity number worker at from machine did past dst vlan kind payload 
         of_past = k.1;
         own = k.2;
         mode_is = k.3;
-        tells = sent-tells number machine.own machine.mode did past worker at from (deeds.number_after did) dst vlan kind payload t;
+        tells = sent-tells number machine.own machine.mode did past worker at from (deeds.number_after did) dst vlan ethertype payload t;
       },
     )
 
@@ -314,21 +314,21 @@ pub danh-keeps : (capacity number : ℕ) (machine : Machine) (did : List Deed) (
     → IsPastOf capacity machine did → Tells number machine.own machine.mode did past
     → Keeps capacity (owner_of number machine.own machine.mode) (HeldBy capacity number machine) past (record { worker = worker; at = at; event = event }) (danh_step capacity machine at event)
 unfolding danh_step
-danh-keeps capacity number machine did past worker at (Send from dst vlan kind payload) r t = by_source (from == 0)
+danh-keeps capacity number machine did past worker at (Send from dst vlan ethertype payload) r t = by_source (from == 0)
   where
     stays : Held capacity number machine.own machine.mode machine past
     stays = record { did = did; of_past = r; own = refl; mode_is = refl; tells = t }
 
     by_source : (is_own : Bool)
-        → (send_answer capacity (owner_of number machine.own machine.mode) past (max (now past) at) (if is_own then Some machine.own else None) dst kind (length payload)
-        ≡ (if is_own then danh_send capacity machine at dst kind (length payload) else wrong machine).0)
-        × Stays (HeldBy capacity number machine) past (record { worker = worker; at = at; event = Send from dst vlan kind payload })
-        (if is_own then danh_send capacity machine at dst kind (length payload) else wrong machine).0
-        (if is_own then danh_send capacity machine at dst kind (length payload) else wrong machine).1
+        → (send_answer capacity (owner_of number machine.own machine.mode) past (max (now past) at) (if is_own then Some machine.own else None) dst ethertype (length payload)
+        ≡ (if is_own then danh_send capacity machine at dst ethertype (length payload) else wrong machine).0)
+        × Stays (HeldBy capacity number machine) past (record { worker = worker; at = at; event = Send from dst vlan ethertype payload })
+        (if is_own then danh_send capacity machine at dst ethertype (length payload) else wrong machine).0
+        (if is_own then danh_send capacity machine at dst ethertype (length payload) else wrong machine).1
     by_source true =
-        send-case capacity number worker at from machine did past dst vlan kind payload (send_step capacity machine at dst kind (length payload)) (send_refusal machine.own (steps past) dst kind (length payload)) t
-        (subst (λ n. law.Kept capacity machine (deeds.sent (send_step capacity machine at dst kind (length payload)).0, (send_step capacity machine at dst kind (length payload)).1) (deeds.send_from did at (send_refusal machine.own n dst kind (length payload)))) t.steps
-        (law.kept capacity machine did (deeds.sending at dst kind (length payload)) r))
+        send-case capacity number worker at from machine did past dst vlan ethertype payload (send_step capacity machine at dst ethertype (length payload)) (send_refusal machine.own (steps past) dst ethertype (length payload)) t
+        (subst (λ n. law.Kept capacity machine (deeds.sent (send_step capacity machine at dst ethertype (length payload)).0, (send_step capacity machine at dst ethertype (length payload)).1) (deeds.send_from did at (send_refusal machine.own n dst ethertype (length payload)))) t.steps
+        (law.kept capacity machine did (deeds.sending at dst ethertype (length payload)) r))
     by_source false = (refl, stays)
 danh-keeps capacity number machine did past worker at (Supervise Own) r t =
     life-case capacity number worker at machine did past (life_step capacity machine at) (steps past == 2 ^ 62) t

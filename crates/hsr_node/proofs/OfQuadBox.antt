@@ -20,10 +20,10 @@ use Rattle.hsr_redbox.specs.Wanted.{unnumbered}
 use Rattle.hsr_quadbox.specs.Machine.{Machine, new_machine}
 use Rattle.hsr_quadbox.specs.Past as deeds
 use Rattle.hsr_quadbox.specs.Past.{Answer, Deed, IsTold, Judged, aged, egress_of, judged, judgement, verdict_on}
-use Rattle.hsr_role.specs.Arrival.{key_of}
-use Rattle.hsr_role.specs.Past.{note_of}
-use Rattle.hsr_role.proofs.Counts.{counted-as}
-use Rattle.hsr_role.specs.Tables.{copies_of}
+use Rattle.hsr_forwarding.specs.Arrival.{key_of}
+use Rattle.hsr_forwarding.specs.Past.{note_of}
+use Rattle.hsr_forwarding.proofs.Counts.{counted-as}
+use Rattle.hsr_forwarding.specs.Tables.{copies_of}
 use Rattle.hsr_quadbox.specs.Step.{arrive_step}
 use Rattle.hsr_quadbox.specs.Wanted.{wanted}
 use Rattle.hsr_quadbox.specs.declared.quadbox.QuadVerdict.{QuadVerdict}

@@ -26,15 +26,15 @@ use Rattle.hsr_duptable.specs.Notes.{note_if as noted_if}
 use Rattle.hsr_supervision.specs.Payload.{read_of}
 use Rattle.hsr_tables.specs.Known.{known, latest_heard}
 use Rattle.hsr_tables.specs.Nodes.{Hearing}
-use Rattle.hsr_role.specs.Tables.{judged_as as verdict_as}
-use Rattle.hsr_role.specs.Past.{log_remembers, passes_from}
-use Rattle.hsr_role.proofs.Counts.{counts_plus}
-use Rattle.hsr_role.proofs.Keeping.{passes-same, unwanted-shut}
-use Rattle.hsr_role.proofs.Wants.{wanted-d}
+use Rattle.hsr_forwarding.specs.Tables.{judged_as as verdict_as}
+use Rattle.hsr_forwarding.specs.Past.{log_remembers, passes_from}
+use Rattle.hsr_forwarding.proofs.Counts.{counts_plus}
+use Rattle.hsr_forwarding.proofs.Keeping.{passes-same, unwanted-shut}
+use Rattle.hsr_forwarding.proofs.Wants.{wanted-d}
 use Rattle.hsr_redbox.specs.Machine.{Machine, new_machine}
 use Rattle.hsr_redbox.specs.Past as deeds
 use Rattle.hsr_redbox.specs.Past.{Answer, Deed, done, gave_up, judged_interlink, judged_ring, linked, sent_frame, sent_life, source_in}
-use Rattle.hsr_role.specs.Arrival.{key_of}
+use Rattle.hsr_forwarding.specs.Arrival.{key_of}
 use Rattle.hsr_redbox.specs.Step.{arrive_step, life_refusal, life_step, number_of, send_step, sent_of, verdict_of}
 use Rattle.hsr_redbox.specs.Wanted.{handling_interlink, handling_plain, handling_send, interlink, numbered, unnumbered, wanted}
 use Rattle.hsr_frame.specs.declared.node.About.{About}
@@ -92,8 +92,8 @@ record IsOwn (mac : List ℕ) (h : Handling) : Type 0 where
   has_number : Bool
   source : h.source ≡ cond has_number (Some mac) None
 
-is-own : (mac : List ℕ) (known : List ℕ → Bool) (dst : List ℕ) (kind : ℕ) → IsOwn mac (handling_send mac known dst kind)
-is-own mac known dst kind = by_case (known dst) (is_supervision dst kind) (is_group dst)
+is-own : (mac : List ℕ) (known : List ℕ → Bool) (dst : List ℕ) (ethertype : ℕ) → IsOwn mac (handling_send mac known dst ethertype)
+is-own mac known dst ethertype = by_case (known dst) (is_supervision dst ethertype) (is_group dst)
   where
     by_case : (p q r : Bool) → IsOwn mac (if p then unnumbered (to (interlink ∷ [])) else (if q then numbered mac (to (a ∷ b ∷ [])) else (if r then numbered mac (to (a ∷ b ∷ interlink ∷ [])) else numbered mac (to (a ∷ b ∷ [])))))
     by_case true q r = record { no_up = refl; no_d = refl; has_number = false; source = refl }
@@ -109,11 +109,11 @@ is-numbered (Some src) seq = refl
 abbrev at_least : List Deed → ℕ → ℕ
 at_least did at = max (deeds.moment_of did) at
 
-sent-tells : (number : ℕ) (mac : List ℕ) (mode : Mode) (did : List Deed) (past : List Entry) (worker at from seq : ℕ) (h : Handling) (dst : List ℕ) (vlan : Option ℕ) (kind : ℕ) (payload : List ℕ)
+sent-tells : (number : ℕ) (mac : List ℕ) (mode : Mode) (did : List Deed) (past : List Entry) (worker at from seq : ℕ) (h : Handling) (dst : List ℕ) (vlan : Option ℕ) (ethertype : ℕ) (payload : List ℕ)
     → IsOwn mac h → Tells number mac mode did past
     → Tells number mac mode (done did (at_least did at) (sent_frame h seq))
-    (record { worker = worker; at = at; event = Send from dst vlan kind payload; outcome = box_sent (sent_of h seq) } ∷ past)
-sent-tells number mac mode did past worker at from seq h dst vlan kind payload own t = record {
+    (record { worker = worker; at = at; event = Send from dst vlan ethertype payload; outcome = box_sent (sent_of h seq) } ∷ past)
+sent-tells number mac mode did past worker at from seq h dst vlan ethertype payload own t = record {
   moment = ap (λ m. max m at) t.moment;
   steps = ap (λ n. n + 1) t.steps;
   numbered = ap₂ (λ p n. if p then n + 1 else n) (is-numbered h.source seq) t.numbered;
@@ -139,7 +139,7 @@ sent-tells number mac mode did past worker at from seq h dst vlan kind payload o
         ≡ oldest_first (cons_option (note_if n (own_key (Some mac) (number_of s seq)) (max (now past) at) here) (notes (owner_of number mac mode) e past))) (sym own.source) (marked own.has_number n e)
 
     by_egress : (e : Egress) → deeds.log_of mac e (done did (at_least did at) (sent_frame h seq))
-        ≡ oldest_first (notes (owner_of number mac mode) e (record { worker = worker; at = at; event = Send from dst vlan kind payload; outcome = box_sent (sent_of h seq) } ∷ past))
+        ≡ oldest_first (notes (owner_of number mac mode) e (record { worker = worker; at = at; event = Send from dst vlan ethertype payload; outcome = box_sent (sent_of h seq) } ∷ past))
     by_egress up = ap (λ p. deeds.log_of mac up did ++ deeds.mark_if h.source seq p (at_least did at)) own.no_up ∙ noted false up
     by_egress a = noted h.wants.exits.a a
     by_egress b = noted h.wants.exits.b b
@@ -395,17 +395,17 @@ judged_in _ = Err (record {})
 abbrev HeldBy : ℕ → ℕ → Machine → Machine → List Entry → Type 0
 HeldBy capacity number machine = Held capacity number machine.own machine.mode
 
-send-case : (capacity number worker at from : ℕ) (machine : Machine) (did : List Deed) (past : List Entry) (dst : List ℕ) (vlan : Option ℕ) (kind : ℕ) (payload : List ℕ)
+send-case : (capacity number worker at from : ℕ) (machine : Machine) (did : List Deed) (past : List Entry) (dst : List ℕ) (vlan : Option ℕ) (ethertype : ℕ) (payload : List ℕ)
     (s : Result BoxSent SendFault × Machine) (h : Handling) (refusal : Option SendFault) → IsOwn machine.own h → Tells number machine.own machine.mode did past
     → law.Kept capacity machine (deeds.sent s.0, s.1) (deeds.send_from did (at_least did at) h refusal)
     → (sent_or_refused refusal (sent_as h (next_number past)) ≡ told box_sent refused.Send s.0)
-    × Stays (HeldBy capacity number machine) past (record { worker = worker; at = at; event = Send from dst vlan kind payload }) (told box_sent refused.Send s.0) s.1
-send-case capacity number worker at from machine did past dst vlan kind payload s h (Some fault) own t k =
-    let call : Call = record { worker = worker; at = at; event = Send from dst vlan kind payload } in
+    × Stays (HeldBy capacity number machine) past (record { worker = worker; at = at; event = Send from dst vlan ethertype payload }) (told box_sent refused.Send s.0) s.1
+send-case capacity number worker at from machine did past dst vlan ethertype payload s h (Some fault) own t k =
+    let call : Call = record { worker = worker; at = at; event = Send from dst vlan ethertype payload } in
     answered-by box_sent refused.Send (HeldBy capacity number machine) past call (Err (refused.Send fault)) s.1 s.0 _ (ap sent_in k.0)
     (refl, record { did = did; of_past = k.1; own = k.2; mode_is = k.3; tells = t })
-send-case capacity number worker at from machine did past dst vlan kind payload s h None own t k =
-    let call : Call = record { worker = worker; at = at; event = Send from dst vlan kind payload } in
+send-case capacity number worker at from machine did past dst vlan ethertype payload s h None own t k =
+    let call : Call = record { worker = worker; at = at; event = Send from dst vlan ethertype payload } in
     let n : deeds.number_after did ≡ next_number past = ap (λ m. m % 65536) t.numbered in
     let e : Exits = h.wants.exits in
     answered-by box_sent refused.Send (HeldBy capacity number machine) past call (Ok (sent_as h (next_number past))) s.1 s.0 _ (ap sent_in k.0) (
@@ -415,7 +415,7 @@ send-case capacity number worker at from machine did past dst vlan kind payload 
         of_past = k.1;
         own = k.2;
         mode_is = k.3;
-        tells = sent-tells number machine.own machine.mode did past worker at from (deeds.number_after did) h dst vlan kind payload own t;
+        tells = sent-tells number machine.own machine.mode did past worker at from (deeds.number_after did) h dst vlan ethertype payload own t;
       },
     )
 
@@ -562,25 +562,25 @@ pub redbox-keeps : (capacity number : ℕ) (machine : Machine) (did : List Deed)
     → IsPastOf capacity machine did → Tells number machine.own machine.mode did past
     → Keeps capacity (owner_of number machine.own machine.mode) (HeldBy capacity number machine) past (record { worker = worker; at = at; event = event }) (redbox_step capacity machine at event)
 unfolding redbox_step
-redbox-keeps capacity number machine did past worker at (Send from dst vlan kind payload) r t = by_source (from == 0)
+redbox-keeps capacity number machine did past worker at (Send from dst vlan ethertype payload) r t = by_source (from == 0)
   where
     by_source : (is_own : Bool)
-        → (send_answer capacity (owner_of number machine.own machine.mode) past (max (now past) at) (if is_own then Some machine.own else None) dst kind (length payload)
-        ≡ (if is_own then redbox_send capacity machine at dst kind (length payload) else wrong machine).0)
-        × Stays (HeldBy capacity number machine) past (record { worker = worker; at = at; event = Send from dst vlan kind payload })
-        (if is_own then redbox_send capacity machine at dst kind (length payload) else wrong machine).0
-        (if is_own then redbox_send capacity machine at dst kind (length payload) else wrong machine).1
+        → (send_answer capacity (owner_of number machine.own machine.mode) past (max (now past) at) (if is_own then Some machine.own else None) dst ethertype (length payload)
+        ≡ (if is_own then redbox_send capacity machine at dst ethertype (length payload) else wrong machine).0)
+        × Stays (HeldBy capacity number machine) past (record { worker = worker; at = at; event = Send from dst vlan ethertype payload })
+        (if is_own then redbox_send capacity machine at dst ethertype (length payload) else wrong machine).0
+        (if is_own then redbox_send capacity machine at dst ethertype (length payload) else wrong machine).1
     by_source true =
         let knowing = knows (place.RedBox machine.own machine.mode) past (max (now past) at) Age in
         let m : at_least did at ≡ max (now past) at = ap (λ m. max m at) t.moment in
         let knew : deeds.knows_among (deeds.sources_of machine.own did) (at_least did at) ≡ knowing
         = ap {B = List ℕ → Bool} (λ n. deeds.knows_among (deeds.sources_of machine.own did) n) m ∙ knows-same number machine.own machine.mode did past (max (now past) at) t in
-        let s = send_step capacity machine at dst kind (length payload) in
-        send-case capacity number worker at from machine did past dst vlan kind payload s (handling_send machine.own knowing dst kind) (send_refusal machine.own (steps past) dst kind (length payload))
-        (is-own machine.own knowing dst kind) t
-        (subst (λ (f : List ℕ → Bool). law.Kept capacity machine (deeds.sent s.0, s.1) (deeds.send_from did (at_least did at) (handling_send machine.own f dst kind) (send_refusal machine.own (steps past) dst kind (length payload)))) knew
-        (subst (λ n. law.Kept capacity machine (deeds.sent s.0, s.1) (deeds.send_from did (at_least did at) (handling_send machine.own (deeds.knows_among (deeds.sources_of machine.own did) (at_least did at)) dst kind) (send_refusal machine.own n dst kind (length payload)))) t.steps
-        (law.kept capacity machine did (deeds.sending at dst kind (length payload)) r)))
+        let s = send_step capacity machine at dst ethertype (length payload) in
+        send-case capacity number worker at from machine did past dst vlan ethertype payload s (handling_send machine.own knowing dst ethertype) (send_refusal machine.own (steps past) dst ethertype (length payload))
+        (is-own machine.own knowing dst ethertype) t
+        (subst (λ (f : List ℕ → Bool). law.Kept capacity machine (deeds.sent s.0, s.1) (deeds.send_from did (at_least did at) (handling_send machine.own f dst ethertype) (send_refusal machine.own (steps past) dst ethertype (length payload)))) knew
+        (subst (λ n. law.Kept capacity machine (deeds.sent s.0, s.1) (deeds.send_from did (at_least did at) (handling_send machine.own (deeds.knows_among (deeds.sources_of machine.own did) (at_least did at)) dst ethertype) (send_refusal machine.own n dst ethertype (length payload)))) t.steps
+        (law.kept capacity machine did (deeds.sending at dst ethertype (length payload)) r)))
     by_source false = (refl, record { did = did; of_past = r; own = refl; mode_is = refl; tells = t })
 redbox-keeps capacity number machine did past worker at (Supervise about) r t =
     let knowing = knows (place.RedBox machine.own machine.mode) past (max (now past) at) Age in

@@ -30,7 +30,7 @@ use Rattle.hsr_node.specs.declared.event.Outcome.TheVariants as outcome
 use Rattle.hsr_node.specs.declared.event.StepFault.{StepFault}
 use Rattle.hsr_node.specs.declared.event.StepFault.TheVariants as refused
 use Rattle.hsr_node.specs.declared.place.Place.TheVariants as place
-use Rattle.hsr_role.proofs.Counts.{counted-as}
+use Rattle.hsr_forwarding.proofs.Counts.{counted-as}
 use Rattle.hsr_node.proofs.Told.{Call, Keeps, Stays}
 
 abbrev owner_of : ℕ → ArrayVec (List ℕ) → Owner
@@ -53,11 +53,11 @@ Answers macs past call answer s = (answer ≡ s.0) × Stays (Held macs) past cal
 abbrev sent_plain : Outcome
 sent_plain = outcome.Sent None (true ∷ false ∷ false ∷ false ∷ [])
 
-send-case : (macs : ArrayVec (List ℕ)) (machine : Machine) (past : List Entry) (worker at from : ℕ) (dst : List ℕ) (vlan : Option ℕ) (kind : ℕ) (payload : List ℕ) (refusal : Option SendFault)
+send-case : (macs : ArrayVec (List ℕ)) (machine : Machine) (past : List Entry) (worker at from : ℕ) (dst : List ℕ) (vlan : Option ℕ) (ethertype : ℕ) (payload : List ℕ) (refusal : Option SendFault)
     → Held macs machine past
-    → Answers macs past (record { worker = worker; at = at; event = Send from dst vlan kind payload }) (sent_or_refused refusal sent_plain) (send_or_refuse machine at refusal)
-send-case macs machine past worker at from dst vlan kind payload (Some fault) h = (refl, h)
-send-case macs machine past worker at from dst vlan kind payload None h = (
+    → Answers macs past (record { worker = worker; at = at; event = Send from dst vlan ethertype payload }) (sent_or_refused refusal sent_plain) (send_or_refuse machine at refusal)
+send-case macs machine past worker at from dst vlan ethertype payload (Some fault) h = (refl, h)
+send-case macs machine past worker at from dst vlan ethertype payload None h = (
   refl,
   record {
     own = h.own;
@@ -120,22 +120,22 @@ counters-held macs machine past h = h.counters
 pub keeps-held : (capacity number : ℕ) (macs : ArrayVec (List ℕ)) (machine : Machine) (past : List Entry) (worker at : ℕ) (event : Event) → Held macs machine past
     → Keeps capacity (owner_of number macs) (Held macs) past (record { worker = worker; at = at; event = event }) (station_step machine at event)
 unfolding after_arrival after_send
-keeps-held capacity number macs machine past worker at (Send from dst vlan kind payload) h =
-    subst (λ (own : List (List ℕ)). Answers macs past call (asked (slice_get own from)) (send_from machine at (slice_get machine.macs from) dst kind (length payload))) h.own
+keeps-held capacity number macs machine past worker at (Send from dst vlan ethertype payload) h =
+    subst (λ (own : List (List ℕ)). Answers macs past call (asked (slice_get own from)) (send_from machine at (slice_get machine.macs from) dst ethertype (length payload))) h.own
     (by_source (slice_get machine.macs from))
   where
     call : Call
-    call = record { worker = worker; at = at; event = Send from dst vlan kind payload }
+    call = record { worker = worker; at = at; event = Send from dst vlan ethertype payload }
 
     asked : Option (List ℕ) → Result Outcome StepFault
-    asked src = send_answer capacity (owner_of number macs) past (max (now past) at) src dst kind (length payload)
+    asked src = send_answer capacity (owner_of number macs) past (max (now past) at) src dst ethertype (length payload)
 
-    by_source : (src : Option (List ℕ)) → Answers macs past call (asked src) (send_from machine at src dst kind (length payload))
+    by_source : (src : Option (List ℕ)) → Answers macs past call (asked src) (send_from machine at src dst ethertype (length payload))
     by_source None = (refl, h)
     by_source (Some src) =
-        subst (λ n. Answers macs past call (sent_or_refused (send_refusal src n dst kind (length payload)) sent_plain)
-        (send_or_refuse machine at (send_refusal src machine.accepted dst kind (length payload)))) h.steps
-        (send-case macs machine past worker at from dst vlan kind payload (send_refusal src machine.accepted dst kind (length payload)) h)
+        subst (λ n. Answers macs past call (sent_or_refused (send_refusal src n dst ethertype (length payload)) sent_plain)
+        (send_or_refuse machine at (send_refusal src machine.accepted dst ethertype (length payload)))) h.steps
+        (send-case macs machine past worker at from dst vlan ethertype payload (send_refusal src machine.accepted dst ethertype (length payload)) h)
 keeps-held capacity number macs machine past worker at (Supervise about) h = (refl, h)
 keeps-held capacity number macs machine past worker at (Arrive port copy) h = by_port (port == 0)
   where

@@ -42,16 +42,16 @@ told-leaves done fault machine after (Err f) h e p = h f refl
 
 danh-leaves : (capacity : ℕ) (machine : danh.Machine) (at : ℕ) (event : Event) → Leaves machine (danh_step capacity machine at event)
 unfolding danh_step of_danh.send_step of_danh.life_step of_danh.arrive_step
-danh-leaves capacity machine at (Send from dst vlan kind payload) = by_source (from == 0)
+danh-leaves capacity machine at (Send from dst vlan ethertype payload) = by_source (from == 0)
   where
     by_refusal : (refusal : Option SendFault) → Leaves machine (of_danh.send_or_refuse capacity machine (of_danh.now_at machine at) refusal)
     by_refusal (Some fault) = λ e h. refl
     by_refusal None = done-leaves machine (of_danh.send_or_refuse capacity machine (of_danh.now_at machine at) None).1 (record { seq = machine.next })
 
-    by_source : (is_own : Bool) → Leaves machine (if is_own then told_with danh_sent refused.Send (of_danh.send_or_refuse capacity machine (of_danh.now_at machine at) (send_refusal machine.own machine.accepted dst kind (length payload))) else wrong machine)
+    by_source : (is_own : Bool) → Leaves machine (if is_own then told_with danh_sent refused.Send (of_danh.send_or_refuse capacity machine (of_danh.now_at machine at) (send_refusal machine.own machine.accepted dst ethertype (length payload))) else wrong machine)
     by_source true =
-        let s = of_danh.send_or_refuse capacity machine (of_danh.now_at machine at) (send_refusal machine.own machine.accepted dst kind (length payload)) in
-        told-leaves danh_sent refused.Send machine s.1 s.0 (by_refusal (send_refusal machine.own machine.accepted dst kind (length payload)))
+        let s = of_danh.send_or_refuse capacity machine (of_danh.now_at machine at) (send_refusal machine.own machine.accepted dst ethertype (length payload)) in
+        told-leaves danh_sent refused.Send machine s.1 s.0 (by_refusal (send_refusal machine.own machine.accepted dst ethertype (length payload)))
     by_source false = λ e h. refl
 danh-leaves capacity machine at (Supervise Own) =
     let s = of_danh.life_or_spent capacity machine (of_danh.now_at machine at) (machine.accepted == 2 ^ 62) in
@@ -76,19 +76,19 @@ danh-leaves capacity machine at Age = λ e h. absurd (cc)
 
 redbox-leaves : (capacity : ℕ) (machine : redbox.Machine) (at : ℕ) (event : Event) → Leaves machine (redbox_step capacity machine at event)
 unfolding redbox_step of_redbox.send_step of_redbox.life_step of_redbox.arrive_step
-redbox-leaves capacity machine at (Send from dst vlan kind payload) = by_source (from == 0)
+redbox-leaves capacity machine at (Send from dst vlan ethertype payload) = by_source (from == 0)
   where
     by_refusal : (h : Handling) (refusal : Option SendFault) → Leaves machine (of_redbox.send_or_refuse capacity machine (of_redbox.now_at machine at) h refusal)
     by_refusal h (Some fault) = λ e p. refl
     by_refusal h None = λ e p. absurd (cc)
 
     by_source : (is_own : Bool) → Leaves machine (if is_own then told_with box_sent refused.Send
-        (of_redbox.send_or_refuse capacity machine (of_redbox.now_at machine at) (handling_send machine.own (is_known (of_redbox.now_at machine at) machine.proxies.heard) dst kind) (send_refusal machine.own machine.accepted dst kind (length payload)))
+        (of_redbox.send_or_refuse capacity machine (of_redbox.now_at machine at) (handling_send machine.own (is_known (of_redbox.now_at machine at) machine.proxies.heard) dst ethertype) (send_refusal machine.own machine.accepted dst ethertype (length payload)))
         else wrong machine)
     by_source true =
-        let h = handling_send machine.own (is_known (of_redbox.now_at machine at) machine.proxies.heard) dst kind in
-        let s = of_redbox.send_or_refuse capacity machine (of_redbox.now_at machine at) h (send_refusal machine.own machine.accepted dst kind (length payload)) in
-        told-leaves box_sent refused.Send machine s.1 s.0 (by_refusal h (send_refusal machine.own machine.accepted dst kind (length payload)))
+        let h = handling_send machine.own (is_known (of_redbox.now_at machine at) machine.proxies.heard) dst ethertype in
+        let s = of_redbox.send_or_refuse capacity machine (of_redbox.now_at machine at) h (send_refusal machine.own machine.accepted dst ethertype (length payload)) in
+        told-leaves box_sent refused.Send machine s.1 s.0 (by_refusal h (send_refusal machine.own machine.accepted dst ethertype (length payload)))
     by_source false = λ e h. refl
 redbox-leaves capacity machine at (Supervise about) =
     let refusal = of_redbox.life_refusal (is_known (of_redbox.now_at machine at) machine.proxies.heard) machine.accepted about in
@@ -113,7 +113,7 @@ redbox-leaves capacity machine at Age = λ e h. absurd (cc)
 
 quadbox-leaves : (capacity : ℕ) (machine : quadbox.Machine) (at : ℕ) (event : Event) → Leaves machine (quadbox_step capacity machine at event)
 unfolding quadbox_step of_quadbox.arrive_step
-quadbox-leaves capacity machine at (Send from dst vlan kind payload) = λ e h. refl
+quadbox-leaves capacity machine at (Send from dst vlan ethertype payload) = λ e h. refl
 quadbox-leaves capacity machine at (Supervise about) = λ e h. refl
 quadbox-leaves capacity machine at (Arrive port copy) = by_port (quad_port port)
   where
@@ -130,15 +130,15 @@ quadbox-leaves capacity machine at Age = λ e h. absurd (cc)
 
 station-leaves : (machine : station.Machine) (at : ℕ) (event : Event) → Leaves machine (station.station_step machine at event)
 unfolding station.after_send station.after_arrival
-station-leaves machine at (Send from dst vlan kind payload) = by_source (slice_get machine.macs from)
+station-leaves machine at (Send from dst vlan ethertype payload) = by_source (slice_get machine.macs from)
   where
     by_refusal : (refusal : Option SendFault) → Leaves machine (station.send_or_refuse machine at refusal)
     by_refusal (Some fault) = λ e h. refl
     by_refusal None = λ e h. absurd (cc)
 
-    by_source : (src : Option (List ℕ)) → Leaves machine (station.send_from machine at src dst kind (length payload))
+    by_source : (src : Option (List ℕ)) → Leaves machine (station.send_from machine at src dst ethertype (length payload))
     by_source None = λ e h. refl
-    by_source (Some src) = by_refusal (send_refusal src machine.accepted dst kind (length payload))
+    by_source (Some src) = by_refusal (send_refusal src machine.accepted dst ethertype (length payload))
 station-leaves machine at (Supervise about) = λ e h. refl
 station-leaves machine at (Arrive port copy) = by_port (port == 0)
   where

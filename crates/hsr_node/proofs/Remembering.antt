@@ -10,7 +10,7 @@ use Rattle.hsr_duptable.specs.Log as log
 use Rattle.hsr_duptable.specs.Notes as table
 use Rattle.hsr_duptable.specs.declared.note.Note.{Note}
 use Rattle.hsr_duptable.proofs.LogLaws.{last_notes-append, last_notes-none}
-use Rattle.hsr_role.specs.Past.{log_remembers}
+use Rattle.hsr_forwarding.specs.Past.{log_remembers}
 use Rattle.hsr_node.specs.Record.{Noted, has_key, oldest_first, remembered}
 
 pub oldest_first-cons : (noted : Bool) (n : Noted) (ns : List Noted)

@@ -70,8 +70,9 @@ address_at (Station macs) from = slice_get macs.items from
 
 -- the frame that a send asks for, by its source
 abbrev pub asked_frame : Option (List ℕ) → List ℕ → Option ℕ → ℕ → List ℕ → Option Fields
-asked_frame None dst vlan kind payload = None
-asked_frame (Some src) dst vlan kind payload = frame_of (record { dst = dst; src = src; vlan = vlan; kind = kind; rest = payload })
+asked_frame None dst vlan ethertype payload = None
+asked_frame (Some src) dst vlan ethertype payload =
+    frame_of (record { dst = dst; src = src; vlan = vlan; kind = ethertype; rest = payload })
 
 -- what a supervision frame says: a RedBox names itself where it speaks for a station
 abbrev pub life_said : List ℕ → About → ℕ → payload.Fields
@@ -142,7 +143,8 @@ arrived_octets place x octets (Judged up ports seq cause) port = forwarded (side
 arrived_octets place x octets _ port = None
 
 unfoldable pub passed_octets : Place → Event → Outcome → ℕ → Option (List ℕ)
-passed_octets place (Send from dst vlan kind payload) outcome port = sent_octets place (asked_frame (address_at place from) dst vlan kind payload) outcome port
+passed_octets place (Send from dst vlan ethertype payload) outcome port =
+    sent_octets place (asked_frame (address_at place from) dst vlan ethertype payload) outcome port
 passed_octets place (Supervise about) outcome port = life_octets place about outcome port
 passed_octets place (Arrive x copy) outcome port = arrived_octets place x copy.octets outcome port
 passed_octets place Age outcome port = None
@@ -158,7 +160,7 @@ raised octets (Judged up ports seq cause) = if up then plain_octets octets else 
 raised octets _ = None
 
 unfoldable pub up_octets : Event → Outcome → Option (List ℕ)
-up_octets (Send from dst vlan kind payload) outcome = None
+up_octets (Send from dst vlan ethertype payload) outcome = None
 up_octets (Supervise about) outcome = None
 up_octets (Arrive x copy) outcome = raised copy.octets outcome
 up_octets Age outcome = None

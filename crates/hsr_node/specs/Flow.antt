@@ -49,7 +49,8 @@ sending_of seq frame = option_map (λ f. record { frame = f; seq = seq }) frame
 
 -- what an entry sends, if it is one of the node's own
 abbrev pub sent_by : Place → Event → Outcome → Option Sending
-sent_by place (Send from dst vlan kind payload) (Sent seq ports) = sending_of seq (asked_frame (address_at place from) dst vlan kind payload)
+sent_by place (Send from dst vlan ethertype payload) (Sent seq ports) =
+    sending_of seq (asked_frame (address_at place from) dst vlan ethertype payload)
 sent_by place (Supervise about) (Life seq life ports) = sending_of (Some seq) (life_frame (ring_address place) about life)
 sent_by place event outcome = None
 

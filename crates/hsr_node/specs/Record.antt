@@ -30,8 +30,8 @@ use Rattle.hsr_supervision.specs.Payload.{read_of}
 use Rattle.hsr_tables.specs.Known.{known_within, latest_heard}
 use Rattle.hsr_tables.specs.Nodes.{Hearing, hearing_if, rows_known}
 use Rattle.hsr_tables.specs.declared.nodes.NodeRow.{NodeRow}
-use Rattle.hsr_role.specs.Arrival.{key_of}
-use Rattle.hsr_role.specs.Tables.{passes_by}
+use Rattle.hsr_forwarding.specs.Arrival.{key_of}
+use Rattle.hsr_forwarding.specs.Tables.{passes_by}
 use Rattle.hsr_danh.specs.Wanted as of_danh
 use Rattle.hsr_redbox.specs.Past.{source_in}
 use Rattle.hsr_redbox.specs.Step.{life_refusal, number_of}
@@ -291,10 +291,10 @@ handling (Station macs) known port seen = if port == 0 then Some (unnumbered (st
 
 -- where a frame of the node's own goes, and for whom it gets a number
 abbrev pub sending : Place → (List ℕ → Bool) → List ℕ → ℕ → Handling
-sending (Danh mac mode) known dst kind = numbered mac (to (a ∷ b ∷ []))
-sending (RedBox mac mode) known dst kind = of_redbox.handling_send mac known dst kind
-sending QuadBox known dst kind = unnumbered (to [])
-sending (Station macs) known dst kind = unnumbered (to (a ∷ []))
+sending (Danh mac mode) known dst ethertype = numbered mac (to (a ∷ b ∷ []))
+sending (RedBox mac mode) known dst ethertype = of_redbox.handling_send mac known dst ethertype
+sending QuadBox known dst ethertype = unnumbered (to [])
+sending (Station macs) known dst ethertype = unnumbered (to (a ∷ []))
 
 -- ---- answers
 
@@ -318,10 +318,10 @@ sent_or_refused (Some fault) outcome = Err (refused.Send fault)
 sent_or_refused None outcome = Ok outcome
 
 abbrev pub send_answer_by : Times → ℕ → Owner → List Entry → ℕ → Option (List ℕ) → List ℕ → ℕ → ℕ → Result Outcome StepFault
-send_answer_by times capacity owner past at None dst kind len = Err WrongEvent
-send_answer_by times capacity owner past at (Some src) dst kind len =
-    sent_or_refused (send_refusal src (steps past) dst kind len)
-    (sent_as (sending owner.place (knows_by times owner.place past at Age) dst kind) (next_number past))
+send_answer_by times capacity owner past at None dst ethertype len = Err WrongEvent
+send_answer_by times capacity owner past at (Some src) dst ethertype len =
+    sent_or_refused (send_refusal src (steps past) dst ethertype len)
+    (sent_as (sending owner.place (knows_by times owner.place past at Age) dst ethertype) (next_number past))
 
 abbrev pub send_answer : ℕ → Owner → List Entry → ℕ → Option (List ℕ) → List ℕ → ℕ → ℕ → Result Outcome StepFault
 send_answer = send_answer_by usual
@@ -351,8 +351,8 @@ arrive_answer = arrive_answer_by usual
 
 -- the answer of a past to an event at an effective moment, where frames and addresses are forgotten after these times
 abbrev pub answer_by : Times → ℕ → Owner → List Entry → ℕ → Event → Result Outcome StepFault
-answer_by times capacity owner past at (Send from dst vlan kind payload) =
-    send_answer_by times capacity owner past at (address_at owner.place from) dst kind (length payload)
+answer_by times capacity owner past at (Send from dst vlan ethertype payload) =
+    send_answer_by times capacity owner past at (address_at owner.place from) dst ethertype (length payload)
 answer_by times capacity owner past at (Supervise about) = life_answer_by times owner.place past at about
 answer_by times capacity owner past at (Arrive port copy) =
     arrive_answer_by times capacity owner past at (handling owner.place (knows_by times owner.place past at (Arrive port copy)) port (classified copy.octets))

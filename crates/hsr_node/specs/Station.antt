@@ -45,12 +45,13 @@ send_or_refuse machine at None =
     (Ok (Sent None (true ∷ false ∷ false ∷ false ∷ [])), after_step machine at (record machine.counters { sent = machine.counters.sent + 1 }))
 
 abbrev pub send_from : Machine → ℕ → Option (List ℕ) → List ℕ → ℕ → ℕ → Result Outcome StepFault × Machine
-send_from machine at None dst kind len = (Err WrongEvent, machine)
-send_from machine at (Some src) dst kind len = send_or_refuse machine at (send_refusal src machine.accepted dst kind len)
+send_from machine at None dst ethertype len = (Err WrongEvent, machine)
+send_from machine at (Some src) dst ethertype len =
+    send_or_refuse machine at (send_refusal src machine.accepted dst ethertype len)
 
 -- a send from the address at a place, by its destination, type and length
 unfoldable pub after_send : Machine → ℕ → ℕ → List ℕ → ℕ → ℕ → Result Outcome StepFault × Machine
-after_send machine at from dst kind len = send_from machine at (slice_get machine.macs from) dst kind len
+after_send machine at from dst ethertype len = send_from machine at (slice_get machine.macs from) dst ethertype len
 
 -- ---- an arrival
 
@@ -87,7 +88,7 @@ abbrev pub after_age : Machine → ℕ → Machine
 after_age machine at = record machine { moment = max machine.moment at }
 
 abbrev pub station_step : Machine → ℕ → Event → Result Outcome StepFault × Machine
-station_step machine at (Send from dst vlan kind payload) = after_send machine at from dst kind (length payload)
+station_step machine at (Send from dst vlan ethertype payload) = after_send machine at from dst ethertype (length payload)
 station_step machine at (Supervise about) = (Err WrongEvent, machine)
 station_step machine at (Arrive port copy) = if port == 0 then after_arrival machine at copy.octets else (Err WrongEvent, machine)
 station_step machine at Age = (Ok Aged, after_age machine at)

@@ -71,7 +71,8 @@ abbrev pub danh_judged : Verdict → Outcome
 danh_judged v = outcome.Judged v.up (v.a ∷ v.b ∷ false ∷ false ∷ []) None v.cause
 
 abbrev pub danh_send : ℕ → danh.Machine → ℕ → List ℕ → ℕ → ℕ → Result Outcome StepFault × danh.Machine
-danh_send capacity machine at dst kind len = told_with danh_sent refused.Send (of_danh.send_step capacity machine at dst kind len)
+danh_send capacity machine at dst ethertype len =
+    told_with danh_sent refused.Send (of_danh.send_step capacity machine at dst ethertype len)
 
 abbrev pub danh_life : ℕ → danh.Machine → ℕ → Result Outcome StepFault × danh.Machine
 danh_life capacity machine at = told_with lived spent (of_danh.life_step capacity machine at)
@@ -85,7 +86,7 @@ danh_supervise capacity machine at Own = danh_life capacity machine at
 danh_supervise capacity machine at (Proxied mac) = wrong machine
 
 unfoldable pub danh_step : ℕ → danh.Machine → ℕ → Event → Result Outcome StepFault × danh.Machine
-danh_step capacity machine at (Send from dst vlan kind payload) = if from == 0 then danh_send capacity machine at dst kind (length payload) else wrong machine
+danh_step capacity machine at (Send from dst vlan ethertype payload) = if from == 0 then danh_send capacity machine at dst ethertype (length payload) else wrong machine
 danh_step capacity machine at (Supervise about) = danh_supervise capacity machine at about
 danh_step capacity machine at (Arrive port copy) = danh_arrive capacity machine at (ring_port port) copy.octets
 danh_step capacity machine at Age = (Ok outcome.Aged, of_danh.age_step machine at)
@@ -106,7 +107,8 @@ life_fault life.NotProxied = refused.NotProxied
 life_fault life.Spent = refused.Spent
 
 abbrev pub redbox_send : ℕ → redbox.Machine → ℕ → List ℕ → ℕ → ℕ → Result Outcome StepFault × redbox.Machine
-redbox_send capacity machine at dst kind len = told_with box_sent refused.Send (of_redbox.send_step capacity machine at dst kind len)
+redbox_send capacity machine at dst ethertype len =
+    told_with box_sent refused.Send (of_redbox.send_step capacity machine at dst ethertype len)
 
 abbrev pub redbox_supervise : ℕ → redbox.Machine → ℕ → About → Result Outcome StepFault × redbox.Machine
 redbox_supervise capacity machine at about = told_with lived life_fault (of_redbox.life_step capacity machine at about)
@@ -116,7 +118,7 @@ redbox_arrive capacity machine at None octets = wrong machine
 redbox_arrive capacity machine at (Some x) octets = told_with box_judged spent (of_redbox.arrive_step capacity machine at x octets)
 
 unfoldable pub redbox_step : ℕ → redbox.Machine → ℕ → Event → Result Outcome StepFault × redbox.Machine
-redbox_step capacity machine at (Send from dst vlan kind payload) = if from == 0 then redbox_send capacity machine at dst kind (length payload) else wrong machine
+redbox_step capacity machine at (Send from dst vlan ethertype payload) = if from == 0 then redbox_send capacity machine at dst ethertype (length payload) else wrong machine
 redbox_step capacity machine at (Supervise about) = redbox_supervise capacity machine at about
 redbox_step capacity machine at (Arrive port copy) = redbox_arrive capacity machine at (box_port port) copy.octets
 redbox_step capacity machine at Age = (Ok outcome.Aged, of_redbox.age_step machine at)
@@ -134,7 +136,7 @@ quadbox_arrive capacity machine at None octets = wrong machine
 quadbox_arrive capacity machine at (Some x) octets = told_with quad_judged spent (of_quadbox.arrive_step capacity machine at x octets)
 
 unfoldable pub quadbox_step : ℕ → quadbox.Machine → ℕ → Event → Result Outcome StepFault × quadbox.Machine
-quadbox_step capacity machine at (Send from dst vlan kind payload) = wrong machine
+quadbox_step capacity machine at (Send from dst vlan ethertype payload) = wrong machine
 quadbox_step capacity machine at (Supervise about) = wrong machine
 quadbox_step capacity machine at (Arrive port copy) = quadbox_arrive capacity machine at (quad_port port) copy.octets
 quadbox_step capacity machine at Age = (Ok outcome.Aged, of_quadbox.age_step machine at)

@@ -41,11 +41,14 @@ impl<const C: usize> NodeCell<C> {
         at: u64,
         event: Event,
     ) -> Result<Receipt, (Event, StepFault)>
-        ensures kept { IfOk result (λ r. pass.new ≡ record pass.old { receipts = pass.old.receipts ++ r ∷ [] }) }
-        ensures call { IfOk result (λ r. (r.entry.worker ≡ pass.old.worker) × (r.entry.at ≡ at) × (r.entry.event ≡ event)) }
+        ensures kept { IfOk result (λ r. pass.new
+            ≡ record pass.old { receipts = pass.old.receipts ++ r ∷ [] }) }
+        ensures call { IfOk result (λ r. (r.entry.worker ≡ pass.old.worker) × (r.entry.at ≡ at)
+            × (r.entry.event ≡ event)) }
         ensures answered { IsAnsweredByRecord C at event result }
         ensures refused { IfErr result (λ e. (pass.new ≡ pass.old) × (e.0 ≡ event)) }
     {
+        // Room and copy come before the lock, so that it is held for the node's step alone.
         if pass.receipts.reserve(1).is_err() {
             return Err((event, StepFault::NoMemory));
         }
@@ -54,6 +57,7 @@ impl<const C: usize> NodeCell<C> {
         };
         let receipt = step_legal(&mut self.kept.lock(rt), pass.worker, at, event)?;
         let again = receipt_again(&receipt, copy);
+        // Room was made above, so this push isn't refused.
         let Ok(()) = pass.receipts.push(again) else {
             unreachable!()
         };
@@ -66,6 +70,7 @@ impl<const C: usize> NodeCell<C> {
         ensures { IsLegal C (owner_of result) (past_of result) }
     {
         let kept = self.kept.into_inner();
+        // What it answers isn't used: its contract says that the record is legal.
         let _legal = kept.entries();
         kept
     }
@@ -80,12 +85,16 @@ fn step_legal<const C: usize>(
     at: u64,
     event: Event,
 ) -> Result<Receipt, (Event, StepFault)>
-    ensures kept { IfOk result (λ r. kept.new ≡ record kept.old { entries = kept.old.entries ++ r.entry ∷ [] }) }
-    ensures receipt { IfOk result (λ r. (r.node ≡ kept.old.number) × (r.place ≡ length kept.old.entries)) }
-    ensures call { IfOk result (λ r. (r.entry.worker ≡ worker) × (r.entry.at ≡ at) × (r.entry.event ≡ event)) }
+    ensures kept { IfOk result (λ r. kept.new
+        ≡ record kept.old { entries = kept.old.entries ++ r.entry ∷ [] }) }
+    ensures receipt { IfOk result (λ r. (r.node ≡ kept.old.number)
+        × (r.place ≡ length kept.old.entries)) }
+    ensures call { IfOk result (λ r. (r.entry.worker ≡ worker) × (r.entry.at ≡ at)
+        × (r.entry.event ≡ event)) }
     ensures answered { IsAnsweredByRecord C at event result }
     ensures refused { IfErr result (λ e. (kept.new ≡ kept.old) × (e.0 ≡ event)) }
 {
+    // As above: its contract says that the record is legal.
     let _legal = kept.entries();
     kept.step(worker, at, event)
 }

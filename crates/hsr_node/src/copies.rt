@@ -76,6 +76,7 @@ pub fn plain_octets(octets: &[u8]) -> Option<Spelled<'_>>
 fn as_came(octets: &[u8]) -> Option<Spelled<'_>>
     ensures { result ≡ as_came octets.now }
 {
+    // Never so where something was forwarded. Total, so that callers have no premise.
     if octets.len() > MAX_FRAME {
         None
     } else {
@@ -96,6 +97,7 @@ fn forwarded(
     let (Some(from), Some(to)) = (from, to) else {
         return None;
     };
+    // From ring to ring nothing is formed anew: path and size stay as they came (RULES, Stations, and what leaves by a port).
     if is_ring(from) && is_ring(to) {
         as_came(octets)
     } else {

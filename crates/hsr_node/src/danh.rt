@@ -13,12 +13,12 @@ fn send<const C: usize>(
     at: u64,
     dst: Mac,
     vlan: Option<u16>,
-    kind: u16,
+    ethertype: u16,
     payload: &[u8],
 ) -> Result<Outcome, StepFault>
-    ensures { (result, danh.new) ≡ danh_send C danh.old at dst kind (length payload.now) }
+    ensures { (result, danh.new) ≡ danh_send C danh.old at dst ethertype (length payload.now) }
 {
-    match danh.send(at, dst, vlan, kind, payload) {
+    match danh.send(at, dst, vlan, ethertype, payload) {
         Ok(sent) => Ok(Outcome::Sent {
             seq: Some(sent.seq),
             ports: [true, true, false, false],
@@ -78,16 +78,18 @@ pub(crate) fn apply_danh<const C: usize>(
             from,
             dst,
             vlan,
-            kind,
+            kind: ethertype,
             payload,
         } => {
+            // `from` chooses among a Station's addresses; a DANH has one.
             if *from == 0 {
-                send(danh, at, *dst, *vlan, *kind, payload.as_slice())
+                send(danh, at, *dst, *vlan, *ethertype, payload.as_slice())
             } else {
                 Err(StepFault::WrongEvent)
             }
         }
         Event::Supervise(About::Own) => supervise(danh, at),
+        // Not even with its own address: a DANH speaks for itself without a name (RULES, Stations, and what leaves by a port).
         Event::Supervise(About::Proxied(_)) => Err(StepFault::WrongEvent),
         Event::Arrive { port, carried } => {
             arrive(danh, at, ring_port(*port), carried.octets.as_slice())

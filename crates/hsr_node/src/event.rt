@@ -11,7 +11,8 @@ pub struct Probe {
     pub place: usize,
 }
 
-/// A copy on its way. No verdict depends on the probe.
+/// A copy on its way: the send that it is of, if it is of one, and its octets, from the destination on. No verdict
+/// depends on the probe.
 #[derive(Clone, Debug, Drop, PartialEq, Eq)]
 pub struct Carried {
     pub probe: Option<Probe>,
@@ -21,11 +22,13 @@ pub struct Carried {
 /// What happens to a node.
 #[derive(Clone, Debug, Drop, PartialEq, Eq)]
 pub enum Event {
-    /// It sends a frame of its own; `from` is the place of the source among a Station's addresses, else 0.
+    /// It sends a frame of its own, of the type `kind`, with the control information of a VLAN tag if there is one;
+    /// `from` is the place of the source among a Station's addresses, else 0.
     Send {
         from: u8,
         dst: Mac,
         vlan: Option<u16>,
+        /// The EtherType.
         kind: u16,
         payload: Octets,
     },
@@ -36,7 +39,7 @@ pub enum Event {
         port: u8,
         carried: Carried,
     },
-    /// It gives up what is expired.
+    /// It drops what is expired.
     Age,
 }
 
@@ -76,7 +79,7 @@ pub enum Outcome {
         seq: Option<u16>,
         cause: Cause,
     },
-    /// What is expired was given up.
+    /// What is expired was dropped.
     Aged,
 }
 
@@ -107,21 +110,22 @@ pub enum StepFault {
     NotProxied,
     /// The node has accepted as many steps as it may: `STEP_LIMIT`.
     Spent,
-    /// Room for the entry or its copy was refused; a node that keeps no record never answers this.
+    /// Allocation failed for the entry or its copy; a node that keeps no record never answers this.
     NoMemory,
 }
 
 impl Carried {
-    /// An equal copy; `NoMemory` where room for it is refused.
+    /// An equal copy; `NoMemory` if allocation fails.
     pub fn copy(&self) -> Result<Carried, NoMemory>
         ensures { IfOk result (λ carried. carried ≡ self.now) }
     {
+        // A call of its own, whose contract says that the copy is equal.
         Ok(self.clone()?)
     }
 }
 
 impl Event {
-    /// An equal event; `NoMemory` where room for it is refused.
+    /// An equal event; `NoMemory` if allocation fails.
     pub fn copy(&self) -> Result<Event, NoMemory>
         ensures { IfOk result (λ event. event ≡ self.now) }
     {

@@ -1,5 +1,6 @@
 //! A node with the record of all that happened to it.
-ghost use Rattle.std.specs.Prelude.{◌≡◌, ◌⊎◌, ◌≤◌, ◌^◌, [], ◌∷◌, ◌++◌, length, reverse, Ok, Err, IfErr, IfOk, MatchResult};
+ghost use Rattle.std.specs.Prelude.{◌≡◌, ◌⊎◌, ◌^◌, [], ◌∷◌, ◌++◌, length, reverse, Ok, Err, IfErr, IfOk, MatchResult};
+ghost use Rattle.hsr_duptable.specs.Table.{IsTableSize};
 ghost use Rattle.hsr_node.specs.declared.event.StepFault.TheVariants.{NoMemory as NoRoom};
 ghost use Rattle.hsr_frame.specs.Counters.{AreWithin};
 
@@ -46,11 +47,12 @@ impl<const C: usize> Kept<C> {
     ghost use Rattle.hsr_node.specs.Record.{IsLegal};
 
     /// A node of this number at this place that has done nothing. No group has the address of a DANH or RedBox.
-    /// `NoMemory` where room for its tables is refused.
+    /// `NoMemory` if allocation fails.
     pub fn new(alloc: Global, number: usize, place: Place) -> Result<Kept<C>, NoMemory>
         requires station { HasOwnAddress place }
-        requires entries { (1 ≤ C) × (C ≤ 65535) }
-        ensures { IfOk result (λ kept. kept ≡ record { number = number; place = place; entries = [] }) }
+        requires entries { IsTableSize C }
+        ensures { IfOk result (λ kept. kept
+            ≡ record { number = number; place = place; entries = [] }) }
     {
         let node = Node::new(alloc, &place)?;
         Ok(Kept {
@@ -71,11 +73,16 @@ impl<const C: usize> Kept<C> {
         at: u64,
         event: Event,
     ) -> Result<Answer, (Event, StepFault)>
-        ensures kept { IfOk result (λ a. self.new ≡ record self.old { entries = self.old.entries ++ record { worker = worker; at = at; event = event; outcome = a.outcome } ∷ [] }) }
+        ensures kept { IfOk result (λ a. self.new ≡ record self.old {
+          entries = self.old.entries
+              ++ record { worker = worker; at = at; event = event; outcome = a.outcome } ∷ [];
+        }) }
         ensures place { IfOk result (λ a. a.place ≡ length self.old.entries) }
-        ensures answered { MatchResult result (λ a. answer_to C self.old at event ≡ Ok a.outcome) (λ e. (e.1 ≡ NoRoom) ⊎ (answer_to C self.old at event ≡ Err e.1)) }
+        ensures answered { MatchResult result (λ a. answer_to C self.old at event ≡ Ok a.outcome)
+            (λ e. (e.1 ≡ NoRoom) ⊎ (answer_to C self.old at event ≡ Err e.1)) }
         ensures refused { IfErr result (λ e. (self.new ≡ self.old) × (e.0 ≡ event)) }
     {
+        // Room first: after the node's step nothing may fail.
         if self.entries.reserve(1).is_err() {
             return Err((event, StepFault::NoMemory));
         }
@@ -84,6 +91,7 @@ impl<const C: usize> Kept<C> {
             Err(fault) => return Err((event, fault)),
         };
         let place = self.entries.len();
+        // Room was made above, so this push isn't refused.
         let Ok(()) = self.entries.push(Entry {
             worker,
             at,
@@ -106,12 +114,16 @@ impl<const C: usize> Kept<C> {
         at: u64,
         event: Event,
     ) -> Result<Receipt, (Event, StepFault)>
-        ensures kept { IfOk result (λ r. self.new ≡ record self.old { entries = self.old.entries ++ r.entry ∷ [] }) }
-        ensures receipt { IfOk result (λ r. (r.node ≡ self.old.number) × (r.place ≡ length self.old.entries)) }
-        ensures call { IfOk result (λ r. (r.entry.worker ≡ worker) × (r.entry.at ≡ at) × (r.entry.event ≡ event)) }
+        ensures kept { IfOk result (λ r. self.new
+            ≡ record self.old { entries = self.old.entries ++ r.entry ∷ [] }) }
+        ensures receipt { IfOk result (λ r. (r.node ≡ self.old.number)
+            × (r.place ≡ length self.old.entries)) }
+        ensures call { IfOk result (λ r. (r.entry.worker ≡ worker) × (r.entry.at ≡ at)
+            × (r.entry.event ≡ event)) }
         ensures answered { IsAnswered C self.old at event result }
         ensures refused { IfErr result (λ e. (self.new ≡ self.old) × (e.0 ≡ event)) }
     {
+        // Before the step, so that a copy that is refused leaves the node as it was.
         let Ok(copy) = event.copy() else {
             return Err((event, StepFault::NoMemory));
         };

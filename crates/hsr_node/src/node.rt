@@ -1,6 +1,7 @@
 //! A node of any kind.
-ghost use Rattle.std.specs.Prelude.{◌≡◌, ◌≤◌, ◌^◌, IfOk};
+ghost use Rattle.std.specs.Prelude.{◌≡◌, ◌^◌, IfOk};
 ghost use Rattle.hsr_frame.specs.Counters.{AreWithin};
+ghost use Rattle.hsr_duptable.specs.Table.{IsTableSize};
 
 use crate::danh::apply_danh;
 use crate::event::{Event, Outcome, StepFault};
@@ -28,11 +29,11 @@ impl<const C: usize> Node<C> {
     ghost use Rattle.hsr_node.specs.Place.{HasOwnAddress};
     ghost use Rattle.hsr_node.specs.Step.{counters_of, new_node, node_step};
 
-    /// A node at this place that has done nothing. No group has the address of a DANH or RedBox. `NoMemory` where room
-    /// for its tables is refused.
+    /// A node at this place that has done nothing. No group has the address of a DANH or RedBox. `NoMemory` if
+    /// allocation fails.
     pub fn new(alloc: Global, place: &Place) -> Result<Self, NoMemory>
         requires station { HasOwnAddress place.now }
-        requires entries { (1 ≤ C) × (C ≤ 65535) }
+        requires entries { IsTableSize C }
         ensures { IfOk result (λ node. node ≡ new_node C place.now) }
     {
         match place {

@@ -28,7 +28,7 @@ impl Octets {
         Octets { bytes }
     }
 
-    /// A copy of these octets; `NoMemory` where room for it is refused.
+    /// A copy of these octets; `NoMemory` if allocation fails.
     pub fn from_slice(alloc: Global, bytes: &[u8]) -> Result<Octets, NoMemory>
         ensures { IfOk result (λ octets. octets ≡ bytes.now) }
     {
@@ -36,7 +36,8 @@ impl Octets {
         Ok(Octets { bytes })
     }
 
-    /// The octets of a frame, in room that is enough for them; what the room held is gone, and what is not needed given back.
+    /// The octets of a frame, in room that is enough for them; what the room held is gone, and what is not needed given
+    /// back.
     pub fn spelled_in(room: Vec<u8>, spelled: &Spelled<'_>) -> Octets
         requires { length spelled.now ≤ vec_capacity room }
         ensures { result ≡ spelled.now }
@@ -44,17 +45,19 @@ impl Octets {
         let mut bytes = room;
         bytes.clear();
         let (head, rest) = spelled.pieces();
+        // Neither is refused: the room is enough by `requires`.
         let Ok(()) = bytes.extend_from_slice(head) else {
             unreachable!()
         };
         let Ok(()) = bytes.extend_from_slice(rest) else {
             unreachable!()
         };
+        // The room was made for the longest frame, before it was known which one leaves.
         bytes.shrink_to_fit();
         Octets { bytes }
     }
 
-    /// The octets of a frame; `NoMemory` where room for them is refused.
+    /// The octets of a frame; `NoMemory` if allocation fails.
     pub fn from_spelled(alloc: Global, spelled: &Spelled<'_>) -> Result<Octets, NoMemory>
         ensures { IfOk result (λ octets. octets ≡ spelled.now) }
     {

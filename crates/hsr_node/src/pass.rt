@@ -32,9 +32,10 @@ impl Pass {
         }
     }
 
-    /// Puts a receipt last. Where room for it is refused it is handed back, and nothing changes.
+    /// Puts a receipt last. If allocation fails it is handed back, and nothing changes.
     pub fn keep(&mut self, receipt: Receipt) -> Result<(), (Receipt, NoMemory)>
-        ensures kept { OnOk result (self.new ≡ record self.old { receipts = self.old.receipts ++ receipt ∷ [] }) }
+        ensures kept { OnOk result (self.new
+            ≡ record self.old { receipts = self.old.receipts ++ receipt ∷ [] }) }
         ensures refused { IfErr result (λ e. (self.new ≡ self.old) × (e.0 ≡ receipt)) }
     {
         match self.receipts.push(receipt) {

@@ -45,7 +45,7 @@ impl Place {
         }
     }
 
-    /// An equal place; `NoMemory` where room for it is refused.
+    /// An equal place; `NoMemory` if allocation fails.
     pub fn copy(&self) -> Result<Place, NoMemory>
         ensures { IfOk result (λ place. place ≡ self.now) }
     {

@@ -17,7 +17,7 @@ pub fn ring_port(number: u8) -> Option<RingPort>
     }
 }
 
-/// The port of a RedBox with this number.
+/// The port of a RedBox with this number: 0 is A, 1 is B, 2 is the interlink.
 pub(crate) fn box_port(number: u8) -> Option<BoxPort>
     ensures { result ≡ box_port number }
 {

@@ -42,6 +42,7 @@ pub(crate) fn apply_quadbox<const C: usize>(
     ensures { (result, quadbox.new) ≡ quadbox_step C quadbox.old at event.now }
 {
     match event {
+        // A QuadBox has no address to send from.
         Event::Send { .. } | Event::Supervise(_) => Err(StepFault::WrongEvent),
         Event::Arrive { port, carried } => {
             arrive(quadbox, at, quad_port(*port), carried.octets.as_slice())

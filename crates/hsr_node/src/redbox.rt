@@ -23,12 +23,13 @@ fn send<const C: usize>(
     at: u64,
     dst: Mac,
     vlan: Option<u16>,
-    kind: u16,
+    ethertype: u16,
     payload: &[u8],
 ) -> Result<Outcome, StepFault>
-    ensures { (result, redbox.new) ≡ redbox_send C redbox.old at dst kind (length payload.now) }
+    ensures { (result, redbox.new)
+        ≡ redbox_send C redbox.old at dst ethertype (length payload.now) }
 {
-    match redbox.send(at, dst, vlan, kind, payload) {
+    match redbox.send(at, dst, vlan, ethertype, payload) {
         Ok(sent) => Ok(Outcome::Sent {
             seq: sent.seq,
             ports: [sent.a, sent.b, sent.interlink, false],
@@ -92,11 +93,12 @@ pub(crate) fn apply_redbox<const C: usize>(
             from,
             dst,
             vlan,
-            kind,
+            kind: ethertype,
             payload,
         } => {
+            // `from` chooses among a Station's addresses; a RedBox has one of its own.
             if *from == 0 {
-                send(redbox, at, *dst, *vlan, *kind, payload.as_slice())
+                send(redbox, at, *dst, *vlan, *ethertype, payload.as_slice())
             } else {
                 Err(StepFault::WrongEvent)
             }

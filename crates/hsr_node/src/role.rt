@@ -34,6 +34,7 @@ impl Role {
         ensures value { result ≡ role_of word.now }
         ensures again { (role : Role) → role_of (role_word role) ≡ Some role }
     {
+        // Both sides of `==` have one type, so an octet literal is compared as a slice.
         if word == b"danh".as_slice() {
             Some(Role::Danh)
         } else if word == b"redbox".as_slice() {
@@ -96,7 +97,8 @@ impl Place {
     #[tactic(auto, using(crate::proofs::Spelled::letter_again))]
     pub fn port(&self, octet: u8) -> Option<u8>
         ensures value { result ≡ port_of self.now octet }
-        ensures again { (place : Place) (port : ℕ) → port < ports place → port_of place (letter place port) ≡ Some port }
+        ensures again { (place : Place) (port : ℕ) → port < ports place
+            → port_of place (letter place port) ≡ Some port }
     {
         match index_of(self.letters(), octet) {
             Some(port) => Some(port as u8),

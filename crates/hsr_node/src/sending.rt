@@ -38,14 +38,15 @@ fn frame_of<'a>(
     src: Mac,
     dst: Mac,
     vlan: Option<u16>,
-    kind: u16,
+    ethertype: u16,
     payload: Payload<'a>,
 ) -> Option<FrameView<'a>>
-    ensures { result ≡ frame_of (record { dst = dst; src = src; vlan = vlan; kind = kind; rest = payload.entry }) }
+    ensures { result ≡ frame_of
+        (record { dst = dst; src = src; vlan = vlan; kind = ethertype; rest = payload.entry }) }
 {
     if src.is_group()
-        || kind == ETHERTYPE_HSR
-        || kind == ETHERTYPE_VLAN
+        || ethertype == ETHERTYPE_HSR
+        || ethertype == ETHERTYPE_VLAN
         || payload.as_slice().len() > MAX_PAYLOAD
     {
         return None;
@@ -54,7 +55,7 @@ fn frame_of<'a>(
         dst,
         src,
         vlan,
-        kind,
+        kind: ethertype,
         payload,
     })
 }
@@ -87,13 +88,13 @@ pub fn asked_frame<'a>(
     src: Option<Mac>,
     dst: Mac,
     vlan: Option<u16>,
-    kind: u16,
+    ethertype: u16,
     payload: &'a [u8],
 ) -> Option<FrameView<'a>>
-    ensures { result ≡ asked_frame src dst vlan kind payload.now }
+    ensures { result ≡ asked_frame src dst vlan ethertype payload.now }
 {
     let src = src?;
-    frame_of(src, dst, vlan, kind, Payload::there(payload))
+    frame_of(src, dst, vlan, ethertype, Payload::there(payload))
 }
 
 /// What a supervision frame says (IEC 62439-3 clause 5.7): a RedBox names itself where it speaks for a station.
@@ -126,6 +127,7 @@ pub fn life_frame(own: Option<Mac>, about: About, life: u16) -> Option<FrameView
         Mac::supervision(),
         None,
         ETHERTYPE_SUPERVISION,
+        // The payload is short and is made here, so the view holds it itself.
         Payload::here(said),
     )
 }
@@ -152,7 +154,7 @@ pub fn sent_view<'a>(place: &Place, event: &'a Event, outcome: &Outcome) -> Opti
             from,
             dst,
             vlan,
-            kind,
+            kind: ethertype,
             payload,
         } => match outcome {
             Outcome::Sent { seq, ports: _ } => sending_of(
@@ -161,7 +163,7 @@ pub fn sent_view<'a>(place: &Place, event: &'a Event, outcome: &Outcome) -> Opti
                     address_at(place, *from),
                     *dst,
                     *vlan,
-                    *kind,
+                    *ethertype,
                     payload.as_slice(),
                 ),
             ),

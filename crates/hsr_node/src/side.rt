@@ -28,6 +28,7 @@ fn other_side(port: u8) -> Option<Side>
     ensures { result ≡ other_side port }
 {
     match port {
+        // In its other ring C stands where A does, and D where B does.
         2 => Some(Side::Ring(RingPort::A)),
         3 => Some(Side::Ring(RingPort::B)),
         _ => None,
@@ -68,7 +69,7 @@ pub(crate) fn is_ring(side: Side) -> bool
     }
 }
 
-/// The path in the tags of a node's own frames (IEC 62439-3 clause 5.6).
+/// The path in the tags of a node's own frames: 0 on A and 1 on B (IEC 62439-3 clause 5.6).
 pub(crate) fn path_of(port: RingPort) -> u8
     ensures value { result ≡ path_of port }
     ensures fits { result < 16 }

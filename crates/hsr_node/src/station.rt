@@ -50,23 +50,24 @@ impl Station {
     }
 
     /// Sends a plain frame from the address at a place among its own. `WrongEvent` where none stands there; else it
-    /// refuses as every node does: a frame to its source, a reserved type, steps spent, a payload over `MAX_PAYLOAD` octets. A
-    /// refusal changes nothing.
+    /// refuses as every node does: a frame to its source, a reserved type, steps spent, a payload over `MAX_PAYLOAD`
+    /// octets. A refusal changes nothing.
     #[tactic(auto, unfolding(crate::specs::Station::after_send))]
     fn send(
         &mut self,
         at: u64,
         from: u8,
         dst: Mac,
-        kind: u16,
+        ethertype: u16,
         len: usize,
     ) -> Result<Outcome, StepFault>
-        ensures { (result, self.new) ≡ after_send self.old at from dst kind len }
+        ensures { (result, self.new) ≡ after_send self.old at from dst ethertype len }
     {
+        // An event that doesn't fit comes before all other reasons (RULES, Stations, and what leaves by a port).
         let Some(src) = self.macs.as_slice().get(usize::from(from)) else {
             return Err(StepFault::WrongEvent);
         };
-        if let Some(fault) = send_fault(*src, self.accepted, dst, kind, len) {
+        if let Some(fault) = send_fault(*src, self.accepted, dst, ethertype, len) {
             return Err(StepFault::Send(fault));
         }
         self.counters.sent += 1;
@@ -88,6 +89,7 @@ impl Station {
         }
         let cause = cause_of(self.macs.as_slice(), &look_at(octets));
         let up = cause == Cause::Passed;
+        // No copies: a Station passes nothing on.
         self.counters.count(cause, up, 0);
         self.moment = self.moment.max(at);
         self.accepted += 1;
@@ -103,10 +105,12 @@ impl Station {
     fn age(&mut self, at: u64)
         ensures { self.new ≡ after_age self.old at }
     {
+        // A Station remembers nothing that it could drop.
         self.moment = self.moment.max(at);
     }
 
-    /// Lets an event happen. A station has no supervision frames, and only the port 0.
+    /// Lets an event happen, at a moment in microseconds. `WrongEvent` where it doesn't fit: a Station has no supervision
+    /// frames, only the port 0, and sends from one of its own addresses. A refusal changes nothing.
     pub fn apply(&mut self, at: u64, event: &Event) -> Result<Outcome, StepFault>
         ensures { (result, self.new) ≡ station_step self.old at event.now }
     {
@@ -115,9 +119,9 @@ impl Station {
                 from,
                 dst,
                 vlan: _,
-                kind,
+                kind: ethertype,
                 payload,
-            } => self.send(at, *from, *dst, *kind, payload.as_slice().len()),
+            } => self.send(at, *from, *dst, *ethertype, payload.as_slice().len()),
             Event::Supervise(_) => Err(StepFault::WrongEvent),
             Event::Arrive { port, carried } => {
                 if *port == 0 {
@@ -148,6 +152,7 @@ fn copied_addresses(macs: &[Mac]) -> ArrayVec<Mac, 16>
     ensures { result.items ≡ macs.now }
 {
     let mut out = ArrayVec::new();
+    // Not refused: there are 16 at most.
     out.try_extend_from_slice(macs).unwrap();
     out
 }

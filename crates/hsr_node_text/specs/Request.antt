@@ -27,7 +27,8 @@ pub data Asked : Type 0 where
   age : ℕ → Asked
 
 abbrev pub view : Request → Asked
-view (Send at dst kind payload vlan) = send (record { at = at; dst = dst; kind = kind; payload = payload.items; vlan = vlan })
+view (Send at dst ethertype payload vlan) =
+    send (record { at = at; dst = dst; kind = ethertype; payload = payload.items; vlan = vlan })
 view (Life at) = life at
 view (Arrive at port octets) = arrive at port octets.items
 view (Age at) = age at
@@ -48,11 +49,11 @@ send_in unit words = do
   dst ← word_at at.1
   address ← result_ok (address_of dst.0)
   type ← word_at dst.1
-  kind ← hex_pair_of type.0
+  ethertype ← hex_pair_of type.0
   text ← word_at type.1
   payload ← hex_octets_of text.0
   vlan ← vlan_of text.1
-  Some (send (record { at = moment; dst = address; kind = kind; payload = payload; vlan = vlan }))
+  Some (send (record { at = moment; dst = address; kind = ethertype; payload = payload; vlan = vlan }))
 
 -- a word that is the last
 abbrev pub last_word : Option (List ℕ) → Option (List ℕ)

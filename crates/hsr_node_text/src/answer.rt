@@ -6,9 +6,8 @@ ghost use Rattle.hsr_node_text.specs.Reply.{after, reply};
 use crate::reply::{put_judged, put_lived, put_refused, put_sent};
 use crate::request::Request;
 use hsr_danh::Danh;
-use hsr_frame::{Mac, RingPort, SendFault};
+use hsr_frame::{Mac, NoMemory, RingPort, SendFault};
 use hsr_node::asked_frame;
-use std::alloc::AllocError;
 
 /// Sends a frame, and puts the lines that answer it.
 fn answer_send<const C: usize>(
@@ -16,21 +15,21 @@ fn answer_send<const C: usize>(
     at: u64,
     dst: Mac,
     vlan: Option<u16>,
-    kind: u16,
+    ethertype: u16,
     payload: &[u8],
     text: &mut Vec<u8>,
-) -> Result<(), AllocError>
+) -> Result<(), NoMemory>
     ensures text { OnOk result (text.new.items
         ≡ text.old.items ++ reply C danh.old
-        (send (record { at = at; dst = dst; kind = kind; payload = payload.now; vlan = vlan }))) }
+        (send (record { at = at; dst = dst; kind = ethertype; payload = payload.now; vlan = vlan }))) }
     ensures after { danh.new ≡ after C danh.old
-        (send (record { at = at; dst = dst; kind = kind; payload = payload.now; vlan = vlan })) }
+        (send (record { at = at; dst = dst; kind = ethertype; payload = payload.now; vlan = vlan })) }
 {
     let own = danh.address();
-    match danh.send(at, dst, vlan, kind, payload) {
+    match danh.send(at, dst, vlan, ethertype, payload) {
         Ok(sent) => {
             // The node answers no frame: what is sent is formed anew, as everywhere else, by the one function for it.
-            let frame = asked_frame(Some(own), dst, vlan, kind, payload);
+            let frame = asked_frame(Some(own), dst, vlan, ethertype, payload);
             put_sent(text, frame, sent.seq)
         },
         Err(fault) => put_refused(text, fault),
@@ -42,7 +41,7 @@ fn answer_life<const C: usize>(
     danh: &mut Danh<C>,
     at: u64,
     text: &mut Vec<u8>,
-) -> Result<(), AllocError>
+) -> Result<(), NoMemory>
     ensures text { OnOk result (text.new.items ≡ text.old.items ++ reply C danh.old (life at)) }
     ensures after { danh.new ≡ after C danh.old (life at) }
 {
@@ -61,7 +60,7 @@ fn answer_arrival<const C: usize>(
     port: RingPort,
     octets: &[u8],
     text: &mut Vec<u8>,
-) -> Result<(), AllocError>
+) -> Result<(), NoMemory>
     ensures text { OnOk result (text.new.items
         ≡ text.old.items ++ reply C danh.old (arrive at port octets.now)) }
     ensures after { danh.new ≡ after C danh.old (arrive at port octets.now) }
@@ -74,14 +73,14 @@ fn answer_arrival<const C: usize>(
 }
 
 /// Makes a text the lines that answer a request.
-/// What the text held goes. Moments are microseconds. `AllocError` where room is refused; the node has done the
+/// What the text held goes. Moments are microseconds. `NoMemory` where room is refused; the node has done the
 /// request then, and the text has a front of its answer at most.
 #[tactic(auto, unfolding(crate::specs::Reply::reply, crate::specs::Reply::after))]
 pub fn answer_request<const C: usize>(
     danh: &mut Danh<C>,
     request: &Request,
     text: &mut Vec<u8>,
-) -> Result<(), AllocError>
+) -> Result<(), NoMemory>
     ensures text { OnOk result (text.new.items ≡ reply C danh.old (view request.now)) }
     ensures after { danh.new ≡ after C danh.old (view request.now) }
 {
@@ -91,17 +90,18 @@ pub fn answer_request<const C: usize>(
         Request::Send {
             at,
             dst,
-            kind,
+            kind: ethertype,
             payload,
             vlan,
-        } => answer_send(danh, *at, *dst, *vlan, *kind, payload.as_slice(), text),
+        } => answer_send(danh, *at, *dst, *vlan, *ethertype, payload.as_slice(), text),
         Request::Life { at } => answer_life(danh, *at, text),
         Request::Arrive { at, port, octets } => {
             answer_arrival(danh, *at, *port, octets.as_slice(), text)
         }
         Request::Age { at } => {
             danh.age(*at);
-            text.extend_from_slice(b"aged\n")
+            text.extend_from_slice(b"aged\n")?;
+            Ok(())
         }
     }
 }

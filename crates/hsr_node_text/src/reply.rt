@@ -8,14 +8,13 @@ ghost use Rattle.hsr_node.specs.Copies.{plain_octets};
 ghost use Rattle.hsr_node_text.specs.Reply.{both_text, copies_text, counter_line, judged_text, lived_text, passed_text, refused_text, sent_text, stopped_text, up_text, verdict_text, word_if};
 
 use hsr_danh::Verdict;
-use hsr_frame::{About, Cause, Counters, FrameFault, Life, Mac, RingPort, SendFault};
+use hsr_frame::{About, Cause, Counters, FrameFault, Life, Mac, NoMemory, RingPort, SendFault};
 use hsr_node::{life_frame, plain_octets, ring_octets};
 use hsr_tag::{FrameView, Spelled};
 use hsr_text::{put_count, put_hex};
-use std::alloc::AllocError;
 
 /// Puts the octets of a frame, as hexadecimal digits.
-fn put_spelled(text: &mut Vec<u8>, spelled: &Spelled<'_>) -> Result<(), AllocError>
+fn put_spelled(text: &mut Vec<u8>, spelled: &Spelled<'_>) -> Result<(), NoMemory>
     ensures { OnOk result (text.new.items ≡ text.old.items ++ encode_upper spelled.now) }
 {
     let (head, rest) = spelled.pieces();
@@ -24,18 +23,19 @@ fn put_spelled(text: &mut Vec<u8>, spelled: &Spelled<'_>) -> Result<(), AllocErr
 }
 
 /// Puts the two copies of a frame that leave by the ports.
-fn put_both(text: &mut Vec<u8>, frame: &FrameView<'_>, seq: u16) -> Result<(), AllocError>
+fn put_both(text: &mut Vec<u8>, frame: &FrameView<'_>, seq: u16) -> Result<(), NoMemory>
     ensures { OnOk result (text.new.items ≡ text.old.items ++ both_text frame.now seq) }
 {
     text.extend_from_slice(b"A ")?;
     put_spelled(text, &ring_octets(RingPort::A, seq, frame))?;
     text.extend_from_slice(b"\nB ")?;
     put_spelled(text, &ring_octets(RingPort::B, seq, frame))?;
-    text.extend_from_slice(b"\n")
+    text.extend_from_slice(b"\n")?;
+    Ok(())
 }
 
 /// Puts the copies of a frame, if there is one.
-fn put_copies(text: &mut Vec<u8>, frame: Option<FrameView<'_>>, seq: u16) -> Result<(), AllocError>
+fn put_copies(text: &mut Vec<u8>, frame: Option<FrameView<'_>>, seq: u16) -> Result<(), NoMemory>
     ensures { OnOk result (text.new.items ≡ text.old.items ++ copies_text frame.entry seq) }
 {
     match frame {
@@ -46,12 +46,8 @@ fn put_copies(text: &mut Vec<u8>, frame: Option<FrameView<'_>>, seq: u16) -> Res
 }
 
 /// Puts the lines of a send that was accepted.
-/// `sent <number>`, and the copies of the frame for A and B, where there is a frame. `AllocError` where room is refused.
-pub fn put_sent(
-    text: &mut Vec<u8>,
-    frame: Option<FrameView<'_>>,
-    seq: u16,
-) -> Result<(), AllocError>
+/// `sent <number>`, and the copies of the frame for A and B, where there is a frame. `NoMemory` where room is refused.
+pub fn put_sent(text: &mut Vec<u8>, frame: Option<FrameView<'_>>, seq: u16) -> Result<(), NoMemory>
     ensures { OnOk result (text.new.items ≡ text.old.items ++ sent_text frame.entry seq) }
 {
     put_count(text, b"sent ", u64::from(seq))?;
@@ -60,16 +56,17 @@ pub fn put_sent(
 }
 
 /// Puts the line of a send, supervision or arrival that was refused.
-pub fn put_refused(text: &mut Vec<u8>, fault: SendFault) -> Result<(), AllocError>
+pub fn put_refused(text: &mut Vec<u8>, fault: SendFault) -> Result<(), NoMemory>
     ensures { OnOk result (text.new.items ≡ text.old.items ++ refused_text fault) }
 {
     put_count(text, b"refused ", u64::from(fault.code()))?;
-    text.extend_from_slice(b"\n")
+    text.extend_from_slice(b"\n")?;
+    Ok(())
 }
 
 /// Puts the lines of a supervision that was accepted.
-/// `life <number> <earlier>`, and the two copies of the frame about the node itself. `AllocError` where room is refused.
-pub fn put_lived(text: &mut Vec<u8>, own: Mac, life: Life) -> Result<(), AllocError>
+/// `life <number> <earlier>`, and the two copies of the frame about the node itself. `NoMemory` where room is refused.
+pub fn put_lived(text: &mut Vec<u8>, own: Mac, life: Life) -> Result<(), NoMemory>
     ensures { OnOk result (text.new.items ≡ text.old.items ++ lived_text own life) }
 {
     put_count(text, b"life ", u64::from(life.seq))?;
@@ -79,29 +76,31 @@ pub fn put_lived(text: &mut Vec<u8>, own: Mac, life: Life) -> Result<(), AllocEr
 }
 
 /// Puts a word, if it is said.
-fn put_if(text: &mut Vec<u8>, said: bool, word: &[u8]) -> Result<(), AllocError>
+fn put_if(text: &mut Vec<u8>, said: bool, word: &[u8]) -> Result<(), NoMemory>
     ensures { OnOk result (text.new.items ≡ text.old.items ++ word_if said word.now) }
 {
     if said {
-        return text.extend_from_slice(word);
+        text.extend_from_slice(word)?;
+        return Ok(());
     }
     Ok(())
 }
 
 /// Puts the letter of a ring port, if something leaves by it.
-fn put_port_if(text: &mut Vec<u8>, leaves: bool, port: RingPort) -> Result<(), AllocError>
+fn put_port_if(text: &mut Vec<u8>, leaves: bool, port: RingPort) -> Result<(), NoMemory>
     ensures { OnOk result (text.new.items ≡ text.old.items
         ++ word_if leaves (32 ∷ port_word port)) }
 {
     if leaves {
         text.push(b' ')?;
-        return text.extend_from_slice(port.word().as_bytes());
+        text.extend_from_slice(port.word().as_bytes())?;
+        return Ok(());
     }
     Ok(())
 }
 
 /// Puts the number of a fault behind a space, if there is one.
-fn put_fault(text: &mut Vec<u8>, fault: Option<FrameFault>) -> Result<(), AllocError>
+fn put_fault(text: &mut Vec<u8>, fault: Option<FrameFault>) -> Result<(), NoMemory>
     ensures { OnOk result (text.new.items ≡ text.old.items ++ fault_text (codes " ") fault) }
 {
     match fault {
@@ -111,7 +110,7 @@ fn put_fault(text: &mut Vec<u8>, fault: Option<FrameFault>) -> Result<(), AllocE
 }
 
 /// Puts why an arrival went where it did.
-fn put_cause(text: &mut Vec<u8>, cause: Cause) -> Result<(), AllocError>
+fn put_cause(text: &mut Vec<u8>, cause: Cause) -> Result<(), NoMemory>
     ensures { OnOk result (text.new.items ≡ text.old.items ++ cause_text (codes " ") cause) }
 {
     text.extend_from_slice(cause.word().as_bytes())?;
@@ -119,18 +118,19 @@ fn put_cause(text: &mut Vec<u8>, cause: Cause) -> Result<(), AllocError>
 }
 
 /// Puts the line of an arrival.
-fn put_verdict(text: &mut Vec<u8>, verdict: Verdict) -> Result<(), AllocError>
+fn put_verdict(text: &mut Vec<u8>, verdict: Verdict) -> Result<(), NoMemory>
     ensures { OnOk result (text.new.items ≡ text.old.items ++ verdict_text verdict) }
 {
     put_cause(text, verdict.cause)?;
     put_if(text, verdict.up, b" up")?;
     put_port_if(text, verdict.a, RingPort::A)?;
     put_port_if(text, verdict.b, RingPort::B)?;
-    text.extend_from_slice(b"\n")
+    text.extend_from_slice(b"\n")?;
+    Ok(())
 }
 
 /// Puts the line of what goes up.
-fn put_up(text: &mut Vec<u8>, octets: &[u8]) -> Result<(), AllocError>
+fn put_up(text: &mut Vec<u8>, octets: &[u8]) -> Result<(), NoMemory>
     ensures { OnOk result (text.new.items ≡ text.old.items ++ up_text (plain_octets octets.now)) }
 {
     // What went up is a frame, so this isn't met.
@@ -139,13 +139,14 @@ fn put_up(text: &mut Vec<u8>, octets: &[u8]) -> Result<(), AllocError>
     };
     text.extend_from_slice(b"up ")?;
     put_spelled(text, &plain)?;
-    text.extend_from_slice(b"\n")
+    text.extend_from_slice(b"\n")?;
+    Ok(())
 }
 
 /// Puts the lines of an arrival that was judged.
-/// The cause, a fault's number, the egresses in the order `up A B`; and `up <octets>` where it went up. `AllocError`
+/// The cause, a fault's number, the egresses in the order `up A B`; and `up <octets>` where it went up. `NoMemory`
 /// where room is refused.
-pub fn put_judged(text: &mut Vec<u8>, octets: &[u8], verdict: Verdict) -> Result<(), AllocError>
+pub fn put_judged(text: &mut Vec<u8>, octets: &[u8], verdict: Verdict) -> Result<(), NoMemory>
     ensures { OnOk result (text.new.items ≡ text.old.items ++ judged_text octets.now verdict) }
 {
     put_verdict(text, verdict)?;
@@ -157,7 +158,7 @@ pub fn put_judged(text: &mut Vec<u8>, octets: &[u8], verdict: Verdict) -> Result
 }
 
 /// Puts how often a node sent, and what of what came it passed.
-fn put_passed(text: &mut Vec<u8>, counters: &Counters) -> Result<(), AllocError>
+fn put_passed(text: &mut Vec<u8>, counters: &Counters) -> Result<(), NoMemory>
     ensures { OnOk result (text.new.items ≡ text.old.items ++ passed_text counters.now) }
 {
     put_count(text, b"sent ", counters.sent)?;
@@ -167,21 +168,22 @@ fn put_passed(text: &mut Vec<u8>, counters: &Counters) -> Result<(), AllocError>
 }
 
 /// Puts what of what came a node didn't pass.
-fn put_stopped(text: &mut Vec<u8>, counters: &Counters) -> Result<(), AllocError>
+fn put_stopped(text: &mut Vec<u8>, counters: &Counters) -> Result<(), NoMemory>
     requires { AreWithin counters.now (2 ^ 62) }
     ensures { OnOk result (text.new.items ≡ text.old.items ++ stopped_text counters.now) }
 {
     put_count(text, b" duplicate ", counters.duplicate)?;
     put_count(text, b" returned ", counters.returned)?;
     put_count(text, b" dropped ", counters.dropped())?;
-    text.extend_from_slice(b"\n")
+    text.extend_from_slice(b"\n")?;
+    Ok(())
 }
 
 /// Puts the line of a node's counters.
-/// `sent`, `life`, `up`, `forwarded`, `duplicate`, `returned` and `dropped`, each with its number. `AllocError` where
+/// `sent`, `life`, `up`, `forwarded`, `duplicate`, `returned` and `dropped`, each with its number. `NoMemory` where
 /// room is refused.
 #[tactic(auto, unfolding(crate::specs::Reply::counter_line))]
-pub fn put_counters(text: &mut Vec<u8>, counters: &Counters) -> Result<(), AllocError>
+pub fn put_counters(text: &mut Vec<u8>, counters: &Counters) -> Result<(), NoMemory>
     requires { AreWithin counters.now (2 ^ 62) }
     ensures { OnOk result (text.new.items ≡ text.old.items ++ counter_line counters.now) }
 {

@@ -14,6 +14,7 @@ pub enum Request {
     Send {
         at: u64,
         dst: Mac,
+        /// The EtherType.
         kind: u16,
         payload: Vec<u8>,
         vlan: Option<u16>,
@@ -55,14 +56,14 @@ fn read_send(alloc: Global, unit: TimeUnit, rest: Option<&[u8]>) -> Result<Reque
     let (address, rest) = word(rest).ok_or(WordFault::Bad)?;
     let dst = Mac::from_ascii(address).ok().ok_or(WordFault::Bad)?;
     let (digits, rest) = word(rest).ok_or(WordFault::Bad)?;
-    let kind = hex_pair(digits).ok_or(WordFault::Bad)?;
+    let ethertype = hex_pair(digits).ok_or(WordFault::Bad)?;
     let (digits, rest) = word(rest).ok_or(WordFault::Bad)?;
     let payload = hex_octets(alloc, digits)?;
     let vlan = read_vlan(rest)?;
     Ok(Request::Send {
         at,
         dst,
-        kind,
+        kind: ethertype,
         payload,
         vlan,
     })

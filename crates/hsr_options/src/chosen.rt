@@ -1,46 +1,9 @@
 //! What a command line chooses.
 ghost use Rattle.hsr_frame.specs.Address.{IsGroup};
 
+use hsr_duptable::TableSize;
 use hsr_frame::{Mac, Mode};
 use hsr_text::TimeUnit;
-
-/// How many entries a duplicate table holds: 4 or 512.
-#[derive(Clone, Copy, Debug, PartialEq, Eq)]
-pub enum Table {
-    Small,
-    Large,
-}
-
-impl Table {
-    ghost use Rattle.std.specs.Prelude.{◌≡◌, IfSome, Some};
-    ghost use Rattle.hsr_options.specs.Tables.{table_of, table_word};
-
-    /// Its word, as it is chosen.
-    pub fn word(self) -> &'static str
-        ensures { result.now ≡ table_word self }
-    {
-        match self {
-            Table::Small => "small",
-            Table::Large => "large",
-        }
-    }
-
-    /// The size whose word this is.
-    #[tactic(auto, using(crate::proofs::Sizes::table_again))]
-    pub fn from_word(word: &[u8]) -> Option<Table>
-        ensures value { result ≡ table_of word.now }
-        ensures again { (table : Table) → table_of (table_word table) ≡ Some table }
-        ensures exact { IfSome result (λ table. word.now ≡ table_word table) }
-    {
-        if word == b"small".as_slice() {
-            Some(Table::Small)
-        } else if word == b"large".as_slice() {
-            Some(Table::Large)
-        } else {
-            None
-        }
-    }
-}
 
 /// The parts that a report has before its last line, each where it is asked for, in this order.
 #[derive(Clone, Copy, Debug, PartialEq, Eq)]
@@ -113,7 +76,7 @@ impl Showing {
 pub struct NodeOptions {
     pub mac: Mac,
     pub mode: Mode,
-    pub table: Table,
+    pub table: TableSize,
     /// The unit of the moments in its lines.
     pub unit: TimeUnit,
     pub ghost station: { ¬ IsGroup mac },
@@ -126,7 +89,7 @@ pub enum Options {
     Node(NodeOptions),
     /// Run a scenario, and write its transcript or its report.
     Run {
-        table: Table,
+        table: TableSize,
         showing: Showing,
         /// Whether a run that can't be closed is shown as it stands.
         shows_open: bool,
@@ -135,14 +98,14 @@ pub enum Options {
     },
     /// Run a scenario in threads, and write its transcript or its report.
     Threads {
-        table: Table,
+        table: TableSize,
         showing: Showing,
         /// Whether standard error says more of how the run ended.
         explains: bool,
     },
     /// Audit a transcript, and write its report, with the parts that are asked for.
     Audit {
-        table: Table,
+        table: TableSize,
         scope: Scope,
         asked: Asked,
         /// Whether standard error says more of how the audit ended.

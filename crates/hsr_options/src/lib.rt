@@ -1,7 +1,9 @@
-//! What a command line may choose: a command, the size of duplicate tables, and what is written of a run.
+//! What a command line may choose: a command, the size of duplicate tables (hsr_duptable), and what is written of a run.
+//!
+//! Its one module, `chosen`, has all of it.
 #![tactic(auto)]
 
 mod chosen;
 
-pub use chosen::{Asked, Form, NodeOptions, Options, Scope, Showing, Table};
+pub use chosen::{Asked, Form, NodeOptions, Options, Scope, Showing};
 pub use hsr_text::TimeUnit;

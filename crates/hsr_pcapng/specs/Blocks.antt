@@ -35,33 +35,64 @@ end_of_options = number16 0 ++ number16 0
 
 -- its type, its length, its body, and its length again
 unfoldable pub block : ℕ → List ℕ → List ℕ
-block kind body = number32 kind ++ number32 (length body + 12) ++ body ++ number32 (length body + 12)
+block block_type body = number32 block_type ++ number32 (length body + 12) ++ body ++ number32 (length body + 12)
+
+-- ---- types of blocks (section 4) and codes of options (sections 3.5, 4.1 and 4.2)
+
+abbrev pub section_header_type : ℕ
+section_header_type = 0x0A0D0D0A
+
+abbrev pub interface_type : ℕ
+interface_type = 1
+
+abbrev pub packet_type : ℕ
+packet_type = 6
+
+abbrev pub byte_order_magic : ℕ
+byte_order_magic = 0x1A2B3C4D
+
+abbrev pub opt_comment : ℕ
+opt_comment = 1
+
+abbrev pub shb_userappl : ℕ
+shb_userappl = 4
+
+abbrev pub if_name : ℕ
+if_name = 2
+
+abbrev pub if_description : ℕ
+if_description = 3
+
+abbrev pub if_tsresol : ℕ
+if_tsresol = 9
 
 -- ---- the blocks of a capture
 
 -- the magic number, version 1.0, a section of unknown length, and the program's name (shb_userappl)
 unfoldable pub section_body : List ℕ → List ℕ
-section_body program = number32 439041101 ++ number16 1 ++ number16 0 ++ replicate 8 255 ++ option_of 4 program ++ end_of_options
+section_body program =
+    number32 byte_order_magic ++ number16 1 ++ number16 0 ++ replicate 8 255 ++ option_of shb_userappl program ++ end_of_options
 
 abbrev pub section_header : List ℕ → List ℕ
-section_header program = block 168627466 (section_body program)
+section_header program = block section_header_type (section_body program)
 
 -- Ethernet, packets of any length; its name (if_name), its description (if_description) and microseconds (if_tsresol)
 unfoldable pub interface_body : List ℕ → List ℕ → List ℕ
-interface_body name description = number16 1 ++ number16 0 ++ number32 0 ++ option_of 2 name ++ option_of 3 description ++ option_of 9 (6 ∷ []) ++ end_of_options
+interface_body name description =
+    number16 1 ++ number16 0 ++ number32 0 ++ option_of if_name name ++ option_of if_description description ++ option_of if_tsresol (6 ∷ []) ++ end_of_options
 
 abbrev pub interface : List ℕ → List ℕ → List ℕ
-interface name description = block 1 (interface_body name description)
+interface name description = block interface_type (interface_body name description)
 
 -- its interface, its moment in microseconds in two halves, how many octets were captured and are in the packet, the octets, and
 -- a comment (opt_comment)
 unfoldable pub packet_body : ℕ → ℕ → List ℕ → List ℕ → List ℕ
 packet_body number moment octets comment =
     number32 number ++ number32 (moment / 2 ^ 32) ++ number32 (moment % 2 ^ 32) ++ number32 (length octets) ++ number32 (length octets) ++ padded octets
-    ++ option_of 1 comment ++ end_of_options
+    ++ option_of opt_comment comment ++ end_of_options
 
 abbrev pub packet : ℕ → ℕ → List ℕ → List ℕ → List ℕ
-packet number moment octets comment = block 6 (packet_body number moment octets comment)
+packet number moment octets comment = block packet_type (packet_body number moment octets comment)
 
 -- ---- what fits
 

@@ -45,10 +45,37 @@ use crate::fault::BlockFault;
 use crate::octets::{put_end_of_options, put_option, put_padded, put_u16, put_u32};
 use std::alloc::Global;
 
+/// The type of a section header block (draft-ietf-opsawg-pcapng section 4.1).
+const SECTION_HEADER: u32 = 0x0A0D_0D0A;
+
+/// The type of an interface description block (section 4.2).
+const INTERFACE_DESCRIPTION: u32 = 1;
+
+/// The type of an enhanced packet block (section 4.3).
+const ENHANCED_PACKET: u32 = 6;
+
+/// Tells in which order the octets of numbers stand (section 4.1).
+const BYTE_ORDER_MAGIC: u32 = 0x1A2B_3C4D;
+
+/// The option with a comment (section 3.5).
+const OPT_COMMENT: u16 = 1;
+
+/// The option with the name of the program (section 4.1).
+const SHB_USERAPPL: u16 = 4;
+
+/// The option with the name of an interface (section 4.2).
+const IF_NAME: u16 = 2;
+
+/// The option with the description of an interface (section 4.2).
+const IF_DESCRIPTION: u16 = 3;
+
+/// The option with the unit of moments (section 4.2).
+const IF_TSRESOL: u16 = 9;
+
 /// Puts a block last: its type, its length, its body, and its length again. `TooLong` exactly where its length doesn't fit.
 #[tactic(auto, unfolding(crate::specs::Blocks::block))]
-fn put_block(text: &mut Vec<u8>, kind: u32, body: &[u8]) -> Result<(), BlockFault>
-    ensures bytes { OnOk result (text.new.items ≡ text.old.items ++ block kind body.now) }
+fn put_block(text: &mut Vec<u8>, block_type: u32, body: &[u8]) -> Result<(), BlockFault>
+    ensures bytes { OnOk result (text.new.items ≡ text.old.items ++ block block_type body.now) }
     ensures fits { OnOk result (length body.now + 12 < 2 ^ 32) }
     ensures too_long { IfErr result (IfTooLong (2 ^ 32 ≤ length body.now + 12)) }
 {
@@ -59,7 +86,7 @@ fn put_block(text: &mut Vec<u8>, kind: u32, body: &[u8]) -> Result<(), BlockFaul
     let Some(length) = length.checked_add(12) else {
         return Err(BlockFault::TooLong);
     };
-    put_u32(text, kind)?;
+    put_u32(text, block_type)?;
     put_u32(text, length)?;
     text.extend_from_slice(body)?;
     // The length stands at the end too, so that a reader can walk backwards (section 3.1).
@@ -79,7 +106,7 @@ pub fn put_section_header(
 {
     // A body is formed by itself, since its length stands before it.
     let body = section_body(alloc, program)?;
-    put_block(text, 0x0A0D_0D0A, body.as_slice())
+    put_block(text, SECTION_HEADER, body.as_slice())
 }
 
 /// The body of a section header.
@@ -90,12 +117,12 @@ fn section_body(alloc: Global, program: &[u8]) -> Result<Vec<u8>, BlockFault>
     ensures too_long { IfErr result (IfTooLong (2 ^ 16 ≤ length program.now)) }
 {
     let mut body = Vec::new(alloc);
-    put_u32(&mut body, 0x1A2B_3C4D)?;
+    put_u32(&mut body, BYTE_ORDER_MAGIC)?;
     put_u16(&mut body, 1)?;
     put_u16(&mut body, 0)?;
     // How long the section is isn't known yet, and all ones say so (section 4.1).
     body.extend_from_slice(b"\xFF\xFF\xFF\xFF\xFF\xFF\xFF\xFF")?;
-    put_option(&mut body, 4, program)?;
+    put_option(&mut body, SHB_USERAPPL, program)?;
     put_end_of_options(&mut body)?;
     Ok(body)
 }
@@ -113,9 +140,9 @@ fn interface_body(alloc: Global, name: &[u8], description: &[u8]) -> Result<Vec<
     put_u16(&mut body, 1)?;
     put_u16(&mut body, 0)?;
     put_u32(&mut body, 0)?;
-    put_option(&mut body, 2, name)?;
-    put_option(&mut body, 3, description)?;
-    put_option(&mut body, 9, b"\x06")?;
+    put_option(&mut body, IF_NAME, name)?;
+    put_option(&mut body, IF_DESCRIPTION, description)?;
+    put_option(&mut body, IF_TSRESOL, b"\x06")?;
     put_end_of_options(&mut body)?;
     Ok(body)
 }
@@ -134,7 +161,7 @@ pub fn put_interface(
     ensures too_long { IfErr result (IfTooLong (FitsInterface name.now description.now → ⊥)) }
 {
     let body = interface_body(alloc, name, description)?;
-    put_block(text, 1, body.as_slice())
+    put_block(text, INTERFACE_DESCRIPTION, body.as_slice())
 }
 
 /// The body of a packet.
@@ -164,7 +191,7 @@ fn packet_body(
     put_u32(&mut body, length)?;
     put_u32(&mut body, length)?;
     put_padded(&mut body, octets)?;
-    put_option(&mut body, 1, comment)?;
+    put_option(&mut body, OPT_COMMENT, comment)?;
     put_end_of_options(&mut body)?;
     Ok(body)
 }
@@ -186,5 +213,5 @@ pub fn put_packet(
         (FitsPacket interface moment octets.now comment.now → ⊥)) }
 {
     let body = packet_body(alloc, interface, moment, octets, comment)?;
-    put_block(text, 6, body.as_slice())
+    put_block(text, ENHANCED_PACKET, body.as_slice())
 }

@@ -2,12 +2,12 @@
 use Rattle.std.specs.Prelude.{ℕ, ◌<◌, ◌≡◌, ◌⊎◌, Bool, List, ◌++◌, length, codes, string_bytes, Option, Result, Ok, Err}
 use Rattle.std.specs.Io.KnownBytes.{Appends, Keeps}
 use Rattle.clap.specs.Words.{Text}
-use Rattle.hsr_options.specs.Tables.{capacity_of}
-use Rattle.hsr_plan_words.specs.Choices.{IsRefused, Says}
-use Rattle.hsr_plan_words.specs.declared.task.Task.{Task}
-use Rattle.hsr_plan_words.specs.declared.task.Task.TheVariants.{Plan, Check, Sweep}
-use Rattle.hsr_plan_words.specs.declared.task.WordsFault.{WordsFault}
-use Rattle.hsr_plan_words.specs.declared.task.WordsFault.TheVariants.{Usage, Memory}
+use Rattle.hsr_duptable.specs.Sizes.{capacity_of}
+use Rattle.hsr_cli.specs.Choices.{IsRefused, Says}
+use Rattle.hsr_cli.specs.declared.task.Task.{Task}
+use Rattle.hsr_cli.specs.declared.task.Task.TheVariants.{Plan, Check, Sweep}
+use Rattle.hsr_cli.specs.declared.task.WordsFault.{WordsFault}
+use Rattle.hsr_cli.specs.declared.task.WordsFault.TheVariants.{Usage, Memory}
 use Rattle.hsr_plan_scenario.specs.Ends.{Checks, Ends, code_of}
 use Rattle.hsr_plan_scenario.specs.declared.planning.Ending.{Ending}
 use Rattle.hsr_plan_scenario.specs.declared.planning.Ending.TheVariants.{Planned, Refused, Failed, Unwritten}

@@ -1,7 +1,8 @@
 //! The planner's program: a plan on standard input, and the scenario that it means on standard output; or a scenario to be
-//! checked, or the lines of a sweep. `main` hands its words, its standard streams and its memory over to `plan`.
+//! checked, or the lines of a sweep. `main` hands its arguments, its standard streams and its memory over to
+//! `plan`.
 //!
-//! Its modules, in the order to read them: `planning`.
+//! Its one module, `planning`, has the whole program over arguments, a reader and two writers.
 #![tactic(auto)]
 
 mod planning;
@@ -13,7 +14,7 @@ use std::process::ExitCode;
 use std::rt::Env;
 use std::{env, io};
 
-/// Does what the words ask for over the standard streams, where standard error is a terminal or not.
+/// Does what the arguments ask for over the standard streams, where standard error is a terminal or not.
 fn run<H: AllocGlobal + Env + Input + Print, E: Write>(
     rt: &H,
     is_terminal: bool,
@@ -36,9 +37,10 @@ fn run<H: AllocGlobal + Env + Input + Print, E: Write>(
 
 fn main(rt: HostRuntime) -> io::Result<ExitCode> {
     let mut errors = rt.stderr();
+    // Only a terminal is told how far a sweep is, so no argument has to ask for it.
     let is_terminal = errors.is_terminal();
     match run(&rt, is_terminal, &mut errors) {
-        // the words and the writer take memory themselves
+        // The arguments and the writer take memory themselves.
         Err(error) if error.kind() == ErrorKind::OutOfMemory => {
             eprintln!(rt; "fault: memory")?;
             Ok(ExitCode::from(1))

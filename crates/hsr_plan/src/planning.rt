@@ -1,34 +1,36 @@
-//! The whole program, over words, a reader and two writers.
+//! The whole program, over arguments, a reader and two writers.
 ghost use Rattle.std.specs.Prelude.{◌≡◌, ◌++◌, IfOk, IfSome, OnOk, codes, map};
 ghost use Rattle.std.specs.Io.KnownBytes.{Appends};
-ghost use Rattle.hsr_options.specs.Tables.{capacity_of};
+ghost use Rattle.hsr_duptable.specs.Sizes.{capacity_of};
 ghost use Rattle.hsr_plan_scenario.specs.Ends.{Ends, code_of};
 ghost use Rattle.hsr_plan.specs.Planning.{Answers, Does, IsDone, Plans, TellsWrite};
 
-use hsr_options::Table;
+use hsr_cli::{Task, WordsFault, task_by};
+use hsr_duptable::TableSize;
 use hsr_plan_scenario::{Ending, check_run, plan_run};
 use hsr_plan_sweep::sweep_run;
-use hsr_plan_words::{Task, WordsFault, task_by};
 use std::alloc::Global;
 use std::io::{self, Read, Write};
 
-/// The status where words are refused.
+/// The status where arguments are refused.
 const USAGE: u8 = 3;
 
-/// Writes the scenario of a plan, for a run with such tables.
+/// Writes the scenario of a plan, for a run with tables of this size.
 fn planned<R: Read, W: Write, E: Write>(
     alloc: Global,
-    table: Table,
+    table: TableSize,
     reader: &mut R,
     writer: &mut W,
     errors: &mut E,
 ) -> io::Result<Ending>
     ensures { IfOk result (λ ending. IfSome (R.remaining reader.old) (λ text.
-        Ends (capacity_of table) text (W.contents writer.old) (W.contents writer.new) (E.contents errors.old) (E.contents errors.new) ending)) }
+        Ends (capacity_of table) text (W.contents writer.old) (W.contents writer.new)
+        (E.contents errors.old) (E.contents errors.new) ending)) }
 {
     match table {
-        Table::Small => plan_run::<_, _, _, 4>(alloc, reader, writer, errors),
-        Table::Large => plan_run::<_, _, _, 512>(alloc, reader, writer, errors),
+        // The size of a table is a constant of its type, so each choice is a call of its own.
+        TableSize::Small => plan_run::<_, _, _, 4>(alloc, reader, writer, errors),
+        TableSize::Large => plan_run::<_, _, _, 512>(alloc, reader, writer, errors),
     }
 }
 
@@ -42,7 +44,8 @@ fn perform<R: Read, W: Write, E: Write>(
     errors: &mut E,
 ) -> io::Result<Ending>
     ensures { IfOk result (λ ending. IfSome (R.remaining reader.old) (λ text.
-        Does task text is_terminal (W.contents writer.old) (W.contents writer.new) (E.contents errors.old) (E.contents errors.new) ending)) }
+        Does task text is_terminal (W.contents writer.old) (W.contents writer.new)
+        (E.contents errors.old) (E.contents errors.new) ending)) }
 {
     match task {
         Task::Plan { table } => planned(alloc, table, reader, writer, errors),
@@ -72,7 +75,8 @@ fn done<R: Read, W: Write, E: Write>(
     errors: &mut E,
 ) -> io::Result<u8>
     ensures { IfOk result (λ code. IfSome (R.remaining reader.old) (λ text.
-        IsDone task text is_terminal (W.contents writer.old) (W.contents writer.new) (E.contents errors.old) (E.contents errors.new) code)) }
+        IsDone task text is_terminal (W.contents writer.old) (W.contents writer.new)
+        (E.contents errors.old) (E.contents errors.new) code)) }
 {
     let ending = perform(alloc, task, is_terminal, reader, writer, errors)?;
     finish(errors, ending)
@@ -80,7 +84,8 @@ fn done<R: Read, W: Write, E: Write>(
 
 /// Writes a line.
 fn put_line<E: Write>(errors: &mut E, text: &str) -> io::Result<()>
-    ensures { OnOk result (Appends (E.contents errors.old) (E.contents errors.new) (text.now ++ codes "\n")) }
+    ensures { OnOk result (Appends (E.contents errors.old) (E.contents errors.new) (text.now
+        ++ codes "\n")) }
 {
     errors.write_all(text.as_bytes())?;
     errors.write_all(b"\n")
@@ -96,7 +101,8 @@ fn answer<R: Read, W: Write, E: Write>(
     errors: &mut E,
 ) -> io::Result<u8>
     ensures { IfOk result (λ code. IfSome (R.remaining reader.old) (λ text.
-        Answers chosen.now text is_terminal (W.contents writer.old) (W.contents writer.new) (E.contents errors.old) (E.contents errors.new) code)) }
+        Answers chosen.now text is_terminal (W.contents writer.old) (W.contents writer.new)
+        (E.contents errors.old) (E.contents errors.new) code)) }
 {
     match chosen {
         Ok(task) => done(alloc, *task, is_terminal, reader, writer, errors),
@@ -111,10 +117,10 @@ fn answer<R: Read, W: Write, E: Write>(
     }
 }
 
-/// Does what the words after the program's name choose, over a text that is read, standard output and standard error, and gives the
-/// status of the process: 0 where the scenario or the lines of a sweep were written, or a scenario is right; 1 after a fault, whose lines
-/// are then on standard error, and nothing was written; 3 where the words are refused, by a text on standard error. The error of
-/// `errors`, where a line can't be written there.
+/// Does what the arguments after the program's name choose, over a text that is read, standard output and standard
+/// error, and gives the status of the process: 0 where the scenario or the lines of a sweep were written, or a scenario
+/// is right; 1 after a fault, whose lines are then on standard error, and nothing was written; 3 where the arguments
+/// are refused, by a text on standard error. The error of `errors`, where a line can't be written there.
 pub fn plan<'a, R: Read, W: Write, E: Write>(
     alloc: Global,
     words: &'a [&'a str],
@@ -124,7 +130,8 @@ pub fn plan<'a, R: Read, W: Write, E: Write>(
     errors: &mut E,
 ) -> io::Result<u8>
     ensures { IfOk result (λ code. IfSome (R.remaining reader.old) (λ text.
-        Plans (map (λ s. s.now) words.entry.now) text is_terminal (W.contents writer.old) (W.contents writer.new) (E.contents errors.old) (E.contents errors.new) code)) }
+        Plans (map (λ s. s.now) words.entry.now) text is_terminal (W.contents writer.old)
+        (W.contents writer.new) (E.contents errors.old) (E.contents errors.new) code)) }
 {
     let chosen = task_by(alloc, words);
     answer(alloc, &chosen, is_terminal, reader, writer, errors)

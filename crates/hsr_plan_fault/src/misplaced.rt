@@ -1,4 +1,4 @@
-//! Words of the top of a plan that stand below a header.
+//! Keys of the top of a plan that stand below a header.
 use hsr_plan_text::{Key, PlanFault, Spot, What};
 use hsr_toml::{Source, is_list, member_at};
 
@@ -26,6 +26,7 @@ fn top_key_of(word: &[u8]) -> Option<Key> {
 fn in_table(source: Source<'_>, table: Key) -> Option<Misplaced> {
     for top in TOP_KEYS.iter() {
         let word = top.text().as_bytes();
+        // TOML takes a key below a header into the table of that header.
         if let Some(at) = member_at(source, table.text().as_bytes(), word) {
             if !is_list(source, word, at) {
                 return Some(Misplaced { key: *top, at });
@@ -35,7 +36,7 @@ fn in_table(source: Source<'_>, table: Key) -> Option<Misplaced> {
     None
 }
 
-/// The key of the top that a stream or an event has, at a place.
+/// The key of the top that a stream or an event has, at an offset.
 fn in_list(spot: Spot, word: &[u8], at: usize) -> Option<Misplaced> {
     match spot {
         Spot::Top => None,
@@ -46,8 +47,8 @@ fn in_list(spot: Spot, word: &[u8], at: usize) -> Option<Misplaced> {
     }
 }
 
-/// The key of the top that a fault at a place is about, and that stands below a header: a word that a stream or an event doesn't have, or
-/// what is no ring, no stations, no address and no mode.
+/// The key of the top that a fault at an offset is about, and that stands below a header: a word that a stream or an
+/// event doesn't have, or what is no ring, no stations, no address and no mode.
 pub(crate) fn out_of_place(source: Source<'_>, fault: &PlanFault, at: usize) -> Option<Misplaced> {
     match &fault.what {
         What::Unknown(word) => in_list(fault.spot, word.as_bytes(), at),

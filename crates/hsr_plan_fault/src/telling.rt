@@ -37,7 +37,7 @@ fn start_of(source: Source<'_>, spot: Spot) -> usize {
     }
 }
 
-/// Where a key of the table stands that begins at a place.
+/// Where a key of the table stands that begins at an offset.
 fn key_of(source: Source<'_>, spot: Spot, start: usize, word: &[u8]) -> Option<usize> {
     match spot {
         Spot::Top => top_key(source, word),
@@ -56,7 +56,7 @@ fn unknown_node(source: Source<'_>, name: &[u8]) -> Option<usize> {
     }
 }
 
-/// Where a name stands in the value of one of these keys of the table that begins at a place.
+/// Where a name stands in the value of one of these keys of the table that begins at an offset.
 fn name_of(source: Source<'_>, keys: &[Key], name: &[u8], start: usize) -> Option<usize> {
     for key in keys.iter() {
         if let Some(at) = name_in(source, key.text().as_bytes(), name, start) {
@@ -123,7 +123,7 @@ fn bad_name_at(
     }
 }
 
-/// Where the word of a fault stands, in its table that begins at a place.
+/// Where the word of a fault stands, in its table that begins at an offset.
 fn word_in(source: Source<'_>, spot: Spot, start: usize, what: &What) -> Option<usize> {
     match what {
         What::Unknown(word) => key_of(source, spot, start, word.as_bytes()),
@@ -137,7 +137,8 @@ fn word_in(source: Source<'_>, spot: Spot, start: usize, what: &What) -> Option<
 }
 
 /// Where the word of a fault stands, or else its table.
-fn place_of(source: Source<'_>, fault: &PlanFault) -> usize {
+fn offset_of(source: Source<'_>, fault: &PlanFault) -> usize {
+    // Searched for in the text again: the reading proves which fault is first, and doesn't keep where its word stands.
     let start = start_of(source, fault.spot);
     match word_in(source, fault.spot, start, &fault.what) {
         Some(at) => at,
@@ -216,6 +217,7 @@ fn put_bad_name(line: &mut Vec<u8>, key: Key, word: &Word) -> Result<(), NoMemor
 /// Whether a word stands at the top of a scenario, and not of a plan.
 fn is_of_scenario(spot: Spot, word: &Word) -> bool {
     let word = word.as_bytes();
+    // Both sides of `==` have one type, so an octet literal is compared as a slice.
     matches!(spot, Spot::Top)
         && (word == b"node".as_slice() || word == b"link".as_slice() || word == b"step".as_slice())
 }
@@ -268,15 +270,16 @@ fn put_fault(
         text: text.as_bytes(),
         bare: bare.as_slice(),
     };
-    let place = place_of(source, fault);
-    if let Some(found) = out_of_place(source, fault, place) {
+    let offset = offset_of(source, fault);
+    // A key that belongs at the top says more than the fault of the table into which it fell.
+    if let Some(found) = out_of_place(source, fault, offset) {
         return put_misplaced(line, source.text, found);
     }
-    put_place(line, source.text, place)?;
+    put_place(line, source.text, offset)?;
     put_what(line, fault.spot, &fault.what)
 }
 
-/// Puts why the nodes and links of a plan are no topology last, and where that is.
+/// Puts last why the nodes and links of a plan do not form a valid topology, and where that is.
 fn put_topology(alloc: Global, line: &mut Vec<u8>, text: &str) -> Result<(), NoMemory> {
     let bare = bare(alloc, text.as_bytes())?;
     let source = Source {
@@ -289,15 +292,16 @@ fn put_topology(alloc: Global, line: &mut Vec<u8>, text: &str) -> Result<(), NoM
             put_place(line, source.text, reason.at)?;
             put(line, reason.words)
         }
-        // it was read before
+        // Want of memory: that it is TOML was found before.
         Err(_) => Err(NoMemory),
     }
 }
 
-/// The line of a fault of a text, as `fault: plan 12:5 unknown word evry_us: a stream has from, to, ..`, without a line feed. Line and
-/// column are those of the word that the fault is about, in its own table, outside of comments and of other strings; of a missing word,
-/// those of its table; and of a text that is no TOML those at which that shows. `NoMemory` where room is refused.
-pub fn told(alloc: Global, text: &str, fault: &PlanFault) -> Result<Vec<u8>, NoMemory>
+/// The line of a fault of a text, as `fault: plan 12:5 unknown word evry_us: a stream has from, to, ..`, without a line
+/// feed. Line and column are those of the word that the fault is about, in its own table, outside of comments and of
+/// other strings; of a missing word, those of its table; and of a text that is no TOML those at which that shows.
+/// `NoMemory` if allocation fails.
+pub fn plan_fault_line(alloc: Global, text: &str, fault: &PlanFault) -> Result<Vec<u8>, NoMemory>
     ensures { IfOk result (λ v. IsLine v.items) }
 {
     let mut words = Vec::new(alloc);

@@ -1,4 +1,4 @@
-//! Why the nodes and links of a plan are no topology, and where that is.
+//! Why the nodes and links of a plan do not form a valid topology, and where that is.
 use hsr_frame::Mac;
 use hsr_toml::{Source, member_at, top_key};
 use toml::{Table, Value};
@@ -6,7 +6,7 @@ use toml::{Table, Value};
 /// The most nodes of a topology.
 const NODE_LIMIT: usize = 64;
 
-/// Why nodes and links are no topology, and where that is.
+/// Why nodes and links do not form a valid topology, and where that is.
 #[derive(Clone, Copy)]
 pub(crate) struct Reason {
     pub at: usize,
@@ -165,7 +165,7 @@ fn other(document: &Table) -> Reason {
     Reason { at: 0, words }
 }
 
-/// Why the nodes and links of a document are no topology.
+/// Why the nodes and links of a document do not form a valid topology.
 pub(crate) fn reason_of(source: Source<'_>, document: &Table) -> Reason {
     let words = "no network: a ring has at least two names";
     if let Some(at) = small_only(source, document) {

@@ -6,12 +6,12 @@ use Rattle.hsr_node.specs.declared.event.StepFault.TheVariants.{NotProxied}
 use Rattle.hsr_topology.specs.declared.end.End.{End}
 use Rattle.hsr_scenario.specs.declared.steps.Order.{Order}
 use Rattle.hsr_scenario.specs.declared.steps.Order.TheVariants.{Step}
-use Rattle.hsr_step.specs.declared.step.Step.TheVariants.{Supervise}
-use Rattle.hsr_step.specs.declared.step.Step as steps
-use Rattle.hsr_step.specs.declared.step.WorldFault.{WorldFault}
-use Rattle.hsr_step.specs.declared.step.WorldFault.TheVariants.{Node}
-use Rattle.hsr_plan_meaning.specs.Meaning.{Meaning}
-use Rattle.hsr_world.specs.World.{World, tried}
+use Rattle.hsr_world_steps.specs.declared.step.Step.TheVariants.{Supervise}
+use Rattle.hsr_world_steps.specs.declared.step.Step as steps
+use Rattle.hsr_world_steps.specs.declared.step.WorldFault.{WorldFault}
+use Rattle.hsr_world_steps.specs.declared.step.WorldFault.TheVariants.{Node}
+use Rattle.hsr_plan_schedule.specs.Meaning.{Meaning}
+use Rattle.hsr_world_laws.specs.World.{World, tried}
 use Rattle.hsr_plan_hops.specs.Beginning.{Begins, IsNext, Stage, at_first, done, first_stage, left_out, telling}
 use Rattle.hsr_plan_hops.specs.Moving.{world_of}
 use Rattle.hsr_plan_hops.specs.declared.flights.Flight.{Flight}

@@ -5,10 +5,10 @@ use Rattle.hsr_link.specs.Rows.{is_same_dir}
 use Rattle.hsr_link.specs.declared.row.Dir.{Dir}
 use Rattle.hsr_link.specs.declared.row.Dir.TheVariants.{Forth, Back}
 use Rattle.hsr_scenario.specs.declared.steps.Order.{Order}
-use Rattle.hsr_step.specs.declared.step.Step.TheVariants.{Put, Take}
-use Rattle.hsr_step.specs.declared.step.Step as steps
-use Rattle.hsr_plan_meaning.specs.Meaning.{Meaning}
-use Rattle.hsr_world.specs.World.{World}
+use Rattle.hsr_world_steps.specs.declared.step.Step.TheVariants.{Put, Take}
+use Rattle.hsr_world_steps.specs.declared.step.Step as steps
+use Rattle.hsr_plan_schedule.specs.Meaning.{Meaning}
+use Rattle.hsr_world_laws.specs.World.{World}
 use Rattle.hsr_plan_hops.specs.Beginning.{Begins, IsNext, IsSettled, Stage, next_copy}
 use Rattle.hsr_plan_hops.specs.Flights.{elapsed, is_at_end}
 use Rattle.hsr_plan_hops.specs.Telling.{PutsFirst}

@@ -2,7 +2,7 @@
 use Rattle.std.proofs.Common.{◌≡◌, ◌∙◌, ℕ, zero, suc, ◌+◌, ◌∷◌, [], List, Some, length, true, false, cond, slice_get, drop, ap, refl, sym}
 use Rattle.std.proofs.Math.Seq.{drop-length}
 use Rattle.std.proofs.lemmas.List.{drop-drop}
-use Rattle.hsr_world.specs.World.{World}
+use Rattle.hsr_world_laws.specs.World.{World}
 use Rattle.hsr_plan_hops.specs.Flights.{is_on_way, on_way}
 use Rattle.hsr_plan_hops.specs.declared.flights.Flight.{Flight}
 

@@ -5,10 +5,10 @@ use Rattle.std.proofs.lemmas.Bool.{leb-true, ltb-true}
 use Rattle.hsr_topology.specs.declared.end.End.{End}
 use Rattle.hsr_topology.specs.Links.{link_from}
 use Rattle.hsr_scenario.specs.declared.steps.Order.{Order}
-use Rattle.hsr_step.specs.declared.step.Step.TheVariants.{Clock, Send, Supervise, Age, Put, Take, Judge, Cut, Mend, Inject}
-use Rattle.hsr_step.specs.declared.step.Step as steps
-use Rattle.hsr_plan_meaning.specs.Meaning.{Meaning}
-use Rattle.hsr_world.specs.World.{World}
+use Rattle.hsr_world_steps.specs.declared.step.Step.TheVariants.{Clock, Send, Supervise, Age, Put, Take, Judge, Cut, Mend, Inject}
+use Rattle.hsr_world_steps.specs.declared.step.Step as steps
+use Rattle.hsr_plan_schedule.specs.Meaning.{Meaning}
+use Rattle.hsr_world_laws.specs.World.{World}
 use Rattle.hsr_plan_hops.specs.Beginning.{Begins, Stage, at_first, behind, done, left_out, next_copy}
 use Rattle.hsr_plan_hops.specs.Flights.{is_before_end, is_on_time, is_on_way, is_up_to_end, leaving, on_way}
 use Rattle.hsr_plan_hops.specs.Turns.{is_first}
@@ -94,7 +94,7 @@ module _ (us : ℕ) (links : List (List End)) (s : Stage) (more : List Order) (a
   pub in_time_behind : (step : steps.Step) → is_on_time us s.moment (next_copy s) step ≡ true → is_first s.moment s.begun step ≡ true → IsInTime us (behind links s step more after)
   in_time_behind (Clock at) on_time first = none_more (at - us) at (on_way s.world s.flights)
       (at_moment us s.moment at (earliest us s.moment s.begun) (on_way s.world s.flights) wait (le_of_lt (ltb-true s.moment at first)) on_time)
-  in_time_behind (Send n from dst vlan kind payload) on_time first = telling on_time
+  in_time_behind (Send n from dst vlan ethertype payload) on_time first = telling on_time
   in_time_behind (Supervise n about) on_time first = telling on_time
   in_time_behind (Age n) on_time first = telling on_time
   in_time_behind (Put n port) on_time first =

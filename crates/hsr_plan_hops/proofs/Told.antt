@@ -4,12 +4,12 @@ use Rattle.hsr_frame.specs.declared.node.About.TheVariants.{Own, Proxied}
 use Rattle.hsr_topology.specs.declared.end.End.{End}
 use Rattle.hsr_scenario.specs.declared.steps.Order.{Order}
 use Rattle.hsr_scenario.specs.declared.steps.Order.TheVariants.{Step, Drain}
-use Rattle.hsr_step.specs.declared.step.Step.TheVariants.{Clock, Send, Supervise, Age, Put, Take, Judge, Cut, Mend, Inject}
-use Rattle.hsr_step.specs.declared.step.Step as steps
-use Rattle.hsr_playing.specs.Playing.{Plays}
-use Rattle.hsr_plan_meaning.specs.Meaning.{Meaning}
-use Rattle.hsr_world.specs.Lawful.{finished_of}
-use Rattle.hsr_world.specs.World.{World, tried}
+use Rattle.hsr_world_steps.specs.declared.step.Step.TheVariants.{Clock, Send, Supervise, Age, Put, Take, Judge, Cut, Mend, Inject}
+use Rattle.hsr_world_steps.specs.declared.step.Step as steps
+use Rattle.hsr_ring.specs.Playing.{Plays}
+use Rattle.hsr_plan_schedule.specs.Meaning.{Meaning}
+use Rattle.hsr_world_laws.specs.Lawful.{finished_of}
+use Rattle.hsr_world_laws.specs.World.{World, tried}
 use Rattle.hsr_plan_hops.specs.Beginning.{Begins, DoesAll, IsNext, Stage, at_first, done, left_out}
 use Rattle.hsr_plan_hops.specs.Flights.{AreOnTime}
 use Rattle.hsr_plan_hops.specs.Moving.{MovesByHops, world_of}
@@ -42,7 +42,7 @@ unknown_first : (capacity : ℕ) (w : World) (step : steps.Step) (told more : Li
 unknown_first capacity w (Supervise n (Proxied mac)) told more does unknown = does
 unknown_first capacity w (Supervise n Own) told more does unknown = absurd unknown
 unknown_first capacity w (Clock at) told more does unknown = absurd unknown
-unknown_first capacity w (Send n from dst vlan kind payload) told more does unknown = absurd unknown
+unknown_first capacity w (Send n from dst vlan ethertype payload) told more does unknown = absurd unknown
 unknown_first capacity w (Age n) told more does unknown = absurd unknown
 unknown_first capacity w (Put n port) told more does unknown = absurd unknown
 unknown_first capacity w (Take l dir) told more does unknown = absurd unknown

@@ -7,10 +7,10 @@ use Rattle.std.specs.Prelude.{ℕ, ◌+◌, ◌==◌, ◌≡◌, ◌<◌, ◌⊎
 use Rattle.hsr_topology.specs.declared.end.End.{End}
 use Rattle.hsr_scenario.specs.declared.steps.Order.{Order}
 use Rattle.hsr_scenario.specs.declared.steps.Order.TheVariants.{Step}
-use Rattle.hsr_step.specs.declared.step.Step.TheVariants.{Clock, Put}
-use Rattle.hsr_step.specs.declared.step.Step as steps
-use Rattle.hsr_plan_meaning.specs.Meaning.{Meaning}
-use Rattle.hsr_world.specs.World.{World, tried}
+use Rattle.hsr_world_steps.specs.declared.step.Step.TheVariants.{Clock, Put}
+use Rattle.hsr_world_steps.specs.declared.step.Step as steps
+use Rattle.hsr_plan_schedule.specs.Meaning.{Meaning}
+use Rattle.hsr_world_laws.specs.World.{World, tried}
 use Rattle.hsr_plan_hops.specs.Flights.{flights_behind, is_on_time, on_way}
 use Rattle.hsr_plan_hops.specs.Moving.{world_of}
 use Rattle.hsr_plan_hops.specs.Telling.{Does, HasPut, IsUnknownTo, PutsFirst}

@@ -9,9 +9,9 @@ use Rattle.hsr_link.specs.declared.row.Dir.TheVariants.{Forth, Back}
 use Rattle.hsr_link.specs.declared.row.Row.{Row}
 use Rattle.hsr_scenario.specs.declared.steps.Order.{Order}
 use Rattle.hsr_scenario.specs.declared.steps.Order.TheVariants.{Step, Drain}
-use Rattle.hsr_step.specs.declared.step.Step.TheVariants.{Clock, Put, Take, Judge}
-use Rattle.hsr_step.specs.declared.step.Step as steps
-use Rattle.hsr_world.specs.World.{World, span_at, tried}
+use Rattle.hsr_world_steps.specs.declared.step.Step.TheVariants.{Clock, Put, Take, Judge}
+use Rattle.hsr_world_steps.specs.declared.step.Step as steps
+use Rattle.hsr_world_laws.specs.World.{World, span_at, tried}
 use Rattle.hsr_plan_hops.specs.Turns.{moment_behind}
 use Rattle.hsr_plan_hops.specs.declared.flights.Flight.{Flight}
 

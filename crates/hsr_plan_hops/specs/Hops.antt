@@ -2,10 +2,10 @@
 use Rattle.std.specs.Prelude.{ℕ, ◌+◌, ◌==◌, Bool, true, false, Option, Some, None, slice_get}
 use Rattle.std.specs.List.{list_all}
 use Rattle.hsr_node.specs.declared.entry.Entry.{Entry}
-use Rattle.hsr_law.specs.Run.{Run, record_of}
-use Rattle.hsr_order.specs.declared.origin.Spot.{Spot}
-use Rattle.hsr_hops.specs.Hops.{hops}
-use Rattle.hsr_hops.specs.declared.hop.Hop.{Hop}
+use Rattle.hsr_run_laws.specs.Run.{Run, record_of}
+use Rattle.hsr_timeline.specs.declared.origin.Spot.{Spot}
+use Rattle.hsr_timeline.specs.Hops.{hops}
+use Rattle.hsr_timeline.specs.declared.hop.Hop.{Hop}
 
 abbrev pub moment_if : Option Entry → Option ℕ
 moment_if None = None

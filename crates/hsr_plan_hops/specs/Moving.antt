@@ -1,13 +1,13 @@
 -- What a plan means, with the moves of its copies.
 use Rattle.std.specs.Prelude.{ℕ, ◌≡◌, true, false, List, []}
-use Rattle.hsr_closing.specs.Finished.{Finished}
-use Rattle.hsr_playing.specs.Finishing.{IsFinishedBy}
+use Rattle.hsr_finished_run.specs.Finished.{Finished}
+use Rattle.hsr_ring.specs.Finishing.{IsFinishedBy}
 use Rattle.hsr_scenario.specs.declared.steps.Order.{Order}
 use Rattle.hsr_plan_text.specs.Plan.{Plan}
 use Rattle.hsr_plan_text.specs.declared.plan.Moves.{Moves}
 use Rattle.hsr_plan_text.specs.declared.plan.Moves.TheVariants.{EachSendDrains, EachMomentDrains, Hop}
-use Rattle.hsr_plan_meaning.specs.Meaning.{Meaning, Means}
-use Rattle.hsr_world.specs.World.{World, new_world}
+use Rattle.hsr_plan_schedule.specs.Meaning.{Meaning, Means}
+use Rattle.hsr_world_laws.specs.World.{World, new_world}
 use Rattle.hsr_plan_hops.specs.Flights.{AreOnTime}
 use Rattle.hsr_plan_hops.specs.Hops.{are_in_time}
 use Rattle.hsr_plan_hops.specs.Telling.{Tells}

@@ -7,16 +7,16 @@
 use Rattle.std.specs.Prelude.{ℕ, ◌+◌, ◌^◌, ◌≡◌, ◌<◌, ◌≤◌, ◌⊎◌, nat_le, nat_lt, Bool, true, false, List, [], ◌∷◌, length, Some, None, Err, ⊤}
 use Rattle.hsr_scenario.specs.declared.steps.Order.{Order}
 use Rattle.hsr_scenario.specs.declared.steps.Order.TheVariants.{Step, Drain}
-use Rattle.hsr_step.specs.declared.step.Step.TheVariants.{Clock, Put, Take, Judge}
-use Rattle.hsr_step.specs.declared.step.Step as steps
-use Rattle.hsr_step.specs.declared.step.WorldFault.{WorldFault}
+use Rattle.hsr_world_steps.specs.declared.step.Step.TheVariants.{Clock, Put, Take, Judge}
+use Rattle.hsr_world_steps.specs.declared.step.Step as steps
+use Rattle.hsr_world_steps.specs.declared.step.WorldFault.{WorldFault}
 use Rattle.hsr_plan_text.specs.Fallible.{FailsAt}
 use Rattle.hsr_plan_text.specs.Plan.{Plan}
 use Rattle.hsr_plan_text.specs.declared.plan.Moves.{Moves}
 use Rattle.hsr_plan_text.specs.declared.plan.Moves.TheVariants.{EachSendDrains, EachMomentDrains, Hop}
-use Rattle.hsr_plan_meaning.specs.Meaning.{Meaning, Means, listed}
-use Rattle.hsr_world.specs.Lawful.{IsEnded, finished_of}
-use Rattle.hsr_world.specs.World.{tried}
+use Rattle.hsr_plan_schedule.specs.Meaning.{Meaning, Means, listed}
+use Rattle.hsr_world_laws.specs.Lawful.{IsEnded, finished_of}
+use Rattle.hsr_world_laws.specs.World.{tried}
 use Rattle.hsr_plan_hops.specs.Beginning.{Begins, DoesAll, IsNext, Stage, next_copy}
 use Rattle.hsr_plan_hops.specs.Flights.{elapsed}
 use Rattle.hsr_plan_hops.specs.Hops.{are_in_time}

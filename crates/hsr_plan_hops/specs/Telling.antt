@@ -6,10 +6,10 @@ use Rattle.hsr_node.specs.declared.event.StepFault.TheVariants.{NotProxied}
 use Rattle.hsr_topology.specs.declared.end.End.{End}
 use Rattle.hsr_scenario.specs.declared.steps.Order.{Order}
 use Rattle.hsr_scenario.specs.declared.steps.Order.TheVariants.{Step, Drain}
-use Rattle.hsr_step.specs.declared.step.Step.TheVariants.{Clock, Supervise, Put, Take, Judge}
-use Rattle.hsr_step.specs.declared.step.Step as steps
-use Rattle.hsr_step.specs.declared.step.WorldFault.TheVariants.{Node}
-use Rattle.hsr_world.specs.World.{World, tried}
+use Rattle.hsr_world_steps.specs.declared.step.Step.TheVariants.{Clock, Supervise, Put, Take, Judge}
+use Rattle.hsr_world_steps.specs.declared.step.Step as steps
+use Rattle.hsr_world_steps.specs.declared.step.WorldFault.TheVariants.{Node}
+use Rattle.hsr_world_laws.specs.World.{World, tried}
 use Rattle.hsr_plan_hops.specs.Turns.{due_behind}
 use Rattle.hsr_plan_hops.specs.declared.turns.Due.{Due}
 use Rattle.hsr_plan_hops.specs.declared.turns.Due.TheVariants.{Nothing, Judgement, Puts}

@@ -3,11 +3,11 @@
 use Rattle.std.specs.Prelude.{ℕ, ◌==◌, nat_lt, Bool, true, false, not, ◌&&◌, ◌||◌, List, [], ◌∷◌, Option, Some, option_map, slice_get}
 use Rattle.hsr_topology.specs.declared.end.End.{End}
 use Rattle.hsr_link.specs.declared.row.Dir.{Dir}
-use Rattle.hsr_law.specs.Run.{to_end}
+use Rattle.hsr_run_laws.specs.Run.{to_end}
 use Rattle.hsr_scenario.specs.declared.steps.Order.{Order}
 use Rattle.hsr_scenario.specs.declared.steps.Order.TheVariants.{Step, Drain}
-use Rattle.hsr_step.specs.declared.step.Step.TheVariants.{Clock, Send, Supervise, Age, Put, Take, Judge, Cut, Mend, Inject}
-use Rattle.hsr_step.specs.declared.step.Step as steps
+use Rattle.hsr_world_steps.specs.declared.step.Step.TheVariants.{Clock, Send, Supervise, Age, Put, Take, Judge, Cut, Mend, Inject}
+use Rattle.hsr_world_steps.specs.declared.step.Step as steps
 use Rattle.hsr_plan_hops.specs.declared.turns.Due.{Due}
 use Rattle.hsr_plan_hops.specs.declared.turns.Due.TheVariants.{Nothing, Judgement, Puts}
 
@@ -20,7 +20,7 @@ receiver links l dir = option_map (to_end dir) (slice_get links l)
 -- what is due behind a step: the judgement of what it took, or the puts of what its node passed
 abbrev pub due_behind : List (List End) → steps.Step → Due
 due_behind links (Clock at) = Nothing
-due_behind links (Send n from dst vlan kind payload) = Puts n
+due_behind links (Send n from dst vlan ethertype payload) = Puts n
 due_behind links (Supervise n about) = Puts n
 due_behind links (Age n) = Nothing
 due_behind links (Put n port) = Puts n
@@ -70,7 +70,7 @@ moment_behind now _ = now
 -- something that is told was done at the moment behind a step
 abbrev pub begun_behind : Bool → steps.Step → Bool
 begun_behind begun (Clock at) = false
-begun_behind begun (Send n from dst vlan kind payload) = true
+begun_behind begun (Send n from dst vlan ethertype payload) = true
 begun_behind begun (Supervise n about) = true
 begun_behind begun (Age n) = true
 begun_behind begun (Put n port) = begun

@@ -5,16 +5,16 @@ use Rattle.hsr_node.specs.declared.event.StepFault.TheVariants.{NotProxied}
 use Rattle.hsr_topology.specs.declared.end.End.{End}
 use Rattle.hsr_scenario.specs.declared.steps.Order.{Order}
 use Rattle.hsr_scenario.specs.declared.steps.Order.TheVariants.{Step}
-use Rattle.hsr_step.specs.declared.step.Step.TheVariants.{Clock, Put, Supervise}
-use Rattle.hsr_step.specs.declared.step.Step as steps
-use Rattle.hsr_step.specs.declared.step.WorldFault.{WorldFault}
-use Rattle.hsr_step.specs.declared.step.WorldFault.TheVariants.{Node}
+use Rattle.hsr_world_steps.specs.declared.step.Step.TheVariants.{Clock, Put, Supervise}
+use Rattle.hsr_world_steps.specs.declared.step.Step as steps
+use Rattle.hsr_world_steps.specs.declared.step.WorldFault.{WorldFault}
+use Rattle.hsr_world_steps.specs.declared.step.WorldFault.TheVariants.{Node}
 use Rattle.hsr_plan_text.specs.declared.plan.Moves.{Moves}
 use Rattle.hsr_plan_text.specs.declared.plan.Moves.TheVariants.{EachSendDrains, EachMomentDrains, Hop}
-use Rattle.hsr_plan_meaning.specs.Meaning.{Meaning}
-use Rattle.hsr_world.specs.World.{World, tried}
+use Rattle.hsr_plan_schedule.specs.Meaning.{Meaning}
+use Rattle.hsr_world_laws.specs.World.{World, tried}
 use Rattle.hsr_plan_hops.specs.Beginning.{Begins, IsSettled, Stage, behind, next_copy}
-use Rattle.hsr_world.specs.Lawful.{IsEnded, finished_of}
+use Rattle.hsr_world_laws.specs.Lawful.{IsEnded, finished_of}
 use Rattle.hsr_plan_hops.specs.Hops.{are_in_time}
 use Rattle.hsr_plan_hops.specs.declared.unmoved.Unmoved.{Unmoved}
 use Rattle.hsr_plan_hops.specs.declared.unmoved.Unmoved.TheVariants as unmoved

@@ -1,5 +1,6 @@
 //! What comes next, done until nothing is left to do.
 ghost use Rattle.std.specs.Prelude.{◌≡◌, ◌≤◌, ◌<◌, ◌∷◌, true, None, Some, IfErr, IfOk, OnOk};
+ghost use Rattle.hsr_duptable.specs.Table.{IsTableSize};
 ghost use Rattle.hsr_plan_hops.specs.Beginning.{DoesAll, IsSettled, next_copy};
 ghost use Rattle.hsr_plan_hops.specs.Flights.{elapsed};
 ghost use Rattle.hsr_plan_hops.specs.Moving.{world_of};
@@ -12,10 +13,10 @@ use crate::turns::Due;
 use crate::unmoved::Unmoved;
 use crate::weaving::{Weaving, does, obeys, settles};
 use hsr_frame::NoMemory;
-use hsr_plan_meaning::Meaning;
+use hsr_plan_schedule::Meaning;
 use hsr_ring::World;
 use hsr_scenario::Order;
-use hsr_step::Step;
+use hsr_world_steps::Step;
 use std::alloc::Global;
 use std::collections::VecDeque;
 
@@ -222,7 +223,7 @@ fn does_all<const C: usize>(
 
 /// A world in which nothing of what is told was done.
 fn world_of<const C: usize>(alloc: Global, told: &Meaning) -> Result<World<C>, NoMemory>
-    requires entries { (1 ≤ C) × (C ≤ 65535) }
+    requires entries { IsTableSize C }
     requires room { (1 ≤ told.now.capacity) × (told.now.capacity ≤ 4096) }
     ensures { IfOk result (λ world. world ≡ world_of told.now) }
 {
@@ -237,7 +238,7 @@ pub(crate) fn woven<const C: usize>(
     told: &Meaning,
     us: u64,
 ) -> Result<Weaving<'_, C>, Unmoved>
-    requires entries { (1 ≤ C) × (C ≤ 65535) }
+    requires entries { IsTableSize C }
     requires room { (1 ≤ told.now.capacity) × (told.now.capacity ≤ 4096) }
     requires time { 1 ≤ us }
     ensures ok { IfOk result (λ v. DoesAll C us told.now v.orders v.stage) }

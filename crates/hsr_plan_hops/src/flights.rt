@@ -8,8 +8,8 @@ ghost use Rattle.hsr_plan_hops.specs.Flights.{elapsed, is_on_way, leaving, on_wa
 
 use hsr_link::{Dir, Fate, Row};
 use hsr_ring::World;
-use hsr_step::Step;
 use hsr_topology::{End, Topology};
+use hsr_world_steps::Step;
 use std::collections::VecDeque;
 
 /// A copy that was put: its link and direction, its row there, and the moment, in microseconds.

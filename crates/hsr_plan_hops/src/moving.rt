@@ -1,6 +1,7 @@
 //! What a plan means once its copies move.
-ghost use Rattle.std.specs.Prelude.{◌≡◌, ◌≤◌, IfErr, IfOk, OnOk};
-ghost use Rattle.hsr_world.specs.Lawful.{IsEnded, finished_of};
+ghost use Rattle.std.specs.Prelude.{◌≡◌, IfErr, IfOk, OnOk};
+ghost use Rattle.hsr_duptable.specs.Table.{IsTableSize};
+ghost use Rattle.hsr_world_laws.specs.Lawful.{IsEnded, finished_of};
 ghost use Rattle.hsr_plan_text.specs.declared.plan.Moves.TheVariants.{Hop};
 ghost use Rattle.hsr_plan_hops.specs.Moving.{MeansMoved, Moved, MovesByHops};
 ghost use Rattle.hsr_plan_hops.specs.Refusing.{IsUnmoved, IsUnmovedByHops};
@@ -10,8 +11,8 @@ use crate::advancing::woven;
 use crate::timing::are_in_time;
 use crate::unmoved::Unmoved;
 use crate::weaving::Weaving;
-use hsr_closing::{CheckFault, Closed};
-use hsr_plan_meaning::{Meaning, meaning_of};
+use hsr_finished_run::{CheckFault, Closed};
+use hsr_plan_schedule::{Meaning, meaning_of};
 use hsr_plan_text::{Moves, Plan};
 use hsr_ring::World;
 use hsr_scenario::Order;
@@ -48,7 +49,7 @@ fn check_end<const C: usize>(alloc: Global, us: u64, world: World<C>) -> Result<
 
 /// The orders that do what is told and move copies by hops.
 fn ordered<const C: usize>(alloc: Global, told: &Meaning, us: u64) -> Result<Vec<Order>, Unmoved>
-    requires entries { (1 ≤ C) × (C ≤ 65535) }
+    requires entries { IsTableSize C }
     ensures ok { IfOk result (λ orders. MovesByHops C us told.now orders.items) }
     ensures err { IfErr result (IsUnmovedByHops C us told.now) }
 {
@@ -63,7 +64,7 @@ fn ordered<const C: usize>(alloc: Global, told: &Meaning, us: u64) -> Result<Vec
 
 /// What is told, with orders that move copies by hops.
 fn moved_by_hops<const C: usize>(alloc: Global, told: Meaning, us: u64) -> Result<Meaning, Unmoved>
-    requires entries { (1 ≤ C) × (C ≤ 65535) }
+    requires entries { IsTableSize C }
     ensures ok { IfOk result (λ m. Moved C (Hop us) told m) }
     ensures err { IfErr result (IsUnmovedByHops C us told) }
 {
@@ -82,7 +83,7 @@ fn with_moves<const C: usize>(
     moves: Moves,
     told: Meaning,
 ) -> Result<Meaning, Unmoved>
-    requires entries { (1 ≤ C) × (C ≤ 65535) }
+    requires entries { IsTableSize C }
     ensures ok { IfOk result (λ m. Moved C moves told m) }
     ensures err { IfErr result (IsUnmovedBy C moves told) }
 {
@@ -98,7 +99,7 @@ fn with_moves<const C: usize>(
 /// be done, as where a node refuses a send; where a hop takes no time, or no world has such room; and where the run doesn't end as
 /// it has to.
 pub fn moved_meaning_of<const C: usize>(alloc: Global, plan: &Plan) -> Result<Meaning, Unmoved>
-    requires entries { (1 ≤ C) × (C ≤ 65535) }
+    requires entries { IsTableSize C }
     ensures ok { IfOk result (λ m. MeansMoved C plan.now m) }
     ensures err { IfErr result (IsUnmoved C plan.now) }
 {

@@ -8,8 +8,8 @@ use crate::turns::{Due, begun_behind, due_behind, moment_behind};
 use hsr_frame::NoMemory;
 use hsr_ring::World;
 use hsr_scenario::Order;
-use hsr_step::{Step, WorldFault};
 use hsr_topology::Topology;
+use hsr_world_steps::{Step, WorldFault};
 use std::collections::VecDeque;
 use std::marker::Model;
 
@@ -42,7 +42,7 @@ impl<'a, const C: usize> Stage<'a, C> {
     }
 
     /// What is told from here on.
-    pub(crate) fn tell(&mut self, more: &'a [Order])
+    pub(crate) fn set_told(&mut self, more: &'a [Order])
         ensures { self.new ≡ telling self.old more.now }
     {
         self.told = more;

@@ -1,13 +1,12 @@
 //! How long the copies of a finished run were on their way.
 ghost use Rattle.std.specs.Prelude.{◌≡◌, slice_get, IfOk};
 ghost use Rattle.std.specs.List.{list_all};
-ghost use Rattle.hsr_law.specs.Run.{record_of};
+ghost use Rattle.hsr_run_laws.specs.Run.{record_of};
 ghost use Rattle.hsr_plan_hops.specs.Hops.{are_in_time, is_in_time, is_later_by, moment_at, moment_if};
 
-use hsr_closing::Closed;
+use hsr_finished_run::Closed;
 use hsr_frame::NoMemory;
-use hsr_hops::{Hop, hops};
-use hsr_order::Spot;
+use hsr_timeline::{Hop, Spot, hops};
 use std::alloc::Global;
 
 /// The moment of an entry, if it is there.

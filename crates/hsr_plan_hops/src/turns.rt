@@ -3,8 +3,8 @@ ghost use Rattle.std.specs.Prelude.{◌≡◌};
 ghost use Rattle.hsr_plan_hops.specs.Turns.{begun_behind, due_behind, moment_behind, receiver};
 
 use hsr_link::Dir;
-use hsr_step::Step;
 use hsr_topology::End;
+use hsr_world_steps::Step;
 
 /// What is due behind a step.
 #[derive(Clone, Copy, Debug, PartialEq, Eq)]

@@ -12,10 +12,10 @@ use crate::turns::Due;
 use crate::unmoved::Unmoved;
 use hsr_frame::{About, NoMemory};
 use hsr_node::StepFault;
-use hsr_plan_meaning::Meaning;
+use hsr_plan_schedule::Meaning;
 use hsr_scenario::Order;
-use hsr_step::{Step, WorldFault};
 use hsr_topology::End;
+use hsr_world_steps::{Step, WorldFault};
 use std::marker::Model;
 
 /// The most orders.
@@ -122,7 +122,7 @@ pub(crate) fn obeys<'a, const C: usize>(
     match tries(told, us, step, more, weaving)? {
         None => Ok(()),
         Some(fault) if is_unknown(step, fault) => {
-            weaving.stage.tell(more);
+            weaving.stage.set_told(more);
             Ok(())
         }
         Some(_) => Err(Unmoved::Differs),

@@ -36,6 +36,7 @@ pub(crate) fn put_zeros(out: &mut Vec<u8>, count: usize) -> Result<(), NoMemory>
 fn put_length(out: &mut Vec<u8>, count: usize) -> Result<(), NoMemory>
     ensures { OnOk result (out.new.items ≡ out.old.items ++ length_octets count) }
 {
+    // A length above 127 is told by one octet of how many follow, and these (ITU-T X.690 section 8.1.3).
     if count < 128 {
         out.push(count as u8)?;
     } else if count < 256 {
@@ -65,6 +66,7 @@ pub(crate) fn integer(alloc: Global, number: usize) -> Result<Vec<u8>, NoMemory>
     ensures { IfOk result (λ v. v.items ≡ integer number) }
 {
     let mut value = Vec::new(alloc);
+    // The first bit is the sign, so each length has half the numbers (ITU-T X.690 section 8.3).
     if number < 128 {
         value.push(number as u8)?;
     } else if number < 32768 {

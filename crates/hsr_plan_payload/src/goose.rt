@@ -50,6 +50,7 @@ pub(crate) fn put_tagged_zeros(
 fn control_block() -> &'static [u8]
     ensures { result.now ≡ control_block }
 {
+    // In a function of its own: a long literal at the head of a text keeps search from the rest of it.
     b"/LLN0$GO$gcb"
 }
 
@@ -77,6 +78,7 @@ fn put_counts(alloc: Global, out: &mut Vec<u8>, state: usize, k: usize) -> Resul
     ensures { OnOk result (out.new.items ≡ out.old.items ++ goose_counts state k) }
 {
     put_tagged_zeros(alloc, out, 0x84, 8)?;
+    // stNum counts from 1, and sqNum from 0.
     put_integer(alloc, out, 0x85, state + 1)?;
     put_integer(alloc, out, 0x86, k)
 }
@@ -107,13 +109,14 @@ pub(crate) fn framed(alloc: Global, appid: usize, pdu: &[u8]) -> Result<Vec<u8>,
 {
     let mut out = Vec::new(alloc);
     put_pair(&mut out, appid)?;
+    // The length counts itself, the APPID and the reserved fields too.
     put_pair(&mut out, pdu.len() + 8)?;
     put_zeros(&mut out, 4)?;
     out.extend_from_slice(pdu)?;
     Ok(out)
 }
 
-/// The payload with so many octets to spare.
+/// The payload with `spare` octets of data more than the shortest one.
 #[tactic(auto, unfolding(crate::specs::Payload::goose))]
 pub(crate) fn goose(
     alloc: Global,

@@ -9,7 +9,7 @@ use hsr_frame::NoMemory;
 use hsr_plan_text::Kind;
 use std::alloc::Global;
 
-/// The longest payload of GOOSE that fits, of those with at most so many octets to spare; or the shortest.
+/// The longest payload of GOOSE that fits, of those with at most `most` octets to spare; or the shortest.
 #[tactic(auto, using(crate::proofs::Longest::fits, crate::proofs::Longest::longer))]
 fn longest_goose(
     alloc: Global,
@@ -25,6 +25,7 @@ fn longest_goose(
     if most == 0 {
         return goose(alloc, name, state, k, 0);
     }
+    // From the most downwards: fields of lengths grow too, so the first that fits is the longest.
     let payload = goose(alloc, name, state, k, most)?;
     if payload.len() <= size {
         return Ok(payload);
@@ -32,7 +33,8 @@ fn longest_goose(
     longest_goose(alloc, name, state, k, size, most - 1)
 }
 
-/// The longest payload of sampled values that fits, of those with at most so many times 8 octets to spare; or the shortest.
+/// The longest payload of sampled values that fits, of those with at most `most` times 8 octets to spare; or the
+/// shortest.
 #[tactic(auto, using(crate::proofs::Longest::fits, crate::proofs::Longest::longer))]
 fn longest_sampled(
     alloc: Global,
@@ -60,13 +62,15 @@ fn counted(alloc: Global, size: usize, k: usize) -> Result<Vec<u8>, NoMemory>
 {
     let mut payload = Vec::new(alloc);
     put_four(&mut payload, k)?;
+    // A payload of fewer than four octets has only a front of the count.
     payload.truncate(size);
     put_zeros(&mut payload, size.saturating_sub(4))?;
     Ok(payload)
 }
 
-/// The payload of that kind, for the `k`-th frame that a name sends behind a stream's `state`-th start: of `size` octets, or the
-/// longest of its kind that isn't longer, or the shortest of its kind. `NoMemory` where room is refused.
+/// The payload of that kind, for the `k`-th frame that a name sends behind a stream's `state`-th start, both counted
+/// from 0: of `size` octets, or the longest of its kind that isn't longer, or the shortest of its kind. `NoMemory` if
+/// allocation fails.
 pub fn payload(
     alloc: Global,
     kind: Kind,

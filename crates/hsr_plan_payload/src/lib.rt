@@ -1,6 +1,10 @@
 //! The payloads of a plan's streams.
 //!
-//! Its modules, in the order to read them: `ber`, `goose`, `sampled_values`, `kinds`.
+//! Its modules, in the order in which to read them:
+//! - `ber`: values with tags and lengths (ITU-T X.690), and numbers in big endian
+//! - `goose`: the payload of GOOSE (IEC 61850-8-1)
+//! - `sampled_values`: the payload of sampled values (IEC 61850-9-2)
+//! - `kinds`: the payload of each kind, its call
 #![tactic(auto)]
 
 mod ber;

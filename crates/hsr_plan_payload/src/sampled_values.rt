@@ -12,6 +12,7 @@ fn put_head(alloc: Global, out: &mut Vec<u8>, name: &[u8], k: usize) -> Result<(
     ensures { OnOk result (out.new.items ≡ out.old.items ++ sampled_head name.now k) }
 {
     let mut count = Vec::new(alloc);
+    // smpCnt counts to 3999 and begins anew.
     put_pair(&mut count, k % 4000)?;
     let mut revision = Vec::new(alloc);
     put_four(&mut revision, 1)?;
@@ -42,7 +43,7 @@ fn asdu(alloc: Global, name: &[u8], k: usize, spare: usize) -> Result<Vec<u8>, N
     Ok(asdu)
 }
 
-/// The payload with so many times 8 octets to spare.
+/// The payload with `spare` times 8 octets of data more than the shortest one.
 #[tactic(auto, unfolding(crate::specs::Payload::sampled))]
 pub(crate) fn sampled(
     alloc: Global,

@@ -3,7 +3,7 @@ use Rattle.std.proofs.Common.{◌≡◌, ℕ, zero, suc, ◌+◌, ◌<◌, List,
 use Rattle.std.specs.List.{flat_map}
 use Rattle.std.proofs.lemmas.List.{length-append}
 use Rattle.hsr_plan_text.specs.Plan.{Outline}
-use Rattle.hsr_plan_meaning.specs.Meaning.{Meaning}
+use Rattle.hsr_plan_schedule.specs.Meaning.{Meaning}
 use Rattle.hsr_plan_scenario.specs.Spelled.{comma, front_text, listed, numbered, order_line, parted, scenario_text}
 
 numbered-suc : {X : Type 0} (text : ℕ → X → List ℕ) (k i : ℕ) (xs : List X) (d : X) → i < length xs →

@@ -2,8 +2,8 @@
 use Rattle.std.proofs.Common.{◌≡◌, ℕ, zero, suc, ◌<◌, ◌≤◌, max, Bool, true, false, List, [], ◌∷◌, ◌++◌, length, slice_index_or, refl, sym, subst, ap, ◌∙◌, append_assoc, append-nil, arith}
 use Rattle.std.specs.Prelude.{if◌then◌else◌}
 use Rattle.std.specs.List.Sorted.{IsNonDecreasing}
-use Rattle.hsr_step.specs.declared.step.Step.{Step}
-use Rattle.hsr_step.specs.declared.step.Step.TheVariants.{Clock, Send, Supervise, Age, Put, Take, Judge, Cut, Mend, Inject}
+use Rattle.hsr_world_steps.specs.declared.step.Step.{Step}
+use Rattle.hsr_world_steps.specs.declared.step.Step.TheVariants.{Clock, Send, Supervise, Age, Put, Take, Judge, Cut, Mend, Inject}
 use Rattle.hsr_scenario.specs.declared.steps.Order.{Order}
 use Rattle.hsr_scenario.specs.declared.steps.Order.TheVariants as order
 use Rattle.hsr_plan_scenario.specs.Sends.{is_sending, moment_behind, send_moments}
@@ -36,7 +36,7 @@ from_one least xs from = record { above = above; rise = rise }
 
 behind : (now : ℕ) (o : Order) → now ≤ moment_behind now o
 behind now (order.Step (Clock at)) = omega arith
-behind now (order.Step (Send k from dst vlan kind payload)) = omega arith
+behind now (order.Step (Send k from dst vlan ethertype payload)) = omega arith
 behind now (order.Step (Supervise k about)) = omega arith
 behind now (order.Step (Age k)) = omega arith
 behind now (order.Step (Put k port)) = omega arith

@@ -14,7 +14,7 @@ use Rattle.hsr_plan_text.specs.Plan.{Outline, Plan}
 use Rattle.hsr_plan_text.specs.declared.fault.PlanFault.{PlanFault}
 use Rattle.hsr_plan_text.specs.declared.fault.What.{What}
 use Rattle.hsr_plan_text.specs.declared.fault.What.TheVariants.{Text, Missing, Unknown, WrongKind, BadName, BadValue, Refused, NoMemory}
-use Rattle.hsr_plan_meaning.specs.Meaning.{Meaning, listed}
+use Rattle.hsr_plan_schedule.specs.Meaning.{Meaning, listed}
 use Rattle.hsr_plan_scenario.specs.Refusals.{HasNoScenario, HasNoneIf, IfDiffers, IsKnown, IsMisread, IsTroubleIn, IsTroubleOf, IsUnmoved, IsUntold, MeansNothing, unread}
 use Rattle.hsr_plan_hops.specs.Refusing.{IsImmovable}
 use Rattle.hsr_plan_scenario.specs.Says.{IsTitled, Tells, names_meant_by, scenario_meant}

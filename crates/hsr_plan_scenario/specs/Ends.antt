@@ -2,8 +2,8 @@
 use Rattle.std.specs.Prelude.{◌≡◌, ◌⊎◌, ⊤, ℕ, List, ◌++◌, codes, true, Option}
 use Rattle.std.specs.Fmt.{decimal}
 use Rattle.std.specs.Io.KnownBytes.{Appends, Keeps}
-use Rattle.hsr_closing.specs.Disagree.{disagree_code}
-use Rattle.hsr_closing.specs.declared.disagree.Disagree.{Disagree}
+use Rattle.hsr_finished_run.specs.Disagree.{disagree_code}
+use Rattle.hsr_finished_run.specs.declared.disagree.Disagree.{Disagree}
 use Rattle.hsr_plan_text.specs.Words.{is_title}
 use Rattle.hsr_plan_scenario.specs.Input.{input_line}
 use Rattle.hsr_plan_scenario.specs.Refusals.{IsLeftOpen, IsNoScenario, IsUnplanned}

@@ -8,14 +8,14 @@
 --     IsLeftOpen     the run of a scenario isn't closed
 use Rattle.std.specs.Prelude.{ℕ, ◌≡◌, ◌≢◌, ◌⊎◌, ◌<◌, ◌^◌, ⊤, IsOk, List, length, Option, Result, Ok, Err}
 use Rattle.std.specs.Str.{IsUtf8}
-use Rattle.hsr_step.specs.declared.step.DrainFault.{DrainFault}
-use Rattle.hsr_step.specs.declared.step.DrainFault.TheVariants.{World}
-use Rattle.hsr_step.specs.declared.step.WorldFault.TheVariants as world
-use Rattle.hsr_closing.specs.declared.disagree.CheckFault.TheVariants as closing
-use Rattle.hsr_closing.specs.declared.disagree.Disagree.{Disagree}
-use Rattle.hsr_playing.specs.Finishing.{IsUnfinishedBy}
-use Rattle.hsr_playing.specs.declared.finishing.Unfinished.{Unfinished}
-use Rattle.hsr_playing.specs.declared.finishing.Unfinished.TheVariants.{Step, Check}
+use Rattle.hsr_world_steps.specs.declared.step.DrainFault.{DrainFault}
+use Rattle.hsr_world_steps.specs.declared.step.DrainFault.TheVariants.{World}
+use Rattle.hsr_world_steps.specs.declared.step.WorldFault.TheVariants as world
+use Rattle.hsr_finished_run.specs.declared.disagree.CheckFault.TheVariants as closing
+use Rattle.hsr_finished_run.specs.declared.disagree.Disagree.{Disagree}
+use Rattle.hsr_ring.specs.Finishing.{IsUnfinishedBy}
+use Rattle.hsr_ring.specs.declared.finishing.Unfinished.{Unfinished}
+use Rattle.hsr_ring.specs.declared.finishing.Unfinished.TheVariants.{Step, Check}
 use Rattle.hsr_scenario.specs.Meaning.{Meant, meaning}
 use Rattle.hsr_scenario.specs.declared.fault.ScenarioFault.{ScenarioFault}
 use Rattle.hsr_scenario.specs.declared.fault.What.{What}
@@ -26,7 +26,7 @@ use Rattle.hsr_plan_text.specs.Plan.{Outline, Plan}
 use Rattle.hsr_plan_text.specs.declared.fault.PlanFault.{PlanFault}
 use Rattle.hsr_plan_text.specs.declared.fault.Spot.TheVariants.{Top}
 use Rattle.hsr_plan_text.specs.declared.fault.What.TheVariants.{NoMemory}
-use Rattle.hsr_plan_meaning.specs.Meaning.{Meaning, listed}
+use Rattle.hsr_plan_schedule.specs.Meaning.{Meaning, listed}
 use Rattle.hsr_plan_hops.specs.Moving.{MeansMoved}
 use Rattle.hsr_plan_hops.specs.Refusing.{IsImmovable, MeansUnmoved}
 use Rattle.hsr_plan_hops.specs.declared.unmoved.Unmoved.TheVariants as unmoved

@@ -1,14 +1,14 @@
 -- What it is for a text to be the scenario that a plan means.
 use Rattle.std.specs.Prelude.{◌≡◌, ◌<◌, ⊤, ℕ, List, ◌++◌, codes, length, map, Option, Some, None, Result, Ok, Err}
 use Rattle.std.specs.Str.{IsUtf8}
-use Rattle.hsr_closing.specs.Finished.{Finished}
-use Rattle.hsr_playing.specs.Finishing.{IsFinishedBy}
+use Rattle.hsr_finished_run.specs.Finished.{Finished}
+use Rattle.hsr_ring.specs.Finishing.{IsFinishedBy}
 use Rattle.hsr_scenario.specs.Meaning.{Meant, meaning}
 use Rattle.hsr_scenario.specs.Names.{NamesMeant, names_meant}
 use Rattle.hsr_plan_text.specs.Plan.{Outline, Plan}
 use Rattle.hsr_plan_text.specs.Meaning.{plan_of}
 use Rattle.hsr_plan_text.specs.declared.fault.PlanFault.{PlanFault}
-use Rattle.hsr_plan_meaning.specs.Meaning.{Meaning}
+use Rattle.hsr_plan_schedule.specs.Meaning.{Meaning}
 use Rattle.hsr_plan_hops.specs.Moving.{MeansMoved}
 use Rattle.hsr_plan_scenario.specs.Spelled.{scenario_text}
 

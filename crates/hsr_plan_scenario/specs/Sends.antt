@@ -1,12 +1,12 @@
 -- When a scenario's orders send.
 use Rattle.std.specs.Prelude.{ℕ, max, Bool, true, false, List, [], ◌∷◌, ◌++◌, if◌then◌else◌}
-use Rattle.hsr_step.specs.declared.step.Step.TheVariants.{Clock, Send, Supervise}
+use Rattle.hsr_world_steps.specs.declared.step.Step.TheVariants.{Clock, Send, Supervise}
 use Rattle.hsr_scenario.specs.declared.steps.Order.{Order}
 use Rattle.hsr_scenario.specs.declared.steps.Order.TheVariants.{Step}
 
 -- an order sends a frame, or a supervision frame
 abbrev pub is_sending : Order → Bool
-is_sending (Step (Send k from dst vlan kind payload)) = true
+is_sending (Step (Send k from dst vlan ethertype payload)) = true
 is_sending (Step (Supervise k about)) = true
 is_sending order = false
 

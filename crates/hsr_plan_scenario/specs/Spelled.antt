@@ -17,17 +17,17 @@ use Rattle.hsr_node.specs.declared.place.Place.{Place}
 use Rattle.hsr_node.specs.declared.place.Place.TheVariants.{Danh, RedBox, QuadBox, Station}
 use Rattle.hsr_link.specs.Words.{dir_word}
 use Rattle.hsr_link.specs.declared.row.Dir.{Dir}
-use Rattle.hsr_step.specs.declared.step.Step as steps
-use Rattle.hsr_step.specs.declared.step.Step.TheVariants.{Clock, Send, Supervise, Age, Put, Take, Judge, Cut, Mend, Inject}
+use Rattle.hsr_world_steps.specs.declared.step.Step as steps
+use Rattle.hsr_world_steps.specs.declared.step.Step.TheVariants.{Clock, Send, Supervise, Age, Put, Take, Judge, Cut, Mend, Inject}
 use Rattle.hsr_topology.specs.declared.end.End.{End}
 use Rattle.hsr_scenario.specs.declared.steps.Order.{Order}
 use Rattle.hsr_scenario.specs.declared.steps.Order.TheVariants.{Step, Drain}
-use Rattle.hsr_windows.specs.Windows.{most_in}
+use Rattle.hsr_table_demand.specs.Windows.{most_in}
 use Rattle.hsr_plan_text.specs.Plan.{Outline}
 use Rattle.hsr_plan_text.specs.declared.plan.Moves.{Moves}
 use Rattle.hsr_plan_text.specs.declared.plan.Moves.TheVariants.{EachSendDrains, EachMomentDrains, Hop}
 use Rattle.hsr_plan_network.specs.Nodes.{Node}
-use Rattle.hsr_plan_meaning.specs.Meaning.{Meaning}
+use Rattle.hsr_plan_schedule.specs.Meaning.{Meaning}
 use Rattle.hsr_plan_scenario.specs.Sends.{send_moments}
 
 -- ---- words
@@ -144,7 +144,8 @@ from_text from = if nat_lt 0 from then codes ", from=" ++ decimal from else []
 
 -- to whom what is sent
 unfoldable pub frame_text : List ℕ → ℕ → List ℕ → List ℕ
-frame_text dst kind payload = codes ", to=" ++ mac_text dst ++ codes ", type=0x" ++ encode_upper (pair kind) ++ octets_text (codes "payload") payload
+frame_text dst ethertype payload =
+    codes ", to=" ++ mac_text dst ++ codes ", type=0x" ++ encode_upper (pair ethertype) ++ octets_text (codes "payload") payload
 
 abbrev pub vlan_text : Option ℕ → List ℕ
 vlan_text None = []
@@ -159,7 +160,8 @@ dir_text dir = codes ", dir=\"" ++ dir_word dir ++ codes "\""
 
 abbrev pub step_text : List Node → steps.Step → List ℕ
 step_text nodes (Clock at) = clock_text at
-step_text nodes (Send k from dst vlan kind payload) = at_node (codes "send") nodes k ++ from_text from ++ frame_text dst kind payload ++ vlan_text vlan
+step_text nodes (Send k from dst vlan ethertype payload) =
+    at_node (codes "send") nodes k ++ from_text from ++ frame_text dst ethertype payload ++ vlan_text vlan
 step_text nodes (Supervise k about) = at_node (codes "life") nodes k ++ about_text about
 step_text nodes (Age k) = at_node (codes "age") nodes k
 step_text nodes (Put k port) = at_port (codes "put") nodes k port

@@ -1,7 +1,8 @@
 //! The text of a plan's scenario, checked against what the plan means.
 //!
 //! The text is read back before it is answered: so it is by the reader's own contract that it says what the plan means.
-ghost use Rattle.std.specs.Prelude.{ℕ, ◌≡◌, ◌≢◌, ◌≤◌, IfErr, IfOk, OnOk, Ok};
+ghost use Rattle.std.specs.Prelude.{ℕ, ◌≡◌, ◌≢◌, IfErr, IfOk, OnOk, Ok};
+ghost use Rattle.hsr_duptable.specs.Table.{IsTableSize};
 ghost use Rattle.hsr_scenario.specs.Meaning.{meaning};
 ghost use Rattle.hsr_scenario.specs.Names.{names_meant};
 ghost use Rattle.hsr_plan_text.specs.Meaning.{plan_of};
@@ -15,7 +16,7 @@ ghost use Rattle.hsr_plan_scenario.specs.Spelled.{scenario_text};
 use crate::same::{is_meant, is_named};
 use crate::spelling::{measured, spelled};
 use hsr_plan_hops::{Unmoved, moved_meaning_of};
-use hsr_plan_meaning::Meaning;
+use hsr_plan_schedule::Meaning;
 use hsr_plan_text::{Outline, Plan, PlanFault, Spot, What};
 use hsr_scenario::{ScenarioFault, TEXT_LIMIT, What as ScenarioWhat, read, read_names};
 use std::alloc::Global;
@@ -59,7 +60,7 @@ fn trouble_of(unmoved: Unmoved) -> Trouble
 /// What a plan means in a world with tables of `C` entries, once its copies move. `Plan` has the first fault of the plan, and `Endless` and
 /// `Differs` come only where its copies move by hops, as `moved_meaning_of` says.
 pub fn moved<const C: usize>(alloc: Global, plan: &Plan) -> Result<Meaning, Trouble>
-    requires { (1 ≤ C) × (C ≤ 65535) }
+    requires { IsTableSize C }
     ensures means { IfOk result (MeansMoved C plan.now) }
     ensures unmoved { IfErr result (IsUnmoved C plan.now) }
 {
@@ -166,7 +167,7 @@ fn checked(alloc: Global, plan: &Plan, meant: &Meaning) -> Result<Vec<u8>, Troub
 /// are the plan's title, and a line that counts nodes, links and sends, and says how many sends lie in 800 milliseconds at most. Before it is answered it is read back and compared with what the plan means: a text that differs is `Differs`. One of over
 /// 16 MiB is `TooLong`, and isn't formed. All other troubles are those of `moved`.
 pub fn scenario_of_meaning<const C: usize>(alloc: Global, plan: &Plan) -> Result<Vec<u8>, Trouble>
-    requires { (1 ≤ C) × (C ≤ 65535) }
+    requires { IsTableSize C }
     ensures says { IfOk result (λ text. Says C plan.now text.items) }
     ensures trouble { IfErr result (IsTroubleOf C plan.now) }
 {
@@ -179,7 +180,7 @@ pub fn scenario_of_meaning<const C: usize>(alloc: Global, plan: &Plan) -> Result
 /// The text of the scenario that a text means as a plan, in a world with tables of `C` entries. `Plan` has the first fault of the text or
 /// of the plan that it is.
 pub fn scenario_of_plan<const C: usize>(alloc: Global, text: &str) -> Result<Vec<u8>, Trouble>
-    requires { (1 ≤ C) × (C ≤ 65535) }
+    requires { IsTableSize C }
     ensures says { IfOk result (λ scenario. SaysIf C (plan_of text.now) scenario.items) }
     ensures trouble { IfErr result (IsTroubleIn C (plan_of text.now)) }
 {

@@ -2,9 +2,9 @@
 ghost use Rattle.std.specs.Prelude.{◌≡◌, ◌≢◌, ◌++◌, IfErr, IfOk, IfSome, IsOk, Ok, OnOk, codes, true};
 ghost use Rattle.std.specs.Fmt.{decimal};
 ghost use Rattle.std.specs.Io.KnownBytes.{Appends};
-ghost use Rattle.hsr_closing.specs.Disagree.{disagree_code};
-ghost use Rattle.hsr_step.specs.declared.step.DrainFault.TheVariants.{World as InWorld};
-ghost use Rattle.hsr_step.specs.declared.step.WorldFault.TheVariants.{NoMemory as NoRoom};
+ghost use Rattle.hsr_finished_run.specs.Disagree.{disagree_code};
+ghost use Rattle.hsr_world_steps.specs.declared.step.DrainFault.TheVariants.{World as InWorld};
+ghost use Rattle.hsr_world_steps.specs.declared.step.WorldFault.TheVariants.{NoMemory as NoRoom};
 ghost use Rattle.hsr_scenario.specs.Meaning.{meaning, scenario_view};
 ghost use Rattle.hsr_plan_text.specs.Words.{is_title};
 ghost use Rattle.hsr_plan_scenario.specs.Ends.{Checks, TellsOpen, TellsWhyOpen};
@@ -13,13 +13,13 @@ ghost use Rattle.hsr_plan_scenario.specs.Says.{IsPlayed, IsScenario};
 ghost use Rattle.hsr_plan_scenario.specs.declared.planning.Ending.TheVariants.{Refused};
 
 use crate::planning::{Ending, Line, complain, fail, reason, words};
-use hsr_closing::{CheckFault, Disagree};
+use hsr_finished_run::{CheckFault, Disagree};
 use hsr_frame::NoMemory;
-use hsr_playing::{Unfinished, finished};
+use hsr_ring::{Unfinished, finished};
 use hsr_scenario::{Scenario, TEXT_LIMIT, What, read};
-use hsr_scenario_fault::{told, told_step, words_of_check, words_of_step};
-use hsr_step::{DrainFault, WorldFault};
+use hsr_scenario_fault::{scenario_fault_line, told_step, words_of_check, words_of_step};
 use hsr_text::{InputFault, put_decimal, read_text};
+use hsr_world_steps::{DrainFault, WorldFault};
 use std::alloc::Global;
 use std::io::{self, Read, Write};
 
@@ -88,7 +88,7 @@ fn judged(alloc: Global, octets: &[u8]) -> Result<(), Wrong>
             if matches!(fault.what, What::NoMemory) {
                 Err(Wrong::Told(Err(NoMemory)))
             } else {
-                Err(Wrong::Told(told(alloc, text, &fault)))
+                Err(Wrong::Told(scenario_fault_line(alloc, text, &fault)))
             }
         }
     }

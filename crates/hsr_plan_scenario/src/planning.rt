@@ -1,6 +1,7 @@
 //! The whole way from a plan's text to its scenario's, over a reader and two writers.
-ghost use Rattle.std.specs.Prelude.{◌≡◌, ◌≢◌, ◌≤◌, ◌&&◌, ◌==◌, ◌++◌, IfErr, IfOk, IfSome, IsOk, OnOk, codes, nat_le, not, true};
+ghost use Rattle.std.specs.Prelude.{◌≡◌, ◌≢◌, ◌&&◌, ◌==◌, ◌++◌, IfErr, IfOk, IfSome, IsOk, OnOk, codes, nat_le, not, true};
 ghost use Rattle.std.specs.Io.KnownBytes.{Appends};
+ghost use Rattle.hsr_duptable.specs.Table.{IsTableSize};
 ghost use Rattle.hsr_plan_text.specs.Words.{is_title};
 ghost use Rattle.hsr_plan_text.specs.declared.fault.What.TheVariants.{NoMemory as NoRoom};
 ghost use Rattle.hsr_plan_scenario.specs.Ends.{Ends, IsDelivered, TellsFault, TellsInput, TellsWhy, code_of};
@@ -11,7 +12,7 @@ ghost use Rattle.hsr_plan_scenario.specs.declared.planning.Ending.TheVariants.{F
 use crate::checking::{Trouble, scenario_of_plan};
 use crate::input::input_line;
 use hsr_frame::NoMemory;
-use hsr_plan_fault::told;
+use hsr_plan_fault::plan_fault_line;
 use hsr_plan_text::{PlanFault, TEXT_LIMIT, What};
 use hsr_text::{InputFault, put_decimal, read_text};
 use std::alloc::Global;
@@ -81,7 +82,7 @@ fn line_of_fault(alloc: Global, text: &str, fault: &PlanFault) -> Line
     if matches!(fault.what, What::NoMemory) {
         return Err(NoMemory);
     }
-    told(alloc, text, fault)
+    plan_fault_line(alloc, text, fault)
 }
 
 /// The line of a trouble; there is none for refused room.
@@ -101,7 +102,7 @@ pub fn line_of(alloc: Global, text: &str, trouble: &Trouble) -> Line
 
 /// The scenario that octets mean as a plan, or the line of what is wrong.
 fn scenario_of<const C: usize>(alloc: Global, octets: &[u8]) -> Result<Vec<u8>, Line>
-    requires { (1 ≤ C) × (C ≤ 65535) }
+    requires { IsTableSize C }
     ensures says { IfOk result (λ text. SaysPlan C octets.now text.items) }
     ensures unplanned { IfErr result (λ line. IsOk line → IsUnplanned C octets.now) }
 {
@@ -134,7 +135,7 @@ pub(crate) fn reason(alloc: Global, line: Line) -> Line
     let line = line?;
     let octets = line.as_slice();
     let mut why = Vec::new(alloc);
-    // `tell` puts these words in front itself, so that no line lacks them.
+    // `write_fault` puts these words in front itself, so that no line lacks them.
     for octet in octets.strip_prefix(b"fault: ").unwrap_or(octets).iter() {
         why.push(shown(*octet))?;
     }
@@ -142,7 +143,7 @@ pub(crate) fn reason(alloc: Global, line: Line) -> Line
 }
 
 /// Writes a fault's line.
-fn tell<E: Write>(errors: &mut E, why: &[u8]) -> io::Result<()>
+fn write_fault<E: Write>(errors: &mut E, why: &[u8]) -> io::Result<()>
     ensures { OnOk result (Appends (E.contents errors.old) (E.contents errors.new)
         (codes "fault: " ++ why.now ++ codes "\n")) }
 {
@@ -158,7 +159,7 @@ fn refuse<E: Write>(errors: &mut E, why: &[u8]) -> io::Result<Ending>
     ensures is { IfOk result (λ ending. ending ≡ Refused) }
     ensures told { OnOk result (TellsFault (E.contents errors.old) (E.contents errors.new)) }
 {
-    tell(errors, why)?;
+    write_fault(errors, why)?;
     Ok(Ending::Refused)
 }
 
@@ -201,7 +202,7 @@ fn answer<W: Write, E: Write, const C: usize>(
     writer: &mut W,
     errors: &mut E,
 ) -> io::Result<Ending>
-    requires { (1 ≤ C) × (C ≤ 65535) }
+    requires { IsTableSize C }
     ensures { IfOk result (Ends C octets.now (W.contents writer.old) (W.contents writer.new)
         (E.contents errors.old) (E.contents errors.new)) }
 {
@@ -223,7 +224,7 @@ pub fn plan_run<R: Read, W: Write, E: Write, const C: usize>(
     writer: &mut W,
     errors: &mut E,
 ) -> io::Result<Ending>
-    requires { (1 ≤ C) × (C ≤ 65535) }
+    requires { IsTableSize C }
     ensures { IfOk result (λ ending. IfSome (R.remaining reader.old) (λ octets.
         Ends C octets (W.contents writer.old) (W.contents writer.new) (E.contents errors.old) (E.contents errors.new) ending)) }
 {

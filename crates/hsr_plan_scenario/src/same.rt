@@ -4,8 +4,8 @@ ghost use Rattle.hsr_scenario.specs.Meaning.{scenario_view};
 ghost use Rattle.hsr_scenario.specs.Names.{names_view};
 ghost use Rattle.hsr_plan_scenario.specs.Says.{names_meant_by, scenario_meant};
 
-use hsr_plan_meaning::Meaning;
 use hsr_plan_network::Node;
+use hsr_plan_schedule::Meaning;
 use hsr_scenario::{Names, Order, Scenario};
 use hsr_topology::is_same_topology;
 

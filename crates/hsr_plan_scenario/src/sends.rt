@@ -5,7 +5,7 @@ ghost use Rattle.hsr_plan_scenario.specs.Sends.{is_sending, moment_behind, send_
 
 use hsr_frame::NoMemory;
 use hsr_scenario::Order;
-use hsr_step::Step;
+use hsr_world_steps::Step;
 use std::alloc::Global;
 
 /// Whether an order sends a frame, or a supervision frame.

@@ -14,14 +14,14 @@ use crate::sends::send_moments;
 use hsr_frame::{About, Mac, Mode, NoMemory};
 use hsr_link::Dir;
 use hsr_node::Place;
-use hsr_plan_meaning::Meaning;
 use hsr_plan_network::Node;
+use hsr_plan_schedule::Meaning;
 use hsr_plan_text::{Moves, Outline, Word};
 use hsr_scenario::Order;
-use hsr_step::Step;
+use hsr_table_demand::most_of;
 use hsr_text::{put, put_hex, put_number, put_octets};
 use hsr_topology::End;
-use hsr_windows::most_of;
+use hsr_world_steps::Step;
 use std::alloc::Global;
 use std::io::Write;
 
@@ -325,13 +325,14 @@ fn put_from(text: &mut Vec<u8>, from: u8) -> Result<(), NoMemory>
 
 /// Puts to whom what is sent last.
 #[tactic(auto, unfolding(crate::specs::Spelled::frame_text))]
-fn put_frame(text: &mut Vec<u8>, dst: Mac, kind: u16, payload: &[u8]) -> Result<(), NoMemory>
-    ensures { OnOk result (text.new.items ≡ text.old.items ++ frame_text dst kind payload.now) }
+fn put_frame(text: &mut Vec<u8>, dst: Mac, ethertype: u16, payload: &[u8]) -> Result<(), NoMemory>
+    ensures { OnOk result (text.new.items
+        ≡ text.old.items ++ frame_text dst ethertype payload.now) }
 {
     put(text, ", to=")?;
     put_mac(text, dst)?;
     put(text, ", type=0x")?;
-    put_pair(text, kind)?;
+    put_pair(text, ethertype)?;
     put_octets_at(text, "payload", payload)
 }
 
@@ -382,12 +383,12 @@ fn put_step(text: &mut Vec<u8>, nodes: &[Node], step: &Step) -> Result<(), NoMem
             from,
             dst,
             vlan,
-            kind,
+            kind: ethertype,
             payload,
         } => {
             put_at_node(text, "send", nodes, *node)?;
             put_from(text, *from)?;
-            put_frame(text, *dst, *kind, payload.as_slice())?;
+            put_frame(text, *dst, *ethertype, payload.as_slice())?;
             put_vlan(text, *vlan)
         }
         Step::Supervise { node, about } => {

@@ -1,9 +1,9 @@
 -- What is counted of a finished run.
 use Rattle.std.specs.Prelude.{ℕ, ◌≡◌, not, Bool, length, count_by}
 use Rattle.hsr_deliveries.specs.Delivered.{Delivery, deliveries, is_complete, is_none}
-use Rattle.hsr_law.specs.Run.{Run}
-use Rattle.hsr_needed.specs.Needs.{IsJustEnough, IsMost}
-use Rattle.hsr_needed.specs.declared.most.Needed.{Needed}
+use Rattle.hsr_run_laws.specs.Run.{Run}
+use Rattle.hsr_table_demand.specs.Needs.{IsJustEnough, IsMost}
+use Rattle.hsr_table_demand.specs.declared.most.Needed.{Needed}
 use Rattle.hsr_options.specs.declared.chosen.Scope.TheVariants.{Network}
 use Rattle.hsr_report.specs.Found.{IsFound}
 use Rattle.hsr_plan_sweep.specs.declared.counting.Count.{Count}

@@ -6,19 +6,19 @@
 --     IsUnsweepable  nothing is counted of what octets say as a plan
 use Rattle.std.specs.Prelude.{ℕ, ◌≡◌, ◌⊎◌, ◌<◌, nat_lt, Bool, true, false, ⊤, List, length, Option, Some, None, Result, Ok, Err}
 use Rattle.std.specs.Str.{IsUtf8}
-use Rattle.hsr_step.specs.declared.step.DrainFault.TheVariants.{World}
-use Rattle.hsr_step.specs.declared.step.WorldFault.TheVariants as world
+use Rattle.hsr_world_steps.specs.declared.step.DrainFault.TheVariants.{World}
+use Rattle.hsr_world_steps.specs.declared.step.WorldFault.TheVariants as world
 use Rattle.hsr_topology.specs.declared.end.End.{End}
-use Rattle.hsr_closing.specs.declared.disagree.CheckFault.TheVariants as check
-use Rattle.hsr_playing.specs.Finishing.{IsUnfinishedBy}
-use Rattle.hsr_playing.specs.declared.finishing.Unfinished.{Unfinished}
-use Rattle.hsr_playing.specs.declared.finishing.Unfinished.TheVariants as unfinished
+use Rattle.hsr_finished_run.specs.declared.disagree.CheckFault.TheVariants as check
+use Rattle.hsr_ring.specs.Finishing.{IsUnfinishedBy}
+use Rattle.hsr_ring.specs.declared.finishing.Unfinished.{Unfinished}
+use Rattle.hsr_ring.specs.declared.finishing.Unfinished.TheVariants as unfinished
 use Rattle.hsr_plan_text.specs.Meaning.{plan_of}
 use Rattle.hsr_plan_text.specs.Plan.{Plan}
 use Rattle.hsr_plan_text.specs.declared.fault.PlanFault.{PlanFault}
 use Rattle.hsr_plan_network.specs.Nodes.{Node}
 use Rattle.hsr_plan_network.specs.Wiring.{Wired, wired}
-use Rattle.hsr_plan_meaning.specs.Meaning.{Meaning}
+use Rattle.hsr_plan_schedule.specs.Meaning.{Meaning}
 use Rattle.hsr_plan_hops.specs.Moving.{MeansMoved}
 use Rattle.hsr_plan_hops.specs.Refusing.{IsImmovable}
 use Rattle.hsr_plan_scenario.specs.Refusals.{MeansNothing}

@@ -1,16 +1,16 @@
 -- A plan in which a link or a node is off from a moment on.
 use Rattle.std.specs.Prelude.{◌≡◌, ℕ, ◌<◌, List, [], ◌∷◌, ◌++◌, length, slice_get, slice_index_or, Option, Some, None, Ok}
 use Rattle.hsr_node.specs.Words.{letter}
-use Rattle.hsr_closing.specs.Finished.{Finished}
+use Rattle.hsr_finished_run.specs.Finished.{Finished}
 use Rattle.hsr_topology.specs.declared.end.End.{End}
-use Rattle.hsr_playing.specs.Finishing.{IsFinishedBy}
+use Rattle.hsr_ring.specs.Finishing.{IsFinishedBy}
 use Rattle.hsr_plan_text.specs.Plan.{Plan}
 use Rattle.hsr_plan_text.specs.declared.plan.Deed.{Deed}
 use Rattle.hsr_plan_text.specs.declared.plan.Deed.TheVariants.{Cut, Off}
 use Rattle.hsr_plan_text.specs.declared.plan.LinkEnd.{LinkEnd}
 use Rattle.hsr_plan_network.specs.Nodes.{Node}
 use Rattle.hsr_plan_network.specs.Wiring.{Wired, wired}
-use Rattle.hsr_plan_meaning.specs.Meaning.{Meaning}
+use Rattle.hsr_plan_schedule.specs.Meaning.{Meaning}
 use Rattle.hsr_plan_hops.specs.Moving.{MeansMoved}
 use Rattle.hsr_plan_sweep.specs.Counting.{IsCounted}
 use Rattle.hsr_plan_sweep.specs.declared.counting.Count.{Count}

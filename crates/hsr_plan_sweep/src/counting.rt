@@ -3,16 +3,16 @@ ghost use Rattle.std.specs.Prelude.{◌≡◌, count_by, not, IfOk};
 ghost use Rattle.hsr_deliveries.specs.Delivered.{is_none};
 ghost use Rattle.hsr_plan_sweep.specs.Counting.{IsCounted, is_missed, is_twice};
 
-use hsr_closing::Closed;
 use hsr_deliveries::{Delivery, deliveries};
+use hsr_finished_run::Closed;
 use hsr_frame::NoMemory;
-use hsr_needed::needed;
 use hsr_options::Scope;
 use hsr_report::{Finding, found};
+use hsr_table_demand::needed;
 use std::alloc::Global;
 
-/// How many sends a run had; how many of these are complete, were missed by a node that they were due at, and were taken up twice;
-/// how many entries the duplicate tables needed; and what the audit of networks found.
+/// How many sends a run had; how many of these are complete, were missed by a node that they were due at, and were
+/// taken up twice; how many entries the duplicate tables needed; and what the audit of networks found.
 #[derive(Clone, Copy, Debug, PartialEq, Eq)]
 pub struct Count {
     pub sends: usize,

@@ -4,15 +4,16 @@ ghost use Rattle.hsr_plan_sweep.specs.Lines.{count_text, counted, end_text, ends
 
 use crate::counting::Count;
 use crate::sweep::Sweep;
+use hsr_frame::NoMemory;
 use hsr_node_text::put_count;
 use hsr_plan_network::Node;
 use hsr_report::put_finding;
 use hsr_topology::End;
-use std::alloc::{AllocError, Global};
+use std::alloc::Global;
 
 /// Puts how many sends a run had, and what became of them.
 #[tactic(auto, unfolding(crate::specs::Lines::sends_text))]
-fn put_sends(text: &mut Vec<u8>, count: &Count) -> Result<(), AllocError>
+fn put_sends(text: &mut Vec<u8>, count: &Count) -> Result<(), NoMemory>
     ensures { OnOk result (text.new.items ≡ text.old.items ++ sends_text count.now) }
 {
     put_count(text, b" sends ", count.sends as u64)?;
@@ -22,7 +23,7 @@ fn put_sends(text: &mut Vec<u8>, count: &Count) -> Result<(), AllocError>
 }
 
 /// Puts a count and the end of its line.
-fn put_counted(text: &mut Vec<u8>, count: &Count) -> Result<(), AllocError>
+fn put_counted(text: &mut Vec<u8>, count: &Count) -> Result<(), NoMemory>
     ensures { OnOk result (text.new.items ≡ text.old.items ++ count_text count.now) }
 {
     put_sends(text, count)?;
@@ -32,12 +33,16 @@ fn put_counted(text: &mut Vec<u8>, count: &Count) -> Result<(), AllocError>
 }
 
 /// Puts a space and the name of the node of that number.
-fn put_name(text: &mut Vec<u8>, nodes: &[Node], number: usize) -> Result<(), AllocError>
-    ensures { OnOk result (text.new.items ≡ text.old.items ++ name_text (slice_get nodes.now number)) }
+fn put_name(text: &mut Vec<u8>, nodes: &[Node], number: usize) -> Result<(), NoMemory>
+    ensures { OnOk result (text.new.items ≡ text.old.items
+        ++ name_text (slice_get nodes.now number)) }
 {
     text.extend_from_slice(b" ")?;
     match nodes.get(number) {
-        Some(node) => text.extend_from_slice(node.name.as_bytes()),
+        Some(node) => {
+            text.extend_from_slice(node.name.as_bytes())?;
+            Ok(())
+        }
         None => Ok(()),
     }
 }
@@ -54,7 +59,7 @@ fn letter_at(nodes: &[Node], end: End) -> u8
 
 /// Puts a space and an end of a link.
 #[tactic(auto, unfolding(crate::specs::Lines::end_text))]
-fn put_end(text: &mut Vec<u8>, nodes: &[Node], end: End) -> Result<(), AllocError>
+fn put_end(text: &mut Vec<u8>, nodes: &[Node], end: End) -> Result<(), NoMemory>
     ensures { OnOk result (text.new.items ≡ text.old.items ++ end_text nodes.now end) }
 {
     put_name(text, nodes, end.node)?;
@@ -64,7 +69,7 @@ fn put_end(text: &mut Vec<u8>, nodes: &[Node], end: End) -> Result<(), AllocErro
 }
 
 /// Puts the ends of a link.
-fn put_ends(text: &mut Vec<u8>, nodes: &[Node], link: &[End; 2]) -> Result<(), AllocError>
+fn put_ends(text: &mut Vec<u8>, nodes: &[Node], link: &[End; 2]) -> Result<(), NoMemory>
     ensures { OnOk result (text.new.items ≡ text.old.items ++ ends_text nodes.now link.now) }
 {
     let [one, other] = *link;
@@ -79,7 +84,7 @@ fn put_link_head(
     nodes: &[Node],
     number: usize,
     link: &[End; 2],
-) -> Result<(), AllocError>
+) -> Result<(), NoMemory>
     ensures { OnOk result (text.new.items ≡ text.old.items ++ link_head nodes.now number link.now) }
 {
     put_count(text, b"link ", number as u64)?;
@@ -87,8 +92,9 @@ fn put_link_head(
 }
 
 /// Puts the rest of a line, as the run of that number is counted.
-fn put_count_at(text: &mut Vec<u8>, counts: &[Count], number: usize) -> Result<(), AllocError>
-    ensures { OnOk result (text.new.items ≡ text.old.items ++ counted (slice_get counts.now number)) }
+fn put_count_at(text: &mut Vec<u8>, counts: &[Count], number: usize) -> Result<(), NoMemory>
+    ensures { OnOk result (text.new.items ≡ text.old.items
+        ++ counted (slice_get counts.now number)) }
 {
     match counts.get(number) {
         Some(count) => put_counted(text, count),
@@ -103,8 +109,9 @@ fn put_link(
     number: usize,
     link: &[End; 2],
     counts: &[Count],
-) -> Result<(), AllocError>
-    ensures { OnOk result (text.new.items ≡ text.old.items ++ (link_head nodes.now number link.now ++ counted (slice_get counts.now number))) }
+) -> Result<(), NoMemory>
+    ensures { OnOk result (text.new.items ≡ text.old.items ++ (link_head nodes.now number link.now
+        ++ counted (slice_get counts.now number))) }
 {
     put_link_head(text, nodes, number, link)?;
     put_count_at(text, counts, number)
@@ -117,8 +124,9 @@ fn put_links(
     nodes: &[Node],
     links: &[[End; 2]],
     counts: &[Count],
-) -> Result<(), AllocError>
-    ensures { OnOk result (text.new.items ≡ text.old.items ++ link_lines nodes.now counts.now 0 links.now) }
+) -> Result<(), NoMemory>
+    ensures { OnOk result (text.new.items ≡ text.old.items
+        ++ link_lines nodes.now counts.now 0 links.now) }
 {
     for (number, link) in links.iter().enumerate() {
         put_link(text, nodes, number, link, counts)?;
@@ -128,7 +136,7 @@ fn put_links(
 
 /// Puts what names a node that was off.
 #[tactic(auto, unfolding(crate::specs::Lines::node_head))]
-fn put_node_head(text: &mut Vec<u8>, nodes: &[Node], number: usize) -> Result<(), AllocError>
+fn put_node_head(text: &mut Vec<u8>, nodes: &[Node], number: usize) -> Result<(), NoMemory>
     ensures { OnOk result (text.new.items ≡ text.old.items ++ node_head nodes.now number) }
 {
     put_count(text, b"node ", number as u64)?;
@@ -141,8 +149,9 @@ fn put_node(
     nodes: &[Node],
     number: usize,
     count: &Count,
-) -> Result<(), AllocError>
-    ensures { OnOk result (text.new.items ≡ text.old.items ++ (node_head nodes.now number ++ count_text count.now)) }
+) -> Result<(), NoMemory>
+    ensures { OnOk result (text.new.items ≡ text.old.items ++ (node_head nodes.now number
+        ++ count_text count.now)) }
 {
     put_node_head(text, nodes, number)?;
     put_counted(text, count)
@@ -150,7 +159,7 @@ fn put_node(
 
 /// Puts the lines of all nodes.
 #[tactic(auto, using(crate::proofs::Listing::nodes_step))]
-fn put_nodes(text: &mut Vec<u8>, nodes: &[Node], counts: &[Count]) -> Result<(), AllocError>
+fn put_nodes(text: &mut Vec<u8>, nodes: &[Node], counts: &[Count]) -> Result<(), NoMemory>
     ensures { OnOk result (text.new.items ≡ text.old.items ++ node_lines nodes.now 0 counts.now) }
 {
     for (number, count) in counts.iter().enumerate() {
@@ -159,7 +168,7 @@ fn put_nodes(text: &mut Vec<u8>, nodes: &[Node], counts: &[Count]) -> Result<(),
     Ok(())
 }
 
-/// The most entries that one of these runs needed, and so many at least.
+/// The most entries that one of these runs needed, or `least`, if that is more.
 #[tactic(auto, using(crate::proofs::Listing::most_step))]
 fn most_needed(counts: &[Count], least: usize) -> usize
     ensures { result ≡ most_needed counts.now least }
@@ -173,7 +182,7 @@ fn most_needed(counts: &[Count], least: usize) -> usize
 
 /// The lines of a sweep: of each link, of each node, of the undisturbed run, and how many entries are enough for all.
 #[tactic(auto, unfolding(crate::specs::Lines::sweep_text))]
-pub(crate) fn lines(alloc: Global, sweep: &Sweep) -> Result<Vec<u8>, AllocError>
+pub(crate) fn lines(alloc: Global, sweep: &Sweep) -> Result<Vec<u8>, NoMemory>
     ensures { IfOk result (λ text. text.items ≡ sweep_text sweep.now) }
 {
     let nodes = sweep.wired.nodes.as_slice();
@@ -184,6 +193,7 @@ pub(crate) fn lines(alloc: Global, sweep: &Sweep) -> Result<Vec<u8>, AllocError>
     put_nodes(&mut text, nodes, of_nodes)?;
     text.extend_from_slice(b"undisturbed")?;
     put_counted(&mut text, &sweep.undisturbed)?;
+    // The undisturbed run counts too: the last line is enough for all.
     let most = most_needed(links, sweep.undisturbed.needed);
     put_count(&mut text, b"needed ", most_needed(of_nodes, most) as u64)?;
     text.extend_from_slice(b"\n")?;

@@ -1,8 +1,9 @@
 //! How far a sweep is, as a terminal shows it.
 ghost use Rattle.std.specs.Prelude.{◌≡◌, false};
 
+use hsr_frame::NoMemory;
 use hsr_text::put_decimal;
-use std::alloc::{AllocError, Global};
+use std::alloc::Global;
 use std::io::Write;
 
 /// How many runs there are, and whether that is shown.
@@ -13,7 +14,7 @@ pub(crate) struct Progress {
 }
 
 /// A line that replaces the one before, with how many runs are done.
-fn line(alloc: Global, done: usize, runs: usize) -> Result<Vec<u8>, AllocError> {
+fn line(alloc: Global, done: usize, runs: usize) -> Result<Vec<u8>, NoMemory> {
     let mut line = Vec::new(alloc);
     line.extend_from_slice(b"\rsweep: run ")?;
     put_decimal(&mut line, done as u64)?;
@@ -31,6 +32,7 @@ impl Progress {
             return;
         }
         if let Ok(line) = line(alloc, done, self.runs) {
+            // A failed write changes nothing: what is swept is the same.
             let _written = errors.write_all(line.as_slice()).is_ok() && errors.flush().is_ok();
         }
     }
@@ -41,6 +43,7 @@ pub(crate) fn clear<E: Write>(is_shown: bool, errors: &mut E)
     ensures { is_shown ≡ false → E.contents errors.new ≡ E.contents errors.old }
 {
     if is_shown {
+        // The same: a failed write changes nothing.
         let _written = errors.write_all(b"\r\x1b[K").is_ok() && errors.flush().is_ok();
     }
 }

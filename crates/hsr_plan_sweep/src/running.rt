@@ -4,12 +4,12 @@ ghost use Rattle.hsr_plan_sweep.specs.Refusals.{HasNoRun, IsKnown, IsKnownRun, I
 ghost use Rattle.hsr_plan_sweep.specs.Sweep.{IsCountOf, IsCountOfMeaning, with_deed};
 
 use crate::counting::{Count, counted};
-use hsr_closing::CheckFault;
-use hsr_plan_meaning::Meaning;
+use hsr_finished_run::CheckFault;
 use hsr_plan_scenario::{Trouble as PlanTrouble, moved};
+use hsr_plan_schedule::Meaning;
 use hsr_plan_text::{Deed, Event, Plan};
-use hsr_playing::{Unfinished, finished};
-use hsr_step::{DrainFault, WorldFault};
+use hsr_ring::{Unfinished, finished};
+use hsr_world_steps::{DrainFault, WorldFault};
 use std::alloc::Global;
 
 /// How many entries the tables have.
@@ -25,7 +25,7 @@ pub enum Trouble {
     Plan(PlanTrouble),
     /// What it means leads to no finished run.
     Run(Unfinished),
-    /// Room was refused.
+    /// Allocation failed.
     Memory,
 }
 
@@ -46,10 +46,11 @@ fn count_of_meaning(alloc: Global, meaning: &Meaning) -> Result<Count, Trouble>
     ensures count { IfOk result (λ count. IsCountOfMeaning meaning.now count) }
     ensures none { IfErr result (λ trouble. IsKnown trouble → HasNoRun meaning.now) }
 {
-    // no plan that is read has another capacity
+    // Not met: no plan that is read has another capacity.
     if meaning.capacity < 1 || meaning.capacity > CAPACITY_LIMIT {
         return Err(Trouble::Memory);
     }
+    // A copy, since the run takes the topology.
     let Ok(topology) = meaning.topology.copy() else {
         return Err(Trouble::Memory);
     };
@@ -82,13 +83,15 @@ pub(crate) fn count_with(
     deed: Deed,
 ) -> Result<Count, Trouble>
     ensures count { IfOk result (λ count. IsCountOf (with_deed plan.old at deed) count) }
-    ensures none { IfErr result (λ trouble. IsKnown trouble → IsUncounted (with_deed plan.old at deed)) }
+    ensures none { IfErr result (λ trouble. IsKnown trouble
+        → IsUncounted (with_deed plan.old at deed)) }
     ensures same { OnOk result (plan.new ≡ plan.old) }
 {
     if plan.events.push(Event { at, deed }).is_err() {
         return Err(Trouble::Memory);
     }
     let count = count_of(alloc, plan);
+    // The event goes again, so that a variant needs no copy of the plan.
     let _event = plan.events.pop();
     count
 }

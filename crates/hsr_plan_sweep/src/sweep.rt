@@ -14,8 +14,8 @@ use std::alloc::Global;
 use std::io::Write;
 use std::marker::Model;
 
-/// The nodes and the topology of a plan, and what is counted of it: where each link is off, where each node is off, by their numbers,
-/// and undisturbed.
+/// The nodes and the topology of a plan, and what is counted of it: where each link is off, where each node is off, by
+/// their numbers, and undisturbed.
 #[derive(Debug, Drop)]
 pub struct Sweep {
     pub wired: Wired,
@@ -40,8 +40,10 @@ fn without_link(
     nodes: &[Node],
     link: &[End; 2],
 ) -> Result<Count, Trouble>
-    ensures count { IfOk result (λ count. IsCountOf (with_deed plan.old at (cut_of nodes.now link.now)) count) }
-    ensures none { IfErr result (λ trouble. IsKnown trouble → IsUncounted (with_deed plan.old at (cut_of nodes.now link.now))) }
+    ensures count { IfOk result (λ count.
+        IsCountOf (with_deed plan.old at (cut_of nodes.now link.now)) count) }
+    ensures none { IfErr result (λ trouble. IsKnown trouble
+        → IsUncounted (with_deed plan.old at (cut_of nodes.now link.now))) }
     ensures same { OnOk result (plan.new ≡ plan.old) }
 {
     match cut_of(alloc, nodes, link) {
@@ -61,8 +63,10 @@ fn without_links<E: Write>(
     progress: Progress,
     errors: &mut E,
 ) -> Result<Vec<Count>, Trouble>
-    ensures each { IfOk result (λ v. AreCountsOf (without_link plan.old at nodes.now links.now) v.items) }
-    ensures none { IfErr result (λ trouble. IsKnown trouble → IsUncountedWithoutLink plan.old at nodes.now links.now) }
+    ensures each { IfOk result (λ v.
+        AreCountsOf (without_link plan.old at nodes.now links.now) v.items) }
+    ensures none { IfErr result (λ trouble. IsKnown trouble
+        → IsUncountedWithoutLink plan.old at nodes.now links.now) }
     ensures all { IfOk result (λ v. length v.items ≡ length links.now) }
     ensures same { OnOk result (plan.new ≡ plan.old) }
     ensures hidden { progress.is_shown ≡ false → E.contents errors.new ≡ E.contents errors.old }
@@ -80,8 +84,10 @@ fn without_links<E: Write>(
 
 /// The count where one node is off.
 fn without_node(alloc: Global, plan: &mut Plan, at: u64, node: &Node) -> Result<Count, Trouble>
-    ensures count { IfOk result (λ count. IsCountOf (with_deed plan.old at (off_of node.now)) count) }
-    ensures none { IfErr result (λ trouble. IsKnown trouble → IsUncounted (with_deed plan.old at (off_of node.now))) }
+    ensures count { IfOk result (λ count.
+        IsCountOf (with_deed plan.old at (off_of node.now)) count) }
+    ensures none { IfErr result (λ trouble. IsKnown trouble
+        → IsUncounted (with_deed plan.old at (off_of node.now))) }
     ensures same { OnOk result (plan.new ≡ plan.old) }
 {
     match off_of(alloc, node) {
@@ -100,8 +106,10 @@ fn without_nodes<E: Write>(
     progress: Progress,
     errors: &mut E,
 ) -> Result<Vec<Count>, Trouble>
-    ensures each { IfOk result (λ v. (d : _) → AreCountsOf (without_node plan.old at nodes.now d) v.items) }
-    ensures none { IfErr result (λ trouble. IsKnown trouble → IsUncountedWithoutNode plan.old at nodes.now) }
+    ensures each { IfOk result (λ v. (d : _)
+        → AreCountsOf (without_node plan.old at nodes.now d) v.items) }
+    ensures none { IfErr result (λ trouble. IsKnown trouble
+        → IsUncountedWithoutNode plan.old at nodes.now) }
     ensures all { IfOk result (λ v. length v.items ≡ length nodes.now) }
     ensures same { OnOk result (plan.new ≡ plan.old) }
     ensures hidden { progress.is_shown ≡ false → E.contents errors.new ≡ E.contents errors.old }
@@ -118,10 +126,11 @@ fn without_nodes<E: Write>(
     Ok(counts)
 }
 
-/// What is counted of a plan, where each link of its topology is cut, and each of its nodes goes off, one by one, by one more event at
-/// the end of its own. The plan's own events may still mend such a link, or set such a node on again. The plan stays as it is. Where
-/// that is asked for, `errors` is told how far it is, in one line that is written again and again. `Plan` and `Run` come only where
-/// nothing is counted of the plan itself, or of one of these: it means nothing, or what it means leads to no finished run.
+/// What is counted of a plan, where each link of its topology is cut, and each of its nodes goes off, one by one, by
+/// one more event at the end of its own. The plan's own events may still mend such a link, or set such a node on again.
+/// The plan stays as it is. Where that is asked for, `errors` is told how far it is, in one line that is written again
+/// and again. `Plan` and `Run` come only where nothing is counted of the plan itself, or of one of these: it means
+/// nothing, or what it means leads to no finished run. `Memory` if allocation fails.
 pub fn sweep_plan<E: Write>(
     alloc: Global,
     plan: &mut Plan,
@@ -133,6 +142,7 @@ pub fn sweep_plan<E: Write>(
     ensures none { IfErr result (λ trouble. IsKnown trouble → IsUnswept plan.old at) }
     ensures hidden { is_shown ≡ false → E.contents errors.new ≡ E.contents errors.old }
 {
+    // Counted first: a plan that means nothing is refused here, and behind that `wire` fails for memory alone.
     let undisturbed = count_of(alloc, plan)?;
     let Ok(wired) = wire(alloc, &plan.outline.network) else {
         return Err(Trouble::Memory);

@@ -16,7 +16,7 @@ use hsr_plan_text::{Key, Plan, PlanFault, Refusal, Spot, TEXT_LIMIT, What, read}
 use std::alloc::Global;
 use std::io::{self, Read, Write};
 
-/// The line of what is wrong; there is none for refused room.
+/// The line of what is wrong; there is none if allocation failed.
 fn line_of_trouble(alloc: Global, text: &str, trouble: &Trouble) -> Line
     ensures { IsOk result → IsKnown trouble.now }
 {
@@ -74,6 +74,7 @@ fn swept_plan<E: Write>(
 {
     let mut plan = plan;
     let swept = sweep_plan(alloc, &mut plan, at, is_shown, errors);
+    // Before a fault's line is written there.
     clear(is_shown, errors);
     match swept {
         Ok(sweep) => lines_of(alloc, &sweep),
@@ -132,7 +133,8 @@ fn answer<W: Write, E: Write>(
     writer: &mut W,
     errors: &mut E,
 ) -> io::Result<Ending>
-    ensures { IfOk result (SweepEnds octets.now at is_shown (W.contents writer.old) (W.contents writer.new) (E.contents errors.old) (E.contents errors.new)) }
+    ensures { IfOk result (SweepEnds octets.now at is_shown (W.contents writer.old)
+        (W.contents writer.new) (E.contents errors.old) (E.contents errors.new)) }
 {
     match swept(alloc, octets, at, is_shown, errors) {
         Ok(text) => Ok(deliver(writer, text.as_slice())),
@@ -140,10 +142,11 @@ fn answer<W: Write, E: Write>(
     }
 }
 
-/// Reads a plan, and writes a line for each link and each node that is off from a moment on, in microseconds, then of the undisturbed
-/// run, then how many table entries are enough for all: how many sends each run had, how many of these are complete, missed and taken
-/// up twice, how many entries its tables needed, and what the audit of networks found, in the words of a report. Where nothing can be
-/// counted of one of these, nothing is written but one line on `errors`, as by `plan_run`. Where that is asked for, `errors` is told how far it is.
+/// Reads a plan, and writes a line for each link and each node that is off from a moment on, in microseconds, then of
+/// the undisturbed run, then how many table entries are enough for all: how many sends each run had, how many of these
+/// are complete, missed and taken up twice, how many entries its tables needed, and what the audit of networks found,
+/// in the words of a report. Where nothing can be counted of one of these, nothing is written but one line on `errors`,
+/// as by `plan_run`. Where that is asked for, `errors` is told how far it is.
 pub fn sweep_run<R: Read, W: Write, E: Write>(
     alloc: Global,
     reader: &mut R,
@@ -153,7 +156,8 @@ pub fn sweep_run<R: Read, W: Write, E: Write>(
     is_shown: bool,
 ) -> io::Result<Ending>
     ensures { IfOk result (λ ending. IfSome (R.remaining reader.old) (λ octets.
-        SweepEnds octets at is_shown (W.contents writer.old) (W.contents writer.new) (E.contents errors.old) (E.contents errors.new) ending)) }
+        SweepEnds octets at is_shown (W.contents writer.old) (W.contents writer.new)
+        (E.contents errors.old) (E.contents errors.new) ending)) }
 {
     match read_text(alloc, reader, TEXT_LIMIT) {
         Ok(octets) => answer(alloc, octets.as_slice(), at, is_shown, writer, errors),

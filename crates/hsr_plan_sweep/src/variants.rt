@@ -19,6 +19,7 @@ fn named_end(alloc: Global, nodes: &[Node], end: End) -> Result<LinkEnd, NoMemor
             Ok(LinkEnd { name, letter })
         }
         None => {
+            // Not met: the ends of links have nodes.
             let name = Word::of(alloc, b"")?;
             Ok(LinkEnd { name, letter: None })
         }

@@ -1,6 +1,7 @@
 -- What the table of a stream says.
 use Rattle.std.specs.Prelude.{ℕ, zero, suc, ℤ, ◌+◌, ◌*◌, ◌^◌, ◌==◌, ◌&&◌, ◌||◌, nat_lt, nat_le, Bool, true, List, [], ◌∷◌, length, Option, Some, None, Result, Ok, Err, ok_or, unwrap_or, if◌then◌else◌}
 use Rattle.toml.specs.Data.{Data, Items, no_items, item, Members, as_integer, as_str}
+use Rattle.hsr_frame.specs.Layout.{ethertype_hsr, ethertype_vlan}
 use Rattle.hsr_toml.specs.Fallible.{◌>>=◌, each_item, guard}
 use Rattle.hsr_plan_text.specs.Network.{name, named}
 use Rattle.hsr_plan_text.specs.Plan.{Stream, Timing}
@@ -45,7 +46,7 @@ senders key d = one_or_few (as_str d) key d
 
 -- the types of supervision and of a VLAN tag are nobody's to send
 abbrev pub numbered : Key → ℕ → Result Kind What
-numbered key n = if (n == 0x892F) || (n == 0x8100) then Err (BadValue key) else Ok (Number n)
+numbered key n = if (n == ethertype_hsr) || (n == ethertype_vlan) then Err (BadValue key) else Ok (Number n)
 
 abbrev pub kind_or_number : Option (List ℕ) → Key → Data → Result Kind What
 kind_or_number None key d = between faults 0 65535 key d >>= numbered key

@@ -16,16 +16,13 @@ ghost use Rattle.hsr_plan_text.specs.declared.fault.What.TheVariants.{BadValue};
 use crate::fault::{Key, What};
 use crate::network::{name_in, names_of};
 use crate::plan::{Framing, Kind, Stream, Target, Timing};
-use crate::table::{gap, moment, only};
+use crate::table::{LAST, gap, moment, only};
 use crate::word::Word;
 use crate::words::kind_named;
-use hsr_frame::Mac;
+use hsr_frame::{ETHERTYPE_HSR, ETHERTYPE_VLAN, Mac};
 use hsr_toml::{between, is_name, items, needed, number_or, text, value};
 use std::alloc::Global;
 use toml::{Table, Value};
-
-/// The last moment, and the longest gap, in microseconds.
-const LAST: u64 = 1 << 40;
 
 /// The most names in a list of senders.
 const SENDER_LIMIT: usize = 4096;
@@ -112,7 +109,7 @@ fn numbered(key: Key, number: u16) -> Result<Kind, What>
     ensures { Gives (λ k. k) result (numbered key number) }
 {
     // These are the types of the HSR tag and of a VLAN tag, with which no send is accepted.
-    if number == 0x892F || number == 0x8100 {
+    if number == ETHERTYPE_HSR || number == ETHERTYPE_VLAN {
         return Err(What::BadValue(key));
     }
     Ok(Kind::Number(number))

@@ -12,8 +12,8 @@ use std::alloc::Global;
 use toml::{Table, Value};
 
 // 2^40 microseconds are almost 13 days; sums of such moments don't overflow.
-/// The last moment that a plan may name, in microseconds.
-const LAST: u64 = 1 << 40;
+/// The last moment that a plan may name, and the longest gap, in microseconds.
+pub(crate) const LAST: u64 = 1 << 40;
 
 /// Refuses a key that a table doesn't have.
 fn unknown(alloc: Global, word: &str) -> Result<(), What>

@@ -16,12 +16,12 @@ use Rattle.hsr_tag.specs.declared.seen.Seen.{Seen}
 use Rattle.hsr_tag.specs.declared.seen.Seen.TheVariants.{Plain, Tagged}
 use Rattle.hsr_duptable.specs.Log.{StandsFor}
 use Rattle.hsr_duptable.specs.Table.{remembers}
-use Rattle.hsr_role.specs.Arrival.{key_of}
-use Rattle.hsr_role.specs.Past.{log_remembers, note_of}
-use Rattle.hsr_role.specs.Tables.{copies_of, counted_with, judged as judged_notes, judged_as, passed as passed_notes, table_of}
-use Rattle.hsr_role.specs.declared.judged.Judged.{Judged as Verdict}
-use Rattle.hsr_role.proofs.Keeping.{AreWithin-aged, AreWithin-new, AreWithin-passed, last-earlier, passed-shut, remembers-logged, stands-aged, stands-new, stands-passed}
-use Rattle.hsr_role.proofs.Pasts.{answers-same, later-max}
+use Rattle.hsr_forwarding.specs.Arrival.{key_of}
+use Rattle.hsr_forwarding.specs.Past.{log_remembers, note_of}
+use Rattle.hsr_forwarding.specs.Tables.{copies_of, counted_with, judged as judged_notes, judged_as, passed as passed_notes, table_of}
+use Rattle.hsr_forwarding.specs.declared.judged.Judged.{Judged as Verdict}
+use Rattle.hsr_forwarding.proofs.Keeping.{AreWithin-aged, AreWithin-new, AreWithin-passed, last-earlier, passed-shut, remembers-logged, stands-aged, stands-new, stands-passed}
+use Rattle.hsr_forwarding.proofs.Pasts.{answers-same, later-max}
 use Rattle.hsr_quadbox.specs.Wanted.{egresses, wanted}
 use Rattle.hsr_quadbox.specs.Machine.{Machine, new_machine}
 use Rattle.hsr_quadbox.specs.Step.{after_arrival, age_step, arrive_or_spent, arrive_step, now_at, verdict_of}

@@ -9,9 +9,9 @@ use Rattle.hsr_frame.specs.declared.fault.Spent.{Spent}
 use Rattle.hsr_tag.specs.Seen.{classified}
 use Rattle.hsr_tag.specs.declared.seen.Seen.{Seen}
 use Rattle.hsr_tag.specs.declared.seen.Seen.TheVariants.{Plain, Tagged}
-use Rattle.hsr_role.specs.Tables.{Notes, among, copies_of, counted_with, judged, passed}
-use Rattle.hsr_role.specs.declared.judged.Judged.{Judged}
-use Rattle.hsr_role.proofs.Keeping.{copies-few as few}
+use Rattle.hsr_forwarding.specs.Tables.{Notes, among, copies_of, counted_with, judged, passed}
+use Rattle.hsr_forwarding.specs.declared.judged.Judged.{Judged}
+use Rattle.hsr_forwarding.proofs.Keeping.{copies-few as few}
 use Rattle.hsr_quadbox.specs.Wanted.{egresses, wanted}
 use Rattle.hsr_quadbox.specs.Machine.{Machine}
 use Rattle.hsr_quadbox.specs.Step.{arrive_step, now_at, verdict_of}

@@ -2,7 +2,7 @@
 use Rattle.std.specs.Prelude.{◌≡◌, ℕ, ◌≤◌}
 use Rattle.hsr_frame.specs.Counters.{AreWithin as CountersWithin, no_counts, step_limit}
 use Rattle.hsr_frame.specs.declared.counters.Counters.{Counters}
-use Rattle.hsr_role.specs.Tables.{AreWithin, Notes, no_notes}
+use Rattle.hsr_forwarding.specs.Tables.{AreWithin, Notes, no_notes}
 use Rattle.hsr_quadbox.specs.Wanted.{egresses}
 
 pub record Machine : Type 0 where

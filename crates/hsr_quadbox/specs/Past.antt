@@ -16,9 +16,9 @@ use Rattle.hsr_duptable.specs.Log.{StandsFor}
 use Rattle.hsr_duptable.specs.declared.note.Note.{Note}
 use Rattle.hsr_quadbox.specs.Wanted.{wanted}
 use Rattle.hsr_quadbox.specs.Machine.{Machine, new_machine}
-use Rattle.hsr_role.specs.Arrival.{judged_by, key_in}
-use Rattle.hsr_role.specs.Past.{answers_of, log_remembers, note_of}
-use Rattle.hsr_role.specs.Tables.{AreWithin, copies_of, judged_as, table_of}
+use Rattle.hsr_forwarding.specs.Arrival.{judged_by, key_in}
+use Rattle.hsr_forwarding.specs.Past.{answers_of, log_remembers, note_of}
+use Rattle.hsr_forwarding.specs.Tables.{AreWithin, copies_of, judged_as, table_of}
 use Rattle.hsr_quadbox.specs.Step.{age_step, arrive_step, verdict_of}
 use Rattle.hsr_quadbox.specs.declared.quadbox.QuadVerdict.{QuadVerdict}
 use Rattle.hsr_quadbox.specs.declared.wanted.QuadPort.{QuadPort}

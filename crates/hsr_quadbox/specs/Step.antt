@@ -5,8 +5,8 @@ use Rattle.hsr_frame.specs.declared.fault.FrameFault.{FrameFault}
 use Rattle.hsr_frame.specs.declared.fault.Spent.{Spent}
 use Rattle.hsr_tag.specs.Seen.{classified}
 use Rattle.hsr_tag.specs.declared.seen.Seen.{Seen}
-use Rattle.hsr_role.specs.Tables.{aged, counted_with, judged}
-use Rattle.hsr_role.specs.declared.judged.Judged.{Judged}
+use Rattle.hsr_forwarding.specs.Tables.{aged, counted_with, judged}
+use Rattle.hsr_forwarding.specs.declared.judged.Judged.{Judged}
 use Rattle.hsr_quadbox.specs.Wanted.{wanted}
 use Rattle.hsr_quadbox.specs.Machine.{Machine}
 use Rattle.hsr_quadbox.specs.declared.quadbox.QuadVerdict.{QuadVerdict}

@@ -1,11 +1,12 @@
 //! A node with two ports in each of two rings.
-ghost use Rattle.std.specs.Prelude.{◌≡◌, ◌≤◌, ◌^◌, IfOk};
+ghost use Rattle.std.specs.Prelude.{◌≡◌, ◌^◌, IfOk};
 ghost use Rattle.hsr_frame.specs.Counters.{step_limit};
+ghost use Rattle.hsr_duptable.specs.Table.{IsTableSize};
 ghost use Rattle.hsr_quadbox.specs.Step.{verdict_of};
 
 use crate::wanted::{QuadPort, arrival_wants};
+use hsr_forwarding::{EgressTables, Judged, count};
 use hsr_frame::{Cause, Counters, Exits, NoMemory, STEP_LIMIT, Spent};
-use hsr_role::{EgressTables, Judged, count};
 use hsr_tag::look_at;
 use std::alloc::Global;
 use std::marker::Model;
@@ -35,7 +36,12 @@ impl<const C: usize> Model for QuadBox<C> {
 
     ghost view = { λ q. record { notes = q.tables; counters = q.counters; moment = q.moment; accepted = q.accepted } };
 
-    ghost invariant = { λ q. IsSound (record { notes = q.tables; counters = q.counters; moment = q.moment; accepted = q.accepted }) };
+    ghost invariant = { λ q. IsSound (record {
+      notes = q.tables;
+      counters = q.counters;
+      moment = q.moment;
+      accepted = q.accepted;
+    }) };
 }
 
 impl<const C: usize> QuadBox<C> {
@@ -43,11 +49,12 @@ impl<const C: usize> QuadBox<C> {
     ghost use Rattle.hsr_quadbox.specs.Machine.{new_machine};
     ghost use Rattle.hsr_quadbox.specs.Step.{arrive_step, age_step};
 
-    /// A QuadBox to which nothing came yet; `NoMemory` where room for its tables is refused.
+    /// A QuadBox to which nothing came yet; `NoMemory` if allocation fails.
     pub fn new(alloc: Global) -> Result<Self, NoMemory>
-        requires { (1 ≤ C) × (C ≤ 65535) }
+        requires { IsTableSize C }
         ensures { IfOk result (λ quad. quad ≡ new_machine) }
     {
+        // Nothing goes up: a QuadBox has no address, and takes no frame for itself.
         let egresses = Exits {
             c: true,
             d: true,
@@ -71,17 +78,19 @@ impl<const C: usize> QuadBox<C> {
         if self.accepted == STEP_LIMIT {
             return Err(Spent);
         }
+        // An earlier moment counts as the last one (RULES, Sending).
         let now = self.moment.max(at);
         let seen = look_at(octets);
         let wants = arrival_wants(port, &seen);
         let judged = self.tables.judge(wants, &seen, now);
+        // A QuadBox hears no supervision, so nothing was unreadable.
         count(&mut self.counters, judged, true);
         self.moment = now;
         self.accepted += 1;
         Ok(verdict_of(judged))
     }
 
-    /// Gives up what is expired at a moment in microseconds. That changes no later answer.
+    /// Drops what is expired at a moment in microseconds. That changes no later answer.
     pub fn age(&mut self, at: u64)
         ensures { self.new ≡ age_step self.old at }
     {

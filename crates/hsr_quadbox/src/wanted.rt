@@ -33,6 +33,7 @@ pub fn arrival_wants(port: QuadPort, seen: &Result<SeenView<'_>, FrameFault>) ->
 fn tagged_wants(port: QuadPort) -> Wants
     ensures { result ≡ to (others port) }
 {
+    // All three, whatever the frame is: the standard's filters between the rings are left out (RULES, RedBoxes and QuadBoxes).
     Wants::to(Exits {
         up: false,
         a: port != QuadPort::A,

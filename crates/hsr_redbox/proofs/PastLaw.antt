@@ -25,15 +25,15 @@ use Rattle.hsr_tables.specs.Nodes.{Nodes, heard, no_nodes}
 use Rattle.hsr_tables.specs.Proxies.{Proxies, is_known, learned, no_proxies}
 use Rattle.hsr_tables.proofs.NodeLaws.{rows_of_latest}
 use Rattle.hsr_tables.proofs.ProxyLaws.{knows_latest}
-use Rattle.hsr_role.specs.Arrival.{heard_of}
-use Rattle.hsr_role.specs.Numbers.{number_range}
-use Rattle.hsr_role.specs.Past.{answers_of, is_bad_life, note_of, passes_from}
-use Rattle.hsr_role.specs.Tables.{AreWithin, Notes, aged, copies_of, counted_with, judged, judged_as, table_of}
-use Rattle.hsr_role.specs.declared.judged.Judged.{Judged}
-use Rattle.hsr_role.proofs.Counts.{counted-plus, counts_plus}
-use Rattle.hsr_role.proofs.Keeping.{AreWithin-aged, AreWithin-new, AreWithin-passed, last-earlier, passed-logged, passed-shut, stands-aged, stands-new, stands-passed, stands-passes, stands-same}
-use Rattle.hsr_role.proofs.Pasts.{answers-same-as, heard-same, heard-told, later-max}
-use Rattle.hsr_role.proofs.Wants.{wanted-d}
+use Rattle.hsr_forwarding.specs.Arrival.{heard_of}
+use Rattle.hsr_forwarding.specs.Numbers.{number_range}
+use Rattle.hsr_forwarding.specs.Past.{answers_of, is_bad_life, note_of, passes_from}
+use Rattle.hsr_forwarding.specs.Tables.{AreWithin, Notes, aged, copies_of, counted_with, judged, judged_as, table_of}
+use Rattle.hsr_forwarding.specs.declared.judged.Judged.{Judged}
+use Rattle.hsr_forwarding.proofs.Counts.{counted-plus, counts_plus}
+use Rattle.hsr_forwarding.proofs.Keeping.{AreWithin-aged, AreWithin-new, AreWithin-passed, last-earlier, passed-logged, passed-shut, stands-aged, stands-new, stands-passed, stands-passes, stands-same}
+use Rattle.hsr_forwarding.proofs.Pasts.{answers-same-as, heard-same, heard-told, later-max}
+use Rattle.hsr_forwarding.proofs.Wants.{wanted-d}
 use Rattle.hsr_redbox.specs.Machine.{Machine, new_machine}
 use Rattle.hsr_redbox.specs.Step.{after_arrival, after_frame, after_interlink, after_marks, after_ring, age_step, arrive_or_spent, arrive_step, heard_from, life_or_refuse, life_refusal, life_step, now_at, number_of, send_or_refuse, send_step, sent_of, verdict_of}
 use Rattle.hsr_redbox.specs.Wanted.{egresses, handling_interlink, handling_send, interlink, wanted}
@@ -256,14 +256,14 @@ age-case capacity machine past now later r =
 
 pub kept : (capacity : ℕ) (machine : Machine) (past : List Deed) (call : Call) → IsPastOf capacity machine past → Kept capacity machine (step capacity machine call) (past_step capacity machine.own machine.mode past call)
 unfolding send_step life_step arrive_step
-kept capacity machine past (deeds.sending at dst kind len) r =
+kept capacity machine past (deeds.sending at dst ethertype len) r =
     let now = now_at machine at in
     let knows = knows-latest machine.proxies (sources_of machine.own past) now r.proxies in
-    let after = step capacity machine (deeds.sending at dst kind len) in
-    subst (λ m. Kept capacity machine after (deeds.send_from past (max m at) (handling_send machine.own (knows_among (sources_of machine.own past) (max m at)) dst kind) (send_refusal machine.own (count_of is_step past) dst kind len))) r.moment
-    (subst (λ n. Kept capacity machine after (deeds.send_from past now (handling_send machine.own (knows_among (sources_of machine.own past) now) dst kind) (send_refusal machine.own n dst kind len))) r.accepted
-    (subst (λ k. Kept capacity machine after (deeds.send_from past now (handling_send machine.own k dst kind) (send_refusal machine.own machine.accepted dst kind len))) knows
-    (send-case capacity machine past now (handling_send machine.own (is_known now machine.proxies.heard) dst kind) (send_refusal machine.own machine.accepted dst kind len) (later-max machine.moment at) r)))
+    let after = step capacity machine (deeds.sending at dst ethertype len) in
+    subst (λ m. Kept capacity machine after (deeds.send_from past (max m at) (handling_send machine.own (knows_among (sources_of machine.own past) (max m at)) dst ethertype) (send_refusal machine.own (count_of is_step past) dst ethertype len))) r.moment
+    (subst (λ n. Kept capacity machine after (deeds.send_from past now (handling_send machine.own (knows_among (sources_of machine.own past) now) dst ethertype) (send_refusal machine.own n dst ethertype len))) r.accepted
+    (subst (λ k. Kept capacity machine after (deeds.send_from past now (handling_send machine.own k dst ethertype) (send_refusal machine.own machine.accepted dst ethertype len))) knows
+    (send-case capacity machine past now (handling_send machine.own (is_known now machine.proxies.heard) dst ethertype) (send_refusal machine.own machine.accepted dst ethertype len) (later-max machine.moment at) r)))
 kept capacity machine past (deeds.supervising at about) r =
     let now = now_at machine at in
     let knows = knows-latest machine.proxies (sources_of machine.own past) now r.proxies in

@@ -16,12 +16,12 @@ use Rattle.hsr_tag.specs.declared.seen.Seen.{Seen}
 use Rattle.hsr_tag.specs.declared.seen.Seen.TheVariants.{Plain, Tagged}
 use Rattle.hsr_tables.specs.Nodes.{Nodes}
 use Rattle.hsr_tables.specs.Proxies.{Proxies, is_known}
-use Rattle.hsr_role.specs.Arrival.{heard_of}
-use Rattle.hsr_role.specs.Numbers.{number_range}
-use Rattle.hsr_role.specs.Tables.{AreWithin, Notes, among, copies_of, counted_with, judged, judged_as}
-use Rattle.hsr_role.specs.declared.judged.Judged.{Judged}
-use Rattle.hsr_role.proofs.Keeping.{AreWithin-more, AreWithin-passes, copies-few}
-use Rattle.hsr_role.proofs.Spending.{spent, unspent}
+use Rattle.hsr_forwarding.specs.Arrival.{heard_of}
+use Rattle.hsr_forwarding.specs.Numbers.{number_range}
+use Rattle.hsr_forwarding.specs.Tables.{AreWithin, Notes, among, copies_of, counted_with, judged, judged_as}
+use Rattle.hsr_forwarding.specs.declared.judged.Judged.{Judged}
+use Rattle.hsr_forwarding.proofs.Keeping.{AreWithin-more, AreWithin-passes, copies-few}
+use Rattle.hsr_forwarding.proofs.Spending.{spent, unspent}
 use Rattle.hsr_redbox.specs.Machine.{Machine}
 use Rattle.hsr_redbox.specs.Step.{after_arrival, after_frame, after_handling, after_interlink, after_marks, after_ring, arrive_or_spent, arrive_step, heard_from, life_or_refuse, life_refusal, life_step, now_at, number_of, send_or_refuse, send_step, sent_of, verdict_of}
 use Rattle.hsr_redbox.specs.Wanted.{egresses, handling_interlink, handling_send, interlink, numbered, unnumbered, wanted}
@@ -78,8 +78,8 @@ sent-fits own false true group = (refl, refl, refl)
 sent-fits own false false true = (refl, refl, refl)
 sent-fits own false false false = (refl, refl, refl)
 
-pub send-fits : (own : List ℕ) (knows : List ℕ → Bool) (dst : List ℕ) (kind : ℕ) → Fits (handling_send own knows dst kind)
-send-fits own knows dst kind = sent-fits own (knows dst) (is_supervision dst kind) (is_group dst)
+pub send-fits : (own : List ℕ) (knows : List ℕ → Bool) (dst : List ℕ) (ethertype : ℕ) → Fits (handling_send own knows dst ethertype)
+send-fits own knows dst ethertype = sent-fits own (knows dst) (is_supervision dst ethertype) (is_group dst)
 
 -- ---- copies: at most three ports pass an arrival
 
@@ -88,20 +88,20 @@ copies-handled own knows seen = copies-few (handling_interlink own knows seen).w
 
 -- ---- frames of the node's own
 
-pub send-refused : (capacity : ℕ) (machine : Machine) (at : ℕ) (dst : List ℕ) (kind len : ℕ) (fault : SendFault) → Some fault ≡ send_refusal machine.own machine.accepted dst kind len
-    → (Err fault, machine) ≡ send_step capacity machine at dst kind len
+pub send-refused : (capacity : ℕ) (machine : Machine) (at : ℕ) (dst : List ℕ) (ethertype len : ℕ) (fault : SendFault) → Some fault ≡ send_refusal machine.own machine.accepted dst ethertype len
+    → (Err fault, machine) ≡ send_step capacity machine at dst ethertype len
 unfolding send_step
-send-refused capacity machine at dst kind len fault e =
-    let now = now_at machine at in ap (send_or_refuse capacity machine now (handling_send machine.own (is_known now machine.proxies.heard) dst kind)) e
+send-refused capacity machine at dst ethertype len fault e =
+    let now = now_at machine at in ap (send_or_refuse capacity machine now (handling_send machine.own (is_known now machine.proxies.heard) dst ethertype)) e
 
-pub send-accepted : (capacity : ℕ) (machine : Machine) (at : ℕ) (dst : List ℕ) (kind len : ℕ) (now : ℕ) (h : Handling) (new : Machine) → None ≡ send_refusal machine.own machine.accepted dst kind len
-    → now ≡ now_at machine at → h ≡ handling_send machine.own (is_known now machine.proxies.heard) dst kind
+pub send-accepted : (capacity : ℕ) (machine : Machine) (at : ℕ) (dst : List ℕ) (ethertype len : ℕ) (now : ℕ) (h : Handling) (new : Machine) → None ≡ send_refusal machine.own machine.accepted dst ethertype len
+    → now ≡ now_at machine at → h ≡ handling_send machine.own (is_known now machine.proxies.heard) dst ethertype
     → new ≡ after_frame capacity machine now h.wants.exits h.source (record machine.counters { sent = machine.counters.sent + 1 })
-    → (Ok (sent_of h machine.next), new) ≡ send_step capacity machine at dst kind len
+    → (Ok (sent_of h machine.next), new) ≡ send_step capacity machine at dst ethertype len
 unfolding send_step
-send-accepted capacity machine at dst kind len now h new e at_now handled left =
+send-accepted capacity machine at dst ethertype len now h new e at_now handled left =
     rw (left, handled, at_now)
-    (let later = now_at machine at in ap (send_or_refuse capacity machine later (handling_send machine.own (is_known later machine.proxies.heard) dst kind)) e)
+    (let later = now_at machine at in ap (send_or_refuse capacity machine later (handling_send machine.own (is_known later machine.proxies.heard) dst ethertype)) e)
 
 pub life-refused : (capacity : ℕ) (machine : Machine) (at : ℕ) (about : About) (now : ℕ) (fault : LifeFault) → now ≡ now_at machine at
     → Some fault ≡ life_refusal (is_known now machine.proxies.heard) machine.accepted about

@@ -6,7 +6,7 @@ use Rattle.hsr_frame.specs.declared.counters.Counters.{Counters}
 use Rattle.hsr_frame.specs.declared.node.Mode.{Mode}
 use Rattle.hsr_tables.specs.Nodes.{Nodes, no_nodes}
 use Rattle.hsr_tables.specs.Proxies.{Proxies, no_proxies}
-use Rattle.hsr_role.specs.Tables.{AreWithin, Notes, no_notes}
+use Rattle.hsr_forwarding.specs.Tables.{AreWithin, Notes, no_notes}
 use Rattle.hsr_redbox.specs.Wanted.{egresses}
 
 pub record Machine : Type 0 where

@@ -22,12 +22,12 @@ use Rattle.hsr_tables.specs.Known.{known, latest_heard}
 use Rattle.hsr_tables.specs.Nodes.{Hearing, rows_known}
 use Rattle.hsr_tables.specs.declared.nodes.NodeRow.{NodeRow}
 use Rattle.hsr_redbox.specs.Machine.{Machine, new_machine}
-use Rattle.hsr_role.specs.Past.{answers_of, hearing_in, is_bad_life, left_by, note_of, passes_from}
-pub use Rattle.hsr_role.specs.Arrival.{source_in}
-use Rattle.hsr_role.specs.Past as of_role
-pub use Rattle.hsr_role.specs.Past.{count_of, moment_of, sum_of}
-use Rattle.hsr_role.specs.Numbers.{number_range}
-use Rattle.hsr_role.specs.Tables.{judged_as}
+use Rattle.hsr_forwarding.specs.Past.{answers_of, hearing_in, is_bad_life, left_by, note_of, passes_from}
+pub use Rattle.hsr_forwarding.specs.Arrival.{source_in}
+use Rattle.hsr_forwarding.specs.Past as of_role
+pub use Rattle.hsr_forwarding.specs.Past.{count_of, moment_of, sum_of}
+use Rattle.hsr_forwarding.specs.Numbers.{number_range}
+use Rattle.hsr_forwarding.specs.Tables.{judged_as}
 use Rattle.hsr_redbox.specs.Step.{age_step, arrive_step, life_refusal, life_step, number_of, send_step, sent_of, verdict_of}
 use Rattle.hsr_redbox.specs.Wanted.{handling_interlink, handling_send, interlink, wanted}
 use Rattle.hsr_redbox.specs.declared.wanted.Handling.{Handling}
@@ -41,7 +41,7 @@ use Rattle.hsr_redbox.specs.declared.call.LifeFault.{LifeFault}
 -- ---- calls and answers
 
 pub data Call : Type 0 where
-  sending : (at : ℕ) → (dst : List ℕ) → (kind len : ℕ) → Call
+  sending : (at : ℕ) → (dst : List ℕ) → (ethertype len : ℕ) → Call
   supervising : (at : ℕ) → (about : About) → Call
   arriving : (at : ℕ) → (port : BoxPort) → (octets : List ℕ) → Call
   ageing : (at : ℕ) → Call
@@ -54,7 +54,7 @@ pub data Answer : Type 0 where
 
 -- the stepping machine
 abbrev pub step : ℕ → Machine → Call → Answer × Machine
-step capacity machine (sending at dst kind len) = let s = send_step capacity machine at dst kind len in (sent s.0, s.1)
+step capacity machine (sending at dst ethertype len) = let s = send_step capacity machine at dst ethertype len in (sent s.0, s.1)
 step capacity machine (supervising at about) = let s = life_step capacity machine at about in (lived s.0, s.1)
 step capacity machine (arriving at port octets) = let s = arrive_step capacity machine at port octets in (judged s.0, s.1)
 step capacity machine (ageing at) = (aged, age_step machine at)
@@ -229,9 +229,9 @@ arrive_from capacity own mode past now port seen false =
     let after = port_from capacity own mode past now port seen in (judged (Ok after.0), after.1)
 
 abbrev pub past_step : ℕ → List ℕ → Mode → List Deed → Call → Answer × List Deed
-past_step capacity own mode past (sending at dst kind len) =
+past_step capacity own mode past (sending at dst ethertype len) =
     let now = now_after past at in
-    send_from past now (handling_send own (knows_among (sources_of own past) now) dst kind) (send_refusal own (count_of is_step past) dst kind len)
+    send_from past now (handling_send own (knows_among (sources_of own past) now) dst ethertype) (send_refusal own (count_of is_step past) dst ethertype len)
 past_step capacity own mode past (supervising at about) =
     let now = now_after past at in
     life_from past now (life_refusal (knows_among (sources_of own past) now) (count_of is_step past) about)

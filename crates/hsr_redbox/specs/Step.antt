@@ -15,11 +15,11 @@ use Rattle.hsr_frame.specs.declared.node.RingPort.TheVariants as ring
 use Rattle.hsr_tag.specs.Seen.{classified}
 use Rattle.hsr_tag.specs.declared.seen.Seen.{Seen}
 use Rattle.hsr_tables.specs.Proxies.{is_known}
-use Rattle.hsr_role.specs.Arrival.{heard_of}
-pub use Rattle.hsr_role.specs.Arrival.{heard_from}
-use Rattle.hsr_role.specs.Numbers.{number_range}
-use Rattle.hsr_role.specs.Tables.{Notes, after_passes, aged, counted_with, judged, judged_as}
-use Rattle.hsr_role.specs.declared.judged.Judged.{Judged}
+use Rattle.hsr_forwarding.specs.Arrival.{heard_of}
+pub use Rattle.hsr_forwarding.specs.Arrival.{heard_from}
+use Rattle.hsr_forwarding.specs.Numbers.{number_range}
+use Rattle.hsr_forwarding.specs.Tables.{Notes, after_passes, aged, counted_with, judged, judged_as}
+use Rattle.hsr_forwarding.specs.declared.judged.Judged.{Judged}
 use Rattle.hsr_redbox.specs.Wanted.{handling_interlink, handling_send, interlink, wanted}
 use Rattle.hsr_redbox.specs.Machine.{Machine}
 use Rattle.hsr_redbox.specs.declared.wanted.Handling.{Handling}
@@ -74,9 +74,9 @@ send_or_refuse capacity machine now handling None = let after = after_send capac
 
 -- a send, by its destination, type and length
 unfoldable pub send_step : ℕ → Machine → ℕ → List ℕ → ℕ → ℕ → Result BoxSent SendFault × Machine
-send_step capacity machine at dst kind len =
+send_step capacity machine at dst ethertype len =
     let now = now_at machine at in
-    send_or_refuse capacity machine now (handling_send machine.own (is_known now machine.proxies.heard) dst kind) (send_refusal machine.own machine.accepted dst kind len)
+    send_or_refuse capacity machine now (handling_send machine.own (is_known now machine.proxies.heard) dst ethertype) (send_refusal machine.own machine.accepted dst ethertype len)
 
 -- ---- a supervision frame
 

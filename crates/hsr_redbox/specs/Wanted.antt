@@ -15,7 +15,7 @@ use Rattle.hsr_frame.specs.Grammar.{Fields}
 use Rattle.hsr_tag.specs.Tag.{TaggedFields}
 use Rattle.hsr_tag.specs.declared.seen.Seen.{Seen}
 use Rattle.hsr_tag.specs.declared.seen.Seen.TheVariants.{Plain, Tagged}
-use Rattle.hsr_role.specs.Wanted as of_ring
+use Rattle.hsr_forwarding.specs.Wanted as of_ring
 use Rattle.hsr_redbox.specs.declared.wanted.Handling.{Handling}
 
 abbrev pub interlink : Egress
@@ -62,9 +62,9 @@ handling_interlink own knows (Ok (Plain frame)) = handling_plain own knows frame
 
 -- a send, by its destination and type
 abbrev pub handling_send : List ℕ → (List ℕ → Bool) → List ℕ → ℕ → Handling
-handling_send own knows dst kind = first_of
+handling_send own knows dst ethertype = first_of
     ((knows dst, unnumbered (to (interlink ∷ [])))
-    ∷ (is_supervision dst kind, numbered own (to (a ∷ b ∷ [])))
+    ∷ (is_supervision dst ethertype, numbered own (to (a ∷ b ∷ [])))
     ∷ (is_group dst, numbered own (to (a ∷ b ∷ interlink ∷ [])))
     ∷ [])
     (numbered own (to (a ∷ b ∷ [])))

@@ -1,11 +1,11 @@
 //! The note of a frame that leaves without a look.
 ghost use Rattle.std.specs.Prelude.{◌≡◌};
-ghost use Rattle.hsr_role.specs.Tables.{AreEarlier, AreRoomy, among};
+ghost use Rattle.hsr_forwarding.specs.Tables.{AreEarlier, AreRoomy, among};
 ghost use Rattle.hsr_redbox.specs.Step.{after_marks};
 
 use hsr_duptable::Key;
+use hsr_forwarding::EgressTables;
 use hsr_frame::{Exits, Mac};
-use hsr_role::EgressTables;
 
 /// Notes a frame that leaves by these egresses at a moment in microseconds, if it has a number for its source.
 pub fn mark_numbered<const C: usize>(

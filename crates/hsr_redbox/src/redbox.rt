@@ -2,16 +2,17 @@
 ghost use Rattle.std.specs.Prelude.{◌≡◌, ◌≢◌, ◌+◌, ◌-◌, ◌≤◌, ◌<◌, ◌^◌, length, map, true, IfOk, OnOk, IfNone, Option, Result};
 ghost use Rattle.hsr_frame.specs.Counters.{step_limit};
 ghost use Rattle.hsr_frame.specs.Layout.{ethertype_hsr, ethertype_vlan, max_payload};
+ghost use Rattle.hsr_duptable.specs.Table.{IsTableSize};
 
 use crate::call::{BoxPort, BoxSent, BoxVerdict, LifeFault};
 use crate::marking::mark_numbered;
 use crate::wanted::{interlink_handling, send_handling};
 use arrayvec::ArrayVec;
+use hsr_forwarding::{EgressTables, Judged, NUMBER_RANGE, count, hear, learn, ring_wants};
 use hsr_frame::{
     About, Counters, Exits, FrameFault, Life, Mac, Mode, NoMemory, RingPort, STEP_LIMIT, SendFault,
     Spent, send_fault,
 };
-use hsr_role::{EgressTables, Judged, NUMBER_RANGE, count, hear, learn, ring_wants};
 use hsr_tables::{NodeRow, NodeTable, ProxyTable, ROW_LIMIT};
 use hsr_tag::{SeenView, look_at};
 use std::alloc::Global;
@@ -40,22 +41,32 @@ impl<const C: usize> Model for RedBox<C> {
 
     ghost view = { λ d. record { own = d.own; mode = d.mode; notes = d.tables; proxies = d.proxies; nodes = d.nodes; next = d.next; counters = d.counters; moment = d.moment; accepted = d.accepted } };
 
-    ghost invariant = { λ d. IsSound (record { own = d.own; mode = d.mode; notes = d.tables; proxies = d.proxies; nodes = d.nodes; next = d.next; counters = d.counters; moment = d.moment; accepted = d.accepted }) };
+    ghost invariant = { λ d. IsSound (record {
+      own = d.own;
+      mode = d.mode;
+      notes = d.tables;
+      proxies = d.proxies;
+      nodes = d.nodes;
+      next = d.next;
+      counters = d.counters;
+      moment = d.moment;
+      accepted = d.accepted;
+    }) };
 }
 
 impl<const C: usize> RedBox<C> {
     ghost use Rattle.hsr_frame.specs.Address.{IsGroup};
     ghost use Rattle.hsr_frame.specs.Counters.{AreWithin};
     ghost use Rattle.hsr_tables.specs.Known.{known};
-    ghost use Rattle.hsr_role.specs.Tables.{among};
+    ghost use Rattle.hsr_forwarding.specs.Tables.{among};
     ghost use Rattle.hsr_redbox.specs.Machine.{new_machine};
     ghost use Rattle.hsr_redbox.specs.Step.{after_frame, after_interlink, after_ring, age_step, arrive_step, life_step, now_at, send_step};
     ghost use Rattle.hsr_redbox.specs.Wanted.{egresses};
 
-    /// A node that has done nothing. No group has its address. `NoMemory` where room for its tables is refused.
+    /// A node that has done nothing. No group has its address. `NoMemory` if allocation fails.
     pub fn new(alloc: Global, own: Mac, mode: Mode) -> Result<Self, NoMemory>
         requires station { ¬ IsGroup own }
-        requires entries { (1 ≤ C) × (C ≤ 65535) }
+        requires entries { IsTableSize C }
         ensures { IfOk result (λ redbox. redbox ≡ new_machine own mode) }
     {
         let egresses = Exits {
@@ -87,18 +98,21 @@ impl<const C: usize> RedBox<C> {
         at: u64,
         dst: Mac,
         _vlan: Option<u16>,
-        kind: u16,
+        ethertype: u16,
         payload: &[u8],
     ) -> Result<BoxSent, SendFault>
-        ensures step { (result, self.new) ≡ send_step C self.old at dst kind (length payload.now) }
+        ensures step { (result, self.new)
+            ≡ send_step C self.old at dst ethertype (length payload.now) }
         // What is sent is a frame.
-        ensures formed { OnOk result ((kind ≢ ethertype_vlan) × (kind ≢ ethertype_hsr) × (length payload.now ≤ max_payload)) }
+        ensures formed { OnOk result ((ethertype ≢ ethertype_vlan) × (ethertype ≢ ethertype_hsr)
+            × (length payload.now ≤ max_payload)) }
     {
-        if let Some(fault) = send_fault(self.own, self.accepted, dst, kind, payload.len()) {
+        if let Some(fault) = send_fault(self.own, self.accepted, dst, ethertype, payload.len()) {
             return Err(fault);
         }
+        // An earlier moment counts as the last one (RULES, Sending).
         let now = self.moment.max(at);
-        let handling = send_handling(self.own, &self.proxies, dst, kind, now);
+        let handling = send_handling(self.own, &self.proxies, dst, ethertype, now);
         let exits = handling.wants.exits;
         let sent = BoxSent {
             seq: number_of(handling.source, self.next),
@@ -106,6 +120,7 @@ impl<const C: usize> RedBox<C> {
             b: exits.b,
             interlink: exits.c,
         };
+        // A copy, which `leave` puts in place together with the note, the number and the moment.
         let counters = Counters {
             sent: self.counters.sent + 1,
             ..self.counters
@@ -115,9 +130,9 @@ impl<const C: usize> RedBox<C> {
     }
 
     /// Numbers a supervision frame about this node or a station of its interlink, and sends it by both ring ports
-    /// under its own address (IEC 62439-3 clause 5.7); `life` counts the earlier ones, modulo `NUMBER_RANGE`. It refuses one
-    /// about an address that isn't known at this moment, and any where `STEP_LIMIT` steps are spent, in this order; a
-    /// refusal changes nothing.
+    /// under its own address (IEC 62439-3 clause 5.7); `life` counts the earlier ones, modulo `NUMBER_RANGE`. `NotProxied`
+    /// where it is about an address that isn't known at this moment, and then `Spent` where `STEP_LIMIT` steps were accepted;
+    /// a refusal changes nothing.
     pub fn supervise(&mut self, at: u64, about: About) -> Result<Life, LifeFault>
         ensures { (result, self.new) ≡ life_step C self.old at about }
     {
@@ -141,7 +156,7 @@ impl<const C: usize> RedBox<C> {
     /// Judges what came to a port (IEC 62439-3 clause 5.3). Octets that are no frame are counted. Of a ring port plain
     /// frames are dropped, and tagged ones pass where they are wanted and not remembered. Of the interlink
     /// tagged frames are dropped; the source of a plain one is heard, and it passes wherever it is wanted: to the
-    /// ring with the next number. Where `STEP_LIMIT` steps are spent it changes nothing.
+    /// ring with the next number. `Spent` where `STEP_LIMIT` steps were accepted: then nothing changes.
     pub fn arrive(&mut self, at: u64, port: BoxPort, octets: &[u8]) -> Result<BoxVerdict, Spent>
         ensures { (result, self.new) ≡ arrive_step C self.old at port octets.now }
     {
@@ -168,8 +183,10 @@ impl<const C: usize> RedBox<C> {
         requires later { self.old.moment ≤ now }
         ensures { (result, self.new) ≡ after_ring C self.old now x seen.now }
     {
+        // A RedBox asks its stations: what is to a known one leaves by the interlink.
         let wants = ring_wants(self.own, self.mode, Some(&self.proxies), x, seen, now);
         let judged = self.tables.judge(wants, seen, now);
+        // Heard whatever the verdict: a duplicate tells too that its ring port is reached (IEC 62439-3 clause 5.7).
         let readable = hear(&mut self.nodes, self.own, x, seen, now);
         count(&mut self.counters, judged, readable);
         self.moment = now;
@@ -183,15 +200,18 @@ impl<const C: usize> RedBox<C> {
         requires later { self.old.moment ≤ now }
         ensures { (result, self.new) ≡ after_interlink C self.old now seen.now }
     {
+        // Heard before anything is decided (RULES, RedBoxes and QuadBoxes).
         learn(&mut self.proxies, self.own, seen, now);
         self.moment = now;
         let handling = interlink_handling(self.own, &self.proxies, seen, now);
         let exits = handling.wants.exits;
         let seq = number_of(handling.source, self.next);
+        // No table is asked: what the interlink gives and an egress wants passes.
         let judged = Judged::new(handling.wants, exits);
         let mut counters = self.counters;
+        // Supervision is heard on the ring alone, so nothing was unreadable here.
         count(&mut counters, judged, true);
-        // noted on the interlink too, so that no copy that comes back is given back
+        // Noted on the interlink too, so that a copy that comes round the ring isn't given back there.
         self.leave(Exits { c: true, ..exits }, handling.source, counters, now);
         verdict_of(judged, seq)
     }
@@ -211,7 +231,7 @@ impl<const C: usize> RedBox<C> {
         self.accepted += 1;
     }
 
-    /// Gives up the notes that are expired at a moment in microseconds. That changes no later answer.
+    /// Drops the notes that are expired at a moment in microseconds. That changes no later answer.
     pub fn age(&mut self, at: u64)
         ensures { self.new ≡ age_step self.old at }
     {
@@ -283,6 +303,7 @@ fn life_fault(proxies: &ProxyTable, accepted: u64, about: About, now: u64) -> Op
     ensures fault { result ≡ life_refusal (is_known now proxies.now.heard) accepted about }
     ensures room { IfNone result (accepted < step_limit) }
 {
+    // An address that isn't known is refused before any other reason (RULES, RedBoxes and QuadBoxes).
     if !speaks_for(proxies, about, now) {
         Some(LifeFault::NotProxied)
     } else if accepted == STEP_LIMIT {

@@ -69,10 +69,12 @@ fn plain_handling(own: Mac, proxies: &ProxyTable, frame: &FrameView<'_>, now: u6
             ..Exits::none()
         }));
     }
+    // Both stand behind the interlink, so the RedBox leaves them to each other.
     if proxies.knows(frame.dst, now) {
         return unnumbered(Wants::nowhere(Cause::Local));
     }
     let ports = Exits::both_ports();
+    // The number is the RedBox's and the source stays the station's: all copies on the ring are known by both.
     if frame.dst.is_group() {
         return numbered(frame.src, Exits { up: true, ..ports });
     }
@@ -80,10 +82,11 @@ fn plain_handling(own: Mac, proxies: &ProxyTable, frame: &FrameView<'_>, now: u6
 }
 
 /// What is done with a send, by its destination and type.
-pub fn send_handling(own: Mac, proxies: &ProxyTable, dst: Mac, kind: u16, now: u64) -> Handling
+pub fn send_handling(own: Mac, proxies: &ProxyTable, dst: Mac, ethertype: u16, now: u64) -> Handling
     requires { proxies.now.last ≤ now }
-    ensures { result ≡ handling_send own (is_known now proxies.now.heard) dst kind }
+    ensures { result ≡ handling_send own (is_known now proxies.now.heard) dst ethertype }
 {
+    // Without a number: frames on an interlink carry no tag.
     if proxies.knows(dst, now) {
         return unnumbered(Wants::to(Exits {
             c: true,
@@ -91,7 +94,8 @@ pub fn send_handling(own: Mac, proxies: &ProxyTable, dst: Mac, kind: u16, now: u
         }));
     }
     let ports = Exits::both_ports();
-    if dst.is_group() && !is_supervision(dst, kind) {
+    // Supervision is for the ring alone.
+    if dst.is_group() && !is_supervision(dst, ethertype) {
         return numbered(own, Exits { c: true, ..ports });
     }
     numbered(own, ports)

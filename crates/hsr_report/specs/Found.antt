@@ -11,10 +11,10 @@ use Rattle.hsr_audit.specs.NetworkCertificate.{IsNetworkCertified}
 use Rattle.hsr_audit.specs.declared.breach.BudgetFault.TheVariants as breach
 use Rattle.hsr_deliveries.specs.Delivered.{Delivery, deliveries}
 use Rattle.hsr_deliveries.specs.Lines.{delivery_lines}
-use Rattle.hsr_law.specs.Budget.{IsBudgetHeld}
-use Rattle.hsr_law.specs.Run.{Run}
-use Rattle.hsr_needed.specs.Needs.{IsMost as IsMostNeeded}
-use Rattle.hsr_needed.specs.declared.most.Needed.{Needed}
+use Rattle.hsr_run_laws.specs.Budget.{IsBudgetHeld}
+use Rattle.hsr_run_laws.specs.Run.{Run}
+use Rattle.hsr_table_demand.specs.Needs.{IsMost as IsMostNeeded}
+use Rattle.hsr_table_demand.specs.declared.most.Needed.{Needed}
 use Rattle.hsr_options.specs.declared.chosen.Asked.{Asked}
 use Rattle.hsr_options.specs.declared.chosen.Scope.{Scope}
 use Rattle.hsr_options.specs.declared.chosen.Scope.TheVariants.{Ring, Network}

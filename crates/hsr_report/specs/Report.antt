@@ -12,11 +12,11 @@ use Rattle.hsr_node.specs.declared.role.Role.{Role}
 use Rattle.hsr_link.specs.Rows.{is_lost, is_taken}
 use Rattle.hsr_link.specs.declared.row.Row.{Row}
 use Rattle.hsr_topology.specs.Links.{is_used}
-use Rattle.hsr_law.specs.Run.{Run, past_of, place_of, rows_of}
-use Rattle.hsr_network_law.specs.Network.{is_edge}
+use Rattle.hsr_run_laws.specs.Run.{Run, past_of, place_of, rows_of}
+use Rattle.hsr_network_laws.specs.Network.{is_edge}
 use Rattle.hsr_deliveries.specs.Delivered.{Delivery, deliveries, is_none}
 use Rattle.hsr_audit.specs.Words.{doubt_text}
-use Rattle.hsr_needed.specs.declared.most.Needed.{Needed}
+use Rattle.hsr_table_demand.specs.declared.most.Needed.{Needed}
 use Rattle.hsr_options.specs.declared.chosen.Scope.{Scope}
 use Rattle.hsr_options.specs.declared.chosen.Scope.TheVariants.{Ring, Network}
 use Rattle.hsr_node_text.specs.Reply.{counter_line}

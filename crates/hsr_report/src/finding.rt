@@ -6,14 +6,14 @@ ghost use Rattle.hsr_options.specs.declared.chosen.Scope.TheVariants.{Network, R
 ghost use Rattle.hsr_report.specs.Report.{finding_line};
 
 use hsr_audit::{AuditFault, Doubt, audit, audit_network};
-use hsr_closing::Closed;
+use hsr_finished_run::Closed;
 use hsr_frame::NoMemory;
 use hsr_node_text::put_count;
 use hsr_options::Scope;
-use std::alloc::{AllocError, Global};
+use std::alloc::Global;
 use std::io::Write;
 
-/// What an audit of a run found: so many sends that are certified, or the first doubt.
+/// What an audit of a run found: how many sends are certified, or the first doubt.
 #[derive(Clone, Copy, Debug, PartialEq, Eq)]
 pub enum Finding {
     Certified(usize),
@@ -42,7 +42,7 @@ fn found_of_network<const C: usize>(alloc: Global, closed: &Closed<C>) -> Result
     }
 }
 
-/// What the chosen audit of a run finds. `NoMemory` where room is refused.
+/// What the chosen audit of a run finds. `NoMemory` if allocation fails.
 pub fn found<const C: usize>(
     alloc: Global,
     closed: &Closed<C>,
@@ -57,22 +57,25 @@ pub fn found<const C: usize>(
 }
 
 /// Puts a doubt in its own words.
-fn put_doubt(text: &mut Vec<u8>, doubt: Doubt) -> Result<(), AllocError>
+fn put_doubt(text: &mut Vec<u8>, doubt: Doubt) -> Result<(), NoMemory>
     ensures { OnOk result (text.new.items ≡ text.old.items ++ codes "doubt " ++ doubt_text doubt) }
 {
+    // A list of octets refuses a write for memory alone.
     match write!(text, "doubt {doubt}") {
         Ok(()) => Ok(()),
-        Err(_) => Err(AllocError),
+        Err(_) => Err(NoMemory),
     }
 }
 
-/// Puts the last line of a report.
-pub fn put_finding(text: &mut Vec<u8>, finding: Finding) -> Result<(), AllocError>
+/// Puts the last line of a report: how many sends are certified, or the doubt. `NoMemory` if allocation fails; a
+/// front of the line may stand there then.
+pub fn put_finding(text: &mut Vec<u8>, finding: Finding) -> Result<(), NoMemory>
     ensures { OnOk result (text.new.items ≡ text.old.items ++ finding_line finding) }
 {
     match finding {
         Finding::Certified(sends) => put_count(text, b"certified ", sends as u64)?,
         Finding::Doubt(doubt) => put_doubt(text, doubt)?,
     }
-    text.extend_from_slice(b"\n")
+    text.extend_from_slice(b"\n")?;
+    Ok(())
 }

@@ -1,20 +1,21 @@
-//! What the report of a network tells before its last line: which ports on rings have no link, and which sends no node is for.
+//! What the report of a network tells before its last line: which ports on rings have no link, and which sends no node
+//! is for.
 ghost use Rattle.std.specs.Prelude.{◌≡◌, ◌<◌, ◌++◌, length, OnOk};
 ghost use Rattle.std.specs.List.{flat_map};
 ghost use Rattle.hsr_deliveries.specs.Delivered.{deliveries};
-ghost use Rattle.hsr_law.specs.Run.{place_of};
+ghost use Rattle.hsr_run_laws.specs.Run.{place_of};
 ghost use Rattle.hsr_node.specs.Place.{ports};
 ghost use Rattle.hsr_report.specs.Report.{is_unlinked, network_lines, nobody_if, nobody_line, unlinked_if, unlinked_line, unlinked_lines, unlinked_ports};
 
-use hsr_closing::Closed;
 use hsr_deliveries::{Delivery, deliveries};
+use hsr_finished_run::Closed;
 use hsr_frame::NoMemory;
 use hsr_node::{Place, Probe};
 use hsr_node_text::put_count;
 use hsr_options::Scope;
+use hsr_reach::is_edge;
 use hsr_topology::{End, is_used};
-use hsr_ways::is_edge;
-use std::alloc::{AllocError, Global};
+use std::alloc::Global;
 
 /// Whether a port is on a ring, and has no link.
 fn is_unlinked<const C: usize>(closed: &Closed<C>, node: usize, place: &Place, port: u8) -> bool
@@ -32,12 +33,14 @@ fn put_unlinked<const C: usize>(
     node: usize,
     place: &Place,
     port: u8,
-) -> Result<(), AllocError>
+) -> Result<(), NoMemory>
     requires { place.now ≡ place_of closed.now.run node }
-    ensures { OnOk result (text.new.items ≡ text.old.items ++ unlinked_line closed.now.run node port) }
+    ensures { OnOk result (text.new.items ≡ text.old.items
+        ++ unlinked_line closed.now.run node port) }
 {
     put_count(text, b"unlinked ", node as u64)?;
-    text.extend_from_slice(&[b'.', place.letter(port), b'\n'])
+    text.extend_from_slice(&[b'.', place.letter(port), b'\n'])?;
+    Ok(())
 }
 
 /// Puts the line of a port, if it is on a ring and has no link.
@@ -47,9 +50,10 @@ fn put_unlinked_if<const C: usize>(
     node: usize,
     place: &Place,
     port: u8,
-) -> Result<(), AllocError>
+) -> Result<(), NoMemory>
     requires { place.now ≡ place_of closed.now.run node }
-    ensures { OnOk result (text.new.items ≡ text.old.items ++ unlinked_if closed.now.run node port) }
+    ensures { OnOk result (text.new.items ≡ text.old.items
+        ++ unlinked_if closed.now.run node port) }
 {
     if is_unlinked(closed, node, place, port) {
         put_unlinked(text, closed, node, place, port)
@@ -64,9 +68,10 @@ fn put_unlinked_ports<const C: usize>(
     closed: &Closed<C>,
     node: usize,
     place: &Place,
-) -> Result<(), AllocError>
+) -> Result<(), NoMemory>
     requires { place.now ≡ place_of closed.now.run node }
-    ensures { OnOk result (text.new.items ≡ text.old.items ++ unlinked_ports closed.now.run node (ports place.now)) }
+    ensures { OnOk result (text.new.items ≡ text.old.items ++ unlinked_ports closed.now.run node
+        (ports place.now)) }
 {
     for port in 0..place.ports() {
         put_unlinked_if(text, closed, node, place, port)?;
@@ -78,8 +83,9 @@ fn put_unlinked_ports<const C: usize>(
 fn put_all_unlinked<const C: usize>(
     text: &mut Vec<u8>,
     closed: &Closed<C>,
-) -> Result<(), AllocError>
-    ensures { OnOk result (text.new.items ≡ text.old.items ++ unlinked_lines closed.now.run (length closed.now.run.places)) }
+) -> Result<(), NoMemory>
+    ensures { OnOk result (text.new.items ≡ text.old.items ++ unlinked_lines closed.now.run
+        (length closed.now.run.places)) }
 {
     for (node, place) in closed.topology().places().iter().enumerate() {
         put_unlinked_ports(text, closed, node, place)?;
@@ -89,16 +95,17 @@ fn put_all_unlinked<const C: usize>(
 
 /// Puts the line of a send that no node is for.
 #[tactic(auto, unfolding(crate::specs::Report::nobody_line))]
-fn put_nobody(text: &mut Vec<u8>, send: Probe) -> Result<(), AllocError>
+fn put_nobody(text: &mut Vec<u8>, send: Probe) -> Result<(), NoMemory>
     ensures { OnOk result (text.new.items ≡ text.old.items ++ nobody_line send) }
 {
     put_count(text, b"nobody ", send.node as u64)?;
     put_count(text, b":", send.place as u64)?;
-    text.extend_from_slice(b"\n")
+    text.extend_from_slice(b"\n")?;
+    Ok(())
 }
 
 /// Puts the line of a send, if no node is for it.
-fn put_nobody_if(text: &mut Vec<u8>, delivery: &Delivery) -> Result<(), AllocError>
+fn put_nobody_if(text: &mut Vec<u8>, delivery: &Delivery) -> Result<(), NoMemory>
     ensures { OnOk result (text.new.items ≡ text.old.items ++ nobody_if delivery.now) }
 {
     if delivery.due.is_empty() {
@@ -109,8 +116,8 @@ fn put_nobody_if(text: &mut Vec<u8>, delivery: &Delivery) -> Result<(), AllocErr
 }
 
 /// Puts the lines of those sends that no node is for.
-#[tactic(auto, using(hsr_deliveries::proofs::Growing::grown))]
-fn put_nobodies(text: &mut Vec<u8>, sends: &[Delivery]) -> Result<(), AllocError>
+#[tactic(auto, using(hsr_frame::proofs::OneMore::grown))]
+fn put_nobodies(text: &mut Vec<u8>, sends: &[Delivery]) -> Result<(), NoMemory>
     ensures { OnOk result (text.new.items ≡ text.old.items ++ flat_map nobody_if sends.now) }
 {
     for delivery in sends {
@@ -125,14 +132,16 @@ fn put_all_nobodies<const C: usize>(
     text: &mut Vec<u8>,
     closed: &Closed<C>,
 ) -> Result<(), NoMemory>
-    ensures { OnOk result (text.new.items ≡ text.old.items ++ flat_map nobody_if (deliveries closed.now.run)) }
+    ensures { OnOk result (text.new.items ≡ text.old.items
+        ++ flat_map nobody_if (deliveries closed.now.run)) }
 {
     let deliveries = deliveries(alloc, closed)?;
     put_nobodies(text, deliveries.sends.as_slice())?;
     Ok(())
 }
 
-/// Puts what the report of a network tells more than that of a ring.
+/// Puts what the report of a network tells more than that of a ring. `NoMemory` if allocation fails; a front of it may
+/// stand there then.
 pub fn put_network<const C: usize>(
     alloc: Global,
     text: &mut Vec<u8>,
@@ -142,8 +151,10 @@ pub fn put_network<const C: usize>(
     ensures { OnOk result (text.new.items ≡ text.old.items ++ network_lines scope closed.now.run) }
 {
     match scope {
+        // Without `--network` a report has the agreed lines alone.
         Scope::Ring => Ok(()),
         Scope::Network => {
+            // Of doubted runs too: who reads of a doubt looks for just that.
             put_all_unlinked(text, closed)?;
             put_all_nobodies(alloc, text, closed)
         }

@@ -5,7 +5,7 @@ ghost use Rattle.hsr_report.specs.Found.{IsPart, TellsAsked, TellsBudget, TellsD
 use crate::needs::put_needed;
 use crate::spending::{put_spending, spending_of};
 use hsr_audit::{deliveries, needed, put_deliveries};
-use hsr_closing::Closed;
+use hsr_finished_run::Closed;
 use hsr_frame::NoMemory;
 use hsr_options::Asked;
 use std::alloc::Global;
@@ -85,7 +85,8 @@ fn budget_part<const C: usize>(
     }
 }
 
-/// The parts that are asked for, one behind the other.
+/// The parts that are asked for, one behind the other: deliveries, entries needed, budget. `NoMemory` if allocation
+/// fails.
 pub fn parts<const C: usize>(
     alloc: Global,
     closed: &Closed<C>,
@@ -93,6 +94,7 @@ pub fn parts<const C: usize>(
 ) -> Result<Vec<u8>, NoMemory>
     ensures { IfOk result (λ text. TellsAsked asked closed.now.run text.items) }
 {
+    // In this order, whatever order the flags have (RULES, The report).
     let mut text = deliveries_part(alloc, closed, asked.deliveries)?;
     text.extend_from_slice(needed_part(alloc, closed, asked.needed)?.as_slice())?;
     text.extend_from_slice(budget_part(alloc, closed, asked.budget)?.as_slice())?;

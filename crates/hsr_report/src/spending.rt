@@ -4,15 +4,15 @@ ghost use Rattle.hsr_report.specs.Found.{IsSpending};
 ghost use Rattle.hsr_report.specs.Report.{spending_line};
 
 use hsr_audit::{BudgetFault, budget};
-use hsr_closing::Closed;
+use hsr_finished_run::Closed;
 use hsr_frame::NoMemory;
 use hsr_node_text::put_count;
-use std::alloc::{AllocError, Global};
+use std::alloc::Global;
 
 /// What a run spent of its tables.
 #[derive(Clone, Copy, Debug, PartialEq, Eq)]
 pub enum Spending {
-    /// It is within budget, with so many sends at most in 800 milliseconds.
+    /// It is within budget, with this number of sends at most in 800 milliseconds.
     Within(usize),
     /// This arrival came too late.
     Late { node: usize, place: usize },
@@ -20,7 +20,7 @@ pub enum Spending {
     Crowded { moment: u64 },
 }
 
-/// What a run spent of its tables. `NoMemory` where room is refused.
+/// What a run spent of its tables. `NoMemory` if allocation fails.
 pub fn spending_of<const C: usize>(alloc: Global, closed: &Closed<C>) -> Result<Spending, NoMemory>
     ensures { IfOk result (λ s. IsSpending closed.now.run s) }
 {
@@ -32,8 +32,9 @@ pub fn spending_of<const C: usize>(alloc: Global, closed: &Closed<C>) -> Result<
     }
 }
 
-/// Puts the line of the budget.
-pub fn put_spending(text: &mut Vec<u8>, spending: Spending) -> Result<(), AllocError>
+/// Puts the line of the budget (RULES, The report). `NoMemory` if allocation fails; a front of the line may stand
+/// there then.
+pub fn put_spending(text: &mut Vec<u8>, spending: Spending) -> Result<(), NoMemory>
     ensures { OnOk result (text.new.items ≡ text.old.items ++ spending_line spending) }
 {
     match spending {
@@ -44,5 +45,6 @@ pub fn put_spending(text: &mut Vec<u8>, spending: Spending) -> Result<(), AllocE
         }
         Spending::Crowded { moment } => put_count(text, b"budget crowded ", moment)?,
     }
-    text.extend_from_slice(b"\n")
+    text.extend_from_slice(b"\n")?;
+    Ok(())
 }

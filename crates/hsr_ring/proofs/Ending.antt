@@ -14,44 +14,45 @@ use Rattle.hsr_node.specs.declared.event.Event.TheVariants.{Send, Supervise, Arr
 use Rattle.hsr_node.specs.declared.place.Place.{Place}
 use Rattle.hsr_link.specs.declared.row.Row.{Row}
 use Rattle.hsr_topology.proofs.Ends.{end_is, end_same}
-use Rattle.hsr_closing.specs.Checked.{Agrees, IfDisagree, IsFirst, IsOpen}
-use Rattle.hsr_law.specs.Closed.{IsClosed, IsTableSize}
-use Rattle.hsr_closing.specs.Finished.{Finished, IsPlanned, planned_by}
-use Rattle.hsr_closing.specs.Finished as finished
-use Rattle.hsr_closing.specs.InOrder.{came}
+use Rattle.hsr_finished_run.specs.Checked.{Agrees, IfDisagree, IsFirst, IsOpen}
+use Rattle.hsr_duptable.specs.Table.{IsTableSize}
+use Rattle.hsr_run_laws.specs.Closed.{IsClosed}
+use Rattle.hsr_finished_run.specs.Finished.{Finished, IsPlanned, planned_by}
+use Rattle.hsr_finished_run.specs.Finished as finished
+use Rattle.hsr_finished_run.specs.InOrder.{came}
 use Rattle.hsr_topology.specs.Links.{is_end_of, is_same_end, is_used}
-use Rattle.hsr_law.specs.Once.{IsCalm}
-use Rattle.hsr_closing.specs.OfRecords.{ArePassesOf}
-use Rattle.hsr_closing.specs.Passes.{IsToldBy}
-use Rattle.hsr_closing.specs.Receipts.{HasReceipts}
-use Rattle.hsr_law.specs.Premises.{NumberedFirst}
-use Rattle.hsr_law.specs.Run.{Run}
-use Rattle.hsr_closing.specs.Shape.{IsShaped, NodesFit, is_linked}
+use Rattle.hsr_run_laws.specs.Once.{IsCalm}
+use Rattle.hsr_finished_run.specs.OfRecords.{ArePassesOf}
+use Rattle.hsr_finished_run.specs.Passes.{IsToldBy}
+use Rattle.hsr_finished_run.specs.Receipts.{HasReceipts}
+use Rattle.hsr_run_laws.specs.Premises.{NumberedFirst}
+use Rattle.hsr_run_laws.specs.Run.{Run}
+use Rattle.hsr_finished_run.specs.Shape.{IsShaped, NodesFit, is_linked}
 use Rattle.hsr_topology.specs.Topology.{Topology}
 use Rattle.hsr_topology.specs.Wired.{IsJoin, IsWired}
-use Rattle.hsr_closing.specs.declared.disagree.CheckFault.{CheckFault}
-use Rattle.hsr_closing.specs.declared.disagree.CheckFault.TheVariants as fault
-use Rattle.hsr_closing.specs.declared.disagree.Disagree.{Disagree}
-use Rattle.hsr_closing.specs.declared.disagree.Disagree.TheVariants.{Shape, LinkPut, LinkTaken, Stranger, NotQuiet}
-use Rattle.hsr_closing.specs.declared.disagree.Disagree.TheVariants as cause
+use Rattle.hsr_finished_run.specs.declared.disagree.CheckFault.{CheckFault}
+use Rattle.hsr_finished_run.specs.declared.disagree.CheckFault.TheVariants as fault
+use Rattle.hsr_finished_run.specs.declared.disagree.Disagree.{Disagree}
+use Rattle.hsr_finished_run.specs.declared.disagree.Disagree.TheVariants.{Shape, LinkPut, LinkTaken, Stranger, NotQuiet}
+use Rattle.hsr_finished_run.specs.declared.disagree.Disagree.TheVariants as cause
 use Rattle.hsr_topology.specs.declared.end.End.{End}
-use Rattle.hsr_closing.specs.declared.planned.Planned.{Planned}
-use Rattle.hsr_closing.proofs.Forwards.{arrivals_of}
-use Rattle.hsr_law.proofs.NoStorm.{no_storm}
-use Rattle.hsr_closing.proofs.Shaped.{from_there}
-use Rattle.hsr_world.specs.Closing.{IsOwn, run_of}
+use Rattle.hsr_finished_run.specs.declared.planned.Planned.{Planned}
+use Rattle.hsr_finished_run.proofs.Forwards.{arrivals_of}
+use Rattle.hsr_run_laws.proofs.NoStorm.{no_storm}
+use Rattle.hsr_finished_run.proofs.Shaped.{from_there}
+use Rattle.hsr_world_laws.specs.Closing.{IsOwn, run_of}
 use Rattle.hsr_ring.specs.Ending.{AreRowsOf, IsToldClosed, IsToldOpen}
-use Rattle.hsr_world.specs.Lawful.{IsEnded, finished_of}
-use Rattle.hsr_world.specs.Spans.{Span}
-use Rattle.hsr_world.specs.Reached.{IsReached}
+use Rattle.hsr_world_laws.specs.Lawful.{IsEnded, finished_of}
+use Rattle.hsr_world_laws.specs.Spans.{Span}
+use Rattle.hsr_world_laws.specs.Reached.{IsReached}
 use Rattle.hsr_ring.specs.Views.{AreNumbered, world_of}
-use Rattle.hsr_world.specs.World.{World, new_world}
-use Rattle.hsr_world.proofs.Closed.{always_closes, always_numbered_first, spans_counted, linked, only_quiet_closes, run_is, wires}
+use Rattle.hsr_world_laws.specs.World.{World, new_world}
+use Rattle.hsr_world_laws.proofs.Closed.{always_closes, always_numbered_first, spans_counted, linked, only_quiet_closes, run_is, wires}
 use Rattle.hsr_ring.proofs.Entered.{number_at}
-use Rattle.hsr_world.proofs.Lawful.{own_of, same_links}
-use Rattle.hsr_world.proofs.Linked.{is_led_to, leads_to}
-use Rattle.hsr_world.proofs.Plans.{always_planned}
-use Rattle.hsr_world.proofs.Wires.{run_keeps, wire_of}
+use Rattle.hsr_world_laws.proofs.Lawful.{own_of, same_links}
+use Rattle.hsr_world_laws.proofs.Linked.{is_led_to, leads_to}
+use Rattle.hsr_world_laws.proofs.Plans.{always_planned}
+use Rattle.hsr_world_laws.proofs.Wires.{run_keeps, wire_of}
 
 -- ---- where a link leads, it is used
 
@@ -87,7 +88,7 @@ linked_at : (links : List (List End)) (k : ℕ) (entries : List Entry) (i : ℕ)
 linked_at links k entries i d h below = by_event (get_or entries i d).event (λ port none. none_at port entries i d none below)
   where
     by_event : (e : Event) → ((port : ℕ) → came port entries ≡ [] → copy_at port e ≡ None) → is_linked links k e ≡ true
-    by_event (Send from dst vlan kind payload) f = refl
+    by_event (Send from dst vlan ethertype payload) f = refl
     by_event (Supervise about) f = refl
     by_event Age f = refl
     by_event (Arrive port copy) f = ⊎_elim (λ is. is) (λ none. here none (ap (λ b. cond b (Some copy) None) (eq-eqb port port refl)) (f port none)) (h port)

@@ -14,18 +14,18 @@ use Rattle.hsr_node.specs.declared.event.Event.TheVariants as event
 use Rattle.hsr_node.specs.declared.event.Outcome.{Outcome}
 use Rattle.hsr_node.specs.declared.event.StepFault.{StepFault}
 use Rattle.hsr_node.specs.declared.place.Place.{Place}
-use Rattle.hsr_world.specs.Spans.{Span, Spot, emptied, held_in, lane_of, lanes_of, spot_from, spread, with_lane, with_link}
-use Rattle.hsr_spans.specs.Ports.{AreTold, port_at, ports_in}
-use Rattle.hsr_world.specs.World.{World, and_added, cleared, entered, has_link, has_node, has_port, judged_at, span_at, or_same, owner_at, planned, port_worker, put_at, put_from, record_at, take_to, taken_by, tried, with_span}
-use Rattle.hsr_spans.specs.declared.port.Port.{Port}
-use Rattle.hsr_step.specs.declared.step.Step.{Step}
-use Rattle.hsr_step.specs.declared.step.Step.TheVariants.{Clock, Send, Supervise, Age, Put, Take, Judge, Cut, Mend, Inject}
-use Rattle.hsr_step.specs.declared.step.WorldFault.{WorldFault}
-use Rattle.hsr_step.specs.declared.step.WorldFault.TheVariants.{TooLong}
-use Rattle.hsr_world.proofs.Counts.{map_set_same}
-use Rattle.hsr_spans.specs.Touching.{AreTouching, touching_from, touching_in}
-use Rattle.hsr_spans.proofs.Touched.{touching_same}
-use Rattle.hsr_spans.proofs.Ports.{ends_at, map_same, mapped, port_same}
+use Rattle.hsr_world_laws.specs.Spans.{Span, Spot, emptied, held_in, lane_of, lanes_of, spot_from, spread, with_lane, with_link}
+use Rattle.hsr_world_links.specs.Ports.{AreTold, port_at, ports_in}
+use Rattle.hsr_world_laws.specs.World.{World, and_added, cleared, entered, has_link, has_node, has_port, judged_at, span_at, or_same, owner_at, planned, port_worker, put_at, put_from, record_at, take_to, taken_by, tried, with_span}
+use Rattle.hsr_world_links.specs.declared.port.Port.{Port}
+use Rattle.hsr_world_steps.specs.declared.step.Step.{Step}
+use Rattle.hsr_world_steps.specs.declared.step.Step.TheVariants.{Clock, Send, Supervise, Age, Put, Take, Judge, Cut, Mend, Inject}
+use Rattle.hsr_world_steps.specs.declared.step.WorldFault.{WorldFault}
+use Rattle.hsr_world_steps.specs.declared.step.WorldFault.TheVariants.{TooLong}
+use Rattle.hsr_world_laws.proofs.Counts.{map_set_same}
+use Rattle.hsr_world_links.specs.Touching.{AreTouching, touching_from, touching_in}
+use Rattle.hsr_world_links.proofs.Touched.{touching_same}
+use Rattle.hsr_world_links.proofs.Ports.{ends_at, map_same, mapped, port_same}
 
 -- ---- each step keeps the ends of links
 
@@ -91,7 +91,7 @@ same_injected w l dir octets false = same_span w l _ refl
 pub keeps_ends : (capacity : ℕ) (w : World) (step : Step) → AreSame (or_same w (tried capacity w step)) w
 unfolding tried
 keeps_ends capacity w (Clock at) = record { places = refl; ends = refl }
-keeps_ends capacity w (Send n from dst vlan kind payload) = guarded w (has_node w n) _ _ (same_own capacity w n (event.Send from dst vlan kind payload))
+keeps_ends capacity w (Send n from dst vlan ethertype payload) = guarded w (has_node w n) _ _ (same_own capacity w n (event.Send from dst vlan ethertype payload))
 keeps_ends capacity w (Supervise n about) = guarded w (has_node w n) _ _ (same_own capacity w n (event.Supervise about))
 keeps_ends capacity w (Age n) = guarded w (has_node w n) _ _ (same_own capacity w n event.Age)
 keeps_ends capacity w (Put n port) = guarded w (has_node w n) _ _ (guarded w (has_port w n port) _ _ (same_put w (spot_from (record { node = n; port = port }) 0 w.spans)))

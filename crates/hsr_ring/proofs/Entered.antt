@@ -3,7 +3,7 @@ use Rattle.std.proofs.Common.{◌≡◌, ◌⊎◌, inl, inr, ℕ, ◌<◌, ◌+
 use Rattle.std.proofs.lemmas.List.FromFn.{get_or-range_with_len}
 use Rattle.std.proofs.lemmas.List.{map-set, get_or-map, length-map, length-set, length-append, length-reverse, reverse-append, get_or-set_same, get_or_push}
 use Rattle.std.specs.List.{range_with_len}
-use Rattle.hsr_law.specs.Run.{owner_in, record_in}
+use Rattle.hsr_run_laws.specs.Run.{owner_in, record_in}
 use Rattle.hsr_topology.specs.declared.end.End.{End}
 use Rattle.hsr_node.specs.Kept.{Record, answer_to, owner_of, past_of}
 use Rattle.hsr_node.specs.Record.{Owner, answer, now}
@@ -17,18 +17,18 @@ use Rattle.hsr_node.specs.declared.event.StepFault.TheVariants as refused
 use Rattle.hsr_node.specs.declared.place.Place.{Place}
 use Rattle.hsr_node.specs.declared.place.Place.TheVariants.{QuadBox}
 use Rattle.hsr_ring.specs.Entering.{IsEntered, IsNotEntered, IsRefusal, IsStepped, IsThere, IsUnplanned, answer_in, past_in, world_fault}
-use Rattle.hsr_spans.specs.Ports.{places_of}
-use Rattle.hsr_spans.specs.Giving.{given_lane, given_span, receipt_of}
-use Rattle.hsr_world.specs.Spans.{Span, emptied, held_in, lanes_of, on_lanes, spread}
+use Rattle.hsr_world_links.specs.Ports.{places_of}
+use Rattle.hsr_world_links.specs.Giving.{given_lane, given_span, receipt_of}
+use Rattle.hsr_world_laws.specs.Spans.{Span, emptied, held_in, lanes_of, on_lanes, spread}
 use Rattle.hsr_ring.specs.Views.{AreNumbered, world_of}
-use Rattle.hsr_spans.specs.Views.{span_view}
-use Rattle.hsr_world.specs.World.{World, added, and_added, cleared, entered, judged_at, planned}
-use Rattle.hsr_spans.specs.declared.span.Span as code
-use Rattle.hsr_step.specs.declared.step.WorldFault.{WorldFault}
-use Rattle.hsr_step.specs.declared.step.WorldFault.TheVariants.{NoMemory, Node, Nothing}
-use Rattle.hsr_spans.proofs.Places.{or_map}
-use Rattle.hsr_spans.proofs.Touched.{map_given}
-use Rattle.hsr_world.proofs.Counts.{map_set_same}
+use Rattle.hsr_world_links.specs.Views.{span_view}
+use Rattle.hsr_world_laws.specs.World.{World, added, and_added, cleared, entered, judged_at, planned}
+use Rattle.hsr_world_links.specs.declared.span.Span as code
+use Rattle.hsr_world_steps.specs.declared.step.WorldFault.{WorldFault}
+use Rattle.hsr_world_steps.specs.declared.step.WorldFault.TheVariants.{NoMemory, Node, Nothing}
+use Rattle.hsr_world_links.proofs.Places.{or_map}
+use Rattle.hsr_world_links.proofs.Touched.{map_given}
+use Rattle.hsr_world_laws.proofs.Counts.{map_set_same}
 
 -- ---- numbers
 

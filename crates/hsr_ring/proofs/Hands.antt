@@ -9,14 +9,14 @@ use Rattle.hsr_link.specs.declared.row.Dir.TheVariants.{Forth, Back}
 use Rattle.hsr_node.specs.declared.event.Carried.{Carried}
 use Rattle.hsr_node.specs.declared.event.Event.{Event}
 use Rattle.hsr_node.specs.declared.event.Event.TheVariants as event
-use Rattle.hsr_world.specs.Spans.{Lane, Span, Spot, emptied, held_in, lane_of, lanes_of, on_lanes}
-use Rattle.hsr_world.specs.World.{World, cleared, entered, judged_at, port_worker, span_in}
+use Rattle.hsr_world_laws.specs.Spans.{Lane, Span, Spot, emptied, held_in, lane_of, lanes_of, on_lanes}
+use Rattle.hsr_world_laws.specs.World.{World, cleared, entered, judged_at, port_worker, span_in}
 use Rattle.hsr_ring.specs.Hands.{given_back, in_hand}
-use Rattle.hsr_spans.specs.Hands.{hand_in, handed}
-use Rattle.hsr_spans.specs.Ports.{spot_to}
-use Rattle.hsr_world.proofs.Counts.{map_set_same}
+use Rattle.hsr_world_links.specs.Hands.{hand_in, handed}
+use Rattle.hsr_world_links.specs.Ports.{spot_to}
+use Rattle.hsr_world_laws.proofs.Counts.{map_set_same}
 use Rattle.hsr_ring.proofs.Entered.{cleared_entered, cleared_result}
-use Rattle.hsr_spans.proofs.Ports.{hand_spot, spot_to_leads}
+use Rattle.hsr_world_links.proofs.Ports.{hand_spot, spot_to_leads}
 
 -- the same hand again
 own_hand : (dir : Dir) (span : Span) (hand : Option Carried) → (lane_of dir span).hand ≡ hand → handed dir hand span ≡ span

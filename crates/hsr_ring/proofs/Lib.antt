@@ -7,3 +7,4 @@ pub mod Next
 pub mod Looked
 pub mod Stopped
 pub mod Ending
+pub mod Orders

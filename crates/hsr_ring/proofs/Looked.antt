@@ -18,27 +18,27 @@ use Rattle.hsr_node.specs.declared.event.Event.TheVariants as event
 use Rattle.hsr_node.specs.declared.event.Outcome.{Outcome}
 use Rattle.hsr_node.specs.declared.event.StepFault.{StepFault}
 use Rattle.hsr_node.specs.declared.place.Place.{Place}
-use Rattle.hsr_world.specs.Fit.{FitsStep}
-use Rattle.hsr_world.specs.Spans.{Lane, Span, Spot, emptied, gift, held_in, lane_of, lanes_of, on_lanes, spot_from, spread, with_lane, with_link}
+use Rattle.hsr_world_laws.specs.Fit.{FitsStep}
+use Rattle.hsr_world_laws.specs.Spans.{Lane, Span, Spot, emptied, gift, held_in, lane_of, lanes_of, on_lanes, spot_from, spread, with_lane, with_link}
 use Rattle.hsr_node.specs.Flow.{pass_of}
-use Rattle.hsr_world.specs.World.{World, and_added, cleared, entered, has_link, has_node, has_port, is_empty, judged_at, new_span, new_world, no_lane, or_same, owner_at, planned, port_worker, put_at, put_from, record_at, span_at, span_in, take_to, taken_by, tried, waits_in, with_span}
-use Rattle.hsr_numbers.specs.Numbers.{has}
+use Rattle.hsr_world_laws.specs.World.{World, and_added, cleared, entered, has_link, has_node, has_port, is_empty, judged_at, new_span, new_world, no_lane, or_same, owner_at, planned, port_worker, put_at, put_from, record_at, span_at, span_in, take_to, taken_by, tried, waits_in, with_span}
+use Rattle.hsr_bitset.specs.Numbers.{has}
 use Rattle.hsr_ring.specs.Pending.{AreLooked, ArePending, IsKept, hand_of, is_at, is_by, link_at, touches_box, touches_hand, touches_link}
-use Rattle.hsr_spans.specs.Ports.{AreTold, dir_at, end_at, held_at, is_held, is_ready, is_waiting, port_in, ports_in, port_fault}
-use Rattle.hsr_spans.specs.Views.{spot_view}
+use Rattle.hsr_world_links.specs.Ports.{AreTold, dir_at, end_at, held_at, is_held, is_ready, is_waiting, port_in, ports_in, port_fault}
+use Rattle.hsr_world_links.specs.Views.{spot_view}
 use Rattle.hsr_ring.specs.declared.pending.Pending.{Pending}
-use Rattle.hsr_spans.specs.declared.port.Port.{Port}
-use Rattle.hsr_step.specs.declared.step.Step.{Step}
-use Rattle.hsr_step.specs.declared.step.Step.TheVariants.{Clock, Send, Supervise, Age, Put, Take, Judge, Cut, Mend, Inject}
-use Rattle.hsr_step.specs.declared.step.WorldFault.{WorldFault}
-use Rattle.hsr_step.specs.declared.step.WorldFault.TheVariants.{NoSuchLink, NoSuchNode, NoSuchPort, TooLong}
-use Rattle.hsr_law.specs.Closed.{IsTableSize}
-use Rattle.hsr_law.specs.Run.{no_end}
-use Rattle.hsr_world.specs.Reached.{IsReached}
-use Rattle.hsr_world.proofs.Reached.{reached-step}
-use Rattle.hsr_spans.specs.Touching.{AreTouching}
+use Rattle.hsr_world_links.specs.declared.port.Port.{Port}
+use Rattle.hsr_world_steps.specs.declared.step.Step.{Step}
+use Rattle.hsr_world_steps.specs.declared.step.Step.TheVariants.{Clock, Send, Supervise, Age, Put, Take, Judge, Cut, Mend, Inject}
+use Rattle.hsr_world_steps.specs.declared.step.WorldFault.{WorldFault}
+use Rattle.hsr_world_steps.specs.declared.step.WorldFault.TheVariants.{NoSuchLink, NoSuchNode, NoSuchPort, TooLong}
+use Rattle.hsr_duptable.specs.Table.{IsTableSize}
+use Rattle.hsr_run_laws.specs.Run.{no_end}
+use Rattle.hsr_world_laws.specs.Reached.{IsReached}
+use Rattle.hsr_world_laws.proofs.Reached.{reached-step}
+use Rattle.hsr_world_links.specs.Touching.{AreTouching}
 use Rattle.hsr_ring.proofs.Ends.{still_touching, AreSame, keeps_ends, told_same}
-use Rattle.hsr_spans.proofs.Ports.{Ends, ends_at, is_there, out_there, port_of_number, spot_from_leads, spot_to_leads}
+use Rattle.hsr_world_links.proofs.Ports.{Ends, ends_at, is_there, out_there, port_of_number, spot_from_leads, spot_to_leads}
 
 -- ---- one span, before and after a step, as the ports and the direction of a number see it where the step doesn't touch them
 
@@ -251,7 +251,7 @@ own_entry capacity w list step k n e boxes =
 untouched : (capacity : ℕ) (w : World) (list : List Port) (k : ℕ) → AreTold w.places w.spans list → (step : Step) → Untouched w list step k (or_same w (tried capacity w step))
 unfolding tried
 untouched capacity w list k told (Clock at) = unchanged k _ _ _ w
-untouched capacity w list k told (Send n from dst vlan kind payload) = own_entry capacity w list (Send n from dst vlan kind payload) k n (event.Send from dst vlan kind payload) refl
+untouched capacity w list k told (Send n from dst vlan ethertype payload) = own_entry capacity w list (Send n from dst vlan ethertype payload) k n (event.Send from dst vlan ethertype payload) refl
 untouched capacity w list k told (Supervise n about) = own_entry capacity w list (Supervise n about) k n (event.Supervise about) refl
 untouched capacity w list k told (Age n) = own_entry capacity w list (Age n) k n event.Age refl
 untouched capacity w list k told (Put n port) = by_port (has_node w n) (has_port w n port) refl refl
@@ -331,7 +331,7 @@ same_hand v w e (Take l dir) =
     to Back a b e = ap (λ (x : Ends). x.back_to) e
 same_hand v w e (Judge n port) = refl
 same_hand v w e (Clock at) = refl
-same_hand v w e (Send n from dst vlan kind payload) = refl
+same_hand v w e (Send n from dst vlan ethertype payload) = refl
 same_hand v w e (Supervise n about) = refl
 same_hand v w e (Age n) = refl
 same_hand v w e (Put n port) = refl

@@ -13,20 +13,20 @@ use Rattle.hsr_link.specs.declared.row.Dir.TheVariants.{Forth, Back}
 use Rattle.hsr_node.specs.Place.{ports}
 use Rattle.hsr_node.specs.declared.place.Place.{Place}
 use Rattle.hsr_node.specs.declared.place.Place.TheVariants.{QuadBox}
-use Rattle.hsr_world.specs.Spans.{Span}
-use Rattle.hsr_world.specs.World.{World, next_step, no_lane, ports_from, ports_of, span_in, take_from}
-use Rattle.hsr_world.specs.World as world
-use Rattle.hsr_numbers.specs.Numbers.{IsLowest}
+use Rattle.hsr_world_laws.specs.Spans.{Span}
+use Rattle.hsr_world_laws.specs.World.{World, next_step, no_lane, ports_from, ports_of, span_in, take_from}
+use Rattle.hsr_world_laws.specs.World as world
+use Rattle.hsr_bitset.specs.Numbers.{IsLowest}
 use Rattle.hsr_ring.specs.Pending.{ArePending, Has, IsJudgeOr, IsNext, IsPutOr, take_at}
-use Rattle.hsr_spans.specs.Ports.{AreTold, dir_at, end_at, is_held, is_ready, is_waiting, no_port, port_if, port_in, port_of, held_at, port_fault}
-use Rattle.hsr_spans.specs.Views.{spot_view}
+use Rattle.hsr_world_links.specs.Ports.{AreTold, dir_at, end_at, is_held, is_ready, is_waiting, no_port, port_if, port_in, port_of, held_at, port_fault}
+use Rattle.hsr_world_links.specs.Views.{spot_view}
 use Rattle.hsr_ring.specs.declared.pending.Pending.{Pending}
-use Rattle.hsr_spans.specs.declared.port.Port.{Port}
-use Rattle.hsr_step.specs.declared.step.Step.{Step}
-use Rattle.hsr_step.specs.declared.step.Step.TheVariants.{Judge, Put, Take}
-use Rattle.hsr_step.specs.declared.step.WorldFault.{WorldFault}
-use Rattle.hsr_numbers.proofs.Bits.{nat_cases}
-use Rattle.hsr_spans.proofs.Ports.{IsThere, few_ports, held_spot, into_there, is_there, out_there, port_beyond, port_told}
+use Rattle.hsr_world_links.specs.declared.port.Port.{Port}
+use Rattle.hsr_world_steps.specs.declared.step.Step.{Step}
+use Rattle.hsr_world_steps.specs.declared.step.Step.TheVariants.{Judge, Put, Take}
+use Rattle.hsr_world_steps.specs.declared.step.WorldFault.{WorldFault}
+use Rattle.hsr_bitset.proofs.Bits.{nat_cases}
+use Rattle.hsr_world_links.proofs.Ports.{IsThere, few_ports, held_spot, into_there, is_there, out_there, port_beyond, port_told}
 
 -- ---- the ports of one node
 

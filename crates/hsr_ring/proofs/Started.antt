@@ -4,11 +4,11 @@ use Rattle.std.specs.List.{range_with_len}
 use Rattle.hsr_node.specs.Kept.{Record, past_of}
 use Rattle.hsr_node.specs.declared.entry.Entry.{Entry}
 use Rattle.hsr_node.specs.declared.place.Place.{Place}
-use Rattle.hsr_spans.specs.Ports.{places_of}
-use Rattle.hsr_world.specs.Spans.{Span}
+use Rattle.hsr_world_links.specs.Ports.{places_of}
+use Rattle.hsr_world_laws.specs.Spans.{Span}
 use Rattle.hsr_ring.specs.Starting.{new_records}
 use Rattle.hsr_ring.specs.Views.{AreNumbered, world_of}
-use Rattle.hsr_world.specs.World.{new_span, new_world}
+use Rattle.hsr_world_laws.specs.World.{new_span, new_world}
 use Rattle.hsr_topology.specs.declared.end.End.{End}
 
 new_places : (k : ℕ) (places : List Place) → places_of (new_records k places) ≡ places

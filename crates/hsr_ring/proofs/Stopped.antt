@@ -1,10 +1,10 @@
 -- The turns of a drain and of a run, one after another.
 use Rattle.std.proofs.Common.{◌≡◌, ℕ, ◌+◌, ◌<◌, suc, List, [], ◌∷◌, Some, Ok, refl, subst, arith, sym}
 use Rattle.hsr_ring.specs.Stopping.{IsDrainFault, IsRefused, Runs, Stops}
-use Rattle.hsr_world.specs.World.{Drains, World, next_step, tried}
-use Rattle.hsr_step.specs.declared.step.DrainFault.TheVariants as fault
-use Rattle.hsr_step.specs.declared.step.Step.{Step}
-use Rattle.hsr_step.specs.declared.step.WorldFault.{WorldFault}
+use Rattle.hsr_world_laws.specs.World.{Drains, World, next_step, tried}
+use Rattle.hsr_world_steps.specs.declared.step.DrainFault.TheVariants as fault
+use Rattle.hsr_world_steps.specs.declared.step.Step.{Step}
+use Rattle.hsr_world_steps.specs.declared.step.WorldFault.{WorldFault}
 
 -- ---- a drain
 

@@ -2,13 +2,13 @@
 use Rattle.std.proofs.Common.{◌≡◌, ℕ, List, [], ◌∷◌, Option, Some, None, Result, Err, refl, ◌∙◌, arith}
 use Rattle.std.proofs.lemmas.Grind.{common_steps}
 use Rattle.hsr_node.specs.declared.event.Carried.{Carried}
-use Rattle.hsr_world.specs.Spans.{held_in, lanes_of, Spot, lane_of, spot_from}
-use Rattle.hsr_spans.specs.Views.{in_span, in_spans, put_at_spot, put_out}
+use Rattle.hsr_world_laws.specs.Spans.{held_in, lanes_of, Spot, lane_of, spot_from}
+use Rattle.hsr_world_links.specs.Views.{in_span, in_spans, put_at_spot, put_out}
 use Rattle.hsr_ring.specs.Views.{in_world}
-use Rattle.hsr_spans.specs.Ports.{port_fault}
-use Rattle.hsr_world.specs.World.{World, if_port, judged_at, span_at, put_at, put_from, tried}
-use Rattle.hsr_step.specs.declared.step.Step.TheVariants.{Judge, Put}
-use Rattle.hsr_step.specs.declared.step.WorldFault.{WorldFault}
+use Rattle.hsr_world_links.specs.Ports.{port_fault}
+use Rattle.hsr_world_laws.specs.World.{World, if_port, judged_at, span_at, put_at, put_from, tried}
+use Rattle.hsr_world_steps.specs.declared.step.Step.TheVariants.{Judge, Put}
+use Rattle.hsr_world_steps.specs.declared.step.WorldFault.{WorldFault}
 
 pub no_port : (w : World) (n port : ℕ) (fault : WorldFault) (r : Result World WorldFault) → port_fault w.places n port ≡ Some fault → if_port w n port r ≡ Err fault
 no_port w n port fault r h = grind (arith, common_steps)

@@ -6,13 +6,13 @@ use Rattle.std.specs.Prelude.{ℕ, ◌≡◌, List, map, Vec}
 use Rattle.std.specs.Global.{Global}
 use Rattle.hsr_node.specs.Kept.{Record}
 use Rattle.hsr_link.specs.declared.row.Row.{Row}
-use Rattle.hsr_closing.specs.Finished.{Finished, items_of}
-use Rattle.hsr_closing.specs.OfRecords.{IsClosedOf, IsOpenOf}
+use Rattle.hsr_finished_run.specs.Finished.{Finished, items_of}
+use Rattle.hsr_finished_run.specs.OfRecords.{IsClosedOf, IsOpenOf}
 use Rattle.hsr_topology.specs.Topology.{Topology}
-use Rattle.hsr_closing.specs.declared.disagree.Disagree.{Disagree}
-use Rattle.hsr_closing.specs.declared.planned.Planned.{Planned}
-use Rattle.hsr_world.specs.Spans.{Span}
-use Rattle.hsr_spans.specs.Parting.{rows_in}
+use Rattle.hsr_finished_run.specs.declared.disagree.Disagree.{Disagree}
+use Rattle.hsr_finished_run.specs.declared.planned.Planned.{Planned}
+use Rattle.hsr_world_laws.specs.Spans.{Span}
+use Rattle.hsr_world_links.specs.Parting.{rows_in}
 
 abbrev pub AreRowsOf : List Span → List (Vec Row Global) → Type 0
 AreRowsOf spans rows = map items_of rows ≡ map rows_in spans

@@ -8,14 +8,14 @@ use Rattle.hsr_node.specs.declared.event.Event.{Event}
 use Rattle.hsr_node.specs.declared.event.Outcome.{Outcome}
 use Rattle.hsr_node.specs.declared.event.StepFault.{StepFault}
 use Rattle.hsr_node.specs.declared.event.StepFault.TheVariants as refused
-use Rattle.hsr_spans.specs.Ports.{places_of}
-use Rattle.hsr_world.specs.Spans.{Span}
+use Rattle.hsr_world_links.specs.Ports.{places_of}
+use Rattle.hsr_world_laws.specs.Spans.{Span}
 use Rattle.hsr_ring.specs.Views.{world_of}
-use Rattle.hsr_world.specs.World.{World, entered}
-use Rattle.hsr_law.specs.Run.{owner_in, record_in}
-use Rattle.hsr_closing.specs.declared.planned.Planned.{Planned}
-use Rattle.hsr_step.specs.declared.step.WorldFault.{WorldFault}
-use Rattle.hsr_step.specs.declared.step.WorldFault.TheVariants.{Node, NoMemory}
+use Rattle.hsr_world_laws.specs.World.{World, entered}
+use Rattle.hsr_run_laws.specs.Run.{owner_in, record_in}
+use Rattle.hsr_finished_run.specs.declared.planned.Planned.{Planned}
+use Rattle.hsr_world_steps.specs.declared.step.WorldFault.{WorldFault}
+use Rattle.hsr_world_steps.specs.declared.step.WorldFault.TheVariants.{Node, NoMemory}
 
 abbrev pub past_in : List Record → ℕ → List Entry
 past_in nodes n = record_in (map past_of nodes) n

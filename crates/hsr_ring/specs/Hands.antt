@@ -3,9 +3,9 @@ use Rattle.std.specs.Prelude.{Option, Some}
 use Rattle.hsr_node.specs.declared.event.Carried.{Carried}
 use Rattle.hsr_node.specs.declared.event.Event.{Event}
 use Rattle.hsr_node.specs.declared.event.Event.TheVariants.{Arrive}
-use Rattle.hsr_spans.specs.Hands.{with_hand}
-use Rattle.hsr_world.specs.Spans.{Spot}
-use Rattle.hsr_world.specs.World.{World}
+use Rattle.hsr_world_links.specs.Hands.{with_hand}
+use Rattle.hsr_world_laws.specs.Spans.{Spot}
+use Rattle.hsr_world_laws.specs.World.{World}
 
 abbrev pub in_hand : Option Carried → World → Option Spot → World
 in_hand hand w spot = record w { spans = with_hand hand w.spans spot }

@@ -5,3 +5,5 @@ pub mod Starting
 pub mod Stopping
 pub mod Pending
 pub mod Ending
+pub mod Playing
+pub mod Finishing

@@ -5,18 +5,18 @@ use Rattle.hsr_topology.specs.Links.{is_same_end}
 use Rattle.hsr_topology.specs.declared.end.End.{End}
 use Rattle.hsr_link.specs.declared.row.Dir.{Dir}
 use Rattle.hsr_node.specs.declared.place.Place.{Place}
-use Rattle.hsr_law.specs.Closed.{IsTableSize}
-use Rattle.hsr_world.specs.Spans.{Span, Spot, lane_of}
-use Rattle.hsr_world.specs.Reached.{IsReached}
-use Rattle.hsr_world.specs.World.{World, span_in}
-use Rattle.hsr_numbers.specs.Numbers.{IsLowest, has}
-use Rattle.hsr_spans.specs.Views.{spot_view}
-use Rattle.hsr_spans.specs.Ports.{dir_at, end_at, is_held, is_ready, is_waiting, AreTold, port_of}
-use Rattle.hsr_spans.specs.Touching.{AreTouching}
+use Rattle.hsr_duptable.specs.Table.{IsTableSize}
+use Rattle.hsr_world_laws.specs.Spans.{Span, Spot, lane_of}
+use Rattle.hsr_world_laws.specs.Reached.{IsReached}
+use Rattle.hsr_world_laws.specs.World.{World, span_in}
+use Rattle.hsr_bitset.specs.Numbers.{IsLowest, has}
+use Rattle.hsr_world_links.specs.Views.{spot_view}
+use Rattle.hsr_world_links.specs.Ports.{dir_at, end_at, is_held, is_ready, is_waiting, AreTold, port_of}
+use Rattle.hsr_world_links.specs.Touching.{AreTouching}
 use Rattle.hsr_ring.specs.declared.pending.Pending.{Pending}
-use Rattle.hsr_spans.specs.declared.port.Port.{Port}
-use Rattle.hsr_step.specs.declared.step.Step.{Step}
-use Rattle.hsr_step.specs.declared.step.Step.TheVariants.{Send, Supervise, Age, Put, Take, Judge, Cut, Inject}
+use Rattle.hsr_world_links.specs.declared.port.Port.{Port}
+use Rattle.hsr_world_steps.specs.declared.step.Step.{Step}
+use Rattle.hsr_world_steps.specs.declared.step.Step.TheVariants.{Send, Supervise, Age, Put, Take, Judge, Cut, Inject}
 
 -- a set has exactly the numbers below 512 that pass a test
 abbrev pub Has : List ℕ → (ℕ → Bool) → Type 0
@@ -46,7 +46,7 @@ hand_of spans _ = None
 
 -- the node whose outboxes may get a copy
 abbrev pub node_of : Step → Option ℕ
-node_of (Send n from dst vlan kind payload) = Some n
+node_of (Send n from dst vlan ethertype payload) = Some n
 node_of (Supervise n about) = Some n
 node_of (Age n) = Some n
 node_of (Judge n port) = Some n

@@ -1,11 +1,11 @@
 -- Steps that are done one after another, and how they stop early.
 use Rattle.std.specs.Prelude.{ℕ, zero, suc, ◌≡◌, ◌⊎◌, ◌<◌, List, [], ◌∷◌, Some, Ok, Err}
-use Rattle.hsr_world.specs.World.{World, Drains, next_step, tried}
-use Rattle.hsr_step.specs.declared.step.DrainFault.{DrainFault}
-use Rattle.hsr_step.specs.declared.step.DrainFault.TheVariants as fault
-use Rattle.hsr_step.specs.declared.step.Step.{Step}
-use Rattle.hsr_step.specs.declared.step.WorldFault.{WorldFault}
-use Rattle.hsr_step.specs.declared.step.WorldFault.TheVariants.{NoMemory}
+use Rattle.hsr_world_laws.specs.World.{World, Drains, next_step, tried}
+use Rattle.hsr_world_steps.specs.declared.step.DrainFault.{DrainFault}
+use Rattle.hsr_world_steps.specs.declared.step.DrainFault.TheVariants as fault
+use Rattle.hsr_world_steps.specs.declared.step.Step.{Step}
+use Rattle.hsr_world_steps.specs.declared.step.WorldFault.{WorldFault}
+use Rattle.hsr_world_steps.specs.declared.step.WorldFault.TheVariants.{NoMemory}
 
 -- a world refuses a step for this, or there is no memory
 abbrev pub IsRefused : ℕ → World → Step → WorldFault → Type 0

@@ -2,10 +2,10 @@
 use Rattle.std.specs.List.{range_with_len}
 use Rattle.std.specs.Prelude.{ℕ, ◌≡◌, ◌≤◌, List, length, map, Result, Ok, Err}
 use Rattle.hsr_node.specs.Kept.{Record, past_of}
-use Rattle.hsr_world.specs.Spans.{Span}
-use Rattle.hsr_world.specs.World.{World}
-use Rattle.hsr_closing.specs.declared.planned.Planned.{Planned}
-use Rattle.hsr_step.specs.declared.step.WorldFault.{WorldFault}
+use Rattle.hsr_world_laws.specs.Spans.{Span}
+use Rattle.hsr_world_laws.specs.World.{World}
+use Rattle.hsr_finished_run.specs.declared.planned.Planned.{Planned}
+use Rattle.hsr_world_steps.specs.declared.step.WorldFault.{WorldFault}
 
 abbrev pub in_world : World → Result (List Span) WorldFault → Result World WorldFault
 in_world w (Ok spans) = Ok (record w { spans = spans })

@@ -2,14 +2,14 @@
 //!
 //! All is handed over by value and comes back where the world isn't closed, so the caller has the same world as before.
 ghost use Rattle.std.specs.Prelude.{◌≡◌, IfErr, IfOk, map};
-ghost use Rattle.hsr_closing.specs.Checked.{IfDisagree};
+ghost use Rattle.hsr_finished_run.specs.Checked.{IfDisagree};
 ghost use Rattle.hsr_ring.specs.Ending.{IsToldClosed, IsToldOpen};
-ghost use Rattle.hsr_spans.specs.Views.{span_view};
+ghost use Rattle.hsr_world_links.specs.Views.{span_view};
 
-use hsr_closing::{CheckFault, Closed, Planned, Records};
+use hsr_finished_run::{CheckFault, Closed, Planned, Records};
 use hsr_node::Kept;
-use hsr_spans::{Parted, Span, join, part};
 use hsr_topology::Topology;
+use hsr_world_links::{Parted, Span, join, part};
 use std::alloc::Global;
 
 /// What a world is made of, but its links.

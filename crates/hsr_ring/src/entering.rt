@@ -1,15 +1,15 @@
 //! An event that a worker brings to a node.
 ghost use Rattle.std.specs.Prelude.{◌≡◌, ◌⊎◌, ◌<◌, IfErr, IfOk, OnOk, length, map, slice_index_or};
 ghost use Rattle.hsr_ring.specs.Entering.{IsEntered, IsNotEntered, IsRefusal, IsStepped, IsThere, world_fault};
-ghost use Rattle.hsr_spans.specs.Giving.{receipt_of};
-ghost use Rattle.hsr_spans.specs.Touching.{touching_from};
+ghost use Rattle.hsr_world_links.specs.Giving.{receipt_of};
+ghost use Rattle.hsr_world_links.specs.Touching.{touching_from};
 ghost use Rattle.hsr_ring.specs.Views.{AreNumbered};
-ghost use Rattle.hsr_spans.specs.Views.{span_view};
-ghost use Rattle.hsr_step.specs.declared.step.WorldFault.TheVariants.{NoMemory};
+ghost use Rattle.hsr_world_links.specs.Views.{span_view};
+ghost use Rattle.hsr_world_steps.specs.declared.step.WorldFault.TheVariants.{NoMemory};
 
 use hsr_node::{Answer, Entry, Event, Kept, Probe, StepFault};
-use hsr_spans::{Span, commit, prepare};
-use hsr_step::WorldFault;
+use hsr_world_links::{Span, commit, prepare};
+use hsr_world_steps::WorldFault;
 use std::alloc::Global;
 
 /// Why a step is refused for which a node refuses an event.

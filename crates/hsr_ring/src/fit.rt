@@ -3,11 +3,11 @@
 //! None of these functions does anything when it runs. The clause of each call tells the proof what the types keep true.
 ghost use Rattle.std.specs.Prelude.{◌<◌, ◌^◌, ◌≡◌, length, IfSome};
 ghost use Rattle.std.specs.List.{All};
-ghost use Rattle.hsr_world.specs.Fit.{FitsPlace, FitsStep, IsFit};
+ghost use Rattle.hsr_world_laws.specs.Fit.{FitsPlace, FitsStep, IsFit};
 
 use hsr_frame::Mac;
 use hsr_node::Place;
-use hsr_step::Step;
+use hsr_world_steps::Step;
 
 /// A number of this type has 16 bits.
 fn number_fits(n: u16)
@@ -25,13 +25,13 @@ fn tag_fits(vlan: Option<u16>)
 }
 
 /// A send's address has six octets, and its VLAN tag and its type 16 bits.
-fn send_fits(dst: &Mac, vlan: Option<u16>, kind: u16)
-    ensures { IsFit dst.now vlan kind }
+fn send_fits(dst: &Mac, vlan: Option<u16>, ethertype: u16)
+    ensures { IsFit dst.now vlan ethertype }
 {
     // The clause of `octets` says that there are six.
     let _ = dst.octets();
     tag_fits(vlan);
-    number_fits(kind);
+    number_fits(ethertype);
 }
 
 /// Any step is fit: its address has six octets, and its VLAN tag and type 16 bits.
@@ -44,9 +44,9 @@ pub(crate) fn step_fits(step: &Step)
             from: _,
             dst,
             vlan,
-            kind,
+            kind: ethertype,
             payload: _,
-        } => send_fits(dst, *vlan, *kind),
+        } => send_fits(dst, *vlan, *ethertype),
         _ => {}
     }
 }

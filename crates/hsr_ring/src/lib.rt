@@ -1,5 +1,5 @@
-//! A world of any nodes and links, a ring or any other network: what a step makes of it, and what holds of it after
-//! any steps.
+//! Any network of nodes and links, one ring or many, in one world: what a step makes of it, what holds after any steps, and
+//! how a scenario is played in it to a finished run.
 //!
 //! Its modules, in the order in which to read them:
 //! - `entering`: an event that a worker brings to a node
@@ -9,20 +9,26 @@
 //! - `fit`: what the types of the code tell of steps and nodes
 //! - `running`: a world in code, and its steps
 //! - `world`: a world, its calls
+//! - `playing`: what orders do in a world
+//! - `finishing`: the finished run that orders lead to
 #![tactic(auto)]
 
 mod closing;
 mod entering;
+mod finishing;
 mod fit;
 mod pending;
+mod playing;
 mod running;
 mod starting;
 mod world;
 
-pub use hsr_step::{DrainFault, Step, WorldFault};
-pub use hsr_world::{
+pub use finishing::{Unfinished, finished};
+pub use hsr_world_laws::{
     always_closes, always_finishes, always_frames, always_numbered_first, always_of_send,
     always_origins, always_placed, always_planned, always_sent, always_sound, first_sound,
     fit_frames, only_quiet_closes, step_placed,
 };
+pub use hsr_world_steps::{DrainFault, Step, WorldFault};
+pub use playing::play;
 pub use world::World;

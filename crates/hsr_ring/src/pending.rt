@@ -5,18 +5,18 @@
 //! one account of it.
 ghost use Rattle.std.specs.Prelude.{◌≡◌, ◌==◌, ◌<◌, ◌≤◌, ◌/◌, ℕ, [], is_some, map, not, option_map};
 ghost use Rattle.hsr_topology.specs.Links.{is_same_end};
-ghost use Rattle.hsr_world.specs.Spans.{lane_of};
-ghost use Rattle.hsr_world.specs.World.{is_empty, waits_in};
-ghost use Rattle.hsr_numbers.specs.Numbers.{has};
+ghost use Rattle.hsr_world_laws.specs.Spans.{lane_of};
+ghost use Rattle.hsr_world_laws.specs.World.{is_empty, waits_in};
+ghost use Rattle.hsr_bitset.specs.Numbers.{has};
 ghost use Rattle.hsr_ring.specs.Pending.{Has, is_at, is_by, link_at, looked, received_at};
-ghost use Rattle.hsr_spans.specs.Ports.{dir_at, end_at, held_at, is_held, is_ready, is_waiting};
-ghost use Rattle.hsr_spans.specs.Views.{span_view, spot_view};
+ghost use Rattle.hsr_world_links.specs.Ports.{dir_at, end_at, held_at, is_held, is_ready, is_waiting};
+ghost use Rattle.hsr_world_links.specs.Views.{span_view, spot_view};
 
+use hsr_bitset::Numbers;
 use hsr_link::Dir;
-use hsr_numbers::Numbers;
-use hsr_spans::{Port, Span, Spot, port_in, port_of};
-use hsr_step::Step;
 use hsr_topology::End;
+use hsr_world_links::{Port, Span, Spot, number_of, port_in, port_of};
+use hsr_world_steps::Step;
 
 /// The numbers of the ports that hold a copy, of those that have one to put, and of the directions in which one waits. A node
 /// has 8 numbers for its ports, and a link 2 for its directions.
@@ -48,7 +48,7 @@ fn is_full(span: &Span, dir: Dir) -> bool
 }
 
 /// Whether a port that receives there holds a copy.
-#[tactic(auto, using(hsr_spans::proofs::Places::span_seen))]
+#[tactic(auto, using(hsr_world_links::proofs::Places::span_seen))]
 fn is_held(spans: &[Span], spot: Option<Spot>) -> bool
     ensures { result ≡ held_at (map span_view spans.now) (option_map spot_view spot) }
 {
@@ -62,7 +62,7 @@ fn is_held(spans: &[Span], spot: Option<Spot>) -> bool
 }
 
 /// Whether a port that sends there has a copy to put.
-#[tactic(auto, using(hsr_spans::proofs::Places::span_seen))]
+#[tactic(auto, using(hsr_world_links::proofs::Places::span_seen))]
 fn is_waiting(spans: &[Span], spot: Option<Spot>) -> bool
     ensures { result ≡ waits_in (map span_view spans.now) (option_map spot_view spot) }
 {
@@ -76,7 +76,7 @@ fn is_waiting(spans: &[Span], spot: Option<Spot>) -> bool
 }
 
 /// Whether a copy waits in the direction of a number.
-#[tactic(auto, using(hsr_spans::proofs::Places::span_seen))]
+#[tactic(auto, using(hsr_world_links::proofs::Places::span_seen))]
 fn is_ready(spans: &[Span], number: usize) -> bool
     ensures { result ≡ is_ready (map span_view spans.now) number }
 {
@@ -104,7 +104,7 @@ fn look_at_hand(held: &mut Numbers, ports: &[Port], spans: &[Span], end: End)
 {
     // Past these the number would be another port's, or none of the set.
     if end.node < 64 && end.port < 8 {
-        let number = 8 * end.node + usize::from(end.port);
+        let number = number_of(end);
         held.put(number, is_held(spans, port_in(ports, number).into));
     }
 }
@@ -116,7 +116,7 @@ fn look_at_box(waiting: &mut Numbers, ports: &[Port], spans: &[Span], end: End)
 {
     // Past these the number would be another port's, or none of the set.
     if end.node < 64 && end.port < 8 {
-        let number = 8 * end.node + usize::from(end.port);
+        let number = number_of(end);
         waiting.put(number, is_waiting(spans, port_in(ports, number).out));
     }
 }
@@ -157,7 +157,7 @@ fn look_at_out(ready: &mut Numbers, spans: &[Span], out: Option<Spot>)
 }
 
 /// The end at which a direction of a link is received, if there is such a link.
-#[tactic(auto, using(hsr_spans::proofs::Places::span_seen))]
+#[tactic(auto, using(hsr_world_links::proofs::Places::span_seen))]
 fn received_at(spans: &[Span], link: usize, dir: Dir) -> Option<End>
     ensures { result ≡ received_at (map span_view spans.now) link dir }
 {

@@ -1,29 +1,30 @@
 //! A world in code, and its steps.
 //!
-//! A fault of a call below is handed on by `match` and not by `?`, which gets no proof at these ways out.
+//! A fault of a call below is handed on by `match` and not by `?`, which gets no proof at these returns.
 ghost use Rattle.std.specs.Prelude.{◌≡◌, ◌⊎◌, ◌<◌, ◌≤◌, ◌^◌, Ok, Err, OnOk, IfErr, IfNone, IfOk, map, length, option_map, reverse};
+ghost use Rattle.hsr_duptable.specs.Table.{IsTableSize};
 ghost use Rattle.hsr_ring.specs.Views.{in_world};
-ghost use Rattle.hsr_spans.specs.Ports.{port_fault, AreTold};
-ghost use Rattle.hsr_spans.specs.Views.{put_at_spot, spot_view};
-ghost use Rattle.hsr_spans.specs.Touching.{AreTouching, touching_from, touching_in};
+ghost use Rattle.hsr_world_links.specs.Ports.{port_fault, AreTold};
+ghost use Rattle.hsr_world_links.specs.Views.{put_at_spot, spot_view};
+ghost use Rattle.hsr_world_links.specs.Touching.{AreTouching, touching_from, touching_in};
 ghost use Rattle.hsr_ring.specs.Entering.{IsUnplanned};
 ghost use Rattle.hsr_node.specs.Kept.{Record};
-ghost use Rattle.hsr_world.specs.World.{port_worker};
+ghost use Rattle.hsr_world_laws.specs.World.{port_worker};
 
 use crate::closing::{Open, Rest, closed_of};
 use crate::entering::enter;
 use crate::pending::Pending;
 use crate::starting::new_nodes;
-use hsr_closing::{CheckFault, Closed, Planned};
+use hsr_finished_run::{CheckFault, Closed, Planned};
 use hsr_frame::{About, Counters, Mac};
 use hsr_link::{Dir, Row};
 use hsr_node::{Carried, Entry, Event, Kept, Octets};
-use hsr_spans::{
+use hsr_topology::{End, Topology};
+use hsr_world_links::{
     Port, Span, Spot, change_hand, clear, cut_at, inject_at, mend_at, new_ports, new_spans,
     new_touching, port_fault, port_of, put_at_spot, take_at, touching_of,
 };
-use hsr_step::{INJECT_LIMIT, Step, WorldFault};
-use hsr_topology::{End, Topology};
+use hsr_world_steps::{INJECT_LIMIT, Step, WorldFault};
 use std::alloc::Global;
 use std::marker::Model;
 
@@ -40,8 +41,8 @@ pub(crate) struct Running<const C: usize> {
 impl<const C: usize> Model for Running<C> {
     ghost use Rattle.std.specs.Prelude.{map};
     ghost use Rattle.hsr_ring.specs.Views.{AreNumbered, world_of};
-    ghost use Rattle.hsr_spans.specs.Views.{span_view};
-    ghost use Rattle.hsr_world.specs.World.{World};
+    ghost use Rattle.hsr_world_links.specs.Views.{span_view};
+    ghost use Rattle.hsr_world_laws.specs.World.{World};
 
     ghost Value = { World };
 
@@ -60,7 +61,7 @@ fn port_worker(end: End) -> u16
 }
 
 impl<const C: usize> Running<C> {
-    ghost use Rattle.hsr_world.specs.World.{new_world};
+    ghost use Rattle.hsr_world_laws.specs.World.{new_world};
 
     /// The world of a topology in which nothing was done; on each link `capacity` copies may wait in each direction.
     pub(crate) fn new(
@@ -68,7 +69,7 @@ impl<const C: usize> Running<C> {
         topology: &Topology,
         capacity: usize,
     ) -> Result<Running<C>, hsr_frame::NoMemory>
-        requires entries { (1 ≤ C) × (C ≤ 65535) }
+        requires entries { IsTableSize C }
         requires room { (1 ≤ capacity) × (capacity ≤ 4096) }
         ensures { IfOk result (λ running. running
             ≡ new_world capacity topology.now.places topology.now.links) }
@@ -87,13 +88,13 @@ impl<const C: usize> Running<C> {
 
 impl<const C: usize> Running<C> {
     ghost use Rattle.hsr_ring.specs.Hands.{given_back, in_hand};
-    ghost use Rattle.hsr_spans.specs.Hands.{hand_in};
-    ghost use Rattle.hsr_world.specs.World.{by_main, cleared, entered, planned, tried};
-    ghost use Rattle.hsr_step.specs.declared.step.Step.TheVariants.{Age, Clock, Cut, Inject, Judge, Mend, Put, Send, Supervise, Take};
-    ghost use Rattle.hsr_step.specs.declared.step.WorldFault.TheVariants.{NoMemory};
+    ghost use Rattle.hsr_world_links.specs.Hands.{hand_in};
+    ghost use Rattle.hsr_world_laws.specs.World.{by_main, cleared, entered, planned, tried};
+    ghost use Rattle.hsr_world_steps.specs.declared.step.Step.TheVariants.{Age, Clock, Cut, Inject, Judge, Mend, Put, Send, Supervise, Take};
+    ghost use Rattle.hsr_world_steps.specs.declared.step.WorldFault.TheVariants.{NoMemory};
 
     /// Sets the moment, earlier ones too.
-    #[tactic(auto, unfolding(hsr_world::specs::World::tried))]
+    #[tactic(auto, unfolding(hsr_world_laws::specs::World::tried))]
     fn clock(&mut self, at: u64)
         ensures { tried C self.old (Clock at) ≡ Ok self.new }
     {
@@ -101,7 +102,7 @@ impl<const C: usize> Running<C> {
     }
 
     /// Mends a link. `NoSuchLink` where there is none of this number.
-    #[tactic(auto, unfolding(hsr_world::specs::World::tried))]
+    #[tactic(auto, unfolding(hsr_world_laws::specs::World::tried))]
     fn mend(&mut self, link: usize) -> Result<(), WorldFault>
         ensures ok { OnOk result (tried C self.old (Mend link) ≡ Ok self.new) }
         ensures err { IfErr result (λ f. (self.new ≡ self.old)
@@ -115,7 +116,7 @@ impl<const C: usize> Running<C> {
     }
 
     /// Cuts a link. `NoSuchLink` where there is none of this number.
-    #[tactic(auto, unfolding(hsr_world::specs::World::tried))]
+    #[tactic(auto, unfolding(hsr_world_laws::specs::World::tried))]
     fn cut(&mut self, link: usize) -> Result<(), WorldFault>
         ensures ok { OnOk result (tried C self.old (Cut link) ≡ Ok self.new) }
         ensures err { IfErr result (λ f. (self.new ≡ self.old)
@@ -129,7 +130,7 @@ impl<const C: usize> Running<C> {
     }
 
     /// Puts octets that no port sent on a link. `NoSuchLink`, then `TooLong` over `INJECT_LIMIT` octets.
-    #[tactic(auto, unfolding(hsr_world::specs::World::tried))]
+    #[tactic(auto, unfolding(hsr_world_laws::specs::World::tried))]
     fn inject(&mut self, link: usize, dir: Dir, octets: &Octets) -> Result<(), WorldFault>
         ensures ok { OnOk result (tried C self.old (Inject link dir octets.now) ≡ Ok self.new) }
         ensures err { IfErr result (λ f. (self.new ≡ self.old)
@@ -148,7 +149,7 @@ impl<const C: usize> Running<C> {
     }
 
     /// The oldest copy that waits in a direction comes into the hand. `NoSuchLink`, then `Busy`, then `Nothing`.
-    #[tactic(auto, unfolding(hsr_world::specs::World::tried))]
+    #[tactic(auto, unfolding(hsr_world_laws::specs::World::tried))]
     fn take(&mut self, link: usize, dir: Dir) -> Result<(), WorldFault>
         ensures ok { OnOk result (tried C self.old (Take link dir) ≡ Ok self.new) }
         ensures err { IfErr result (λ f. (self.new ≡ self.old)
@@ -353,7 +354,7 @@ impl<const C: usize> Running<C> {
     }
 
     /// A node gives up what is expired.
-    #[tactic(auto, unfolding(hsr_world::specs::World::tried))]
+    #[tactic(auto, unfolding(hsr_world_laws::specs::World::tried))]
     fn age(&mut self, touching: &[Vec<usize>], node: usize) -> Result<(), WorldFault>
         requires { AreTouching self.old.places self.old.spans
             (map (λ links. links.items) touching.now) }
@@ -365,7 +366,7 @@ impl<const C: usize> Running<C> {
     }
 
     /// A node sends a supervision frame.
-    #[tactic(auto, unfolding(hsr_world::specs::World::tried))]
+    #[tactic(auto, unfolding(hsr_world_laws::specs::World::tried))]
     fn supervise(
         &mut self,
         touching: &[Vec<usize>],
@@ -382,7 +383,7 @@ impl<const C: usize> Running<C> {
     }
 
     /// A node sends a frame of its own.
-    #[tactic(auto, unfolding(hsr_world::specs::World::tried))]
+    #[tactic(auto, unfolding(hsr_world_laws::specs::World::tried))]
     fn send(
         &mut self,
         touching: &[Vec<usize>],
@@ -390,15 +391,15 @@ impl<const C: usize> Running<C> {
         from: u8,
         dst: Mac,
         vlan: Option<u16>,
-        kind: u16,
+        ethertype: u16,
         payload: &Octets,
     ) -> Result<(), WorldFault>
         requires { AreTouching self.old.places self.old.spans
             (map (λ links. links.items) touching.now) }
-        ensures ok { OnOk result (tried C self.old (Send node from dst vlan kind payload.now)
+        ensures ok { OnOk result (tried C self.old (Send node from dst vlan ethertype payload.now)
             ≡ Ok self.new) }
         ensures err { IfErr result (λ f. (self.new ≡ self.old)
-            × ((f ≡ NoMemory) ⊎ (tried C self.old (Send node from dst vlan kind payload.now)
+            × ((f ≡ NoMemory) ⊎ (tried C self.old (Send node from dst vlan ethertype payload.now)
             ≡ Err f))) }
     {
         // A copy, since the step is borrowed and the event owns its payload.
@@ -412,7 +413,7 @@ impl<const C: usize> Running<C> {
                 from,
                 dst,
                 vlan,
-                kind,
+                kind: ethertype,
                 payload,
             },
         )
@@ -442,9 +443,9 @@ impl<const C: usize> Running<C> {
                 from,
                 dst,
                 vlan,
-                kind,
+                kind: ethertype,
                 payload,
-            } => self.send(touching, *node, *from, *dst, *vlan, *kind, payload),
+            } => self.send(touching, *node, *from, *dst, *vlan, *ethertype, payload),
             Step::Supervise { node, about } => self.supervise(touching, *node, *about),
             Step::Age { node } => self.age(touching, *node),
             Step::Put { node, port } => self.put(ports, *node, *port),
@@ -460,9 +461,9 @@ impl<const C: usize> Running<C> {
 impl<const C: usize> Running<C> {
     ghost use Rattle.hsr_frame.specs.Counters.{AreWithin};
     ghost use Rattle.hsr_node.specs.Counts.{counters};
-    ghost use Rattle.hsr_spans.specs.Ports.{ports_in};
+    ghost use Rattle.hsr_world_links.specs.Ports.{ports_in};
     ghost use Rattle.hsr_ring.specs.Pending.{AreLooked};
-    ghost use Rattle.hsr_world.specs.World.{span_at, owner_at, record_at};
+    ghost use Rattle.hsr_world_laws.specs.World.{span_at, owner_at, record_at};
 
     /// How many nodes there are.
     pub(crate) fn node_count(&self) -> usize
@@ -527,12 +528,11 @@ impl<const C: usize> Running<C> {
 }
 
 impl<const C: usize> Running<C> {
-    ghost use Rattle.hsr_closing.specs.Checked.{IfDisagree, IsOpen};
-    ghost use Rattle.hsr_law.specs.Closed.{IsTableSize};
-    ghost use Rattle.hsr_law.specs.Once.{IsCalm};
-    ghost use Rattle.hsr_law.specs.Premises.{NumberedFirst};
-    ghost use Rattle.hsr_world.specs.Lawful.{IsEnded, finished_of};
-    ghost use Rattle.hsr_world.specs.Reached.{IsReached};
+    ghost use Rattle.hsr_finished_run.specs.Checked.{IfDisagree, IsOpen};
+    ghost use Rattle.hsr_run_laws.specs.Once.{IsCalm};
+    ghost use Rattle.hsr_run_laws.specs.Premises.{NumberedFirst};
+    ghost use Rattle.hsr_world_laws.specs.Lawful.{IsEnded, finished_of};
+    ghost use Rattle.hsr_world_laws.specs.Reached.{IsReached};
 
     /// The finished run that a world of this topology is. Else all comes back as it was, with the first cause.
     pub(crate) fn close(

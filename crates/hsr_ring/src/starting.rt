@@ -1,5 +1,6 @@
 //! The nodes that a world begins with.
-ghost use Rattle.std.specs.Prelude.{◌≡◌, ◌≤◌, IfOk, [], All, length};
+ghost use Rattle.std.specs.Prelude.{◌≡◌, IfOk, [], All, length};
+ghost use Rattle.hsr_duptable.specs.Table.{IsTableSize};
 ghost use Rattle.hsr_node.specs.Place.{HasOwnAddress};
 ghost use Rattle.hsr_ring.specs.Starting.{new_records};
 
@@ -12,7 +13,7 @@ pub(crate) fn new_nodes<const C: usize>(
     alloc: Global,
     places: &[Place],
 ) -> Result<Vec<Kept<C>>, NoMemory>
-    requires entries { (1 ≤ C) × (C ≤ 65535) }
+    requires entries { IsTableSize C }
     requires own { All HasOwnAddress places.now }
     ensures { IfOk result (λ nodes. nodes.items ≡ new_records 0 places.now) }
 {

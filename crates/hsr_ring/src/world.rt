@@ -3,18 +3,19 @@
 //! A world is two layers. `Running` steps exactly as the definition says. `World` keeps in its type that it was reached
 //! from the first world of its topology by steps, so what holds of every such world holds of it.
 ghost use Rattle.std.specs.Prelude.{◌≡◌, ◌≤◌, ◌<◌, ◌⊎◌, ◌^◌, Ok, Err, None, OnOk, IfErr, IfOk, length, reverse};
-ghost use Rattle.hsr_step.specs.declared.step.WorldFault.TheVariants.{NoMemory as NoRoom};
+ghost use Rattle.hsr_duptable.specs.Table.{IsTableSize};
+ghost use Rattle.hsr_world_steps.specs.declared.step.WorldFault.TheVariants.{NoMemory as NoRoom};
 
 use crate::fit::{places_fit, step_fits};
 use crate::pending::Pending;
 use crate::running::Running;
-use hsr_closing::{CheckFault, Closed};
+use hsr_finished_run::{CheckFault, Closed};
 use hsr_frame::{Counters, NoMemory};
 use hsr_link::Row;
 use hsr_node::Entry;
-use hsr_spans::Port;
-use hsr_step::{DrainFault, Step, WorldFault};
 use hsr_topology::Topology;
+use hsr_world_links::Port;
+use hsr_world_steps::{DrainFault, Step, WorldFault};
 use std::alloc::Global;
 use std::marker::Model;
 
@@ -33,7 +34,7 @@ pub struct World<const C: usize> {
 impl<const C: usize> Model for World<C> {
     ghost use Rattle.std.specs.Prelude.{map};
     ghost use Rattle.hsr_ring.specs.Pending.{IsKept};
-    ghost use Rattle.hsr_world.specs.World.{World};
+    ghost use Rattle.hsr_world_laws.specs.World.{World};
 
     ghost Value = { World };
 
@@ -43,19 +44,19 @@ impl<const C: usize> Model for World<C> {
 }
 
 impl<const C: usize> World<C> {
-    ghost use Rattle.hsr_closing.specs.Checked.{IfDisagree, IsOpen};
-    ghost use Rattle.hsr_law.specs.Once.{IsCalm};
-    ghost use Rattle.hsr_law.specs.Premises.{NumberedFirst};
-    ghost use Rattle.hsr_world.specs.Lawful.{IsEnded, IsLawful, finished_of};
+    ghost use Rattle.hsr_finished_run.specs.Checked.{IfDisagree, IsOpen};
+    ghost use Rattle.hsr_run_laws.specs.Once.{IsCalm};
+    ghost use Rattle.hsr_run_laws.specs.Premises.{NumberedFirst};
+    ghost use Rattle.hsr_world_laws.specs.Lawful.{IsEnded, IsLawful, finished_of};
     ghost use Rattle.hsr_ring.specs.Stopping.{IsDrainFault, Runs, Stops};
-    ghost use Rattle.hsr_world.specs.World.{Drains, span_at, new_world, next_step, owner_at, record_at, tried};
+    ghost use Rattle.hsr_world_laws.specs.World.{Drains, span_at, new_world, next_step, owner_at, record_at, tried};
     ghost use Rattle.hsr_frame.specs.Counters.{AreWithin};
     ghost use Rattle.hsr_node.specs.Counts.{counters};
 
     /// A world at moment 0 in which nothing was done, with room for `capacity` copies, 1 to 4096, in each direction of a link.
     /// `NoMemory` where room is refused.
     pub fn new(alloc: Global, topology: Topology, capacity: usize) -> Result<World<C>, NoMemory>
-        requires entries { (1 ≤ C) × (C ≤ 65535) }
+        requires entries { IsTableSize C }
         requires room { (1 ≤ capacity) × (capacity ≤ 4096) }
         ensures { IfOk result (λ world. world ≡ new_world capacity topology.places topology.links) }
     {

@@ -4,13 +4,13 @@ use Rattle.std.specs.Global.{Global}
 use Rattle.hsr_node.specs.Kept.{Receipts, Record}
 use Rattle.hsr_link.specs.declared.row.Row.{Row}
 use Rattle.hsr_topology.specs.Topology.{Topology}
-use Rattle.hsr_closing.specs.declared.planned.Planned.{Planned}
+use Rattle.hsr_finished_run.specs.declared.planned.Planned.{Planned}
 use Rattle.hsr_scenario.specs.Meaning.{Meant}
-use Rattle.hsr_closing.specs.declared.disagree.CheckFault.TheVariants as check
-use Rattle.hsr_step.specs.declared.step.WorldFault.TheVariants as world
+use Rattle.hsr_finished_run.specs.declared.disagree.CheckFault.TheVariants as check
+use Rattle.hsr_world_steps.specs.declared.step.WorldFault.TheVariants as world
 use Rattle.hsr_runner.specs.Endings.{IsCheckFault, IsConducted, IsEnding, IsPlayFault, fault_of, worker_fault}
-use Rattle.hsr_closing.specs.Finished.{Finished}
-use Rattle.hsr_closing.specs.declared.disagree.Disagree.{Disagree}
+use Rattle.hsr_finished_run.specs.Finished.{Finished}
+use Rattle.hsr_finished_run.specs.declared.disagree.Disagree.{Disagree}
 use Rattle.hsr_runner.specs.Brought.{IsUnlike}
 use Rattle.hsr_runner.specs.Faults.{AllFit, IsCause, IsRunFault, is_fine_step}
 use Rattle.hsr_runner.specs.Plan.{plan_of}

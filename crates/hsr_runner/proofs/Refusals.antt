@@ -9,13 +9,13 @@ use Rattle.hsr_node.specs.declared.event.Event.TheVariants.{Arrive}
 use Rattle.hsr_node.specs.declared.event.StepFault.{StepFault}
 use Rattle.hsr_node.specs.declared.event.StepFault.TheVariants as refused
 use Rattle.hsr_topology.specs.Topology.{Topology}
-use Rattle.hsr_closing.specs.declared.planned.Planned.{Planned}
+use Rattle.hsr_finished_run.specs.declared.planned.Planned.{Planned}
 use Rattle.hsr_link.specs.declared.row.Dir.{Dir}
 use Rattle.hsr_scenario.specs.declared.steps.Order.{Order}
 use Rattle.hsr_scenario.specs.declared.steps.Order.TheVariants.{Step, Drain}
-use Rattle.hsr_step.specs.declared.step.Step.TheVariants.{Clock, Send, Supervise, Age, Put, Take, Judge, Cut, Mend, Inject}
-use Rattle.hsr_step.specs.declared.step.WorldFault.{WorldFault}
-use Rattle.hsr_step.specs.declared.step.WorldFault.TheVariants.{NoSuchNode, NoSuchLink, NoSuchPort, Busy, Nothing, TooLong, Node, NoMemory}
+use Rattle.hsr_world_steps.specs.declared.step.Step.TheVariants.{Clock, Send, Supervise, Age, Put, Take, Judge, Cut, Mend, Inject}
+use Rattle.hsr_world_steps.specs.declared.step.WorldFault.{WorldFault}
+use Rattle.hsr_world_steps.specs.declared.step.WorldFault.TheVariants.{NoSuchNode, NoSuchLink, NoSuchPort, Busy, Nothing, TooLong, Node, NoMemory}
 use Rattle.hsr_runner.specs.Endings.{IsEnding, IsOrderEnd, IsPlanEnd, ending_of, own_fault}
 use Rattle.hsr_runner.specs.Faults.{IsRefusedPlan, if_link, if_node, misfit, too_long}
 use Rattle.hsr_runner.specs.Plan.{planned_at}
@@ -57,7 +57,7 @@ misfit_of : (topology : Topology) (at : ℕ) (o : Order) (planned : Planned) →
 unfolding misfit_in
 misfit_of topology at Drain planned is = absurd cc
 misfit_of topology at (Step (Clock now)) planned is = absurd cc
-misfit_of topology at (Step (Send node from dst vlan kind payload)) planned is = ap (misfit_in topology) is
+misfit_of topology at (Step (Send node from dst vlan ethertype payload)) planned is = ap (misfit_in topology) is
 misfit_of topology at (Step (Supervise node about)) planned is = ap (misfit_in topology) is
 misfit_of topology at (Step (Age node)) planned is = ap (misfit_in topology) is
 misfit_of topology at (Step (Put node port)) planned is = absurd cc
@@ -92,7 +92,7 @@ misfit_plain : (topology : Topology) (o : Order) → is_plain (misfit topology o
 unfolding is_plain
 misfit_plain topology Drain = refl
 misfit_plain topology (Step (Clock now)) = refl
-misfit_plain topology (Step (Send node from dst vlan kind payload)) = if_plain (nat_lt node (length topology.places)) None (Some NoSuchNode) refl refl
+misfit_plain topology (Step (Send node from dst vlan ethertype payload)) = if_plain (nat_lt node (length topology.places)) None (Some NoSuchNode) refl refl
 misfit_plain topology (Step (Supervise node about)) = if_plain (nat_lt node (length topology.places)) None (Some NoSuchNode) refl refl
 misfit_plain topology (Step (Age node)) = if_plain (nat_lt node (length topology.places)) None (Some NoSuchNode) refl refl
 misfit_plain topology (Step (Put node port)) = refl

@@ -3,13 +3,13 @@
 --     InjectsNothing   no order puts on a link what no port sent
 --     IsUnlike         what a run or its orders have of these, as a cause of the closing check
 use Rattle.std.specs.Prelude.{ℕ, ◌+◌, ◌*◌, ◌<◌, ◌≡◌, ◌==◌, ◌&&◌, not, Bool, false, List, length, find, filter_map, slice_get, Option, Some, None, option_map}
-use Rattle.hsr_closing.specs.declared.disagree.Disagree.{Disagree}
-use Rattle.hsr_closing.specs.declared.disagree.Disagree.TheVariants.{Stranger, Receipts}
+use Rattle.hsr_finished_run.specs.declared.disagree.Disagree.{Disagree}
+use Rattle.hsr_finished_run.specs.declared.disagree.Disagree.TheVariants.{Stranger, Receipts}
 use Rattle.hsr_node.specs.declared.entry.Entry.{Entry}
 use Rattle.hsr_node.specs.declared.event.Event.{Event}
 use Rattle.hsr_node.specs.declared.event.Event.TheVariants.{Arrive, Age}
-use Rattle.hsr_law.specs.Run.{Run, record_of}
-use Rattle.hsr_step.specs.declared.step.Step.TheVariants.{Inject}
+use Rattle.hsr_run_laws.specs.Run.{Run, record_of}
+use Rattle.hsr_world_steps.specs.declared.step.Step.TheVariants.{Inject}
 use Rattle.hsr_scenario.specs.declared.steps.Order.{Order}
 use Rattle.hsr_scenario.specs.declared.steps.Order.TheVariants.{Step}
 

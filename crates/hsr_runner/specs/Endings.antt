@@ -6,16 +6,16 @@ use Rattle.std.specs.Prelude.{ℕ, ◌≡◌, ◌≤◌, ◌<◌, Bool, true, Li
 use Rattle.std.specs.Global.{Global}
 use Rattle.std.specs.Option.{option_or}
 use Rattle.hsr_scenario.specs.Meaning.{Meant}
-use Rattle.hsr_step.specs.declared.step.WorldFault.{WorldFault}
-use Rattle.hsr_step.specs.declared.step.WorldFault.TheVariants.{Node, NoMemory as NoRoom}
+use Rattle.hsr_world_steps.specs.declared.step.WorldFault.{WorldFault}
+use Rattle.hsr_world_steps.specs.declared.step.WorldFault.TheVariants.{Node, NoMemory as NoRoom}
 use Rattle.hsr_node.specs.Kept.{Receipts, Record}
 use Rattle.hsr_node.specs.declared.event.StepFault.{StepFault}
 use Rattle.hsr_node.specs.declared.event.StepFault.TheVariants as refused
 use Rattle.hsr_topology.specs.Topology.{Topology}
 use Rattle.hsr_link.specs.declared.row.Row.{Row}
-use Rattle.hsr_closing.specs.Checked.{IsFirst}
-use Rattle.hsr_closing.specs.declared.disagree.CheckFault.TheVariants as check
-use Rattle.hsr_closing.specs.declared.planned.Planned.{Planned}
+use Rattle.hsr_finished_run.specs.Checked.{IsFirst}
+use Rattle.hsr_finished_run.specs.declared.disagree.CheckFault.TheVariants as check
+use Rattle.hsr_finished_run.specs.declared.planned.Planned.{Planned}
 use Rattle.hsr_scenario.specs.declared.steps.Order.{Order}
 use Rattle.hsr_runner.specs.Faults.{AllFit, IsRefusedCopy, IsRefusedEvent, IsRefusedOrder, IsRunFault, if_node}
 use Rattle.hsr_runner.specs.declared.conduct.Conducted.{Conducted}

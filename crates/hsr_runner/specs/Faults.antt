@@ -15,17 +15,17 @@ use Rattle.hsr_node.specs.declared.event.Event.{Event}
 use Rattle.hsr_node.specs.declared.event.Event.TheVariants.{Arrive}
 use Rattle.hsr_node.specs.declared.event.StepFault.{StepFault}
 use Rattle.hsr_node.specs.declared.event.StepFault.TheVariants.{NoMemory as NoRoom}
-use Rattle.hsr_closing.specs.Checked.{IsFirst}
-use Rattle.hsr_closing.specs.Finished.{Finished}
-use Rattle.hsr_closing.specs.declared.disagree.CheckFault.TheVariants as check
-use Rattle.hsr_closing.specs.declared.disagree.Disagree.{Disagree}
-use Rattle.hsr_closing.specs.declared.planned.Planned.{Planned}
+use Rattle.hsr_finished_run.specs.Checked.{IsFirst}
+use Rattle.hsr_finished_run.specs.Finished.{Finished}
+use Rattle.hsr_finished_run.specs.declared.disagree.CheckFault.TheVariants as check
+use Rattle.hsr_finished_run.specs.declared.disagree.Disagree.{Disagree}
+use Rattle.hsr_finished_run.specs.declared.planned.Planned.{Planned}
 use Rattle.hsr_scenario.specs.Meaning.{Meant}
 use Rattle.hsr_scenario.specs.declared.steps.Order.{Order}
 use Rattle.hsr_scenario.specs.declared.steps.Order.TheVariants as order
-use Rattle.hsr_step.specs.declared.step.Step.TheVariants.{Send, Supervise, Age, Cut, Mend, Inject}
-use Rattle.hsr_step.specs.declared.step.WorldFault.{WorldFault}
-use Rattle.hsr_step.specs.declared.step.WorldFault.TheVariants.{NoSuchNode, NoSuchLink, TooLong, Node}
+use Rattle.hsr_world_steps.specs.declared.step.Step.TheVariants.{Send, Supervise, Age, Cut, Mend, Inject}
+use Rattle.hsr_world_steps.specs.declared.step.WorldFault.{WorldFault}
+use Rattle.hsr_world_steps.specs.declared.step.WorldFault.TheVariants.{NoSuchNode, NoSuchLink, TooLong, Node}
 use Rattle.hsr_runner.specs.Brought.{IsUnlike}
 use Rattle.hsr_runner.specs.Plan.{is_fine, plan_of, planned_at}
 use Rattle.hsr_runner.specs.Runs.{IsRunOf}
@@ -50,7 +50,7 @@ too_long octets = if nat_lt 2048 (length octets) then Some TooLong else None
 
 -- its node or link isn't there, or more than 2048 octets are injected
 abbrev pub misfit : Topology → Order → Option WorldFault
-misfit topology (order.Step (Send node from dst vlan kind payload)) = if_node topology node
+misfit topology (order.Step (Send node from dst vlan ethertype payload)) = if_node topology node
 misfit topology (order.Step (Supervise node about)) = if_node topology node
 misfit topology (order.Step (Age node)) = if_node topology node
 misfit topology (order.Step (Cut link)) = if_link topology link None

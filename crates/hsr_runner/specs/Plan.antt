@@ -3,10 +3,10 @@
 --     plan_of     the sends, supervisions and ages of a scenario, each with the moment of the last clock step before it
 use Rattle.std.specs.Prelude.{ℕ, Bool, true, false, List, [], ◌∷◌, ◌++◌, Option, Some, None, option_to_list}
 use Rattle.hsr_node.specs.declared.event.Event.TheVariants as event
-use Rattle.hsr_step.specs.declared.step.Step.TheVariants.{Clock, Send, Supervise, Age, Put, Take, Judge}
+use Rattle.hsr_world_steps.specs.declared.step.Step.TheVariants.{Clock, Send, Supervise, Age, Put, Take, Judge}
 use Rattle.hsr_scenario.specs.declared.steps.Order.{Order}
 use Rattle.hsr_scenario.specs.declared.steps.Order.TheVariants.{Step}
-use Rattle.hsr_closing.specs.declared.planned.Planned.{Planned}
+use Rattle.hsr_finished_run.specs.declared.planned.Planned.{Planned}
 
 -- a Put, Take or Judge: in threads, workers do these by themselves
 abbrev pub is_fine : Order → Bool
@@ -17,7 +17,7 @@ is_fine _ = false
 
 -- what a step at a moment brings about at a node
 abbrev pub planned_at : ℕ → Order → Option Planned
-planned_at at (Step (Send node from dst vlan kind payload)) = Some (record { node = node; at = at; event = event.Send from dst vlan kind payload })
+planned_at at (Step (Send node from dst vlan ethertype payload)) = Some (record { node = node; at = at; event = event.Send from dst vlan ethertype payload })
 planned_at at (Step (Supervise node about)) = Some (record { node = node; at = at; event = event.Supervise about })
 planned_at at (Step (Age node)) = Some (record { node = node; at = at; event = event.Age })
 planned_at at _ = None

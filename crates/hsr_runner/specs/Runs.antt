@@ -1,8 +1,8 @@
 -- What a finished run is of a scenario.
 use Rattle.std.specs.Prelude.{ℕ, ◌≡◌, List}
 use Rattle.hsr_topology.specs.Topology.{Topology}
-use Rattle.hsr_closing.specs.declared.planned.Planned.{Planned}
-use Rattle.hsr_closing.specs.Finished.{Finished, IsFinished}
+use Rattle.hsr_finished_run.specs.declared.planned.Planned.{Planned}
+use Rattle.hsr_finished_run.specs.Finished.{Finished, IsFinished}
 use Rattle.hsr_scenario.specs.Meaning.{Meant}
 use Rattle.hsr_runner.specs.Plan.{plan_of}
 

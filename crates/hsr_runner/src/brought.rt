@@ -2,10 +2,10 @@
 ghost use Rattle.std.specs.Prelude.{◌≡◌, ◌<◌, MatchOption};
 ghost use Rattle.hsr_runner.specs.Brought.{InjectsNothing, IsFirstAlien, IsUnlike, NoneIsAlien, brings, first_alien, first_injected};
 
-use hsr_closing::{Closed, Disagree};
+use hsr_finished_run::{Closed, Disagree};
 use hsr_node::{Entry, Event};
 use hsr_scenario::Order;
-use hsr_step::Step;
+use hsr_world_steps::Step;
 
 /// Whether a worker, but for the main one, brings an event to a node: that of its port an arrival, that of the node's ager an age.
 fn brings(node: usize, event: &Event, worker: u16) -> bool

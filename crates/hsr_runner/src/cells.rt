@@ -1,5 +1,6 @@
 //! The nodes and links of a scenario, each under a lock.
 ghost use Rattle.std.specs.Prelude.{◌≡◌, ◌≤◌, All, IfOk, length, vec_len};
+ghost use Rattle.hsr_duptable.specs.Table.{IsTableSize};
 ghost use Rattle.hsr_node.specs.Place.{HasOwnAddress};
 
 use crate::flight::Flight;
@@ -38,7 +39,7 @@ fn cell_of<const C: usize>(
     node: usize,
     place: &Place,
 ) -> Result<NodeCell<C>, NoMemory>
-    requires entries { (1 ≤ C) × (C ≤ 65535) }
+    requires entries { IsTableSize C }
     requires own { HasOwnAddress place.now }
 {
     Ok(NodeCell::new(Kept::new(alloc, node, place.copy()?)?))
@@ -51,7 +52,7 @@ fn seat_of<const C: usize>(
     node: usize,
     place: &Place,
 ) -> Result<Seat<C>, NoMemory>
-    requires entries { (1 ≤ C) × (C ≤ 65535) }
+    requires entries { IsTableSize C }
     requires own { HasOwnAddress place.now }
 {
     let cell = cell_of(alloc, node, place)?;
@@ -65,7 +66,7 @@ fn seat_of<const C: usize>(
 
 /// A seat for each node of a topology.
 fn seats_of<const C: usize>(alloc: Global, topology: &Topology) -> Result<Vec<Seat<C>>, NoMemory>
-    requires entries { (1 ≤ C) × (C ≤ 65535) }
+    requires entries { IsTableSize C }
     ensures { IfOk result (λ seats. vec_len seats ≡ length topology.now.places) }
 {
     let mut seats = Vec::new(alloc);
@@ -113,7 +114,7 @@ impl<const C: usize> Cells<C> {
         topology: &Topology,
         capacity: usize,
     ) -> Result<Cells<C>, NoMemory>
-        requires entries { (1 ≤ C) × (C ≤ 65535) }
+        requires entries { IsTableSize C }
         requires room { (1 ≤ capacity) × (capacity ≤ 4096) }
         ensures nodes { IfOk result (λ cells. vec_len cells.seats ≡ length topology.now.places) }
         ensures links { IfOk result (λ cells. vec_len cells.links ≡ length topology.now.links) }

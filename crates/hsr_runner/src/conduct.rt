@@ -1,6 +1,6 @@
 //! The main worker.
 ghost use Rattle.std.specs.Prelude.{◌≡◌, ◌⊎◌, IfErr, IfOk, None, Some, length, vec_len};
-ghost use Rattle.hsr_step.specs.declared.step.WorldFault.TheVariants.{NoMemory as NoRoom};
+ghost use Rattle.hsr_world_steps.specs.declared.step.WorldFault.TheVariants.{NoMemory as NoRoom};
 ghost use Rattle.hsr_runner.specs.Faults.{if_link, if_node, misfit, too_long};
 ghost use Rattle.hsr_scenario.specs.Meaning.{scenario_view};
 ghost use Rattle.hsr_runner.specs.Endings.{FitsNode, IsConducted, IsOrderEnd, IsPlanEnd, own_fault};
@@ -10,12 +10,12 @@ use crate::cells::Cells;
 use crate::gate::Gate;
 use crate::leaving::{inject, put_all};
 use crate::plan::{clock_after, planned_at};
-use hsr_closing::Planned;
+use hsr_finished_run::Planned;
 use hsr_link::Dir;
 use hsr_node::{Octets, Pass, StepFault};
 use hsr_scenario::{Order, Scenario};
-use hsr_step::{INJECT_LIMIT, Step, WorldFault};
 use hsr_topology::Topology;
+use hsr_world_steps::{INJECT_LIMIT, Step, WorldFault};
 use std::alloc::Global;
 use std::sync::Wait;
 

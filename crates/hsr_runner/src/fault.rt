@@ -1,6 +1,6 @@
 //! Why there is no run.
-use hsr_closing::CheckFault;
-use hsr_step::WorldFault;
+use hsr_finished_run::CheckFault;
+use hsr_world_steps::WorldFault;
 
 /// Why a scenario has no run in threads, in the order in which the reasons are tried.
 #[derive(Clone, Copy, Debug, PartialEq, Eq)]

@@ -2,11 +2,11 @@
 ghost use Rattle.std.specs.Prelude.{◌≡◌, IfOk, position};
 ghost use Rattle.hsr_runner.specs.Plan.{clock_after, is_fine, plan_of, planned_at};
 
-use hsr_closing::Planned;
+use hsr_finished_run::Planned;
 use hsr_frame::NoMemory;
 use hsr_node::Event;
 use hsr_scenario::Order;
-use hsr_step::Step;
+use hsr_world_steps::Step;
 use std::alloc::Global;
 
 /// Whether an order is a Put, Take or Judge, which workers do by themselves.
@@ -42,7 +42,7 @@ pub(crate) fn planned_at(at: u64, order: &Order) -> Result<Option<Planned>, NoMe
             from,
             dst,
             vlan,
-            kind,
+            kind: ethertype,
             payload,
         } => Ok(Some(Planned {
             node: *node,
@@ -51,7 +51,7 @@ pub(crate) fn planned_at(at: u64, order: &Order) -> Result<Option<Planned>, NoMe
                 from: *from,
                 dst: *dst,
                 vlan: *vlan,
-                kind: *kind,
+                kind: *ethertype,
                 // A copy, since the scenario keeps its own.
                 payload: payload.clone()?,
             },

@@ -1,5 +1,6 @@
 //! A scenario that runs in threads.
-ghost use Rattle.std.specs.Prelude.{◌≡◌, ◌≤◌, Err, false, true, IfErr, IfOk, MatchOption, position};
+ghost use Rattle.std.specs.Prelude.{◌≡◌, Err, false, true, IfErr, IfOk, MatchOption, position};
+ghost use Rattle.hsr_duptable.specs.Table.{IsTableSize};
 ghost use Rattle.hsr_scenario.specs.Meaning.{scenario_view};
 ghost use Rattle.hsr_runner.specs.Brought.{InjectsNothing, NoneIsAlien};
 ghost use Rattle.hsr_runner.specs.Faults.{AllFit, IsRunFault, is_fine_step};
@@ -15,7 +16,7 @@ use crate::gate::Gate;
 use crate::plan::{first_fine, plan_of};
 use crate::role::roles_of;
 use crate::threads::play;
-use hsr_closing::{CheckFault, Closed, Planned};
+use hsr_finished_run::{CheckFault, Closed, Planned};
 use hsr_link::Row;
 use hsr_node::{Kept, Pass};
 use hsr_scenario::Scenario;
@@ -39,7 +40,7 @@ fn run_unchecked<const C: usize, G: Gate, R: Threads + Wait + Sync>(
     scenario: &Scenario,
     gate: &G,
 ) -> Result<Left<C>, RunFault>
-    requires entries { (1 ≤ C) × (C ≤ 65535) }
+    requires entries { IsTableSize C }
     ensures fits { IfOk result (λ left. AllFit scenario.now.topology scenario.now.steps.items) }
     ensures fault { IfErr result (λ fault.
         IsPlayFault C G.may_shut (scenario_view scenario.now) fault) }
@@ -102,7 +103,7 @@ pub fn run_threads<const C: usize, G: Gate, R: Threads + Wait + Sync>(
     scenario: &Scenario,
     gate: &G,
 ) -> Result<Closed<C>, RunFault>
-    requires entries { (1 ≤ C) × (C ≤ 65535) }
+    requires entries { IsTableSize C }
     ensures closed { IfOk result (λ closed. IsRunOf C (scenario_view scenario.now) closed) }
     ensures fits { IfOk result (λ closed. AllFit scenario.now.topology scenario.now.steps.items) }
     ensures injected { IfOk result (λ closed. InjectsNothing scenario.now.steps.items) }

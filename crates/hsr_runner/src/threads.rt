@@ -14,7 +14,7 @@ use crate::role::{Role, Task};
 use crate::worker::{Post, judge};
 use hsr_node::Pass;
 use hsr_scenario::Scenario;
-use hsr_step::WorldFault;
+use hsr_world_steps::WorldFault;
 use std::alloc::Global;
 use std::marker::{PhantomData, Sync};
 use std::sync::Wait;

@@ -3,8 +3,8 @@ use Rattle.std.specs.Prelude.{ℕ, ℤ, pos, negsuc, nat_lt, List, [], ◌∷◌
 use Rattle.toml.specs.Data.{Data, Members}
 use Rattle.hsr_frame.specs.declared.node.About.{About}
 use Rattle.hsr_frame.specs.declared.node.About.TheVariants.{Own, Proxied}
-use Rattle.hsr_step.specs.declared.step.Step.{Step}
-use Rattle.hsr_step.specs.declared.step.Step.TheVariants.{Clock, Send, Supervise, Age, Put, Take, Judge, Cut, Mend, Inject}
+use Rattle.hsr_world_steps.specs.declared.step.Step.{Step}
+use Rattle.hsr_world_steps.specs.declared.step.Step.TheVariants.{Clock, Send, Supervise, Age, Put, Take, Judge, Cut, Mend, Inject}
 use Rattle.hsr_text.specs.declared.time_unit.TimeUnit.{TimeUnit}
 use Rattle.hsr_toml.specs.Fallible.{◌>>=◌}
 use Rattle.hsr_toml.specs.Tables.{between, integer, needed, optional, perhaps, word}
@@ -48,11 +48,11 @@ send nodes ms = do
   _ ← only (key.Do ∷ key.Node ∷ key.To ∷ key.Kind ∷ key.Payload ∷ key.Vlan ∷ key.From ∷ []) ms
   node ← needed faults key.Node (used_name nodes) ms
   dst ← needed faults key.To (word faults mac_of) ms
-  kind ← needed faults key.Kind (between faults 0 65535) ms
+  ethertype ← needed faults key.Kind (between faults 0 65535) ms
   payload ← optional faults key.Payload [] (word faults octets_of) ms
   vlan ← optional faults key.Vlan None (perhaps (between faults 0 65535)) ms
   from ← optional faults key.From 0 (between faults 0 15) ms
-  Ok (Send node from dst vlan kind payload)
+  Ok (Send node from dst vlan ethertype payload)
 
 unfoldable pub life : List Named → Members → Result Step What
 life nodes ms = do

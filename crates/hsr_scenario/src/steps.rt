@@ -10,7 +10,7 @@ ghost use Rattle.hsr_scenario.specs.Words.{deed_of, octets_of};
 ghost use Rattle.hsr_link.specs.Words.{dir_of};
 ghost use Rattle.hsr_scenario.specs.Steps.{age, at_link, at_port, clock, drain, inject, life, link_numbered, order_in, order_of, send, stepped, take, used_link};
 ghost use Rattle.hsr_scenario.specs.declared.fault.Key.TheVariants as key;
-ghost use Rattle.hsr_step.specs.declared.step.Step.TheVariants as step;
+ghost use Rattle.hsr_world_steps.specs.declared.step.Step.TheVariants as step;
 
 use crate::fault::{Key, What};
 use crate::keys::{
@@ -25,9 +25,9 @@ use hex::FromHexError;
 use hsr_frame::{About, Mac};
 use hsr_link::Dir;
 use hsr_node::Octets;
-use hsr_step::Step;
 use hsr_text::TimeUnit;
 use hsr_toml::{between, integer, mac, needed, number_or, text, value};
+use hsr_world_steps::Step;
 use std::alloc::Global;
 use toml::{Table, Value};
 
@@ -133,7 +133,7 @@ fn pair(key: Key, value: &Value) -> Result<u16, What>
 }
 
 /// The type of a send.
-fn kind(table: &Table) -> Result<u16, What>
+fn ethertype(table: &Table) -> Result<u16, What>
     ensures { Gives (λ n. n) result (needed faults key.Kind (between faults 0 65535)
         (table_view table.now)) }
 {
@@ -208,7 +208,7 @@ fn send(alloc: Global, nodes: &[Named], table: &Table) -> Result<Step, What>
     only(table, &SEND_KEYS)?;
     let node = used_node(nodes, table)?;
     let dst = destination(table)?;
-    let kind = kind(table)?;
+    let ethertype = ethertype(table)?;
     let payload = payload(alloc, table)?;
     let vlan = vlan(table)?;
     let from = from(table)?;
@@ -217,7 +217,7 @@ fn send(alloc: Global, nodes: &[Named], table: &Table) -> Result<Step, What>
         from,
         dst,
         vlan,
-        kind,
+        kind: ethertype,
         payload,
     })
 }

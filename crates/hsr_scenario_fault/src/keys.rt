@@ -87,7 +87,7 @@ pub(crate) fn text_at<'a>(table: &'a Table, key: &str) -> &'a str {
     }
 }
 
-/// What the table at a place may have.
+/// What the table at an offset may have.
 pub(crate) fn keys_at(spot: Spot, table: &Table) -> Keys {
     match spot {
         Spot::Top => Keys {
@@ -108,7 +108,7 @@ pub(crate) fn table_in<'a>(document: &'a Table, name: &str, number: usize) -> Op
     document.get(name)?.as_array()?.get(number)?.as_table()
 }
 
-/// The table at a place.
+/// The table at an offset.
 pub(crate) fn table_of(document: &Table, spot: Spot) -> Option<&Table> {
     match spot {
         Spot::Top => Some(document),

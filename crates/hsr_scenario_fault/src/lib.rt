@@ -1,6 +1,14 @@
 //! How a fault of a scenario is told in plain words: line, column, what is wrong, and what would be right.
 //!
-//! Its modules, in the order to read them: `keys`, `wiring`, `words`, `telling`, `refused`, `reasons`.
+//! Its modules, in the order in which to read them:
+//! - `keys`: which keys the tables of a scenario have
+//! - `wiring`: which node or link keeps nodes and links from being a valid topology
+//! - `words`: what is wrong with a scenario, and what would be right
+//! - `telling`: the line of a fault, its call
+//! - `refused`: the line of a step that was refused, its call
+//! - `reasons`: why the run of a scenario stops, or can't be closed
+//!
+//! The lines are tested, and no contract tells their words.
 #![tactic(auto)]
 
 mod keys;
@@ -12,4 +20,4 @@ mod words;
 
 pub use reasons::{words_of_check, words_of_step};
 pub use refused::told_step;
-pub use telling::told;
+pub use telling::scenario_fault_line;

@@ -1,8 +1,8 @@
 //! Why the run of a scenario stops, or can't be closed, in plain words.
-use hsr_closing::Disagree;
+use hsr_finished_run::Disagree;
 use hsr_frame::SendFault;
 use hsr_node::StepFault;
-use hsr_step::{DrainFault, WorldFault};
+use hsr_world_steps::{DrainFault, WorldFault};
 
 /// Why a node refuses an event, and what would do.
 fn words_of_node(fault: StepFault) -> &'static str {
@@ -33,6 +33,7 @@ pub fn words_of_step(fault: &DrainFault) -> &'static str {
             "the outbox, the link or the hand is empty: look at the order of put, take and judge",
         DrainFault::World(WorldFault::TooLong) =>
             "a payload has at most 1500 octets, and what is injected at most 2048: shorten it",
+        // No scenario comes here, since its names were looked up. Words are total all the same.
         DrainFault::World(WorldFault::NoSuchNode) => "there is no such node",
         DrainFault::World(WorldFault::NoSuchLink) => "there is no such link",
         DrainFault::World(WorldFault::NoSuchPort) => "the node hasn't this port",

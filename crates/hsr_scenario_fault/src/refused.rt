@@ -29,6 +29,7 @@ fn put_link(line: &mut Vec<u8>, step: &Table) -> Result<(), NoMemory> {
         return Ok(());
     };
     put(line, " of link ")?;
+    // A link of a scenario that was read isn't negative.
     put_decimal(line, link.unsigned_abs())?;
     Ok(())
 }
@@ -59,7 +60,7 @@ fn put_place_of(
     put_place(line, text.as_bytes(), start_of(source, spot))?;
     put_spots(line, spot)?;
     let Ok(document) = toml::table_from_str(alloc, text) else {
-        // it was read before
+        // Want of memory: that it is TOML was found before.
         return Err(NoMemory);
     };
     match table_of(&document, spot) {
@@ -68,8 +69,9 @@ fn put_place_of(
     }
 }
 
-/// The line of a step of a scenario that was refused, for a reason in these words, as `fault: scenario 16:1 step 3: send of ied1: ..`, without
-/// a line feed. Line and column are those of the step's table. `NoMemory` where room is refused.
+/// The line of a step of a scenario that was refused, for a reason in these words, as `fault: scenario 16:1 step 3:
+/// send of ied1: ..`, without a line feed. Line and column are those of the step's table. `NoMemory` if allocation
+/// fails.
 pub fn told_step(alloc: Global, text: &str, number: usize, why: &str) -> Result<Vec<u8>, NoMemory>
     ensures { IfOk result (λ v. IsLine v.items) }
 {

@@ -16,7 +16,8 @@ use toml::Table;
 
 // ---- where it is
 
-/// The place of what a fault is about: of nodes and links that are no topology, the node or link that makes them none.
+/// The offset of what a fault is about: of nodes and links that do not form a valid topology, the node or link by
+/// which they don't.
 fn spot_in(document: &Table, fault: &ScenarioFault) -> Spot {
     match fault.what {
         What::Topology(why) => spot_of(document, why),
@@ -24,7 +25,7 @@ fn spot_in(document: &Table, fault: &ScenarioFault) -> Spot {
     }
 }
 
-/// Where the table at a place begins.
+/// Where the table at an offset begins.
 pub(crate) fn start_of(source: Source<'_>, spot: Spot) -> usize {
     match spot {
         Spot::Top => 0,
@@ -59,7 +60,7 @@ fn word_of<'a>(table: &'a Table, spot: Spot, what: &What) -> &'a str {
     }
 }
 
-/// The place of a word of the table that begins at a place, if there is one.
+/// The offset of a word of the table that begins at an offset, if there is one.
 fn word_in(source: Source<'_>, spot: Spot, start: usize, word: &str) -> Option<usize> {
     if word.is_empty() {
         return None;
@@ -70,8 +71,8 @@ fn word_in(source: Source<'_>, spot: Spot, start: usize, word: &str) -> Option<u
     }
 }
 
-/// The place of a word of a table, or else the start of that.
-fn place_of(source: Source<'_>, spot: Spot, word: &str) -> usize {
+/// The offset of a word of a table, or else the start of that.
+fn offset_of(source: Source<'_>, spot: Spot, word: &str) -> usize {
     let start = start_of(source, spot);
     match word_in(source, spot, start, word) {
         Some(at) => at,
@@ -160,7 +161,7 @@ fn plan_word(document: &Table, spot: Spot, what: &What) -> Option<&'static str> 
 
 /// Puts that a document is a plan last, and where that shows.
 fn put_plan(line: &mut Vec<u8>, source: Source<'_>, word: &str) -> Result<(), NoMemory> {
-    put_place(line, source.text, place_of(source, Spot::Top, word))?;
+    put_place(line, source.text, offset_of(source, Spot::Top, word))?;
     put(
         line,
         "this is a plan, and no scenario: hsr_plan writes the scenario that it means, and hsr_plan sweep tries it",
@@ -175,12 +176,13 @@ fn put_fault(
     fault: &ScenarioFault,
 ) -> Result<(), NoMemory> {
     let spot = spot_in(document, fault);
+    // A plan given for a scenario has an unknown key at the top, and that it is a plan says more.
     if let Some(word) = plan_word(document, spot, &fault.what) {
         return put_plan(line, source, word);
     }
     let table = table_of(document, spot).unwrap_or(document);
     let word = word_of(table, spot, &fault.what);
-    put_place(line, source.text, place_of(source, spot, word))?;
+    put_place(line, source.text, offset_of(source, spot, word))?;
     put_spots(line, spot)?;
     put_what(line, table, spot, &fault.what, word)
 }
@@ -199,16 +201,16 @@ fn put_told(
     };
     match toml::table_from_str(alloc, text) {
         Ok(document) => put_fault(line, source, &document, fault),
-        // it was read before
+        // Want of memory: that it is TOML was found before.
         Err(_) => Err(NoMemory),
     }
 }
 
-/// The line of a fault of a text, as `fault: scenario 12:5 step 3: unknown word too: a send has do, node, to, ..`, without a line feed. Line
-/// and column are those of the word that the fault is about, in its own table, outside of comments and strings; of a missing word, and of a
-/// node or link that no topology has, those of its table; and of a text that is no TOML those at which that shows. `NoMemory` where room is
-/// refused.
-pub fn told(alloc: Global, text: &str, fault: &ScenarioFault) -> Result<Vec<u8>, NoMemory>
+/// The line of a fault of a text, as `fault: scenario 12:5 step 3: unknown word too: a send has do, node, to, ..`,
+/// without a line feed. Line and column are those of the word that the fault is about, in its own table, outside of
+/// comments and strings; of a missing word, and of a node or link that no topology has, those of its table; and of a
+/// text that is no TOML those at which that shows. `NoMemory` if allocation fails.
+pub fn scenario_fault_line(alloc: Global, text: &str, fault: &ScenarioFault) -> Result<Vec<u8>, NoMemory>
     ensures { IfOk result (λ v. IsLine v.items) }
 {
     let mut words = Vec::new(alloc);

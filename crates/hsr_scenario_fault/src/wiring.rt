@@ -1,4 +1,4 @@
-//! Which node or link makes nodes and links no topology.
+//! Which node or link keeps nodes and links from being a valid topology.
 use crate::keys::{table_in, text_at};
 use hsr_frame::Mac;
 use hsr_scenario::Spot;
@@ -71,6 +71,7 @@ fn is_bad_node(node: &Table) -> bool {
 
 /// The first node that no topology has.
 fn first_bad_node(document: &Table) -> Option<usize> {
+    // A loop with a bound has an end by its form. The list of a document ends before.
     for number in 0..MOST {
         if is_bad_node(table_in(document, "node", number)?) {
             return Some(number);
@@ -85,6 +86,7 @@ fn first_bad_node(document: &Table) -> Option<usize> {
 fn is_used(document: &Table, below: usize, end: &str) -> bool {
     for number in 0..below {
         if let Some((one, other)) = ends_of(document, number) {
+            // An end has one spelling, so its text tells it.
             if one == end || other == end {
                 return true;
             }
@@ -138,7 +140,7 @@ fn first_bad_link(document: &Table, fault: TopologyFault) -> Option<usize> {
     None
 }
 
-/// The node or the link that makes them no topology.
+/// The node or the link that keeps them from being a valid topology.
 pub(crate) fn spot_of(document: &Table, fault: TopologyFault) -> Spot {
     let node = match fault {
         TopologyFault::BadNode => first_bad_node(document),

@@ -35,7 +35,7 @@ pub(crate) fn values_of(key: Key) -> &'static str {
     }
 }
 
-/// Why nodes and links are no topology.
+/// Why nodes and links do not form a valid topology.
 pub(crate) fn words_of(fault: TopologyFault) -> &'static str {
     match fault {
         TopologyFault::TooMany =>

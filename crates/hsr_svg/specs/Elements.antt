@@ -2,7 +2,7 @@
 --     Shape    what an element shows, wherever it stands
 --     shapes   what elements show
 use Rattle.std.specs.Prelude.{ℕ, List, map}
-use Rattle.hsr_picture.specs.declared.arrow.Look.{Look}
+use Rattle.hsr_diagram.specs.declared.arrow.Look.{Look}
 use Rattle.hsr_svg.specs.declared.elements.Element.{Element}
 use Rattle.hsr_svg.specs.declared.elements.Element.TheVariants as element
 use Rattle.hsr_svg.specs.declared.elements.Label.{Label}

@@ -5,7 +5,7 @@
 use Rattle.std.specs.Prelude.{ℕ, Bool, true, false, List, [], ◌++◌, codes}
 use Rattle.std.specs.Fmt.{decimal}
 use Rattle.std.specs.List.{flat_map}
-use Rattle.hsr_picture.specs.declared.arrow.Look.{Look}
+use Rattle.hsr_diagram.specs.declared.arrow.Look.{Look}
 use Rattle.hsr_svg.specs.declared.elements.Anchor.{Anchor}
 use Rattle.hsr_svg.specs.declared.elements.Area.{Area}
 use Rattle.hsr_svg.specs.declared.elements.Anchor.TheVariants as anchor

@@ -1,7 +1,7 @@
 -- How arrows of each look are drawn. Dashes and points alone tell the looks apart.
 use Rattle.std.specs.Prelude.{ℕ, List, [], ◌∷◌, codes}
-use Rattle.hsr_picture.specs.declared.arrow.Look.{Look}
-use Rattle.hsr_picture.specs.declared.arrow.Look.TheVariants.{TakenUp, SentOn, Again, Home, Refused, Lost}
+use Rattle.hsr_diagram.specs.declared.arrow.Look.{Look}
+use Rattle.hsr_diagram.specs.declared.arrow.Look.TheVariants.{TakenUp, SentOn, Again, Home, Refused, Lost}
 
 -- all looks, as the legend lists them
 abbrev pub looks : List Look

@@ -2,9 +2,9 @@
 ghost use Rattle.std.specs.Prelude.{◌≡◌, ◌++◌, ◌∷◌, [], OnOk};
 ghost use Rattle.hsr_svg.specs.Elements.{shapes, arrow as arrow_shape, sample as sample_shape, line as line_shape, square as square_shape, shade as shade_shape, text as text_shape, labels_begin, labels_end};
 
+use hsr_diagram::Look;
 use hsr_frame::NoMemory;
 use hsr_node::Octets;
-use hsr_picture::Look;
 use std::alloc::Global;
 
 /// What a text tells. Its size, colour and weight go by it.
@@ -47,7 +47,7 @@ pub enum Line {
     Sent,
 }
 
-/// Where a line runs.
+/// Where a line runs, in user units of SVG from the upper left corner.
 #[derive(Clone, Copy, Debug)]
 pub struct Way {
     pub x1: u64,
@@ -56,7 +56,7 @@ pub struct Way {
     pub y2: u64,
 }
 
-/// Where something lies that has a width and a height.
+/// Where something lies that has a width and a height, in user units of SVG; `x` and `y` are its upper left corner.
 #[derive(Clone, Copy, Debug)]
 pub struct Area {
     pub x: u64,
@@ -80,7 +80,7 @@ pub enum Reading {
     Upwards,
 }
 
-/// Where a text stands.
+/// Where a text stands, in user units of SVG from the upper left corner.
 #[derive(Clone, Copy, Debug)]
 pub struct Spot {
     pub x: u64,
@@ -121,13 +121,14 @@ pub enum Element {
         words: Octets,
         spot: Spot,
     },
-    /// Here texts and marks begin that stand on a white ground, so that what runs behind them can't be taken for a part of them.
+    /// Here texts and marks begin that stand on a white ground, so that what runs behind them can't be taken for a part
+    /// of them.
     LabelsBegin,
     /// Here they end.
     LabelsEnd,
 }
 
-/// Adds an arrow.
+/// Adds an arrow, with its hover text. `NoMemory` if allocation fails.
 #[tactic(auto, unfolding(crate::specs::Elements::shapes))]
 pub fn add_arrow(
     elements: &mut Vec<Element>,
@@ -135,7 +136,8 @@ pub fn add_arrow(
     title: Vec<u8>,
     way: Way,
 ) -> Result<(), NoMemory>
-    ensures { OnOk result (shapes elements.new.items ≡ shapes elements.old.items ++ arrow_shape look title.items ∷ []) }
+    ensures { OnOk result (shapes elements.new.items ≡ shapes elements.old.items
+        ++ arrow_shape look title.items ∷ []) }
 {
     elements.push(Element::Arrow {
         look,
@@ -145,46 +147,51 @@ pub fn add_arrow(
     Ok(())
 }
 
-/// Adds an arrow of the legend.
+/// Adds an arrow of the legend. `NoMemory` if allocation fails.
 #[tactic(auto, unfolding(crate::specs::Elements::shapes))]
 pub fn add_sample(elements: &mut Vec<Element>, look: Look, way: Way) -> Result<(), NoMemory>
-    ensures { OnOk result (shapes elements.new.items ≡ shapes elements.old.items ++ sample_shape look ∷ []) }
+    ensures { OnOk result (shapes elements.new.items ≡ shapes elements.old.items
+        ++ sample_shape look ∷ []) }
 {
     elements.push(Element::Sample { look, way })?;
     Ok(())
 }
 
-/// Adds a line.
+/// Adds a line that is no arrow. `NoMemory` if allocation fails.
 #[tactic(auto, unfolding(crate::specs::Elements::shapes))]
 pub fn add_line(elements: &mut Vec<Element>, line: Line, way: Way) -> Result<(), NoMemory>
-    ensures { OnOk result (shapes elements.new.items ≡ shapes elements.old.items ++ line_shape line ∷ []) }
+    ensures { OnOk result (shapes elements.new.items ≡ shapes elements.old.items
+        ++ line_shape line ∷ []) }
 {
     elements.push(Element::Line { line, way })?;
     Ok(())
 }
 
-/// Adds the mark of a send around a point.
+/// Adds the mark of a send around a point. `NoMemory` if allocation fails.
 #[tactic(auto, unfolding(crate::specs::Elements::shapes))]
 pub fn add_square(elements: &mut Vec<Element>, x: u64, y: u64) -> Result<(), NoMemory>
-    ensures { OnOk result (shapes elements.new.items ≡ shapes elements.old.items ++ square_shape ∷ []) }
+    ensures { OnOk result (shapes elements.new.items ≡ shapes elements.old.items
+        ++ square_shape ∷ []) }
 {
     elements.push(Element::Square {
+        // The mark is 8 wide and 8 high.
         x: x.saturating_sub(4),
         y: y.saturating_sub(4),
     })?;
     Ok(())
 }
 
-/// Adds the time in which a link is down.
+/// Adds the shade of a time in which a link is down. `NoMemory` if allocation fails.
 #[tactic(auto, unfolding(crate::specs::Elements::shapes))]
 pub fn add_shade(elements: &mut Vec<Element>, area: Area) -> Result<(), NoMemory>
-    ensures { OnOk result (shapes elements.new.items ≡ shapes elements.old.items ++ shade_shape ∷ []) }
+    ensures { OnOk result (shapes elements.new.items ≡ shapes elements.old.items
+        ++ shade_shape ∷ []) }
 {
     elements.push(Element::Shade { area })?;
     Ok(())
 }
 
-/// Adds a text.
+/// Adds a text. `NoMemory` if allocation fails.
 #[tactic(auto, unfolding(crate::specs::Elements::shapes))]
 pub fn add_text(
     elements: &mut Vec<Element>,
@@ -192,7 +199,8 @@ pub fn add_text(
     words: Vec<u8>,
     spot: Spot,
 ) -> Result<(), NoMemory>
-    ensures { OnOk result (shapes elements.new.items ≡ shapes elements.old.items ++ text_shape label words.items ∷ []) }
+    ensures { OnOk result (shapes elements.new.items ≡ shapes elements.old.items
+        ++ text_shape label words.items ∷ []) }
 {
     elements.push(Element::Text {
         label,
@@ -202,7 +210,7 @@ pub fn add_text(
     Ok(())
 }
 
-/// Adds a copy of words as a text.
+/// Adds a copy of words as a text. `NoMemory` if allocation fails.
 pub fn add_words(
     alloc: Global,
     elements: &mut Vec<Element>,
@@ -210,25 +218,28 @@ pub fn add_words(
     words: &[u8],
     spot: Spot,
 ) -> Result<(), NoMemory>
-    ensures { OnOk result (shapes elements.new.items ≡ shapes elements.old.items ++ text_shape label words.now ∷ []) }
+    ensures { OnOk result (shapes elements.new.items ≡ shapes elements.old.items
+        ++ text_shape label words.now ∷ []) }
 {
     let words = Vec::from_slice(alloc, words)?;
     add_text(elements, label, words, spot)
 }
 
-/// Begins the texts and marks on a white ground.
+/// Begins the texts and marks on a white ground. `NoMemory` if allocation fails.
 #[tactic(auto, unfolding(crate::specs::Elements::shapes))]
 pub fn begin_labels(elements: &mut Vec<Element>) -> Result<(), NoMemory>
-    ensures { OnOk result (shapes elements.new.items ≡ shapes elements.old.items ++ labels_begin ∷ []) }
+    ensures { OnOk result (shapes elements.new.items ≡ shapes elements.old.items
+        ++ labels_begin ∷ []) }
 {
     elements.push(Element::LabelsBegin)?;
     Ok(())
 }
 
-/// Ends them.
+/// Ends the texts and marks on a white ground. `NoMemory` if allocation fails.
 #[tactic(auto, unfolding(crate::specs::Elements::shapes))]
 pub fn end_labels(elements: &mut Vec<Element>) -> Result<(), NoMemory>
-    ensures { OnOk result (shapes elements.new.items ≡ shapes elements.old.items ++ labels_end ∷ []) }
+    ensures { OnOk result (shapes elements.new.items ≡ shapes elements.old.items
+        ++ labels_end ∷ []) }
 {
     elements.push(Element::LabelsEnd)?;
     Ok(())

@@ -1,5 +1,5 @@
-//! The elements of a picture, and how they are spelled as SVG: arrows, lines, marks and texts, each with what it shows and where it
-//! stands.
+//! The elements of a picture, and how they are spelled as SVG: arrows, lines, marks and texts, each with what it shows
+//! and where it stands.
 //!
 //! Its modules, in the order in which to read them:
 //! - `elements`: the elements

@@ -4,23 +4,7 @@ ghost use Rattle.std.specs.Fmt.{decimal};
 ghost use Rattle.hsr_svg.specs.Parts.{attribute_name, attribute_text, escaped, escaped_octet};
 
 use hsr_frame::NoMemory;
-use hsr_text::put_decimal;
-
-/// Puts words last, as they stand.
-pub(crate) fn put(text: &mut Vec<u8>, words: &str) -> Result<(), NoMemory>
-    ensures { OnOk result (text.new.items ≡ text.old.items ++ words.now) }
-{
-    text.extend_from_slice(words.as_bytes())?;
-    Ok(())
-}
-
-/// Puts a number last.
-pub(crate) fn put_number(text: &mut Vec<u8>, n: u64) -> Result<(), NoMemory>
-    ensures { OnOk result (text.new.items ≡ text.old.items ++ decimal n) }
-{
-    put_decimal(text, n)?;
-    Ok(())
-}
+use hsr_text::{put, put_number};
 
 /// Puts an octet of a text that is shown last: what means something in SVG is spelled, and no control is left.
 fn put_octet(text: &mut Vec<u8>, octet: u8) -> Result<(), NoMemory>
@@ -31,6 +15,7 @@ fn put_octet(text: &mut Vec<u8>, octet: u8) -> Result<(), NoMemory>
         b'<' => put(text, "&lt;"),
         b'>' => put(text, "&gt;"),
         b'"' => put(text, "&quot;"),
+        // XML has no other controls than tab and ends of lines (XML 1.0 section 2.2).
         0..=31 => put(text, " "),
         _ => {
             text.push(octet)?;
@@ -40,7 +25,7 @@ fn put_octet(text: &mut Vec<u8>, octet: u8) -> Result<(), NoMemory>
 }
 
 /// Puts a text that is shown last.
-#[tactic(auto, using(crate::proofs::Growing::grown), unfolding(crate::specs::Parts::escaped))]
+#[tactic(auto, using(hsr_frame::proofs::OneMore::grown), unfolding(crate::specs::Parts::escaped))]
 pub(crate) fn put_shown(text: &mut Vec<u8>, shown: &[u8]) -> Result<(), NoMemory>
     ensures { OnOk result (text.new.items ≡ text.old.items ++ escaped shown.now) }
 {
@@ -123,7 +108,8 @@ pub(crate) fn put_attribute(
 /// Puts an attribute that is a number last.
 #[tactic(auto, unfolding(crate::specs::Parts::attribute_text))]
 pub(crate) fn put_length(text: &mut Vec<u8>, attribute: Attribute, n: u64) -> Result<(), NoMemory>
-    ensures { OnOk result (text.new.items ≡ text.old.items ++ attribute_text attribute (decimal n)) }
+    ensures { OnOk result (text.new.items ≡ text.old.items ++ attribute_text attribute
+        (decimal n)) }
 {
     put(text, " ")?;
     put(text, name_of(attribute))?;

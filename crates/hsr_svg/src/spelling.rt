@@ -6,10 +6,11 @@ ghost use Rattle.hsr_svg.specs.Spelling.{anchor_word, area_text, arrow_text, ele
 ghost use Rattle.hsr_svg.specs.Style.{looks};
 
 use crate::elements::{Anchor, Area, Element, Label, Line, Reading, Spot, Way};
-use crate::parts::{Attribute, name_of, put, put_attribute, put_length, put_number, put_shown};
+use crate::parts::{Attribute, name_of, put_attribute, put_length, put_shown};
 use crate::style::{colour_of, dashes_of, looks, path_of, point_of};
+use hsr_diagram::Look;
 use hsr_frame::NoMemory;
-use hsr_picture::Look;
+use hsr_text::{put, put_number};
 
 // ---- texts
 
@@ -17,6 +18,7 @@ use hsr_picture::Look;
 fn size_of(label: Label) -> &'static str
     ensures { result.now ≡ label_size label }
 {
+    // As texts, since some have a fraction.
     match label {
         Label::Title => "12",
         Label::Name { .. } => "11",
@@ -93,6 +95,7 @@ fn put_place(text: &mut Vec<u8>, x: u64, y: u64) -> Result<(), NoMemory>
 fn put_quarter(text: &mut Vec<u8>) -> Result<(), NoMemory>
     ensures { OnOk result (text.new.items ≡ text.old.items ++ quarter_text) }
 {
+    // In a function of its own: a long literal at the head of a text keeps search from the rest of it.
     put(text, "=\"rotate(-90 ")
 }
 
@@ -149,7 +152,8 @@ fn put_way(text: &mut Vec<u8>, way: Way) -> Result<(), NoMemory>
 /// Puts how a line is drawn last.
 #[tactic(auto, unfolding(crate::specs::Spelling::stroke_text))]
 fn put_stroke(text: &mut Vec<u8>, colour: &str, width: &str, dashes: &str) -> Result<(), NoMemory>
-    ensures { OnOk result (text.new.items ≡ text.old.items ++ stroke_text colour.now width.now dashes.now) }
+    ensures { OnOk result (text.new.items ≡ text.old.items
+        ++ stroke_text colour.now width.now dashes.now) }
 {
     put_attribute(text, Attribute::Stroke, colour)?;
     put_attribute(text, Attribute::StrokeWidth, width)?;
@@ -318,7 +322,7 @@ fn put_element(text: &mut Vec<u8>, element: &Element) -> Result<(), NoMemory>
 }
 
 /// Puts elements last.
-#[tactic(auto, using(crate::proofs::Growing::grown))]
+#[tactic(auto, using(hsr_frame::proofs::OneMore::grown))]
 fn put_elements(text: &mut Vec<u8>, elements: &[Element]) -> Result<(), NoMemory>
     ensures { OnOk result (text.new.items ≡ text.old.items ++ flat_map element_text elements.now) }
 {
@@ -368,7 +372,7 @@ fn put_point(text: &mut Vec<u8>, look: Look) -> Result<(), NoMemory>
 }
 
 /// Puts what stands at the points of arrows of these looks last.
-#[tactic(auto, using(crate::proofs::Growing::grown))]
+#[tactic(auto, using(hsr_frame::proofs::OneMore::grown))]
 fn put_points_of(text: &mut Vec<u8>, looks: &[Look]) -> Result<(), NoMemory>
     ensures { OnOk result (text.new.items ≡ text.old.items ++ flat_map point_text looks.now) }
 {
@@ -395,6 +399,7 @@ fn put_points(text: &mut Vec<u8>) -> Result<(), NoMemory>
 fn put_head(text: &mut Vec<u8>) -> Result<(), NoMemory>
     ensures { OnOk result (text.new.items ≡ text.old.items ++ head_text) }
 {
+    // In a function of its own, as the words of a turn.
     put(text, "<svg xmlns=\"http://www.w3.org/2000/svg\"")
 }
 
@@ -423,7 +428,8 @@ fn put_ground(text: &mut Vec<u8>) -> Result<(), NoMemory>
     )
 }
 
-/// Puts elements last, as a picture so wide and so high.
+/// Puts elements last, as a picture of this width and height, in user units of SVG. `NoMemory` if allocation fails; a
+/// front of the picture may stand there then.
 #[tactic(auto, unfolding(crate::specs::Spelling::svg_text))]
 pub fn put_svg(
     text: &mut Vec<u8>,

@@ -2,7 +2,7 @@
 ghost use Rattle.std.specs.Prelude.{◌≡◌, ◌∷◌, []};
 ghost use Rattle.hsr_svg.specs.Style.{head_path, look_colour, look_dashes, look_point, look_words, looks};
 
-use hsr_picture::Look;
+use hsr_diagram::Look;
 
 /// All looks, as the legend lists them.
 pub fn looks() -> [Look; 6]
@@ -22,6 +22,7 @@ pub fn looks() -> [Look; 6]
 pub(crate) fn colour_of(look: Look) -> &'static str
     ensures { result.now ≡ look_colour look }
 {
+    // A printer may have no colours, so dashes and points tell the looks apart too.
     match look {
         Look::TakenUp => "#14732f",
         Look::SentOn => "#1f5fbf",

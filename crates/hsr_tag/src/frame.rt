@@ -30,6 +30,7 @@ pub struct Frame {
     pub dst: Mac,
     pub src: Mac,
     pub vlan: Option<u16>,
+    /// The EtherType.
     pub kind: u16,
     pub payload: ArrayVec<u8, MAX_PAYLOAD>,
 }
@@ -56,6 +57,7 @@ pub struct Tagged {
     pub path: u8,
     pub size: u16,
     pub seq: u16,
+    /// The EtherType.
     pub kind: u16,
     pub payload: ArrayVec<u8, MAX_PAYLOAD>,
 }

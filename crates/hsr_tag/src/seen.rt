@@ -45,12 +45,12 @@ fn seen_of<'a>(head: &Head<'a>, rest: &'a [u8]) -> Result<SeenView<'a>, FrameFau
         return Err(FrameFault::ShortTag);
     }
     let first = u16_at(rest, 0);
-    let kind = u16_at(rest, 4);
+    let ethertype = u16_at(rest, 4);
     // A second HSR tag is told before a VLAN tag behind the first (RULES, Frames).
-    if kind == ETHERTYPE_HSR {
+    if ethertype == ETHERTYPE_HSR {
         return Err(FrameFault::NestedTag);
     }
-    if kind == ETHERTYPE_VLAN {
+    if ethertype == ETHERTYPE_VLAN {
         return Err(FrameFault::DoubleVlan);
     }
     let frame = EitherView::Tagged(TaggedView {
@@ -60,7 +60,7 @@ fn seen_of<'a>(head: &Head<'a>, rest: &'a [u8]) -> Result<SeenView<'a>, FrameFau
         path: (first / 4096) as u8,
         size: first % 4096,
         seq: u16_at(rest, 2),
-        kind,
+        kind: ethertype,
         payload: Payload::there(&rest[TAG_LEN..]),
     });
     Ok(SeenView { frame })

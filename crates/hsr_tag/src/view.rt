@@ -18,6 +18,7 @@ pub struct FrameView<'a> {
     pub dst: Mac,
     pub src: Mac,
     pub vlan: Option<u16>,
+    /// The EtherType.
     pub kind: u16,
     pub payload: Payload<'a>,
 }
@@ -45,6 +46,7 @@ pub struct TaggedView<'a> {
     pub path: u8,
     pub size: u16,
     pub seq: u16,
+    /// The EtherType.
     pub kind: u16,
     pub payload: Payload<'a>,
 }

@@ -19,9 +19,9 @@ moment_in Milliseconds n = if nat_lt (n * 1000) (2 ^ 64) then Some (n * 1000) el
 moment_in Microseconds n = Some n
 
 -- how a unit tells a moment in microseconds; what is less than one of the unit is left out
-abbrev pub moment_told : TimeUnit → ℕ → ℕ
-moment_told Milliseconds at = at / 1000
-moment_told Microseconds at = at
+abbrev pub whole_units : TimeUnit → ℕ → ℕ
+whole_units Milliseconds at = at / 1000
+whole_units Microseconds at = at
 
 -- the unit leaves nothing out
 abbrev pub IsMomentOf : TimeUnit → ℕ → Type 0

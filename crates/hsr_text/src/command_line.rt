@@ -3,9 +3,10 @@ ghost use Rattle.std.specs.Prelude.{◌≡◌, IfOk, drop, map, string_bytes};
 
 use std::alloc::{AllocError, Global};
 
-/// The arguments after the program's name.
+/// The arguments after the program's name. `AllocError` if allocation fails.
 pub fn arguments(alloc: Global, args: &Vec<String>) -> Result<Vec<&str>, AllocError>
-    ensures { IfOk result (λ words. map (λ s. s.now) words.items ≡ map string_bytes (drop 1 args.now.items)) }
+    ensures { IfOk result (λ words. map (λ s. s.now) words.items
+        ≡ map string_bytes (drop 1 args.now.items)) }
 {
     let mut words = Vec::new(alloc);
     for word in args.iter().skip(1) {

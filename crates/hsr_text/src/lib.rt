@@ -1,6 +1,12 @@
 //! The lines of a text, the words of a line, and the unit of its moments.
 //!
-//! Its modules, in the order to read them: `lines`, `whole`, `words`, `putting`, `time_unit`, `command_line`.
+//! Its modules, in the order in which to read them:
+//! - `lines`: lines of a reader, with a bound on their length and on the number of reads
+//! - `whole`: a text that is read whole, up to a length
+//! - `words`: the words of a line, numbers, octets in digits, and addresses
+//! - `putting`: texts that grow by words, octets and numbers
+//! - `time_unit`: the unit in which a text tells its moments
+//! - `command_line`: the arguments of a program
 #![tactic(auto)]
 
 mod command_line;

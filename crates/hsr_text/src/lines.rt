@@ -36,8 +36,8 @@ fn reach(piece: &[u8], room: usize) -> &[u8]
     }
 }
 
-/// Puts what a piece of a text has of a line behind the line's front. Tells how many octets of the piece that takes, with the
-/// line feed or the octet that finds no room, and how the line ends, if it ends there.
+/// Puts what a piece of a text has of a line behind the line's front. Tells how many octets of the piece that takes,
+/// with the line feed or the octet that finds no room, and how the line ends, if it ends there.
 #[tactic(auto, using(crate::proofs::Pieces::line_filled, crate::proofs::Pieces::part_filled, crate::proofs::Pieces::none_filled, crate::proofs::Pieces::long_filled))]
 fn fill<const N: usize>(line: &mut ArrayVec<u8, N>, piece: &[u8]) -> (usize, Option<Front>)
     ensures within { result.0 ≤ length piece.now }
@@ -47,9 +47,11 @@ fn fill<const N: usize>(line: &mut ArrayVec<u8, N>, piece: &[u8]) -> (usize, Opt
     let room = line.remaining_capacity();
     match split_at(reach(piece, room), b'\n') {
         (front, Some(_)) => {
+            // It has room: with the line feed `reach` shows one octet more than that at most.
             line.try_extend_from_slice(front).unwrap();
             (front.len() + 1, Some(Front::Line))
         }
+        // A reader that shows nothing is at its end.
         ([], None) => (0, Some(Front::Rest)),
         (front, None) if front.len() > room => {
             line.try_extend_from_slice(&front[..room]).unwrap();
@@ -69,13 +71,16 @@ fn advance<R: BufRead, const N: usize>(
     reads: &mut u64,
     line: &mut ArrayVec<u8, N>,
 ) -> Result<Option<Front>, ReaderFault>
-    ensures advanced { IfOk result (Advances N (R.remaining reader.old) (R.remaining reader.new) line.old.items line.new.items) }
-    ensures paid { Paid (R.remaining reader.old) (R.remaining reader.new) (reads.old + 1) reads.new }
+    ensures advanced { IfOk result (Advances N (R.remaining reader.old)
+        (R.remaining reader.new) line.old.items line.new.items) }
+    ensures paid { Paid (R.remaining reader.old) (R.remaining reader.new)
+        (reads.old + 1) reads.new }
     ensures bounded { reads.new ≤ reads.old }
 {
     let piece = match reader.fill_buf() {
         Ok(piece) => piece,
         Err(e) => {
+            // A read that was interrupted is tried again, and has taken one of `reads`.
             return if e.kind() == ErrorKind::Interrupted {
                 Ok(None)
             } else {
@@ -91,20 +96,22 @@ fn advance<R: BufRead, const N: usize>(
     Ok(front)
 }
 
-/// Reads the next line, of at most `N` octets, into `line`, without its line feed; each octet takes one of `reads`, and so does
-/// a read that gives none. `ReaderFault` where the reader fails or no reads are left; then the line isn't told.
+/// Reads the next line, of at most `N` octets, into `line`, without its line feed; each octet takes one of `reads`, and
+/// so does a read that gives none. `ReaderFault` where the reader fails or no reads are left; then the line isn't told.
 #[tactic(auto, using(crate::proofs::Pieces::goes_on, crate::proofs::Pieces::ends))]
 pub fn next_line<R: BufRead, const N: usize>(
     reader: &mut R,
     reads: &mut u64,
     line: &mut ArrayVec<u8, N>,
 ) -> Result<Front, ReaderFault>
-    ensures front { IfOk result (ReadsFront N (R.remaining reader.old) (R.remaining reader.new) line.new.items) }
+    ensures front { IfOk result (ReadsFront N (R.remaining reader.old)
+        (R.remaining reader.new) line.new.items) }
     ensures paid { Paid (R.remaining reader.old) (R.remaining reader.new) reads.old reads.new }
     ensures counted { OnOk result (reads.new < reads.old) }
     ensures bounded { reads.new ≤ reads.old }
 {
     line.clear();
+    // It ends, since reads are counted.
     while *reads > 0 {
         *reads -= 1;
         if let Some(front) = advance(reader, reads, line)? {

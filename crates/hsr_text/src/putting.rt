@@ -1,11 +1,11 @@
-//! Texts that grow by words, octets and numbers, where a refused growth is `NoMemory`.
+//! Texts that grow by words, octets and numbers, where a failed allocation is `NoMemory`.
 ghost use Rattle.std.specs.Prelude.{◌≡◌, ◌++◌, OnErr, OnOk};
 ghost use Rattle.std.specs.Fmt.{decimal};
 
 use crate::words::put_decimal;
 use hsr_frame::NoMemory;
 
-/// Puts octets last; a refused growth changes nothing. `NoMemory` where room is refused.
+/// Puts octets last. `NoMemory` if allocation fails: then nothing changes.
 pub fn put_octets(text: &mut Vec<u8>, octets: &[u8]) -> Result<(), NoMemory>
     ensures ok { OnOk result (text.new.items ≡ text.old.items ++ octets.now) }
     ensures err { OnErr result (text.new.items ≡ text.old.items) }
@@ -14,7 +14,7 @@ pub fn put_octets(text: &mut Vec<u8>, octets: &[u8]) -> Result<(), NoMemory>
     Ok(())
 }
 
-/// Puts words last; a refused growth changes nothing. `NoMemory` where room is refused.
+/// Puts words last. `NoMemory` if allocation fails: then nothing changes.
 pub fn put(text: &mut Vec<u8>, words: &str) -> Result<(), NoMemory>
     ensures ok { OnOk result (text.new.items ≡ text.old.items ++ words.now) }
     ensures err { OnErr result (text.new.items ≡ text.old.items) }
@@ -22,7 +22,7 @@ pub fn put(text: &mut Vec<u8>, words: &str) -> Result<(), NoMemory>
     put_octets(text, words.as_bytes())
 }
 
-/// Puts a number in decimal digits last; a refused growth changes nothing. `NoMemory` where room is refused.
+/// Puts a number in decimal digits last. `NoMemory` if allocation fails: then nothing changes.
 pub fn put_number(text: &mut Vec<u8>, n: u64) -> Result<(), NoMemory>
     ensures ok { OnOk result (text.new.items ≡ text.old.items ++ decimal n) }
     ensures err { OnErr result (text.new.items ≡ text.old.items) }

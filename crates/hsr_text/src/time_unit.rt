@@ -1,6 +1,6 @@
 //! The unit in which a text tells its moments.
 ghost use Rattle.std.specs.Prelude.{◌≡◌, IfSome, Some};
-ghost use Rattle.hsr_text.specs.Moments.{moment_in, moment_of, moment_told, unit_of, unit_word};
+ghost use Rattle.hsr_text.specs.Moments.{moment_in, moment_of, whole_units, unit_of, unit_word};
 
 use crate::words::decimal;
 
@@ -32,6 +32,7 @@ impl TimeUnit {
         ensures again { (unit : TimeUnit) → unit_of (unit_word unit) ≡ Some unit }
         ensures exact { IfSome result (λ unit. word.now ≡ unit_word unit) }
     {
+        // Both sides of `==` have one type, so an octet literal is compared as a slice.
         if word == b"ms".as_slice() {
             Some(TimeUnit::Milliseconds)
         } else if word == b"us".as_slice() {
@@ -52,8 +53,8 @@ impl TimeUnit {
     }
 
     /// A moment in microseconds as this unit tells it; what is less than one of the unit is left out.
-    pub fn told(self, at: u64) -> u64
-        ensures { result ≡ moment_told self at }
+    pub fn whole_units(self, at: u64) -> u64
+        ensures { result ≡ whole_units self at }
     {
         match self {
             TimeUnit::Milliseconds => at / MICROSECONDS,

@@ -14,13 +14,14 @@ const PIECE_LIMIT: usize = 4096;
 pub enum InputFault {
     /// The reader failed, or took too many reads.
     Read,
-    /// Room was refused.
+    /// Allocation failed.
     Memory,
 }
 
 /// Reads a piece of a text, puts it behind what was read, and tells whether more may follow.
 fn read_piece<R: Read>(reader: &mut R, text: &mut Vec<u8>) -> Result<bool, InputFault>
-    ensures { IfOk result (λ more. ReadsPiece (R.remaining reader.old) (R.remaining reader.new) text.old.items text.new.items more) }
+    ensures { IfOk result (λ more. ReadsPiece (R.remaining reader.old)
+        (R.remaining reader.new) text.old.items text.new.items more) }
 {
     let mut piece = [0u8; PIECE_LIMIT];
     match reader.read(&mut piece) {
@@ -28,6 +29,7 @@ fn read_piece<R: Read>(reader: &mut R, text: &mut Vec<u8>) -> Result<bool, Input
             Ok(()) => Ok(count > 0),
             Err(_) => Err(InputFault::Memory),
         },
+        // A read that was interrupted doesn't say that the text ends.
         Err(e) if e.kind() == ErrorKind::Interrupted => Ok(true),
         Err(_) => Err(InputFault::Read),
     }
@@ -40,8 +42,8 @@ pub fn granted_reads() -> u64
     READ_LIMIT
 }
 
-/// Reads a whole text, or of one with more than `most` octets a front that has more, with the reads that are granted. `None` where
-/// they are used up.
+/// Reads a whole text, or of one with more than `most` octets a front that has more, with the reads that are granted.
+/// `None` where they are used up.
 fn read_granted<R: Read>(
     alloc: Global,
     reader: &mut R,
@@ -49,13 +51,16 @@ fn read_granted<R: Read>(
     most: usize,
 ) -> Result<Option<Vec<u8>>, InputFault>
     requires granted { reads.old ≡ 2 ^ 40 }
-    ensures read { IfOk result (λ read. IfSome read (λ text. IfSome (R.remaining reader.old) (λ all. IsWhole most all text.items))) }
+    ensures read { IfOk result (λ read. IfSome read (λ text. IfSome (R.remaining reader.old)
+        (λ all. IsWhole most all text.items))) }
     ensures spent { IfOk result (λ read. read ≡ None → reads.new ≡ 0) }
 {
     let mut text = Vec::new(alloc);
+    // It ends, since reads are counted.
     while *reads > 0 {
         *reads -= 1;
         let more = read_piece(reader, &mut text)?;
+        // A front that is too long is enough to refuse the text.
         if !more || text.len() > most {
             return Ok(Some(text));
         }
@@ -64,9 +69,10 @@ fn read_granted<R: Read>(
 }
 
 /// Reads a whole text, or of one with more than `most` octets a front that has more. `Read` where the reader fails or takes
-/// `READ_LIMIT` reads, `Memory` where room is refused.
+/// `READ_LIMIT` reads, `Memory` if allocation fails.
 pub fn read_text<R: Read>(alloc: Global, reader: &mut R, most: usize) -> Result<Vec<u8>, InputFault>
-    ensures { IfOk result (λ text. IfSome (R.remaining reader.old) (λ all. IsWhole most all text.items)) }
+    ensures { IfOk result (λ text. IfSome (R.remaining reader.old)
+        (λ all. IsWhole most all text.items)) }
 {
     let mut reads = granted_reads();
     match read_granted(alloc, reader, &mut reads, most) {

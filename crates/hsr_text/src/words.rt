@@ -7,16 +7,17 @@ ghost use Rattle.hex.specs.Hex.{decode_of, decode_pairs, encode_upper, hex_digit
 ghost use Rattle.hsr_text.specs.Words.{Gives, cut, decimal_of, hex_octets_of, hex_pair_of, mac_text, word_at};
 
 use hex::FromHex;
-use hsr_frame::Mac;
+use hsr_frame::{Mac, NoMemory};
 use itoa::Buffer;
 use memchr::memchr;
-use std::alloc::{AllocError, Global};
+use std::alloc::Global;
 
 /// Why a word isn't read.
 #[derive(Clone, Copy, Debug, PartialEq, Eq)]
 pub enum WordFault {
     /// It spells nothing of its kind.
     Bad,
+    /// Allocation failed.
     Memory,
 }
 
@@ -33,7 +34,8 @@ pub fn split_at(text: &[u8], separator: u8) -> (&[u8], Option<&[u8]>)
 
 /// The next word of what is left of a line, and what follows the one space behind it.
 pub fn word(rest: Option<&[u8]>) -> Option<(&[u8], Option<&[u8]>)>
-    ensures { option_map (λ w. (w.0.now, option_map (λ s. s.now) w.1)) result ≡ word_at (option_map (λ s. s.now) rest.entry) }
+    ensures { option_map (λ w. (w.0.now, option_map (λ s. s.now) w.1)) result
+        ≡ word_at (option_map (λ s. s.now) rest.entry) }
 {
     match rest {
         Some(text) => Some(split_at(text, b' ')),
@@ -47,6 +49,7 @@ pub fn decimal(word: &[u8]) -> Option<u64>
     ensures { result ≡ decimal_of word.now }
 {
     let first = *word.first()?;
+    // Each number has one spelling (RULES, Lines of `node`).
     if first == b'0' && word.len() > 1 {
         return None;
     }
@@ -85,13 +88,15 @@ fn nibble(digit: u8) -> u8
 /// The octet that two hexadecimal digits of either case spell.
 #[tactic(auto, using(crate::proofs::HexDigits::pair_spells))]
 fn octet_of(high: u8, low: u8) -> u8
-    ensures { (i : ℕ) → is_ascii_hexdigit high ≡ true → is_ascii_hexdigit low ≡ true → pair_value high low i ≡ Ok result }
+    ensures { (i : ℕ) → is_ascii_hexdigit high ≡ true → is_ascii_hexdigit low ≡ true
+        → pair_value high low i ≡ Ok result }
 {
+    // Wrapping: of other characters the octet means nothing, and `read_hex` answers that they came.
     nibble(high).wrapping_mul(16).wrapping_add(nibble(low))
 }
 
-/// Fills a slice with the octets that pairs of characters spell, and tells whether all are hexadecimal digits. The loop has no
-/// branches, so that it is one of vectors.
+/// Fills a slice with the octets that pairs of characters spell, and tells whether all are hexadecimal digits. The loop
+/// has no branches, so that it is one of vectors.
 fn read_hex(octets: &mut [u8], digits: &[u8]) -> bool
     requires { length digits.now ≡ 2 * length octets.old }
     ensures { result_ok (decode_pairs 0 digits.now) ≡ (if result then Some octets.new else None) }
@@ -100,6 +105,7 @@ fn read_hex(octets: &mut [u8], digits: &[u8]) -> bool
     for i in 0..octets.len() {
         let high = digits[2 * i];
         let low = digits[2 * i + 1];
+        // `&` and not `&&`, which would branch.
         all &= high.is_ascii_hexdigit() & low.is_ascii_hexdigit();
         octets[i] = octet_of(high, low);
     }
@@ -124,7 +130,7 @@ fn pairs_of(alloc: Global, digits: &[u8]) -> Result<Vec<u8>, WordFault>
 }
 
 /// The octets that hexadecimal text of either case spells; a hyphen spells none. `Bad` where the word is neither,
-/// `Memory` where room is refused.
+/// `Memory` if allocation fails.
 pub fn hex_octets(alloc: Global, word: &[u8]) -> Result<Vec<u8>, WordFault>
     ensures { Gives (λ v. v.items) result (hex_octets_of word.now) }
 {
@@ -135,40 +141,46 @@ pub fn hex_octets(alloc: Global, word: &[u8]) -> Result<Vec<u8>, WordFault>
     }
 }
 
-/// Puts a number in decimal digits last; a refused growth changes nothing.
-pub fn put_decimal(text: &mut Vec<u8>, n: u64) -> Result<(), AllocError>
+/// Puts a number in decimal digits last. `NoMemory` if allocation fails: then nothing changes.
+pub fn put_decimal(text: &mut Vec<u8>, n: u64) -> Result<(), NoMemory>
     ensures ok { OnOk result (text.new.items ≡ text.old.items ++ decimal_text n) }
     ensures err { OnErr result (text.new.items ≡ text.old.items) }
 {
     let mut buffer = Buffer::new();
-    text.extend_from_slice(buffer.format(n).as_bytes())
+    text.extend_from_slice(buffer.format(n).as_bytes())?;
+    Ok(())
 }
 
-/// Puts a name and a number in decimal digits last.
-pub fn put_count(text: &mut Vec<u8>, name: &[u8], n: u64) -> Result<(), AllocError>
+/// Puts a name and a number in decimal digits last. `NoMemory` if allocation fails; the name may stand there then.
+pub fn put_count(text: &mut Vec<u8>, name: &[u8], n: u64) -> Result<(), NoMemory>
     ensures { OnOk result (text.new.items ≡ text.old.items ++ (name.now ++ decimal_text n)) }
 {
     text.extend_from_slice(name)?;
     put_decimal(text, n)
 }
 
-/// Puts the text of an address last, six pairs of digits of upper case with hyphens between them.
+/// Puts the text of an address last, six pairs of digits of upper case with hyphens between them. `NoMemory` if
+/// allocation fails.
 #[tactic(auto, unfolding(crate::specs::Words::mac_text))]
-pub fn put_mac(alloc: Global, text: &mut Vec<u8>, mac: Mac) -> Result<(), AllocError>
+pub fn put_mac(alloc: Global, text: &mut Vec<u8>, mac: Mac) -> Result<(), NoMemory>
     ensures { OnOk result (text.new.items ≡ text.old.items ++ mac_text mac) }
 {
+    // An address prints itself, so its form stands in one place, hsr_frame.
     let address = format!(in alloc; "{mac}")?;
-    text.extend_from_slice(address.as_bytes())
+    text.extend_from_slice(address.as_bytes())?;
+    Ok(())
 }
 
-/// Puts octets in hexadecimal digits of upper case last; a refused growth changes nothing.
-pub fn put_hex(text: &mut Vec<u8>, octets: &[u8]) -> Result<(), AllocError>
+/// Puts octets in hexadecimal digits of upper case last. `NoMemory` if allocation fails: then nothing changes.
+pub fn put_hex(text: &mut Vec<u8>, octets: &[u8]) -> Result<(), NoMemory>
     ensures ok { OnOk result (text.new.items ≡ text.old.items ++ encode_upper octets.now) }
     ensures err { OnErr result (text.new.items ≡ text.old.items) }
 {
     let start = text.len();
-    let digits = octets.len().checked_mul(2).ok_or(AllocError)?;
-    let end = start.checked_add(digits).ok_or(AllocError)?;
+    // More digits than a length can count fit into no memory.
+    let digits = octets.len().checked_mul(2).ok_or(NoMemory)?;
+    let end = start.checked_add(digits).ok_or(NoMemory)?;
+    // All room at once, so that the loop fills a slice and can't fail.
     text.resize(end, 0)?;
     write_hex(&mut text.as_mut_slice()[start..], octets);
     Ok(())

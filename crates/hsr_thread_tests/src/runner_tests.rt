@@ -1,10 +1,10 @@
 //! Rings that run in threads under gates, which bring about an order of events that a run seldom has by itself.
-use hsr_closing::Closed;
+use hsr_finished_run::Closed;
 use hsr_link::Fate;
 use hsr_node::{Event, Probe, StepFault};
 use hsr_runner::{Gate, RunFault, run_threads};
 use hsr_scenario::Scenario;
-use hsr_step::WorldFault;
+use hsr_world_steps::WorldFault;
 use std::alloc::Global;
 use std::marker::Sync;
 use std::sync::Wait;

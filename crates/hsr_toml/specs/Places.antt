@@ -6,7 +6,7 @@ abbrev pub is_quote : Option ℕ → Bool
 is_quote None = false
 is_quote (Some b) = b == 34
 
--- a string begins at this place of a bare text
+-- a string begins at this offset of a bare text
 abbrev pub begins_string : List ℕ → ℕ → Bool
 begins_string bare k = is_quote (slice_get bare k) && not (is_quote (before bare k))
 

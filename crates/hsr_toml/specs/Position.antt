@@ -15,7 +15,7 @@ is_edge (Some b) = not (is_word_octet b)
 abbrev pub before : List ℕ → ℕ → Option ℕ
 before text at = if at == 0 then None else slice_get text (at - 1)
 
--- the word stands at this place, and is not part of a longer one
+-- the word stands at this offset, and is not part of a longer one
 unfoldable pub is_whole : List ℕ → List ℕ → ℕ → Bool
 is_whole text word at = bytes_eq (take (length word) (drop at text)) word && (is_edge (before text at) && is_edge (slice_get text (at + length word)))
 

@@ -4,7 +4,7 @@ ghost use Rattle.hsr_toml.specs.Headers.{IsFirst, IsHeader, is_bracketed, is_oct
 
 use crate::position::is_whole;
 
-/// The first place from `from` on where a word stands whole.
+/// The first offset from `from` on where a word stands whole.
 pub fn whole_word(text: &[u8], word: &[u8], from: usize) -> Option<usize>
     ensures found { IfSome result (λ at. IsFirst text.now word.now from at) }
     ensures within { IfSome result (λ at. at < length text.now) }
@@ -27,9 +27,9 @@ fn is_octet(there: Option<u8>, b: u8) -> bool
     }
 }
 
-/// Whether two brackets open before a place, and one closes so much behind it.
+/// Whether two brackets open before an offset, and one closes so much behind it.
 fn is_bracketed(text: &[u8], at: usize, long: usize) -> bool
-    requires place { at < length text.now }
+    requires offset { at < length text.now }
     requires long { long ≤ length text.now }
     ensures { result ≡ is_bracketed text.now at long }
 {

@@ -1,7 +1,7 @@
 //! A text of TOML without what its comments and strings say.
 //!
 //! The crate `toml` says where a text isn't TOML, and not where a key of a read one stands. So faults find their
-//! words by this walk. Octets keep their places, so a place in the bare text is one in the text.
+//! words by this walk. Octets keep their offsets, so an offset in the bare text is one in the text.
 ghost use Rattle.std.specs.Prelude.{◌≡◌, IfOk};
 ghost use Rattle.hsr_toml.specs.Lexing.{bare, empty, ending, lexed, line, long, opened, plain, shown};
 ghost use Rattle.hsr_toml.specs.declared.lexing.Lexing.TheVariants as lexing;

@@ -2,7 +2,7 @@
 ghost use Rattle.std.specs.Prelude.{◌≡◌, ◌≤◌, ◌==◌, ◌+◌, ◌-◌, ℕ, true, false, count_by, length, take, drop, slice_get};
 ghost use Rattle.hsr_toml.specs.Position.{before, column, is_edge, is_whole, is_word_octet, position_of};
 
-/// A place in a text: its line and its column, both from 1; columns are counted in octets.
+/// A position in a text: its line and its column, both from 1; columns are counted in octets.
 #[derive(Clone, Copy, Debug, PartialEq, Eq)]
 pub struct Position {
     pub line: usize,
@@ -27,7 +27,7 @@ fn is_edge(b: Option<u8>) -> bool
     }
 }
 
-/// The octet before a place.
+/// The octet before an offset.
 pub(crate) fn before(text: &[u8], at: usize) -> Option<u8>
     ensures { result ≡ before text.now at }
 {
@@ -37,7 +37,7 @@ pub(crate) fn before(text: &[u8], at: usize) -> Option<u8>
     text.get(at - 1).copied()
 }
 
-/// Whether a word stands at a place, and isn't part of a longer one.
+/// Whether a word stands at an offset, and isn't part of a longer one.
 #[tactic(auto, unfolding(crate::specs::Position::is_whole))]
 pub(crate) fn is_whole(text: &[u8], word: &[u8], at: usize) -> bool
     requires { at ≤ length text.now }
@@ -71,7 +71,7 @@ fn lines(text: &[u8]) -> usize
     text.iter().filter(|b| **b == b'\n').count()
 }
 
-/// Line and column of the octet at a place.
+/// Line and column of the octet at an offset.
 pub fn position_of(text: &[u8], at: usize) -> Position
     requires { at ≤ length text.now }
     ensures { result ≡ position_of text.now at }

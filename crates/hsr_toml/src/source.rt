@@ -14,7 +14,7 @@ pub struct Source<'a> {
 
 // ---- words and strings
 
-/// Whether the octet of a place is part of a string.
+/// Whether the octet of an offset is part of a string.
 fn is_quote(b: Option<u8>) -> bool
     ensures { result ≡ is_quote b }
 {
@@ -24,14 +24,14 @@ fn is_quote(b: Option<u8>) -> bool
     }
 }
 
-/// Whether a string begins at a place.
+/// Whether a string begins at an offset.
 fn begins_string(bare: &[u8], at: usize) -> bool
     ensures { result ≡ begins_string bare.now at }
 {
     is_quote(bare.get(at).copied()) && !is_quote(before(bare, at))
 }
 
-/// Whether a word stands whole at a place, outside of comments and strings, or as the first of a string.
+/// Whether a word stands whole at an offset, outside of comments and strings, or as the first of a string.
 #[tactic(auto, unfolding(crate::specs::Places::stands))]
 fn stands(source: Source<'_>, word: &[u8], at: usize) -> bool
     requires text { at ≤ length source.text.now }
@@ -43,7 +43,7 @@ fn stands(source: Source<'_>, word: &[u8], at: usize) -> bool
         && (is_whole(source.bare, word, at) || (at > 0 && begins_string(source.bare, at - 1)))
 }
 
-/// A place, if the word stands there.
+/// An offset, if the word stands there.
 fn place_if(source: Source<'_>, word: &[u8], at: usize) -> Option<usize>
     ensures { IfSome result (λ at.
         stands source.entry.text.now source.entry.bare.now word.now at ≡ true) }
@@ -55,7 +55,7 @@ fn place_if(source: Source<'_>, word: &[u8], at: usize) -> Option<usize>
     }
 }
 
-/// Where a word stands in the string that begins at a place, whole or up to a dot.
+/// Where a word stands in the string that begins at an offset, whole or up to a dot.
 fn named_at(source: Source<'_>, word: &[u8], at: usize) -> Option<usize>
     ensures { IfSome result (λ at.
         stands source.entry.text.now source.entry.bare.now word.now at ≡ true) }
@@ -69,7 +69,7 @@ fn named_at(source: Source<'_>, word: &[u8], at: usize) -> Option<usize>
     }
 }
 
-/// Where a word stands that begins at a place, by itself or as a string.
+/// Where a word stands that begins at an offset, by itself or as a string.
 fn word_at(source: Source<'_>, word: &[u8], at: usize) -> Option<usize>
     ensures { IfSome result (λ at.
         stands source.entry.text.now source.entry.bare.now word.now at ≡ true) }
@@ -81,8 +81,8 @@ fn word_at(source: Source<'_>, word: &[u8], at: usize) -> Option<usize>
     }
 }
 
-/// The next place with an octet that is no blank.
-fn next_place(bare: &[u8], from: usize) -> Option<usize> {
+/// The next offset with an octet that is no blank.
+fn next_offset(bare: &[u8], from: usize) -> Option<usize> {
     for at in from..bare.len() {
         if !is_blank(bare[at]) {
             return Some(at);
@@ -91,9 +91,9 @@ fn next_place(bare: &[u8], from: usize) -> Option<usize> {
     None
 }
 
-/// The place behind a word, and behind its quote.
-fn behind(source: Source<'_>, word: &[u8], place: usize) -> usize {
-    let end = place.saturating_add(word.len());
+/// The offset behind a word, and behind its quote.
+fn behind(source: Source<'_>, word: &[u8], offset: usize) -> usize {
+    let end = offset.saturating_add(word.len());
     if is_quote(source.bare.get(end).copied()) {
         end.saturating_add(1)
     } else {
@@ -101,9 +101,9 @@ fn behind(source: Source<'_>, word: &[u8], place: usize) -> usize {
     }
 }
 
-/// The place behind the octet that is the next one, if it is this one.
+/// The offset behind the octet that is the next one, if it is this one.
 fn behind_octet(bare: &[u8], from: usize, b: u8) -> Option<usize> {
-    let at = next_place(bare, from)?;
+    let at = next_offset(bare, from)?;
     if bare.get(at).copied() == Some(b) {
         at.checked_add(1)
     } else {
@@ -113,7 +113,7 @@ fn behind_octet(bare: &[u8], from: usize, b: u8) -> Option<usize> {
 
 // ---- keys
 
-/// Where a key of the table stands that begins at a place.
+/// Where a key of the table stands that begins at an offset.
 pub fn key_at(source: Source<'_>, word: &[u8], start: usize) -> Option<usize>
     ensures { IfSome result (λ at.
         stands source.entry.text.now source.entry.bare.now word.now at ≡ true) }
@@ -125,8 +125,8 @@ pub fn key_at(source: Source<'_>, word: &[u8], start: usize) -> Option<usize>
             return None;
         }
         if walk.is_key() {
-            if let Some(place) = word_at(source, word, at) {
-                return Some(place);
+            if let Some(offset) = word_at(source, word, at) {
+                return Some(offset);
             }
         }
         walk = walk.behind(b);
@@ -142,8 +142,8 @@ pub fn top_key(source: Source<'_>, word: &[u8]) -> Option<usize>
     let mut walk = Walk::start();
     for at in 0..source.bare.len() {
         if walk.is_top_key() {
-            if let Some(place) = word_at(source, word, at) {
-                return Some(place);
+            if let Some(offset) = word_at(source, word, at) {
+                return Some(offset);
             }
         }
         walk = walk.behind(source.bare[at]);
@@ -151,15 +151,15 @@ pub fn top_key(source: Source<'_>, word: &[u8]) -> Option<usize>
     None
 }
 
-/// Where a key stands in the table that is the value of what stands before a place.
-fn member_behind(source: Source<'_>, word: &[u8], place: usize) -> Option<usize>
+/// Where a key stands in the table that is the value of what stands before an offset.
+fn member_behind(source: Source<'_>, word: &[u8], offset: usize) -> Option<usize>
     ensures { IfSome result (λ at.
         stands source.entry.text.now source.entry.bare.now word.now at ≡ true) }
 {
-    let sign = next_place(source.bare, place)?;
+    let sign = next_offset(source.bare, offset)?;
     let next = sign.checked_add(1)?;
     match source.bare.get(sign).copied()? {
-        b'.' => word_at(source, word, next_place(source.bare, next)?),
+        b'.' => word_at(source, word, next_offset(source.bare, next)?),
         b'=' => key_at(source, word, behind_octet(source.bare, next, b'{')?),
         b']' => key_at(source, word, next),
         _ => None,
@@ -174,8 +174,8 @@ pub fn member_at(source: Source<'_>, key: &[u8], word: &[u8]) -> Option<usize>
     let mut walk = Walk::start();
     for at in 0..source.bare.len() {
         if walk.is_top_key() {
-            if let Some(place) = word_at(source, key, at) {
-                if let Some(member) = member_behind(source, word, behind(source, key, place)) {
+            if let Some(offset) = word_at(source, key, at) {
+                if let Some(member) = member_behind(source, word, behind(source, key, offset)) {
                     return Some(member);
                 }
             }
@@ -196,9 +196,9 @@ fn header_at(source: Source<'_>, name: &[u8], number: usize) -> Option<usize>
     let mut seen: usize = 0;
     for at in 0..source.bare.len() {
         if walk.is_table_header() {
-            if let Some(place) = header_word(source, name, at) {
+            if let Some(offset) = header_word(source, name, at) {
                 if seen == number {
-                    return Some(place);
+                    return Some(offset);
                 }
                 seen = seen.saturating_add(1);
             }
@@ -208,19 +208,19 @@ fn header_at(source: Source<'_>, name: &[u8], number: usize) -> Option<usize>
     None
 }
 
-/// Where a word stands that begins at a place and ends its header.
+/// Where a word stands that begins at an offset and ends its header.
 fn header_word(source: Source<'_>, name: &[u8], at: usize) -> Option<usize>
     ensures { IfSome result (λ at.
         stands source.entry.text.now source.entry.bare.now name.now at ≡ true) }
 {
-    let place = word_at(source, name, at)?;
-    match behind_octet(source.bare, behind(source, name, place), b']') {
-        Some(_) => Some(place),
+    let offset = word_at(source, name, at)?;
+    match behind_octet(source.bare, behind(source, name, offset), b']') {
+        Some(_) => Some(offset),
         None => None,
     }
 }
 
-/// Where the table of that number begins in an array that begins at a place.
+/// Where the table of that number begins in an array that begins at an offset.
 fn nth_table(bare: &[u8], start: usize, number: usize) -> Option<usize> {
     let mut walk = Walk::start();
     let mut seen: usize = 0;
@@ -238,8 +238,8 @@ fn nth_table(bare: &[u8], start: usize, number: usize) -> Option<usize> {
 
 /// Where the table of that number of an array of tables begins.
 fn inline_table(source: Source<'_>, name: &[u8], number: usize) -> Option<usize> {
-    let place = top_key(source, name)?;
-    let sign = behind_octet(source.bare, behind(source, name, place), b'=')?;
+    let offset = top_key(source, name)?;
+    let sign = behind_octet(source.bare, behind(source, name, offset), b'=')?;
     let array = behind_octet(source.bare, sign, b'[')?;
     nth_table(source.bare, array, number)
 }
@@ -253,7 +253,7 @@ pub fn table_at(source: Source<'_>, name: &[u8], number: usize) -> Option<usize>
     }
 }
 
-/// Where the keys of a table begin, which itself begins at a place: behind its bracket, or in the line behind its header.
+/// Where the keys of a table begin, which itself begins at an offset: behind its bracket, or in the line behind its header.
 fn keys_from(bare: &[u8], table: usize) -> usize {
     for at in table..bare.len() {
         if matches!(bare[at], b'{' | b'\n') {
@@ -263,7 +263,7 @@ fn keys_from(bare: &[u8], table: usize) -> usize {
     bare.len()
 }
 
-/// Where a key stands in the table that begins at a place.
+/// Where a key stands in the table that begins at an offset.
 pub fn key_in(source: Source<'_>, word: &[u8], table: usize) -> Option<usize>
     ensures { IfSome result (λ at.
         stands source.entry.text.now source.entry.bare.now word.now at ≡ true) }
@@ -273,7 +273,7 @@ pub fn key_in(source: Source<'_>, word: &[u8], table: usize) -> Option<usize>
 
 // ---- names
 
-/// Where a name stands in the value of a key of the table that begins at a place.
+/// Where a name stands in the value of a key of the table that begins at an offset.
 pub fn name_in(source: Source<'_>, key: &[u8], name: &[u8], table: usize) -> Option<usize>
     ensures { IfSome result (λ at.
         stands source.entry.text.now source.entry.bare.now name.now at ≡ true) }
@@ -284,8 +284,8 @@ pub fn name_in(source: Source<'_>, key: &[u8], name: &[u8], table: usize) -> Opt
         if walk.ends_value(source.bare[at]) {
             return None;
         }
-        if let Some(place) = named_at(source, name, at) {
-            return Some(place);
+        if let Some(offset) = named_at(source, name, at) {
+            return Some(offset);
         }
         walk = walk.behind(source.bare[at]);
     }
@@ -293,14 +293,14 @@ pub fn name_in(source: Source<'_>, key: &[u8], name: &[u8], table: usize) -> Opt
 }
 
 /// Whether a list stands behind a word and a sign.
-fn has_list(source: Source<'_>, word: &[u8], place: usize) -> Option<usize> {
-    let sign = behind_octet(source.bare, behind(source, word, place), b'=')?;
+fn has_list(source: Source<'_>, word: &[u8], offset: usize) -> Option<usize> {
+    let sign = behind_octet(source.bare, behind(source, word, offset), b'=')?;
     behind_octet(source.bare, sign, b'[')
 }
 
-/// Whether the value of a key that stands at a place is a list.
-pub fn is_list(source: Source<'_>, word: &[u8], place: usize) -> bool {
-    has_list(source, word, place).is_some()
+/// Whether the value of a key that stands at an offset is a list.
+pub fn is_list(source: Source<'_>, word: &[u8], offset: usize) -> bool {
+    has_list(source, word, offset).is_some()
 }
 
 /// Where a name stands as a string in what is said under a key of the document.
@@ -315,8 +315,8 @@ fn string_under(source: Source<'_>, key: &[u8], name: &[u8]) -> Option<usize>
             is_here = word_at(source, key, at).is_some();
         }
         if is_here {
-            if let Some(place) = named_at(source, name, at) {
-                return Some(place);
+            if let Some(offset) = named_at(source, name, at) {
+                return Some(offset);
             }
         }
         walk = walk.behind(source.bare[at]);
@@ -335,7 +335,7 @@ pub fn name_under(source: Source<'_>, key: &[u8], name: &[u8]) -> Option<usize>
     }
 }
 
-/// Whether one of these keys stands at a place.
+/// Whether one of these keys stands at an offset.
 fn is_one_of(source: Source<'_>, keys: &[&[u8]], at: usize) -> bool {
     keys.iter().any(|key| word_at(source, key, at).is_some())
 }
@@ -348,7 +348,7 @@ pub fn name_again(source: Source<'_>, keys: &[&[u8]], name: &[u8]) -> Option<usi
     let mut walk = Walk::start();
     let mut is_here = false;
     let mut is_in_list = false;
-    // No place of any text, so that nothing is found where the name isn't there.
+    // No offset of any text, so that nothing is found where the name isn't there.
     let mut last = usize::MAX;
     for at in 0..source.bare.len() {
         if walk.is_top_key() {
@@ -359,12 +359,12 @@ pub fn name_again(source: Source<'_>, keys: &[&[u8]], name: &[u8]) -> Option<usi
             is_in_list = false;
         }
         if is_here {
-            if let Some(place) = named_at(source, name, at) {
+            if let Some(offset) = named_at(source, name, at) {
                 if is_in_list {
-                    return Some(place);
+                    return Some(offset);
                 }
                 is_in_list = true;
-                last = place;
+                last = offset;
             }
         }
         walk = walk.behind(source.bare[at]);

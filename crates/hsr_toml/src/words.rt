@@ -1,11 +1,11 @@
-//! The words of a fault that name its place, and of a text that isn't TOML.
+//! The words of a fault that name its position, and of a text that isn't TOML.
 use crate::document::TEXT_LIMIT;
 use crate::position::position_of;
 use hsr_frame::NoMemory;
 use hsr_text::{put, put_number};
 use std::alloc::Global;
 
-/// Puts line and column of a place last, or those of the end of the text where it has no such place.
+/// Puts line and column of an offset last, or those of the end of the text where it has no such offset.
 /// Both are counted from 1, columns in octets. `NoMemory` where room is refused.
 pub fn put_place(line: &mut Vec<u8>, text: &[u8], at: usize) -> Result<(), NoMemory> {
     let position = position_of(text, at.min(text.len()));
@@ -26,7 +26,7 @@ fn put_broken(alloc: Global, line: &mut Vec<u8>, text: &str) -> Result<(), NoMem
                 put(line, "no TOML: ")?;
                 put(line, error.message())
             }
-            // Only want of memory has no place in the text.
+            // Only want of memory has no offset in the text.
             None => Err(NoMemory),
         },
     }

@@ -8,34 +8,34 @@ use Rattle.hsr_node.specs.Kept.{Record}
 use Rattle.hsr_node.specs.declared.entry.Entry.{Entry}
 use Rattle.hsr_node.specs.declared.place.Place.{Place}
 use Rattle.hsr_link.specs.declared.row.Row.{Row}
-use Rattle.hsr_closing.specs.Finished.{Finished, IsFinished, items_of, run_of}
-use Rattle.hsr_closing.specs.Passes.{IsToldBy}
+use Rattle.hsr_finished_run.specs.Finished.{Finished, IsFinished, items_of, run_of}
+use Rattle.hsr_finished_run.specs.Passes.{IsToldBy}
 use Rattle.hsr_topology.specs.Topology.{Topology}
 use Rattle.hsr_topology.specs.Wired.{IsWired}
-use Rattle.hsr_closing.specs.declared.planned.Planned.{Planned}
+use Rattle.hsr_finished_run.specs.declared.planned.Planned.{Planned}
 use Rattle.hsr_transcript.proofs.Numbered.{entries_from}
 use Rattle.hsr_transcript.specs.Answers.{Answers, AreShort, Closes, Disagreeing, IsReadAs, IsTextOf}
-use Rattle.hsr_transcript_text.specs.Fits.{Fits}
-use Rattle.hsr_transcript_text.specs.Form.{form_of}
+use Rattle.hsr_transcript.specs.Fits.{Fits}
+use Rattle.hsr_transcript.specs.Form.{form_of}
 use Rattle.hsr_transcript.specs.Judged.{IsRefused, Judged, Standing, Stands, records_line}
 use Rattle.hsr_transcript_lines.specs.Lines.{text_of}
 use Rattle.hsr_transcript.specs.Order.{IsOrder, OrderTold}
 use Rattle.hsr_transcript_lines.specs.Parsed.{entry_of}
-use Rattle.hsr_transcript_text.specs.Readable.{AreLines, FitEach, IsSection}
+use Rattle.hsr_transcript.specs.Readable.{AreLines, FitEach, IsSection}
 use Rattle.hsr_transcript_lines.specs.Readable.{IsLineOf}
 use Rattle.hsr_transcript_lines.specs.Spelled.{entry_text}
 use Rattle.hsr_transcript.specs.Replay.{ReplayedAll}
-use Rattle.hsr_transcript_text.specs.CodeReads.{ToldWhole}
-use Rattle.hsr_transcript_text.specs.Transcript.{Said, said_in, said_lines}
-use Rattle.hsr_transcript_text.specs.declared.fault.ReadFault.{ReadFault}
-use Rattle.hsr_transcript_text.specs.declared.fault.ReadFault.TheVariants.{Version, BadLine, End, Disagrees, Read, NoMemory}
+use Rattle.hsr_transcript.specs.CodeReads.{ToldWhole}
+use Rattle.hsr_transcript.specs.Transcript.{Said, said_in, said_lines}
+use Rattle.hsr_transcript.specs.declared.fault.ReadFault.{ReadFault}
+use Rattle.hsr_transcript.specs.declared.fault.ReadFault.TheVariants.{Version, BadLine, End, Disagrees, Read, NoMemory}
 use Rattle.hsr_transcript.proofs.Finishing.{text_again}
 use Rattle.hsr_transcript_lines.proofs.Entries.{entry_timed}
-use Rattle.hsr_transcript_text.proofs.Formal.{form_formal}
+use Rattle.hsr_transcript.proofs.Formal.{form_formal}
 use Rattle.hsr_transcript.proofs.Complete.{not_disagreeing, not_refused, plan_again, run_again}
 use Rattle.hsr_transcript.proofs.Plans.{is_told}
 use Rattle.hsr_transcript.proofs.Shorts.{short_of}
-use Rattle.hsr_transcript_text.proofs.Texts.{form_spells}
+use Rattle.hsr_transcript.proofs.Texts.{form_spells}
 
 -- ---- what is judged
 

@@ -3,19 +3,19 @@ use Rattle.std.proofs.Common.{◌≡◌, inl, inr, ℕ, List, map, Vec, sym, ap,
 use Rattle.std.specs.Global.{Global}
 use Rattle.hsr_node.specs.Kept.{Receipts, Record}
 use Rattle.hsr_link.specs.declared.row.Row.{Row}
-use Rattle.hsr_closing.specs.Checked.{Agrees}
-use Rattle.hsr_law.specs.Closed.{IsClosed}
-use Rattle.hsr_closing.specs.Finished.{Finished, IsFinished, items_of, run_of}
-use Rattle.hsr_closing.specs.Receipts.{HasReceipts}
-use Rattle.hsr_law.specs.Run.{Run}
-use Rattle.hsr_closing.specs.Shape.{IsShaped}
+use Rattle.hsr_finished_run.specs.Checked.{Agrees}
+use Rattle.hsr_run_laws.specs.Closed.{IsClosed}
+use Rattle.hsr_finished_run.specs.Finished.{Finished, IsFinished, items_of, run_of}
+use Rattle.hsr_finished_run.specs.Receipts.{HasReceipts}
+use Rattle.hsr_run_laws.specs.Run.{Run}
+use Rattle.hsr_finished_run.specs.Shape.{IsShaped}
 use Rattle.hsr_topology.specs.Topology.{Topology}
-use Rattle.hsr_closing.specs.declared.disagree.Disagree.{Disagree}
+use Rattle.hsr_finished_run.specs.declared.disagree.Disagree.{Disagree}
 use Rattle.hsr_transcript.specs.Answers.{Disagreeing}
 use Rattle.hsr_transcript.specs.Judged.{IsRefused, Standing, Stands, records_line}
 use Rattle.hsr_transcript.specs.Order.{IsOrder}
 use Rattle.hsr_text.specs.declared.time_unit.TimeUnit.{TimeUnit}
-use Rattle.hsr_transcript_text.specs.Transcript.{said_in}
+use Rattle.hsr_transcript.specs.Transcript.{said_in}
 use Rattle.hsr_transcript.proofs.Numbered.{entries_from}
 use Rattle.hsr_transcript.proofs.Plans.{one_plan, planned_order}
 use Rattle.hsr_transcript.proofs.Shapes.{shaped}

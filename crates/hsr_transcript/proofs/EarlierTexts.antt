@@ -9,15 +9,15 @@ use Rattle.hsr_text.specs.declared.time_unit.TimeUnit.TheVariants.{Milliseconds,
 use Rattle.hsr_node.specs.Units.{LegalFromMilliseconds, entry_in_unit, in_milliseconds, in_unit}
 use Rattle.hsr_node.specs.declared.entry.Entry.{Entry}
 use Rattle.hsr_node.specs.declared.place.Place.{Place}
-use Rattle.hsr_law.specs.Run.{record_of}
-use Rattle.hsr_closing.specs.Finished.{Finished, IsFinished}
-use Rattle.hsr_closing.specs.declared.planned.Planned.{Planned}
+use Rattle.hsr_run_laws.specs.Run.{record_of}
+use Rattle.hsr_finished_run.specs.Finished.{Finished, IsFinished}
+use Rattle.hsr_finished_run.specs.declared.planned.Planned.{Planned}
 use Rattle.hsr_transcript_lines.specs.Fits.{IsEntryFit}
 use Rattle.hsr_transcript_lines.specs.Lines.{head, lines_by, lines_each, one, section, text_of}
 use Rattle.hsr_transcript_lines.specs.Spelled.{entry_text, event_text, link_text, outcome_text, place_text, spaced, version_text}
-use Rattle.hsr_transcript_text.specs.Fits.{AreEntriesFit, Fits}
-use Rattle.hsr_transcript_text.specs.Transcript.{carried_lines, record_lines, said_front, said_in, said_lines}
-use Rattle.hsr_transcript_text.specs.declared.fault.ReadFault.{ReadFault}
+use Rattle.hsr_transcript.specs.Fits.{AreEntriesFit, Fits}
+use Rattle.hsr_transcript.specs.Transcript.{carried_lines, record_lines, said_front, said_in, said_lines}
+use Rattle.hsr_transcript.specs.declared.fault.ReadFault.{ReadFault}
 use Rattle.hsr_transcript.specs.Answers.{AreShort, IsReadAs, IsTextOf, IsTimed}
 use Rattle.hsr_transcript.specs.Earlier.{IsEarlier, IsEarlierText, IsInRange, earlier_lines, in_microseconds, planned_in_unit}
 use Rattle.hsr_transcript.proofs.Answered.{ReadAgain}

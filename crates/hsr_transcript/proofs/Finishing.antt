@@ -7,27 +7,27 @@ use Rattle.hsr_text.specs.declared.time_unit.TimeUnit.{TimeUnit}
 use Rattle.hsr_node.specs.declared.entry.Entry.{Entry}
 use Rattle.hsr_node.specs.declared.place.Place.{Place}
 use Rattle.hsr_node.specs.declared.place.Place.TheVariants.{QuadBox}
-use Rattle.hsr_law.proofs.Lists.{all_implied}
-use Rattle.hsr_closing.specs.Finished.{Finished, IsFinished}
+use Rattle.hsr_run_laws.proofs.Lists.{all_implied}
+use Rattle.hsr_finished_run.specs.Finished.{Finished, IsFinished}
 use Rattle.hsr_topology.specs.Wired.{HasAddresses, IsJoin}
 use Rattle.hsr_topology.specs.declared.end.End.{End}
-use Rattle.hsr_closing.specs.declared.planned.Planned.{Planned}
+use Rattle.hsr_finished_run.specs.declared.planned.Planned.{Planned}
 use Rattle.hsr_transcript_lines.proofs.Again.{IsFinishedRow}
 use Rattle.hsr_transcript.specs.Answers.{AreShort, IsTextOf, IsTimed}
-use Rattle.hsr_transcript_text.specs.Fits.{AreEntriesFit, AreRowsFit, Fits}
+use Rattle.hsr_transcript.specs.Fits.{AreEntriesFit, AreRowsFit, Fits}
 use Rattle.hsr_transcript_lines.specs.Fits.{IsEntryFit, IsPlaceFit}
-use Rattle.hsr_transcript_text.specs.Form.{form_of}
+use Rattle.hsr_transcript.specs.Form.{form_of}
 use Rattle.hsr_transcript_lines.specs.Parsed.{entry_of, link_of, place_of, row_of, turn_of}
-use Rattle.hsr_transcript_text.specs.Readable.{FitEach}
+use Rattle.hsr_transcript.specs.Readable.{FitEach}
 use Rattle.hsr_transcript_lines.specs.Readable.{IsSpelled, Lacks}
 use Rattle.hsr_transcript_lines.proofs.Roles.{IsEntryOf}
 use Rattle.hsr_transcript_lines.specs.Spelled.{entry_text, link_text, place_text, row_text}
-use Rattle.hsr_transcript_text.specs.Transcript.{run_text_in, said_in, said_lines}
+use Rattle.hsr_transcript.specs.Transcript.{run_text_in, said_in, said_lines}
 use Rattle.hsr_transcript.proofs.OfFinished.{entries_of_role, rows_finished}
 use Rattle.hsr_transcript_lines.proofs.Entries.{entry_spelled}
 use Rattle.hsr_transcript.proofs.Shorts.{AreSpelled, IsSpelledSection, are_lines}
 use Rattle.hsr_transcript_lines.proofs.Spells.{count_spelled, decimal_lacks, fixed_spelled, link_spelled, place_spelled, row_spelled, turn_spelled, version_spelled}
-use Rattle.hsr_transcript_text.proofs.Texts.{form_again}
+use Rattle.hsr_transcript.proofs.Texts.{form_again}
 
 -- ---- all of a list
 

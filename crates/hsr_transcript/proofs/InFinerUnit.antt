@@ -16,11 +16,11 @@ use Rattle.hsr_node.specs.declared.event.Probe.{Probe}
 use Rattle.hsr_node.specs.declared.place.Place.{Place}
 use Rattle.hsr_link.specs.Rows.{put_copies, taken_copies}
 use Rattle.hsr_link.specs.declared.row.Row.{Row}
-use Rattle.hsr_law.specs.Closed.{IsClosed, IsOfSend, IsSettled}
-use Rattle.hsr_law.specs.Run.{Run, ends_of, from_end, given, given_at, gives, owner_of, past_of, peer_in, place_of, record_in, record_of, rows_of, to_end}
-use Rattle.hsr_law.proofs.Lists.{all_implied}
-use Rattle.hsr_closing.specs.Finished.{IsPlanOf, IsPlanned, planned_by, planned_for}
-use Rattle.hsr_closing.specs.declared.planned.Planned.{Planned}
+use Rattle.hsr_run_laws.specs.Closed.{IsClosed, IsOfSend, IsSettled}
+use Rattle.hsr_run_laws.specs.Run.{Run, ends_of, from_end, given, given_at, gives, owner_of, past_of, peer_in, place_of, record_in, record_of, rows_of, to_end}
+use Rattle.hsr_run_laws.proofs.Lists.{all_implied}
+use Rattle.hsr_finished_run.specs.Finished.{IsPlanOf, IsPlanned, planned_by, planned_for}
+use Rattle.hsr_finished_run.specs.declared.planned.Planned.{Planned}
 use Rattle.hsr_transcript.specs.Earlier.{IsClosedBy, planned_in_unit, run_in_unit}
 
 -- ---- lists

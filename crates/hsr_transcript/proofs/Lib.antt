@@ -1,3 +1,12 @@
+pub mod Grown
+pub mod Parts
+pub mod Eaches
+pub mod OfKind
+pub mod Cuts
+pub mod Readers
+pub mod Texts
+pub mod Formal
+pub mod Fitting
 pub mod Replays
 pub mod Orders
 pub mod Nexts

@@ -3,10 +3,10 @@ use Rattle.std.proofs.Common.{◌≡◌, ℕ, suc, ◌+◌, ◌-◌, ◌<◌, �
 use Rattle.std.proofs.lemmas.List.{length-drop}
 use Rattle.std.specs.Prelude.{filter_map, MatchOption}
 use Rattle.hsr_node.specs.declared.entry.Entry.{Entry}
-use Rattle.hsr_closing.specs.Finished.{planned_by}
-use Rattle.hsr_closing.specs.Next as audit
-use Rattle.hsr_closing.specs.Next.{holds_from}
-use Rattle.hsr_closing.specs.Receipts.{holds_of}
+use Rattle.hsr_finished_run.specs.Finished.{planned_by}
+use Rattle.hsr_finished_run.specs.Next as audit
+use Rattle.hsr_finished_run.specs.Next.{holds_from}
+use Rattle.hsr_finished_run.specs.Receipts.{holds_of}
 use Rattle.hsr_transcript.specs.Order.{IsNext, planned_at}
 use Rattle.hsr_transcript_lines.proofs.Grown.{drop_next}
 use Rattle.hsr_transcript.proofs.Orders.{found_here, passed_over}

@@ -17,14 +17,14 @@ use Rattle.hsr_link.specs.declared.row.Dir.{Dir}
 use Rattle.hsr_link.specs.declared.row.Fate.{Fate}
 use Rattle.hsr_link.specs.declared.row.Fate.TheVariants.{Queued, Taken, LostDown, LostCut, LostOverrun}
 use Rattle.hsr_link.specs.declared.row.Row.{Row}
-use Rattle.hsr_law.specs.Closed.{HasLink, IsClosed, IsSettled}
-use Rattle.hsr_closing.specs.Finished.{Finished, IsFinished}
-use Rattle.hsr_law.specs.Run.{Run, owner_of, past_of, place_of, record_of, rows_of}
+use Rattle.hsr_run_laws.specs.Closed.{HasLink, IsClosed, IsSettled}
+use Rattle.hsr_finished_run.specs.Finished.{Finished, IsFinished}
+use Rattle.hsr_run_laws.specs.Run.{Run, owner_of, past_of, place_of, record_of, rows_of}
 use Rattle.hsr_topology.specs.declared.end.End.{End}
-use Rattle.hsr_law.proofs.Lists.{all_permutation}
-use Rattle.hsr_law.proofs.Records.{Answered, OfArrival, each_from_ports, legal_each}
+use Rattle.hsr_run_laws.proofs.Lists.{all_permutation}
+use Rattle.hsr_run_laws.proofs.Records.{Answered, OfArrival, each_from_ports, legal_each}
 use Rattle.hsr_transcript_lines.proofs.Again.{IsFinishedRow, IsGone}
-use Rattle.hsr_transcript_text.specs.Fits.{Fits}
+use Rattle.hsr_transcript.specs.Fits.{Fits}
 use Rattle.hsr_transcript_lines.specs.Fits.{IsProbeFit, IsRowFit}
 use Rattle.hsr_transcript_lines.proofs.Roles.{IsEntryOf, IsEventOf, IsNamed}
 use Rattle.hsr_transcript.proofs.OfRole.{outcome_of, port_of}

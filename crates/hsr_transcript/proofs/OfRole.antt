@@ -30,8 +30,8 @@ use Rattle.hsr_node.proofs.OfDanh as of_danh
 use Rattle.hsr_node.proofs.OfRedBox as of_redbox
 use Rattle.hsr_node.proofs.OfStation as of_station
 use Rattle.hsr_node.proofs.Told.{Call, Keeps, Stays}
-use Rattle.hsr_law.proofs.Records.{Answered}
-use Rattle.hsr_law.proofs.Views.{Came, came, judged, knows_at}
+use Rattle.hsr_run_laws.proofs.Records.{Answered}
+use Rattle.hsr_run_laws.proofs.Views.{Came, came, judged, knows_at}
 use Rattle.hsr_transcript_lines.proofs.Roles.{AreExitsOf, IsOutcomeOf, IsPortOf}
 
 -- ---- the exits of each role

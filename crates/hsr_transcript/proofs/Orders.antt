@@ -6,9 +6,9 @@ use Rattle.std.proofs.lemmas.List.Elements.{filter_map-append}
 use Rattle.std.specs.Prelude.{filter_map}
 use Rattle.std.specs.List.{cons_option}
 use Rattle.hsr_node.specs.declared.entry.Entry.{Entry}
-use Rattle.hsr_closing.specs.Finished.{planned_by, planned_for}
-use Rattle.hsr_law.specs.Run.{record_in}
-use Rattle.hsr_closing.specs.declared.planned.Planned.{Planned}
+use Rattle.hsr_finished_run.specs.Finished.{planned_by, planned_for}
+use Rattle.hsr_run_laws.specs.Run.{record_in}
+use Rattle.hsr_finished_run.specs.declared.planned.Planned.{Planned}
 use Rattle.hsr_transcript.specs.Order.{IsNext, IsOrder, Turned, left_in, planned_at}
 
 -- ---- the next entry

@@ -8,10 +8,10 @@ use Rattle.hsr_node.specs.Kept.{Record}
 use Rattle.hsr_node.specs.declared.entry.Entry.{Entry}
 use Rattle.hsr_node.specs.declared.place.Place.{Place}
 use Rattle.hsr_node.specs.declared.place.Place.TheVariants.{QuadBox}
-use Rattle.hsr_closing.specs.Finished.{IsPlanned, planned_by, planned_for}
-use Rattle.hsr_closing.specs.Passes.{IsToldBy}
-use Rattle.hsr_law.specs.Run.{Run, record_in}
-use Rattle.hsr_closing.specs.declared.planned.Planned.{Planned}
+use Rattle.hsr_finished_run.specs.Finished.{IsPlanned, planned_by, planned_for}
+use Rattle.hsr_finished_run.specs.Passes.{IsToldBy}
+use Rattle.hsr_run_laws.specs.Run.{Run, record_in}
+use Rattle.hsr_finished_run.specs.declared.planned.Planned.{Planned}
 use Rattle.hsr_transcript.specs.Order.{IsOrder}
 use Rattle.hsr_transcript.specs.Replay.{records_from}
 use Rattle.hsr_transcript.proofs.Numbered.{many_from, record_from}

@@ -8,8 +8,8 @@ use Rattle.hsr_node.specs.declared.entry.Entry.{Entry}
 use Rattle.hsr_node.specs.declared.place.Place.{Place}
 use Rattle.hsr_transcript_lines.specs.Lines.{line_count}
 use Rattle.hsr_transcript.specs.Replay.{AreLegal, IsUnlike, Replayed, ReplayedAll, records_from}
-use Rattle.hsr_transcript_text.specs.declared.fault.ReadFault.{ReadFault}
-use Rattle.hsr_transcript_text.specs.declared.fault.ReadFault.TheVariants.{Version, BadLine, End, Disagrees, Read, NoMemory}
+use Rattle.hsr_transcript.specs.declared.fault.ReadFault.{ReadFault}
+use Rattle.hsr_transcript.specs.declared.fault.ReadFault.TheVariants.{Version, BadLine, End, Disagrees, Read, NoMemory}
 use Rattle.hsr_transcript_lines.proofs.Grown.{line_count_push}
 
 -- the front with one more element

@@ -16,11 +16,11 @@ use Rattle.hsr_link.specs.declared.row.Dir.{Dir}
 use Rattle.hsr_link.specs.declared.row.Dir.TheVariants.{Forth, Back}
 use Rattle.hsr_link.specs.declared.row.Row.{Row}
 use Rattle.hsr_topology.proofs.Ends.{end_same}
-use Rattle.hsr_law.specs.Closed.{IsClosed}
-use Rattle.hsr_closing.specs.Finished.{items_of}
+use Rattle.hsr_run_laws.specs.Closed.{IsClosed}
+use Rattle.hsr_finished_run.specs.Finished.{items_of}
 use Rattle.hsr_topology.specs.Links.{is_end_of, is_same_end, is_used}
-use Rattle.hsr_law.specs.Run.{Run, past_of, record_of, to_end}
-use Rattle.hsr_closing.specs.Shape.{AreLinked, IsShaped, NodeFits, is_linked}
+use Rattle.hsr_run_laws.specs.Run.{Run, past_of, record_of, to_end}
+use Rattle.hsr_finished_run.specs.Shape.{AreLinked, IsShaped, NodeFits, is_linked}
 use Rattle.hsr_topology.specs.Wired.{IsJoin, IsWired}
 use Rattle.hsr_topology.specs.declared.end.End.{End}
 use Rattle.hsr_transcript.specs.Replay.{records_from}

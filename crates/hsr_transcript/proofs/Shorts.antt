@@ -5,10 +5,10 @@ use Rattle.std.specs.Fmt.{decimal}
 use Rattle.hsr_transcript.specs.Answers.{AreShort}
 use Rattle.hsr_transcript_lines.specs.Parsed.{only, count_of, entry_of, link_of, place_of, row_of, turn_of, version_of}
 use Rattle.hsr_transcript_lines.specs.Lines.{head, lines_by, lines_each, one, section}
-use Rattle.hsr_transcript_text.specs.Readable.{AreLines, FitEach, IsReadable, IsSection}
+use Rattle.hsr_transcript.specs.Readable.{AreLines, FitEach, IsReadable, IsSection}
 use Rattle.hsr_transcript_lines.specs.Readable.{IsLineOf, IsSpelled}
 use Rattle.hsr_transcript_lines.specs.Spelled.{entry_text, link_text, place_text, row_text, version_text}
-use Rattle.hsr_transcript_text.specs.Transcript.{Said, carried_lines, record_lines, said_front, said_lines}
+use Rattle.hsr_transcript.specs.Transcript.{Said, carried_lines, record_lines, said_front, said_lines}
 
 -- a section whose count and lines are spelled
 pub record IsSpelledSection {Y : Type 0} (name : List ℕ) (of : List ℕ → Option Y) (spelled : Y → List ℕ) (ys : List Y) : Type 0 where

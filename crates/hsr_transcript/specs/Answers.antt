@@ -10,17 +10,17 @@ use Rattle.hsr_text.specs.Moments.{IsMomentOf}
 use Rattle.hsr_text.specs.declared.time_unit.TimeUnit.{TimeUnit}
 use Rattle.hsr_node.specs.Kept.{Receipts}
 use Rattle.hsr_link.specs.declared.row.Row.{Row}
-use Rattle.hsr_law.specs.Run.{record_of}
-use Rattle.hsr_closing.specs.Checked.{Agrees, IsFirst}
-use Rattle.hsr_closing.specs.Finished.{Finished, items_of}
-use Rattle.hsr_closing.specs.OfRecords.{IsClosedOf, IsOpenOf}
-use Rattle.hsr_closing.specs.Receipts.{HasReceipts}
-use Rattle.hsr_closing.specs.declared.disagree.Disagree.{Disagree}
-use Rattle.hsr_transcript_text.specs.Form.{form_of}
+use Rattle.hsr_run_laws.specs.Run.{record_of}
+use Rattle.hsr_finished_run.specs.Checked.{Agrees, IsFirst}
+use Rattle.hsr_finished_run.specs.Finished.{Finished, items_of}
+use Rattle.hsr_finished_run.specs.OfRecords.{IsClosedOf, IsOpenOf}
+use Rattle.hsr_finished_run.specs.Receipts.{HasReceipts}
+use Rattle.hsr_finished_run.specs.declared.disagree.Disagree.{Disagree}
+use Rattle.hsr_transcript.specs.Form.{form_of}
 use Rattle.hsr_transcript.specs.Judged.{IsRefused, Standing, Stands}
-use Rattle.hsr_transcript_text.specs.Transcript.{Said, run_text_in, said_in, said_lines}
-use Rattle.hsr_transcript_text.specs.declared.fault.ReadFault.{ReadFault}
-use Rattle.hsr_transcript_text.specs.declared.fault.ReadFault.TheVariants.{Version, BadLine, End, Disagrees, Read, NoMemory}
+use Rattle.hsr_transcript.specs.Transcript.{Said, run_text_in, said_in, said_lines}
+use Rattle.hsr_transcript.specs.declared.fault.ReadFault.{ReadFault}
+use Rattle.hsr_transcript.specs.declared.fault.ReadFault.TheVariants.{Version, BadLine, End, Disagrees, Read, NoMemory}
 
 -- no line has more than 8192 octets
 abbrev pub AreShort : List (List ℕ) → Type 0

@@ -11,14 +11,15 @@ use Rattle.hsr_node.specs.Record.{IsLegalBy}
 use Rattle.hsr_node.specs.Times.{Times}
 use Rattle.hsr_node.specs.Units.{in_milliseconds, in_unit}
 use Rattle.hsr_link.specs.declared.row.Dir.{Dir}
-use Rattle.hsr_law.specs.Closed.{HasLink, IsSettled, IsTableSize, PutAgrees, TakenAgrees}
-use Rattle.hsr_law.specs.Run.{Run, owner_of, past_of, record_of, rows_of}
+use Rattle.hsr_duptable.specs.Table.{IsTableSize}
+use Rattle.hsr_run_laws.specs.Closed.{HasLink, IsSettled, PutAgrees, TakenAgrees}
+use Rattle.hsr_run_laws.specs.Run.{Run, owner_of, past_of, record_of, rows_of}
 use Rattle.hsr_topology.specs.Wired.{IsWired}
-use Rattle.hsr_closing.specs.Finished.{Finished, IsPlanned}
-use Rattle.hsr_closing.specs.declared.planned.Planned.{Planned}
+use Rattle.hsr_finished_run.specs.Finished.{Finished, IsPlanned}
+use Rattle.hsr_finished_run.specs.declared.planned.Planned.{Planned}
 use Rattle.hsr_transcript_lines.specs.Lines.{text_of}
-use Rattle.hsr_transcript_text.specs.Fits.{Fits}
-use Rattle.hsr_transcript_text.specs.Transcript.{said_in, said_lines}
+use Rattle.hsr_transcript.specs.Fits.{Fits}
+use Rattle.hsr_transcript.specs.Transcript.{said_in, said_lines}
 use Rattle.hsr_transcript.specs.Answers.{AreShort}
 
 -- ---- runs

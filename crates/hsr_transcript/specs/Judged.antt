@@ -5,15 +5,15 @@ use Rattle.std.specs.Prelude.{ℕ, ◌≡◌, ◌+◌, ◌⊎◌, List, length, 
 use Rattle.hsr_node.specs.Kept.{Record}
 use Rattle.hsr_topology.specs.Topology.{Topology}
 use Rattle.hsr_topology.specs.Wired.{IsWired}
-use Rattle.hsr_closing.specs.declared.planned.Planned.{Planned}
-use Rattle.hsr_closing.specs.declared.records.Records.{Records}
+use Rattle.hsr_finished_run.specs.declared.planned.Planned.{Planned}
+use Rattle.hsr_finished_run.specs.declared.records.Records.{Records}
 use Rattle.hsr_link.specs.declared.row.Row.{Row}
 use Rattle.hsr_transcript.specs.Order.{IsOrder}
 use Rattle.hsr_transcript.specs.Replay.{AreLegal, IsFirstUnlike, records_from}
-use Rattle.hsr_transcript_text.specs.Items.{rows_of}
-use Rattle.hsr_transcript_text.specs.Transcript.{Said}
-use Rattle.hsr_transcript_text.specs.declared.fault.ReadFault.{ReadFault}
-use Rattle.hsr_transcript_text.specs.declared.fault.ReadFault.TheVariants.{BadLine, NoMemory}
+use Rattle.hsr_transcript.specs.Items.{rows_of}
+use Rattle.hsr_transcript.specs.Transcript.{Said}
+use Rattle.hsr_transcript.specs.declared.fault.ReadFault.{ReadFault}
+use Rattle.hsr_transcript.specs.declared.fault.ReadFault.TheVariants.{BadLine, NoMemory}
 
 -- the last line of the links, and the line that says how many entries the main worker has
 abbrev pub links_end : Said → ℕ

@@ -4,9 +4,9 @@
 use Rattle.std.specs.Prelude.{ℕ, ◌≡◌, ◌<◌, ◌+◌, List, [], ◌∷◌, length, map, drop, filter_map, slice_index_or, Option, Some, None}
 use Rattle.std.specs.List.{cons_option}
 use Rattle.hsr_node.specs.declared.entry.Entry.{Entry}
-use Rattle.hsr_closing.specs.Finished.{IsPlanOf, planned_by, planned_for}
-use Rattle.hsr_law.specs.Run.{record_in}
-use Rattle.hsr_closing.specs.declared.planned.Planned.{Planned}
+use Rattle.hsr_finished_run.specs.Finished.{IsPlanOf, planned_by, planned_for}
+use Rattle.hsr_run_laws.specs.Run.{record_in}
+use Rattle.hsr_finished_run.specs.declared.planned.Planned.{Planned}
 
 pub record IsOrder (main : List ℕ) (records : List (List Entry)) (plan : List Planned) : Type 0 where
   pub nodes : map (λ p. p.node) plan ≡ main

@@ -8,8 +8,8 @@ use Rattle.hsr_node.specs.Record.{IsLegal}
 use Rattle.hsr_node.specs.declared.entry.Entry.{Entry}
 use Rattle.hsr_node.specs.declared.place.Place.{Place}
 use Rattle.hsr_transcript_lines.specs.Lines.{line_count}
-use Rattle.hsr_transcript_text.specs.declared.fault.ReadFault.{ReadFault}
-use Rattle.hsr_transcript_text.specs.declared.fault.ReadFault.TheVariants.{BadLine, NoMemory}
+use Rattle.hsr_transcript.specs.declared.fault.ReadFault.{ReadFault}
+use Rattle.hsr_transcript.specs.declared.fault.ReadFault.TheVariants.{BadLine, NoMemory}
 
 -- a record of a node, up to one of its entries
 abbrev pub front_of : ℕ → Place → ℕ → List Entry → Record

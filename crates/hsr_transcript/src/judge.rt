@@ -1,21 +1,23 @@
 //! Judges what a text says that is in form: topology, order, and each entry.
-ghost use Rattle.std.specs.Prelude.{◌≡◌, ◌≤◌};
-ghost use Rattle.hsr_transcript_text.specs.CodeReads.{seen};
+ghost use Rattle.std.specs.Prelude.{◌≡◌};
+ghost use Rattle.hsr_duptable.specs.Table.{IsTableSize};
+ghost use Rattle.hsr_transcript.specs.CodeReads.{seen};
 ghost use Rattle.hsr_transcript.specs.Judged.{Judged, standing_of};
-ghost use Rattle.hsr_transcript_text.specs.Plain.{plain_view};
+ghost use Rattle.hsr_transcript.specs.Plain.{plain_view};
 
+use crate::fault::ReadFault;
 use crate::order::plan_of;
+use crate::plain::Plain;
 use crate::replay::replay_all;
-use hsr_closing::Records;
+use hsr_finished_run::Records;
 use hsr_topology::Topology;
-use hsr_transcript_text::{Plain, ReadFault};
 use std::alloc::Global;
 
 /// The topology, plan, nodes and rows that a text stands for. `BadLine` of the last line of the links where the topology is
 /// refused, else of the line `main` where the order doesn't fit, else of the first entry whose event is refused or whose
 /// outcome is another one.
 pub(crate) fn judge<const C: usize>(alloc: Global, plain: Plain) -> Result<Records<C>, ReadFault>
-    requires { (1 ≤ C) × (C ≤ 65535) }
+    requires { IsTableSize C }
     ensures { Judged C (plain_view plain) (seen (standing_of C) result) }
 {
     let Plain {

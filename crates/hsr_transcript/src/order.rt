@@ -1,9 +1,9 @@
 //! The plan of the main worker, by the order of its entries.
 ghost use Rattle.std.specs.Prelude.{◌≡◌, ◌↔◌, ◌<◌, ℕ, [], length, map, option_map, IfOk, IsTrue};
 ghost use Rattle.hsr_transcript.specs.Order.{IsNext, OrderTold, Turned, left_in};
-ghost use Rattle.hsr_transcript_text.specs.Items.{entry_items};
+ghost use Rattle.hsr_transcript.specs.Items.{entry_items};
 
-use hsr_closing::{Planned, next_place};
+use hsr_finished_run::{Planned, next_place};
 use hsr_frame::NoMemory;
 use hsr_node::Entry;
 use std::alloc::Global;

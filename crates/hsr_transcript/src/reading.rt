@@ -1,16 +1,18 @@
 //! The closed run whose text a text is.
-ghost use Rattle.std.specs.Prelude.{◌≡◌, ◌≤◌, IfSome};
-ghost use Rattle.hsr_closing.specs.Finished.{Finished, IsFinished};
+ghost use Rattle.std.specs.Prelude.{◌≡◌, IfSome};
+ghost use Rattle.hsr_duptable.specs.Table.{IsTableSize};
+ghost use Rattle.hsr_finished_run.specs.Finished.{Finished, IsFinished};
 ghost use Rattle.hsr_transcript.specs.Answers.{Answers, Closes, IsReadAs, IsTextOf};
-ghost use Rattle.hsr_transcript_text.specs.Fits.{Fits};
+ghost use Rattle.hsr_transcript.specs.Fits.{Fits};
 ghost use Rattle.hsr_transcript.specs.Earlier.{IsEarlierText, in_microseconds};
 ghost use Rattle.hsr_transcript.specs.Judged.{standing_of};
-ghost use Rattle.hsr_transcript_text.specs.CodeReads.{seen};
+ghost use Rattle.hsr_transcript.specs.CodeReads.{seen};
 
+use crate::earlier_law::earlier_is_read;
+use crate::fault::ReadFault;
+use crate::form::read_plain;
 use crate::judge::judge;
-use crate::law::earlier_is_read;
-use hsr_closing::{CheckFault, Closed, Records};
-use hsr_transcript_text::{ReadFault, read_plain};
+use hsr_finished_run::{CheckFault, Closed, Records};
 use std::alloc::Global;
 use std::io::Read;
 
@@ -37,7 +39,7 @@ fn close<const C: usize>(alloc: Global, records: Records<C>) -> Result<Closed<C>
 /// this stands, but is no closed run; `Read` where the reader fails or takes over 2^40 reads; `NoMemory` where room is refused.
 /// The text that an earlier release wrote of a run, with moments in milliseconds, is read as that run with each moment times 1000.
 pub fn read<const C: usize, R: Read>(alloc: Global, reader: &mut R) -> Result<Closed<C>, ReadFault>
-    requires entries { (1 ≤ C) × (C ≤ 65535) }
+    requires entries { IsTableSize C }
     ensures exact { IfSome (R.remaining reader.old) (Answers C (seen (λ c. c) result)) }
     ensures again { IfSome (R.remaining reader.old)
         (λ text. (f : Finished) → IsFinished f → Fits f → IsTextOf C f text

@@ -1,15 +1,16 @@
 //! Records that are replayed, entry by entry.
-ghost use Rattle.std.specs.Prelude.{◌≡◌, ◌+◌, ◌≤◌, ◌<◌, ◌^◌, IfOk, length, map};
+ghost use Rattle.std.specs.Prelude.{◌≡◌, ◌+◌, ◌<◌, ◌^◌, IfOk, length, map};
 ghost use Rattle.std.specs.List.{All};
-ghost use Rattle.hsr_transcript_text.specs.CodeReads.{seen};
+ghost use Rattle.hsr_duptable.specs.Table.{IsTableSize};
+ghost use Rattle.hsr_transcript.specs.CodeReads.{seen};
 ghost use Rattle.hsr_node.specs.Place.{HasOwnAddress};
-ghost use Rattle.hsr_transcript_text.specs.Items.{entry_items};
+ghost use Rattle.hsr_transcript.specs.Items.{entry_items};
 ghost use Rattle.hsr_transcript_lines.specs.Lines.{line_count};
 ghost use Rattle.hsr_transcript.specs.Replay.{Again, Replayed, ReplayedAll};
 
+use crate::fault::ReadFault;
 use hsr_frame::NoMemory;
 use hsr_node::{Entry, Event, Kept, Place, StepFault};
-use hsr_transcript_text::ReadFault;
 use std::alloc::Global;
 use std::mem;
 
@@ -39,7 +40,7 @@ pub(crate) fn replay<const C: usize>(
     first: u64,
 ) -> Result<Kept<C>, ReadFault>
     requires station { HasOwnAddress place }
-    requires capacity { (1 ≤ C) × (C ≤ 65535) }
+    requires capacity { IsTableSize C }
     requires lines { first + length entries.old < 2 ^ 64 }
     ensures { Replayed C node place entries.old first result }
 {
@@ -71,7 +72,7 @@ pub(crate) fn replay_all<const C: usize>(
 ) -> Result<Vec<Kept<C>>, ReadFault>
     requires stations { All HasOwnAddress places.now }
     requires paired { length records.old ≡ length places.now }
-    requires capacity { (1 ≤ C) × (C ≤ 65535) }
+    requires capacity { IsTableSize C }
     requires lines { first + line_count (map entry_items records.old) < 2 ^ 64 }
     ensures { ReplayedAll C places.now (map entry_items records.old) first
         (seen (λ v. v.items) result) }

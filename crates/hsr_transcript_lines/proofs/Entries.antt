@@ -2,7 +2,7 @@
 use Rattle.std.proofs.Common.{◌≡◌, ℕ, ◌^◌, Option, None, Some, List, [], ◌∷◌, ◌++◌, ap, refl, subst, arith, true}
 use Rattle.std.specs.Prelude.{codes}
 use Rattle.std.specs.Fmt.{decimal}
-use Rattle.hsr_text.specs.Moments.{IsMomentOf, moment_of, moment_told}
+use Rattle.hsr_text.specs.Moments.{IsMomentOf, moment_of, whole_units}
 use Rattle.hsr_text.specs.Words.{◌>>=◌, cut, word_at}
 use Rattle.hsr_text.specs.declared.time_unit.TimeUnit.{TimeUnit}
 use Rattle.hsr_node.specs.declared.entry.Entry.{Entry}
@@ -34,8 +34,8 @@ entry_words unit place a b e o worker at event outcome wa wb who when what so =
 entry_again : (unit : TimeUnit) (place : Place) (x : Entry) → IsEntryFit x → IsEntryOf place x → IsMomentOf unit x.at → read_entry unit place (entry_text unit place x) ≡ Some x
 unfolding entry_text
 entry_again unit place x f h whole =
-    entry_words unit place (decimal x.worker) (decimal (moment_told unit x.at)) (event_text place x.event) (outcome_text place x.outcome) x.worker x.at x.event x.outcome
-    (word_decimal x.worker (let l = f.worker in omega arith)) (word_decimal (moment_told unit x.at) (told_fits unit x.at f.at))
+    entry_words unit place (decimal x.worker) (decimal (whole_units unit x.at)) (event_text place x.event) (outcome_text place x.outcome) x.worker x.at x.event x.outcome
+    (word_decimal x.worker (let l = f.worker in omega arith)) (word_decimal (whole_units unit x.at) (told_fits unit x.at f.at))
     (below_again (2 ^ 16) x.worker f.worker (let l = f.worker in omega arith)) (moment_again unit x.at f.at whole)
     (event_again place x.event (codes "=" ++ 32 ∷ outcome_text place x.outcome) f.event h.event)
     (outcome_again place x.outcome f.outcome h.outcome)
@@ -44,7 +44,7 @@ entry_line : (unit : TimeUnit) (place : Place) (x : Entry) → IsEntryFit x → 
 unfolding entry_text
 entry_line unit place x f h =
     line_more (decimal x.worker) _ (word_decimal x.worker (let l = f.worker in omega arith))
-    (line_more (decimal (moment_told unit x.at)) _ (word_decimal (moment_told unit x.at) (told_fits unit x.at f.at))
+    (line_more (decimal (whole_units unit x.at)) _ (word_decimal (whole_units unit x.at) (told_fits unit x.at f.at))
     (lacks_more 10 (event_text place x.event) _ (event_line place x.event f.event h.event)
     (refl, line_more (codes "=") _ refl (outcome_line place x.outcome f.outcome))))
 

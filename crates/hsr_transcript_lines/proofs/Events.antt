@@ -32,11 +32,11 @@ cut_on w more rest h = ap (cut 32) (append_assoc w (32 ∷ more) rest) ∙ cut_w
 pub cut_first : (w rest : List ℕ) → is_word w ≡ true → cut 32 (w ++ 32 ∷ rest) ≡ (w, Some rest)
 cut_first w rest h = cut_word 32 w rest (lacks_word 32 w (omega arith) h)
 
-send_words : (a b c d e rest : List ℕ) (from : ℕ) (dst : List ℕ) (vlan : Option ℕ) (kind : ℕ) (payload : List ℕ)
+send_words : (a b c d e rest : List ℕ) (from : ℕ) (dst : List ℕ) (vlan : Option ℕ) (ethertype : ℕ) (payload : List ℕ)
     → is_word a ≡ true → is_word b ≡ true → is_word c ≡ true → is_word d ≡ true → is_word e ≡ true
-    → below 256 a ≡ Some from → result_ok (address_of b) ≡ Some dst → read_vlan c ≡ Some vlan → hex_pair_of d ≡ Some kind → hex_octets_of e ≡ Some payload
-    → read_send (Some (spaced a (b ∷ c ∷ d ∷ e ∷ []) ++ 32 ∷ rest)) ≡ Some (Send from dst vlan kind payload, Some rest)
-send_words a b c d e rest from dst vlan kind payload wa wb wc wd we source address tag type octets =
+    → below 256 a ≡ Some from → result_ok (address_of b) ≡ Some dst → read_vlan c ≡ Some vlan → hex_pair_of d ≡ Some ethertype → hex_octets_of e ≡ Some payload
+    → read_send (Some (spaced a (b ∷ c ∷ d ∷ e ∷ []) ++ 32 ∷ rest)) ≡ Some (Send from dst vlan ethertype payload, Some rest)
+send_words a b c d e rest from dst vlan ethertype payload wa wb wc wd we source address tag type octets =
     rw (
       cut_on a (spaced b (c ∷ d ∷ e ∷ [])) (32 ∷ rest) wa,
       source,
@@ -50,13 +50,13 @@ send_words a b c d e rest from dst vlan kind payload wa wb wc wd we source addre
       octets,
     ) refl
 
-send_again : (place : Place) (from : ℕ) (dst : List ℕ) (vlan : Option ℕ) (kind : ℕ) (payload rest : List ℕ) → IsSendFit from dst vlan kind payload
-    → read_event place (Some (event_text place (Send from dst vlan kind payload) ++ 32 ∷ rest)) ≡ Some (Send from dst vlan kind payload, Some rest)
+send_again : (place : Place) (from : ℕ) (dst : List ℕ) (vlan : Option ℕ) (ethertype : ℕ) (payload rest : List ℕ) → IsSendFit from dst vlan ethertype payload
+    → read_event place (Some (event_text place (Send from dst vlan ethertype payload) ++ 32 ∷ rest)) ≡ Some (Send from dst vlan ethertype payload, Some rest)
 unfolding read_event event_text
-send_again place from dst vlan kind payload rest f =
-    send_words (decimal from) (mac_text dst) (vlan_text vlan) (encode_upper (pair kind)) (octets_text payload) rest from dst vlan kind payload
-    (word_decimal from (let h = f.source in omega arith)) (word_mac dst) (word_vlan vlan) (word_pair kind) (word_octets payload f.octets)
-    (below_again 256 from f.source (let h = f.source in omega arith)) (mac_said dst f.address) (vlan_again vlan f.tag) (hex_pair_again kind f.type) (octets_again payload f.octets)
+send_again place from dst vlan ethertype payload rest f =
+    send_words (decimal from) (mac_text dst) (vlan_text vlan) (encode_upper (pair ethertype)) (octets_text payload) rest from dst vlan ethertype payload
+    (word_decimal from (let h = f.source in omega arith)) (word_mac dst) (word_vlan vlan) (word_pair ethertype) (word_octets payload f.octets)
+    (below_again 256 from f.source (let h = f.source in omega arith)) (mac_said dst f.address) (vlan_again vlan f.tag) (hex_pair_again ethertype f.type) (octets_again payload f.octets)
 
 life_again : (place : Place) (about : About) (rest : List ℕ) → IsEventFit (Supervise about)
     → read_event place (Some (event_text place (Supervise about) ++ 32 ∷ rest)) ≡ Some (Supervise about, Some rest)
@@ -85,7 +85,7 @@ age_again place rest = refl
 
 pub event_again : (place : Place) (e : Event) (rest : List ℕ) → IsEventFit e → IsEventOf place e
     → read_event place (Some (event_text place e ++ 32 ∷ rest)) ≡ Some (e, Some rest)
-event_again place (Send from dst vlan kind payload) rest f o = send_again place from dst vlan kind payload rest f
+event_again place (Send from dst vlan ethertype payload) rest f o = send_again place from dst vlan ethertype payload rest f
 event_again place (Supervise about) rest f o = life_again place about rest f
 event_again place (Arrive port carried) rest f o =
     let named = o.1.named in
@@ -98,12 +98,12 @@ event_again place Age rest f o = age_again place rest
 
 pub event_line : (place : Place) (e : Event) → IsEventFit e → IsEventOf place e → Lacks 10 (event_text place e)
 unfolding event_text
-event_line place (Send from dst vlan kind payload) f o =
+event_line place (Send from dst vlan ethertype payload) f o =
     line_more (codes "send") _ refl
     (line_more (decimal from) _ (word_decimal from (let h = f.source in omega arith))
     (line_more (mac_text dst) _ (word_mac dst)
     (line_more (vlan_text vlan) _ (word_vlan vlan)
-    (line_more (encode_upper (pair kind)) _ (word_pair kind) (line_end (octets_text payload) (word_octets payload f.octets))))))
+    (line_more (encode_upper (pair ethertype)) _ (word_pair ethertype) (line_end (octets_text payload) (word_octets payload f.octets))))))
 event_line place (Supervise about) f o = line_more (codes "life") _ refl (line_end (about_text about) (word_about about))
 event_line place (Arrive port carried) f o =
     let sent : is_word (probe_text carried.probe) ≡ true

@@ -17,7 +17,7 @@ use Rattle.hex.specs.declared.error.FromHexError.{FromHexError}
 use Rattle.hex.proofs.HexLemmas.{decode_of-ok, decode_sized-ok, decode_sized-twice}
 use Rattle.hsr_frame.specs.Address.{address_text, upper_digit, upper_text}
 use Rattle.hsr_frame.specs.Grammar.{pair}
-use Rattle.hsr_text.specs.Moments.{moment_told}
+use Rattle.hsr_text.specs.Moments.{whole_units}
 use Rattle.hsr_text.specs.declared.time_unit.TimeUnit.{TimeUnit}
 use Rattle.hsr_text.specs.Words.{◌>>=◌, cut, decimal_of, hex_octets_of, hex_pair_of, is_decimal, mac_text, value_on, word_at}
 use Rattle.hsr_node.specs.declared.event.Event.{Event}
@@ -240,15 +240,15 @@ row_sure line w1 w2 w3 w4 r1 r2 r3 r4 dir p octets fate e1 e2 e3 e4 d q o f u no
 
 -- ---- entries
 
-pub send_sure : (place : Place) (o r1 r2 r3 r4 r5 : Option (List ℕ)) (w1 w2 w3 w4 w5 : List ℕ) (from : ℕ) (dst : List ℕ) (vlan : Option ℕ) (kind : ℕ) (payload : List ℕ)
+pub send_sure : (place : Place) (o r1 r2 r3 r4 r5 : Option (List ℕ)) (w1 w2 w3 w4 w5 : List ℕ) (from : ℕ) (dst : List ℕ) (vlan : Option ℕ) (ethertype : ℕ) (payload : List ℕ)
     → Some (w1, r1) ≡ word_at o → Some (w2, r2) ≡ word_at r1 → Some (w3, r3) ≡ word_at r2 → Some (w4, r4) ≡ word_at r3 → Some (w5, r5) ≡ word_at r4
-    → below 256 w1 ≡ Some from → upper_text w2 ≡ address_text dst → read_vlan w3 ≡ Some vlan → hex_pair_of w4 ≡ Some kind → hex_octets_of w5 ≡ Some payload
+    → below 256 w1 ≡ Some from → upper_text w2 ≡ address_text dst → read_vlan w3 ≡ Some vlan → hex_pair_of w4 ≡ Some ethertype → hex_octets_of w5 ≡ Some payload
     → is_upper w2 ≡ true → is_upper w3 ≡ true → is_upper w4 ≡ true → is_upper w5 ≡ true
-    → codes "send" ++ after o ≡ event_text place (Send from dst vlan kind payload) ++ after r5
+    → codes "send" ++ after o ≡ event_text place (Send from dst vlan ethertype payload) ++ after r5
 unfolding event_text
-send_sure place o r1 r2 r3 r4 r5 w1 w2 w3 w4 w5 from dst vlan kind payload e1 e2 e3 e4 e5 a b c d f u2 u3 u4 u5 =
+send_sure place o r1 r2 r3 r4 r5 w1 w2 w3 w4 w5 from dst vlan ethertype payload e1 e2 e3 e4 e5 a b c d f u2 u3 u4 u5 =
     let from_5 = behind r4 r5 w5 (octets_text payload) (after r5) e5 (octets_exact w5 payload f u5) refl in
-    let from_4 = behind r3 r4 w4 (encode_upper (pair kind)) _ e4 (pair_exact w4 kind d u4) from_5 in
+    let from_4 = behind r3 r4 w4 (encode_upper (pair ethertype)) _ e4 (pair_exact w4 ethertype d u4) from_5 in
     let from_3 = behind r2 r3 w3 (vlan_text vlan) _ e3 (vlan_exact w3 vlan c u3) from_4 in
     let from_2 = behind r1 r2 w2 (mac_text dst) _ e2 (mac_exact w2 dst b u2) from_3 in
     let from_1 = behind o r1 w1 (decimal from) _ e1 (below_exact 256 w1 from a) from_2 in
@@ -267,12 +267,12 @@ arrive_sure place o r1 r2 r3 w1 w2 w3 port p octets e1 e2 e3 a b c u =
 
 pub entry_sure : (unit : TimeUnit) (place : Place) (line w1 w2 w3 : List ℕ) (r1 r2 r3 r4 : Option (List ℕ)) (worker at : ℕ) (event : Event) (outcome : Outcome)
     → Some (w1, r1) ≡ word_at (Some line) → Some (w2, r2) ≡ word_at r1 → after r2 ≡ 32 ∷ (event_text place event ++ after r3) → Some (w3, r4) ≡ word_at r3
-    → below (2 ^ 16) w1 ≡ Some worker → decimal (moment_told unit at) ≡ w2 → w3 ≡ codes "=" → after r4 ≡ 32 ∷ outcome_text place outcome
+    → below (2 ^ 16) w1 ≡ Some worker → decimal (whole_units unit at) ≡ w2 → w3 ≡ codes "=" → after r4 ≡ 32 ∷ outcome_text place outcome
     → entry_text unit place (record { worker = worker; at = at; event = event; outcome = outcome }) ≡ line
 unfolding entry_text
 entry_sure unit place line w1 w2 w3 r1 r2 r3 r4 worker at event outcome e1 e2 e3 e4 a b c d =
     let from_4 = behind r3 r4 w3 (codes "=") _ e4 (sym c) d in
     let from_3 : after r2 ≡ 32 ∷ (event_text place event ++ 32 ∷ (codes "=" ++ 32 ∷ outcome_text place outcome)) = e3 ∙ ap (λ l. 32 ∷ (event_text place event ++ l)) from_4 in
-    let from_2 = behind r1 r2 w2 (decimal (moment_told unit at)) _ e2 b from_3 in
+    let from_2 = behind r1 r2 w2 (decimal (whole_units unit at)) _ e2 b from_3 in
     let from_1 = behind (Some line) r1 w1 (decimal worker) _ e1 (below_exact (2 ^ 16) w1 worker a) from_2 in
     cc

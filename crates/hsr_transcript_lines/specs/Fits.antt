@@ -37,11 +37,11 @@ pub record IsCarriedFit (carried : Carried) : Type 0 where
 
 -- ---- entries
 
-pub record IsSendFit (from : ℕ) (dst : List ℕ) (vlan : Option ℕ) (kind : ℕ) (payload : List ℕ) : Type 0 where
+pub record IsSendFit (from : ℕ) (dst : List ℕ) (vlan : Option ℕ) (ethertype : ℕ) (payload : List ℕ) : Type 0 where
   pub source : from < 256
   pub address : IsAddress dst
   pub tag : IfSome vlan (λ control. control < 2 ^ 16)
-  pub type : kind < 2 ^ 16
+  pub type : ethertype < 2 ^ 16
   pub octets : IsBytes payload
 
 abbrev pub IsAboutFit : About → Type 0
@@ -49,7 +49,7 @@ IsAboutFit Own = Unit {0}
 IsAboutFit (Proxied mac) = IsAddress mac
 
 abbrev pub IsEventFit : Event → Type 0
-IsEventFit (Send from dst vlan kind payload) = IsSendFit from dst vlan kind payload
+IsEventFit (Send from dst vlan ethertype payload) = IsSendFit from dst vlan ethertype payload
 IsEventFit (Supervise about) = IsAboutFit about
 IsEventFit (Arrive port carried) = IsCarriedFit carried
 IsEventFit Age = Unit {0}

@@ -147,10 +147,10 @@ read_send words = do
   third ← word_at second.1
   vlan ← read_vlan third.0
   fourth ← word_at third.1
-  kind ← hex_pair_of fourth.0
+  ethertype ← hex_pair_of fourth.0
   fifth ← word_at fourth.1
   payload ← hex_octets_of fifth.0
-  Some (Send from dst vlan kind payload, fifth.1)
+  Some (Send from dst vlan ethertype payload, fifth.1)
 
 abbrev pub read_life : Option (List ℕ) → Option (Event × Option (List ℕ))
 read_life words = do

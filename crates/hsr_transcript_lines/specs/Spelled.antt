@@ -12,7 +12,7 @@ use Rattle.hsr_frame.specs.Grammar.{pair}
 use Rattle.hsr_frame.specs.Words.{cause_text, mode_word}
 use Rattle.hsr_frame.specs.declared.node.About.{About}
 use Rattle.hsr_frame.specs.declared.node.About.TheVariants.{Own, Proxied}
-use Rattle.hsr_text.specs.Moments.{moment_told}
+use Rattle.hsr_text.specs.Moments.{whole_units}
 use Rattle.hsr_text.specs.declared.time_unit.TimeUnit.{TimeUnit}
 use Rattle.hsr_text.specs.declared.time_unit.TimeUnit.TheVariants.{Milliseconds, Microseconds}
 use Rattle.hsr_text.specs.Words.{mac_text}
@@ -30,7 +30,7 @@ use Rattle.hsr_node.specs.declared.role.Role.TheVariants as role
 use Rattle.hsr_link.specs.Words.{dir_word, fate_word}
 use Rattle.hsr_link.specs.declared.row.Dir.TheVariants.{Forth}
 use Rattle.hsr_link.specs.declared.row.Row.{Row}
-use Rattle.hsr_law.specs.Run.{from_end, to_end}
+use Rattle.hsr_run_laws.specs.Run.{from_end, to_end}
 use Rattle.hsr_topology.specs.declared.end.End.{End}
 
 -- a word, and others behind it, with one space between two
@@ -85,8 +85,8 @@ link_text places ends = spaced (end_text places (from_end Forth ends)) (end_text
 -- ---- entries
 
 unfoldable pub event_text : Place → Event → List ℕ
-event_text place (Send from dst vlan kind payload) =
-    spaced (codes "send") (decimal from ∷ mac_text dst ∷ vlan_text vlan ∷ encode_upper (pair kind) ∷ octets_text payload ∷ [])
+event_text place (Send from dst vlan ethertype payload) =
+    spaced (codes "send") (decimal from ∷ mac_text dst ∷ vlan_text vlan ∷ encode_upper (pair ethertype) ∷ octets_text payload ∷ [])
 event_text place (Supervise about) = spaced (codes "life") (about_text about ∷ [])
 event_text place (Arrive port carried) =
     spaced (codes "arrive") ((letter place port ∷ []) ∷ probe_text carried.probe ∷ octets_text carried.octets ∷ [])
@@ -112,7 +112,7 @@ outcome_text place Aged = codes "aged"
 -- the moment is told in the unit of the text
 unfoldable pub entry_text : TimeUnit → Place → Entry → List ℕ
 entry_text unit place entry =
-    spaced (decimal entry.worker) (decimal (moment_told unit entry.at) ∷ event_text place entry.event ∷ codes "=" ∷ outcome_text place entry.outcome ∷ [])
+    spaced (decimal entry.worker) (decimal (whole_units unit entry.at) ∷ event_text place entry.event ∷ codes "=" ∷ outcome_text place entry.outcome ∷ [])
 
 -- ---- rows
 

@@ -11,8 +11,9 @@ ghost use Rattle.hsr_transcript_lines.specs.Lines.{head, section, text_of};
 ghost use Rattle.hsr_transcript_lines.specs.Exact.{exactly};
 
 use crate::words::put_number;
+use hsr_frame::NoMemory;
 use hsr_text::WordFault;
-use std::alloc::{AllocError, Global};
+use std::alloc::Global;
 
 /// A kind of line: how the line of a value is spelled, what a line says, and what its type tells of a value.
 pub trait LineKind {
@@ -25,7 +26,7 @@ pub trait LineKind {
     ghost fits: { Self → Self.Value → Type 0 };
 
     /// Puts the line of a value, without its line feed.
-    fn put(&self, text: &mut Vec<u8>, value: &Self::Value) -> Result<(), AllocError>
+    fn put(&self, text: &mut Vec<u8>, value: &Self::Value) -> Result<(), NoMemory>
         ensures written { OnOk result (text.new.items
             ≡ text.old.items ++ spelled self.now value.now) }
         ensures fits { OnOk result (fits self.now value.now) };
@@ -48,7 +49,7 @@ fn is_line_of<K: LineKind>(
     value: &K::Value,
     line: &[u8],
     spelled: &mut Vec<u8>,
-) -> Result<bool, AllocError>
+) -> Result<bool, NoMemory>
     ensures { IfOk result (λ same. same ≡ bytes_eq (K.spelled kind.now value.now) line.now) }
 {
     spelled.clear();
@@ -83,8 +84,8 @@ pub fn read_line<K: LineKind>(
 }
 
 /// Puts a line of a name and a number, `<name> <count>`, behind what the text holds.
-/// The line ends with a line feed. `AllocError` where room is refused; a front of the line may stand there then.
-pub fn put_head(text: &mut Vec<u8>, name: &[u8], count: usize) -> Result<(), AllocError>
+/// The line ends with a line feed. `NoMemory` where room is refused; a front of the line may stand there then.
+pub fn put_head(text: &mut Vec<u8>, name: &[u8], count: usize) -> Result<(), NoMemory>
     ensures { OnOk result (text.new.items ≡ text.old.items ++ text_of (head name.now count ∷ [])) }
 {
     text.extend_from_slice(name)?;
@@ -94,14 +95,14 @@ pub fn put_head(text: &mut Vec<u8>, name: &[u8], count: usize) -> Result<(), All
 }
 
 /// Puts a section behind what the text holds: a line that says how many values there are, and the line of each.
-/// Each line ends with a line feed. `AllocError` where room is refused; a front of the section may stand there then.
+/// Each line ends with a line feed. `NoMemory` where room is refused; a front of the section may stand there then.
 #[tactic(auto, unfolding(crate::specs::Lines::section))]
 pub fn put_section<K: LineKind>(
     kind: &K,
     text: &mut Vec<u8>,
     name: &[u8],
     values: &[K::Value],
-) -> Result<(), AllocError>
+) -> Result<(), NoMemory>
     ensures written { OnOk result (text.new.items
         ≡ text.old.items ++ text_of (section name.now (K.spelled kind.now) values.now)) }
     ensures fit { OnOk result (AllByRecursion (K.fits kind.now) values.now) }

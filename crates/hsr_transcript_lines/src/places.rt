@@ -12,11 +12,11 @@ use crate::lines::LineKind;
 use crate::parsing::read_port;
 use crate::words::{mac_fits, put_next_mac, put_number, put_word};
 use arrayvec::ArrayVec;
-use hsr_frame::{Mac, Mode};
+use hsr_frame::{Mac, Mode, NoMemory};
 use hsr_node::{Place, Role};
 use hsr_text::{WordFault, decimal, put_decimal, split_at, word};
 use hsr_topology::End;
-use std::alloc::{AllocError, Global};
+use std::alloc::Global;
 
 /// The line of a node: its role, and its addresses and mode where it has some.
 #[derive(Clone, Copy)]
@@ -53,7 +53,7 @@ fn put_ring_node(
     role: Role,
     mac: Mac,
     mode: Mode,
-) -> Result<(), AllocError>
+) -> Result<(), NoMemory>
     ensures written { OnOk result (text.new.items
         ≡ text.old.items ++ spaced (role_word role) (mac_text mac ∷ mode_word mode ∷ [])) }
     ensures fits { IsAddress mac }
@@ -71,7 +71,7 @@ fn put_station(
     text: &mut Vec<u8>,
     word: &[u8],
     macs: &[Mac],
-) -> Result<(), AllocError>
+) -> Result<(), NoMemory>
     ensures written { OnOk result (text.new.items
         ≡ text.old.items ++ spaced word.now (map mac_text macs.now)) }
     ensures fit { OnOk result (AllByRecursion IsAddress macs.now) }
@@ -87,14 +87,17 @@ fn put_station(
 
 /// Puts the line of a node.
 #[tactic(auto, unfolding(crate::specs::Spelled::place_text))]
-fn put_place(alloc: Global, text: &mut Vec<u8>, place: &Place) -> Result<(), AllocError>
+fn put_place(alloc: Global, text: &mut Vec<u8>, place: &Place) -> Result<(), NoMemory>
     ensures written { OnOk result (text.new.items ≡ text.old.items ++ place_text place.now) }
     ensures fits { OnOk result (IsPlaceFit place.now) }
 {
     match place {
         Place::Danh { mac, mode } => put_ring_node(alloc, text, Role::Danh, *mac, *mode),
         Place::RedBox { mac, mode } => put_ring_node(alloc, text, Role::RedBox, *mac, *mode),
-        Place::QuadBox => text.extend_from_slice(Role::QuadBox.word().as_bytes()),
+        Place::QuadBox => {
+            text.extend_from_slice(Role::QuadBox.word().as_bytes())?;
+            Ok(())
+        }
         Place::Station { macs } => put_station(
             alloc,
             text,
@@ -120,7 +123,7 @@ ghost use Rattle.hsr_node.specs.declared.place.Place.TheVariants.{QuadBox};
 ghost use Rattle.hsr_node.specs.Words.{letter};
 
 /// Puts an end of a link.
-fn put_end(text: &mut Vec<u8>, places: &[Place], end: End) -> Result<(), AllocError>
+fn put_end(text: &mut Vec<u8>, places: &[Place], end: End) -> Result<(), NoMemory>
     ensures { OnOk result (text.new.items ≡ text.old.items ++ end_text places.now end) }
 {
     put_decimal(text, end.node as u64)?;
@@ -131,7 +134,7 @@ fn put_end(text: &mut Vec<u8>, places: &[Place], end: End) -> Result<(), AllocEr
 
 /// Puts the line of a link.
 #[tactic(auto, unfolding(crate::specs::Spelled::link_text))]
-fn put_link(text: &mut Vec<u8>, places: &[Place], ends: &[End; 2]) -> Result<(), AllocError>
+fn put_link(text: &mut Vec<u8>, places: &[Place], ends: &[End; 2]) -> Result<(), NoMemory>
     ensures { OnOk result (text.new.items ≡ text.old.items ++ link_text places.now ends.now) }
 {
     let [a, b] = *ends;
@@ -256,7 +259,7 @@ impl LineKind for PlaceLine {
 
     ghost fits = { λ _. IsPlaceFit };
 
-    fn put(&self, text: &mut Vec<u8>, place: &Place) -> Result<(), AllocError> {
+    fn put(&self, text: &mut Vec<u8>, place: &Place) -> Result<(), NoMemory> {
         put_place(self.alloc, text, place)
     }
 
@@ -283,7 +286,7 @@ impl<'a> LineKind for LinkLine<'a> {
 
     ghost fits = { λ _ _. Unit {0} };
 
-    fn put(&self, text: &mut Vec<u8>, ends: &[End; 2]) -> Result<(), AllocError> {
+    fn put(&self, text: &mut Vec<u8>, ends: &[End; 2]) -> Result<(), NoMemory> {
         put_link(text, self.places, ends)
     }
 
@@ -310,7 +313,7 @@ impl LineKind for NumberLine {
 
     ghost fits = { λ _ _. Unit {0} };
 
-    fn put(&self, text: &mut Vec<u8>, n: &u64) -> Result<(), AllocError> {
+    fn put(&self, text: &mut Vec<u8>, n: &u64) -> Result<(), NoMemory> {
         put_decimal(text, *n)
     }
 
@@ -339,7 +342,7 @@ impl<'a> LineKind for CountLine<'a> {
 
     ghost fits = { λ _ _. Unit {0} };
 
-    fn put(&self, text: &mut Vec<u8>, n: &u64) -> Result<(), AllocError> {
+    fn put(&self, text: &mut Vec<u8>, n: &u64) -> Result<(), NoMemory> {
         text.extend_from_slice(self.name)?;
         put_number(text, *n)
     }
@@ -366,8 +369,9 @@ impl<'a> LineKind for FixedLine<'a> {
 
     ghost fits = { λ _ _. Unit {0} };
 
-    fn put(&self, text: &mut Vec<u8>, _value: &()) -> Result<(), AllocError> {
-        text.extend_from_slice(self.line)
+    fn put(&self, text: &mut Vec<u8>, _value: &()) -> Result<(), NoMemory> {
+        text.extend_from_slice(self.line)?;
+        Ok(())
     }
 
     fn parse(

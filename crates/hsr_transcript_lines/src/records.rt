@@ -12,10 +12,10 @@ use crate::words::{
     about_fits, carried_fits, mac_fits, put_about, put_cause, put_hex_u16, put_next_mac,
     put_number, put_octets, put_probe, put_seq, put_vlan, put_word,
 };
-use hsr_frame::Mac;
+use hsr_frame::{Mac, NoMemory};
 use hsr_node::{Carried, Entry, Event, Octets, Outcome, Place};
 use hsr_text::{TimeUnit, WordFault, hex_octets, hex_pair, put_decimal, word};
-use std::alloc::{AllocError, Global};
+use std::alloc::Global;
 
 /// The line of an entry of a node at this place, with its moment in this unit: `<worker> <at> <event> = <outcome>`.
 #[derive(Clone, Copy)]
@@ -32,7 +32,7 @@ fn put_event(
     text: &mut Vec<u8>,
     place: &Place,
     event: &Event,
-) -> Result<(), AllocError>
+) -> Result<(), NoMemory>
     ensures { OnOk result (text.new.items ≡ text.old.items ++ event_text place.now event.now) }
 {
     match event {
@@ -40,14 +40,14 @@ fn put_event(
             from,
             dst,
             vlan,
-            kind,
+            kind: ethertype,
             payload,
         } => {
             text.extend_from_slice(b"send")?;
             put_number(text, u64::from(*from))?;
             put_next_mac(alloc, text, *dst)?;
             put_vlan(text, *vlan)?;
-            put_hex_u16(text, *kind)?;
+            put_hex_u16(text, *ethertype)?;
             put_octets(text, payload.as_slice())
         }
         Event::Supervise(about) => {
@@ -60,7 +60,10 @@ fn put_event(
             put_probe(text, carried.probe)?;
             put_octets(text, carried.octets.as_slice())
         }
-        Event::Age => text.extend_from_slice(b"age"),
+        Event::Age => {
+            text.extend_from_slice(b"age")?;
+            Ok(())
+        }
     }
 }
 
@@ -70,7 +73,7 @@ fn put_port(
     place: &Place,
     ports: &[bool; 4],
     port: u8,
-) -> Result<(), AllocError>
+) -> Result<(), NoMemory>
     ensures { OnOk result (text.new.items ≡ text.old.items ++ port_text place.now ports.now port) }
 {
     // A node has four ports at most, so a port past them let nothing out.
@@ -82,7 +85,7 @@ fn put_port(
 }
 
 /// Puts the letters of the ports by which something left.
-fn put_ports(text: &mut Vec<u8>, place: &Place, ports: &[bool; 4]) -> Result<(), AllocError>
+fn put_ports(text: &mut Vec<u8>, place: &Place, ports: &[bool; 4]) -> Result<(), NoMemory>
     ensures { OnOk result (text.new.items ≡ text.old.items ++ ports_text place.now ports.now) }
 {
     put_port(text, place, ports, 0)?;
@@ -92,11 +95,12 @@ fn put_ports(text: &mut Vec<u8>, place: &Place, ports: &[bool; 4]) -> Result<(),
 }
 
 /// Puts whether a frame went up.
-fn put_up(text: &mut Vec<u8>, up: bool) -> Result<(), AllocError>
+fn put_up(text: &mut Vec<u8>, up: bool) -> Result<(), NoMemory>
     ensures { OnOk result (text.new.items ≡ text.old.items ++ up_text up) }
 {
     if up {
-        text.extend_from_slice(b" up")
+        text.extend_from_slice(b" up")?;
+        Ok(())
     } else {
         Ok(())
     }
@@ -104,7 +108,7 @@ fn put_up(text: &mut Vec<u8>, up: bool) -> Result<(), AllocError>
 
 /// Puts an outcome.
 #[tactic(auto, unfolding(crate::specs::Spelled::outcome_text))]
-fn put_outcome(text: &mut Vec<u8>, place: &Place, outcome: &Outcome) -> Result<(), AllocError>
+fn put_outcome(text: &mut Vec<u8>, place: &Place, outcome: &Outcome) -> Result<(), NoMemory>
     ensures { OnOk result (text.new.items ≡ text.old.items ++ outcome_text place.now outcome.now) }
 {
     match outcome {
@@ -131,7 +135,10 @@ fn put_outcome(text: &mut Vec<u8>, place: &Place, outcome: &Outcome) -> Result<(
             put_up(text, *up)?;
             put_ports(text, place, ports)
         }
-        Outcome::Aged => text.extend_from_slice(b"aged"),
+        Outcome::Aged => {
+            text.extend_from_slice(b"aged")?;
+            Ok(())
+        }
     }
 }
 
@@ -143,11 +150,11 @@ fn put_entry(
     unit: TimeUnit,
     place: &Place,
     entry: &Entry,
-) -> Result<(), AllocError>
+) -> Result<(), NoMemory>
     ensures { OnOk result (text.new.items ≡ text.old.items ++ entry_text unit place.now entry.now) }
 {
     put_decimal(text, u64::from(entry.worker))?;
-    put_number(text, unit.told(entry.at))?;
+    put_number(text, unit.whole_units(entry.at))?;
     text.push(b' ')?;
     put_event(alloc, text, place, &entry.event)?;
     text.extend_from_slice(b" = ")?;
@@ -177,7 +184,7 @@ fn read_send<'a>(alloc: Global, rest: Option<&'a [u8]>) -> Result<Leading<'a>, W
     let (control, rest) = word(rest).ok_or(WordFault::Bad)?;
     let vlan = read_vlan(control).ok_or(WordFault::Bad)?;
     let (pair, rest) = word(rest).ok_or(WordFault::Bad)?;
-    let kind = hex_pair(pair).ok_or(WordFault::Bad)?;
+    let ethertype = hex_pair(pair).ok_or(WordFault::Bad)?;
     let (digits, rest) = word(rest).ok_or(WordFault::Bad)?;
     let payload = Octets::new(hex_octets(alloc, digits)?);
     // `&` and not `&&`: all are looked at, so that there are no branches.
@@ -186,7 +193,7 @@ fn read_send<'a>(alloc: Global, rest: Option<&'a [u8]>) -> Result<Leading<'a>, W
         from,
         dst,
         vlan,
-        kind,
+        kind: ethertype,
         payload,
     };
     Ok(Leading { event, rest, sure })
@@ -337,7 +344,7 @@ fn is_text_of(
     place: &Place,
     outcome: &Outcome,
     rest: Option<&[u8]>,
-) -> Result<bool, AllocError>
+) -> Result<bool, NoMemory>
     ensures { IfOk result (λ same. same ≡ true
         → after (option_map (λ s. s.now) rest.entry) ≡ 32 ∷ outcome_text place.now outcome.now) }
 {
@@ -390,8 +397,8 @@ ghost use Rattle.hsr_text.specs.Words.{Gives};
 ghost use Rattle.hsr_transcript_lines.specs.Parsed.{read_arrive, read_entry, read_event, read_judged, read_life, read_lived, read_outcome, read_send, read_sent};
 
 /// What the types tell of a send.
-fn send_fits(from: u8, dst: Mac, vlan: Option<u16>, kind: u16, payload: &[u8])
-    ensures { IsSendFit from dst vlan kind payload.now }
+fn send_fits(from: u8, dst: Mac, vlan: Option<u16>, ethertype: u16, payload: &[u8])
+    ensures { IsSendFit from dst vlan ethertype payload.now }
 {
     mac_fits(dst);
 }
@@ -405,9 +412,9 @@ fn event_fits(event: &Event)
             from,
             dst,
             vlan,
-            kind,
+            kind: ethertype,
             payload,
-        } => send_fits(*from, *dst, *vlan, *kind, payload.as_slice()),
+        } => send_fits(*from, *dst, *vlan, *ethertype, payload.as_slice()),
         Event::Supervise(about) => about_fits(*about),
         Event::Arrive { port: _, carried } => carried_fits(carried),
         Event::Age => {}
@@ -444,7 +451,7 @@ impl<'a> LineKind for EntryLine<'a> {
 
     ghost fits = { λ _. IsEntryFit };
 
-    fn put(&self, text: &mut Vec<u8>, entry: &Entry) -> Result<(), AllocError> {
+    fn put(&self, text: &mut Vec<u8>, entry: &Entry) -> Result<(), NoMemory> {
         // Nothing is done here: its clause tells the proof what the types keep.
         entry_fits(entry);
         put_entry(self.alloc, text, self.unit, self.place, entry)

@@ -5,10 +5,11 @@ ghost use Rattle.hsr_transcript_lines.specs.Spelled.{row_text};
 use crate::lines::LineKind;
 use crate::parsing::{is_upper, read_fate, read_probe};
 use crate::words::{carried_fits, put_octets, put_probe, put_word};
+use hsr_frame::NoMemory;
 use hsr_link::{Dir, Row};
 use hsr_node::{Carried, Octets};
 use hsr_text::{WordFault, hex_octets, word};
-use std::alloc::{AllocError, Global};
+use std::alloc::Global;
 
 /// The line of a row of a link: `<forth|back> <probe> <octets> <taken|down|cut|overrun>`.
 #[derive(Clone, Copy)]
@@ -16,7 +17,7 @@ pub struct RowLine;
 
 /// Puts the line of a row.
 #[tactic(auto, unfolding(crate::specs::Spelled::row_text))]
-fn put_row(text: &mut Vec<u8>, row: &Row) -> Result<(), AllocError>
+fn put_row(text: &mut Vec<u8>, row: &Row) -> Result<(), NoMemory>
     ensures { OnOk result (text.new.items ≡ text.old.items ++ row_text row.now) }
 {
     text.extend_from_slice(row.dir.word().as_bytes())?;
@@ -66,7 +67,7 @@ impl LineKind for RowLine {
 
     ghost fits = { λ _. IsRowFit };
 
-    fn put(&self, text: &mut Vec<u8>, row: &Row) -> Result<(), AllocError> {
+    fn put(&self, text: &mut Vec<u8>, row: &Row) -> Result<(), NoMemory> {
         // Nothing is done here: its clause tells the proof what the types keep.
         carried_fits(&row.carried);
         put_row(text, row)

@@ -9,14 +9,14 @@ ghost use Rattle.hsr_transcript_lines.specs.Fits.{IsAboutFit, IsCarriedFit, IsPr
 ghost use Rattle.hsr_transcript_lines.specs.Spelled.{about_text, octets_text, probe_text, seq_text, vlan_text};
 ghost use Rattle.hsr_text.specs.Words.{mac_text};
 
-use hsr_frame::{About, Cause, FrameFault, Mac};
+use hsr_frame::{About, Cause, FrameFault, Mac, NoMemory};
 use hsr_node::{Carried, Probe};
 use hsr_text::{put_decimal, put_hex, put_mac};
-use std::alloc::{AllocError, Global};
+use std::alloc::Global;
 
 /// Puts a space and a number, in decimal, behind what the text holds.
-/// `AllocError` where room is refused; a front of it may stand there then.
-pub fn put_number(text: &mut Vec<u8>, n: u64) -> Result<(), AllocError>
+/// `NoMemory` where room is refused; a front of it may stand there then.
+pub fn put_number(text: &mut Vec<u8>, n: u64) -> Result<(), NoMemory>
     ensures { OnOk result (text.new.items ≡ text.old.items ++ 32 ∷ decimal n) }
 {
     text.push(b' ')?;
@@ -24,15 +24,16 @@ pub fn put_number(text: &mut Vec<u8>, n: u64) -> Result<(), AllocError>
 }
 
 /// Puts a space and a word.
-pub(crate) fn put_word(text: &mut Vec<u8>, word: &[u8]) -> Result<(), AllocError>
+pub(crate) fn put_word(text: &mut Vec<u8>, word: &[u8]) -> Result<(), NoMemory>
     ensures { OnOk result (text.new.items ≡ text.old.items ++ 32 ∷ word.now) }
 {
     text.push(b' ')?;
-    text.extend_from_slice(word)
+    text.extend_from_slice(word)?;
+    Ok(())
 }
 
 /// Puts a space and an address.
-pub(crate) fn put_next_mac(alloc: Global, text: &mut Vec<u8>, mac: Mac) -> Result<(), AllocError>
+pub(crate) fn put_next_mac(alloc: Global, text: &mut Vec<u8>, mac: Mac) -> Result<(), NoMemory>
     ensures { OnOk result (text.new.items ≡ text.old.items ++ 32 ∷ mac_text mac) }
 {
     text.push(b' ')?;
@@ -40,19 +41,20 @@ pub(crate) fn put_next_mac(alloc: Global, text: &mut Vec<u8>, mac: Mac) -> Resul
 }
 
 /// Puts a space and octets.
-pub(crate) fn put_octets(text: &mut Vec<u8>, octets: &[u8]) -> Result<(), AllocError>
+pub(crate) fn put_octets(text: &mut Vec<u8>, octets: &[u8]) -> Result<(), NoMemory>
     ensures { OnOk result (text.new.items ≡ text.old.items ++ 32 ∷ octets_text octets.now) }
 {
     if octets.is_empty() {
         // A hyphen, since each word of a line has a letter at least.
-        return text.extend_from_slice(b" -");
+        text.extend_from_slice(b" -")?;
+        return Ok(());
     }
     text.push(b' ')?;
     put_hex(text, octets)
 }
 
 /// Puts a space and the four digits of a number of 16 bits.
-pub(crate) fn put_hex_u16(text: &mut Vec<u8>, n: u16) -> Result<(), AllocError>
+pub(crate) fn put_hex_u16(text: &mut Vec<u8>, n: u16) -> Result<(), NoMemory>
     ensures { OnOk result (text.new.items ≡ text.old.items ++ 32 ∷ encode_upper (pair n)) }
 {
     text.push(b' ')?;
@@ -60,31 +62,38 @@ pub(crate) fn put_hex_u16(text: &mut Vec<u8>, n: u16) -> Result<(), AllocError>
 }
 
 /// Puts a space and a VLAN tag's control information.
-pub(crate) fn put_vlan(text: &mut Vec<u8>, vlan: Option<u16>) -> Result<(), AllocError>
+pub(crate) fn put_vlan(text: &mut Vec<u8>, vlan: Option<u16>) -> Result<(), NoMemory>
     ensures { OnOk result (text.new.items ≡ text.old.items ++ 32 ∷ vlan_text vlan) }
 {
     match vlan {
-        None => text.extend_from_slice(b" -"),
+        None => {
+            text.extend_from_slice(b" -")?;
+            Ok(())
+        }
         Some(control) => put_hex_u16(text, control),
     }
 }
 
 /// Puts a space and the number of a frame.
-pub(crate) fn put_seq(text: &mut Vec<u8>, seq: Option<u16>) -> Result<(), AllocError>
+pub(crate) fn put_seq(text: &mut Vec<u8>, seq: Option<u16>) -> Result<(), NoMemory>
     ensures { OnOk result (text.new.items ≡ text.old.items ++ 32 ∷ seq_text seq) }
 {
     match seq {
-        None => text.extend_from_slice(b" -"),
+        None => {
+            text.extend_from_slice(b" -")?;
+            Ok(())
+        }
         Some(seq) => put_number(text, u64::from(seq)),
     }
 }
 
 /// Puts a space and a probe.
-pub(crate) fn put_probe(text: &mut Vec<u8>, probe: Option<Probe>) -> Result<(), AllocError>
+pub(crate) fn put_probe(text: &mut Vec<u8>, probe: Option<Probe>) -> Result<(), NoMemory>
     ensures { OnOk result (text.new.items ≡ text.old.items ++ 32 ∷ probe_text probe) }
 {
     let Some(probe) = probe else {
-        return text.extend_from_slice(b" -");
+        text.extend_from_slice(b" -")?;
+        return Ok(());
     };
     put_number(text, probe.node as u64)?;
     text.push(b':')?;
@@ -92,11 +101,14 @@ pub(crate) fn put_probe(text: &mut Vec<u8>, probe: Option<Probe>) -> Result<(), 
 }
 
 /// Puts a space and the node that a supervision frame is about.
-pub(crate) fn put_about(alloc: Global, text: &mut Vec<u8>, about: About) -> Result<(), AllocError>
+pub(crate) fn put_about(alloc: Global, text: &mut Vec<u8>, about: About) -> Result<(), NoMemory>
     ensures { OnOk result (text.new.items ≡ text.old.items ++ 32 ∷ about_text about) }
 {
     match about {
-        About::Own => text.extend_from_slice(b" own"),
+        About::Own => {
+            text.extend_from_slice(b" own")?;
+            Ok(())
+        }
         About::Proxied(mac) => put_next_mac(alloc, text, mac),
     }
 }
@@ -106,7 +118,7 @@ fn put_fault(
     text: &mut Vec<u8>,
     separator: &[u8],
     fault: Option<FrameFault>,
-) -> Result<(), AllocError>
+) -> Result<(), NoMemory>
     ensures { OnOk result (text.new.items ≡ text.old.items ++ fault_text separator.now fault) }
 {
     match fault {
@@ -119,7 +131,7 @@ fn put_fault(
 }
 
 /// Puts a space and why an arrival went where it did.
-pub(crate) fn put_cause(text: &mut Vec<u8>, cause: Cause) -> Result<(), AllocError>
+pub(crate) fn put_cause(text: &mut Vec<u8>, cause: Cause) -> Result<(), NoMemory>
     ensures { OnOk result (text.new.items ≡ text.old.items ++ 32 ∷ cause_text (codes "-") cause) }
 {
     put_word(text, cause.word().as_bytes())?;

@@ -1,0 +1,5 @@
+mod Showing
+mod Heads
+pub mod Sending
+mod Unshown
+mod Texts

@@ -1,0 +1,8 @@
+pub mod Agreeing
+pub mod Given
+pub mod Unnamed
+pub mod Fault
+pub mod Viewing
+pub mod Refusals
+pub mod Reads
+pub mod Ends

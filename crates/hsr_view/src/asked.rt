@@ -1,5 +1,5 @@
-//! What the words of a command line ask for.
-use hsr_viewing::What;
+//! What the arguments of hsr_view ask for.
+use crate::views::What;
 
 /// What is asked for, and the path of the scenario whose names stand in place of numbers.
 #[derive(Debug, Drop)]

@@ -1,11 +1,11 @@
-//! Reads the words of a command line, by clap.
+//! Reads the arguments of hsr_view, by clap.
 use crate::asked::Asked;
+use crate::views::What;
 use clap::error::ErrorKind;
 use clap::{Arg, ArgAction, ArgMatches, Command, Error};
-use hsr_picture::Span;
+use hsr_diagram::Span;
 use hsr_text::decimal;
 use hsr_version::VERSION;
-use hsr_viewing::What;
 use std::alloc::{AllocError, Global};
 
 const CAPTURE_ENDS: &str = "\
@@ -74,7 +74,7 @@ const NO_UNTIL: &str =
 const FILE_AS_WORD: &str = "\
 A transcript isn't named but comes on standard input: use < FILE, as in hsr_view picture < run.transcript";
 
-/// Why words say nothing.
+/// Why arguments are refused.
 #[derive(Drop)]
 pub enum WordFault {
     Usage { text: String },
@@ -107,6 +107,7 @@ fn has_file(words: &[&str]) -> bool {
         if !is_value && is_file(word) {
             return true;
         }
+        // What follows `--names` is a file by right.
         is_value = *word == "--names";
     }
     false
@@ -120,8 +121,8 @@ fn is_unknown(error: &Error) -> bool {
     )
 }
 
-/// The text of a refusal, without the end of its last line: whoever prints it ends the line. Where a word that nothing takes looks like
-/// the name of a file, it says how a file is read.
+/// The text of a refusal, without the end of its last line: whoever prints it ends the line. Where a word that nothing
+/// takes looks like the name of a file, it says how a file is read.
 fn refused(alloc: Global, error: &Error, words: &[&str]) -> WordFault {
     if error.kind() == ErrorKind::OutOfMemory {
         return WordFault::Memory;
@@ -274,7 +275,7 @@ fn moment_of(
     }
 }
 
-/// The picture that words ask for.
+/// The picture that arguments ask for.
 fn picture_in<'a>(alloc: Global, matches: &ArgMatches<'a>) -> Result<What<'a>, WordFault> {
     let sends = sends_of(alloc, matches)?;
     let from = moment_of(alloc, matches, "from", NO_FROM)?;
@@ -285,7 +286,7 @@ fn picture_in<'a>(alloc: Global, matches: &ArgMatches<'a>) -> Result<What<'a>, W
     })
 }
 
-/// What the words of a subcommand ask for.
+/// What the arguments of a subcommand ask for.
 fn asked_in<'a>(
     alloc: Global,
     name: &str,
@@ -296,6 +297,7 @@ fn asked_in<'a>(
     } else if name == "picture" {
         picture_in(alloc, matches)?
     } else {
+        // Clap takes three subcommands, so this one is `capture`.
         let link = link_of(alloc, matches)?;
         let send = send_of(alloc, matches)?;
         What::Capture { link, send }
@@ -306,7 +308,7 @@ fn asked_in<'a>(
     })
 }
 
-/// What words ask for.
+/// What arguments ask for.
 pub(crate) fn asked<'a>(alloc: Global, words: &'a [&'a str]) -> Result<Asked<'a>, WordFault> {
     let command = view_command(alloc)?;
     match command.try_get_matches_from(words) {

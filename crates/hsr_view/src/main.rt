@@ -1,20 +1,41 @@
-//! The second program: a finished run as a capture, as a picture, or as devices.
+//! The program `hsr_view`: a transcript shown as a capture, as a picture, or as devices, over a reader and two writers; and
+//! what its arguments ask for.
 //!
-//! Its modules, in the order in which to read them: `asked`, `command_line`.
+//! Its modules, in the order in which to read them:
+//! - `views`: what can be asked for
+//! - `agreeing`: when links are down, by the scenario of the run
+//! - `given`: what a text is that is no transcript
+//! - `unnamed`: what a text is that is no scenario of the run
+//! - `fault`: why nothing is shown, and the line that says it
+//! - `head`: the head of a text, read before the rest is
+//! - `viewing`: what is shown of a text
+//! - `running`: the whole, its calls
+//! - `asked`: what the arguments ask for
+//! - `command_line`: reads the arguments, by clap
 #![tactic(auto)]
 
 ghost use Rattle.std.specs.Prelude.{◌≡◌, ◌++◌, IfOk, OnOk, codes, drop, map, string_bytes};
 ghost use Rattle.std.specs.Io.KnownBytes.{Appends};
 ghost use Rattle.std.specs.Process.{exit_status};
 
+mod agreeing;
 mod asked;
 mod command_line;
+mod fault;
+mod given;
+mod head;
+mod running;
+mod unnamed;
+mod viewing;
+mod views;
 
 use crate::asked::Asked;
 use crate::command_line::{WordFault, asked};
+use crate::fault::Fault;
+use crate::running::{report_ending, view_run};
+use crate::unnamed::{Unnamed, no_text};
 use hsr_scenario::TEXT_LIMIT;
 use hsr_text::arguments;
-use hsr_viewing::{Fault, Unnamed, no_text, tell, view_run};
 use std::alloc::Global;
 use std::fs::{File, Files};
 use std::io::{ErrorKind, Read, Write};
@@ -22,13 +43,14 @@ use std::process::ExitCode;
 use std::rt::Env;
 use std::{env, io};
 
-/// The status where words are refused.
+/// The status where arguments are refused.
 const USAGE: u8 = 3;
 
 /// The text of a file, or of a longer one a front that is longer than the text of a scenario may be.
 fn text_at<H: AllocGlobal + Files>(rt: &H, path: &str) -> io::Result<Vec<u8>> {
     let file = File::open(rt, path)?;
     let mut text = Vec::new(rt.alloc());
+    // One octet more than a scenario may have is enough to refuse it.
     file.take(TEXT_LIMIT as u64 + 1).read_to_end(&mut text)?;
     Ok(text)
 }
@@ -43,6 +65,7 @@ fn scenario_at<H: AllocGlobal + Files>(
     };
     match text_at(rt, path) {
         Ok(text) => {
+            // Asked first, since `String::from_utf8` takes the octets, and the fault tells of them.
             if str::from_utf8(text.as_slice()).is_err() {
                 return Err(Fault::Names(no_text(text.as_slice())));
             }
@@ -64,7 +87,7 @@ fn view_input<H: AllocGlobal + Files + Input + Print, E: Write>(
 ) -> io::Result<u8> {
     let scenario = match scenario_at(rt, asked.names) {
         Ok(scenario) => scenario,
-        Err(fault) => return tell(errors, Err(fault)),
+        Err(fault) => return report_ending(errors, Err(fault)),
     };
     let scenario = match &scenario {
         Some(text) => Some(text.as_str()),
@@ -82,9 +105,10 @@ fn view_input<H: AllocGlobal + Files + Input + Print, E: Write>(
     )
 }
 
-/// Writes why words are refused, and gives the status of the process.
+/// Writes why arguments are refused, and gives the status of the process.
 fn refuse<E: Write>(errors: &mut E, text: &str) -> io::Result<u8>
-    ensures { OnOk result (Appends (E.contents errors.old) (E.contents errors.new) (text.now ++ codes "\n")) }
+    ensures { OnOk result (Appends (E.contents errors.old) (E.contents errors.new) (text.now
+        ++ codes "\n")) }
 {
     errors.write_all(text.as_bytes())?;
     errors.write_all(b"\n")?;
@@ -101,7 +125,7 @@ fn exit_of(code: io::Result<u8>) -> io::Result<ExitCode>
     }
 }
 
-/// Does what the program's words ask for.
+/// Does what the program's arguments ask for.
 fn run<H: AllocGlobal + Env + Files + Input + Print, E: Write>(
     rt: &H,
     errors: &mut E,
@@ -111,7 +135,7 @@ fn run<H: AllocGlobal + Env + Files + Input + Print, E: Write>(
     let code = match asked(rt.alloc(), words.as_slice()) {
         Ok(asked) => view_input(rt, asked, errors),
         Err(WordFault::Usage { text }) => refuse(errors, text.as_str()),
-        Err(WordFault::Memory) => tell(errors, Err(Fault::Memory)),
+        Err(WordFault::Memory) => report_ending(errors, Err(Fault::Memory)),
     };
     exit_of(code)
 }
@@ -119,9 +143,9 @@ fn run<H: AllocGlobal + Env + Files + Input + Print, E: Write>(
 fn main(rt: HostRuntime) -> io::Result<ExitCode> {
     let mut errors = rt.stderr();
     match run(&rt, &mut errors) {
-        // the words themselves take memory
+        // The arguments themselves take memory.
         Err(error) if error.kind() == ErrorKind::OutOfMemory => {
-            exit_of(tell(&mut errors, Err(Fault::Memory)))
+            exit_of(report_ending(&mut errors, Err(Fault::Memory)))
         }
         ended => ended,
     }

@@ -1,8 +1,8 @@
 use Rattle.std.proofs.Common.{Result, Ok, Err}
 use Rattle.std.specs.Prelude.{IfErr}
 use Rattle.std.proofs.lemmas.Result.{IfOk-weaker}
-use Rattle.hsr_closing.proofs.Shaped.{from_there}
-use Rattle.hsr_law.specs.Run.{Run}
+use Rattle.hsr_finished_run.proofs.Shaped.{from_there}
+use Rattle.hsr_run_laws.specs.Run.{Run}
 use Rattle.hsr_audit.specs.Budgeted.{IsFirstBreach, IsOverspent}
 use Rattle.hsr_audit.specs.declared.breach.BudgetFault.{BudgetFault}
 use Rattle.hsr_audit.proofs.Spending.{breach_refuses, enough_is}

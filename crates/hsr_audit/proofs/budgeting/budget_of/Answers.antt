@@ -1,7 +1,7 @@
 use Rattle.std.proofs.Common.{rules, ◌≤◌, length}
-use Rattle.hsr_law.specs.Run.{Run}
+use Rattle.hsr_run_laws.specs.Run.{Run}
 use Rattle.hsr_audit.specs.Budgeted.{AreInTime}
-use Rattle.hsr_windows.specs.Windows.{IsFirstOver, IsMostBelow}
+use Rattle.hsr_table_demand.specs.Windows.{IsFirstOver, IsMostBelow}
 use Rattle.hsr_audit.proofs.Spending.{first_crowded, held_is, most_is}
 use Rattle.hsr_audit.proofs.budgeting.budget_of.Goals as goal
 

@@ -1,5 +1,5 @@
 use Rattle.std.proofs.Common.{rules, length}
-use Rattle.hsr_windows.specs.Windows.{IsMostBelow}
+use Rattle.hsr_table_demand.specs.Windows.{IsMostBelow}
 use Rattle.hsr_audit.proofs.Spending.{most_is}
 use Rattle.hsr_audit.proofs.budgeting.most_sends.Goals as goal
 

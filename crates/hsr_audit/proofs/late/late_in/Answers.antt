@@ -1,7 +1,7 @@
 use Rattle.std.proofs.Common.{rules, ◌≡◌, ◌<◌, true, false, length, slice_index_or}
 use borrow.Author.Count.{below_more}
 use Rattle.hsr_node.specs.declared.entry.Entry.{Entry}
-use Rattle.hsr_law.specs.Run.{Run, record_of}
+use Rattle.hsr_run_laws.specs.Run.{Run, record_of}
 use Rattle.hsr_audit.specs.Budgeted.{IsInTimeAt}
 use Rattle.hsr_audit.specs.Timed.{is_in_time, lists_of}
 use Rattle.hsr_audit.proofs.Timing.{in_time_at, late_at}

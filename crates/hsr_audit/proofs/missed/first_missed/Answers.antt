@@ -1,9 +1,9 @@
 use Rattle.std.proofs.Common.{rules, ◌≡◌, ◌+◌, ◌<◌, ◌∙◌, ℕ, Option, length, slice_index_or, false, sym, ap, subst}
 use Rattle.hsr_node.specs.declared.event.Probe.{Probe}
 use Rattle.hsr_node.specs.declared.place.Place.{Place}
-use Rattle.hsr_law.specs.Premises.{is_redbox}
-use Rattle.hsr_law.specs.Run.{Run, place_of}
-use Rattle.hsr_needed.proofs.Walking.{place_at}
+use Rattle.hsr_run_laws.specs.Premises.{is_redbox}
+use Rattle.hsr_run_laws.specs.Run.{Run, place_of}
+use Rattle.hsr_table_demand.proofs.Walking.{place_at}
 use Rattle.hsr_audit.specs.Missed.{IsLowest, MissedBelow, lower_of}
 use Rattle.hsr_audit.proofs.Missing.{first_is, nodes_missed, nodes_same}
 use Rattle.hsr_audit.proofs.missed.first_missed.Goals as goal

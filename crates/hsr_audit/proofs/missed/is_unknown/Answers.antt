@@ -1,5 +1,5 @@
 use Rattle.std.proofs.Common.{rules, ◌≡◌, ◌∙◌, ◌&&◌, not, Some, true, false, sym, ap}
-use Rattle.hsr_law.specs.Run.{Run}
+use Rattle.hsr_run_laws.specs.Run.{Run}
 use Rattle.hsr_node.specs.declared.sending.Sending.{Sending}
 use Rattle.hsr_tables.specs.Proxies.{is_known}
 use Rattle.hsr_audit.specs.Missed.{is_box_of, sending_at}

@@ -2,7 +2,7 @@ use Rattle.std.proofs.Common.{rules, ◌≡◌, ◌+◌, ◌<◌, ◌≤◌, ℕ
 use Rattle.hsr_node.specs.declared.entry.Entry.{Entry}
 use Rattle.hsr_node.specs.declared.event.Probe.{Probe}
 use Rattle.hsr_node.specs.declared.place.Place.{Place}
-use Rattle.hsr_law.specs.Run.{Run, record_of}
+use Rattle.hsr_run_laws.specs.Run.{Run, record_of}
 use Rattle.hsr_tables.specs.Proxies.{is_known}
 use Rattle.hsr_audit.specs.Missed.{IsLowest, IsUnknownOf}
 use Rattle.hsr_audit.proofs.Missing.{heard_more, heard_up_to, missed_more}

@@ -1,7 +1,7 @@
 use Rattle.std.proofs.Common.{◌≡◌, reverse, take}
 use Rattle.hsr_node.specs.Record.{now}
-use Rattle.hsr_law.specs.Run.{place_of, record_of}
-use Rattle.hsr_needed.specs.Read.{stations_of}
+use Rattle.hsr_run_laws.specs.Run.{place_of, record_of}
+use Rattle.hsr_table_demand.specs.Read.{stations_of}
 use Rattle.hsr_audit.specs.Missed.{IsLowest, MissedOn}
 use Rattle.hsr_audit.proofs.missed.missed_by.Given as goal
 

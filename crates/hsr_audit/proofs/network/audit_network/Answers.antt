@@ -1,8 +1,8 @@
 use Rattle.std.proofs.Common.{Result, Ok, Err}
 use Rattle.std.specs.Prelude.{IfErr}
-use Rattle.hsr_law.specs.Closed.{IsClosed}
-use Rattle.hsr_law.specs.Run.{Run}
-use Rattle.hsr_network_law.specs.Rings.{RingIsCrossed}
+use Rattle.hsr_run_laws.specs.Closed.{IsClosed}
+use Rattle.hsr_run_laws.specs.Run.{Run}
+use Rattle.hsr_network_laws.specs.Rings.{RingIsCrossed}
 use Rattle.hsr_audit.specs.Danhs.{HasPremises}
 use Rattle.hsr_audit.specs.Doubts.{IsFirstFault, IsNetworkPremised, IsRefused, of_network}
 use Rattle.hsr_audit.specs.Sends.{HasSend}

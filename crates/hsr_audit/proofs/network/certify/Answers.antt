@@ -1,5 +1,5 @@
 use Rattle.std.proofs.Common.{rules}
-use Rattle.hsr_law.specs.Run.{Run}
+use Rattle.hsr_run_laws.specs.Run.{Run}
 use Rattle.hsr_audit.specs.Doubts.{IsNetworkPremised}
 use Rattle.hsr_audit.proofs.Promising.{certified_is, once_of, station_of}
 use Rattle.hsr_audit.proofs.network.certify.Goals as goal

@@ -2,7 +2,7 @@ use Rattle.std.proofs.Common.{Result, Ok, Err}
 use Rattle.std.specs.Prelude.{IfErr}
 use Rattle.hsr_audit.specs.Danhs.{HasPremises}
 use Rattle.hsr_audit.specs.Doubts.{IsFirstFault, IsRefused, of_ring}
-use Rattle.hsr_law.specs.Run.{Run}
+use Rattle.hsr_run_laws.specs.Run.{Run}
 use Rattle.hsr_audit.specs.declared.doubt.AuditFault.{AuditFault}
 use Rattle.hsr_audit.proofs.Clearing.{fault_refuses}
 use Rattle.hsr_audit.proofs.ring.audit.Goals as goal

@@ -1,7 +1,7 @@
 use Rattle.std.proofs.Common.{rules, ◌≡◌}
 use Rattle.hsr_audit.specs.Certificate.{certified}
 use Rattle.hsr_audit.specs.Round.{IsClear}
-use Rattle.hsr_law.specs.Run.{Run}
+use Rattle.hsr_run_laws.specs.Run.{Run}
 use Rattle.hsr_audit.proofs.Clearing.{certified_is}
 use Rattle.hsr_audit.proofs.ring.certify.Goals as goal
 

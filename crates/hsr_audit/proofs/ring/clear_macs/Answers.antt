@@ -1,10 +1,10 @@
 use Rattle.std.proofs.Common.{rules, Some, None, sym, subst}
-use Rattle.hsr_law.specs.Premises.{OneLossyLink}
+use Rattle.hsr_run_laws.specs.Premises.{OneLossyLink}
 use Rattle.hsr_audit.specs.Doubts.{IsFirst, of_ring}
 use Rattle.hsr_audit.specs.Round.{IsOwnRing}
-use Rattle.hsr_law.specs.Run.{Run}
-use Rattle.hsr_network_law.specs.Late.{NothingLate}
-use Rattle.hsr_premises.specs.Flaws.{IsFirstFlaw}
+use Rattle.hsr_run_laws.specs.Run.{Run}
+use Rattle.hsr_network_laws.specs.Late.{NothingLate}
+use Rattle.hsr_table_flaws.specs.Flaws.{IsFirstFlaw}
 use Rattle.hsr_audit.proofs.Clearing.{flaw_is, own_ring}
 use Rattle.hsr_audit.proofs.ring.clear_macs.Goals as goal
 

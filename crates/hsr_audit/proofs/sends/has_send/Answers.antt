@@ -1,5 +1,5 @@
 use Rattle.std.proofs.Common.{rules, length}
-use Rattle.hsr_law.specs.Run.{Run}
+use Rattle.hsr_run_laws.specs.Run.{Run}
 use Rattle.hsr_audit.specs.Sends.{IsNoSendAt}
 use Rattle.hsr_audit.specs.Placed.{HoldsIn}
 use Rattle.hsr_audit.proofs.Promising.{none_sent}

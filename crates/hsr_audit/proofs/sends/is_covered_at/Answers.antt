@@ -1,7 +1,7 @@
 use Rattle.std.proofs.Common.{rules, ◌≡◌, ◌∙◌, ℕ, Some, refl, sym}
 use Rattle.hsr_node.specs.Flow.{send_at}
 use Rattle.hsr_node.specs.declared.sending.Sending.{Sending}
-use Rattle.hsr_law.specs.Run.{Run, past_of, place_of}
+use Rattle.hsr_run_laws.specs.Run.{Run, past_of, place_of}
 use Rattle.hsr_audit.specs.Sends.{is_promised}
 use Rattle.hsr_audit.proofs.Sending.{covered_none, covered_so, so_covered}
 use Rattle.hsr_audit.proofs.sends.is_covered_at.Goals as goal

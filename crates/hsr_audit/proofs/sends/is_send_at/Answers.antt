@@ -1,7 +1,7 @@
 use Rattle.std.proofs.Common.{rules, ◌≡◌, ◌∙◌, Option, sym}
 use Rattle.std.specs.Prelude.{is_some}
 use Rattle.hsr_node.specs.declared.sending.Sending.{Sending}
-use Rattle.hsr_law.specs.Run.{Run}
+use Rattle.hsr_run_laws.specs.Run.{Run}
 use Rattle.hsr_audit.proofs.Sending.{none_send, some_send}
 use Rattle.hsr_audit.proofs.sends.is_send_at.Goals as goal
 

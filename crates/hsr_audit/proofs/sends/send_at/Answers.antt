@@ -1,7 +1,7 @@
 use Rattle.std.proofs.Common.{rules, ◌≡◌, ◌∙◌, ℕ, slice_index_or, sym}
 use Rattle.hsr_node.specs.declared.entry.Entry.{Entry}
 use Rattle.hsr_node.specs.declared.place.Place.{Place}
-use Rattle.hsr_law.specs.Run.{Run, record_of}
+use Rattle.hsr_run_laws.specs.Run.{Run, record_of}
 use Rattle.hsr_audit.proofs.Sending.{sent_is}
 use Rattle.hsr_audit.proofs.sends.send_at.Goals as goal
 

@@ -1,5 +1,5 @@
 use Rattle.std.proofs.Common.{below_more}
-use Rattle.hsr_order.specs.Fronts.{lists_of}
+use Rattle.hsr_timeline.specs.Fronts.{lists_of}
 use Rattle.hsr_capture.proofs.Growing.{links_grown}
 use Rattle.hsr_capture.proofs.capturing.put_interfaces.Goals as goal
 

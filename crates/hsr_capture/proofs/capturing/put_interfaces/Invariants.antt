@@ -1,5 +1,5 @@
 use Rattle.std.proofs.Common.{◌≡◌, ℕ, ◌<◌, ◌++◌}
-use Rattle.hsr_order.specs.Fronts.{lists_of}
+use Rattle.hsr_timeline.specs.Fronts.{lists_of}
 use Rattle.hsr_capture.specs.Capture.{interfaces_below}
 use Rattle.hsr_capture.specs.Fits.{LinkFits}
 use Rattle.hsr_capture.proofs.capturing.put_interfaces.Given as goal

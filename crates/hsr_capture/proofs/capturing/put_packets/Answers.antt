@@ -1,6 +1,6 @@
 use Rattle.std.proofs.Common.{rules, ◌<◌, length}
 use Rattle.std.proofs.lemmas.List.Elements.{All-more}
-use Rattle.hsr_order.specs.Fronts.{lists_of}
+use Rattle.hsr_timeline.specs.Fronts.{lists_of}
 use Rattle.hsr_capture.specs.Capture.{packet_of}
 use Rattle.hsr_capture.specs.Fits.{ShownFits}
 use Rattle.hsr_capture.proofs.Growing.{told}

@@ -1,6 +1,6 @@
 use Rattle.std.proofs.Common.{◌≡◌, ◌++◌, All, take}
 use Rattle.std.specs.List.{flat_map}
-use Rattle.hsr_order.specs.Fronts.{lists_of}
+use Rattle.hsr_timeline.specs.Fronts.{lists_of}
 use Rattle.hsr_capture.specs.Capture.{packet_of}
 use Rattle.hsr_capture.specs.Fits.{ShownFits}
 use Rattle.hsr_capture.proofs.capturing.put_packets.Given as goal

@@ -4,7 +4,7 @@ use Rattle.hsr_frame.specs.declared.node.RingPort.{RingPort}
 use Rattle.hsr_frame.specs.declared.fault.FrameFault.{FrameFault}
 use Rattle.hsr_tag.specs.Seen.{classified}
 use Rattle.hsr_tag.specs.declared.seen.Seen.{Seen}
-use Rattle.hsr_role.specs.Arrival.{heard_of}
+use Rattle.hsr_forwarding.specs.Arrival.{heard_of}
 use Rattle.hsr_tables.specs.Nodes.{Nodes, heard as node_heard}
 use Rattle.hsr_node.specs.Record.{hearings_from}
 use Rattle.hsr_node.specs.declared.event.Event.{Event}

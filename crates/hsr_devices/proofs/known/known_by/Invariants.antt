@@ -1,5 +1,5 @@
 use Rattle.std.proofs.Common.{◌≡◌, reverse, take}
-use Rattle.hsr_needed.specs.Read.{stations_of}
+use Rattle.hsr_table_demand.specs.Read.{stations_of}
 use Rattle.hsr_node.specs.Record.{now}
 use Rattle.hsr_devices.specs.Known.{nodes_of}
 use Rattle.hsr_devices.proofs.known.known_by.Given as goal

@@ -1,6 +1,6 @@
 use Rattle.std.proofs.Common.{◌≡◌, ◌++◌, ◌∷◌, [], ℕ, List, length, sym, ap, subst, arith}
-use Rattle.hsr_law.specs.Run.{Run}
-use Rattle.hsr_needed.specs.declared.most.Needed.{Needed}
+use Rattle.hsr_run_laws.specs.Run.{Run}
+use Rattle.hsr_table_demand.specs.declared.most.Needed.{Needed}
 use Rattle.hsr_devices.specs.Listing.{AreMost}
 use Rattle.hsr_devices.proofs.Needing.{long_push, most_push}
 use Rattle.hsr_devices.proofs.listing.all_needed.Goals as goal

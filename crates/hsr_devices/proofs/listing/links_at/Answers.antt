@@ -1,6 +1,6 @@
 use Rattle.std.proofs.Common.{◌++◌, ◌∷◌, [], ◌∙◌, ℕ, List, Option, ap, sym, arith}
 use Rattle.std.proofs.lemmas.List.FromFn.{map-range_with_len_more}
-use Rattle.hsr_law.specs.Run.{Run}
+use Rattle.hsr_run_laws.specs.Run.{Run}
 use Rattle.hsr_devices.specs.Listing.{links_at}
 use Rattle.hsr_devices.specs.Port.{port_link}
 use Rattle.hsr_devices.specs.declared.port.PortLink.{PortLink}

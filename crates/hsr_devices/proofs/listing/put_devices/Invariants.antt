@@ -1,5 +1,5 @@
 use Rattle.std.proofs.Common.{◌≡◌, ◌++◌}
-use Rattle.hsr_order.specs.Fronts.{lists_of}
+use Rattle.hsr_timeline.specs.Fronts.{lists_of}
 use Rattle.hsr_devices.specs.Listing.{devices_below}
 use Rattle.hsr_devices.proofs.listing.put_devices.Given as goal
 

@@ -1,7 +1,7 @@
 use Rattle.std.proofs.Common.{◌≡◌, ◌++◌, ℕ, List, subst, sym}
 use Rattle.std.specs.Prelude.{OnOk}
 use Rattle.std.proofs.lemmas.List.Folds.{flat_map-map}
-use Rattle.hsr_order.specs.Fronts.{items_of}
+use Rattle.hsr_timeline.specs.Fronts.{items_of}
 use Rattle.hsr_devices.specs.Cells.{right}
 use Rattle.hsr_devices.proofs.listing.put_texts.Goals as goal
 

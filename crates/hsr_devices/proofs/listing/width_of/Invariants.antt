@@ -1,6 +1,6 @@
 use Rattle.std.proofs.Common.{◌≡◌, drop}
 use Rattle.std.specs.Prelude.{fold}
-use Rattle.hsr_order.specs.Fronts.{lists_of}
+use Rattle.hsr_timeline.specs.Fronts.{lists_of}
 use Rattle.hsr_devices.specs.Listing.{wider}
 use Rattle.hsr_devices.proofs.listing.width_of.Given as goal
 

@@ -1,5 +1,5 @@
 use Rattle.std.proofs.Common.{◌≡◌, ◌++◌, drop}
-use Rattle.hsr_order.specs.Fronts.{lists_of}
+use Rattle.hsr_timeline.specs.Fronts.{lists_of}
 use Rattle.hsr_explanation.specs.Lines.{lines_of}
 use Rattle.hsr_explanation.proofs.lines.put_explanation.Given as goal
 

@@ -1,9 +1,9 @@
 use Rattle.std.proofs.Common.{ℕ, ◌<◌, Bool, List, length, Option, Some, None, Result, Ok, Err, IfOk, IfErr, IfSome, inl, inr, string_bytes, rules}
 use Rattle.clap.specs.Words.{Text}
-use Rattle.hsr_plan_words.specs.Choices.{IfUsage, IsRefused, Says}
-use Rattle.hsr_plan_words.specs.declared.task.Task.{Task}
-use Rattle.hsr_plan_words.specs.declared.task.WordsFault.{WordsFault}
-use Rattle.hsr_plan_words.specs.declared.task.WordsFault.TheVariants.{Usage, Memory}
+use Rattle.hsr_cli.specs.Choices.{IfUsage, IsRefused, Says}
+use Rattle.hsr_cli.specs.declared.task.Task.{Task}
+use Rattle.hsr_cli.specs.declared.task.WordsFault.{WordsFault}
+use Rattle.hsr_cli.specs.declared.task.WordsFault.TheVariants.{Usage, Memory}
 use Rattle.hsr_plan.specs.Planning.{Answers, Plans}
 use Rattle.hsr_plan.proofs.planning.plan.Goals as goal
 

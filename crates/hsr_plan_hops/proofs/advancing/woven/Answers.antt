@@ -1,5 +1,5 @@
 use Rattle.std.proofs.Common.{◌∙◌, ap, lit<}
-use Rattle.hsr_plan_meaning.specs.Meaning.{Meaning}
+use Rattle.hsr_plan_schedule.specs.Meaning.{Meaning}
 use Rattle.hsr_plan_hops.proofs.Begun.{begun_first}
 use Rattle.hsr_plan_hops.proofs.advancing.woven.Goals as goal
 

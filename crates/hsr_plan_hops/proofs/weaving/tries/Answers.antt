@@ -1,5 +1,5 @@
 use Rattle.std.proofs.Common.{arith, ap, refl}
-use Rattle.hsr_plan_meaning.specs.Meaning.{Meaning}
+use Rattle.hsr_plan_schedule.specs.Meaning.{Meaning}
 use Rattle.hsr_plan_hops.proofs.Begun.{endless_at, goes_on_at}
 use Rattle.hsr_plan_hops.proofs.weaving.tries.Goals as goal
 

@@ -1,7 +1,7 @@
 use Rattle.std.proofs.Common.{◌≡◌, ◌∙◌, map, ap}
-use Rattle.hsr_closing.specs.Finished.{items_of}
-use Rattle.hsr_spans.specs.Views.{span_view}
-use Rattle.hsr_spans.proofs.Apart.{joined_again, whole_again}
+use Rattle.hsr_finished_run.specs.Finished.{items_of}
+use Rattle.hsr_world_links.specs.Views.{span_view}
+use Rattle.hsr_world_links.proofs.Apart.{joined_again, whole_again}
 use Rattle.hsr_ring.proofs.closing.closed_of.Goals as goal
 
 pub join-requires-clause-whole : goal.join-requires-clause-whole

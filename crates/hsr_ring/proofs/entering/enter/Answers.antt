@@ -1,10 +1,10 @@
 use Rattle.std.proofs.Common.{rules, ◌≡◌, List, Ok, map, sym, ap, ◌∙◌}
 use Rattle.hsr_node.specs.declared.entry.Entry.{Entry}
-use Rattle.hsr_world.specs.Spans.{Span}
-use Rattle.hsr_spans.specs.Giving.{given_span, receipt_of}
+use Rattle.hsr_world_laws.specs.Spans.{Span}
+use Rattle.hsr_world_links.specs.Giving.{given_span, receipt_of}
 use Rattle.hsr_ring.specs.Views.{world_of}
 use Rattle.hsr_ring.proofs.Entered.{entered_ok, same_place}
-use Rattle.hsr_spans.proofs.Touched.{rising_of}
+use Rattle.hsr_world_links.proofs.Touched.{rising_of}
 use Rattle.hsr_ring.proofs.entering.enter.Goals as goal
 
 pub entry_at-requires : goal.entry_at-requires

@@ -1,6 +1,6 @@
 use Rattle.std.specs.Prelude.{ℕ, ◌<◌, slice_index_or}
 use Rattle.hsr_node.specs.declared.place.Place.{Place}
-use Rattle.hsr_world.specs.Fit.{FitsPlace}
+use Rattle.hsr_world_laws.specs.Fit.{FitsPlace}
 use Rattle.hsr_ring.proofs.fit.places_fit.Given as goal
 
 -- those that were seen

@@ -1,8 +1,8 @@
 use Rattle.std.proofs.Common.{◌≡◌, ◌*◌, ◌<◌, ℕ, nat_lt, map}
 use Rattle.std.specs.Prelude.{◌&&◌, not, if◌then◌else◌}
-use Rattle.hsr_numbers.specs.Numbers.{has}
-use Rattle.hsr_spans.specs.Ports.{is_waiting}
-use Rattle.hsr_spans.specs.Views.{span_view}
+use Rattle.hsr_bitset.specs.Numbers.{has}
+use Rattle.hsr_world_links.specs.Ports.{is_waiting}
+use Rattle.hsr_world_links.specs.Views.{span_view}
 use Rattle.hsr_ring.proofs.pending.look_at_node.Given as goal
 
 abbrev pub invariant-loop-number : goal.invariant-loop-number

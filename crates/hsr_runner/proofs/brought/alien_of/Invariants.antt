@@ -1,5 +1,5 @@
 use Rattle.std.proofs.Common.{◌≡◌, ◌<◌, ℕ, None}
-use Rattle.hsr_law.specs.Run.{record_of}
+use Rattle.hsr_run_laws.specs.Run.{record_of}
 use Rattle.hsr_runner.specs.Brought.{first_alien}
 use Rattle.hsr_runner.proofs.brought.alien_of.Given as goal
 

@@ -1,5 +1,5 @@
 use Rattle.std.proofs.Common.{rules}
-use Rattle.hsr_transcript_text.specs.Plain.{plain_view}
+use Rattle.hsr_transcript.specs.Plain.{plain_view}
 use Rattle.hsr_transcript.proofs.Answered.{judged_unlike, order_told}
 use Rattle.hsr_transcript.proofs.judge.judge.Goals as goal
 

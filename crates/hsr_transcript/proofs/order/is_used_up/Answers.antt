@@ -1,8 +1,8 @@
 use Rattle.std.proofs.Common.{◌≡◌, ◌∙◌, [], drop, map, get_or, ap, sym, subst}
 use Rattle.std.specs.Prelude.{filter_map}
 use Rattle.std.proofs.lemmas.List.{get_or-map}
-use Rattle.hsr_closing.specs.Finished.{planned_by}
-use Rattle.hsr_transcript_text.specs.Items.{entry_items}
+use Rattle.hsr_finished_run.specs.Finished.{planned_by}
+use Rattle.hsr_transcript.specs.Items.{entry_items}
 use Rattle.hsr_transcript.proofs.Orders.{next_some}
 use Rattle.hsr_transcript.proofs.order.is_used_up.Goals as goal
 

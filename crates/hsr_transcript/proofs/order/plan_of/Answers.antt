@@ -2,7 +2,7 @@ use Rattle.std.proofs.Common.{◌≡◌, ◌+◌, ◌∷◌, ◌++◌, ◌∙◌
 use Rattle.std.proofs.lemmas.Grind.{common_steps}
 use Rattle.std.proofs.lemmas.List.{drop_all}
 use Rattle.hsr_transcript.specs.Order.{Turned}
-use Rattle.hsr_transcript_text.specs.Items.{entry_items}
+use Rattle.hsr_transcript.specs.Items.{entry_items}
 use Rattle.hsr_transcript_lines.proofs.Grown.{drop_next}
 use Rattle.hsr_transcript.proofs.Orders.{way_on, way_stops, way_leaves}
 use Rattle.hsr_transcript.proofs.order.plan_of.Goals as goal

@@ -1,6 +1,6 @@
 use Rattle.std.proofs.Common.{◌≡◌, length, drop, map}
 use Rattle.hsr_transcript.proofs.Orders.{OnTheWay}
-use Rattle.hsr_transcript_text.specs.Items.{entry_items}
+use Rattle.hsr_transcript.specs.Items.{entry_items}
 use Rattle.hsr_transcript.proofs.order.plan_of.Given as goal
 
 abbrev pub invariant-loop-turn : goal.invariant-loop-turn

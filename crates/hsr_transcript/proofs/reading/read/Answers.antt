@@ -1,5 +1,5 @@
 use Rattle.std.proofs.Common.{Err, arith, refl}
-use Rattle.hsr_transcript_text.specs.Plain.{plain_view}
+use Rattle.hsr_transcript.specs.Plain.{plain_view}
 use Rattle.hsr_transcript.specs.Judged.{standing_of}
 use Rattle.hsr_transcript.proofs.Answered.{closes_again, closes_answers, form_again, form_fault, judged_again}
 use Rattle.hsr_transcript.proofs.EarlierTexts.{earlier_again}

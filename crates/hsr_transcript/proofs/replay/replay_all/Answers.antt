@@ -1,53 +1,39 @@
-use Rattle.std.proofs.Common.{◌≡◌, ◌+◌, ◌<◌, ◌^◌, ◌∙◌, [], ◌∷◌, ◌++◌, length, take, get_or, map, ap, sym, subst, arith}
+use Rattle.std.proofs.Common.{◌≡◌, ◌+◌, ◌<◌, ◌∙◌, [], ◌∷◌, ◌++◌, length, take, get_or, map, ap, sym, subst, arith}
 use Rattle.std.proofs.lemmas.Grind.{common_steps}
 use Rattle.std.proofs.lemmas.List.{length-map}
 use Rattle.std.proofs.lemmas.List.Elements.{All-get_or}
 use Rattle.hsr_node.specs.Place.{HasOwnAddress}
 use Rattle.hsr_node.specs.declared.place.Place.{Place}
-use Rattle.hsr_transcript_text.specs.Items.{entry_items}
+use Rattle.hsr_transcript.specs.Items.{entry_items}
 use Rattle.hsr_transcript_lines.specs.Lines.{line_count}
 use Rattle.hsr_transcript.specs.Replay.{AreLegal}
-use Rattle.hsr_transcript.proofs.Moved.{left_next, same_there}
-use Rattle.hsr_transcript.proofs.ReplayAll.{count_next, held, legal_push, lines_fit, replayed_next, unlike_first}
+use Rattle.hsr_transcript.proofs.Moved.{held_next, left_next, next_fits}
+use Rattle.hsr_transcript.proofs.ReplayAll.{count_next, legal_push, replayed_next, unlike_first}
 use Rattle.hsr_transcript.proofs.replay.replay_all.Goals as goal
 
 pub overflow_add-line : goal.overflow_add-line
 overflow_add-line g c =
-    let records = map entry_items c.args.records.now in
     let i = c.loop-i.i in
     let entries = c.as_mut_slice-entries.result.now in
-    let within : i < length c.args.records.now = omega (arith, c.requires.paired) in
-    let there = c.index-records-i.is ∙ same_there c.loop-i.records c.args.records.now i c.index-records-i.result (omega arith) within c.loop-i.invariant.left in
-    let count : length records ≡ length c.args.records.now = length-map c.args.records.now entry_items in
-    let here : get_or records i entries ≡ entries = held entry_items c.args.records.now i c.index-records-i.result entries within there (c.as_mut_slice-entries.ensures.value ∙ ap entry_items (sym c.index-records-i.is)) in
-    let most : c.loop-i.line + 1 + length entries < 2 ^ 64 = lines_fit records i c.args.first c.loop-i.line entries (omega (arith, count, c.requires.paired)) here c.loop-i.invariant.lined c.requires.lines in
-    omega arith
+    let most = next_fits entry_items c.loop-i.records c.args.records.now i c.args.first c.loop-i.line c.index-records-i.result entries (omega arith) (omega (arith, c.requires.paired)) c.loop-i.invariant.left c.index-records-i.is
+    (c.as_mut_slice-entries.ensures.value ∙ ap entry_items (sym c.index-records-i.is)) c.loop-i.invariant.lined c.requires.lines in omega (arith, most)
 
 pub replay-requires : goal.replay-requires
 replay-requires g c =
-    let records = map entry_items c.args.records.now in
     let i = c.loop-i.i in
     let entries = c.as_mut_slice-entries.result.now in
-    let within : i < length c.args.records.now = omega (arith, c.requires.paired) in
-    let there = c.index-records-i.is ∙ same_there c.loop-i.records c.args.records.now i c.index-records-i.result (omega arith) within c.loop-i.invariant.left in
-    let count : length records ≡ length c.args.records.now = length-map c.args.records.now entry_items in
-    let here : get_or records i entries ≡ entries = held entry_items c.args.records.now i c.index-records-i.result entries within there (c.as_mut_slice-entries.ensures.value ∙ ap entry_items (sym c.index-records-i.is)) in
-    let most : c.loop-i.line + 1 + length entries < 2 ^ 64 = lines_fit records i c.args.first c.loop-i.line entries (omega (arith, count, c.requires.paired)) here c.loop-i.invariant.lined c.requires.lines in
+    let most = next_fits entry_items c.loop-i.records c.args.records.now i c.args.first c.loop-i.line c.index-records-i.result entries (omega arith) (omega (arith, c.requires.paired)) c.loop-i.invariant.left c.index-records-i.is
+    (c.as_mut_slice-entries.ensures.value ∙ ap entry_items (sym c.index-records-i.is)) c.loop-i.invariant.lined c.requires.lines in
     let own : HasOwnAddress c.in-Ok.place =
     subst HasOwnAddress (sym c.index-places-i.is ∙ sym c.in-Ok.ensures) (All-get_or HasOwnAddress c.args.places.now i c.index-places-i.result c.loop-i-test.true c.requires.stations) in
-    (omega arith, (own, (c.requires.capacity, most)))
+    (omega (arith, most), (own, (c.requires.capacity, most)))
 
 pub overflow_add-line-in-Ok-replay-2 : goal.overflow_add-line-in-Ok-replay-2
 overflow_add-line-in-Ok-replay-2 g c =
-    let records = map entry_items c.args.records.now in
     let i = c.loop-i.i in
     let entries = c.as_mut_slice-entries.result.now in
-    let within : i < length c.args.records.now = omega (arith, c.requires.paired) in
-    let there = c.index-records-i.is ∙ same_there c.loop-i.records c.args.records.now i c.index-records-i.result (omega arith) within c.loop-i.invariant.left in
-    let count : length records ≡ length c.args.records.now = length-map c.args.records.now entry_items in
-    let here : get_or records i entries ≡ entries = held entry_items c.args.records.now i c.index-records-i.result entries within there (c.as_mut_slice-entries.ensures.value ∙ ap entry_items (sym c.index-records-i.is)) in
-    let most : c.loop-i.line + 1 + length entries < 2 ^ 64 = lines_fit records i c.args.first c.loop-i.line entries (omega (arith, count, c.requires.paired)) here c.loop-i.invariant.lined c.requires.lines in
-    omega arith
+    let most = next_fits entry_items c.loop-i.records c.args.records.now i c.args.first c.loop-i.line c.index-records-i.result entries (omega arith) (omega (arith, c.requires.paired)) c.loop-i.invariant.left c.index-records-i.is
+    (c.as_mut_slice-entries.ensures.value ∙ ap entry_items (sym c.index-records-i.is)) c.loop-i.invariant.lined c.requires.lines in omega (arith, most)
 
 pub returns-in-Err : goal.returns-in-Err
 returns-in-Err g c =
@@ -55,8 +41,8 @@ returns-in-Err g c =
     let i = c.loop-i.i in
     let entries = c.as_mut_slice-entries.result.now in
     let within : i < length c.args.records.now = omega (arith, c.requires.paired) in
-    let there = c.index-records-i.is ∙ same_there c.loop-i.records c.args.records.now i c.index-records-i.result (omega arith) within c.loop-i.invariant.left in
-    let here : get_or records i entries ≡ entries = held entry_items c.args.records.now i c.index-records-i.result entries within there (c.as_mut_slice-entries.ensures.value ∙ ap entry_items (sym c.index-records-i.is)) in
+    let here : get_or records i entries ≡ entries = held_next entry_items c.loop-i.records c.args.records.now i c.index-records-i.result entries (omega arith) within c.loop-i.invariant.left c.index-records-i.is
+    (c.as_mut_slice-entries.ensures.value ∙ ap entry_items (sym c.index-records-i.is)) in
     let place : get_or c.args.places.now i c.in-Ok.place ≡ c.in-Ok.place =
     subst (λ (p : Place). get_or c.args.places.now i p ≡ p) (sym c.in-Ok.ensures) (sym c.index-places-i.is) in
     unlike_first g.row.C c.args.places.now records c.loop-i.kept.items c.args.first c.loop-i.line i c.in-Ok.place entries c.in-Err.fault c.loop-i-test.true place here
@@ -68,9 +54,9 @@ loop-i-preserved g c =
     let i = c.loop-i.i in
     let entries = c.as_mut_slice-entries.result.now in
     let within : i < length c.args.records.now = omega (arith, c.requires.paired) in
-    let there = c.index-records-i.is ∙ same_there c.loop-i.records c.args.records.now i c.index-records-i.result (omega arith) within c.loop-i.invariant.left in
     let count : length records ≡ length c.args.records.now = length-map c.args.records.now entry_items in
-    let here : get_or records i entries ≡ entries = held entry_items c.args.records.now i c.index-records-i.result entries within there (c.as_mut_slice-entries.ensures.value ∙ ap entry_items (sym c.index-records-i.is)) in
+    let here : get_or records i entries ≡ entries = held_next entry_items c.loop-i.records c.args.records.now i c.index-records-i.result entries (omega arith) within c.loop-i.invariant.left c.index-records-i.is
+    (c.as_mut_slice-entries.ensures.value ∙ ap entry_items (sym c.index-records-i.is)) in
     let place : get_or c.args.places.now i c.in-Ok.place ≡ c.in-Ok.place =
     subst (λ (p : Place). get_or c.args.places.now i p ≡ p) (sym c.in-Ok.ensures) (sym c.index-places-i.is) in
     let pushed : c.push.new.self.items ≡ c.loop-i.kept.items ++ c.in-Ok-replay.node ∷ [] = grind (arith, common_steps) in

@@ -1,5 +1,5 @@
 use Rattle.std.proofs.Common.{◌≡◌, ◌+◌, drop, map, take}
-use Rattle.hsr_transcript_text.specs.Items.{entry_items}
+use Rattle.hsr_transcript.specs.Items.{entry_items}
 use Rattle.hsr_transcript_lines.specs.Lines.{line_count}
 use Rattle.hsr_transcript.specs.Replay.{AreLegal, records_from}
 use Rattle.hsr_transcript.proofs.replay.replay_all.Given as goal

@@ -17,10 +17,10 @@ returns-clause-sure c = λ sure place.
     let dst : upper_text c.in_ok-address.address.now ≡ address_text c.in_ok-dst.dst =
     ok_told (λ m. upper_text c.in_ok-address.address.now ≡ address_text m) c.from_ascii.result c.in_ok-dst.dst (search rules) c.from_ascii.ensures.found in
     let vlan : read_vlan c.in_ok-control.control.now ≡ Some c.in_ok-vlan.vlan = search rules in
-    let kind : hex_pair_of c.in_ok-pair.pair.now ≡ Some c.in_ok-kind.kind = search rules in
+    let ethertype : hex_pair_of c.in_ok-pair.pair.now ≡ Some c.in_ok-ethertype.ethertype = search rules in
     let payload : hex_octets_of c.in_ok-digits.digits.now ≡ Some c.new-payload.result = search rules in
     let last = and_parts _ _ sure in
     let third_upper = and_parts _ _ last.0 in
     let others = and_parts _ _ third_upper.0 in
-    send_sure place _ _ _ _ _ _ _ _ _ _ _ c.in_ok-from-2.from c.in_ok-dst.dst c.in_ok-vlan.vlan c.in_ok-kind.kind c.new-payload.result first second third fourth fifth from dst vlan kind payload
+    send_sure place _ _ _ _ _ _ _ _ _ _ _ c.in_ok-from-2.from c.in_ok-dst.dst c.in_ok-vlan.vlan c.in_ok-ethertype.ethertype c.new-payload.result first second third fourth fifth from dst vlan ethertype payload
     (sym c.is_upper.ensures ∙ others.0) (sym c.is_upper-2.ensures ∙ others.1) (sym c.is_upper-3.ensures ∙ third_upper.1) (sym c.is_upper-4.ensures ∙ last.1)

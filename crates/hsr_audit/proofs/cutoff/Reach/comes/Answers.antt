@@ -1,6 +1,6 @@
 use Rattle.std.proofs.Common.{rules, ◌≡◌, ◌<◌, ◌∙◌, true, length, sym}
 use Rattle.hsr_link.specs.declared.row.Dir.TheVariants.{Forth, Back}
-use Rattle.hsr_law.specs.Run.{Run, place_of}
+use Rattle.hsr_run_laws.specs.Run.{Run, place_of}
 use Rattle.hsr_audit.specs.Coming.{is_to_station}
 use Rattle.hsr_audit.proofs.Coming.{found_same, none_more, none_same}
 use Rattle.hsr_audit.proofs.cutoff.Reach.comes.Goals as goal

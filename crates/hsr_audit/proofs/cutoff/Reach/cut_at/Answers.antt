@@ -1,7 +1,7 @@
 use Rattle.std.proofs.Common.{◌≡◌, ◌∙◌, ℕ, Option, Some, sym, ap, subst}
 use Rattle.hsr_node.specs.Flow.{send_at}
 use Rattle.hsr_node.specs.declared.sending.Sending.{Sending}
-use Rattle.hsr_law.specs.Run.{Run, past_of, place_of}
+use Rattle.hsr_run_laws.specs.Run.{Run, past_of, place_of}
 use Rattle.hsr_audit.proofs.Reached.{cut_at, served_none}
 use Rattle.hsr_audit.proofs.cutoff.Reach.cut_at.Goals as goal
 

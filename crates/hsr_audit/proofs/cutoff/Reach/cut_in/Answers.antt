@@ -1,5 +1,5 @@
 use Rattle.std.proofs.Common.{ℕ, Option, subst}
-use Rattle.hsr_law.specs.Run.{Run}
+use Rattle.hsr_run_laws.specs.Run.{Run}
 use Rattle.hsr_audit.specs.Sends.{IsServedAt}
 use Rattle.hsr_audit.specs.Reaching.{IsCutAt}
 use Rattle.hsr_audit.proofs.Placing.{holds_more}

@@ -1,5 +1,5 @@
 use Rattle.std.proofs.Common.{ℕ, Option, length, subst}
-use Rattle.hsr_law.specs.Run.{Run, record_of}
+use Rattle.hsr_run_laws.specs.Run.{Run, record_of}
 use Rattle.hsr_audit.specs.Sends.{IsServedAt}
 use Rattle.hsr_audit.specs.Placed.{HoldsBelow}
 use Rattle.hsr_audit.specs.Reaching.{IsCutIn}

@@ -3,8 +3,8 @@ use Rattle.std.proofs.lemmas.Bool.{false≢true}
 use Rattle.hsr_frame.specs.Grammar.{Fields}
 use Rattle.hsr_node.specs.declared.place.Place.{Place}
 use Rattle.hsr_deliveries.specs.Delivered.{is_due, is_for}
-use Rattle.hsr_law.specs.Run.{Run, place_of}
-use Rattle.hsr_needed.proofs.Walking.{place_at}
+use Rattle.hsr_run_laws.specs.Run.{Run, place_of}
+use Rattle.hsr_table_demand.proofs.Walking.{place_at}
 use Rattle.hsr_audit.specs.Coming.{Comes}
 use Rattle.hsr_audit.proofs.Reached.{due_more}
 use Rattle.hsr_audit.proofs.cutoff.Reach.first_unserved.Goals as goal

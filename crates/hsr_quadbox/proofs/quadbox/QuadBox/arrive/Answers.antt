@@ -1,8 +1,8 @@
 use Rattle.std.proofs.Common.{arith, ap, true, ◌≤◌, ◌∙◌}
-use Rattle.hsr_role.specs.Tables.{Notes, copies_of}
-use Rattle.hsr_role.specs.declared.judged.Judged.{Judged}
-use Rattle.hsr_role.proofs.Counts.{AreWithin-arrived}
-use Rattle.hsr_role.proofs.Keeping.{AreEarlier-within, AreRoomy-within, AreWithin-passed, passed-there}
+use Rattle.hsr_forwarding.specs.Tables.{Notes, copies_of}
+use Rattle.hsr_forwarding.specs.declared.judged.Judged.{Judged}
+use Rattle.hsr_forwarding.proofs.Counts.{AreWithin-arrived}
+use Rattle.hsr_forwarding.proofs.Keeping.{AreEarlier-within, AreRoomy-within, AreWithin-passed, passed-there}
 use Rattle.hsr_quadbox.specs.Machine.{Machine}
 use Rattle.hsr_quadbox.proofs.Steps.{arrive-accepted, arrive-spent, copies-few, wanted-among}
 use Rattle.hsr_quadbox.proofs.quadbox.QuadBox.arrive.Goals as goal

@@ -1,9 +1,9 @@
 use Rattle.std.proofs.Common.{◌<◌, ◌≡◌, ◌≤◌, ap, arith, subst, true}
 use Rattle.hsr_frame.specs.Counters.{step_limit}
 use Rattle.hsr_tables.specs.Proxies.{is_known}
-use Rattle.hsr_role.specs.Tables.{copies_of}
-use Rattle.hsr_role.specs.declared.judged.Judged.{Judged}
-use Rattle.hsr_role.proofs.Counts.{AreWithin-arrived}
+use Rattle.hsr_forwarding.specs.Tables.{copies_of}
+use Rattle.hsr_forwarding.specs.declared.judged.Judged.{Judged}
+use Rattle.hsr_forwarding.proofs.Counts.{AreWithin-arrived}
 use Rattle.hsr_redbox.specs.Machine.{Machine}
 use Rattle.hsr_redbox.specs.Step.{after_interlink}
 use Rattle.hsr_redbox.proofs.Steps.{copies-handled, interlink-fits, interlink-step}

@@ -2,12 +2,12 @@ use Rattle.std.proofs.Common.{Bool, Some, ◌≡◌, ◌≤◌, ◌<◌, ◌+◌
 use Rattle.hsr_frame.specs.Counters.{step_limit}
 use Rattle.hsr_tables.specs.Nodes.{Nodes}
 use Rattle.hsr_tables.specs.Proxies.{is_known}
-use Rattle.hsr_role.specs.Tables.{Notes, copies_of}
-use Rattle.hsr_role.specs.declared.judged.Judged.{Judged}
-use Rattle.hsr_role.proofs.Arrivals.{heard_of-last}
-use Rattle.hsr_role.proofs.Counts.{AreWithin-arrived}
-use Rattle.hsr_role.proofs.Keeping.{AreEarlier-within, AreRoomy-within, AreWithin-passed, passed-there}
-use Rattle.hsr_role.proofs.Wants.{wanted-among, wanted-few}
+use Rattle.hsr_forwarding.specs.Tables.{Notes, copies_of}
+use Rattle.hsr_forwarding.specs.declared.judged.Judged.{Judged}
+use Rattle.hsr_forwarding.proofs.Arrivals.{heard_of-last}
+use Rattle.hsr_forwarding.proofs.Counts.{AreWithin-arrived}
+use Rattle.hsr_forwarding.proofs.Keeping.{AreEarlier-within, AreRoomy-within, AreWithin-passed, passed-there}
+use Rattle.hsr_forwarding.proofs.Wants.{wanted-among, wanted-few}
 use Rattle.hsr_redbox.specs.Machine.{Machine}
 use Rattle.hsr_redbox.specs.Step.{after_ring}
 use Rattle.hsr_redbox.proofs.Steps.{ring-step}

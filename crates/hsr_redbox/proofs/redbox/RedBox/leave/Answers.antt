@@ -1,7 +1,7 @@
 use Rattle.std.proofs.Common.{◌≤◌, ◌<◌, ◌∙◌, ap, arith}
 use Rattle.hsr_frame.specs.Counters.{step_limit}
-use Rattle.hsr_role.specs.Tables.{Notes}
-use Rattle.hsr_role.proofs.Keeping.{AreEarlier-within, AreRoomy-within}
+use Rattle.hsr_forwarding.specs.Tables.{Notes}
+use Rattle.hsr_forwarding.proofs.Keeping.{AreEarlier-within, AreRoomy-within}
 use Rattle.hsr_redbox.proofs.Steps.{marked-there, notes-marked}
 use Rattle.hsr_redbox.proofs.redbox.RedBox.leave.Goals as goal
 

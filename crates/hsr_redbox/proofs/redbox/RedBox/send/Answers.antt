@@ -8,7 +8,7 @@ use Rattle.hsr_redbox.proofs.redbox.RedBox.send.Goals as goal
 
 pub returns-in-Some-clause-step : goal.returns-in-Some-clause-step
 returns-in-Some-clause-step g c =
-    rw (← c.self.view_is) (send-refused g.row.C _ c.args.at c.args.dst c.args.kind (length c.args.payload.now) c.in-Some.fault c.in-Some.ensures.fault)
+    rw (← c.self.view_is) (send-refused g.row.C _ c.args.at c.args.dst c.args.ethertype (length c.args.payload.now) c.in-Some.fault c.in-Some.ensures.fault)
 
 pub leave-requires : goal.leave-requires
 leave-requires g c = rw (← c.self.view_is) (
@@ -18,7 +18,7 @@ leave-requires g c = rw (← c.self.view_is) (
     (
       omega (arith, c.max-now.ensures),
       (
-        rw c.send_handling-handling.ensures (send-fits c.self.inside.own (is_known c.max-now.result c.self.inside.proxies.heard) c.args.dst c.args.kind).0,
+        rw c.send_handling-handling.ensures (send-fits c.self.inside.own (is_known c.max-now.result c.self.inside.proxies.heard) c.args.dst c.args.ethertype).0,
         record { up = omega (arith, c.self.invariant.counters.up); forwarded = omega (arith, c.self.invariant.counters.forwarded); others = omega (arith, c.self.invariant.counters.others) },
       ),
     ),
@@ -31,7 +31,7 @@ returns-clause-step g c =
     let h = c.send_handling-handling.result in
     let counters : Counters = record c.self.inside.counters { sent = c.self.inside.counters.sent + 1 } in
     rw c.number_of.ensures
-    (subst (λ (m : Machine). c.leave.new.self ≡ after_frame g.row.C m c.max-now.result h.wants.exits h.source counters → (Ok (sent_of h c.self.inside.next), c.leave.new.self) ≡ send_step g.row.C m c.args.at c.args.dst c.args.kind (length c.args.payload.now)) c.self.view_is
-    (send-accepted g.row.C machine c.args.at c.args.dst c.args.kind (length c.args.payload.now) c.max-now.result h c.leave.new.self
+    (subst (λ (m : Machine). c.leave.new.self ≡ after_frame g.row.C m c.max-now.result h.wants.exits h.source counters → (Ok (sent_of h c.self.inside.next), c.leave.new.self) ≡ send_step g.row.C m c.args.at c.args.dst c.args.ethertype (length c.args.payload.now)) c.self.view_is
+    (send-accepted g.row.C machine c.args.at c.args.dst c.args.ethertype (length c.args.payload.now) c.max-now.result h c.leave.new.self
     c.in_default.ensures.fault c.max-now.ensures c.send_handling-handling.ensures)
     c.leave.ensures)

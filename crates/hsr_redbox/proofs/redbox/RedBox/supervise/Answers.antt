@@ -1,7 +1,7 @@
 use Rattle.std.proofs.Common.{◌≡◌, ◌+◌, ◌%◌, [], ◌∷◌, subst, Ok, Some}
 use Rattle.hsr_frame.specs.Egress.{a, b, exits_of}
 use Rattle.hsr_frame.specs.declared.counters.Counters.{Counters}
-use Rattle.hsr_role.specs.Numbers.{number_range}
+use Rattle.hsr_forwarding.specs.Numbers.{number_range}
 use Rattle.hsr_redbox.specs.Machine.{Machine}
 use Rattle.hsr_redbox.specs.Step.{after_frame, life_step}
 use Rattle.hsr_redbox.proofs.Steps.{life-accepted, life-refused}

@@ -1,9 +1,9 @@
 use Rattle.std.proofs.Common.{rules, ◌<◌, ◌∙◌, ap, sym, subst, arith, length, map}
 use Rattle.std.proofs.lemmas.List.{length-map}
 use Rattle.hsr_node.specs.Kept.{Record}
-use Rattle.hsr_spans.specs.Touching.{touching_from}
-use Rattle.hsr_world.specs.World.{World}
-use Rattle.hsr_spans.proofs.Touched.{touching_at}
+use Rattle.hsr_world_links.specs.Touching.{touching_from}
+use Rattle.hsr_world_laws.specs.World.{World}
+use Rattle.hsr_world_links.proofs.Touched.{touching_at}
 use Rattle.hsr_ring.proofs.running.Running.by_main.Goals as goal
 
 pub enter_at-requires : goal.enter_at-requires

@@ -1,5 +1,5 @@
 use Rattle.std.proofs.Common.{map}
-use Rattle.hsr_spans.specs.Views.{span_view}
+use Rattle.hsr_world_links.specs.Views.{span_view}
 use Rattle.hsr_ring.proofs.Ending.{closes, stays_open}
 use Rattle.hsr_ring.proofs.running.Running.close.Goals as goal
 

@@ -1,15 +1,15 @@
 use Rattle.std.proofs.Common.{rules, ℕ, ◌<◌, refl, sym, ap, ◌∙◌, inr, length, map, Ok, None, option_map, subst}
 use Rattle.hsr_topology.specs.declared.end.End.{End}
 use Rattle.hsr_node.specs.declared.event.Event.TheVariants as event
-use Rattle.hsr_world.specs.World.{World, entered}
-use Rattle.hsr_spans.specs.Views.{spot_view}
-use Rattle.hsr_spans.specs.declared.port.Port.{Port}
-use Rattle.hsr_spans.proofs.Places.{or_map}
+use Rattle.hsr_world_laws.specs.World.{World, entered}
+use Rattle.hsr_world_links.specs.Views.{spot_view}
+use Rattle.hsr_world_links.specs.declared.port.Port.{Port}
+use Rattle.hsr_world_links.proofs.Places.{or_map}
 use Rattle.hsr_ring.proofs.Entered.{cleared_result, judged_none}
 use Rattle.hsr_ring.proofs.Hands.{held_again, holds_nothing, judged_from, same_hand}
-use Rattle.hsr_spans.proofs.Ports.{ends_at, into_there, is_there}
+use Rattle.hsr_world_links.proofs.Ports.{ends_at, into_there, is_there}
 use Rattle.hsr_ring.proofs.Ends.{entered_ends}
-use Rattle.hsr_spans.proofs.Touched.{hand_ends, touching_at, touching_same}
+use Rattle.hsr_world_links.proofs.Touched.{hand_ends, touching_at, touching_same}
 use Rattle.hsr_ring.proofs.Tried.{judge_is, judge_refused}
 use Rattle.hsr_ring.proofs.running.Running.judge.Goals as goal
 

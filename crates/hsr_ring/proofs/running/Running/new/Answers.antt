@@ -1,9 +1,9 @@
 use Rattle.std.proofs.Common.{ap, ◌∙◌, map, List}
 use Rattle.hsr_ring.specs.Starting.{new_records}
-use Rattle.hsr_spans.specs.Views.{span_view}
+use Rattle.hsr_world_links.specs.Views.{span_view}
 use Rattle.hsr_ring.specs.Views.{world_of}
-use Rattle.hsr_world.specs.World.{new_span}
-use Rattle.hsr_closing.specs.declared.planned.Planned.{Planned}
+use Rattle.hsr_world_laws.specs.World.{new_span}
+use Rattle.hsr_finished_run.specs.declared.planned.Planned.{Planned}
 use Rattle.hsr_ring.proofs.Started.{new_numbered, new_world_is}
 use Rattle.hsr_ring.proofs.running.Running.new.Goals as goal
 

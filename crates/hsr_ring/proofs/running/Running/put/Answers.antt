@@ -1,11 +1,11 @@
 use Rattle.std.proofs.Common.{refl, sym, ap, ◌∙◌, inr, Option, option_map}
-use Rattle.hsr_spans.proofs.Places.{err_map, ok_map, or_map}
+use Rattle.hsr_world_links.proofs.Places.{err_map, ok_map, or_map}
 use Rattle.hsr_ring.proofs.Tried.{put_is, put_refused}
-use Rattle.hsr_spans.proofs.Ports.{is_there, out_there}
+use Rattle.hsr_world_links.proofs.Ports.{is_there, out_there}
 use Rattle.hsr_ring.specs.Views.{in_world}
-use Rattle.hsr_spans.specs.Views.{put_at_spot, spot_view}
-use Rattle.hsr_spans.specs.declared.port.Port.{Port}
-use Rattle.hsr_world.specs.Spans.{Spot}
+use Rattle.hsr_world_links.specs.Views.{put_at_spot, spot_view}
+use Rattle.hsr_world_links.specs.declared.port.Port.{Port}
+use Rattle.hsr_world_laws.specs.Spans.{Spot}
 use Rattle.hsr_ring.proofs.running.Running.put.Goals as goal
 
 pub returns-in-Some-clause-err : goal.returns-in-Some-clause-err

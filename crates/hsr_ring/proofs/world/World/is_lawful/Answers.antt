@@ -1,7 +1,7 @@
 use Rattle.std.proofs.Common.{subst}
-use Rattle.hsr_world.specs.Lawful.{IsLawful}
-use Rattle.hsr_world.specs.World.{World}
-use Rattle.hsr_world.proofs.Lawful.{lawful}
+use Rattle.hsr_world_laws.specs.Lawful.{IsLawful}
+use Rattle.hsr_world_laws.specs.World.{World}
+use Rattle.hsr_world_laws.proofs.Lawful.{lawful}
 use Rattle.hsr_ring.proofs.world.World.is_lawful.Goals as goal
 
 pub returns : goal.returns

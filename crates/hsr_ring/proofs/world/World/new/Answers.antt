@@ -2,11 +2,11 @@ use Rattle.std.proofs.Common.{List, length, map, subst, sym, ap, ◌∙◌}
 use Rattle.std.specs.List.{All}
 use Rattle.hsr_node.specs.declared.place.Place.{Place}
 use Rattle.hsr_ring.specs.Pending.{IsKept}
-use Rattle.hsr_spans.specs.Ports.{ports_in}
-use Rattle.hsr_spans.specs.Touching.{touching_in}
-use Rattle.hsr_world.specs.Fit.{FitsPlace}
-use Rattle.hsr_world.specs.World.{World}
-use Rattle.hsr_world.proofs.Reached.{reached-new}
+use Rattle.hsr_world_links.specs.Ports.{ports_in}
+use Rattle.hsr_world_links.specs.Touching.{touching_in}
+use Rattle.hsr_world_laws.specs.Fit.{FitsPlace}
+use Rattle.hsr_world_laws.specs.World.{World}
+use Rattle.hsr_world_laws.proofs.Reached.{reached-new}
 use Rattle.hsr_ring.proofs.Looked.{kept_new}
 use Rattle.hsr_ring.proofs.world.World.new.Goals as goal
 

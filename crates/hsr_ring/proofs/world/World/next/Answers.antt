@@ -1,5 +1,5 @@
 use Rattle.std.proofs.Common.{ap, ◌∙◌}
-use Rattle.hsr_world.specs.World.{World, next_step}
+use Rattle.hsr_world_laws.specs.World.{World, next_step}
 use Rattle.hsr_ring.proofs.Next.{next_is}
 use Rattle.hsr_ring.proofs.world.World.next.Goals as goal
 

@@ -1,6 +1,6 @@
 use Rattle.std.proofs.Common.{◌+◌, ◌∷◌, List, ap, drop, sym, ◌∙◌}
 use Rattle.std.proofs.lemmas.List.{drop_more}
-use Rattle.hsr_step.specs.declared.step.Step.{Step}
+use Rattle.hsr_world_steps.specs.declared.step.Step.{Step}
 use Rattle.hsr_ring.proofs.Stopped.{run_stops, run_turn}
 use Rattle.hsr_ring.proofs.world.World.run.Goals as goal
 

@@ -1,7 +1,7 @@
 use Rattle.std.proofs.Common.{List, map, subst, sym}
 use Rattle.hsr_ring.specs.Pending.{AreLooked, IsKept}
-use Rattle.hsr_spans.specs.declared.port.Port.{Port}
-use Rattle.hsr_world.specs.World.{World}
+use Rattle.hsr_world_links.specs.declared.port.Port.{Port}
+use Rattle.hsr_world_laws.specs.World.{World}
 use Rattle.hsr_ring.proofs.Looked.{kept_done}
 use Rattle.hsr_ring.proofs.world.World.step.Goals as goal
 

@@ -1,0 +1,132 @@
+-- What a parse found, by the walk of its command.
+use Rattle.std.proofs.Common.{◌≡◌, ◌≢◌, ◌<◌, inl, inr, ⊎_elim, string_bytes, List, [], ◌∷◌, length, Option, Some, None, IfNone, IfSome, refl, sym, ap, subst, ◌∙◌, codes, arith, Bool, true, false}
+use Rattle.clap.specs.Kinds.{HasKind, IsAmong, Kinds}
+use Rattle.clap.specs.Words.{App, Row, Text, fault_of, first_of, is_simple, is_simple_and_free, kind_of, subcommand_of}
+use Rattle.clap.specs.declared.error.Error.{Error}
+use Rattle.clap.specs.declared.error.kind.ErrorKind.TheVariants.{OutOfMemory}
+use Rattle.hsr_cli.specs.Options.{Chosen, ChosenIn, IfUsage, IsAsked, IsBench, IsForm, IsRefused, IsShowing, IsTaken, ListsModes, ListsTables, ListsUnits, Says, SaysNothing, Listed, bench_app, flag_text, mac_usage}
+use Rattle.hsr_frame.specs.Words.{mode_of, mode_word}
+use Rattle.hsr_frame.specs.declared.node.Mode.{Mode}
+use Rattle.hsr_frame.specs.declared.node.Mode.TheVariants.{H, N, U}
+use Rattle.hsr_text.proofs.Units.{unit_again}
+use Rattle.hsr_text.specs.Moments.{unit_of, unit_word}
+use Rattle.hsr_text.specs.declared.time_unit.TimeUnit.{TimeUnit}
+use Rattle.hsr_duptable.proofs.Sizes.{table_again}
+use Rattle.hsr_duptable.specs.Sizes.{table_of, table_word}
+use Rattle.hsr_options.specs.declared.chosen.Showing.{Showing}
+use Rattle.hsr_options.specs.declared.chosen.Form.{Form}
+use Rattle.hsr_options.specs.declared.chosen.Form.TheVariants.{Transcript, Report}
+use Rattle.hsr_duptable.specs.declared.size.TableSize.{TableSize}
+use Rattle.hsr_options.specs.declared.chosen.Asked.{Asked}
+use Rattle.hsr_cli.specs.declared.fault.OptionFault.{OptionFault}
+use Rattle.hsr_cli.specs.declared.fault.OptionFault.TheVariants.{Usage, Memory}
+use Rattle.hsr_options.specs.declared.chosen.Options.{Options}
+use Rattle.hsr_options.specs.declared.chosen.Options.TheVariants.{Node, Run, Threads, Audit}
+
+-- equal look-ups choose the same
+asked_same : (f g : Text → Option Text) (asked : Asked) → ((id : Text) → f id ≡ g id) → IsAsked f asked → IsAsked g asked
+asked_same f g asked e h =
+    (sym (e (codes "deliveries")) ∙ h.0, sym (e (codes "needed")) ∙ h.1, sym (e (codes "budget")) ∙ h.2)
+
+form_same : (f g : Text → Option Text) (form : Form) → ((id : Text) → f id ≡ g id) → IsForm f form → IsForm g form
+form_same f g Transcript e h = sym (e (codes "transcript")) ∙ h
+form_same f g (Report asked) e h = (sym (e (codes "transcript")) ∙ h.0, asked_same f g asked e h.1)
+
+showing_same : (f g : Text → Option Text) (showing : Showing) → ((id : Text) → f id ≡ g id) → IsShowing f showing → IsShowing g showing
+showing_same f g showing e h = (sym (e (codes "network")) ∙ h.0, form_same f g showing.form e h.1)
+
+pub chosen_same : (name : Text) (f g : Text → Option Text) (o : Options) → ((id : Text) → f id ≡ g id) → Chosen name f o → Chosen name g o
+chosen_same name f g (Node node) e h =
+    (h.0, ((h.1.0.0, sym (e (codes "mac")) ∙ h.1.0.1, h.1.0.2), sym (e (codes "mode")) ∙ h.1.1, sym (e (codes "table")) ∙ h.1.2, sym (e (codes "unit")) ∙ h.1.3))
+chosen_same name f g (Run table showing opens explains) e h =
+    (h.0, sym (e (codes "table")) ∙ h.1, showing_same f g showing e h.2, sym (e (codes "open")) ∙ h.3, sym (e (codes "explain")) ∙ h.4)
+chosen_same name f g (Threads table showing explains) e h = (h.0, sym (e (codes "table")) ∙ h.1, showing_same f g showing e h.2, sym (e (codes "explain")) ∙ h.3)
+chosen_same name f g (Audit table scope asked explains) e h =
+    (h.0, sym (e (codes "table")) ∙ h.1, sym (e (codes "network")) ∙ h.2, asked_same f g asked e h.3, sym (e (codes "explain")) ∙ h.4)
+
+-- without a flag for the transcript nothing is to be written
+pub no_form : (found : Text → Option Text) → ((b : Bool) → found (codes "transcript") ≢ Some (flag_text b)) → (form : Form) → ¬ IsForm found form
+no_form found none Transcript h = none true h
+no_form found none (Report asked) h = none false h.0
+
+pub chosen_from : (found : Option (Text × List Row)) (name : Text) (rows : List Row) (o : Options) → found ≡ Some (name, rows)
+    → Chosen name (λ id. first_of id rows) o → ChosenIn found o
+chosen_from found name rows o e h = subst (λ f. ChosenIn f o) (sym e) h
+
+pub chosen_to : (found : Option (Text × List Row)) (name : Text) (rows : List Row) (o : Options) → found ≡ Some (name, rows)
+    → ChosenIn found o → Chosen name (λ id. first_of id rows) o
+chosen_to found name rows o e h = subst (λ f. ChosenIn f o) e h
+
+pub is_simple_bench : (modes tables units : Listed) → is_simple (bench_app modes tables units) ≡ true
+is_simple_bench modes tables units = refl
+
+pub says : (words : List Text) (modes tables units : Listed) (o : Options) → 0 < length words → ListsModes modes → ListsTables tables → ListsUnits units
+    → ChosenIn (subcommand_of (bench_app modes tables units) words) o → Says words o
+says [] modes tables units o h a b c d = absurd (omega arith)
+says (w ∷ ws) modes tables units o h a b c d = (modes, tables, units, a, b, c, d)
+
+-- ---- what is refused
+
+pub is_simple_so : (app : App) → IsBench app → is_simple app ≡ true
+is_simple_so app is = ap is_simple is.6
+
+pub is_free : (app : App) → IsBench app → is_simple_and_free app ≡ true
+is_free app is = ap is_simple_and_free is.6
+
+pub taken : (words : List Text) (app : App) → 0 < length words → IsBench app → fault_of app words ≡ [] → IsTaken words
+taken [] app h is none = tt
+taken (w ∷ ws) app h is none = (app, is, none)
+
+pub faulty : (words : List Text) (app : App) (text : Text) → 0 < length words → IsBench app → fault_of app words ≢ [] → IsRefused words text
+faulty [] app text h is some = absurd (omega arith)
+faulty (w ∷ ws) app text h is some = (app, is, inl some)
+
+pub silent : (words : List Text) (app : App) (text : Text) → 0 < length words → IsBench app → fault_of app words ≡ [] → SaysNothing (subcommand_of app words)
+    → text ≡ mac_usage → IsRefused words text
+silent [] app text h is none nothing said = absurd (omega arith)
+silent (w ∷ ws) app text h is none nothing said = (app, is, inr (none, nothing, said))
+
+-- an error that isn't want of memory tells a fault
+pub fault_found : (kinds : Kinds) (e : Error) → HasKind kinds e → kind_of e ≢ OutOfMemory → kinds ≢ []
+fault_found kinds e h room = ⊎_elim (λ memory. absurd (room memory)) (λ among none. subst (IsAmong (kind_of e)) none among) h
+
+pub usage_weaker : (f : OptionFault) (P Q : Text → Type 0) → ((t : Text) → P t → Q t) → IfUsage f P → IfUsage f Q
+usage_weaker (Usage text) P Q f h = f (string_bytes text) h
+usage_weaker Memory P Q f h = tt
+
+-- ---- a mode, a size of tables and a unit, by their words
+
+word_found : {A : Type 0} (word : A → Text) (r : Option A) (w : Text) (found : Option Text) → IfSome r (λ a. w ≡ word a) → found ≡ Some w → IfSome r (λ a. found ≡ Some (word a))
+word_found word None w found h is = tt
+word_found word (Some a) w found h is = is ∙ ap Some h
+
+word_unread : {A : Type 0} (word : A → Text) (said : Text → Option A) → ((a : A) → said (word a) ≡ Some a) → (r : Option A) (w : Text) (found : Option Text) → r ≡ said w → found ≡ Some w
+    → IfNone r ((a : A) → found ≢ Some (word a))
+word_unread word said again (Some a) w found e is = tt
+word_unread word said again None w found e is = λ a h.
+    let same : w ≡ word a = cc in
+    let none = e ∙ ap said same ∙ again a in
+    cc
+
+mode_again : (m : Mode) → mode_of (mode_word m) ≡ Some m
+mode_again H = refl
+mode_again N = refl
+mode_again U = refl
+
+pub mode_found : (r : Option Mode) (w : Text) (found : Option Text) → IfSome r (λ m. w ≡ mode_word m) → found ≡ Some w → IfSome r (λ m. found ≡ Some (mode_word m))
+mode_found = word_found mode_word
+
+pub mode_unread : (r : Option Mode) (w : Text) (found : Option Text) → r ≡ mode_of w → found ≡ Some w → IfNone r ((m : Mode) → found ≢ Some (mode_word m))
+mode_unread = word_unread mode_word mode_of mode_again
+
+pub table_found : (r : Option TableSize) (w : Text) (found : Option Text) → IfSome r (λ t. w ≡ table_word t) → found ≡ Some w → IfSome r (λ t. found ≡ Some (table_word t))
+table_found = word_found table_word
+
+pub table_unread : (r : Option TableSize) (w : Text) (found : Option Text) → r ≡ table_of w → found ≡ Some w → IfNone r ((t : TableSize) → found ≢ Some (table_word t))
+table_unread = word_unread table_word table_of table_again
+
+pub unit_found : (r : Option TimeUnit) (w : Text) (found : Option Text) → IfSome r (λ u. w ≡ unit_word u) → found ≡ Some w → IfSome r (λ u. found ≡ Some (unit_word u))
+unit_found = word_found unit_word
+
+pub unit_unread : (r : Option TimeUnit) (w : Text) (found : Option Text) → r ≡ unit_of w → found ≡ Some w → IfNone r ((u : TimeUnit) → found ≢ Some (unit_word u))
+unit_unread = word_unread unit_word unit_of unit_again

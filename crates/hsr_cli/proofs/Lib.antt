@@ -1,0 +1,2 @@
+pub mod BenchFound
+pub mod PlanFound

@@ -1,0 +1,87 @@
+-- What a parse found, by the walk of its command.
+use Rattle.std.proofs.Common.{◌≡◌, ◌≢◌, ⊎_elim, string_bytes, List, [], Option, Some, None, IfNone, IfSome, refl, sym, ap, subst, ◌∙◌, codes, true}
+use Rattle.clap.specs.Kinds.{HasKind, IsAmong, Kinds}
+use Rattle.clap.specs.Words.{App, Row, Text, first_of, first_value, found_of, is_simple, is_simple_and_free, kind_of, matches_of, rows_of, subcommand_of, subcommand_rows_of}
+use Rattle.clap.specs.declared.error.Error.{Error}
+use Rattle.clap.specs.declared.error.kind.ErrorKind.TheVariants.{OutOfMemory}
+use Rattle.clap.specs.declared.parser.matches.ArgMatches.{ArgMatches}
+use Rattle.clap.proofs.WalkLemmas.{first_value-rows}
+use Rattle.hsr_duptable.proofs.Sizes.{table_again}
+use Rattle.hsr_duptable.specs.Sizes.{table_of, table_word}
+use Rattle.hsr_duptable.specs.declared.size.TableSize.{TableSize}
+use Rattle.hsr_cli.specs.declared.task.Task.{Task}
+use Rattle.hsr_cli.specs.declared.task.WordsFault.{WordsFault}
+use Rattle.hsr_cli.specs.declared.task.WordsFault.TheVariants.{Usage, Memory}
+use Rattle.hsr_cli.specs.Choices.{Chooses, Chosen, ChosenAlone, ChosenBefore, IfUsage, IsPlanner, IsTable, sub_values, values}
+
+-- ---- a subcommand
+
+-- equal values choose the same
+before_same : (check check' table table' moment moment' : Option Text) (name : Text) (task : Task) → check ≡ check' → table ≡ table' → moment ≡ moment'
+    → ChosenBefore check table name moment task → ChosenBefore check' table' name moment' task
+before_same check check' table table' moment moment' name task c t m h =
+    subst (λ x. ChosenBefore check' table' name x task) m (subst (λ x. ChosenBefore check' x name moment task) t (subst (λ x. ChosenBefore x table name moment task) c h))
+
+alone_same : (check check' table table' : Option Text) (task : Task) → check ≡ check' → table ≡ table' → ChosenAlone check table task → ChosenAlone check' table' task
+alone_same check check' table table' task c t h = subst (λ x. ChosenAlone check' x task) t (subst (λ x. ChosenAlone x table task) c h)
+
+chosen_same : (f g : Text → Option Text) (sub : Option (Text × (Text → Option Text))) (task : Task) → ((id : Text) → f id ≡ g id) → Chosen f sub task → Chosen g sub task
+chosen_same f g None task e h = alone_same _ _ _ _ task (e (codes "check")) (e (codes "table")) h
+chosen_same f g (Some sub) task e h = before_same _ _ _ _ _ _ sub.0 task (e (codes "check")) (e (codes "table")) refl h
+
+pub chosen_from : (found : Text → Option Text) (sub : Option (Text × List Row)) (check table moment : Option Text) (name : Text) (rows : List Row) (task : Task)
+    → sub ≡ Some (name, rows) → check ≡ found (codes "check") → table ≡ found (codes "table") → moment ≡ first_of (codes "at-us") rows
+    → ChosenBefore check table name moment task → Chosen found (sub_values sub) task
+chosen_from found sub check table moment name rows task s c t m h =
+    subst (λ x. Chosen found (sub_values x) task) (sym s) (before_same _ _ _ _ _ _ name task c t m h)
+
+pub chosen_to : (found : Text → Option Text) (sub : Option (Text × List Row)) (check table moment : Option Text) (name : Text) (rows : List Row) (task : Task)
+    → sub ≡ Some (name, rows) → check ≡ found (codes "check") → table ≡ found (codes "table") → moment ≡ first_of (codes "at-us") rows
+    → Chosen found (sub_values sub) task → ChosenBefore check table name moment task
+chosen_to found sub check table moment name rows task s c t m h =
+    before_same _ _ _ _ _ _ name task (sym c) (sym t) (sym m) (subst (λ x. Chosen found (sub_values x) task) s h)
+
+-- ---- the words
+
+pub is_simple_so : (app : App) → IsPlanner app → is_simple app ≡ true
+is_simple_so app is = ap is_simple is.2
+
+pub is_free : (app : App) → IsPlanner app → is_simple_and_free app ≡ true
+is_free app is = ap is_simple_and_free is.2
+
+-- a parse finds the values by which the words choose
+same_values : (m : ArgMatches) (rows : List Row) → rows_of (found_of m) ≡ rows → (id : Text) → first_value (found_of m) id ≡ values rows id
+same_values m rows e id = first_value-rows (found_of m) id ∙ ap (first_of id) e
+
+pub chooses : (app : App) (words : List Text) (m : ArgMatches) (task : Task) → rows_of (found_of m) ≡ matches_of app words → subcommand_rows_of m ≡ subcommand_of app words
+    → Chosen (first_value (found_of m)) (sub_values (subcommand_rows_of m)) task → Chooses app words task
+chooses app words m task e s h =
+    chosen_same _ _ _ task (same_values m (matches_of app words) e) (subst (λ x. Chosen (first_value (found_of m)) (sub_values x) task) s h)
+
+pub chosen : (app : App) (words : List Text) (m : ArgMatches) (task : Task) → rows_of (found_of m) ≡ matches_of app words → subcommand_rows_of m ≡ subcommand_of app words
+    → Chooses app words task → Chosen (first_value (found_of m)) (sub_values (subcommand_rows_of m)) task
+chosen app words m task e s h =
+    subst (λ x. Chosen (first_value (found_of m)) (sub_values x) task) (sym s) (chosen_same _ _ _ task (λ id. sym (same_values m (matches_of app words) e id)) h)
+
+-- an error that isn't want of memory tells a fault
+pub fault_found : (kinds : Kinds) (e : Error) → HasKind kinds e → kind_of e ≢ OutOfMemory → kinds ≢ []
+fault_found kinds e h room = ⊎_elim (λ memory. absurd (room memory)) (λ among none. subst (IsAmong (kind_of e)) none among) h
+
+pub usage_weaker : (f : WordsFault) (P Q : Text → Type 0) → ((t : Text) → P t → Q t) → IfUsage f P → IfUsage f Q
+usage_weaker (Usage text) P Q f h = f (string_bytes text) h
+usage_weaker Memory P Q f h = tt
+
+-- ---- a size of tables, by its word
+
+pub table_found : (r : Option TableSize) (w : Text) → IfSome r (λ t. w ≡ table_word t) → IfSome r (IsTable (Some w))
+table_found None w h = tt
+table_found (Some t) w h = h
+
+pub table_unread : (r : Option TableSize) (w : Text) → r ≡ table_of w → IfNone r ((t : TableSize) → ¬ IsTable (Some w) t)
+table_unread (Some t) w e = tt
+table_unread None w e = by_size
+  where
+    by_size : (t : TableSize) → ¬ IsTable (Some w) t
+    by_size t h =
+        let none = e ∙ ap table_of h ∙ table_again t in
+        cc

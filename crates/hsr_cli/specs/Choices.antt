@@ -1,0 +1,111 @@
+-- What the words of the planner's command line choose: by the values that clap's walk of this command finds.
+use Rattle.std.specs.Prelude.{◌≡◌, ◌≢◌, ◌⊎◌, ◌≤◌, ◌^◌, ⊤, ℕ, true, List, [], ◌∷◌, map, Option, Some, None, codes, string_bytes}
+use Rattle.std.specs.Borrow.{Bor}
+use Rattle.clap.specs.Words.{App, Row, Rule, Text, new_app, new_rule, with_rule, with_subcommand, matches_of, subcommand_of, first_of, fault_of}
+use Rattle.clap.specs.declared.builder.ArgAction.TheVariants.{SetTrue}
+use Rattle.clap.specs.declared.builder.value_parser.ValueParser.TheVariants.{Names}
+use Rattle.hsr_text.specs.Words.{decimal_of}
+use Rattle.hsr_duptable.specs.Sizes.{table_word}
+use Rattle.hsr_duptable.specs.declared.size.TableSize.{TableSize}
+use Rattle.hsr_duptable.specs.declared.size.TableSize.TheVariants.{Small, Large}
+use Rattle.hsr_cli.specs.declared.plan_words.TheConstants.{TOGETHER}
+use Rattle.hsr_cli.specs.declared.task.Task.{Task}
+use Rattle.hsr_cli.specs.declared.task.Task.TheVariants.{Plan, Check, Sweep}
+use Rattle.hsr_cli.specs.declared.task.WordsFault.{WordsFault}
+use Rattle.hsr_cli.specs.declared.task.WordsFault.TheVariants.{Usage, Memory}
+
+-- ---- the command line
+
+-- a list of names, wherever it lies
+abbrev pub Listed : Type 0
+Listed = Bor (List (Bor (List ℕ)))
+
+abbrev pub ListsTables : Listed → Type 0
+ListsTables tables = map (λ s. s.now) tables.now ≡ table_word Small ∷ table_word Large ∷ []
+
+-- `--table`, one of some names
+abbrev pub table_rule : Listed → Rule
+table_rule tables = record (new_rule (codes "table")) { long = Some (codes "table"); parser = Some (Names tables) }
+
+-- `--check`, which takes no value
+abbrev pub check_rule : Rule
+check_rule = record (new_rule (codes "check")) { long = Some (codes "check"); action = Some SetTrue }
+
+-- `--at-us` of `sweep`, with its default
+abbrev pub at_rule : Rule
+at_rule = record (new_rule (codes "at-us")) { long = Some (codes "at-us"); defaults = codes "0" ∷ [] }
+
+abbrev pub sweep_app : App
+sweep_app = with_rule (new_app (codes "sweep")) at_rule
+
+abbrev pub top_app : App
+top_app = record { top = record (new_app (codes "hsr_plan")).top { no_binary_name = true; has_version = true }; subs = [] }
+
+abbrev pub plan_app : Listed → App
+plan_app tables = with_subcommand (with_rule (with_rule top_app (table_rule tables)) check_rule) sweep_app.top
+
+-- ---- what is chosen
+
+-- the size of tables that a word names, or without one the large
+abbrev pub IsTable : Option Text → TableSize → Type 0
+IsTable None table = table ≡ Large
+IsTable (Some word) table = word ≡ table_word table
+
+-- a moment that a plan may name, in decimal
+abbrev pub IsMoment : Option Text → ℕ → Type 0
+IsMoment None at = ⊥
+IsMoment (Some word) at = (decimal_of word ≡ Some at) × (at ≤ 2 ^ 40)
+
+-- what `--check` and `--table` choose alone: a plan, with tables of some size, or a check, where no size is named
+abbrev pub ChosenAlone : Option Text → Option Text → Task → Type 0
+ChosenAlone check table (Plan size) = (check ≡ Some (codes "false")) × IsTable table size
+ChosenAlone check table Check = (check ≡ Some (codes "true")) × (table ≡ None)
+ChosenAlone check table (Sweep at) = ⊥
+
+-- and before a subcommand of that name, with its moment: a sweep, where neither a check is asked for nor a size is named
+abbrev pub ChosenBefore : Option Text → Option Text → Text → Option Text → Task → Type 0
+ChosenBefore check table name moment (Plan size) = ⊥
+ChosenBefore check table name moment Check = ⊥
+ChosenBefore check table name moment (Sweep at) = (check ≡ Some (codes "false")) × (table ≡ None) × (name ≡ codes "sweep") × IsMoment moment at
+
+-- what is chosen by the values that stand before a subcommand, and by its name and its values, if there is one
+abbrev pub Chosen : (Text → Option Text) → Option (Text × (Text → Option Text)) → Task → Type 0
+Chosen found None task = ChosenAlone (found (codes "check")) (found (codes "table")) task
+Chosen found (Some sub) task = ChosenBefore (found (codes "check")) (found (codes "table")) sub.0 (sub.1 (codes "at-us")) task
+
+-- the values in rows
+abbrev pub values : List Row → Text → Option Text
+values rows id = first_of id rows
+
+abbrev pub sub_values : Option (Text × List Row) → Option (Text × (Text → Option Text))
+sub_values None = None
+sub_values (Some found) = Some (found.0, values found.1)
+
+-- words choose what is chosen by the values that the command finds in them
+abbrev pub Chooses : App → List Text → Task → Type 0
+Chooses app words task = Chosen (values (matches_of app words)) (sub_values (subcommand_of app words)) task
+
+-- the planner's command, with the names that it takes for tables
+abbrev pub IsPlanner : App → Type 0
+IsPlanner app = (tables : Listed) × ListsTables tables × (app ≡ plan_app tables)
+
+-- the command finds no fault in the words, and they choose this
+abbrev pub Says : List Text → Task → Type 0
+Says words task = (app : App) × IsPlanner app × (fault_of app words ≡ []) × Chooses app words task
+
+-- ---- what is refused
+
+-- words are refused by this text: the command finds a fault in them, or finds none, and they choose nothing
+abbrev pub IsRefused : List Text → Text → Type 0
+IsRefused words text = (app : App) × IsPlanner app × ((fault_of app words ≢ [])
+    ⊎ ((fault_of app words ≡ []) × ((task : Task) → ¬ Chooses app words task) × (text ≡ TOGETHER.now)))
+
+-- a text, or another where it is empty
+abbrev pub or_else : Text → Text → Text
+or_else [] other = other
+or_else (c ∷ cs) other = c ∷ cs
+
+-- P of the text of a refusal; of want of memory nothing
+abbrev pub IfUsage : WordsFault → (Text → Type 0) → Type 0
+IfUsage (Usage text) P = P (string_bytes text)
+IfUsage Memory P = ⊤

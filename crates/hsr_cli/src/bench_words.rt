@@ -1,0 +1,599 @@
+//! Reads the arguments of hsr_bench, by clap.
+ghost use Rattle.std.specs.Prelude.{◌≡◌, ◌≢◌, ◌<◌, IfErr, IfNone, IfOk, IfSome, OnOk, Some, Ok, codes, false, length, map};
+ghost use Rattle.std.specs.Str.{trim_end};
+ghost use Rattle.hsr_frame.specs.Address.{IsGroup, address_of};
+ghost use Rattle.hsr_frame.specs.Words.{mode_word};
+ghost use Rattle.hsr_text.specs.Moments.{unit_word};
+ghost use Rattle.hsr_duptable.specs.Sizes.{table_word};
+ghost use Rattle.clap.specs.Words.{Text, app_of, first_value, found_of, kind_of, new_app, rule_of, subcommand_rows_of, with_rule};
+ghost use Rattle.clap.specs.declared.builder.Command.TheViews.{out-Command as fields_of};
+ghost use Rattle.clap.specs.declared.error.kind.ErrorKind.TheVariants.{OutOfMemory};
+ghost use Rattle.hsr_cli.specs.declared.fault.OptionFault.TheVariants.{Memory};
+ghost use Rattle.hsr_cli.specs.Options.{Chosen, ChosenIn, IfUsage, IsAsked, IsForm, IsNode, IsRefused, IsScope, IsShowing, IsTaken, Says, SaysNothing, audit_app, bench_app, flag_rule, flag_text, mac_rule, mode_rule, node_app, or_help, run_app, table_rule, playing_app, top_app, unit_rule, with_asked, with_told};
+
+use crate::fault::OptionFault;
+use clap::error::ErrorKind;
+use clap::{Arg, ArgAction, ArgMatches, Command, Error};
+use hsr_duptable::TableSize;
+use hsr_frame::{Mac, Mode};
+use hsr_options::{Asked, Form, NodeOptions, Options, Scope, Showing};
+use hsr_text::TimeUnit;
+use hsr_version::VERSION;
+use std::alloc::{AllocError, Global};
+use std::fmt::Display;
+
+const NODE_LINES: &str = "\
+Each line of standard input, with one space between its words, is one of:
+  send <at> <dst> <type> <payload> [<vlan>]   the node sends a frame
+  life <at>                                   the node sends a supervision frame
+  arrive <at> A|B <octets>                    octets come to a ring port
+  age <at>                                    the node gives up what is expired
+where <at> is a moment in milliseconds, or in microseconds with --unit us, <dst> an address as
+02-00-00-00-00-02, <type> and <vlan> (a VLAN tag's control information) four hexadecimal digits, and
+octets are in hexadecimal, - for none.
+
+The answers: `sent <number>` or `life <number> <count>` with the octets of both copies; `passed` with the
+egresses up, A, B and the frame that went up; `duplicate`, `returned`, `foreign`, `untagged`,
+`malformed <fault>`; `aged`; `refused <reason>` (1 to the node itself, 2 a reserved type, 3 no step is
+left, 4 over 1500 octets of payload). The last line counts what happened. A bad line ends the run with
+status 1.
+
+Example: echo 'send 0 02-00-00-00-00-02 0800 AABB' | hsr_bench node";
+
+const NO_MAC: &str = "\
+usage: --mac
+explain: --mac takes the address of one node: six pairs of hexadecimal digits with hyphens between, the first pair even (an odd one is a group's), as 02-00-00-00-00-01";
+
+const RUN_ABOUT: &str =
+    "Runs the scenario on standard input (< scenario.toml), and reports whether it certifies delivery";
+
+const RUN_ENDS: &str = "\
+A scenario is TOML, read from standard input:
+  capacity = 64   how many copies wait in each direction of a link, 1 to 4096 (64 if it isn't there)
+  unit = \"ms\"     in which it tells moments: ms, or us for microseconds (ms if it isn't there)
+  [[node]]        name, role, and by its role: danh and redbox mac, mode (H, N or U; H if it isn't there);
+                  quadbox nothing; station macs, a list of at most 16 addresses
+  [[link]]        ends, a list of two ends, as [\"n0.B\", \"n1.A\"]: a node's name and the letter of its port
+                  (A and B on the ring, I a redbox's interlink, C and D a quadbox's other ring, P a station's)
+  [[step]]        do, and by it: clock at; send node, to, type, payload, vlan, from; life node, about;
+                  age node; put port; judge port; take link, dir (forth or back); cut link; mend link;
+                  inject link, dir, octets; drain nothing. It brings all that is on its way to its end
+Nodes, links and steps are counted from 0, as they stand. A name has 1 to 32 small letters, digits and
+hyphens. An address is written 02-00-00-00-00-02, a moment as a number of its unit, type and vlan as numbers
+(type = 0x0800), payload and octets in hexadecimal. A send's payload, vlan and from (the place among a station's
+addresses) and a life's about may be left out.
+
+docs/USING.md says what to look up where; docs/RULES.md has the rules.
+
+Status 0: every frame came exactly once to each node that it was for. Status 2: the run gives reason to
+doubt that, named in the last line of the report. Status 1: the run stopped, and one line on standard
+error says why.
+
+With --transcript the statuses are the same, and in place of the report comes the transcript: the nodes
+and links, the order of the steps at nodes, each node's record with its arrivals and what became of
+them, and each link's copies, with all moments in microseconds. `audit` reads it.
+
+With --deliveries, lines before the report's last say of each send that isn't complete which nodes it was
+due at and who missed it (or took it up twice, or strayed), and where copies of it were lost; then how many
+sends there are and how many are complete. With --needed a line says how many entries the fullest duplicate
+table needed, and the node and place of the first arrival that needed as many: `needed <n> <node> <place>`.
+
+With --budget a line before the report's last says whether this run was within the budget of its tables:
+`budget <n>` (yes: each copy came in less than 400 ms, and at most n frames were sent in any 800 ms),
+`budget late <node> <place>` (this entry of a node is a copy that came later), `budget crowded <moment>`
+(in the 800 ms from this moment on, in microseconds, more frames were sent than a table has entries). None
+of the three changes a status.
+
+With --network the last line and the status are of the audit of networks, whatever rings, RedBoxes, QuadBoxes and
+stations there are: `certified <n>` where each frame came exactly once to each node that it was for, else its first
+doubt: `empty` (nothing was sent), `mode`, `same-address`, `side <link>`, `forgot`, `mistaken` or `numbered-late` with a
+node and the place in its record, `cut-off <node> <place> <receiver>` (no way to this receiver lost no copy of that
+frame), `unknown-station` with the node and place of a frame to a Station that its RedBox did not know, or `uncovered`
+with those of a frame of which nothing is certified (a supervision frame of a Station that is joined with a Station).
+Before it stand `unlinked <node>.<port>` for each port on a ring without a link (a chain is certified, but it is not
+redundant), and `nobody <node>:<place>` for each frame that no node is for.
+
+With --explain, lines on standard error say what a fault or a doubt means, where it is (line and column of the text,
+nodes and ports by their names, moments) and what to do; with --budget also how many entries would be enough. Each begins
+with `explain: `. Neither the report nor the status changes.
+
+With --open a run that cannot be closed (octets were injected, or a copy is still on its way) is shown as it stands: the
+lines of its nodes and links, and `open` as the last line, with status 2. Nothing is audited of it.
+
+Examples: hsr_bench run < scenario.toml
+          hsr_bench run --table small --deliveries --needed --budget < scenario.toml
+          hsr_bench run --network --explain < scenario.toml
+          hsr_bench run --transcript < scenario.toml | hsr_bench audit";
+
+const THREADS_ABOUT: &str =
+    "Runs the scenario on standard input in threads, and reports whether it certifies delivery";
+
+const THREADS_ENDS: &str = "\
+The scenario is that of `run`, without the steps put, take and judge: each linked port has a thread that
+takes a copy, judges it and puts what leaves, and after a step clock each node is aged by a thread. The
+main thread does the steps, and at a drain and at the end it waits until nothing is on its way. So two
+runs may differ in what came first; the report and the status are of the run that was.
+
+The statuses and flags are as with `run`, without --open. `fault: step <i> fine` says that step i is a put, take or judge; then no thread is started. `fault: thread` says that a thread couldn't be started.
+
+Examples: hsr_bench threads < scenario.toml
+          hsr_bench threads --transcript < scenario.toml | hsr_bench audit";
+
+const AUDIT_ENDS: &str = "\
+The transcript is one that `run --transcript` wrote with a table of the same size; it may be of version 1,
+which tells moments in milliseconds. Each entry is done anew and compared, links and records are checked
+against each other, and the report is that of `run`, with --deliveries, --needed, --budget, --network and --explain too.
+
+Status 0: every frame came exactly once to each node that it was for. Status 2: the run gives reason to
+doubt that, named in the last line. Status 1: there is no report, and one line on standard error says
+why: `fault: transcript line <n>` (bad, or not what the node answers), `fault: transcript version`,
+`fault: transcript end` (it breaks off), `fault: check <n>` (links and records disagree).";
+
+impl From<AllocError> for OptionFault {
+    ghost from_gives = { λ _ f. f ≡ Memory };
+
+    fn from(_e: AllocError) -> OptionFault {
+        OptionFault::Memory
+    }
+}
+
+fn mac_arg<'a>(alloc: Global) -> Arg<'a>
+    ensures rule { rule_of result ≡ mac_rule }
+    ensures own { result.global ≡ false }
+{
+    Arg::new(alloc, "mac")
+        .long("mac")
+        .help("The node's address, which is no group's")
+        // The 2 says that the address is locally administered (IEEE 802 clause 8).
+        .default_value("02-00-00-00-00-01")
+}
+
+fn mode_arg<'a>(alloc: Global, modes: &'a [&'a str]) -> Arg<'a>
+    ensures rule { rule_of result ≡ mode_rule modes.entry }
+    ensures own { result.global ≡ false }
+{
+    Arg::new(alloc, "mode")
+        .long("mode")
+        .help("Forwards round the ring (H), not (N), or what it delivers too (U)")
+        .value_parser(modes)
+        .default_value(Mode::H.word())
+}
+
+fn table_arg<'a>(alloc: Global, tables: &'a [&'a str]) -> Arg<'a>
+    ensures rule { rule_of result ≡ table_rule tables.entry }
+    ensures own { result.global ≡ false }
+{
+    Arg::new(alloc, "table")
+        .long("table")
+        .help("Entries of a duplicate table: 4 (small) or 512 (large)")
+        .value_parser(tables)
+        .default_value(TableSize::Large.word())
+}
+
+fn unit_arg<'a>(alloc: Global, units: &'a [&'a str]) -> Arg<'a>
+    ensures rule { rule_of result ≡ unit_rule units.entry }
+    ensures own { result.global ≡ false }
+{
+    Arg::new(alloc, "unit")
+        .long("unit")
+        .help("The unit of moments: milliseconds (ms) or microseconds (us)")
+        .value_parser(units)
+        .default_value(TimeUnit::Milliseconds.word())
+}
+
+fn flag_arg<'a>(alloc: Global, name: &'a str, help: &'a str) -> Arg<'a>
+    ensures rule { rule_of result ≡ flag_rule name.entry.now }
+    ensures own { result.global ≡ false }
+{
+    Arg::new(alloc, name)
+        .long(name)
+        .help(help)
+        .action(ArgAction::SetTrue)
+}
+
+/// A command, with one more flag.
+fn with_flag<'a>(
+    alloc: Global,
+    command: Command<'a>,
+    name: &'a str,
+    help: &'a str,
+) -> Result<Command<'a>, AllocError>
+    requires own { (fields_of command).has_globals ≡ false }
+    ensures app { IfOk result (λ c. app_of c ≡ with_rule (app_of command.entry)
+        (flag_rule name.entry.now)) }
+    ensures own { IfOk result (λ c. (fields_of c).has_globals ≡ false) }
+{
+    command.arg(flag_arg(alloc, name, help))
+}
+
+/// A command, with the flags for the parts of a report.
+fn asking<'a>(alloc: Global, command: Command<'a>) -> Result<Command<'a>, AllocError>
+    requires own { (fields_of command).has_globals ≡ false }
+    ensures app { IfOk result (λ c. app_of c ≡ with_asked (app_of command.entry)) }
+    ensures own { IfOk result (λ c. (fields_of c).has_globals ≡ false) }
+{
+    let deliveries = "Says in lines of the report who missed which frame, and where it was lost";
+    let needed = "Says in a line of the report how many table entries the run needed";
+    let budget = "Says in a line of the report whether the run was within the budget of its tables";
+    let one = with_flag(alloc, command, "deliveries", deliveries)?;
+    let two = with_flag(alloc, one, "needed", needed)?;
+    with_flag(alloc, two, "budget", budget)
+}
+
+/// A command, with these flags, and those for the audit of a report's last line and for more about how the run ended.
+fn telling<'a>(alloc: Global, command: Command<'a>) -> Result<Command<'a>, AllocError>
+    requires own { (fields_of command).has_globals ≡ false }
+    ensures app { IfOk result (λ c. app_of c ≡ with_told (app_of command.entry)) }
+    ensures own { IfOk result (λ c. (fields_of c).has_globals ≡ false) }
+{
+    let network = "Certifies any network, not just one ring of DANHs";
+    let explain =
+        "Says on standard error what a fault or a doubt means, where it is, and what to do";
+    let one = asking(alloc, command)?;
+    let two = with_flag(alloc, one, "network", network)?;
+    with_flag(alloc, two, "explain", explain)
+}
+
+/// The command `node` with the options for the node's address and mode.
+fn node_placed<'a>(alloc: Global, modes: &'a [&'a str]) -> Result<Command<'a>, AllocError>
+    ensures app { IfOk result (λ c. app_of c
+        ≡ with_rule (with_rule (new_app (codes "node")) mac_rule) (mode_rule modes.entry)) }
+    ensures own { IfOk result (λ c. (fields_of c).has_globals ≡ false) }
+{
+    Command::new(alloc, "node")
+        .about("Answers lines of standard input as one DANH")
+        .after_help(NODE_LINES)
+        .arg(mac_arg(alloc))?
+        .arg(mode_arg(alloc, modes))
+}
+
+fn node_command<'a>(
+    alloc: Global,
+    modes: &'a [&'a str],
+    tables: &'a [&'a str],
+    units: &'a [&'a str],
+) -> Result<Command<'a>, AllocError>
+    ensures app { IfOk result (λ c. app_of c ≡ node_app modes.entry tables.entry units.entry) }
+    ensures own { IfOk result (λ c. (fields_of c).has_globals ≡ false) }
+{
+    node_placed(alloc, modes)?
+        .arg(table_arg(alloc, tables))?
+        .arg(unit_arg(alloc, units))
+}
+
+/// A command that plays a scenario.
+fn playing_command<'a>(
+    alloc: Global,
+    name: &'a str,
+    about: &'a str,
+    ends: &'a str,
+    tables: &'a [&'a str],
+) -> Result<Command<'a>, AllocError>
+    ensures app { IfOk result (λ c. app_of c ≡ playing_app name.entry.now tables.entry) }
+    ensures own { IfOk result (λ c. (fields_of c).has_globals ≡ false) }
+{
+    let transcript = "Writes the run's transcript in place of its report";
+    let command = Command::new(alloc, name)
+        .about(about)
+        .after_help(ends)
+        .arg(table_arg(alloc, tables))?;
+    telling(alloc, with_flag(alloc, command, "transcript", transcript)?)
+}
+
+/// The command `run`, which may show a run that can't be closed.
+fn run_command<'a>(alloc: Global, tables: &'a [&'a str]) -> Result<Command<'a>, AllocError>
+    ensures app { IfOk result (λ c. app_of c ≡ run_app tables.entry) }
+    ensures own { IfOk result (λ c. (fields_of c).has_globals ≡ false) }
+{
+    let open = "Shows a run that can't be closed as it stands, with the last line `open`";
+    let command = playing_command(alloc, "run", RUN_ABOUT, RUN_ENDS, tables)?;
+    with_flag(alloc, command, "open", open)
+}
+
+fn audit_command<'a>(alloc: Global, tables: &'a [&'a str]) -> Result<Command<'a>, AllocError>
+    ensures app { IfOk result (λ c. app_of c ≡ audit_app tables.entry) }
+    ensures own { IfOk result (λ c. (fields_of c).has_globals ≡ false) }
+{
+    let command = Command::new(alloc, "audit")
+        .about("Audits the transcript on standard input, and reports whether it certifies delivery")
+        .after_help(AUDIT_ENDS)
+        .arg(table_arg(alloc, tables))?;
+    telling(alloc, command)
+}
+
+fn top_command<'a>(alloc: Global) -> Result<Command<'a>, AllocError>
+    ensures { IfOk result (λ c. app_of c ≡ top_app) }
+{
+    // The arguments come without the program's name, so usage lines are told it.
+    Command::new(alloc, "hsr_bench")
+        .about("A bench for HSR rings (IEC 62439-3 clause 5). With no words it runs `node`.")
+        .version(VERSION)
+        .no_binary_name(true)
+        .subcommand_required(true)
+        .bin_name("hsr_bench")
+}
+
+fn bench_command<'a>(
+    alloc: Global,
+    modes: &'a [&'a str],
+    tables: &'a [&'a str],
+    units: &'a [&'a str],
+) -> Result<Command<'a>, AllocError>
+    ensures { IfOk result (λ c. app_of c ≡ bench_app modes.entry tables.entry units.entry) }
+{
+    let node = node_command(alloc, modes, tables, units)?;
+    let run = run_command(alloc, tables)?;
+    let threads = playing_command(alloc, "threads", THREADS_ABOUT, THREADS_ENDS, tables)?;
+    let audit = audit_command(alloc, tables)?;
+    let top = top_command(alloc)?;
+    let one = top.subcommand(node)?;
+    let two = one.subcommand(run)?;
+    let three = two.subcommand(threads)?;
+    let four = three.subcommand(audit)?;
+    Ok(four)
+}
+
+/// A refusal by clap's error, by the text that it shows.
+fn refused(alloc: Global, error: &Error) -> OptionFault
+    ensures kind { IfUsage result (λ _. kind_of error.now ≢ OutOfMemory) }
+    ensures some { IfUsage result (λ t. 0 < length t) }
+{
+    if error.kind() == ErrorKind::OutOfMemory {
+        return OptionFault::Memory;
+    }
+    shown(alloc, error)
+}
+
+/// A refusal by the text that an error shows, without the end of its last line: whoever prints it ends the line. Of
+/// clap's errors the kit's clauses don't tell what they show, so there `text` says nothing.
+fn shown<D: Display + Drop>(alloc: Global, error: D) -> OptionFault
+    ensures text { IfUsage result (λ t. IfSome (D.output error) (λ whole. t
+        ≡ or_help (trim_end whole))) }
+    ensures some { IfUsage result (λ t. 0 < length t) }
+{
+    match error.to_string(alloc) {
+        Ok(text) => usage_or_help(alloc, text.trim_end()),
+        Err(_) => OptionFault::Memory,
+    }
+}
+
+/// A refusal by this text, or by one that names the help where it is empty.
+fn usage_or_help(alloc: Global, text: &str) -> OptionFault
+    ensures text { IfUsage result (λ t. t ≡ or_help text.now) }
+    ensures some { IfUsage result (λ t. 0 < length t) }
+{
+    // Clap's errors have a text, but no clause says so.
+    if text.is_empty() {
+        return usage(alloc, "usage: --help");
+    }
+    usage(alloc, text)
+}
+
+fn usage(alloc: Global, text: &str) -> OptionFault
+    ensures { IfUsage result (λ t. t ≡ text.now) }
+{
+    match String::from_str(alloc, text) {
+        Ok(text) => OptionFault::Usage { text },
+        Err(_) => OptionFault::Memory,
+    }
+}
+
+#[tactic(auto, using(crate::proofs::BenchFound::table_found, crate::proofs::BenchFound::table_unread))]
+fn table_of(matches: &ArgMatches<'_>) -> Option<TableSize>
+    ensures found { IfSome result (λ t. first_value (found_of matches.now) (codes "table")
+        ≡ Some (table_word t)) }
+    ensures none { IfNone result ((t : _) → first_value (found_of matches.now) (codes "table")
+        ≢ Some (table_word t)) }
+{
+    TableSize::from_word(matches.get_str("table")?.as_bytes())
+}
+
+#[tactic(auto, using(crate::proofs::BenchFound::mode_found, crate::proofs::BenchFound::mode_unread))]
+fn mode_of(matches: &ArgMatches<'_>) -> Option<Mode>
+    ensures found { IfSome result (λ m. first_value (found_of matches.now) (codes "mode")
+        ≡ Some (mode_word m)) }
+    ensures none { IfNone result ((m : _) → first_value (found_of matches.now) (codes "mode")
+        ≢ Some (mode_word m)) }
+{
+    Mode::from_word(matches.get_str("mode")?.as_bytes())
+}
+
+#[tactic(auto, using(crate::proofs::BenchFound::unit_found, crate::proofs::BenchFound::unit_unread))]
+fn unit_of(matches: &ArgMatches<'_>) -> Option<TimeUnit>
+    ensures found { IfSome result (λ u. first_value (found_of matches.now) (codes "unit")
+        ≡ Some (unit_word u)) }
+    ensures none { IfNone result ((u : _) → first_value (found_of matches.now) (codes "unit")
+        ≢ Some (unit_word u)) }
+{
+    TimeUnit::from_word(matches.get_str("unit")?.as_bytes())
+}
+
+/// Whether a flag is among the arguments.
+fn flag_of(matches: &ArgMatches<'_>, name: &str) -> Option<bool>
+    ensures found { IfSome result (λ b. first_value (found_of matches.now) name.now
+        ≡ Some (flag_text b)) }
+    ensures none { IfNone result ((b : _) → first_value (found_of matches.now) name.now
+        ≢ Some (flag_text b)) }
+{
+    match matches.get_str(name) {
+        // Clap keeps a flag as one of these words.
+        Some("true") => Some(true),
+        Some("false") => Some(false),
+        _ => None,
+    }
+}
+
+/// Which parts of a report are asked for.
+fn asked_of(matches: &ArgMatches<'_>) -> Option<Asked>
+    ensures found { IfSome result (IsAsked (first_value (found_of matches.now))) }
+    ensures none { IfNone result ((asked : Asked)
+        → ¬ IsAsked (first_value (found_of matches.now)) asked) }
+{
+    let deliveries = flag_of(matches, "deliveries")?;
+    let needed = flag_of(matches, "needed")?;
+    let budget = flag_of(matches, "budget")?;
+    Some(Asked {
+        deliveries,
+        needed,
+        budget,
+    })
+}
+
+/// Which audit the last line is of.
+fn scope_of(matches: &ArgMatches<'_>) -> Option<Scope>
+    ensures found { IfSome result (IsScope (first_value (found_of matches.now))) }
+    ensures none { IfNone result ((scope : Scope)
+        → ¬ IsScope (first_value (found_of matches.now)) scope) }
+{
+    if flag_of(matches, "network")? {
+        Some(Scope::Network)
+    } else {
+        Some(Scope::Ring)
+    }
+}
+
+/// What is to be written of a run.
+#[tactic(auto, using(crate::proofs::BenchFound::no_form))]
+fn form_of(matches: &ArgMatches<'_>) -> Option<Form>
+    ensures found { IfSome result (IsForm (first_value (found_of matches.now))) }
+    ensures none { IfNone result ((form : Form)
+        → ¬ IsForm (first_value (found_of matches.now)) form) }
+{
+    if flag_of(matches, "transcript")? {
+        Some(Form::Transcript)
+    } else {
+        Some(Form::Report(asked_of(matches)?))
+    }
+}
+
+/// What is to be shown of a run.
+fn showing_of(matches: &ArgMatches<'_>) -> Option<Showing>
+    ensures found { IfSome result (IsShowing (first_value (found_of matches.now))) }
+    ensures none { IfNone result ((showing : Showing)
+        → ¬ IsShowing (first_value (found_of matches.now)) showing) }
+{
+    let scope = scope_of(matches)?;
+    let form = form_of(matches)?;
+    Some(Showing { scope, form })
+}
+
+/// The address of `--mac`, if it is one and no group's.
+fn mac_of(matches: &ArgMatches<'_>) -> Option<Mac>
+    ensures address { IfSome result (λ m. (t : Text)
+        × (first_value (found_of matches.now) (codes "mac") ≡ Some t) × (address_of t ≡ Ok m)) }
+    ensures station { IfSome result (λ m. ¬ IsGroup m) }
+    ensures none { IfNone result ((t : Text) (m : Mac)
+        → first_value (found_of matches.now) (codes "mac") ≡ Some t → address_of t ≡ Ok m
+        → IsGroup m) }
+{
+    let text = matches.get_str("mac")?;
+    match Mac::from_text(text) {
+        Ok(mac) if !mac.is_group() => Some(mac),
+        _ => None,
+    }
+}
+
+fn node_options(matches: &ArgMatches<'_>) -> Option<NodeOptions>
+    ensures found { IfSome result (IsNode (first_value (found_of matches.now))) }
+    ensures none { IfNone result ((node : NodeOptions)
+        → ¬ IsNode (first_value (found_of matches.now)) node) }
+{
+    let mode = mode_of(matches)?;
+    let table = table_of(matches)?;
+    let unit = unit_of(matches)?;
+    let mac = mac_of(matches)?;
+    Some(NodeOptions {
+        mac,
+        mode,
+        table,
+        unit,
+    })
+}
+
+/// The options of a subcommand.
+fn options_of(name: &str, matches: &ArgMatches<'_>) -> Option<Options>
+    ensures found { IfSome result (Chosen name.now (first_value (found_of matches.now))) }
+    ensures none { IfNone result ((o : Options)
+        → ¬ Chosen name.now (first_value (found_of matches.now)) o) }
+{
+    match name {
+        "node" => Some(Options::Node(node_options(matches)?)),
+        "run" => {
+            let table = table_of(matches)?;
+            let showing = showing_of(matches)?;
+            let shows_open = flag_of(matches, "open")?;
+            let explains = flag_of(matches, "explain")?;
+            Some(Options::Run {
+                table,
+                showing,
+                shows_open,
+                explains,
+            })
+        }
+        "threads" => {
+            let table = table_of(matches)?;
+            let showing = showing_of(matches)?;
+            let explains = flag_of(matches, "explain")?;
+            Some(Options::Threads {
+                table,
+                showing,
+                explains,
+            })
+        }
+        "audit" => {
+            let table = table_of(matches)?;
+            let scope = scope_of(matches)?;
+            let asked = asked_of(matches)?;
+            let explains = flag_of(matches, "explain")?;
+            Some(Options::Audit {
+                table,
+                scope,
+                asked,
+                explains,
+            })
+        }
+        _ => None,
+    }
+}
+
+/// What a parse found.
+fn chosen_in(matches: &ArgMatches<'_>) -> Option<Options>
+    ensures found { IfSome result (ChosenIn (subcommand_rows_of matches.now)) }
+    ensures none { IfNone result (SaysNothing (subcommand_rows_of matches.now)) }
+{
+    let (name, inner) = matches.subcommand()?;
+    options_of(name, inner)
+}
+
+/// What the arguments after the program's name say: with none, `node` and its defaults. A `--mac` that is no address or
+/// a group's is refused by `usage: --mac` and a line that says what it takes, and other arguments by clap's text, which
+/// isn't empty; `Memory` if allocation fails.
+pub fn options<'a>(alloc: Global, words: &'a [&'a str]) -> Result<Options, OptionFault>
+    ensures found { IfOk result (Says (map (λ s. s.now) words.entry.now)) }
+    ensures taken { OnOk result (IsTaken (map (λ s. s.now) words.entry.now)) }
+    ensures refused { IfErr result (λ f. IfUsage f (IsRefused (map (λ s. s.now) words.entry.now))) }
+    ensures some { IfErr result (λ f. IfUsage f (λ text. 0 < length text)) }
+{
+    // Clap would ask for a subcommand.
+    if words.is_empty() {
+        return Ok(Options::Node(NodeOptions {
+            // The default of `--mac`.
+            mac: Mac::new([2, 0, 0, 0, 0, 1]),
+            mode: Mode::H,
+            table: TableSize::Large,
+            unit: TimeUnit::Milliseconds,
+        }));
+    }
+    let modes = [Mode::H.word(), Mode::N.word(), Mode::U.word()];
+    let tables = [TableSize::Small.word(), TableSize::Large.word()];
+    let units = [TimeUnit::Milliseconds.word(), TimeUnit::Microseconds.word()];
+    let command = bench_command(alloc, modes.as_slice(), tables.as_slice(), units.as_slice())?;
+    match command.try_get_matches_from(words) {
+        Ok(matches) => match chosen_in(&matches) {
+            Some(options) => Ok(options),
+            // All other values are from lists that clap compares, so this is about `--mac`.
+            None => Err(usage(alloc, NO_MAC)),
+        },
+        Err(error) => Err(refused(alloc, &error)),
+    }
+}

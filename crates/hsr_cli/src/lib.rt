@@ -1,0 +1,18 @@
+//! The command lines of hsr_bench and hsr_plan: what their arguments choose, and their help, by clap.
+//!
+//! Its modules, in the order in which to read them:
+//! - `fault`: why arguments of hsr_bench are refused
+//! - `bench_words`: reads the arguments of hsr_bench
+//! - `task`: what arguments of hsr_plan choose, and why they are refused
+//! - `plan_words`: reads the arguments of hsr_plan
+#![tactic(auto)]
+
+mod bench_words;
+mod fault;
+mod plan_words;
+mod task;
+
+pub use bench_words::options;
+pub use fault::OptionFault;
+pub use plan_words::task_by;
+pub use task::{Task, WordsFault};

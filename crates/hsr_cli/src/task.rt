@@ -1,0 +1,22 @@
+//! What arguments of hsr_plan choose, and why they are refused.
+use hsr_duptable::TableSize;
+
+/// What arguments of hsr_plan choose.
+#[derive(Clone, Copy, Debug, PartialEq, Eq)]
+pub enum Task {
+    /// A plan is written as a scenario, for a run with tables of this size.
+    Plan { table: TableSize },
+    /// A scenario is checked.
+    Check,
+    /// Each link and each node of a plan is off from a moment on, in microseconds, one by one.
+    Sweep { at: u64 },
+}
+
+/// Why arguments of hsr_plan are refused.
+#[derive(Drop)]
+pub enum WordsFault {
+    /// The text says why, or is the help that was asked for.
+    Usage { text: String },
+    /// Allocation failed.
+    Memory,
+}

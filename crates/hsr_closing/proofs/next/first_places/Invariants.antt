@@ -1,5 +1,0 @@
-use Rattle.hsr_closing.specs.Next.{AreFirst}
-use Rattle.hsr_closing.proofs.next.first_places.Given as goal
-
-abbrev pub invariant-loop-node : goal.invariant-loop-node
-invariant-loop-node l = AreFirst l.node l.next.items

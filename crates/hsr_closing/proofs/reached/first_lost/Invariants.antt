@@ -1,6 +1,0 @@
-use Rattle.std.proofs.Common.{◌≡◌, ℕ, ◌<◌, true, get_or}
-use Rattle.hsr_closing.specs.declared.reached.Reached.{Reached}
-use Rattle.hsr_closing.proofs.reached.first_lost.Given as goal
-
-abbrev pub invariant-loop-worker : goal.invariant-loop-worker
-invariant-loop-worker l = (w : ℕ) (d : Reached) → w < l.worker → (get_or l.all w d).is_right ≡ true

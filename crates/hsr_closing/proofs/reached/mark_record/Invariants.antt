@@ -1,6 +1,0 @@
-use Rattle.hsr_index.specs.Turns.{IsPassed}
-use Rattle.hsr_closing.specs.Reached.{IsMarked}
-use Rattle.hsr_closing.proofs.reached.mark_record.Given as goal
-
-abbrev pub invariant-loop-place : goal.invariant-loop-place
-invariant-loop-place l = IsMarked (λ w next. IsPassed l.entries w (next l.fn.node) l.place) l.fn.all.items l.all.items

@@ -1,5 +1,0 @@
-use Rattle.hsr_closing.specs.Checked.{AreLegal}
-use Rattle.hsr_closing.proofs.shape.are_legal.Given as goal
-
-abbrev pub invariant-loop-node : goal.invariant-loop-node
-invariant-loop-node g l = AreLegal g.row.C l.kept l.node

@@ -1,5 +1,0 @@
-use Rattle.hsr_closing.specs.Shape.{AreLinked}
-use Rattle.hsr_closing.proofs.shape.are_linked.Given as goal
-
-abbrev pub invariant-loop-i : goal.invariant-loop-i
-invariant-loop-i l = AreLinked l.fn.ends l.fn.node l.entries l.i

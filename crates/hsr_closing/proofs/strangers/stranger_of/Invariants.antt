@@ -1,6 +1,0 @@
-use Rattle.hsr_closing.specs.Checked.{AreKnown}
-use Rattle.hsr_closing.specs.Finished.{run_of}
-use Rattle.hsr_closing.proofs.strangers.stranger_of.Given as goal
-
-abbrev pub invariant-loop-i : goal.invariant-loop-i
-invariant-loop-i g l = AreKnown (run_of g.row.C l.fn.topology l.fn.numbers l.fn.rows) l.list l.i

@@ -1,0 +1,127 @@
+-- How `run`, `threads` and `audit` end, by what was shown and by what was read.
+use Rattle.std.proofs.Common.{ℕ, ◌≡◌, ◌≢◌, ◌^◌, List, Option, Some, None, Err, subst, sym, IfSome}
+use Rattle.std.specs.Io.KnownBytes.{Keeps}
+use Rattle.hsr_finished_run.specs.Finished.{Finished, IsFinished}
+use Rattle.hsr_transcript.specs.Answers.{Answers, IsTextOf}
+use Rattle.hsr_transcript.specs.declared.fault.ReadFault.{ReadFault}
+use Rattle.hsr_transcript.specs.declared.fault.ReadFault.TheVariants as read
+use Rattle.hsr_commands.specs.AuditRun.{AuditEnds, IsAudited, IsUnread, transcript_fault}
+use Rattle.hsr_text.specs.Whole.{IsWhole}
+use Rattle.hsr_report.specs.Found.{IsFound, IsReportOf}
+use Rattle.hsr_options.specs.declared.chosen.Asked.{Asked}
+use Rattle.hsr_options.specs.declared.chosen.Scope.{Scope}
+use Rattle.hsr_commands.specs.Shown.{IsDelivered}
+use Rattle.hsr_commands.specs.Ending.{Ends}
+use Rattle.hsr_commands.specs.Reading.{Said, scenario_of}
+use Rattle.hsr_commands.specs.ThreadsRun.{IsRunShown, IsUnrun, ThreadsEnds}
+use Rattle.hsr_commands.specs.ScenarioRun.{IsReported, IsUnreported, ScenarioEnds}
+use Rattle.hsr_options.specs.declared.chosen.Showing.{Showing}
+use Rattle.hsr_commands.specs.declared.fault.Fault.{Fault}
+use Rattle.hsr_commands.specs.declared.fault.Fault.TheVariants.{Line, Scenario, Step, Fine, Transcript, Check, Read, Write, Memory, Thread, Gate}
+use Rattle.hsr_commands.specs.declared.fault.Status.{Status}
+use Rattle.hsr_commands.specs.declared.fault.Status.TheVariants.{Certified, Fault as Stopped, Doubt, Open}
+use Rattle.hsr_report.specs.declared.finding.Finding.{Finding}
+use Rattle.hsr_commands.proofs.Said.{as_read}
+
+-- what was delivered ends a run of which it is shown
+told : (IsShown : Finding → List ℕ → Type 0) (IsStopped : Fault → Type 0) (held holds : Option (List ℕ)) (found : Finding) (text : List ℕ) (status : Status)
+    → IsShown found text → IsDelivered held holds found text status → Ends IsShown IsStopped held holds status
+told IsShown IsStopped held holds found text Certified r d = (found, text, r, d.0, d.1)
+told IsShown IsStopped held holds found text Doubt r d = (found, text, r, d.0, d.1)
+told IsShown IsStopped held holds found text Open r d = absurd d
+told IsShown IsStopped held holds found text (Stopped Write) r d = (found, text, r)
+told IsShown IsStopped held holds found text (Stopped Read) r d = absurd d
+told IsShown IsStopped held holds found text (Stopped Memory) r d = absurd d
+told IsShown IsStopped held holds found text (Stopped (Line n)) r d = absurd d
+told IsShown IsStopped held holds found text (Stopped (Scenario f)) r d = absurd d
+told IsShown IsStopped held holds found text (Stopped (Step n f)) r d = absurd d
+told IsShown IsStopped held holds found text (Stopped (Fine n)) r d = absurd d
+told IsShown IsStopped held holds found text (Stopped (Transcript f)) r d = absurd d
+told IsShown IsStopped held holds found text (Stopped (Check f)) r d = absurd d
+told IsShown IsStopped held holds found text (Stopped Thread) r d = absurd d
+told IsShown IsStopped held holds found text (Stopped Gate) r d = absurd d
+
+-- a reason that is there, but no writer's, ends a run
+stopped : (IsShown : Finding → List ℕ → Type 0) (IsStopped : Fault → Type 0) (held holds : Option (List ℕ)) (fault : Fault) → ¬ IsStopped Write → IsStopped fault → Keeps held holds
+    → Ends IsShown IsStopped held holds (Stopped fault)
+stopped IsShown IsStopped held holds Read never u k = k
+stopped IsShown IsStopped held holds Write never u k = absurd (never u)
+stopped IsShown IsStopped held holds Memory never u k = (u, k)
+stopped IsShown IsStopped held holds (Line n) never u k = (u, k)
+stopped IsShown IsStopped held holds (Scenario f) never u k = (u, k)
+stopped IsShown IsStopped held holds (Step n f) never u k = (u, k)
+stopped IsShown IsStopped held holds (Fine n) never u k = (u, k)
+stopped IsShown IsStopped held holds (Transcript f) never u k = (u, k)
+stopped IsShown IsStopped held holds (Check f) never u k = (u, k)
+stopped IsShown IsStopped held holds Thread never u k = (u, k)
+stopped IsShown IsStopped held holds Gate never u k = (u, k)
+
+pub told_report : (capacity : ℕ) (showing : Showing) (said : Said) (held holds : Option (List ℕ)) (found : Finding) (text : List ℕ) (status : Status)
+    → IsReported capacity showing said found text → IsDelivered held holds found text status → ScenarioEnds capacity showing said held holds status
+told_report capacity showing said held holds found text status r d = told (IsReported capacity showing said) (IsUnreported capacity said) held holds found text status r d
+
+pub told_fault : (capacity : ℕ) (showing : Showing) (said : Said) (held holds : Option (List ℕ)) (fault : Fault) → IsUnreported capacity said fault → Keeps held holds
+    → ScenarioEnds capacity showing said held holds (Stopped fault)
+told_fault capacity showing said held holds fault u k = stopped (IsReported capacity showing said) (IsUnreported capacity said) held holds fault (λ h. h) u k
+
+pub delivered_told : (held holds : Option (List ℕ)) (found : Finding) (text : List ℕ) (status : Status) → IsDelivered held holds found text status → status ≢ Stopped Read
+delivered_told held holds found text status d is = subst (λ s. IsDelivered held holds found text s) is d
+
+-- ---- threads
+
+pub told_run : (capacity : ℕ) (showing : Showing) (said : Said) (held holds : Option (List ℕ)) (found : Finding) (text : List ℕ) (status : Status)
+    → IsRunShown capacity showing said found text → IsDelivered held holds found text status → ThreadsEnds capacity showing said held holds status
+told_run capacity showing said held holds found text status r d = told (IsRunShown capacity showing said) (IsUnrun capacity said) held holds found text status r d
+
+pub told_unrun : (capacity : ℕ) (showing : Showing) (said : Said) (held holds : Option (List ℕ)) (fault : Fault) → IsUnrun capacity said fault → Keeps held holds
+    → ThreadsEnds capacity showing said held holds (Stopped fault)
+told_unrun capacity showing said held holds fault u k = stopped (IsRunShown capacity showing said) (IsUnrun capacity said) held holds fault (λ h. h) u k
+
+-- what is told of what was read is told of the text
+pub run_text_told : (capacity : ℕ) (showing : Showing) (all : Option (List ℕ)) (read : List ℕ) (held holds : Option (List ℕ)) (status : Status) → IfSome all (λ text. IsWhole (2 ^ 24) text read)
+    → ThreadsEnds capacity showing (scenario_of read) held holds status → IfSome all (λ text. ThreadsEnds capacity showing (scenario_of text) held holds status)
+run_text_told capacity showing None read held holds status whole told = tt
+run_text_told capacity showing (Some text) read held holds status whole told = subst (λ (said : Said). ThreadsEnds capacity showing said held holds status) (as_read text read whole) told
+
+-- what is told of octets is no fault of a reader
+pub unrun_told : (capacity : ℕ) (said : Said) (fault : Fault) → IsUnrun capacity said fault → Stopped fault ≢ Stopped Read
+unrun_told capacity said fault u is = let same : fault ≡ Read = cc in subst (λ f. IsUnrun capacity said f) same u
+
+-- ---- a transcript
+
+audited_report : (capacity : ℕ) (scope : Scope) (asked : Asked) (text : List ℕ) (held holds : Option (List ℕ)) (found : Finding) (written : List ℕ) (status : Status) → IsAudited capacity scope asked text found written
+    → IsDelivered held holds found written status → AuditEnds capacity scope asked text held holds status
+audited_report capacity scope asked text held holds found written status r d = told (IsAudited capacity scope asked text) (IsUnread capacity text) held holds found written status r d
+
+audited_fault : (capacity : ℕ) (scope : Scope) (asked : Asked) (text : List ℕ) (held holds : Option (List ℕ)) (fault : Fault) → IsUnread capacity text fault → Keeps held holds
+    → AuditEnds capacity scope asked text held holds (Stopped fault)
+audited_fault capacity scope asked text held holds fault u k = stopped (IsAudited capacity scope asked text) (IsUnread capacity text) held holds fault (λ h. h) u k
+
+pub audited_known : (capacity : ℕ) (scope : Scope) (asked : Asked) (all held holds : Option (List ℕ)) (found : Finding) (written : List ℕ) (status : Status) → IfSome all (λ text. IsAudited capacity scope asked text found written)
+    → IsDelivered held holds found written status → IfSome all (λ text. AuditEnds capacity scope asked text held holds status)
+audited_known capacity scope asked None held holds found written status r d = tt
+audited_known capacity scope asked (Some text) held holds found written status r d = audited_report capacity scope asked text held holds found written status r d
+
+pub unread_known : (capacity : ℕ) (scope : Scope) (asked : Asked) (all held holds : Option (List ℕ)) (fault : Fault) → IfSome all (λ text. IsUnread capacity text fault) → Keeps held holds
+    → IfSome all (λ text. AuditEnds capacity scope asked text held holds (Stopped fault))
+unread_known capacity scope asked None held holds fault u k = tt
+unread_known capacity scope asked (Some text) held holds fault u k = audited_fault capacity scope asked text held holds fault u k
+
+pub audited_run : (capacity : ℕ) (scope : Scope) (asked : Asked) (all : Option (List ℕ)) (f : Finished) (found : Finding) (written : List ℕ) → IfSome all (λ text. IsTextOf capacity f text) → IsFinished f → IsFound scope f.run found
+    → IsReportOf scope asked f.run found written → IfSome all (λ text. IsAudited capacity scope asked text found written)
+audited_run capacity scope asked None f found written text holds is_found is_report = tt
+audited_run capacity scope asked (Some text) f found written is_text holds is_found is_report =
+    record { finished = f; is_text = is_text; holds = holds; is_found = is_found; is_report = is_report }
+
+pub memory_known : (capacity : ℕ) (all : Option (List ℕ)) (fault : Fault) → fault ≡ Memory → IfSome all (λ text. IsUnread capacity text fault)
+memory_known capacity None fault is = tt
+memory_known capacity (Some text) fault is = subst (λ (f : Fault). IsUnread capacity text f) (sym is) tt
+
+pub unread_as : (capacity : ℕ) (all : Option (List ℕ)) (fault : ReadFault) → IfSome all (Answers capacity (Err fault)) → IfSome all (λ text. IsUnread capacity text (transcript_fault fault))
+unread_as capacity None fault h = tt
+unread_as capacity (Some text) read.Version h = h
+unread_as capacity (Some text) (read.BadLine n) h = h
+unread_as capacity (Some text) read.End h = h
+unread_as capacity (Some text) (read.Disagrees cause) h = h
+unread_as capacity (Some text) read.Read h = tt
+unread_as capacity (Some text) read.NoMemory h = tt

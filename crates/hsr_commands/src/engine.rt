@@ -1,0 +1,199 @@
+//! The run of `node` over a reader and a writer.
+ghost use Rattle.std.specs.Prelude.{◌≡◌, ◌≢◌, ◌<◌, ◌≤◌, ◌^◌, ℕ, IfErr, IfSome, List, OnOk, Option, length};
+ghost use Rattle.hsr_text.specs.Lines.{ReadsFront, lines_of};
+ghost use Rattle.hsr_duptable.specs.Table.{IsTableSize};
+ghost use Rattle.hsr_danh.specs.Machine.{new_machine};
+ghost use Rattle.hsr_commands.specs.Output.{Ended, output};
+ghost use Rattle.hsr_duptable.specs.Sizes.{capacity_of};
+ghost use Rattle.hsr_commands.specs.Run.{Finished, Ran, Served, Turned};
+ghost use Rattle.hsr_commands.specs.declared.fault.Fault.TheVariants.{Read as ReadFailed};
+
+use crate::fault::{Fault, Status};
+use arrayvec::ArrayVec;
+use hsr_danh::Danh;
+use hsr_duptable::TableSize;
+use hsr_node_text::{answer_request, put_counters, read_request};
+use hsr_options::NodeOptions;
+use hsr_text::{Front, TimeUnit, WordFault, granted_reads, next_line};
+use std::alloc::Global;
+use std::io::{BufRead, BufReader, Read, Write};
+
+/// The most octets of a line, without its line feed.
+const LINE_LIMIT: usize = 4096;
+
+/// Room for a line, without its line feed, and for its answer, used again for each line.
+#[derive(Drop)]
+struct Room {
+    // Of a fixed size: a line of any length takes no more, and is refused.
+    line: ArrayVec<u8, LINE_LIMIT>,
+    text: Vec<u8>,
+}
+
+/// Answers one line.
+fn serve<W: Write, const C: usize>(
+    alloc: Global,
+    unit: TimeUnit,
+    danh: &mut Danh<C>,
+    number: u64,
+    line: &[u8],
+    writer: &mut W,
+    text: &mut Vec<u8>,
+) -> Result<(), Fault>
+    ensures { Served unit C danh.old danh.new number line.now (W.contents writer.old)
+        (W.contents writer.new) result }
+{
+    let request = match read_request(alloc, unit, line) {
+        Ok(request) => request,
+        Err(WordFault::Bad) => return Err(Fault::Line(number)),
+        Err(WordFault::Memory) => return Err(Fault::Memory),
+    };
+    // Formed whole before it is written, so that want of memory leaves no half answer.
+    answer_request(danh, &request, text)?;
+    match writer.write_all(text.as_slice()) {
+        Ok(()) => Ok(()),
+        Err(_) => Err(Fault::Write),
+    }
+}
+
+/// Answers what was read of a text, and tells whether more may follow.
+#[tactic(auto, using(crate::proofs::Turns::turned_line, crate::proofs::Turns::turned_line_err, crate::proofs::Turns::turned_rest, crate::proofs::Turns::turned_rest_err, crate::proofs::Turns::turned_none, crate::proofs::Turns::turned_long, crate::proofs::Turns::served_told))]
+fn answer_front<W: Write, const C: usize>(
+    alloc: Global,
+    unit: TimeUnit,
+    danh: &mut Danh<C>,
+    number: u64,
+    front: Front,
+    writer: &mut W,
+    room: &mut Room,
+) -> Result<bool, Fault>
+    ensures turned { (left rest : Option (List ℕ))
+        → ReadsFront LINE_LIMIT left rest room.old.line.items front
+        → Turned unit left rest (W.contents writer.old) (W.contents writer.new) C danh.old danh.new number result }
+    ensures told { IfErr result (λ f. f ≢ ReadFailed) }
+{
+    let line = &room.line;
+    let text = &mut room.text;
+    match front {
+        Front::TooLong => Err(Fault::Line(number)),
+        Front::Line => match serve(alloc, unit, danh, number, line.as_slice(), writer, text) {
+            Ok(()) => Ok(true),
+            Err(fault) => Err(fault),
+        },
+        Front::Rest => {
+            // Nothing behind the last line feed is no line.
+            if line.is_empty() {
+                return Ok(false);
+            }
+            match serve(alloc, unit, danh, number, line.as_slice(), writer, text) {
+                Ok(()) => Ok(false),
+                Err(fault) => Err(fault),
+            }
+        }
+    }
+}
+
+/// Reads and answers the next line, and tells whether more may follow.
+fn turn<R: BufRead, W: Write, const C: usize>(
+    alloc: Global,
+    unit: TimeUnit,
+    danh: &mut Danh<C>,
+    number: u64,
+    reader: &mut R,
+    reads: &mut u64,
+    writer: &mut W,
+    room: &mut Room,
+) -> Result<bool, Fault>
+    ensures turned { Turned unit (R.remaining reader.old) (R.remaining reader.new)
+        (W.contents writer.old) (W.contents writer.new) C danh.old danh.new number result }
+    ensures fewer { OnOk result (reads.new < reads.old) }
+    ensures bounded { reads.new ≤ reads.old }
+{
+    let front = next_line(reader, reads, &mut room.line)?;
+    answer_front(alloc, unit, danh, number, front, writer, room)
+}
+
+/// Writes the line at the end.
+fn finish<W: Write, const C: usize>(
+    danh: &Danh<C>,
+    writer: &mut W,
+    text: &mut Vec<u8>,
+) -> Result<(), Fault>
+    ensures { Finished danh.now (W.contents writer.old) (W.contents writer.new) result }
+{
+    text.clear();
+    put_counters(text, &danh.counters())?;
+    match writer.write_all(text.as_slice()) {
+        Ok(()) => Ok(()),
+        Err(_) => Err(Fault::Write),
+    }
+}
+
+/// Reads all lines with the reads that are granted, and answers each.
+#[tactic(auto, using(crate::proofs::Turns::way_begins, crate::proofs::Turns::way_on, crate::proofs::Turns::way_fails, crate::proofs::Turns::way_ends))]
+fn run<R: BufRead, W: Write, const C: usize>(
+    alloc: Global,
+    reader: &mut R,
+    writer: &mut W,
+    reads: &mut u64,
+    chosen: &NodeOptions,
+) -> Result<(), Fault>
+    requires entries { IsTableSize C }
+    requires granted { reads.old ≡ 2 ^ 40 }
+    ensures { Ran chosen.now.unit (R.remaining reader.old) (W.contents writer.old)
+        (W.contents writer.new) C (new_machine chosen.now.mac chosen.now.mode) result }
+{
+    let mut danh = match Danh::<C>::new(alloc, chosen.mac, chosen.mode) {
+        Ok(danh) => danh,
+        Err(_) => return Err(Fault::Memory),
+    };
+    let mut room = Room {
+        line: ArrayVec::new(),
+        text: Vec::new(alloc),
+    };
+    let mut number = 1u64;
+    // It ends, since reads are counted.
+    loop {
+        match turn(
+            alloc,
+            chosen.unit,
+            &mut danh,
+            number,
+            reader,
+            reads,
+            writer,
+            &mut room,
+        ) {
+            Ok(true) => number += 1,
+            Ok(false) => return finish(&danh, writer, &mut room.text),
+            Err(fault) => return Err(fault),
+        }
+    }
+}
+
+/// Answers the lines of a text by a DANH with the chosen address, mode and size of tables; the lines tell moments in the chosen
+/// unit. A line that is bad or has over 4096 octets ends the run as `Fault::Line`, counted from 1; what was answered stands. `Fault::Read` where
+/// the reader fails or takes over 2^40 reads, `Fault::Write`, `Fault::Memory`.
+pub fn node_run<R: Read, W: Write>(
+    alloc: Global,
+    reader: &mut R,
+    writer: &mut W,
+    chosen: &NodeOptions,
+) -> Status
+    ensures { IfSome (R.remaining reader.old) (λ text.
+        Ended (W.contents writer.old) (W.contents writer.new) (output chosen.now.unit (capacity_of chosen.now.table) (new_machine chosen.now.mac chosen.now.mode) 1 (lines_of text)) result) }
+{
+    let Ok(mut lines) = BufReader::new(alloc, reader) else {
+        return Status::Fault(Fault::Memory);
+    };
+    // A reader that never ends is given up after 2^40 reads, as one that fails (RULES, Fault lines).
+    let mut reads = granted_reads();
+    let ran = match chosen.table {
+        // The size of a table is a constant of its type, so each choice is a call of its own.
+        TableSize::Small => run::<_, W, 4>(alloc, &mut lines, writer, &mut reads, chosen),
+        TableSize::Large => run::<_, W, 512>(alloc, &mut lines, writer, &mut reads, chosen),
+    };
+    match ran {
+        Ok(()) => Status::Certified,
+        Err(fault) => Status::Fault(fault),
+    }
+}

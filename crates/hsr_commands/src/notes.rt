@@ -1,0 +1,115 @@
+//! What is said of how a run ended, beyond its agreed lines.
+use crate::fault::{Fault, TranscriptFault};
+use hsr_explanation::{
+    Explanation, explain_budget, explain_check, explain_finding, explain_fine, explain_scenario,
+    explain_step, explain_transcript, explain_unsettled, names_in,
+};
+use hsr_finished_run::Closed;
+use hsr_frame::NoMemory;
+use hsr_report::Finding;
+use hsr_ring::World;
+use hsr_world_steps::DrainFault;
+use std::alloc::Global;
+
+/// Whether more is to be said of how a run ended, and what is. It changes neither what is written of the run nor its status.
+#[derive(Debug, Drop)]
+pub struct Notes {
+    pub explains: bool,
+    pub explanation: Explanation,
+}
+
+/// What it means that a text isn't read as a transcript.
+fn words_of(fault: TranscriptFault) -> &'static str {
+    match fault {
+        TranscriptFault::Version =>
+            "the first line is neither hsr-bench 2 nor hsr-bench 1: a transcript is what hsr_bench run --transcript writes; a scenario goes to run, a plan to hsr_plan",
+        TranscriptFault::Line(2) =>
+            "the second line has another size of tables: give the --table with which the transcript was written",
+        TranscriptFault::Line(_) =>
+            "the line is out of form, or isn't what the node answers: the text was changed",
+        TranscriptFault::End => "the text breaks off: fetch the whole",
+    }
+}
+
+/// What was found of a run, and where its budget is asked for, why the run isn't within that.
+fn explained_run<const C: usize>(
+    alloc: Global,
+    octets: &[u8],
+    closed: &Closed<C>,
+    finding: Finding,
+    budget: bool,
+) -> Result<Explanation, NoMemory> {
+    let names = names_in(alloc, octets);
+    let mut explanation = explain_finding(alloc, closed, names.as_slice(), finding)?;
+    if budget {
+        explanation.join(explain_budget(alloc, closed, names.as_slice())?)?;
+    }
+    Ok(explanation)
+}
+
+/// What a fault means; nothing more where its line says all.
+fn explained(alloc: Global, octets: &[u8], fault: &Fault) -> Result<Explanation, NoMemory> {
+    match fault {
+        Fault::Scenario(fault) => explain_scenario(alloc, octets, fault),
+        Fault::Step { step, fault } => explain_step(alloc, octets, *step, fault),
+        Fault::Fine { step } => explain_fine(alloc, octets, *step),
+        Fault::Check(disagree) => explain_check(alloc, *disagree),
+        Fault::Transcript(fault) => explain_transcript(alloc, words_of(*fault)),
+        Fault::Line(_) | Fault::Read | Fault::Write | Fault::Memory | Fault::Thread | Fault::Gate =>
+            Ok(Explanation::new(alloc)),
+    }
+}
+
+impl Notes {
+    /// Nothing is said yet.
+    pub fn new(alloc: Global, explains: bool) -> Notes {
+        Notes {
+            explains,
+            explanation: Explanation::new(alloc),
+        }
+    }
+
+    /// Notes what is explained. What can't be for want of room isn't: that is no reason to stop.
+    fn note(&mut self, explained: Result<Explanation, NoMemory>) {
+        // What can't be explained for want of room isn't: the status is that of the run.
+        if let Ok(explanation) = explained {
+            self.explanation = explanation;
+        }
+    }
+
+    /// Notes why a text led to no finished run, unless that is noted.
+    pub(crate) fn of_fault(&mut self, alloc: Global, octets: &[u8], fault: &Fault) {
+        // What was noted closer to the fault says more.
+        if self.explains && self.explanation.lines.is_empty() {
+            self.note(explained(alloc, octets, fault));
+        }
+    }
+
+    /// Notes where copies circle, if that is why an order wasn't done.
+    pub(crate) fn of_order<const C: usize>(
+        &mut self,
+        alloc: Global,
+        octets: &[u8],
+        number: usize,
+        fault: &DrainFault,
+        world: &World<C>,
+    ) {
+        if self.explains && matches!(fault, DrainFault::Unsettled) {
+            self.note(explain_unsettled(alloc, octets, number, world));
+        }
+    }
+
+    /// Notes what was found of a run, with the names of a scenario's text, and of its budget, where that is asked for.
+    pub(crate) fn of_run<const C: usize>(
+        &mut self,
+        alloc: Global,
+        octets: &[u8],
+        closed: &Closed<C>,
+        finding: Finding,
+        budget: bool,
+    ) {
+        if self.explains {
+            self.note(explained_run(alloc, octets, closed, finding, budget));
+        }
+    }
+}

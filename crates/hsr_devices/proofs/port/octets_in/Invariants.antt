@@ -1,7 +1,0 @@
-use Rattle.std.proofs.Common.{◌≡◌, take}
-use Rattle.std.specs.List.{sum_by}
-use Rattle.hsr_devices.specs.Port.{octets_taken}
-use Rattle.hsr_devices.proofs.port.octets_in.Given as goal
-
-abbrev pub invariant-loop-row : goal.invariant-loop-row
-invariant-loop-row l = l.sum ≡ sum_by (octets_taken l.fn.dir) (take l.row-index l.rows)

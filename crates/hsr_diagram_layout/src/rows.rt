@@ -1,0 +1,204 @@
+//! Moments and steps, downwards.
+use crate::shelves::{SHELF, Shelves, Side};
+use hsr_diagram::Picture;
+use hsr_frame::NoMemory;
+use hsr_timeline::Time;
+use std::alloc::Global;
+
+/// The more space between two moments.
+const GAP: u64 = 12;
+
+/// All times of a picture, rising: for each a row.
+#[derive(Drop)]
+pub(crate) struct Times {
+    times: Vec<(u64, u64)>,
+}
+
+impl Times {
+    /// The row of a time. Each time of a picture has one; what hasn't one would stand in the first, so that it is drawn
+    /// all the same.
+    pub(crate) fn row_of(&self, time: Option<Time>) -> usize {
+        match time {
+            Some(time) => self
+                .times
+                .as_slice()
+                .iter()
+                .position(|(moment, step)| *moment == time.moment && *step == time.step)
+                .unwrap_or(0),
+            None => 0,
+        }
+    }
+
+    /// How many rows there are.
+    pub(crate) fn len(&self) -> usize {
+        self.times.len()
+    }
+
+    /// The first row of a moment behind one; the number of all, where there is none.
+    pub(crate) fn first_after(&self, moment: u64) -> usize {
+        self.times
+            .as_slice()
+            .iter()
+            .position(|(other, _)| moment < *other)
+            .unwrap_or(self.times.len())
+    }
+
+    /// The first row of a time, or behind it; the number of all, where there is none.
+    pub(crate) fn first_since(&self, time: Time) -> usize {
+        self.times
+            .as_slice()
+            .iter()
+            .position(|(moment, step)| {
+                time.moment < *moment || (time.moment == *moment && time.step <= *step)
+            })
+            .unwrap_or(self.times.len())
+    }
+
+    /// Whether a row is the first of its moment, and none stands before it.
+    fn begins_moment(&self, row: usize) -> bool {
+        match self.times.as_slice().get(row) {
+            Some((moment, _)) => self.first_of(*moment) == row,
+            None => false,
+        }
+    }
+
+    /// The first row of a moment.
+    fn first_of(&self, moment: u64) -> usize {
+        self.times
+            .as_slice()
+            .iter()
+            .position(|(other, _)| *other == moment)
+            .unwrap_or(0)
+    }
+
+    /// The last moment.
+    pub(crate) fn last_moment(&self) -> u64 {
+        match self.times.as_slice().last() {
+            Some((moment, _)) => *moment,
+            None => 0,
+        }
+    }
+}
+
+/// Puts a time last, if there is one.
+fn push_if(marks: &mut Vec<(u64, u64)>, time: Option<Time>) -> Result<(), NoMemory> {
+    if let Some(time) = time {
+        marks.push((time.moment, time.step))?;
+    }
+    Ok(())
+}
+
+/// The times of a picture.
+pub(crate) fn times_of(alloc: Global, picture: &Picture) -> Result<Times, NoMemory> {
+    let mut times = Vec::new(alloc);
+    for arrow in picture.arrows.as_slice() {
+        times.push((arrow.row.moment, arrow.row.step))?;
+        push_if(&mut times, arrow.start)?;
+    }
+    for sent in picture.sends.as_slice() {
+        push_if(&mut times, sent.start)?;
+    }
+    times.sort_unstable();
+    times.dedup();
+    Ok(Times { times })
+}
+
+/// Where each row stands; the least space between two; how far the cross of a lost copy stands below its row; and where
+/// the last stands.
+#[derive(Drop)]
+pub(crate) struct Rows {
+    pub times: Times,
+    places: Vec<u64>,
+    pub top: u64,
+    pub space: u64,
+    pub drop: u64,
+    pub bottom: u64,
+}
+
+impl Rows {
+    /// The place over a row at which what stands before it ends, where labels take this room between.
+    pub(crate) fn over(&self, row: usize, room: u64) -> u64 {
+        let least = if row > 0 && self.times.begins_moment(row) {
+            self.space
+        } else {
+            self.space / 2
+        };
+        self.at(row).saturating_sub(least.max(room))
+    }
+
+    /// The place of a row.
+    pub(crate) fn at(&self, row: usize) -> u64 {
+        match self.places.as_slice().get(row) {
+            Some(y) => *y,
+            None => self.top,
+        }
+    }
+
+    /// The place of a time; that of the first row, where there is none.
+    pub(crate) fn at_some(&self, time: Option<Time>) -> u64 {
+        self.at(self.times.row_of(time))
+    }
+
+    /// The place of the first row of a moment.
+    pub(crate) fn first_of(&self, moment: u64) -> u64 {
+        self.at(self.times.first_of(moment))
+    }
+}
+
+/// The least space between two steps, where there are `count` rows: more rows stand closer.
+fn space_for(count: usize) -> u64 {
+    match count {
+        0..=160 => 15,
+        161..=320 => 12,
+        _ => 10,
+    }
+}
+
+/// The space before a row at a moment, where labels of the row before take the room `below` under it, and its own the
+/// room `above` over it.
+fn space_before(before: Option<u64>, moment: u64, space: u64, below: u64, above: u64) -> u64 {
+    let labels = below.saturating_add(above);
+    match before {
+        None => above.saturating_sub(SHELF + 1),
+        Some(before) if before == moment => space.max(labels),
+        Some(_) => space.saturating_add(GAP).max(labels),
+    }
+}
+
+/// How much room there must be below a row: that of the labels of lost copies, which hang there beside their crosses.
+fn room_below(shelves: &Shelves, row: usize, drop: u64) -> u64 {
+    match shelves.room(row, Side::Below) {
+        0 => 0,
+        room => room.saturating_add(drop).saturating_sub(4),
+    }
+}
+
+/// Rows from a place downwards, with room for these labels.
+pub(crate) fn rows_of(
+    alloc: Global,
+    times: Times,
+    top: u64,
+    shelves: &Shelves,
+) -> Result<Rows, NoMemory> {
+    let space = space_for(times.times.len());
+    let drop = space / 3;
+    let mut places = Vec::new(alloc);
+    let mut y = top;
+    let mut below = 0;
+    let mut before = None;
+    for (row, time) in times.times.as_slice().iter().enumerate() {
+        let above = shelves.room(row, Side::Above);
+        y = y.saturating_add(space_before(before, time.0, space, below, above));
+        places.push(y)?;
+        before = Some(time.0);
+        below = room_below(shelves, row, drop);
+    }
+    Ok(Rows {
+        times,
+        places,
+        top,
+        space,
+        drop,
+        bottom: y.saturating_add(below),
+    })
+}

@@ -1,0 +1,8 @@
+use Rattle.std.proofs.Common.{append_assoc}
+use Rattle.hsr_diagram_text.specs.Title.{shown_words}
+use Rattle.hsr_diagram_text.proofs.title.put_shown.Goals as goal
+
+pub returns : goal.returns
+unfolding shown_words
+returns c =
+    rw (c.in_ok-put_number-3.ensures.ok, c.in_ok-put-3.ensures.ok, c.in_ok-put_number-2.ensures.ok, c.in_ok-put-2.ensures.ok, c.in_ok-put_number.ensures.ok, c.in_ok-put.ensures.ok) (simp append_assoc)

@@ -1,0 +1,38 @@
+-- Nodes, ports, links, and their changes.
+use Rattle.std.specs.Prelude.{ℕ, Bool, true, false, List, [], ◌++◌, codes, Option, Some, None}
+use Rattle.std.specs.Fmt.{decimal}
+use Rattle.hsr_node.specs.Words.{letter}
+use Rattle.hsr_node.specs.declared.place.Place.{Place}
+use Rattle.hsr_node.specs.declared.place.Place.TheVariants.{Danh, RedBox, QuadBox, Station}
+use Rattle.hsr_diagram_text.specs.Moments.{moment_text}
+
+-- what kind of node it is; nothing of a DANH
+abbrev pub kind_word : Place → List ℕ
+kind_word (Danh mac mode) = []
+kind_word (RedBox mac mode) = codes "redbox"
+kind_word QuadBox = codes "quadbox"
+kind_word (Station macs) = codes "station"
+
+-- the letter of a port; a space, where there is no such node
+abbrev pub letter_at : Option Place → ℕ → ℕ
+letter_at None port = 32
+letter_at (Some place) port = letter place port
+
+abbrev pub link_words : ℕ → List ℕ
+link_words link = codes "link " ++ decimal link
+
+abbrev pub change_word : Bool → List ℕ
+change_word true = codes "cut"
+change_word false = codes "mend"
+
+-- that a link was cut or mended, and when
+abbrev pub change_words : Bool → ℕ → List ℕ
+change_words is_cut moment = change_word is_cut ++ codes " " ++ moment_text moment
+
+abbrev pub switch_word : Bool → List ℕ
+switch_word true = codes "off"
+switch_word false = codes "on"
+
+-- that a node went off or came on, and when
+abbrev pub switch_words : Bool → ℕ → List ℕ
+switch_words is_off moment = switch_word is_off ++ codes " " ++ moment_text moment

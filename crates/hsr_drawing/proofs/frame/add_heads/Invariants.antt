@@ -1,8 +1,0 @@
-use Rattle.std.proofs.Common.{◌≡◌, ◌++◌}
-use Rattle.hsr_order.specs.Fronts.{lists_of}
-use Rattle.hsr_svg.specs.Elements.{shapes}
-use Rattle.hsr_drawing.specs.Frame.{heads_below}
-use Rattle.hsr_drawing.proofs.frame.add_heads.Given as goal
-
-abbrev pub invariant-loop-number : goal.invariant-loop-number
-invariant-loop-number l = shapes l.elements.items ≡ shapes l.initial.elements.items ++ heads_below (lists_of l.names) l.places l.nodes l.number

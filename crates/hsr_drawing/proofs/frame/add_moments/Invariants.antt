@@ -1,8 +1,0 @@
-use Rattle.std.proofs.Common.{◌≡◌, ◌++◌, take}
-use Rattle.std.specs.List.{flat_map}
-use Rattle.hsr_svg.specs.Elements.{shapes}
-use Rattle.hsr_drawing.specs.Frame.{moment_shapes}
-use Rattle.hsr_drawing.proofs.frame.add_moments.Given as goal
-
-abbrev pub invariant-loop-moment : goal.invariant-loop-moment
-invariant-loop-moment l = shapes l.elements.items ≡ shapes l.initial.elements.items ++ flat_map moment_shapes (take l.moment-index l.moments)

@@ -1,7 +1,0 @@
-use Rattle.std.proofs.Common.{◌≡◌, ◌++◌}
-use Rattle.hsr_svg.specs.Elements.{shapes}
-use Rattle.hsr_drawing.specs.Frame.{strokes_below}
-use Rattle.hsr_drawing.proofs.frame.add_strokes.Given as goal
-
-abbrev pub invariant-loop-number : goal.invariant-loop-number
-invariant-loop-number l = shapes l.elements.items ≡ shapes l.initial.elements.items ++ strokes_below l.nodes l.number

@@ -1,6 +1,0 @@
-use Rattle.std.proofs.Common.{sym, append-nil}
-use Rattle.std.proofs.lemmas.Option.{slice_get_past}
-use Rattle.hsr_drawing.proofs.marks.add_sent.Goals as goal
-
-pub returns-in-None : goal.returns-in-None
-returns-in-None c = rw (slice_get_past _ _ c.in-None.ensures.lookup.3) (sym (append-nil _))

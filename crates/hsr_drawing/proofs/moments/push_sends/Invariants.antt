@@ -1,7 +1,0 @@
-use Rattle.std.proofs.Common.{◌≡◌, ◌++◌, take}
-use Rattle.std.specs.List.{flat_map}
-use Rattle.hsr_drawing.specs.Moments.{sent_moments}
-use Rattle.hsr_drawing.proofs.moments.push_sends.Given as goal
-
-abbrev pub invariant-loop-sent : goal.invariant-loop-sent
-invariant-loop-sent l = l.moments.items ≡ l.initial.moments.items ++ flat_map sent_moments (take l.sent-index l.sends)

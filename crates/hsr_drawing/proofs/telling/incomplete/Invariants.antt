@@ -1,7 +1,0 @@
-use Rattle.std.proofs.Common.{◌≡◌, take}
-use Rattle.std.specs.List.{flat_map}
-use Rattle.hsr_drawing.specs.Telling.{incomplete_if}
-use Rattle.hsr_drawing.proofs.telling.incomplete.Given as goal
-
-abbrev pub invariant-loop-sent : goal.invariant-loop-sent
-invariant-loop-sent l = l.numbers.items ≡ flat_map (incomplete_if l.deliveries) (take l.sent-index l.sends)

@@ -1,6 +1,0 @@
-use Rattle.std.proofs.Common.{◌≡◌}
-use Rattle.hsr_hops.specs.Hops.{hops_below}
-use Rattle.hsr_hops.proofs.hopping.hops.Given as goal
-
-abbrev pub invariant-loop-link : goal.invariant-loop-link
-invariant-loop-link g l = l.hops.items ≡ hops_below l.closed.run l.link

@@ -1,4 +1,0 @@
-pub mod Partners
-pub mod Hops
-pub mod Indexed
-pub mod Sides

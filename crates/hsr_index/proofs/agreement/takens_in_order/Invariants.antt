@@ -1,8 +1,0 @@
-use Rattle.std.proofs.Common.{◌≡◌, drop}
-use Rattle.hsr_index.specs.InOrder.{came, told}
-use Rattle.hsr_index.specs.declared.agreement.Passage.TheVariants.{Taken}
-use Rattle.hsr_index.proofs.agreement.takens_in_order.Given as goal
-
--- what is left answers for all
-abbrev pub invariant-loop-at : goal.invariant-loop-at
-invariant-loop-at l = told Taken l.fn.dir l.left ≡ came l.fn.port (drop l.at l.entries) → told Taken l.fn.dir l.fn.rows ≡ came l.fn.port l.entries

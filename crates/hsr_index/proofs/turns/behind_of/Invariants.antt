@@ -1,5 +1,0 @@
-use Rattle.hsr_index.specs.Turns.{AreBehind}
-use Rattle.hsr_index.proofs.turns.behind_of.Given as goal
-
-abbrev pub invariant-loop-node : goal.invariant-loop-node
-invariant-loop-node g l = AreBehind l.kept l.behind.items l.node

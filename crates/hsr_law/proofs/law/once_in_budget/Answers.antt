@@ -1,5 +1,0 @@
-use Rattle.hsr_law.proofs.WithoutBoxes.{once_in_budget}
-use Rattle.hsr_law.proofs.law.once_in_budget.Goals as goal
-
-pub returns : goal.returns
-returns c = once_in_budget

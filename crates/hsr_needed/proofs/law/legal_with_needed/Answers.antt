@@ -1,5 +1,0 @@
-use Rattle.hsr_needed.proofs.Larger.{legal_with_needed}
-use Rattle.hsr_needed.proofs.law.legal_with_needed.Goals as goal
-
-pub returns : goal.returns
-returns c = legal_with_needed

@@ -1,5 +1,0 @@
-use Rattle.hsr_needed.specs.Walked.{IsMostBefore}
-use Rattle.hsr_needed.proofs.needing.needed.Given as goal
-
-abbrev pub invariant-loop-node : goal.invariant-loop-node
-invariant-loop-node g l = IsMostBefore l.closed.run l.node 0 l.needed

@@ -1,4 +1,0 @@
-use Rattle.hsr_needed.proofs.tally.name_latest.Goals as goal
-
-pub returns-in-Ok : goal.returns-in-Ok
-returns-in-Ok c p = rw (c.in-Some.is) (c.in-Ok.ensures.updates.0 (p.node, p.place))

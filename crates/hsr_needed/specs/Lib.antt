@@ -1,5 +1,0 @@
-pub mod Needs
-pub mod Tallied
-pub mod Read
-pub mod Logged
-pub mod Walked

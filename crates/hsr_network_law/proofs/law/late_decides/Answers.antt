@@ -1,5 +1,0 @@
-use Rattle.hsr_network_law.proofs.Late.{late_decides}
-use Rattle.hsr_network_law.proofs.law.late_decides.Goals as goal
-
-pub returns : goal.returns
-returns c = late_decides

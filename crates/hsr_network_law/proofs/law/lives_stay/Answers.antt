@@ -1,5 +1,0 @@
-use Rattle.hsr_network_law.proofs.Lives.{lives_stay}
-use Rattle.hsr_network_law.proofs.law.lives_stay.Goals as goal
-
-pub returns : goal.returns
-returns c = lives_stay

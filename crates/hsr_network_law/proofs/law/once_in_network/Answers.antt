@@ -1,5 +1,0 @@
-use Rattle.hsr_network_law.proofs.Delivered.{once_in_network}
-use Rattle.hsr_network_law.proofs.law.once_in_network.Goals as goal
-
-pub returns : goal.returns
-returns c = once_in_network

@@ -1,5 +1,0 @@
-use Rattle.hsr_network_law.proofs.Rings.{ring_is_crossed}
-use Rattle.hsr_network_law.proofs.law.ring_is_crossed.Goals as goal
-
-pub returns : goal.returns
-returns c = ring_is_crossed

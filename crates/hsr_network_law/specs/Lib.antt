@@ -1,8 +1,0 @@
-pub mod Network
-pub mod Ways
-pub mod Late
-pub mod Delivered
-pub mod Lives
-pub mod Stations
-pub mod Search
-pub mod Rings

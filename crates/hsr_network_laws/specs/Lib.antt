@@ -1,0 +1,8 @@
+pub mod Network
+pub mod Channels
+pub mod Late
+pub mod Delivered
+pub mod Lives
+pub mod Stations
+pub mod Search
+pub mod Rings

@@ -1,6 +1,0 @@
-use Rattle.std.proofs.Common.{◌≡◌, ◌<◌, ℕ}
-use Rattle.hsr_order.specs.Fronts.{length_at, lists_of}
-use Rattle.hsr_order.proofs.timing.are_all_known.Given as goal
-
-abbrev pub invariant-loop-node : goal.invariant-loop-node
-invariant-loop-node l = (k : ℕ) → k < l.node → length_at (lists_of l.times) k ≡ length_at (lists_of l.records) k

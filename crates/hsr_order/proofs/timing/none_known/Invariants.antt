@@ -1,6 +1,0 @@
-use Rattle.std.proofs.Common.{◌≡◌, [], replicate}
-use Rattle.hsr_order.specs.Fronts.{lists_of}
-use Rattle.hsr_order.proofs.timing.none_known.Given as goal
-
-abbrev pub invariant-loop : goal.invariant-loop
-invariant-loop l = lists_of l.times.items ≡ replicate l.index []

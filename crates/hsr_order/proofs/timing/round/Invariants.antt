@@ -1,9 +1,0 @@
-use Rattle.std.proofs.Common.{◌≡◌, false}
-use Rattle.hsr_order.specs.Fronts.{AreBlocked, IsFront, lists_of}
-use Rattle.hsr_order.proofs.timing.round.Given as goal
-
-abbrev pub invariant-loop-node : goal.invariant-loop-node
-invariant-loop-node l = record {
-  front : IsFront (lists_of l.records) (lists_of l.times.items);
-  blocked : l.moved ≡ false → AreBlocked (lists_of l.records) (lists_of l.times.items) l.node;
-}

@@ -1,5 +1,0 @@
-use Rattle.hsr_order.specs.Fronts.{IsFront, lists_of}
-use Rattle.hsr_order.proofs.timing.settle.Given as goal
-
-abbrev pub invariant-loop : goal.invariant-loop
-invariant-loop l = IsFront (lists_of l.records) (lists_of l.times.items)

@@ -1,8 +1,0 @@
-use Rattle.std.proofs.Common.{length}
-use Rattle.std.specs.List.{AllByRecursion}
-use Rattle.hsr_panels.specs.Free.{AreLeft}
-use Rattle.hsr_panels.specs.Panels.{IsPanel}
-use Rattle.hsr_panels.proofs.paneling.joined.Given as goal
-
-abbrev pub invariant-loop : goal.invariant-loop
-invariant-loop l = AllByRecursion (IsPanel l.topology.links) l.panels.items × AreLeft (length l.topology.links) l.panels.items l.free.items

@@ -1,5 +1,0 @@
-use Rattle.hsr_panels.specs.Panels.{IsLaneOf}
-use Rattle.hsr_panels.proofs.ways.beginning.Given as goal
-
-abbrev pub invariant-loop : goal.invariant-loop
-invariant-loop l = IsLaneOf l.topology.links l.lane × IsLaneOf l.topology.links l.at

@@ -1,9 +1,0 @@
-use Rattle.std.proofs.Common.{◌≡◌, ◌++◌, drop}
-use Rattle.hsr_order.specs.Fronts.{lists_of}
-use Rattle.hsr_order.specs.Times.{at_spot}
-use Rattle.hsr_picture.specs.Sends.{sents, sents_from}
-use Rattle.hsr_picture.proofs.sending.sents.Given as goal
-
-abbrev pub invariant-loop-i : goal.invariant-loop-i
-invariant-loop-i l =
-    l.list.items ++ sents_from (at_spot (lists_of l.times)) l.sends l.span l.i (drop l.i l.deliveries) ≡ sents (at_spot (lists_of l.times)) l.sends l.span l.deliveries

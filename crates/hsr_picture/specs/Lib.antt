@@ -1,4 +1,0 @@
-pub mod Wanted
-pub mod Arrows
-pub mod Sends
-pub mod Pictures

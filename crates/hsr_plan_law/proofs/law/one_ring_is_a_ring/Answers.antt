@@ -1,5 +1,0 @@
-use Rattle.hsr_plan_law.proofs.Ring.{one_ring}
-use Rattle.hsr_plan_law.proofs.law.one_ring_is_a_ring.Goals as goal
-
-pub returns : goal.returns
-returns c = one_ring

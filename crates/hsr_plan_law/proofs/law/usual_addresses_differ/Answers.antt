@@ -1,5 +1,0 @@
-use Rattle.hsr_plan_law.proofs.Ring.{usual_differ}
-use Rattle.hsr_plan_law.proofs.law.usual_addresses_differ.Goals as goal
-
-pub returns : goal.returns
-returns c = usual_differ

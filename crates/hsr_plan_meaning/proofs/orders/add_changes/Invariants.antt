@@ -1,6 +1,0 @@
-use Rattle.std.proofs.Common.{◌≡◌, ◌++◌, drop}
-use Rattle.hsr_plan_meaning.specs.Orders.{changes}
-use Rattle.hsr_plan_meaning.proofs.orders.add_changes.Given as goal
-
-abbrev pub invariant-loop-link : goal.invariant-loop-link
-invariant-loop-link l = l.orders.items ++ changes l.after l.link (drop l.link l.before) ≡ l.initial.orders.items ++ changes l.after 0 l.before

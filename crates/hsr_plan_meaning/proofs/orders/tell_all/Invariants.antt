@@ -1,6 +1,0 @@
-use Rattle.std.proofs.Common.{◌≡◌, drop}
-use Rattle.hsr_plan_meaning.specs.Orders.{tell_all}
-use Rattle.hsr_plan_meaning.proofs.orders.tell_all.Given as goal
-
-abbrev pub invariant-loop-occasion : goal.invariant-loop-occasion
-invariant-loop-occasion l = tell_all l.setting l.told (drop l.occasion-index l.occasions) ≡ tell_all l.setting l.initial.told l.occasions

@@ -1,0 +1,68 @@
+-- What a plan means.
+use Rattle.std.specs.Prelude.{◌≡◌, ℕ, List, Result, Ok, Err}
+use Rattle.std.specs.Ordering.{nat_cmp}
+use Rattle.std.specs.List.Sorted.{IsPermutation, IsSortedByKey, IsStableByKey}
+use Rattle.hsr_topology.specs.Topology.{Topology}
+use Rattle.hsr_scenario.specs.declared.steps.Order.{Order}
+use Rattle.hsr_toml.specs.Fallible.{◌>>=◌}
+use Rattle.hsr_plan_text.specs.Fallible.{at_spot}
+use Rattle.hsr_plan_text.specs.Plan.{Plan}
+use Rattle.hsr_plan_text.specs.declared.fault.PlanFault.{PlanFault}
+use Rattle.hsr_plan_text.specs.declared.fault.Spot.TheVariants as spot
+use Rattle.hsr_plan_network.specs.Nodes.{Node}
+use Rattle.hsr_plan_network.specs.Wiring.{Wired, wired}
+use Rattle.hsr_plan_schedule.specs.Occasions.{occasions}
+use Rattle.hsr_plan_schedule.specs.Orders.{orders_of}
+use Rattle.hsr_plan_schedule.specs.Setting.{Setting}
+use Rattle.hsr_plan_schedule.specs.declared.occasion.Occasion.{Occasion}
+
+-- the same occasions by their moments; those of one moment stay in their order
+pub record AreInOrder (listed sorted : List Occasion) : Type 0 where
+  pub same : IsPermutation listed sorted
+  pub sorted_by : IsSortedByKey (λ o. o.at) nat_cmp sorted
+  pub stable : IsStableByKey (λ o. o.at) nat_cmp listed sorted
+
+pub record Meaning : Type 0 where
+  pub nodes : List Node
+  pub topology : Topology
+  pub capacity : ℕ
+  pub orders : List Order
+
+-- the nodes and the topology of a plan, and all that happens in it, as it is listed
+pub record Listed : Type 0 where
+  pub wired : Wired
+  pub occasions : List Occasion
+
+abbrev pub listed : Plan → Result Listed PlanFault
+listed plan = at_spot spot.Top (wired plan.outline.network)
+    >>= λ w. occasions plan w.nodes w.topology.links >>= λ os. Ok (record { wired = w; occasions = os })
+
+-- where a plan's occasions take place, among its nodes and links
+abbrev pub setting : Plan → Wired → Setting
+setting plan wired = record {
+  moves = plan.outline.moves;
+  capacity = plan.outline.capacity;
+  nodes = wired.nodes;
+  links = wired.topology.links;
+  streams = plan.streams;
+}
+
+-- the orders that tell what is listed, in order
+abbrev pub Orders : Plan → Listed → List Order → Type 0
+Orders plan all orders = (os : List Occasion) × AreInOrder all.occasions os × (orders ≡ orders_of (setting plan all.wired) os)
+
+-- the nodes, the topology and the capacity of a plan, and the orders that tell what is listed, in order
+pub record Tells (plan : Plan) (all : Listed) (m : Meaning) : Type 0 where
+  pub nodes : m.nodes ≡ all.wired.nodes
+  pub topology : m.topology ≡ all.wired.topology
+  pub capacity : m.capacity ≡ plan.outline.capacity
+  pub orders : Orders plan all m.orders
+
+-- P of what is listed in a plan, where that is no fault
+abbrev pub IfListed : Result Listed PlanFault → (Listed → Type 0) → Type 0
+IfListed (Ok all) P = P all
+IfListed (Err fault) P = ⊥
+
+-- what a plan means, where it means something
+abbrev pub Means : Plan → Meaning → Type 0
+Means plan m = IfListed (listed plan) (λ all. Tells plan all m)

@@ -1,0 +1,127 @@
+-- When supervision and the frames of streams are sent.
+use Rattle.std.specs.Prelude.{ℕ, zero, suc, ◌+◌, ◌-◌, ◌*◌, ◌^◌, min, nat_lt, nat_le, ◌==◌, ◌||◌, Bool, true, false, ⊤, List, [], ◌∷◌, ◌++◌, length, slice_get, Option, Some, None, Result, Ok, Err, if◌then◌else◌}
+use Rattle.std.specs.List.{list_all}
+use Rattle.hsr_node.specs.declared.place.Place.{Place}
+use Rattle.hsr_node.specs.declared.place.Place.TheVariants.{Danh, RedBox, QuadBox, Station}
+use Rattle.hsr_toml.specs.Fallible.{◌>>=◌, guard}
+use Rattle.hsr_plan_text.specs.Plan.{Outline, Stream, Timing}
+use Rattle.hsr_plan_text.specs.declared.fault.Key.TheVariants as key
+use Rattle.hsr_plan_text.specs.declared.fault.What.{What}
+use Rattle.hsr_plan_text.specs.declared.fault.What.TheVariants.{Refused}
+use Rattle.hsr_plan_text.specs.declared.fault.Refusal.TheVariants.{Endless, TooLate, TooMany, TooSmall}
+use Rattle.hsr_plan_text.specs.declared.plan.Framing.{Framing}
+use Rattle.hsr_plan_text.specs.declared.plan.Kind.{Kind}
+use Rattle.hsr_plan_network.specs.Checks.{each_passes, unless_held}
+use Rattle.hsr_plan_network.specs.Nodes.{Node}
+use Rattle.hsr_plan_payload.specs.Payload.{payload}
+use Rattle.hsr_plan_schedule.specs.Senders.{sources, target}
+use Rattle.hsr_plan_schedule.specs.declared.occasion.Happening.TheVariants.{Life, Send}
+use Rattle.hsr_plan_schedule.specs.declared.occasion.Occasion.{Occasion}
+use Rattle.hsr_plan_schedule.specs.declared.occasion.Sender.{Sender}
+use Rattle.hsr_plan_schedule.specs.declared.occasion.Sent.{Sent}
+
+-- ---- supervision
+
+abbrev pub supervises : Place → Bool
+supervises (Danh mac mode) = true
+supervises (RedBox mac mode) = true
+supervises QuadBox = false
+supervises (Station macs) = false
+
+abbrev pub life_of : Place → ℕ → ℕ → List Occasion
+life_of place at k = if supervises place then record { at = at; what = Life k } ∷ [] else []
+
+-- each DANH and each RedBox, of nodes that follow k others
+abbrev pub lives_at : ℕ → ℕ → List Node → List Occasion
+lives_at at k [] = []
+lives_at at k (node ∷ nodes) = life_of node.place at k ++ lives_at at (k + 1) nodes
+
+-- so many rounds at most, from a moment on
+unfoldable pub rounds : ℕ → ℕ → ℕ → ℕ → List Node → List Occasion
+rounds zero at every until nodes = []
+rounds (suc n) at every until nodes = if nat_lt at until then lives_at at 0 nodes ++ rounds n (at + every) every until nodes else []
+
+-- at most 16384 rounds
+abbrev pub lives_until : ℕ → Option ℕ → List Node → Result (List Occasion) What
+lives_until every None nodes = Err (Refused (Endless key.Until))
+lives_until every (Some until) nodes = guard (nat_le until (every * 16384)) (Refused (TooMany key.Life)) >>= λ _. Ok (rounds 16384 0 every until nodes)
+
+abbrev pub lives : Outline → List Node → Result (List Occasion) What
+lives outline nodes = if outline.life == 0 then Ok [] else lives_until outline.life outline.until nodes
+
+-- ---- streams
+
+-- the earlier of two moments
+abbrev pub earlier : Option ℕ → Option ℕ → Option ℕ
+earlier None b = b
+earlier (Some a) None = Some a
+earlier (Some a) (Some b) = Some (min a b)
+
+abbrev pub end_if : Option ℕ → Option ℕ → Result ℕ What
+end_if (Some until) count = Ok until
+end_if None (Some count) = Ok (2 ^ 41)
+end_if None None = Err (Refused (Endless key.Every))
+
+-- where a stream ends: with itself or with the plan; one that has a count needs no end
+abbrev pub end_of : Option ℕ → Timing → Result ℕ What
+end_of until timing = end_if (earlier until timing.until) timing.count
+
+-- how many are sent from a start on at most
+abbrev pub most_sent : Option ℕ → ℕ
+most_sent None = 2 ^ 20 + 1
+most_sent (Some count) = min count (2 ^ 20 + 1)
+
+-- frames of one sender from one start on, so many at most: from the k-th, at a moment, with this gap to the next
+unfoldable pub run : ℕ → ℕ → ℕ → ℕ → Timing → ℕ → Sent → List Occasion
+run zero k at gap timing until sent = []
+run (suc n) k at gap timing until sent = if nat_lt at until
+    then record { at = at; what = Send (record sent { count = k }) } ∷ run n (k + 1) (at + gap) (min (gap * timing.grow) timing.most) timing until sent
+    else []
+
+-- a start ends the one before it
+abbrev pub next_end : Option ℕ → ℕ → ℕ
+next_end None until = until
+next_end (Some start) until = min start until
+
+-- frames of one sender, of starts that follow s others
+abbrev pub runs : ℕ → List ℕ → Timing → ℕ → Sent → List Occasion
+runs s [] timing until sent = []
+runs s (start ∷ more) timing until sent =
+    run (most_sent timing.count) 0 start (min timing.every timing.most) timing (next_end (slice_get timing.starts (s + 1)) until) (record sent { state = s })
+    ++ runs (s + 1) more timing until sent
+
+-- frames of senders that follow j others, of a stream with this number
+abbrev pub sent_by : ℕ → ℕ → List Sender → Timing → ℕ → List ℕ → List Occasion
+sent_by i j [] timing until dst = []
+sent_by i j (s ∷ more) timing until dst =
+    runs 0 timing.starts timing until (record { stream = i; place = j; sender = s; dst = dst; state = 0; count = 0 })
+    ++ sent_by i (j + 1) more timing until dst
+
+-- how many octets the shortest payload of a kind has, in the first frame of a name
+abbrev pub shortest : Kind → List ℕ → ℕ
+shortest kind name = length (payload kind 0 name 0 0)
+
+-- no size is said, or one of as many octets
+abbrev pub is_enough : Framing → ℕ → Bool
+is_enough framing least = framing.size == 0 || nat_le least framing.size
+
+unfoldable pub fits : Framing → List ℕ → Result ⊤ What
+fits framing name = unless_held (is_enough framing (shortest framing.kind name)) (TooSmall (shortest framing.kind name))
+
+-- how much room is left behind so many, if there is as much
+unfoldable pub left : ℕ → ℕ → Option ℕ
+left room n = if nat_le n room then Some (room - n) else None
+
+-- all these, if there is room for them
+abbrev pub in_room : ℕ → List Occasion → Result (List Occasion) What
+in_room room os = unless_held (nat_le (length os) room) (TooMany key.Stream) >>= λ _. Ok os
+
+-- each start comes before the end
+abbrev pub starts_in_time : ℕ → List ℕ → Result ⊤ What
+starts_in_time until starts = unless_held (list_all (λ start. nat_lt start until) starts) (TooLate key.Start)
+
+-- all frames of a stream, if there is room for them
+abbrev pub sends : List Node → Option ℕ → ℕ → ℕ → Stream → Result (List Occasion) What
+sends nodes until room i stream = target nodes stream.framing.target >>= λ dst. sources nodes dst [] stream.from
+    >>= λ senders. each_passes (fits stream.framing) stream.from >>= λ _. end_of until stream.timing
+    >>= λ until. starts_in_time until stream.timing.starts >>= λ _. in_room room (sent_by i 0 senders stream.timing until dst)

@@ -1,0 +1,30 @@
+//! What a plan has happen, and when: its occasions in order, as the orders of a scenario, with topology and capacity.
+//!
+//! Its modules, in the order in which to read them:
+//! - `occasion`: what happens at the moments of a plan
+//! - `senders`: who sends, and to whom
+//! - `events`: the events of a plan as occasions
+//! - `changes`: events that change something
+//! - `lives`: when supervision frames are sent
+//! - `sends`: when the frames of streams are sent
+//! - `occasions`: all that happens in a plan
+//! - `setting`: where the occasions of a plan take place
+//! - `hearing`: what RedBoxes hear of the stations behind them
+//! - `orders`: the orders of a scenario that tell what happens in a plan
+//! - `meaning`: what a plan means
+#![tactic(auto)]
+
+mod changes;
+mod events;
+mod hearing;
+mod lives;
+mod meaning;
+mod occasion;
+mod occasions;
+mod orders;
+mod senders;
+mod sends;
+mod setting;
+
+pub use meaning::{Meaning, meaning_of};
+pub use occasion::{Happening, Occasion, Sender, Sent};

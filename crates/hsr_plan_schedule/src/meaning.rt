@@ -1,0 +1,140 @@
+//! What a plan means.
+ghost use Rattle.std.specs.Prelude.{◌≡◌, IfOk, IfErr, OnOk};
+ghost use Rattle.hsr_plan_text.specs.Fallible.{FailsAt, GivesAt, at_spot};
+ghost use Rattle.hsr_plan_text.specs.declared.fault.Spot.TheVariants as spot;
+ghost use Rattle.hsr_plan_network.specs.Wiring.{wired};
+ghost use Rattle.hsr_plan_schedule.specs.Meaning.{AreInOrder, Means, Tells, listed, setting};
+ghost use Rattle.hsr_plan_schedule.specs.Orders.{orders_of};
+ghost use Rattle.hsr_plan_text.specs.declared.fault.What.TheVariants.{NoMemory as NoRoom};
+
+use crate::occasion::Occasion;
+use crate::occasions::{at_spot, occasions};
+use crate::orders::orders_of;
+use crate::setting::Setting;
+use hsr_frame::NoMemory;
+use hsr_plan_network::{Node, Wired, wire};
+use hsr_plan_text::{Plan, PlanFault, Spot, What};
+use hsr_scenario::Order;
+use hsr_topology::Topology;
+use std::alloc::Global;
+use std::marker::Model;
+
+/// What a plan means: its nodes with their names, the topology, how many copies wait in each direction of a link, and the orders.
+#[derive(Debug, Drop)]
+pub struct Meaning {
+    pub nodes: Vec<Node>,
+    pub topology: Topology,
+    pub capacity: usize,
+    pub orders: Vec<Order>,
+}
+
+impl Model for Meaning {
+    ghost use Rattle.hsr_plan_schedule.specs.Meaning.{Meaning};
+
+    ghost Value = { Meaning };
+
+    ghost view = { λ m. record { nodes = m.nodes.items; topology = m.topology; capacity = m.capacity; orders = m.orders.items } };
+}
+
+/// Sorts occasions by their moments.
+fn sort(occasions: &mut Vec<Occasion>) -> Result<(), NoMemory>
+    ensures { OnOk result (AreInOrder occasions.old.items occasions.new.items) }
+{
+    // A stable sort: occasions of one moment stay as they are listed.
+    occasions.sort_by_key(|occasion| occasion.at)?;
+    Ok(())
+}
+
+/// The nodes and the topology of a plan, and all that happens in it, as it is listed.
+#[derive(Drop)]
+struct Listed {
+    wired: Wired,
+    occasions: Vec<Occasion>,
+}
+
+impl Model for Listed {
+    ghost use Rattle.hsr_plan_schedule.specs.Meaning.{Listed};
+
+    ghost Value = { Listed };
+
+    ghost view = { λ l. record { wired = l.wired; occasions = l.occasions.items } };
+}
+
+/// The nodes and the topology of a plan.
+#[tactic(auto, using(hsr_plan_text::proofs::Lists::spotted))]
+fn wired(alloc: Global, plan: &Plan) -> Result<Wired, PlanFault>
+    ensures { GivesAt (λ w. w) result (at_spot spot.Top (wired plan.now.outline.network)) }
+{
+    at_spot(Spot::Top, wire(alloc, &plan.outline.network))
+}
+
+/// What is listed in a plan.
+fn all_listed(alloc: Global, plan: &Plan) -> Result<Listed, PlanFault>
+    ensures { GivesAt (λ l. l) result (listed plan.now) }
+{
+    let wired = wired(alloc, plan)?;
+    let occasions = occasions(alloc, plan, wired.nodes.as_slice(), wired.topology.links())?;
+    Ok(Listed { wired, occasions })
+}
+
+/// The orders that tell occasions of a plan.
+fn orders_of_plan(
+    alloc: Global,
+    plan: &Plan,
+    wired: &Wired,
+    occasions: &[Occasion],
+) -> Result<Vec<Order>, NoMemory>
+    ensures { IfOk result (λ v. v.items ≡ orders_of (setting plan.now wired.now) occasions.now) }
+{
+    let setting = Setting {
+        moves: plan.outline.moves,
+        capacity: plan.outline.capacity,
+        nodes: wired.nodes.as_slice(),
+        links: wired.topology.links(),
+        streams: plan.streams.as_slice(),
+    };
+    orders_of(alloc, &setting, occasions)
+}
+
+/// The orders that tell what is listed in a plan, in order.
+fn told_in_order(alloc: Global, plan: &Plan, listed: Listed) -> Result<Meaning, NoMemory>
+    ensures { IfOk result (λ m. Tells plan.now listed m) }
+{
+    let wired = listed.wired;
+    // Listed and in order are two functions, so that each owns one list that it may have to drop.
+    let mut occasions = listed.occasions;
+    sort(&mut occasions)?;
+    let orders = orders_of_plan(alloc, plan, &wired, occasions.as_slice())?;
+    Ok(Meaning {
+        nodes: wired.nodes,
+        topology: wired.topology,
+        capacity: plan.outline.capacity,
+        orders,
+    })
+}
+
+/// The fault where room is refused.
+fn no_memory() -> PlanFault
+    ensures { result.what ≡ NoRoom }
+{
+    PlanFault {
+        spot: Spot::Top,
+        what: What::NoMemory,
+    }
+}
+
+/// What a plan means. At one moment come events as they are listed, then the supervision of all DANHs and RedBoxes in their order, each
+/// RedBox also about the stations behind it that it knows then, then the frames of streams as they are listed. What is off sends
+/// nothing, and its links are down. Where copies move by hops, the orders have no moves of copies yet, and supervision about all
+/// stations. A fault is the first in this order: the nodes and links, the events, the supervision, over 2^20 of these, the streams, and
+/// over 2^20 of all. `NoMemory` comes where a growth was refused, in place of any other answer.
+pub fn meaning_of(alloc: Global, plan: &Plan) -> Result<Meaning, PlanFault>
+    ensures ok { IfOk result (λ m. Means plan.now m) }
+    ensures err { IfErr result (λ e. FailsAt e e.what (listed plan.now)) }
+{
+    let listed = all_listed(alloc, plan)?;
+    match told_in_order(alloc, plan, listed) {
+        Ok(meaning) => Ok(meaning),
+        Err(_) => Err(no_memory()),
+    }
+}

@@ -1,6 +1,0 @@
-use Rattle.std.proofs.Common.{drop}
-use Rattle.hsr_playing.proofs.Orders.{PlaysOn}
-use Rattle.hsr_playing.proofs.playing.play.Given as goal
-
-abbrev pub invariant-loop-place : goal.invariant-loop-place
-invariant-loop-place g l = PlaysOn g.row.C l.place (drop l.place l.orders) l.orders l.world l.fn.world

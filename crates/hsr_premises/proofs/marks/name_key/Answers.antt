@@ -1,4 +1,0 @@
-use Rattle.hsr_premises.proofs.marks.name_key.Goals as goal
-
-pub returns : goal.returns
-returns c k = rw (← c.key.view_is) (c.in-Ok.ensures.updates.0 (k.src, k.seq))

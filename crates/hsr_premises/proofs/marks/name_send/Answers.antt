@@ -1,4 +1,0 @@
-use Rattle.hsr_premises.proofs.marks.name_send.Goals as goal
-
-pub returns : goal.returns
-returns c p = rw (c.in-Some.is) (c.in-Ok.ensures.updates.0 (p.node, p.place))

@@ -1,0 +1,58 @@
+-- From tests of nodes and links to a network, or to the first reason why they are none.
+use Rattle.std.proofs.Common.{◌≡◌, ℕ, ◌+◌, ◌<◌, Bool, true, List, [], ◌∷◌, length, slice_index_or, refl, sym, ◌∙◌, subst, arith, zero, suc, ⊎_elim}
+use Rattle.std.specs.List.{list_all}
+use Rattle.std.proofs.lemmas.Bool.{and_from, and_parts, cases_lt}
+use Rattle.hsr_link.specs.declared.row.Dir.{Dir}
+use Rattle.hsr_link.specs.declared.row.Dir.TheVariants.{Forth, Back}
+use Rattle.hsr_node.specs.declared.place.Place.{Place}
+use Rattle.hsr_node.specs.declared.place.Place.TheVariants.{Danh, RedBox, QuadBox, Station}
+use Rattle.hsr_topology.specs.declared.end.End.{End}
+use Rattle.hsr_topology.specs.Wired.{EndsLeadBack, IsWired}
+use Rattle.hsr_run_laws.specs.Run.{Run, ends_of, from_end, place_of, to_end}
+use Rattle.hsr_network_laws.specs.Network.{IsNetwork, Channel, is_edge_of, is_in_h_or_u, start_of, stop_of}
+use Rattle.hsr_network_laws.proofs.Wired.{wired_network}
+use Rattle.hsr_reach.specs.Addressed.{AreLike, IsUnlikeAt, LikeBelow}
+use Rattle.hsr_reach.specs.Networks.{AreGoingRound, HasLikeEnds, HaveOwnAddresses, IsFirstUnlike}
+
+all_at : {X : Type 0} (p : X → Bool) (xs : List X) (k : ℕ) (d : X) → list_all p xs ≡ true → k < length xs → p (slice_index_or xs k d) ≡ true
+all_at p [] k d h below = absurd (omega (arith, below))
+all_at p (x ∷ xs) zero d h below = (and_parts (p x) (list_all p xs) h).0
+all_at p (x ∷ xs) (suc k) d h below = all_at p xs k d (and_parts (p x) (list_all p xs) h).1 (omega (arith, below))
+
+at_all : {X : Type 0} (p : X → Bool) (xs : List X) (d : X) → ((k : ℕ) → k < length xs → p (slice_index_or xs k d) ≡ true) → list_all p xs ≡ true
+at_all p [] d h = refl
+at_all p (x ∷ xs) d h = and_from (p x) (list_all p xs) (h zero (omega arith)) (at_all p xs d (λ k below. h (suc k) (omega (arith, below))))
+
+pub rounds_all : (run : Run) → list_all is_in_h_or_u run.places ≡ true → AreGoingRound run
+rounds_all run h = λ k below. all_at is_in_h_or_u run.places k QuadBox h below
+
+pub all_rounds : (run : Run) → AreGoingRound run → list_all is_in_h_or_u run.places ≡ true
+all_rounds run h = at_all is_in_h_or_u run.places QuadBox h
+
+index_any : {X : Type 0} (xs : List X) (k : ℕ) (d e : X) → k < length xs → slice_index_or xs k d ≡ slice_index_or xs k e
+index_any [] k d e below = absurd (omega (arith, below))
+index_any (x ∷ xs) zero d e below = refl
+index_any (x ∷ xs) (suc k) d e below = index_any xs k d e (omega (arith, below))
+
+-- one more link
+pub like_more : (places : List Place) (links : List (List End)) (l : ℕ) → l < length links → AreLike places (slice_index_or links l []) →
+    LikeBelow places links l → LikeBelow places links (l + 1)
+like_more places links l below like before m d low =
+    ⊎_elim (λ lower. before m d lower)
+    (λ high.
+    let same : m ≡ l = omega (arith, low, high) in
+    subst (λ n. AreLike places (slice_index_or links n d)) (sym same) (subst (AreLike places) (index_any links l [] d below) like))
+    (cases_lt m l)
+
+pub first_unlike_is : (run : Run) (l : ℕ) → IsUnlikeAt run.places run.links l → IsFirstUnlike run l
+first_unlike_is run l at = record { below = at.below; unlike = at.unlike []; before = λ m low. at.before m [] low }
+
+pub network_is : (run : Run) → IsWired run.places run.links → EndsLeadBack run.links → AreGoingRound run → HaveOwnAddresses run → LikeBelow run.places run.links (length run.links) → IsNetwork run
+network_is run wired back modes own like = wired_network run wired back modes own sides
+  where
+    sides_at : (l : ℕ) (dir : Dir) → l < length run.links → is_edge_of run (from_end dir (ends_of run l)) ≡ is_edge_of run (to_end dir (ends_of run l))
+    sides_at l Forth below = like l [] below
+    sides_at l Back below = sym (like l [] below)
+
+    sides : (channel : Channel) → channel.link < length run.links → is_edge_of run (start_of run channel) ≡ is_edge_of run (stop_of run channel)
+    sides channel below = sides_at channel.link channel.dir below

@@ -1,9 +1,0 @@
-use Rattle.std.proofs.Common.{ap, get_or}
-use Rattle.hsr_link.specs.Link.{Link}
-use Rattle.hsr_spans.specs.Views.{mend_span, span_view}
-use Rattle.hsr_spans.proofs.Places.{on_span_seen}
-use Rattle.hsr_spans.proofs.span.mend_at.Goals as goal
-
-pub returns : goal.returns
-returns c = on_span_seen mend_span c.args.spans.now c.args.link _ c.index-spans-link.result c.requires
-    (ap (λ (l : Link). record (span_view (get_or c.args.spans.now c.args.link c.index-spans-link.result)) { link = l }) c.mend.ensures)

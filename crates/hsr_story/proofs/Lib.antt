@@ -1,2 +1,0 @@
-pub mod Pairing
-pub mod Showing

@@ -1,7 +1,0 @@
-use Rattle.std.proofs.Common.{◌≡◌, map, take}
-use Rattle.hsr_order.specs.Fronts.{lists_of}
-use Rattle.hsr_story.specs.Indexed.{mains_of}
-use Rattle.hsr_story.proofs.mains.all_places.Given as goal
-
-abbrev pub invariant-loop-node : goal.invariant-loop-node
-invariant-loop-node g l = lists_of l.records.items ≡ map mains_of (take l.node l.closed.run.records)

@@ -1,8 +1,0 @@
-use Rattle.std.proofs.Common.{take}
-use Rattle.hsr_order.specs.Fronts.{lists_of}
-use Rattle.hsr_order.specs.Times.{at_spot}
-use Rattle.hsr_story.specs.Story.{AreShown}
-use Rattle.hsr_story.proofs.telling.all_shown.Given as goal
-
-abbrev pub invariant-loop-i : goal.invariant-loop-i
-invariant-loop-i l = AreShown (at_spot (lists_of l.times)) (take l.i l.hops) l.rows.items

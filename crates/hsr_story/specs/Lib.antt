@@ -1,4 +1,0 @@
-pub mod Causes
-pub mod Story
-pub mod Choice
-pub mod Indexed

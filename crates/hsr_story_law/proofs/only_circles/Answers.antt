@@ -1,5 +1,0 @@
-use Rattle.hsr_story_law.proofs.Standing.{no_times}
-use Rattle.hsr_story_law.proofs.only_circles.Goals as goal
-
-pub returns : goal.returns
-returns c = λ f finished none. no_times f.run f.plan finished.closed none

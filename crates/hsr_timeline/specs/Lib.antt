@@ -1,0 +1,11 @@
+pub mod Times
+pub mod Fronts
+pub mod Names
+pub mod Partners
+pub mod Hops
+pub mod IndexedCopies
+pub mod Sides
+pub mod Causes
+pub mod Story
+pub mod Choice
+pub mod IndexedCauses

@@ -1,0 +1,33 @@
+-- Which of some copies is which of others. Copies that are equal in everything stand in the same order on both sides: the k-th here
+-- is the k-th there.
+--     places        where a copy stands, rising
+--     partner       where the copy at a place of one list stands in another
+use Rattle.std.specs.Prelude.{ℕ, Bool, false, List, length, map, filter, take, count_by, slice_get, slice_index_or, Option, Some, None}
+use Rattle.std.specs.List.{range_with_len}
+use Rattle.hsr_node.specs.declared.event.Carried.{Carried}
+use Rattle.hsr_run_index.specs.Often.{is_same_carried}
+
+-- this is the copy
+abbrev pub is_at : Carried → Option Carried → Bool
+is_at copy None = false
+is_at copy (Some other) = is_same_carried copy other
+
+-- the places below one at which a copy stands
+abbrev pub places_below : Carried → List (Option Carried) → ℕ → List ℕ
+places_below copy xs n = filter (λ i. is_at copy (slice_index_or xs i None)) (range_with_len 0 n)
+
+abbrev pub places : Carried → List (Option Carried) → List ℕ
+places copy xs = places_below copy xs (length xs)
+
+-- of the places at which a copy stands, the one that so many equal copies before it leave
+abbrev pub partner_of : List (Option Carried) → List (Option Carried) → ℕ → Option Carried → Option ℕ
+partner_of xs ys j None = None
+partner_of xs ys j (Some copy) = slice_get (places copy xs) (count_by (is_at copy) (take j ys))
+
+-- where the copy that stands at a place of the second list stands in the first
+abbrev pub partner : List (Option Carried) → List (Option Carried) → ℕ → Option ℕ
+partner xs ys j = partner_of xs ys j (slice_index_or ys j None)
+
+-- the partners of all
+abbrev pub partners : List (Option Carried) → List (Option Carried) → List (Option ℕ)
+partners xs ys = map (partner xs ys) (range_with_len 0 (length ys))

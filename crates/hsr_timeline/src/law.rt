@@ -1,0 +1,8 @@
+//! What holds of times.
+ghost use Rattle.hsr_timeline.specs.Times.{CausesFirst};
+
+/// Each entry's time is after those of all that it follows: of the entry before it in its record, of the main worker's entry
+/// before it, and of the entry that passed the copy with which it came.
+pub fn causes_first()
+    ensures { CausesFirst }
+{}

@@ -1,9 +1,0 @@
-pub mod Transcript
-pub mod Reading
-pub mod Form
-pub mod Items
-pub mod Plain
-pub mod CodeReads
-pub mod Readable
-pub mod Fits
-pub mod Written

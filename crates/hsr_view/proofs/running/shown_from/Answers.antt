@@ -1,0 +1,8 @@
+use Rattle.std.specs.Prelude.{option_map}
+use Rattle.hsr_view.proofs.Texts.{unshown_text}
+use Rattle.hsr_view.proofs.running.shown_from.Goals as goal
+
+pub returns-in-Ok-clause-unshown : goal.returns-in-Ok-clause-unshown
+returns-in-Ok-clause-unshown g c =
+    unshown_text c.args.what.now (option_map (λ s. s.now) c.args.scenario) (g.R.Read.remaining c.args.reader.now) (g.R.Read.remaining c.read_head.new.reader) c.in-Ok.head.items c.as_slice.result.now c.shown.result
+    c.in-Ok.ensures.head c.as_slice.ensures.value c.shown.ensures.unshown

@@ -1,5 +1,0 @@
-mod Showing
-mod Heads
-pub mod Sending
-mod Unshown
-mod Texts

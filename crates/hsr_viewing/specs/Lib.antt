@@ -1,8 +1,0 @@
-pub mod Agreeing
-pub mod Given
-pub mod Unnamed
-pub mod Fault
-pub mod Viewing
-pub mod Refusals
-pub mod Reads
-pub mod Ends

@@ -1,7 +1,0 @@
-use Rattle.hsr_ways.proofs.Spreading.{IsSpreadBelow}
-use Rattle.hsr_ways.specs.Spread.{next_node}
-use Rattle.hsr_ways.specs.Started.{ways_from}
-use Rattle.hsr_ways.proofs.search.Ways.spread.Given as goal
-
-abbrev pub invariant-loop-way : goal.invariant-loop-way
-invariant-loop-way g l = IsSpreadBelow l.fn.self l.fn.send l.fn.frame l.fn.from (ways_from (next_node l.fn.self l.fn.send l.fn.from) 0 l.fn.self.links) l.way-index l.initial.front.found l.initial.front.waiting l.front.found l.front.waiting

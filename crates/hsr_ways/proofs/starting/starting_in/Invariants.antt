@@ -1,6 +1,0 @@
-use Rattle.std.proofs.Common.{◌≡◌, map}
-use Rattle.hsr_ways.specs.Started.{starting_in}
-use Rattle.hsr_ways.proofs.starting.starting_in.Given as goal
-
-abbrev pub invariant-loop-node : goal.invariant-loop-node
-invariant-loop-node l = map (λ ways. ways.items) l.all.items ≡ starting_in l.node l.links

@@ -1,5 +1,0 @@
-use Rattle.hsr_world.proofs.Closed as closed
-use Rattle.hsr_world.proofs.law.always_closes.Goals as goal
-
-pub returns : goal.returns
-returns c = closed.always_closes

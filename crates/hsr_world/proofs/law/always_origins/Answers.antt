@@ -1,5 +1,0 @@
-use Rattle.hsr_world.proofs.Origin as origin
-use Rattle.hsr_world.proofs.law.always_origins.Goals as goal
-
-pub returns : goal.returns
-returns c = origin.always_origins

@@ -1,5 +1,0 @@
-use Rattle.hsr_world.proofs.Wires as wires
-use Rattle.hsr_world.proofs.law.always_placed.Goals as goal
-
-pub returns : goal.returns
-returns c = wires.always_placed

@@ -1,0 +1,5 @@
+use Rattle.hsr_world_laws.proofs.Closed as closed
+use Rattle.hsr_world_laws.proofs.law.always_of_send.Goals as goal
+
+pub returns : goal.returns
+returns c = closed.always_of_send

@@ -1,0 +1,5 @@
+use Rattle.hsr_world_laws.proofs.Wires as wires
+use Rattle.hsr_world_laws.proofs.law.always_placed.Goals as goal
+
+pub returns : goal.returns
+returns c = wires.always_placed

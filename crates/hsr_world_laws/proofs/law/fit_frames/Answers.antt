@@ -1,0 +1,5 @@
+use Rattle.hsr_world_laws.proofs.FitFrames as fit
+use Rattle.hsr_world_laws.proofs.law.fit_frames.Goals as goal
+
+pub returns : goal.returns
+returns c = fit.fit_frames
