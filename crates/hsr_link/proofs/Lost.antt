@@ -43,7 +43,7 @@ fewer_wait dir rows copy some = rw (waiting_turned dir LostCut 0 rows refl) (sho
 lost_none : (dir : Dir) (first : ℕ) (rows : List Row) → waiting dir first rows ≡ [] → map (lost_of dir) rows ≡ rows
 lost_none dir first [] none = refl
 lost_none dir first (x ∷ rows) none =
-    (elim (waits dir x) as (λ b. cond b (record { place = first; carried = x.carried } ∷ waiting dir (first + 1) rows) (waiting dir (first + 1) rows) ≡ [] → cond b (with_fate LostCut x) x ∷ map (lost_of dir) rows ≡ x ∷ rows) [
+    (elim (waits dir x) as (λ b. cond b (record { index = first; carried = x.carried } ∷ waiting dir (first + 1) rows) (waiting dir (first + 1) rows) ≡ [] → cond b (with_fate LostCut x) x ∷ map (lost_of dir) rows ≡ x ∷ rows) [
       | true ↦ λ e. absurd (cc)
       | false ↦ λ e. ap (λ rows. x ∷ rows) (lost_none dir (first + 1) rows e)
     ]) none

@@ -19,9 +19,9 @@ waiting_append dir first (x ∷ rows) row =
     grind (arith, common_steps)
 
 -- one row more, which may wait
-pub waiting_push : (dir : Dir) (rows : List Row) (row : Row) (place : ℕ) → place ≡ length rows → waiting dir 0 (rows ++ row ∷ []) ≡ waiting dir 0 rows ++ waiting dir place (row ∷ [])
-waiting_push dir rows row place at =
-    let start : 0 + length rows ≡ place = omega arith in
+pub waiting_push : (dir : Dir) (rows : List Row) (row : Row) (index : ℕ) → index ≡ length rows → waiting dir 0 (rows ++ row ∷ []) ≡ waiting dir 0 rows ++ waiting dir index (row ∷ [])
+waiting_push dir rows row index at =
+    let start : 0 + length rows ≡ index = omega arith in
     rw start at (waiting_append dir 0 rows row)
 
 -- as many wait as are Queued
@@ -33,19 +33,19 @@ length_waiting dir first (x ∷ rows) =
 
 -- ---- what waits first
 
--- its place is that of a row
-pub place_of_first : (dir : Dir) (first : ℕ) (rows : List Row) (w : Waiting) → slice_get (waiting dir first rows) 0 ≡ Some w → (first ≤ w.place) × (w.place < first + length rows)
-place_of_first dir first [] w spot = absurd (cc)
-place_of_first dir first (x ∷ rows) w spot =
-    (elim (waits dir x) as (λ b. slice_get (cond b (record { place = first; carried = x.carried } ∷ waiting dir (first + 1) rows) (waiting dir (first + 1) rows)) 0 ≡ Some w → (first ≤ w.place) × (w.place < first + length (x ∷ rows))) [
+-- its index is that of a row
+pub index_of_first : (dir : Dir) (first : ℕ) (rows : List Row) (w : Waiting) → slice_get (waiting dir first rows) 0 ≡ Some w → (first ≤ w.index) × (w.index < first + length rows)
+index_of_first dir first [] w spot = absurd (cc)
+index_of_first dir first (x ∷ rows) w spot =
+    (elim (waits dir x) as (λ b. slice_get (cond b (record { index = first; carried = x.carried } ∷ waiting dir (first + 1) rows) (waiting dir (first + 1) rows)) 0 ≡ Some w → (first ≤ w.index) × (w.index < first + length (x ∷ rows))) [
       | true ↦ λ e. here e
-      | false ↦ λ e. (let later = place_of_first dir (first + 1) rows w e in (omega arith, omega arith))
+      | false ↦ λ e. (let later = index_of_first dir (first + 1) rows w e in (omega arith, omega arith))
     ]) spot
   where
-    here : Some (record { place = first; carried = x.carried }) ≡ Some w → (first ≤ w.place) × (w.place < first + length (x ∷ rows))
+    here : Some (record { index = first; carried = x.carried }) ≡ Some w → (first ≤ w.index) × (w.index < first + length (x ∷ rows))
     here e =
-        let same : record { place = first; carried = x.carried } ≡ w = cc in
-        let place : first ≡ w.place = ap (λ (w : Waiting). w.place) same in
+        let same : record { index = first; carried = x.carried } ≡ w = cc in
+        let index : first ≡ w.index = ap (λ (w : Waiting). w.index) same in
         (omega arith, omega arith)
 
 -- its copy is that of the row
@@ -70,25 +70,25 @@ waits_at_front dir rows queue capacity front is holds =
 pub copy_at_front : (dir : Dir) (rows : List Row) (queue : List Waiting) (spot : Option Waiting) → queue ≡ waiting dir 0 rows → spot ≡ slice_get queue 0 → option_map (λ (w : Waiting). w.carried) spot ≡ first_copy dir rows
 copy_at_front dir rows queue spot holds at = rw (at, holds) (copy_of_first dir 0 rows)
 
--- the row at its place is the one that is turned
-pub turned_set : (dir : Dir) (fate : Fate) (first k : ℕ) (rows : List Row) (w : Waiting) (d : Row) → slice_get (waiting dir first rows) 0 ≡ Some w → w.place ≡ first + k → slice_set rows k (with_fate fate (slice_index_or rows k d)) ≡ turned fate dir rows
-turned_set dir fate first k [] w d spot place = absurd (cc)
-turned_set dir fate first k (x ∷ rows) w d spot place =
-    (elim (waits dir x) as (λ b. slice_get (cond b (record { place = first; carried = x.carried } ∷ waiting dir (first + 1) rows) (waiting dir (first + 1) rows)) 0 ≡ Some w → slice_set (x ∷ rows) k (with_fate fate (slice_index_or (x ∷ rows) k d)) ≡ cond b (with_fate fate x ∷ rows) (x ∷ turned fate dir rows)) [
-      | true ↦ λ e. here k place e
-      | false ↦ λ e. later k place e (λ k at. turned_set dir fate (first + 1) k rows w d e at)
+-- the row at its index is the one that is turned
+pub turned_set : (dir : Dir) (fate : Fate) (first k : ℕ) (rows : List Row) (w : Waiting) (d : Row) → slice_get (waiting dir first rows) 0 ≡ Some w → w.index ≡ first + k → slice_set rows k (with_fate fate (slice_index_or rows k d)) ≡ turned fate dir rows
+turned_set dir fate first k [] w d spot index = absurd (cc)
+turned_set dir fate first k (x ∷ rows) w d spot index =
+    (elim (waits dir x) as (λ b. slice_get (cond b (record { index = first; carried = x.carried } ∷ waiting dir (first + 1) rows) (waiting dir (first + 1) rows)) 0 ≡ Some w → slice_set (x ∷ rows) k (with_fate fate (slice_index_or (x ∷ rows) k d)) ≡ cond b (with_fate fate x ∷ rows) (x ∷ turned fate dir rows)) [
+      | true ↦ λ e. here k index e
+      | false ↦ λ e. later k index e (λ k at. turned_set dir fate (first + 1) k rows w d e at)
     ]) spot
   where
-    here : (k : ℕ) → w.place ≡ first + k → Some (record { place = first; carried = x.carried }) ≡ Some w → slice_set (x ∷ rows) k (with_fate fate (slice_index_or (x ∷ rows) k d)) ≡ with_fate fate x ∷ rows
-    here zero place e = refl
-    here (suc k) place e =
-        let same : record { place = first; carried = x.carried } ≡ w = cc in
-        let at : first ≡ w.place = ap (λ (w : Waiting). w.place) same in
+    here : (k : ℕ) → w.index ≡ first + k → Some (record { index = first; carried = x.carried }) ≡ Some w → slice_set (x ∷ rows) k (with_fate fate (slice_index_or (x ∷ rows) k d)) ≡ with_fate fate x ∷ rows
+    here zero index e = refl
+    here (suc k) index e =
+        let same : record { index = first; carried = x.carried } ≡ w = cc in
+        let at : first ≡ w.index = ap (λ (w : Waiting). w.index) same in
         absurd (omega arith)
 
-    later : (k : ℕ) → w.place ≡ first + k → slice_get (waiting dir (first + 1) rows) 0 ≡ Some w → ((k : ℕ) → w.place ≡ (first + 1) + k → slice_set rows k (with_fate fate (slice_index_or rows k d)) ≡ turned fate dir rows) → slice_set (x ∷ rows) k (with_fate fate (slice_index_or (x ∷ rows) k d)) ≡ x ∷ turned fate dir rows
-    later zero place e rest = let range = place_of_first dir (first + 1) rows w e in absurd (omega arith)
-    later (suc k) place e rest = ap (λ rows. x ∷ rows) (rest k (omega arith))
+    later : (k : ℕ) → w.index ≡ first + k → slice_get (waiting dir (first + 1) rows) 0 ≡ Some w → ((k : ℕ) → w.index ≡ (first + 1) + k → slice_set rows k (with_fate fate (slice_index_or rows k d)) ≡ turned fate dir rows) → slice_set (x ∷ rows) k (with_fate fate (slice_index_or (x ∷ rows) k d)) ≡ x ∷ turned fate dir rows
+    later zero index e rest = let range = index_of_first dir (first + 1) rows w e in absurd (omega arith)
+    later (suc k) index e rest = ap (λ rows. x ∷ rows) (rest k (omega arith))
 
 -- the others go on waiting
 pub waiting_turned : (dir : Dir) (fate : Fate) (first : ℕ) (rows : List Row) → is_queued fate ≡ false → waiting dir first (turned fate dir rows) ≡ drop 1 (waiting dir first rows)
@@ -101,7 +101,7 @@ waiting_turned dir fate first (x ∷ rows) ends =
 pub turned_none : (dir : Dir) (fate : Fate) (first : ℕ) (rows : List Row) → slice_get (waiting dir first rows) 0 ≡ None → turned fate dir rows ≡ rows
 turned_none dir fate first [] spot = refl
 turned_none dir fate first (x ∷ rows) spot =
-    (elim (waits dir x) as (λ b. slice_get (cond b (record { place = first; carried = x.carried } ∷ waiting dir (first + 1) rows) (waiting dir (first + 1) rows)) 0 ≡ None → cond b (with_fate fate x ∷ rows) (x ∷ turned fate dir rows) ≡ x ∷ rows) [
+    (elim (waits dir x) as (λ b. slice_get (cond b (record { index = first; carried = x.carried } ∷ waiting dir (first + 1) rows) (waiting dir (first + 1) rows)) 0 ≡ None → cond b (with_fate fate x ∷ rows) (x ∷ turned fate dir rows) ≡ x ∷ rows) [
       | true ↦ λ e. absurd (cc)
       | false ↦ λ e. ap (λ rows. x ∷ rows) (turned_none dir fate (first + 1) rows e)
     ]) spot

@@ -7,11 +7,11 @@ use Rattle.hsr_link.specs.declared.row.Dir.{Dir}
 use Rattle.hsr_link.specs.declared.row.Dir.TheVariants.{Forth, Back}
 use Rattle.hsr_link.specs.declared.row.Row.{Row}
 
--- the place and the copy of each row that is Queued in a direction, where the first row has the place `first`
+-- the index and the copy of each row that is Queued in a direction, where the first row has the index `first`
 abbrev pub waiting : Dir → ℕ → List Row → List Waiting
 waiting dir first [] = []
 waiting dir first (row ∷ rows) =
-    if waits dir row then record { place = first; carried = row.carried } ∷ waiting dir (first + 1) rows else waiting dir (first + 1) rows
+    if waits dir row then record { index = first; carried = row.carried } ∷ waiting dir (first + 1) rows else waiting dir (first + 1) rows
 
 -- each queue is the list of its direction's Queued rows, and has room for just `capacity` copies
 pub record IsSound (capacity : ℕ) (rows : List Row) (forth back : Buffer Waiting) : Type 0 where

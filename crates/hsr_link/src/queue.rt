@@ -1,4 +1,4 @@
-//! The copies that wait in one direction of a link, each beside the place of its row.
+//! The copies that wait in one direction of a link, each beside the index of its row.
 ghost use Rattle.std.specs.Prelude.{◌≡◌, ◌<◌, true, false, [], ◌∷◌, ◌++◌, length, map, is_some, slice_get, OnOk, OnErr, IfOk, IfErr};
 ghost use Rattle.std.specs.List.{count_by};
 ghost use Rattle.circular_buffer.specs.Buffer.{buffer};
@@ -11,10 +11,10 @@ use circular_buffer::HeapCircularBuffer;
 use hsr_frame::NoMemory;
 use hsr_node::Carried;
 
-/// The place of a row, and the copy that a take gives, so that it needs no memory.
+/// The index of a row, and the copy that a take gives, so that it needs no memory.
 #[derive(Debug, Drop)]
 pub(crate) struct Waiting {
-    pub(crate) place: usize,
+    pub(crate) index: usize,
     pub(crate) carried: Carried,
 }
 
@@ -35,18 +35,18 @@ pub(crate) fn put_fate(is_cut: bool, queue: &HeapCircularBuffer<Waiting>) -> Fat
 /// Lets a copy of a row wait, if the row does.
 fn queue_up(
     queue: &mut HeapCircularBuffer<Waiting>,
-    place: usize,
+    index: usize,
     row: &Row,
 ) -> Result<(), NoMemory>
     requires { is_queued row.now.fate ≡ true → length queue.old.items < queue.old.capacity }
     ensures ok { OnOk result (queue.new ≡ buffer
-        (queue.old.items ++ waiting row.now.dir place (row.now ∷ [])) queue.old.capacity) }
+        (queue.old.items ++ waiting row.now.dir index (row.now ∷ [])) queue.old.capacity) }
     ensures err { OnErr result (queue.new ≡ queue.old) }
 {
     if row.fate == Fate::Queued {
         // The row keeps its copy for good, so a take gives this one and needs no memory.
         let carried = row.carried.copy()?;
-        queue.push_back(Waiting { place, carried });
+        queue.push_back(Waiting { index, carried });
     }
     Ok(())
 }
@@ -101,10 +101,10 @@ pub(crate) fn turn_first(
     ensures rows { rows.new ≡ turned fate dir rows.old }
     ensures queue { queue.new ≡ buffer (waiting dir 0 rows.new) queue.old.capacity }
 {
-    let Some(Waiting { place, carried }) = queue.pop_front() else {
+    let Some(Waiting { index, carried }) = queue.pop_front() else {
         return None;
     };
-    rows[place].fate = fate;
+    rows[index].fate = fate;
     Some(carried)
 }
 

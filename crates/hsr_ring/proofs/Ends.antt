@@ -16,7 +16,8 @@ use Rattle.hsr_node.specs.declared.event.StepFault.{StepFault}
 use Rattle.hsr_node.specs.declared.place.Place.{Place}
 use Rattle.hsr_world_laws.specs.Spans.{Span, Spot, emptied, held_in, lane_of, lanes_of, spot_from, spread, with_lane, with_link}
 use Rattle.hsr_world_links.specs.Ports.{AreTold, port_at, ports_in}
-use Rattle.hsr_world_laws.specs.World.{World, and_added, cleared, entered, has_link, has_node, has_port, judged_at, span_at, or_same, owner_at, planned, port_worker, put_at, put_from, record_at, take_to, taken_by, tried, with_span}
+use Rattle.hsr_world_laws.specs.World.{World, and_added, cleared, entered, has_link, has_node, has_port, judged_at, span_at, or_same, owner_at, planned, put_at, put_from, record_at, take_to, taken_by, tried, with_span}
+use Rattle.hsr_topology.specs.Workers.{port_worker}
 use Rattle.hsr_world_links.specs.declared.port.Port.{Port}
 use Rattle.hsr_world_steps.specs.declared.step.Step.{Step}
 use Rattle.hsr_world_steps.specs.declared.step.Step.TheVariants.{Clock, Send, Supervise, Age, Put, Take, Judge, Cut, Mend, Inject}

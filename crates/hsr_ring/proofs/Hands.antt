@@ -10,7 +10,8 @@ use Rattle.hsr_node.specs.declared.event.Carried.{Carried}
 use Rattle.hsr_node.specs.declared.event.Event.{Event}
 use Rattle.hsr_node.specs.declared.event.Event.TheVariants as event
 use Rattle.hsr_world_laws.specs.Spans.{Lane, Span, Spot, emptied, held_in, lane_of, lanes_of, on_lanes}
-use Rattle.hsr_world_laws.specs.World.{World, cleared, entered, judged_at, port_worker, span_in}
+use Rattle.hsr_world_laws.specs.World.{World, cleared, entered, judged_at, span_in}
+use Rattle.hsr_topology.specs.Workers.{port_worker}
 use Rattle.hsr_ring.specs.Hands.{given_back, in_hand}
 use Rattle.hsr_world_links.specs.Hands.{hand_in, handed}
 use Rattle.hsr_world_links.specs.Ports.{spot_to}

@@ -21,7 +21,8 @@ use Rattle.hsr_node.specs.declared.place.Place.{Place}
 use Rattle.hsr_world_laws.specs.Fit.{FitsStep}
 use Rattle.hsr_world_laws.specs.Spans.{Lane, Span, Spot, emptied, gift, held_in, lane_of, lanes_of, on_lanes, spot_from, spread, with_lane, with_link}
 use Rattle.hsr_node.specs.Flow.{pass_of}
-use Rattle.hsr_world_laws.specs.World.{World, and_added, cleared, entered, has_link, has_node, has_port, is_empty, judged_at, new_span, new_world, no_lane, or_same, owner_at, planned, port_worker, put_at, put_from, record_at, span_at, span_in, take_to, taken_by, tried, waits_in, with_span}
+use Rattle.hsr_world_laws.specs.World.{World, and_added, cleared, entered, has_link, has_node, has_port, is_empty, judged_at, new_span, new_world, no_lane, or_same, owner_at, planned, put_at, put_from, record_at, span_at, span_in, take_to, taken_by, tried, waits_in, with_span}
+use Rattle.hsr_topology.specs.Workers.{port_worker}
 use Rattle.hsr_bitset.specs.Numbers.{has}
 use Rattle.hsr_ring.specs.Pending.{AreLooked, ArePending, IsKept, hand_of, is_at, is_by, link_at, touches_box, touches_hand, touches_link}
 use Rattle.hsr_world_links.specs.Ports.{AreTold, dir_at, end_at, held_at, is_held, is_ready, is_waiting, port_in, ports_in, port_fault}

@@ -9,7 +9,6 @@ ghost use Rattle.hsr_world_links.specs.Views.{put_at_spot, spot_view};
 ghost use Rattle.hsr_world_links.specs.Touching.{AreTouching, touching_from, touching_in};
 ghost use Rattle.hsr_ring.specs.Entering.{IsUnplanned};
 ghost use Rattle.hsr_node.specs.Kept.{Record};
-ghost use Rattle.hsr_world_laws.specs.World.{port_worker};
 
 use crate::closing::{Open, Rest, closed_of};
 use crate::entering::enter;
@@ -19,7 +18,7 @@ use hsr_finished_run::{CheckFault, Closed, Planned};
 use hsr_frame::{About, Counters, Mac};
 use hsr_link::{Dir, Row};
 use hsr_node::{Carried, Entry, Event, Kept, Octets};
-use hsr_topology::{End, Topology};
+use hsr_topology::{End, Topology, port_worker};
 use hsr_world_links::{
     Port, Span, Spot, change_hand, clear, cut_at, inject_at, mend_at, new_ports, new_spans,
     new_touching, port_fault, port_of, put_at_spot, take_at, touching_of,
@@ -49,15 +48,6 @@ impl<const C: usize> Model for Running<C> {
     ghost view = { λ r. world_of r.moment r.nodes.items (map span_view r.spans.items) r.plan.items };
 
     ghost invariant = { λ r. AreNumbered r.nodes.items };
-}
-
-/// The number of the worker of a port.
-fn port_worker(end: End) -> u16
-    requires { end.node < 64 }
-    ensures { result ≡ port_worker end }
-{
-    // Worker 0 is the main one. Each node has 8 numbers, so that node and port tell the worker.
-    (1 + 8 * end.node) as u16 + u16::from(end.port)
 }
 
 impl<const C: usize> Running<C> {

@@ -2,27 +2,21 @@
 --     NoneIsAlien      each entry is of the main worker, or of the one that brings such to its node
 --     InjectsNothing   no order puts on a link what no port sent
 --     IsUnlike         what a run or its orders have of these, as a cause of the closing check
-use Rattle.std.specs.Prelude.{ℕ, ◌+◌, ◌*◌, ◌<◌, ◌≡◌, ◌==◌, ◌&&◌, not, Bool, false, List, length, find, filter_map, slice_get, Option, Some, None, option_map}
+use Rattle.std.specs.Prelude.{ℕ, ◌<◌, ◌≡◌, ◌==◌, ◌&&◌, not, Bool, false, List, length, find, filter_map, slice_get, Option, Some, None, option_map}
 use Rattle.hsr_finished_run.specs.declared.disagree.Disagree.{Disagree}
 use Rattle.hsr_finished_run.specs.declared.disagree.Disagree.TheVariants.{Stranger, Receipts}
 use Rattle.hsr_node.specs.declared.entry.Entry.{Entry}
 use Rattle.hsr_node.specs.declared.event.Event.{Event}
 use Rattle.hsr_node.specs.declared.event.Event.TheVariants.{Arrive, Age}
 use Rattle.hsr_run_laws.specs.Run.{Run, record_of}
+use Rattle.hsr_topology.specs.Workers.{ager, port_worker}
 use Rattle.hsr_world_steps.specs.declared.step.Step.TheVariants.{Inject}
 use Rattle.hsr_scenario.specs.declared.steps.Order.{Order}
 use Rattle.hsr_scenario.specs.declared.steps.Order.TheVariants.{Step}
 
--- the worker of a port of a node, and the one that ages the node
-abbrev pub port_worker : ℕ → ℕ → ℕ
-port_worker node port = 1 + 8 * node + port
-
-abbrev pub ager : ℕ → ℕ
-ager node = 8 + 8 * node
-
 -- which worker but the main one brings an event to a node
 abbrev pub brings : ℕ → Event → ℕ → Bool
-brings node (Arrive port copy) worker = worker == port_worker node port
+brings node (Arrive port copy) worker = worker == port_worker (record { node = node; port = port })
 brings node Age worker = worker == ager node
 brings node event worker = false
 

@@ -5,6 +5,7 @@ ghost use Rattle.hsr_runner.specs.Brought.{InjectsNothing, IsFirstAlien, IsUnlik
 use hsr_finished_run::{Closed, Disagree};
 use hsr_node::{Entry, Event};
 use hsr_scenario::Order;
+use hsr_topology::{End, ager, port_worker};
 use hsr_world_steps::Step;
 
 /// Whether a worker, but for the main one, brings an event to a node: that of its port an arrival, that of the node's ager an age.
@@ -12,10 +13,9 @@ fn brings(node: usize, event: &Event, worker: u16) -> bool
     requires { node < 64 }
     ensures { result ≡ brings node event.now worker }
 {
-    let worker = usize::from(worker);
     match event {
-        Event::Arrive { port, carried: _ } => worker == 1 + 8 * node + usize::from(*port),
-        Event::Age => worker == 8 + 8 * node,
+        Event::Arrive { port, carried: _ } => worker == port_worker(End { node, port: *port }),
+        Event::Age => worker == ager(node),
         _ => false,
     }
 }

@@ -1,4 +1,5 @@
-//! The lines of a text, the words of a line, and the unit of its moments.
+//! Texts that are read and written: lines and the words of a line, numbers, octets in digits, addresses, the unit of moments, and
+//! the arguments of a program.
 //!
 //! Its modules, in the order in which to read them:
 //! - `lines`: lines of a reader, with a bound on their length and on the number of reads

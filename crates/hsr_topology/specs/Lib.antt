@@ -3,3 +3,4 @@ pub mod Nodes
 pub mod Links
 pub mod Topology
 pub mod Wired
+pub mod Workers

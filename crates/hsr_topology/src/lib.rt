@@ -2,6 +2,7 @@
 //!
 //! Its modules, in the order in which to read them:
 //! - `end`: an end of a link
+//! - `worker`: the numbers of workers
 //! - `nodes`: what the nodes may be
 //! - `links`: what the links may be
 //! - `fault`: why nodes and links are no topology
@@ -15,9 +16,11 @@ mod links;
 mod nodes;
 mod same;
 mod topology;
+mod worker;
 
 pub use end::{End, is_same_end};
 pub use fault::TopologyFault;
 pub use links::is_used;
 pub use same::{is_same_place, is_same_topology};
 pub use topology::Topology;
+pub use worker::{ager, port_worker};

@@ -30,7 +30,8 @@ use Rattle.hsr_world_laws.specs.Fit.{FitsEvent, FitsPlace, FitsStep, IsFit}
 use Rattle.hsr_world_laws.specs.Fitting.{AlwaysFrames, FitFrames}
 use Rattle.hsr_world_laws.specs.Spans.{held_in, lane_of, lanes_of, spot_from}
 use Rattle.hsr_world_laws.specs.Reached.{IsReached}
-use Rattle.hsr_world_laws.specs.World.{World, and_added, cleared, entered, has_link, has_node, has_port, injected_at, judged_at, span_at, new_world, or_same, owner_at, planned, port_worker, put_at, record_at, run, take_to, tried}
+use Rattle.hsr_world_laws.specs.World.{World, and_added, cleared, entered, has_link, has_node, has_port, injected_at, judged_at, span_at, new_world, or_same, owner_at, planned, put_at, record_at, run, take_to, tried}
+use Rattle.hsr_topology.specs.Workers.{port_worker}
 use Rattle.hsr_world_steps.specs.declared.step.Step.{Step}
 use Rattle.hsr_world_steps.specs.declared.step.Step.TheVariants as step
 use Rattle.hsr_world_steps.specs.declared.step.WorldFault.{WorldFault}

@@ -39,7 +39,8 @@ use Rattle.hsr_world_laws.specs.Closing.{AreFrames}
 use Rattle.hsr_world_laws.specs.Law.{IsSound}
 use Rattle.hsr_world_laws.specs.Spans.{Lane, Span, Spot, emptied, gift, held_in, lane_of, lanes_of, on_lanes, spot_from, spread, with_lane, with_link}
 use Rattle.hsr_world_laws.specs.Origin.{EachCopy, InSpan, has_injected, is_injected}
-use Rattle.hsr_world_laws.specs.World.{World, added, and_added, cleared, entered, has_link, has_node, has_port, injected_at, judged_at, span_at, or_same, owner_at, planned, port_worker, put_at, put_from, record_at, take_to, taken_by, tried, with_span}
+use Rattle.hsr_world_laws.specs.World.{World, added, and_added, cleared, entered, has_link, has_node, has_port, injected_at, judged_at, span_at, or_same, owner_at, planned, put_at, put_from, record_at, take_to, taken_by, tried, with_span}
+use Rattle.hsr_topology.specs.Workers.{port_worker}
 use Rattle.hsr_world_steps.specs.declared.step.Step.{Step}
 use Rattle.hsr_world_steps.specs.declared.step.Step.TheVariants.{Clock, Send, Supervise, Age, Put, Take, Judge, Cut, Mend, Inject}
 use Rattle.hsr_world_steps.specs.declared.step.WorldFault.{WorldFault}

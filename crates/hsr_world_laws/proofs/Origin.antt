@@ -33,7 +33,8 @@ use Rattle.hsr_node.specs.declared.place.Place.{Place}
 use Rattle.hsr_world_laws.specs.Law.{IsSound}
 use Rattle.hsr_world_laws.specs.Spans.{Lane, Span, emptied, gift, lane_of, on_lanes, spread, with_lane, with_link, Spot, held_in, lanes_of, spot_from}
 use Rattle.hsr_world_laws.specs.Origin.{AlwaysOrigins, AlwaysSent, EachCopy, HasOrigin, HaveOrigins, InLane, InSpan, NamesSend, has_injected, is_injected}
-use Rattle.hsr_world_laws.specs.World.{World, and_added, cleared, entered, has_link, has_node, has_port, injected_at, judged_at, span_at, new_span, new_world, or_same, owner_at, planned, port_worker, put_at, put_from, record_at, take_to, taken_by, tried, with_span}
+use Rattle.hsr_world_laws.specs.World.{World, and_added, cleared, entered, has_link, has_node, has_port, injected_at, judged_at, span_at, new_span, new_world, or_same, owner_at, planned, put_at, put_from, record_at, take_to, taken_by, tried, with_span}
+use Rattle.hsr_topology.specs.Workers.{port_worker}
 use Rattle.hsr_world_steps.specs.declared.step.Step.TheVariants.{Clock, Send, Supervise, Age, Put, Take, Judge, Cut, Mend, Inject}
 use Rattle.hsr_world_steps.specs.declared.step.Step.{Step}
 use Rattle.hsr_world_steps.specs.declared.step.WorldFault.TheVariants.{TooLong}

@@ -22,7 +22,8 @@ use Rattle.hsr_topology.specs.declared.end.End.{End}
 use Rattle.hsr_finished_run.specs.declared.planned.Planned.{Planned}
 use Rattle.hsr_world_laws.specs.Closing.{AlwaysPlanned}
 use Rattle.hsr_world_laws.specs.Spans.{Spot, held_in, lane_of, lanes_of, spot_from, with_link}
-use Rattle.hsr_world_laws.specs.World.{World, and_added, cleared, entered, has_link, has_node, has_port, injected_at, judged_at, span_at, new_world, or_same, owner_at, planned, port_worker, put_at, put_from, record_at, run, take_to, taken_by, tried, with_span}
+use Rattle.hsr_world_laws.specs.World.{World, and_added, cleared, entered, has_link, has_node, has_port, injected_at, judged_at, span_at, new_world, or_same, owner_at, planned, put_at, put_from, record_at, run, take_to, taken_by, tried, with_span}
+use Rattle.hsr_topology.specs.Workers.{port_worker}
 use Rattle.hsr_world_steps.specs.declared.step.Step.{Step}
 use Rattle.hsr_world_steps.specs.declared.step.Step.TheVariants.{Clock, Send, Supervise, Age, Put, Take, Judge, Cut, Mend, Inject}
 use Rattle.hsr_world_steps.specs.declared.step.WorldFault.{WorldFault}

@@ -28,7 +28,8 @@ use Rattle.hsr_topology.specs.Wired.{AreDistinct, HasPort, IsJoin, IsWired, ends
 use Rattle.hsr_topology.specs.declared.end.End.{End}
 use Rattle.hsr_world_laws.specs.Closing.{AlwaysPlaced, IsPlaced, StepPlaced}
 use Rattle.hsr_world_laws.specs.Spans.{Lane, Span, Spot, emptied, held_in, lane_of, lanes_of, on_lanes, spot_from, spread, with_lane, with_link}
-use Rattle.hsr_world_laws.specs.World.{World, and_added, cleared, entered, has_link, has_node, has_port, injected_at, judged_at, span_at, new_span, new_world, or_same, owner_at, planned, port_worker, put_at, put_from, record_at, run, take_to, taken_by, tried, with_span}
+use Rattle.hsr_world_laws.specs.World.{World, and_added, cleared, entered, has_link, has_node, has_port, injected_at, judged_at, span_at, new_span, new_world, or_same, owner_at, planned, put_at, put_from, record_at, run, take_to, taken_by, tried, with_span}
+use Rattle.hsr_topology.specs.Workers.{port_worker}
 use Rattle.hsr_world_steps.specs.declared.step.Step.{Step}
 use Rattle.hsr_world_steps.specs.declared.step.Step.TheVariants.{Clock, Send, Supervise, Age, Put, Take, Judge, Cut, Mend, Inject}
 use Rattle.hsr_world_steps.specs.declared.step.WorldFault.{WorldFault}

@@ -4,6 +4,7 @@ use Rattle.std.specs.Option.{option_or}
 use Rattle.std.specs.List.{find}
 use Rattle.hsr_node.specs.Place.{ports}
 use Rattle.hsr_run_laws.specs.Run.{no_end, owner_in, record_in}
+use Rattle.hsr_topology.specs.Workers.{port_worker}
 use Rattle.hsr_topology.specs.declared.end.End.{End}
 use Rattle.hsr_link.specs.Link.{Link, cut_step, inject_step, mended, new_link, put_step, take_step}
 use Rattle.hsr_link.specs.Rows.{first_copy}
@@ -114,10 +115,6 @@ take_to w l dir None = taken_by w l dir (take_step (span_at w l).link dir)
 -- a copy that was judged leaves the hand
 abbrev pub cleared : World → End → World
 cleared w end = record w { spans = map (on_lanes (emptied end)) w.spans }
-
--- the worker that judges at a port
-abbrev pub port_worker : End → ℕ
-port_worker end = 1 + 8 * end.node + end.port
 
 abbrev pub judged_at : ℕ → World → End → Option Carried → Result World WorldFault
 judged_at capacity w end None = Err Nothing

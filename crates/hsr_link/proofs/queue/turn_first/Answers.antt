@@ -1,5 +1,5 @@
 use Rattle.std.proofs.Common.{sym, arith}
-use Rattle.hsr_link.proofs.Waiting.{copy_at_front, place_of_first, turned_none, turned_set, waiting_turned}
+use Rattle.hsr_link.proofs.Waiting.{copy_at_front, index_of_first, turned_none, turned_set, waiting_turned}
 use Rattle.hsr_link.proofs.queue.turn_first.Goals as goal
 
 pub returns-in_default-clause-copy : goal.returns-in_default-clause-copy
@@ -10,22 +10,22 @@ returns-in_default-clause-rows c =
     let spot = rw c.requires.holds at c.in_default.ensures.value in
     sym (turned_none c.args.dir c.args.fate 0 c.args.rows.now (sym spot))
 
-pub bounds-rows-place : goal.bounds-rows-place
-bounds-rows-place c =
+pub bounds-rows-index : goal.bounds-rows-index
+bounds-rows-index c =
     let spot = rw c.requires.holds at c.in-Some.ensures.value in
-    let range = place_of_first c.args.dir 0 c.args.rows.now _ (sym spot) in
+    let range = index_of_first c.args.dir 0 c.args.rows.now _ (sym spot) in
     omega arith
 
-pub bounds-rows-place-in-Some : goal.bounds-rows-place-in-Some
-bounds-rows-place-in-Some c =
+pub bounds-rows-index-in-Some : goal.bounds-rows-index-in-Some
+bounds-rows-index-in-Some c =
     let spot = rw c.requires.holds at c.in-Some.ensures.value in
-    let range = place_of_first c.args.dir 0 c.args.rows.now _ (sym spot) in
+    let range = index_of_first c.args.dir 0 c.args.rows.now _ (sym spot) in
     omega arith
 
-pub offset_bounds-rows-place : goal.offset_bounds-rows-place
-offset_bounds-rows-place c =
+pub offset_bounds-rows-index : goal.offset_bounds-rows-index
+offset_bounds-rows-index c =
     let spot = rw c.requires.holds at c.in-Some.ensures.value in
-    let range = place_of_first c.args.dir 0 c.args.rows.now _ (sym spot) in
+    let range = index_of_first c.args.dir 0 c.args.rows.now _ (sym spot) in
     omega arith
 
 pub returns-clause-copy : goal.returns-clause-copy
@@ -34,10 +34,10 @@ returns-clause-copy c = copy_at_front c.args.dir c.args.rows.now _ _ c.requires.
 pub returns-clause-rows : goal.returns-clause-rows
 returns-clause-rows c =
     let spot = rw c.requires.holds at c.in-Some.ensures.value in
-    turned_set c.args.dir c.args.fate 0 _ c.args.rows.now _ c.index-rows-place.result (sym spot) (omega arith)
+    turned_set c.args.dir c.args.fate 0 _ c.args.rows.now _ c.index-rows-index.result (sym spot) (omega arith)
 
 pub returns-clause-queue : goal.returns-clause-queue
 returns-clause-queue c =
     let spot = rw c.requires.holds at c.in-Some.ensures.value in
-    let set = turned_set c.args.dir c.args.fate 0 c.in-Some.field-0.place c.args.rows.now _ c.index-rows-place.result (sym spot) (omega arith) in
+    let set = turned_set c.args.dir c.args.fate 0 c.in-Some.field-0.index c.args.rows.now _ c.index-rows-index.result (sym spot) (omega arith) in
     rw (c.in-Some.ensures.items, set, waiting_turned c.args.dir c.args.fate 0 c.args.rows.now c.requires.ends, c.requires.holds)
