@@ -37,7 +37,7 @@ def is_number(word, bits=64):
 
 
 def is_moment(word, factor):
-    """Whether a word is a moment that has fewer than 2^64 microseconds, so many in one of its unit."""
+    """Whether a word is a moment of fewer than 2^64 microseconds, with `factor` of them in its unit."""
     return is_number(word) and int(word) * factor < 2**64
 
 

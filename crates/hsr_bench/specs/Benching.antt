@@ -1,4 +1,4 @@
--- What the program does, over words, a text that is read, and two writers: standard output and standard error.
+-- What the program does, over arguments, a text that is read, and two writers: standard output and standard error.
 use Rattle.std.specs.Prelude.{ℕ, ◌<◌, ◌≡◌, ◌⊎◌, Bool, false, List, [], ◌++◌, length, codes, string_bytes, Option, Result, Ok, Err}
 use Rattle.std.specs.Io.KnownBytes.{Appends, Keeps}
 use Rattle.clap.specs.Words.{Text}
@@ -48,19 +48,19 @@ pub record IsDone (chosen : Options) (text : List ℕ) (held holds : Option (Lis
   pub left : Keeps written holds
   pub is : (status ≡ ended) ⊎ (status ≡ Stopped Write)
 
--- there was no memory to read the words
+-- there was no memory to read the arguments
 pub record IsShort (held holds told tells : Option (List ℕ)) (code : ℕ) : Type 0 where
   pub ends : Tells false told tells (Stopped Memory) code
   pub kept : Keeps held holds
 
--- What the words choose is done and told; or the text by which they are refused is, and nothing is written; or there was no memory
+-- What the arguments choose is done and told; or the text by which they are refused is, and nothing is written; or there was no memory
 -- to read them.
 abbrev pub Answers : Result Options OptionFault → List ℕ → Option (List ℕ) → Option (List ℕ) → Option (List ℕ) → Option (List ℕ) → ℕ → Type 0
 Answers (Ok chosen) text held holds told tells code = (status : Status) × IsDone chosen text held holds status × Tells (explains chosen) told tells status code
 Answers (Err (Usage why)) text held holds told tells code = (code ≡ 3) × Appends told tells (string_bytes why ++ codes "\n") × Keeps held holds
 Answers (Err NoRoom) text held holds told tells code = IsShort held holds told tells code
 
--- the words say what is to be done, and it is done and told
+-- the arguments say what is to be done, and it is done and told
 pub record IsAnswered (words : List Text) (text : List ℕ) (held holds told tells : Option (List ℕ)) (code : ℕ) : Type 0 where
   pub chosen : Options
   pub status : Status
@@ -68,7 +68,7 @@ pub record IsAnswered (words : List Text) (text : List ℕ) (held holds told tel
   pub done : IsDone chosen text held holds status
   pub ends : Tells (explains chosen) told tells status code
 
--- the words are refused by a text that isn't empty, and nothing is written
+-- the arguments are refused by a text that isn't empty, and nothing is written
 pub record IsTurnedAway (words : List Text) (held holds told tells : Option (List ℕ)) (code : ℕ) : Type 0 where
   pub why : Text
   pub refused : IsRefused words why

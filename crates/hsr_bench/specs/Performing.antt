@@ -1,4 +1,4 @@
--- What is done of what the words choose.
+-- What is done of what the arguments choose.
 use Rattle.std.specs.Prelude.{ℕ, List, Option}
 use Rattle.hsr_text.specs.Lines.{lines_of}
 use Rattle.hsr_danh.specs.Machine.{new_machine}

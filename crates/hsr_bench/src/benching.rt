@@ -107,7 +107,7 @@ fn answer<H: Threads + Wait + Sync, R: Read, W: Write, E: Write>(
         }
         Err(OptionFault::Usage { text }) => {
             put_line(errors, text.as_str())?;
-            // A status of its own, so that scripts tell refused words from faults and doubts.
+            // A status of its own, so that scripts tell refused arguments from faults and doubts.
             Ok(3)
         }
         Err(OptionFault::Memory) => {
@@ -118,10 +118,10 @@ fn answer<H: Threads + Wait + Sync, R: Read, W: Write, E: Write>(
     }
 }
 
-/// Does what the words after the program's name say, over a text that is read, standard output and standard error, and gives the
-/// status of the process: 0 where all lines were answered or the run is certified; 1 after a fault, whose line is then on standard
-/// error; 2 where the run is doubted; 3 where the words are refused, by a text on standard error. Where it is asked for, lines on standard
-/// error say what a fault or a doubt means. The error of `errors`, where a line can't be written there.
+/// Does what the arguments say, over a text that is read, standard output and standard error, and gives the status of the process:
+/// 0 where all lines were answered or the run is certified; 1 after a fault, whose line is then on standard error; 2 where the run is
+/// doubted; 3 where the arguments are refused, by a text on standard error. Where it is asked for, lines on standard error say what a
+/// fault or a doubt means. The error of `errors`, where a line can't be written there.
 pub fn bench<'a, H: Threads + Wait + Sync, R: Read, W: Write, E: Write>(
     rt: &H,
     alloc: Global,

@@ -1,10 +1,10 @@
-//! The bench as a library: each command over a reader and a writer, the words that choose one, and all that the program does.
+//! The bench as a library: each command over a reader and a writer, the arguments that choose one, and all that the program does.
 //!
 //! `node_run`, `scenario_run`, `threads_run` and `audit_run` are the commands `node`, `run`, `threads` and `audit`. `options` says what
-//! the words after a program's name choose. `bench` does what the program `hsr_bench` does, whose `main` is in hsr_bench_main.
+//! the arguments of the program choose. `bench` does what the program `hsr_bench` does, whose `main` is in hsr_bench_main.
 //!
 //! Its modules, in the order in which to read them:
-//! - `performing`: what the words choose
+//! - `performing`: what the arguments choose
 //! - `benching`: the whole program
 #![tactic(auto)]
 

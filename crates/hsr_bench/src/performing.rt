@@ -1,4 +1,4 @@
-//! What the words choose, done over a reader and a writer.
+//! What the arguments choose, done over a reader and a writer.
 ghost use Rattle.std.specs.Prelude.{IfSome};
 ghost use Rattle.hsr_bench.specs.Performing.{Performs};
 

@@ -79,8 +79,8 @@ fn put_packets<const C: usize>(
 /// The capture of rows of a finished run, in their order: a section header, an interface for each direction of each link (an Ethernet
 /// of whole octets, with its ports as name), and for each row a packet with its octets, its moment in microseconds, and a comment:
 /// what became of the copy, by the entry that judged it or by its fate, and of which send it is. A node without a name is `n` and its
-/// number. `TooLong` exactly where a name or a comment has over 65535 octets, or a block 2^32 octets or more, `NoMemory` where room is
-/// refused.
+/// number. `TooLong` exactly where a name or a comment has over 65535 octets, or a block 2^32 octets or more, `NoMemory` if allocation
+/// fails.
 pub fn capture<const C: usize>(
     alloc: Global,
     closed: &Closed<C>,

@@ -1,4 +1,4 @@
-//! Finished runs as captures in the format pcapng.
+//! Finished runs as captures in the format pcapng: a packet for each copy, with a comment on what became of it.
 //!
 //! Its modules, in the order in which to read them:
 //! - `comments`: what a capture says in words

@@ -124,7 +124,7 @@ pub(crate) fn put_shown<const C: usize>(
 
 /// Puts the comment of a row of a run last, if there is such a row: what became of its copy, of which send it is, which entry judged it, and
 /// the sequence number of its frame.
-/// `NoMemory` where room is refused; a front of the comment may stand there then.
+/// `NoMemory` if allocation fails; a front of the comment may stand there then.
 pub fn put_shown_comment<const C: usize>(
     text: &mut Vec<u8>,
     names: &[Vec<u8>],

@@ -86,7 +86,7 @@ pub silent : (words : List Text) (app : App) (text : Text) → 0 < length words 
 silent [] app text h is none nothing said = absurd (omega arith)
 silent (w ∷ ws) app text h is none nothing said = (app, is, inr (none, nothing, said))
 
--- an error that isn't want of memory tells a fault
+-- an error that isn't a failed allocation tells a fault
 pub fault_found : (kinds : Kinds) (e : Error) → HasKind kinds e → kind_of e ≢ OutOfMemory → kinds ≢ []
 fault_found kinds e h room = ⊎_elim (λ memory. absurd (room memory)) (λ among none. subst (IsAmong (kind_of e)) none among) h
 

@@ -63,7 +63,7 @@ pub chosen : (app : App) (words : List Text) (m : ArgMatches) (task : Task) → 
 chosen app words m task e s h =
     subst (λ x. Chosen (first_value (found_of m)) (sub_values x) task) (sym s) (chosen_same _ _ _ task (λ id. sym (same_values m (matches_of app words) e id)) h)
 
--- an error that isn't want of memory tells a fault
+-- an error that isn't a failed allocation tells a fault
 pub fault_found : (kinds : Kinds) (e : Error) → HasKind kinds e → kind_of e ≢ OutOfMemory → kinds ≢ []
 fault_found kinds e h room = ⊎_elim (λ memory. absurd (room memory)) (λ among none. subst (IsAmong (kind_of e)) none among) h
 

@@ -1,4 +1,4 @@
--- What the words of the planner's command line choose: by the values that clap's walk of this command finds.
+-- What the arguments of hsr_plan choose: by the values that clap's walk of this command finds.
 use Rattle.std.specs.Prelude.{◌≡◌, ◌≢◌, ◌⊎◌, ◌≤◌, ◌^◌, ⊤, ℕ, true, List, [], ◌∷◌, map, Option, Some, None, codes, string_bytes}
 use Rattle.std.specs.Borrow.{Bor}
 use Rattle.clap.specs.Words.{App, Row, Rule, Text, new_app, new_rule, with_rule, with_subcommand, matches_of, subcommand_of, first_of, fault_of}
@@ -81,7 +81,7 @@ abbrev pub sub_values : Option (Text × List Row) → Option (Text × (Text → 
 sub_values None = None
 sub_values (Some found) = Some (found.0, values found.1)
 
--- words choose what is chosen by the values that the command finds in them
+-- arguments choose what is chosen by the values that the command finds in them
 abbrev pub Chooses : App → List Text → Task → Type 0
 Chooses app words task = Chosen (values (matches_of app words)) (sub_values (subcommand_of app words)) task
 
@@ -89,13 +89,13 @@ Chooses app words task = Chosen (values (matches_of app words)) (sub_values (sub
 abbrev pub IsPlanner : App → Type 0
 IsPlanner app = (tables : Listed) × ListsTables tables × (app ≡ plan_app tables)
 
--- the command finds no fault in the words, and they choose this
+-- the command finds no fault in the arguments, and they choose this
 abbrev pub Says : List Text → Task → Type 0
 Says words task = (app : App) × IsPlanner app × (fault_of app words ≡ []) × Chooses app words task
 
 -- ---- what is refused
 
--- words are refused by this text: the command finds a fault in them, or finds none, and they choose nothing
+-- arguments are refused by this text: the command finds a fault in them, or finds none, and they choose nothing
 abbrev pub IsRefused : List Text → Text → Type 0
 IsRefused words text = (app : App) × IsPlanner app × ((fault_of app words ≢ [])
     ⊎ ((fault_of app words ≡ []) × ((task : Task) → ¬ Chooses app words task) × (text ≡ TOGETHER.now)))
@@ -105,7 +105,7 @@ abbrev pub or_else : Text → Text → Text
 or_else [] other = other
 or_else (c ∷ cs) other = c ∷ cs
 
--- P of the text of a refusal; of want of memory nothing
+-- P of the text of a refusal; of a failed allocation nothing
 abbrev pub IfUsage : WordsFault → (Text → Type 0) → Type 0
 IfUsage (Usage text) P = P (string_bytes text)
 IfUsage Memory P = ⊤

@@ -1,4 +1,4 @@
--- What the words of a command line say: the values that clap's walk of this command finds.
+-- What the arguments of hsr_bench say: the values that clap's walk of this command finds.
 use Rattle.std.specs.Prelude.{◌≡◌, ◌≢◌, ◌⊎◌, ⊤, ℕ, Bool, true, false, List, [], ◌∷◌, map, Option, Some, None, Ok, codes, string_bytes}
 use Rattle.std.specs.Borrow.{Bor}
 use Rattle.clap.specs.Words.{App, Row, Rule, Text, new_app, new_rule, with_rule, with_subcommand, subcommand_of, first_of, fault_of}
@@ -145,7 +145,7 @@ abbrev pub ChosenIn : Option (Text × List Row) → Options → Type 0
 ChosenIn None o = ⊥
 ChosenIn (Some found) o = Chosen found.0 (λ id. first_of id found.1) o
 
--- words say these options: none say `node` with its defaults, others what the command finds in them
+-- arguments say these options: none say `node` with its defaults, others what the command finds in them
 abbrev pub Says : List Text → Options → Type 0
 Says [] (Node node) = (node.mac ≡ 2 ∷ 0 ∷ 0 ∷ 0 ∷ 0 ∷ 1 ∷ []) × (node.mode ≡ H) × (node.table ≡ Large) × (node.unit ≡ Milliseconds)
 Says [] o = ⊥
@@ -159,7 +159,7 @@ abbrev pub IsBench : App → Type 0
 IsBench app = (modes : Listed) × (tables : Listed) × (units : Listed) × ListsModes modes × ListsTables tables × ListsUnits units
     × (app ≡ bench_app modes tables units)
 
--- the command finds no fault in the words
+-- the command finds no fault in the arguments
 abbrev pub IsTaken : List Text → Type 0
 IsTaken [] = ⊤
 IsTaken (w ∷ ws) = (app : App) × IsBench app × (fault_of app (w ∷ ws) ≡ [])
@@ -172,7 +172,7 @@ SaysNothing found = (o : Options) → ¬ ChosenIn found o
 abbrev pub mac_usage : Text
 mac_usage = codes "usage: --mac\nexplain: --mac takes the address of one node: six pairs of hexadecimal digits with hyphens between, the first pair even (an odd one is a group's), as 02-00-00-00-00-01"
 
--- words are refused by this text: the command finds a fault in them, or finds none, and what it finds says nothing
+-- arguments are refused by this text: the command finds a fault in them, or finds none, and what it finds says nothing
 abbrev pub IsRefused : List Text → Text → Type 0
 IsRefused [] text = ⊥
 IsRefused (w ∷ ws) text = (app : App) × IsBench app × ((fault_of app (w ∷ ws) ≢ [])
@@ -183,7 +183,7 @@ abbrev pub or_help : Text → Text
 or_help [] = codes "usage: --help"
 or_help (c ∷ cs) = c ∷ cs
 
--- P of the text of a refusal; of want of memory nothing
+-- P of the text of a refusal; of a failed allocation nothing
 abbrev pub IfUsage : OptionFault → (Text → Type 0) → Type 0
 IfUsage (Usage text) P = P (string_bytes text)
 IfUsage Memory P = ⊤

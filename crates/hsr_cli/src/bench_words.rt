@@ -27,7 +27,7 @@ Each line of standard input, with one space between its words, is one of:
   send <at> <dst> <type> <payload> [<vlan>]   the node sends a frame
   life <at>                                   the node sends a supervision frame
   arrive <at> A|B <octets>                    octets come to a ring port
-  age <at>                                    the node gives up what is expired
+  age <at>                                    the node drops what is expired
 where <at> is a moment in milliseconds, or in microseconds with --unit us, <dst> an address as
 02-00-00-00-00-02, <type> and <vlan> (a VLAN tag's control information) four hexadecimal digits, and
 octets are in hexadecimal, - for none.
@@ -63,7 +63,7 @@ hyphens. An address is written 02-00-00-00-00-02, a moment as a number of its un
 (type = 0x0800), payload and octets in hexadecimal. A send's payload, vlan and from (the place among a station's
 addresses) and a life's about may be left out.
 
-docs/USING.md says what to look up where; docs/RULES.md has the rules.
+docs/GUIDE.md is the way in; docs/REFERENCE.md has each key, line and fault, and docs/RULES.md each rule.
 
 Status 0: every frame came exactly once to each node that it was for. Status 2: the run gives reason to
 doubt that, named in the last line of the report. Status 1: the run stopped, and one line on standard

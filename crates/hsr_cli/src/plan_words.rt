@@ -47,10 +47,10 @@ had, how many of these are complete, missed and taken up twice, how many table e
 of networks found, as in a report of hsr_bench run --network; then come the undisturbed run, and how many entries are
 enough for all. A terminal is told how far it is.
 
-docs/USING.md says what to look up where.
+docs/GUIDE.md goes from a first plan to the size of a table; docs/REFERENCE.md has each key and fault.
 
 Status 0: the scenario was written, or is right. Status 1: there is none, or it isn't, and one line on standard
-error says why, with line and column of the word. Status 3: the words of the command line are refused.
+error says why, with line and column of the word. Status 3: the arguments are refused.
 
 Example: hsr_plan < plan.toml > plan.scenario && hsr_bench run --budget < plan.scenario
          hsr_plan sweep --at-us 5000 < plan.toml";

@@ -13,7 +13,7 @@ fn redbox_in(octets: &[u8]) -> Result<bool, SupFault> {
     Ok(said.redbox.is_some())
 }
 
-/// The same of so many first octets, by the grammar. A payload may end after a TLV, and not within one, nor within two octets.
+/// The same of the first `size` octets, by the grammar. A payload may end after a TLV, and not within one, nor within two octets.
 fn prefix_has(size: usize) -> Result<bool, SupFault> {
     match size {
         12 => Ok(false),

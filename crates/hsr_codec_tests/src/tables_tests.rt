@@ -25,7 +25,7 @@ fn knows_latest(rt: &impl Abort, proxies: &ProxyTable) -> bool {
         && list.first() == Some(&(station(64), 64))
 }
 
-/// The station that was heard longest ago is given up where there is no room. No network has so many stations behind one RedBox.
+/// The station that was heard longest ago is dropped where there is no room. No network has that many stations behind one RedBox.
 #[test]
 fn tables_by_age(rt: HostRuntime) {
     let mut proxies = ProxyTable::new();

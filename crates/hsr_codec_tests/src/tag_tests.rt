@@ -20,7 +20,7 @@ fn copy(vlan: Option<u16>, size: usize) -> ArrayVec<u8, MAX_FRAME>
     frame.tag(1, 65535).write()
 }
 
-/// Whether the copy without a VLAN tag has so many octets, and this tag behind two addresses.
+/// Whether the copy without a VLAN tag has `len` octets, and this tag behind two addresses.
 fn has_tag(size: usize, len: usize, tag: [u8; 6]) -> bool
     requires { size ≤ 1500 }
 {

@@ -76,7 +76,7 @@ abbrev pub IsOpenOf : ℕ → List Place → World → CheckFault → Shown → 
 IsOpenOf capacity places w (check.Disagree cause) (Left text) = text.items ≡ open_text capacity places w
 IsOpenOf capacity places w fault shown = ⊥
 
--- it isn't shown, for this reason; or room was refused
+-- it isn't shown, for this reason; or an allocation failed
 abbrev pub IsLeftBy : Bool → CheckFault → Fault → Type 0
 IsLeftBy shows_open cause (Check disagree) = (shows_open ≡ false) × (cause ≡ check.Disagree disagree)
 IsLeftBy shows_open cause Memory = Unit {0}

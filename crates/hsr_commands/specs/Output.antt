@@ -26,7 +26,7 @@ abbrev pub with_line : ℕ → Machine → ℕ → Option Asked → (Machine →
 with_line capacity machine n None more = record { text = []; bad_line = Some n }
 with_line capacity machine n (Some r) more = put (reply capacity machine r) (more (after capacity machine r))
 
--- the output for lines that are counted from n on, by a node whose tables have so many entries
+-- the output for lines that are counted from n on, by a node whose tables have `capacity` entries
 abbrev pub output : TimeUnit → ℕ → Machine → ℕ → List (List ℕ) → Output
 output unit capacity machine n [] = record { text = counter_line machine.counters; bad_line = None }
 output unit capacity machine n (line ∷ lines) = with_line capacity machine n (request_in unit line) (λ next. output unit capacity next (n + 1) lines)

@@ -33,7 +33,7 @@ pub record IsPlayed (capacity : ℕ) (said : Said) (w : World) : Type 0 where
 -- there is no scenario, or one of its steps is refused
 abbrev pub IsUnplayed : ℕ → Said → Fault → Type 0
 IsUnplayed capacity said (Scenario fault) = said ≡ Err fault
--- want of memory is a fault of memory, and of no step
+-- a failed allocation is a fault of memory, and of no step
 IsUnplayed capacity said (Step step (drain.World world.NoMemory)) = ⊥
 IsUnplayed capacity said (Step step fault) =
     (meant : Meant) × (said ≡ Ok meant) × (after : World) × Halts capacity meant.steps step (first_of meant) after fault

@@ -38,7 +38,7 @@ run_fault run.NoMemory = Memory
 abbrev pub IsNoRun : ℕ → Said → RunFault → Type 0
 IsNoRun capacity said fault = (meant : Meant) × (said ≡ Ok meant) × (position is_fine meant.steps ≡ None) × IsRunFault capacity meant fault
 
--- There is no scenario; or some of its steps move or judge one copy, and the first of these is named; or it has no run. Want of memory
+-- There is no scenario; or some of its steps move or judge one copy, and the first of these is named; or it has no run. A failed allocation
 -- is a fault of memory, and of no step; a drain has no limit, and no gate shuts.
 abbrev pub IsUnrun : ℕ → Said → Fault → Type 0
 IsUnrun capacity said (Scenario fault) = said ≡ Err fault

@@ -100,7 +100,7 @@ fn audited_with<R: Read>(
 /// counters, the links with what became of their copies, the parts that are asked for, of a network what it tells of ports on rings
 /// without a link and of sends that no node is for, and what the chosen audit found, which the status tells too. The report is formed
 /// whole before it is written. `Fault::Transcript` where the text is no run's, and `Fault::Check` where links and records of its run
-/// disagree; `Fault::Read` where the reader fails or takes over 2^40 reads, `Fault::Memory` where room is refused: then nothing is
+/// disagree; `Fault::Read` where the reader fails or takes over 2^40 reads, `Fault::Memory` if allocation fails: then nothing is
 /// written. Where it is asked for, `notes` then has what a fault or a doubt means.
 pub fn audit_run<R: Read, W: Write>(
     alloc: Global,

@@ -47,7 +47,7 @@ fn serve<W: Write, const C: usize>(
         Err(WordFault::Bad) => return Err(Fault::Line(number)),
         Err(WordFault::Memory) => return Err(Fault::Memory),
     };
-    // Formed whole before it is written, so that want of memory leaves no half answer.
+    // Formed whole before it is written, so that a failed allocation leaves no half answer.
     answer_request(danh, &request, text)?;
     match writer.write_all(text.as_slice()) {
         Ok(()) => Ok(()),

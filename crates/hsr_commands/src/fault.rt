@@ -82,7 +82,7 @@ impl Fault {
         ensures { result ≡ step_fault step fault }
     {
         match fault {
-            // Want of memory is one fault of a run, wherever it comes.
+            // A failed allocation is one fault of a run, wherever it comes.
             DrainFault::World(WorldFault::NoMemory) => Fault::Memory,
             _ => Fault::Step { step, fault },
         }

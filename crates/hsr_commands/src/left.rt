@@ -46,7 +46,7 @@ fn put_links<const C: usize>(text: &mut Vec<u8>, world: &World<C>) -> Result<(),
 }
 
 /// What there is of a world of these nodes: the lines of the bench, of each node and of each link, and the last line `open`.
-/// `NoMemory` where room is refused.
+/// `NoMemory` if allocation fails.
 #[tactic(auto, unfolding(crate::specs::OpenRun::open_text))]
 pub fn open_text<const C: usize>(
     alloc: Global,

@@ -12,7 +12,7 @@ fn text_fault(fault: ScenarioFault) -> Fault
     ensures { result ≡ text_fault fault fault.what }
 {
     match fault.what {
-        // Want of memory is one fault of a run, wherever it comes.
+        // A failed allocation is one fault of a run, wherever it comes.
         What::NoMemory => Fault::Memory,
         _ => Fault::Scenario(fault),
     }
@@ -20,7 +20,7 @@ fn text_fault(fault: ScenarioFault) -> Fault
 
 /// The scenario that octets mean.
 /// `Fault::Scenario` at the top with `text`, where they are no UTF-8, or else with the first fault; `Fault::Memory`
-/// where room is refused.
+/// if allocation fails.
 pub fn scenario_of(alloc: Global, octets: &[u8]) -> Result<Scenario, Fault>
     ensures ok { IfOk result (λ s. scenario_of octets.now ≡ Ok (scenario_view s)) }
     ensures room { IfOk result (λ s. (1 ≤ s.capacity) × (s.capacity ≤ 4096)) }

@@ -103,7 +103,7 @@ fn left_open<const C: usize>(
     ensures err { IfErr result (IsLeftBy shows_open fault) }
 {
     match fault {
-        // Want of memory is no open run.
+        // A failed allocation is no open run.
         CheckFault::Disagree(_) if shows_open => match open_text(alloc, world, places) {
             Ok(text) => Ok(Shown::Open { text }),
             Err(_) => Err(Fault::Memory),
@@ -199,7 +199,7 @@ fn run_and_deliver<W: Write>(
 /// network what it tells of ports on rings without a link and of sends that no node is for, and what the chosen audit found, which
 /// the status tells in both cases. The scenario has at most 16 MiB, and a drain takes at most 1,000,000 steps. The text is formed
 /// whole before it is written, so that after a fault nothing is, but for `Fault::Write`. `Fault::Read` where the reader fails or
-/// takes over 2^40 reads, `Fault::Memory` where room is refused. A run that can't be closed is `Fault::Check`, or, where `shows_open` asks
+/// takes over 2^40 reads, `Fault::Memory` if allocation fails. A run that can't be closed is `Fault::Check`, or, where `shows_open` asks
 /// for it, `Status::Open`: then the lines of its nodes and links are written as they stand. Where it is asked for, `notes` then has what a
 /// fault or a doubt means.
 pub fn scenario_run<R: Read, W: Write>(

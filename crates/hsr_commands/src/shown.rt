@@ -22,7 +22,7 @@ fn run_text<const C: usize>(alloc: Global, closed: &Closed<C>) -> Result<Vec<u8>
     let mut text = Vec::new(alloc);
     match write(alloc, closed, &mut text) {
         Ok(()) => Ok(text),
-        // a list of octets fails for want of memory alone
+        // a list of octets fails only where an allocation fails
         Err(_) => Err(Fault::Memory),
     }
 }
@@ -38,7 +38,7 @@ fn status_of(finding: Finding) -> Status
 }
 
 /// The report of a finished run of which the chosen audit found this, with the parts that are asked for.
-/// `Fault::Memory` where room is refused, and no other fault.
+/// `Fault::Memory` if allocation fails, and no other fault.
 pub fn report_of<const C: usize>(
     alloc: Global,
     closed: &Closed<C>,
@@ -57,7 +57,7 @@ pub fn report_of<const C: usize>(
 }
 
 /// What the chosen audit of a finished run finds.
-/// `Fault::Memory` where room is refused, and no other fault.
+/// `Fault::Memory` if allocation fails, and no other fault.
 pub fn finding_of<const C: usize>(
     alloc: Global,
     closed: &Closed<C>,
@@ -98,8 +98,8 @@ pub fn asks_budget(showing: Showing) -> bool {
 }
 
 /// Audits a finished run, and forms what is shown of it.
-/// The audit is made for a transcript too, since the status tells what it found. `Fault::Memory` where room is
-/// refused, and no other fault.
+/// The audit is made for a transcript too, since the status tells what it found. `Fault::Memory` if allocation
+/// fails, and no other fault.
 pub fn audit_and_show<const C: usize>(
     alloc: Global,
     closed: &Closed<C>,

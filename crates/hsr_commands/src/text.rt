@@ -9,7 +9,7 @@ use std::alloc::Global;
 use std::io::Read;
 
 /// Reads a whole text, or of one with more than `most` octets a front that has more. `Fault::Read` where the reader fails or takes
-/// 2^40 reads, `Fault::Memory` where room is refused.
+/// 2^40 reads, `Fault::Memory` if allocation fails.
 pub fn read_text<R: Read>(alloc: Global, reader: &mut R, most: usize) -> Result<Vec<u8>, Fault>
     ensures ok { IfOk result (λ text. IfSome (R.remaining reader.old)
         (λ all. IsWhole most all text.items)) }

@@ -136,7 +136,7 @@ fn run_and_deliver<H: Threads + Wait + Sync, W: Write>(
 /// The scenario has at most 16 MiB. The text is formed whole before it is written, so that after a fault nothing is, but for
 /// `Fault::Write`. `Fault::Fine` where the scenario has a step `put`, `take` or `judge`, of which the first is named; nothing is started
 /// then. `Fault::Thread` where a thread can't be started, `Fault::Read` where the reader fails or takes over 2^40 reads,
-/// `Fault::Memory` where room is refused. No gate shuts, so `Fault::Gate` doesn't come. It waits for its threads. Where it is
+/// `Fault::Memory` if allocation fails. No gate shuts, so `Fault::Gate` doesn't come. It waits for its threads. Where it is
 /// asked for, `notes` then has what a fault or a doubt means.
 pub fn threads_run<H: Threads + Wait + Sync, R: Read, W: Write>(
     rt: &H,

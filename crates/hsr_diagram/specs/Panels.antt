@@ -44,7 +44,7 @@ lanes_in panels = flat_map (λ panel. panel.lanes) panels
 abbrev pub count_on : ℕ → List Panel → ℕ
 count_on link panels = count_by (is_on link) (lanes_in panels)
 
--- of so many links, each once
+-- of n links, each once
 abbrev pub AreOnce : ℕ → List Panel → Type 0
 AreOnce n panels = (link : ℕ) → count_on link panels ≡ (if nat_lt link n then 1 else 0)
 

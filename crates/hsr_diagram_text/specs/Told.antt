@@ -32,6 +32,6 @@ told_words names d =
     at_text names d ++ nodes_text names (codes "; missed by ") d.missed ++ nodes_text names (codes "; twice at ") d.twice
     ++ nodes_text names (codes "; strayed to ") d.strayed ++ losses_text d.lost
 
--- so many more
+-- how many more there are
 unfoldable pub more_words : ℕ → List ℕ
 more_words n = codes "and " ++ decimal n ++ codes " more that aren't complete"

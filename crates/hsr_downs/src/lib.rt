@@ -1,5 +1,5 @@
-//! When links are down: from the steps of a scenario that cut a link to the next step that cuts or mends it. And when
-//! nodes are off: while none of their links is up.
+//! When links are down, from a step of a scenario that cuts a link to the next that cuts or mends it; and when nodes are off, while
+//! none of their links is up.
 //!
 //! Its modules, in the order in which to read them:
 //! - `changing`: the steps that cut or mend a link, each with its moment

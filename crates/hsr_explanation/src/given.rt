@@ -38,7 +38,7 @@ fn has_plan_word(alloc: Global, text: &str) -> bool {
                 || document.get("rings").is_some()
                 || document.get("stream").is_some()
         }
-        // Where memory is refused too: then the fault itself is explained.
+        // If allocation fails too: then the fault itself is explained.
         Err(_) => false,
     }
 }

@@ -1,6 +1,6 @@
 //! More about how a run ended, in plain words: what a fault or a doubt means, where it is, and what to do.
 //!
-//! Its modules, in the order to read them:
+//! Its modules, in the order in which to read them:
 //! - `lines`: an explanation, line by line
 //! - `given`: what a text is that isn't what was asked for
 //! - `naming`: nodes, entries and links by their names

@@ -9,7 +9,7 @@ use Rattle.hsr_node.specs.Kept.{Record}
 use Rattle.hsr_node.specs.declared.entry.Receipt.{Receipt}
 use Rattle.hsr_finished_run.specs.Receipts.{Shows, named}
 
--- a first place for each of so many nodes
+-- a first place for each of `count` nodes
 pub record AreFirst (count : ℕ) (next : List ℕ) : Type 0 where
   pub long : length next ≡ count
   pub first : AllByRecursion (λ n. n ≡ 0) next

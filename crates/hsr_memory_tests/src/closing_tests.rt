@@ -95,7 +95,7 @@ fn checked(alloc: Global, parts: Parts<4>) -> Result<Closed<4>, (Parts<4>, Check
     Closed::check(alloc, topology, plan, kept, parts.rows, parts.passes)
 }
 
-/// How many sends the plan of the finished run has. The parts come back where room is refused, and are checked again.
+/// How many sends the plan of the finished run has. The parts come back if allocation fails, and are checked again.
 fn planned_of(alloc: Global, parts: Parts<4>) -> usize {
     match checked(alloc, parts) {
         Ok(closed) => closed.plan().len(),

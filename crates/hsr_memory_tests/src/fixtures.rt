@@ -1,4 +1,4 @@
-//! The octets, the nodes and the sends that these tests share. Where room is refused, each is asked for again.
+//! The octets, the nodes and the sends that these tests share. If allocation fails, each is asked for again.
 ghost use Rattle.hsr_node.specs.Place.{HasOwnAddress};
 
 use hsr_frame::{Mac, Mode};

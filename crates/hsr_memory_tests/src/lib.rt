@@ -1,5 +1,5 @@
-//! Tests of single calls where room is refused: what a call says then is proved, and here it is seen that the same call, made again,
-//! answers as one with room. With no refusal each test shows that the calls succeed.
+//! Tests of single calls in which an allocation fails: what a call says then is proved, and here it is seen that the same call,
+//! made again, answers as one that had memory. With no refusal each test shows that the calls succeed.
 //!
 //! At most one request is refused in a run, so what is asked for again is had.
 #![tactic(auto)]

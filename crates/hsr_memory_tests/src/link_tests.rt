@@ -6,7 +6,7 @@ use std::alloc::Global;
 use std::sync::Wait;
 use std::test::Fail;
 
-/// A link on which one copy may wait in each direction; where room is refused, it is asked for again.
+/// A link on which one copy may wait in each direction; if allocation fails, it is asked for again.
 fn link(alloc: Global) -> Option<Link> {
     match Link::new(alloc, 1) {
         Ok(link) => Some(link),
@@ -14,7 +14,7 @@ fn link(alloc: Global) -> Option<Link> {
     }
 }
 
-/// Whether a link takes a copy. Where room is refused, it has no row more, and takes the copy then.
+/// Whether a link takes a copy. If allocation fails, it has no row more, and takes the copy then.
 fn puts_again(link: &mut Link, carried: Carried) -> bool {
     match link.put(Dir::Forth, carried) {
         Ok(fate) => fate == Fate::Queued,
@@ -49,7 +49,7 @@ fn put_and_inject(rt: HostRuntime) -> Result<(), Fail> {
     Ok(())
 }
 
-/// Whether a link under a lock takes a copy, which comes back where room is refused.
+/// Whether a link under a lock takes a copy, which comes back if allocation fails.
 fn puts_under_a_lock(rt: &impl Wait, cell: &LinkCell, carried: Carried) -> bool {
     match cell.put(rt, Dir::Forth, carried) {
         Ok(fate) => fate == Fate::Queued,

@@ -5,7 +5,7 @@ use hsr_node::{Event, Kept, NodeCell, Pass, Receipt, StepFault};
 use std::sync::Wait;
 use std::test::Fail;
 
-/// The receipt of a new node's first send. Where room is refused, the event comes back and is brought again.
+/// The receipt of a new node's first send. If allocation fails, the event comes back and is brought again.
 fn receipt_again(kept: &mut Kept<4>, event: Event) -> Result<Receipt, Fail> {
     match kept.step(0, 0, event) {
         Ok(receipt) => Ok(receipt),
@@ -17,7 +17,7 @@ fn receipt_again(kept: &mut Kept<4>, event: Event) -> Result<Receipt, Fail> {
     }
 }
 
-/// Whether a worker keeps a receipt. Where room is refused, it comes back and is kept then.
+/// Whether a worker keeps a receipt. If allocation fails, it comes back and is kept then.
 fn keeps_again(pass: &mut Pass, receipt: Receipt) -> bool {
     match pass.keep(receipt) {
         Ok(()) => true,
@@ -37,7 +37,7 @@ fn step_and_receipt(rt: HostRuntime) -> Result<(), Fail> {
     Ok(())
 }
 
-/// Whether a node under a lock takes its first step. Where room is refused, the pass hasn't grown, and the event is brought again.
+/// Whether a node under a lock takes its first step. If allocation fails, the pass hasn't grown, and the event is brought again.
 fn steps_again(rt: &impl Wait, cell: &NodeCell<4>, pass: &mut Pass, event: Event) -> bool {
     match cell.step(rt, pass, 0, event) {
         Ok(receipt) => receipt.place == 0,

@@ -27,7 +27,7 @@ fn ring_once(alloc: Global) -> Option<World<4>> {
     World::new(alloc, topology, 64).ok()
 }
 
-/// Three DANHs in a ring, in which nothing was done; where room is refused, they are asked for again.
+/// Three DANHs in a ring, in which nothing was done; if allocation fails, they are asked for again.
 fn ring(alloc: Global) -> Option<World<4>> {
     match ring_once(alloc) {
         Some(world) => Some(world),
@@ -60,7 +60,7 @@ fn size(world: &World<4>) -> (usize, usize) {
     (entries, rows)
 }
 
-/// Does a step, where room was refused once more.
+/// Does a step, and does it again if allocation fails.
 fn step(world: &mut World<4>, step: &Step) -> Result<(), Fail> {
     let before = size(world);
     match world.step(step) {
@@ -134,7 +134,7 @@ fn two_sends(alloc: Global) -> Option<[Step; 3]> {
     Some([first, Step::Age { node: 0 }, second])
 }
 
-/// Runs steps, and the rest of them where room was refused: the steps before the refusal stand.
+/// Runs steps. If allocation fails it runs the rest of them: the steps before the refusal stand.
 fn run_on(world: &mut World<4>, steps: &[Step]) -> Result<(), Fail> {
     let Err((done, fault)) = world.run(steps) else {
         return Ok(());
@@ -176,7 +176,7 @@ fn send_in(world: &mut World<4>, alloc: Global) -> Result<(), Fail> {
     step(world, &send)
 }
 
-/// Lets a frame go round, and on where room was refused.
+/// Lets a frame go round, and goes on if allocation fails.
 fn go_round(world: &mut World<4>) -> Result<(), Fail> {
     match world.drain(18) {
         Ok(_steps) => Ok(()),
@@ -196,7 +196,7 @@ fn settled(alloc: Global) -> Result<World<4>, Fail> {
     Ok(world)
 }
 
-/// Drains a world, and on where room was refused: the steps before the refusal stand.
+/// Drains a world, and goes on if allocation fails: the steps before the refusal stand.
 fn drain_on(world: &mut World<4>) -> Result<(), Fail> {
     let Err(fault) = world.drain(18) else {
         return Ok(());
@@ -221,7 +221,7 @@ fn drain(rt: HostRuntime) -> Result<(), Fail> {
     Ok(())
 }
 
-/// How many sends a ring's plan has once it is closed. It comes back where room is refused, and is closed then.
+/// How many sends a ring's plan has once it is closed. It comes back if allocation fails, and is closed then.
 fn closes(world: World<4>) -> Result<usize, Fail> {
     let before = size(&world);
     match world.close() {

@@ -142,7 +142,7 @@ no_pass owner n x past shut =
     ap (λ b. option_map (λ octets. let c : Carried = record { probe = probe_handled (record { node = owner.number; place = length past }) x.event; octets = octets } in c)
     (if b then passed_octets owner.place x.event x.outcome n else None)) shut
 
--- what one gives up leaves by no port
+-- nothing leaves by a port where a node drops what is expired
 age_pass : (owner : Owner) (n : ℕ) (x : Entry) (past : List Entry) → x.event ≡ Age → pass_of owner n x past ≡ None
 unfolding copy_octets passed_octets
 age_pass owner n x past is =

@@ -73,7 +73,7 @@ fn answer_arrival<const C: usize>(
 }
 
 /// Makes a text the lines that answer a request.
-/// What the text held goes. Moments are microseconds. `NoMemory` where room is refused; the node has done the
+/// What the text held goes. Moments are microseconds. `NoMemory` if allocation fails; the node has done the
 /// request then, and the text has a front of its answer at most.
 #[tactic(auto, unfolding(crate::specs::Reply::reply, crate::specs::Reply::after))]
 pub fn answer_request<const C: usize>(

@@ -46,7 +46,7 @@ fn put_copies(text: &mut Vec<u8>, frame: Option<FrameView<'_>>, seq: u16) -> Res
 }
 
 /// Puts the lines of a send that was accepted.
-/// `sent <number>`, and the copies of the frame for A and B, where there is a frame. `NoMemory` where room is refused.
+/// `sent <number>`, and the copies of the frame for A and B, where there is a frame. `NoMemory` if allocation fails.
 pub fn put_sent(text: &mut Vec<u8>, frame: Option<FrameView<'_>>, seq: u16) -> Result<(), NoMemory>
     ensures { OnOk result (text.new.items ≡ text.old.items ++ sent_text frame.entry seq) }
 {
@@ -65,7 +65,7 @@ pub fn put_refused(text: &mut Vec<u8>, fault: SendFault) -> Result<(), NoMemory>
 }
 
 /// Puts the lines of a supervision that was accepted.
-/// `life <number> <earlier>`, and the two copies of the frame about the node itself. `NoMemory` where room is refused.
+/// `life <number> <earlier>`, and the two copies of the frame about the node itself. `NoMemory` if allocation fails.
 pub fn put_lived(text: &mut Vec<u8>, own: Mac, life: Life) -> Result<(), NoMemory>
     ensures { OnOk result (text.new.items ≡ text.old.items ++ lived_text own life) }
 {
@@ -145,7 +145,7 @@ fn put_up(text: &mut Vec<u8>, octets: &[u8]) -> Result<(), NoMemory>
 
 /// Puts the lines of an arrival that was judged.
 /// The cause, a fault's number, the egresses in the order `up A B`; and `up <octets>` where it went up. `NoMemory`
-/// where room is refused.
+/// if allocation fails.
 pub fn put_judged(text: &mut Vec<u8>, octets: &[u8], verdict: Verdict) -> Result<(), NoMemory>
     ensures { OnOk result (text.new.items ≡ text.old.items ++ judged_text octets.now verdict) }
 {
@@ -180,8 +180,8 @@ fn put_stopped(text: &mut Vec<u8>, counters: &Counters) -> Result<(), NoMemory>
 }
 
 /// Puts the line of a node's counters.
-/// `sent`, `life`, `up`, `forwarded`, `duplicate`, `returned` and `dropped`, each with its number. `NoMemory` where
-/// room is refused.
+/// `sent`, `life`, `up`, `forwarded`, `duplicate`, `returned` and `dropped`, each with its number. `NoMemory` if
+/// allocation fails.
 #[tactic(auto, unfolding(crate::specs::Reply::counter_line))]
 pub fn put_counters(text: &mut Vec<u8>, counters: &Counters) -> Result<(), NoMemory>
     requires { AreWithin counters.now (2 ^ 62) }

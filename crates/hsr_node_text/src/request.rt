@@ -29,7 +29,7 @@ pub enum Request {
         port: RingPort,
         octets: Vec<u8>,
     },
-    /// The node gives up what is expired.
+    /// The node drops what is expired.
     Age {
         at: u64,
     },

@@ -7,11 +7,11 @@ use std::alloc::AllocError;
 pub enum BlockFault {
     /// The value of an option has over 65535 octets, or a block 2^32 octets or more.
     TooLong,
-    /// Room was refused.
+    /// Allocation failed.
     NoMemory,
 }
 
-// `from_gives` says which fault `?` makes, so that no clause takes want of memory for `TooLong`.
+// `from_gives` says which fault `?` makes, so that no clause takes a failed allocation for `TooLong`.
 impl From<AllocError> for BlockFault {
     ghost use Rattle.std.specs.Prelude.{◌≡◌};
     ghost use Rattle.hsr_pcapng.specs.declared.fault.BlockFault.TheVariants.{NoMemory as NoRoom};

@@ -1,4 +1,4 @@
--- What the planner's program does, over words, a text that is read, and two writers: standard output and standard error.
+-- What the planner's program does, over arguments, a text that is read, and two writers: standard output and standard error.
 use Rattle.std.specs.Prelude.{ℕ, ◌<◌, ◌≡◌, ◌⊎◌, Bool, List, ◌++◌, length, codes, string_bytes, Option, Result, Ok, Err}
 use Rattle.std.specs.Io.KnownBytes.{Appends, Keeps}
 use Rattle.clap.specs.Words.{Text}
@@ -34,26 +34,26 @@ pub record IsDone (task : Task) (text : List ℕ) (shown : Bool) (held holds tol
   pub ends : TellsWrite ending middle tells
   pub is_code : code ≡ code_of ending
 
--- there was no memory to read the words
+-- there was no memory to read the arguments
 pub record IsShort (held holds told tells : Option (List ℕ)) (code : ℕ) : Type 0 where
   pub is_code : code ≡ 1
   pub line : Appends told tells (codes "fault: memory\n")
   pub kept : Keeps held holds
 
--- What the words choose is done; or the text by which they are refused is told, and nothing is written; or there was no memory to read
+-- What the arguments choose is done; or the text by which they are refused is told, and nothing is written; or there was no memory to read
 -- them.
 abbrev pub Answers : Result Task WordsFault → List ℕ → Bool → Option (List ℕ) → Option (List ℕ) → Option (List ℕ) → Option (List ℕ) → ℕ → Type 0
 Answers (Ok task) text shown held holds told tells code = IsDone task text shown held holds told tells code
 Answers (Err (Usage why)) text shown held holds told tells code = (code ≡ 3) × Appends told tells (string_bytes why ++ codes "\n") × Keeps held holds
 Answers (Err Memory) text shown held holds told tells code = IsShort held holds told tells code
 
--- the words say what is to be done, and it is done
+-- the arguments say what is to be done, and it is done
 pub record IsAnswered (words : List Text) (text : List ℕ) (shown : Bool) (held holds told tells : Option (List ℕ)) (code : ℕ) : Type 0 where
   pub task : Task
   pub says : Says words task
   pub done : IsDone task text shown held holds told tells code
 
--- the words are refused by a text that isn't empty, and nothing is written
+-- the arguments are refused by a text that isn't empty, and nothing is written
 pub record IsTurnedAway (words : List Text) (held holds told tells : Option (List ℕ)) (code : ℕ) : Type 0 where
   pub why : Text
   pub refused : IsRefused words why

@@ -292,7 +292,7 @@ fn put_topology(alloc: Global, line: &mut Vec<u8>, text: &str) -> Result<(), NoM
             put_place(line, source.text, reason.at)?;
             put(line, reason.words)
         }
-        // Want of memory: that it is TOML was found before.
+        // A failed allocation: that it is TOML was found before.
         Err(_) => Err(NoMemory),
     }
 }

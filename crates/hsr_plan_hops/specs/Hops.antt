@@ -25,10 +25,10 @@ abbrev pub is_in_time_if : ℕ → Run → Hop → Option Spot → Bool
 is_in_time_if us run hop None = true
 is_in_time_if us run hop (Some judged) = is_later_by us (moment_at run hop.passed) (moment_at run (Some judged))
 
--- a copy was lost, or judged so many microseconds after it was passed
+-- a copy was lost, or judged `us` microseconds after it was passed
 abbrev pub is_in_time : ℕ → Run → Hop → Bool
 is_in_time us run hop = is_in_time_if us run hop hop.judged
 
--- each copy of a run that wasn't lost was judged so many microseconds after it was passed
+-- each copy of a run that wasn't lost was judged `us` microseconds after it was passed
 abbrev pub are_in_time : ℕ → Run → Bool
 are_in_time us run = list_all (is_in_time us run) (hops run)

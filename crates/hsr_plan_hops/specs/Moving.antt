@@ -18,10 +18,10 @@ use Rattle.hsr_plan_hops.specs.declared.turns.Due.TheVariants.{Nothing}
 abbrev pub world_of : Meaning → World
 world_of told = new_world told.capacity told.topology.places told.topology.links
 
--- Orders lead to a finished run with tables of so many entries: none is refused, and at the end nothing is on its way. They do what is
--- told, and put at once what a node passed. Each copy that isn't lost as it is put is taken just so many microseconds later, in the order in
+-- Orders lead to a finished run with tables of `capacity` entries: none is refused, and at the end nothing is on its way. They do what is
+-- told, and put at once what a node passed. Each copy that isn't lost as it is put is taken just `us` microseconds later, in the order in
 -- which they were put and before anything that is told is done then, unless its link was cut before. Each copy that isn't lost is judged just
--- so many microseconds after it was passed.
+-- `us` microseconds after it was passed.
 pub record IsRunByHops (capacity us : ℕ) (told : Meaning) (orders : List Order) : Type 0 where
   pub run : Finished
   pub finished : IsFinishedBy capacity told.topology told.capacity orders run
@@ -44,7 +44,7 @@ Moved capacity EachSendDrains told m = m ≡ told
 Moved capacity EachMomentDrains told m = m ≡ told
 Moved capacity (Hop us) told m = (orders : List Order) × MovesByHops capacity us told orders × (m ≡ ordered told orders)
 
--- what a plan means in a world with tables of so many entries
+-- what a plan means in a world with tables of `capacity` entries
 pub record MeansMoved (capacity : ℕ) (plan : Plan) (m : Meaning) : Type 0 where
   pub told : Meaning
   pub means : Means plan told

@@ -108,7 +108,7 @@ pub record IsLate (capacity us : ℕ) (told : Meaning) : Type 0 where
 
 -- ---- why
 
--- no world has room for so many copies
+-- no world has room for that number of copies on a link
 abbrev pub HasBadRoom : Meaning → Type 0
 HasBadRoom told = (told.capacity < 1) ⊎ (4096 < told.capacity)
 

@@ -231,7 +231,7 @@ fn world_of<const C: usize>(alloc: Global, told: &Meaning) -> Result<World<C>, N
     Ok(World::<C>::new(alloc, topology, told.capacity)?)
 }
 
-/// The orders that do what is told, with the moves of copies among them: each is put at once, and taken and judged so many microseconds
+/// The orders that do what is told, with the moves of copies among them: each is put at once, and taken and judged `us` microseconds
 /// later. Beside them stands the stage that they lead to.
 pub(crate) fn woven<const C: usize>(
     alloc: Global,

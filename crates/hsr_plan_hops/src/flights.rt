@@ -58,11 +58,11 @@ pub(crate) fn landed<const C: usize>(world: &World<C>, flights: &VecDeque<Flight
     flights.len()
 }
 
-/// Forgets so many copies.
+/// Forgets the first `count` copies.
 pub(crate) fn forget(flights: &mut VecDeque<Flight>, count: usize)
     ensures { flights.new.items ≡ drop count flights.old.items }
 {
-    // Only the number of turns matters: each gives up the front.
+    // Only the number of turns matters: each drops the front.
     for gone in 0..count {
         flights.pop_front();
     }

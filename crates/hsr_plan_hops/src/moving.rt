@@ -33,7 +33,7 @@ fn closed<const C: usize>(world: World<C>) -> Result<Closed<C>, Unmoved>
     }
 }
 
-/// Refuses a world that isn't ended, and one in which a copy isn't judged so many microseconds after it was passed.
+/// Refuses a world that isn't ended, and one in which a copy isn't judged `us` microseconds after it was passed.
 fn check_end<const C: usize>(alloc: Global, us: u64, world: World<C>) -> Result<(), Unmoved>
     ensures ok { OnOk result (EndsWell C us world.entry) }
     ensures err { IfErr result (EndsBadly C us world.entry) }

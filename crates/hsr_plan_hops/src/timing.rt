@@ -32,7 +32,7 @@ fn moment_at<const C: usize>(closed: &Closed<C>, spot: Option<Spot>) -> Option<u
     }
 }
 
-/// Whether one moment is so many microseconds later than another.
+/// Whether one moment is `us` microseconds later than another.
 fn is_later_by(us: u64, from: Option<u64>, to: Option<u64>) -> bool
     ensures { result ≡ is_later_by us from to }
 {
@@ -43,7 +43,7 @@ fn is_later_by(us: u64, from: Option<u64>, to: Option<u64>) -> bool
     }
 }
 
-/// Whether a copy was lost, or judged so many microseconds after it was passed.
+/// Whether a copy was lost, or judged `us` microseconds after it was passed.
 fn is_in_time<const C: usize>(closed: &Closed<C>, us: u64, hop: &Hop) -> bool
     ensures { result ≡ is_in_time us closed.now.run hop.now }
 {
@@ -71,7 +71,7 @@ fn are_all_in_time<const C: usize>(closed: &Closed<C>, us: u64, hops: &[Hop]) ->
     true
 }
 
-/// Whether each copy that wasn't lost was judged so many microseconds after it was passed.
+/// Whether each copy that wasn't lost was judged `us` microseconds after it was passed.
 pub(crate) fn are_in_time<const C: usize>(
     alloc: Global,
     closed: &Closed<C>,

@@ -10,11 +10,11 @@ use std::alloc::{AllocError, AllocFailed};
 pub enum Unmoved {
     /// The plan itself means nothing.
     Plan(PlanFault),
-    /// Copies are still on their way after so many orders.
+    /// Copies are still on their way after this number of orders.
     Endless(usize),
     /// Copies can't be moved by hops: what comes next can't be done, or what is done doesn't end as it has to.
     Differs,
-    /// Room was refused.
+    /// Allocation failed.
     Memory,
 }
 

@@ -1,4 +1,4 @@
-//! What holds of the networks that plans mean.
+//! What holds of the networks that plans mean: laws alone.
 #![tactic(auto)]
 
 mod law;

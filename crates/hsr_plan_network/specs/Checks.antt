@@ -29,7 +29,7 @@ each_once (n ∷ ns) = unless_held (not (is_in n ns)) (NameTwice n) >>= λ _. ea
 
 -- ---- rings
 
--- rings list so many names at most
+-- rings list n names at most
 abbrev pub list_at_most : ℕ → List (List (List ℕ)) → Bool
 list_at_most n [] = true
 list_at_most n (ring ∷ rings) = nat_le (length ring) n && list_at_most (n - length ring) rings

@@ -48,7 +48,7 @@ fn there(alloc: Global, is_there: bool, name: &[u8]) -> Result<(), What>
     Err(What::Refused(Refusal::NoSuchName(name)))
 }
 
-/// Refuses nodes that are no topology, unless they may be one.
+/// Refuses nodes and links, unless they form a valid topology.
 fn fit(is_fit: bool) -> Result<(), What>
     ensures { Gives (λ u. u) result (unless_held is_fit why.Topology) }
 {
@@ -77,7 +77,7 @@ fn each_once(alloc: Global, names: &[Word]) -> Result<(), What>
 
 // ---- rings
 
-/// Whether rings list so many names at most.
+/// Whether rings list `most` names at most.
 #[tactic(auto, using(crate::proofs::Passing::list_step))]
 fn list_at_most(most: usize, rings: &[Ring]) -> bool
     ensures { result ≡ list_at_most most rings.now }

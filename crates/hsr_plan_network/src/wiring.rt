@@ -88,8 +88,9 @@ fn topology_of(alloc: Global, nodes: &[Node], links: Vec<[End; 2]>) -> Result<To
 /// one behind each RedBox. Links stand ring by ring, from B of a node to A of the next one (C and D in a QuadBox's other ring), and
 /// then the interlinks. `Refused` where there are more rings or names in rings than 64 nodes have, where a name is there twice, in more
 /// than two rings, or not at all, where a Station would have a name of a ring, where a RedBox hasn't 1 to 16 stations, where a ring has
-/// fewer than two names, where an address is given twice or is another's by default, and where nodes and links are no topology.
-/// `BadValue` where a RedBox's name has over 27 octets. `NoMemory` where room is refused.
+/// fewer than two names, where an address is given twice or is another's by default, and where nodes and links do not form
+/// a valid topology.
+/// `BadValue` where a RedBox's name has over 27 octets. `NoMemory` if allocation fails.
 pub fn wire(alloc: Global, network: &Network) -> Result<Wired, What>
     ensures { Gives (λ w. w) result (wired network.now) }
 {

@@ -4,7 +4,7 @@ use Rattle.hsr_plan_text.specs.declared.plan.Kind.{Kind}
 use Rattle.hsr_plan_text.specs.declared.plan.Kind.TheVariants.{Goose, SampledValues, Number}
 use Rattle.hsr_plan_payload.specs.Ber.{four, integer, pair, tagged}
 
--- ---- GOOSE (IEC 61850-8-1), the fields of its PDU, the last with so many octets more than it needs
+-- ---- GOOSE (IEC 61850-8-1), the fields of its PDU, the last with as many octets more than it needs as a size asks for
 
 unfoldable pub control_block : List ℕ
 control_block = codes "/LLN0$GO$gcb"
@@ -36,7 +36,7 @@ framed appid pdu = pair appid ++ (pair (length pdu + 8) ++ (replicate 4 0 ++ pdu
 unfoldable pub goose : List ℕ → ℕ → ℕ → ℕ → List ℕ
 goose name state k spare = framed 1 (goose_pdu name state k spare)
 
--- ---- sampled values (IEC 61850-9-2), with 64 octets of data, and so many times 8 more; smpCnt counts to 3999
+-- ---- sampled values (IEC 61850-9-2), with 64 octets of data, and a number of times 8 more; smpCnt counts to 3999
 
 abbrev pub sampled_head : List ℕ → ℕ → List ℕ
 sampled_head name k = tagged 0x80 name ++ (tagged 0x82 (pair (k % 4000)) ++ tagged 0x83 (four 1))

@@ -1,4 +1,4 @@
-//! The payloads of a plan's streams.
+//! The payloads of a plan's streams: GOOSE, sampled values, and those of other types.
 //!
 //! Its modules, in the order in which to read them:
 //! - `ber`: values with tags and lengths (ITU-T X.690), and numbers in big endian

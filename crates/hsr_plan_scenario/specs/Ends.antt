@@ -40,7 +40,7 @@ TellsWhy P told tells Failed = TellsInput told tells
 TellsWhy P told tells _ = ⊥
 
 -- The scenario that a plan means was written, and nothing told; or there is none, and nothing was written, and a fault told; or the text
--- wasn't read, or room refused, and nothing was written, and that told; of a failed write no more is said than that nothing was told.
+-- wasn't read, or an allocation failed, and nothing was written, and that told; of a failed write no more is said than that nothing was told.
 abbrev pub Ends : ℕ → List ℕ → Option (List ℕ) → Option (List ℕ) → Option (List ℕ) → Option (List ℕ) → Ending → Type 0
 Ends capacity octets held holds told tells Planned = (text : List ℕ) × SaysPlan capacity octets text × Appends held holds text × Keeps told tells
 Ends capacity octets held holds told tells Refused = IsUnplanned capacity octets × Keeps held holds × TellsFault told tells
@@ -58,7 +58,7 @@ TellsWhyOpen cause told tells Failed = TellsInput told tells
 TellsWhyOpen cause told tells _ = ⊥
 
 -- Octets are a scenario that is played to its end, and nothing was told; or they are none, and a fault was told; or its run isn't closed,
--- and that was told; or it wasn't read, or room refused, and that was told.
+-- and that was told; or it wasn't read, or an allocation failed, and that was told.
 abbrev pub Checks : List ℕ → Option (List ℕ) → Option (List ℕ) → Ending → Type 0
 Checks octets told tells Planned = IsScenario octets × Keeps told tells
 Checks octets told tells Refused = (IsNoScenario octets × TellsFault told tells) ⊎ ((cause : Disagree) × IsLeftOpen octets cause × TellsOpen cause told tells)

@@ -52,7 +52,7 @@ IsUnmoved capacity plan (TooLong octets) = ⊥
 
 -- ---- the scenario of what is meant
 
--- room was refused
+-- an allocation failed
 abbrev pub no_room : Trouble
 no_room = Faulty (record { spot = Top; what = NoMemory })
 
@@ -61,7 +61,7 @@ abbrev pub unread : What → Trouble
 unread NoRoom = no_room
 unread what = Differs
 
--- this holds, or room was refused
+-- this holds, or an allocation failed
 abbrev pub IfDiffers : Type 0 → Trouble → Type 0
 IfDiffers P Differs = P
 IfDiffers P trouble = trouble ≡ no_room
@@ -88,7 +88,7 @@ IsTroubleIn capacity (Ok plan) trouble = IsTroubleOf capacity plan trouble
 IsTroubleIn capacity (Err first) (Faulty fault) = FailsAt {Y = Plan} fault fault.what (Err first)
 IsTroubleIn capacity (Err first) trouble = ⊥
 
--- it isn't that room was refused
+-- it isn't that an allocation failed
 abbrev pub IsKnown : Trouble → Type 0
 IsKnown (Faulty fault) = fault.what ≢ NoMemory
 IsKnown trouble = ⊤

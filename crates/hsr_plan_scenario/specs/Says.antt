@@ -32,7 +32,7 @@ pub record Tells (outline : Outline) (m : Meaning) (text : List ℕ) : Type 0 wh
   pub named : names_meant text ≡ Ok (names_meant_by m)
   pub titled : IsTitled outline.title text
 
--- a text is spelled as what a plan means in a world with tables of so many entries, and is read as that, with the plan's title
+-- a text is spelled as what a plan means in a world with tables of `capacity` entries, and is read as that, with the plan's title
 abbrev pub Says : ℕ → Plan → List ℕ → Type 0
 Says capacity plan text = (m : Meaning) × MeansMoved capacity plan m × (text ≡ scenario_text plan.outline m) × Tells plan.outline m text
 

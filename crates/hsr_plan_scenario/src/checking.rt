@@ -26,15 +26,15 @@ use std::alloc::Global;
 pub enum Trouble {
     /// The text is no plan, or means nothing.
     Plan(PlanFault),
-    /// The scenario would have so many octets, and 16 MiB is the most.
+    /// The scenario would have this number of octets, and 16 MiB is the most.
     TooLong(usize),
-    /// Copies are still on their way after so many steps.
+    /// Copies are still on their way after this number of steps.
     Endless(usize),
     /// Copies can't be moved by hops, or the scenario's text doesn't say what the plan means.
     Differs,
 }
 
-/// The trouble where room is refused.
+/// The trouble of a failed allocation.
 fn no_memory() -> Trouble
     ensures { result ≡ no_room }
 {
@@ -75,7 +75,7 @@ fn unread(fault: &ScenarioFault) -> Trouble
     ensures { result ≡ unread fault.now.what }
 {
     match fault.what {
-        // Want of memory says nothing of the text.
+        // A failed allocation says nothing of the text.
         ScenarioWhat::NoMemory => no_memory(),
         _ => Trouble::Differs,
     }

@@ -54,7 +54,7 @@ pub fn words(alloc: Global, words: &str) -> Line {
     Ok(line)
 }
 
-/// The line of a scenario of so many octets.
+/// The line of a scenario that would have `octets` octets.
 fn too_long(alloc: Global, octets: usize) -> Line {
     let mut line = words(alloc, "fault: plan 1:1 the scenario would have ")?;
     put_decimal(&mut line, octets as u64)?;
@@ -64,7 +64,7 @@ fn too_long(alloc: Global, octets: usize) -> Line {
     Ok(line)
 }
 
-/// The line of copies that are still on their way after so many steps.
+/// The line of copies that are still on their way after `steps` steps.
 fn endless(alloc: Global, steps: usize) -> Line {
     let mut line = words(
         alloc,

@@ -596,7 +596,7 @@ fn put_sends(text: &mut Vec<u8>, sends: &[u64]) -> Result<(), NoMemory>
     )
 }
 
-/// Puts the comment of so many nodes and links, of sends at these moments, which rise, and of how copies move, last.
+/// Puts the comment of how many nodes and links there are, of sends at these moments, which rise, and of how copies move, last.
 #[tactic(auto, unfolding(crate::specs::Spelled::counts_text))]
 fn put_counts(
     text: &mut Vec<u8>,

@@ -36,7 +36,7 @@ abbrev pub lives_at : ℕ → ℕ → List Node → List Occasion
 lives_at at k [] = []
 lives_at at k (node ∷ nodes) = life_of node.place at k ++ lives_at at (k + 1) nodes
 
--- so many rounds at most, from a moment on
+-- n rounds at most, from a moment on
 unfoldable pub rounds : ℕ → ℕ → ℕ → ℕ → List Node → List Occasion
 rounds zero at every until nodes = []
 rounds (suc n) at every until nodes = if nat_lt at until then lives_at at 0 nodes ++ rounds n (at + every) every until nodes else []
@@ -71,7 +71,7 @@ abbrev pub most_sent : Option ℕ → ℕ
 most_sent None = 2 ^ 20 + 1
 most_sent (Some count) = min count (2 ^ 20 + 1)
 
--- frames of one sender from one start on, so many at most: from the k-th, at a moment, with this gap to the next
+-- frames of one sender from one start on, n at most: from the k-th, at a moment, with this gap to the next
 unfoldable pub run : ℕ → ℕ → ℕ → ℕ → Timing → ℕ → Sent → List Occasion
 run zero k at gap timing until sent = []
 run (suc n) k at gap timing until sent = if nat_lt at until
@@ -108,7 +108,7 @@ is_enough framing least = framing.size == 0 || nat_le least framing.size
 unfoldable pub fits : Framing → List ℕ → Result ⊤ What
 fits framing name = unless_held (is_enough framing (shortest framing.kind name)) (TooSmall (shortest framing.kind name))
 
--- how much room is left behind so many, if there is as much
+-- how much room is left after n, if there is as much
 unfoldable pub left : ℕ → ℕ → Option ℕ
 left room n = if nat_le n room then Some (room - n) else None
 

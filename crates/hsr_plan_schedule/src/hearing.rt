@@ -140,7 +140,7 @@ impl Heard {
         })
     }
 
-    /// Whether one more frame of that Station can wait, where so many can.
+    /// Whether one more frame of that Station can wait, where `capacity` can.
     pub(crate) fn has_room(&self, capacity: usize, station: usize) -> bool
         ensures { result ≡ has_room capacity station self.now }
     {

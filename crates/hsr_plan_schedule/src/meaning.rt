@@ -113,7 +113,7 @@ fn told_in_order(alloc: Global, plan: &Plan, listed: Listed) -> Result<Meaning, 
     })
 }
 
-/// The fault where room is refused.
+/// The fault of a failed allocation.
 fn no_memory() -> PlanFault
     ensures { result.what ≡ NoRoom }
 {

@@ -33,7 +33,7 @@ pub(crate) fn at_spot<T>(spot: Spot, told: Result<T, What>) -> Result<T, PlanFau
     }
 }
 
-/// The fault where room is refused.
+/// The fault of a failed allocation.
 fn no_memory_at(spot: Spot) -> PlanFault
     ensures { result ≡ record { spot = spot; what = NoRoom } }
 {

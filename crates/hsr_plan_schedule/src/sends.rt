@@ -89,7 +89,7 @@ fn next_gap(gap: u64, timing: &Timing) -> u64
 
 // ---- how many there are
 
-/// How much room is left behind so many, if there is as much.
+/// How much room is left after `taken`, if there is as much.
 #[tactic(auto, unfolding(crate::specs::Moments::left))]
 fn left(room: usize, taken: usize) -> Option<usize>
     ensures { result ≡ left room taken }

@@ -59,7 +59,7 @@ node_lines nodes k (count ∷ counts) = (node_head nodes k ++ count_text count) 
 
 -- ---- all
 
--- the most entries that one of these runs needed, and so many at least
+-- the most entries that one of these runs needed, and `least` at least
 abbrev pub most_needed : List Count → ℕ → ℕ
 most_needed [] least = least
 most_needed (count ∷ counts) least = most_needed counts (max least count.needed)

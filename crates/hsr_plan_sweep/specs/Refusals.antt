@@ -29,7 +29,7 @@ use Rattle.hsr_plan_sweep.specs.declared.running.Trouble.TheVariants.{Plan as Un
 
 -- ---- runs
 
--- it isn't that room was refused
+-- it isn't that an allocation failed
 abbrev pub IsKnownRun : Unfinished → Type 0
 IsKnownRun unfinished.Memory = ⊥
 IsKnownRun (unfinished.Check check.NoMemory) = ⊥

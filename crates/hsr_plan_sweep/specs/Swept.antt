@@ -26,7 +26,7 @@ abbrev pub IfHidden : Bool → Type 0 → Type 0
 IfHidden shown said = shown ≡ false → said
 
 -- The lines of a sweep were written, and nothing told; or there are none, and nothing was written, and a fault told; or the text wasn't
--- read, or room refused, and nothing was written, and that told; of a failed write no more is said than that nothing was told. What is
+-- read, or an allocation failed, and nothing was written, and that told; of a failed write no more is said than that nothing was told. What is
 -- told of a sweep that shows how far it is stays open.
 abbrev pub SweepEnds : List ℕ → ℕ → Bool → Option (List ℕ) → Option (List ℕ) → Option (List ℕ) → Option (List ℕ) → Ending → Type 0
 SweepEnds octets at shown held holds told tells Planned = (text : List ℕ) × IsSwept octets at text × Appends held holds text × IfHidden shown (Keeps told tells)

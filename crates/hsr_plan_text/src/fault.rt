@@ -149,7 +149,7 @@ pub enum Refusal {
     Endless(Key),
     /// A moment of a key is behind the end, or the moment of a start is the end itself.
     TooLate(Key),
-    /// A payload of so many octets is the shortest that there is.
+    /// The size is below the shortest payload that there is, which has this number of octets.
     TooSmall(usize),
     /// An event changes nothing.
     Idle(Key),
@@ -157,7 +157,7 @@ pub enum Refusal {
     Together(Key),
     /// There is more of what a key tells than is allowed.
     TooMany(Key),
-    /// The nodes and links are no topology.
+    /// The nodes and links do not form a valid topology.
     Topology,
 }
 
@@ -189,7 +189,7 @@ pub struct PlanFault {
     pub what: What,
 }
 
-// `from_gives` says which fault `?` makes, so that no clause takes want of memory for another fault.
+// `from_gives` says which fault `?` makes, so that no clause takes a failed allocation for another fault.
 impl From<NoMemory> for What {
     ghost from_gives = { λ _ what. what ≡ NoRoom };
 

@@ -70,7 +70,7 @@ pub enum Moves {
     EachSendDrains,
     /// All are at their end before the next moment.
     EachMomentDrains,
-    /// Each is put on its link at once, and taken and judged so many microseconds later.
+    /// Each is put on its link at once, and taken and judged this number of microseconds later.
     Hop(u64),
 }
 

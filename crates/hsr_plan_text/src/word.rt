@@ -21,7 +21,7 @@ impl Model for Word {
 }
 
 impl Word {
-    /// A word of these octets. `NoMemory` where room is refused.
+    /// A word of these octets. `NoMemory` if allocation fails.
     pub fn of(alloc: Global, text: &[u8]) -> Result<Word, NoMemory>
         ensures { IfOk result (λ w. w ≡ text.now) }
     {
@@ -30,7 +30,7 @@ impl Word {
         Ok(Word { octets })
     }
 
-    /// The same word again. `NoMemory` where room is refused.
+    /// The same word again. `NoMemory` if allocation fails.
     pub fn copy(&self, alloc: Global) -> Result<Word, NoMemory>
         ensures { IfOk result (λ w. w ≡ self.now) }
     {

@@ -17,7 +17,7 @@ channels_from node l [] = []
 channels_from node l (ends ∷ links) =
     channel_from node l ends Forth ++ (channel_from node l ends Back ++ channels_from node (l + 1) links)
 
--- of so many nodes
+-- of each node below a number
 abbrev pub starting_in : ℕ → List (List End) → List (List Channel)
 starting_in nodes links = map (λ n. channels_from n 0 links) (range_with_len 0 nodes)
 

@@ -24,14 +24,14 @@ use Rattle.hsr_report.specs.declared.finding.Finding.TheVariants as finding
 use Rattle.hsr_report.specs.declared.spending.Spending.{Spending}
 use Rattle.hsr_report.specs.declared.spending.Spending.TheVariants.{Within, Late, Crowded}
 
--- the chosen audit of a run found this: a certificate for so many sends, or its first doubt
+-- the chosen audit of a run found this: a certificate with the number of its sends, or its first doubt
 abbrev pub IsFound : Scope → Run → Finding → Type 0
 IsFound Ring run (finding.Certified sends) = (listed : List Entry) × IsCertified run listed × (sends ≡ length listed)
 IsFound Ring run (finding.Doubt doubt) = IsFirst of_ring run doubt
 IsFound Network run (finding.Certified sends) = (listed : List Delivery) × IsNetworkCertified run listed × (sends ≡ length listed)
 IsFound Network run (finding.Doubt doubt) = IsFirst of_network run doubt
 
--- a run is within budget, with so many sends at most in a window, or this breaks it first
+-- a run is within budget, with the greatest number of sends in a window, or this breaks it first
 abbrev pub IsSpending : Run → Spending → Type 0
 IsSpending run (Within most) = IsBudgetHeld run × IsMost run most
 IsSpending run (Late k place) = IsFirstBreach run (breach.Late k place)

@@ -68,7 +68,7 @@ finding_line (finding.Doubt doubt) = codes "doubt " ++ doubt_text doubt ++ codes
 
 -- ---- needed entries
 
--- the node and place where so many were needed first
+-- the node and place where the greatest number was needed first
 abbrev pub met_text : Option (ℕ × ℕ) → List ℕ
 met_text None = []
 met_text (Some at) = codes " " ++ decimal at.0 ++ codes " " ++ decimal at.1

@@ -11,7 +11,7 @@ use Rattle.hsr_ring.specs.Playing.{Halts, Plays}
 use Rattle.hsr_ring.specs.declared.finishing.Unfinished.{Unfinished}
 use Rattle.hsr_ring.specs.declared.finishing.Unfinished.TheVariants.{Step, Check}
 
--- all these orders are obeyed in a new world of the topology, where so many copies wait on a link: this is the finished run that it then is
+-- all these orders are obeyed in a new world of the topology, where `room` copies wait on a link: this is the finished run that it then is
 pub record IsFinishedBy (capacity : ℕ) (topology : Topology) (room : ℕ) (orders : List Order) (run : Finished) : Type 0 where
   pub world : World
   pub plays : Plays capacity orders (new_world room topology.places topology.links) world
@@ -19,7 +19,7 @@ pub record IsFinishedBy (capacity : ℕ) (topology : Topology) (room : ℕ) (ord
   pub is : run ≡ finished_of capacity world
 
 -- the orders before a place are obeyed in that world, and the one at that place is refused; or all are obeyed, and the world that they
--- lead to isn't closed, with the first cause; or room was refused
+-- lead to isn't closed, with the first cause; or an allocation failed
 abbrev pub IsUnfinishedBy : ℕ → Topology → ℕ → List Order → Unfinished → Type 0
 IsUnfinishedBy capacity topology room orders (Step place f) = (w : World) × Halts capacity orders place (new_world room topology.places topology.links) w f
 IsUnfinishedBy capacity topology room orders (Check (Disagree d)) =

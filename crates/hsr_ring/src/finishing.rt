@@ -21,7 +21,7 @@ pub enum Unfinished {
     Step(usize, DrainFault),
     /// The world can't be closed.
     Check(CheckFault),
-    /// Room was refused.
+    /// Allocation failed.
     Memory,
 }
 
@@ -47,9 +47,9 @@ fn played<const C: usize>(
     }
 }
 
-/// The finished run that orders lead to, in a new world of the topology, where so many copies wait in each direction of a link, with
+/// The finished run that orders lead to, in a new world of the topology, where `capacity` copies wait in each direction of a link, with
 /// tables of `C` entries. Else why there is none: the place of the first order that is refused, the first cause why the world isn't
-/// closed, or want of memory.
+/// closed, or a failed allocation.
 pub fn finished<const C: usize>(
     alloc: Global,
     topology: Topology,

@@ -343,7 +343,7 @@ impl<const C: usize> Running<C> {
         }
     }
 
-    /// A node gives up what is expired.
+    /// A node drops what is expired.
     #[tactic(auto, unfolding(hsr_world_laws::specs::World::tried))]
     fn age(&mut self, touching: &[Vec<usize>], node: usize) -> Result<(), WorldFault>
         requires { AreTouching self.old.places self.old.spans

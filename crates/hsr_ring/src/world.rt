@@ -54,7 +54,7 @@ impl<const C: usize> World<C> {
     ghost use Rattle.hsr_node.specs.Counts.{counters};
 
     /// A world at moment 0 in which nothing was done, with room for `capacity` copies, 1 to 4096, in each direction of a link.
-    /// `NoMemory` where room is refused.
+    /// `NoMemory` if allocation fails.
     pub fn new(alloc: Global, topology: Topology, capacity: usize) -> Result<World<C>, NoMemory>
         requires entries { IsTableSize C }
         requires room { (1 ≤ capacity) × (capacity ≤ 4096) }
@@ -75,7 +75,7 @@ impl<const C: usize> World<C> {
     }
 
     /// Does a step, or refuses it for the first reason that applies; a refusal changes nothing.
-    /// The reasons are tried in the order of `WorldFault`; `NoMemory` comes where room is refused.
+    /// The reasons are tried in the order of `WorldFault`; `NoMemory` comes if allocation fails.
     pub fn step(&mut self, step: &Step) -> Result<(), WorldFault>
         ensures ok { OnOk result (tried C self.old step.now ≡ Ok self.new) }
         ensures err { IfErr result (λ f. (self.new ≡ self.old)

@@ -43,7 +43,7 @@ IsEnding capacity may_shut Shut = may_shut ≡ true
 IsEnding capacity may_shut (Refused fault) = IsRefusedCopy capacity fault
 IsEnding capacity may_shut NoMemory = Unit {0}
 
--- why an order isn't done: it is refused, or want of memory
+-- why an order isn't done: it is refused, or an allocation failed
 abbrev pub IsOrderEnd : ℕ → Topology → Order → WorldFault → Type 0
 IsOrderEnd capacity topology o NoRoom = Unit {0}
 IsOrderEnd capacity topology o fault = IsRefusedOrder capacity topology o fault
@@ -79,7 +79,7 @@ worker_fault k Shut = Some fault.GateShut
 worker_fault k (Refused f) = Some (fault.Step k (Node f))
 worker_fault k NoMemory = Some fault.NoMemory
 
--- Why there is no run where the main worker ended so, of so many steps, and the lowest of the others: the main worker's reason first. It is
+-- Why there is no run where the main worker ended so, of `last` steps, and the lowest of the others: the main worker's reason first. It is
 -- told to stop only by one that gave up.
 abbrev pub fault_of : Conducted → Ending → ℕ → Option RunFault
 fault_of All ending last = worker_fault last ending
@@ -96,7 +96,7 @@ IsPlayFault capacity may_shut s (fault.FineStep k) = ⊥
 IsPlayFault capacity may_shut s fault.GateShut = may_shut ≡ true
 IsPlayFault capacity may_shut s f = IsRunFault capacity s f
 
--- what the closing check of these parts leaves: the first cause why they don't agree, or want of memory
+-- what the closing check of these parts leaves: the first cause why they don't agree, or a failed allocation
 abbrev pub IsCheckFault : ℕ → Topology → List Record → List (Vec Row Global) → List Receipts → List Planned → RunFault → Type 0
 IsCheckFault capacity topology kept rows passes plan (fault.Check (check.Disagree d)) = IsFirst capacity topology kept rows passes plan d
 IsCheckFault capacity topology kept rows passes plan fault.NoMemory = Unit {0}

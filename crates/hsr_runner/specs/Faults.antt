@@ -65,7 +65,7 @@ AllFit topology (o ∷ os) = (misfit topology o ≡ None) × AllFit topology os
 
 -- ---- steps that a node refuses
 
--- some legal record refuses an event at a moment; want of memory is no such reason
+-- some legal record refuses an event at a moment; a failed allocation is no such reason
 abbrev pub IsRefusedEvent : ℕ → ℕ → Event → StepFault → Type 0
 IsRefusedEvent capacity at event NoRoom = ⊥
 IsRefusedEvent capacity at event fault = (r : Record) × IsLegalRecord capacity r × (answer_to capacity r at event ≡ Err fault)
@@ -112,7 +112,7 @@ IsNoRunOf capacity s d = IsCause capacity s.topology (plan_of s.steps) d ⊎ IsU
 -- ---- faults
 
 -- Why there is no run of a scenario: its lowest fine step; an order of the main worker that is refused, or a copy that is while the main
--- worker is at a place; or what the closing check found, or the look behind it. Want of memory is always `NoMemory`.
+-- worker is at a place; or what the closing check found, or the look behind it. A failed allocation is always `NoMemory`.
 abbrev pub IsRunFault : ℕ → Meant → RunFault → Type 0
 IsRunFault capacity s (FineStep k) = position is_fine s.steps ≡ Some k
 IsRunFault capacity s (Step k fault) = (k ≤ length s.steps) × (IsOwnFault capacity s k fault ⊎ IsCopyFault capacity fault)

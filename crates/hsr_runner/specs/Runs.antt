@@ -6,7 +6,7 @@ use Rattle.hsr_finished_run.specs.Finished.{Finished, IsFinished}
 use Rattle.hsr_scenario.specs.Meaning.{Meant}
 use Rattle.hsr_runner.specs.Plan.{plan_of}
 
--- a finished run, whose tables have so many entries, of these nodes and links, with this plan
+-- a finished run, whose tables have `capacity` entries, of these nodes and links, with this plan
 pub record IsRunWith (capacity : ℕ) (topology : Topology) (planned : List Planned) (f : Finished) : Type 0 where
   pub finished : IsFinished f
   pub tables : f.run.capacity ≡ capacity

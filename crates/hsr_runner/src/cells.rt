@@ -76,7 +76,7 @@ fn seats_of<const C: usize>(alloc: Global, topology: &Topology) -> Result<Vec<Se
     Ok(seats)
 }
 
-/// So many links.
+/// `count` links, each with room for `capacity` copies in each direction.
 fn links_of(alloc: Global, count: usize, capacity: usize) -> Result<Vec<LinkCell>, NoMemory>
     requires { (1 ≤ capacity) × (capacity ≤ 4096) }
     ensures { IfOk result (λ links. vec_len links ≡ count) }

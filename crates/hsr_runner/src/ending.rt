@@ -10,6 +10,6 @@ pub(crate) enum Ending {
     Shut,
     /// Its node refused a copy.
     Refused(StepFault),
-    /// Room was refused.
+    /// Allocation failed.
     NoMemory,
 }

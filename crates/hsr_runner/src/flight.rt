@@ -28,7 +28,7 @@ impl Flight {
         self.count.fetch_add(1, Ordering::SeqCst);
     }
 
-    /// So many copies are on their way no more.
+    /// This number of copies is no longer on its way.
     pub(crate) fn fall(&self, copies: u64) {
         // Only who takes the last copy wakes the main worker.
         if self.count.fetch_sub(copies, Ordering::SeqCst) == copies {

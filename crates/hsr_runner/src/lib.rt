@@ -1,4 +1,5 @@
-//! A ring that runs in threads: the nodes and links of a scenario under locks, a worker for each port, and the closing check.
+//! A scenario that runs in threads: its nodes and links under locks, a worker for each port, and the closing check; and the plan that
+//! its main worker brings about.
 //!
 //! Its modules, in the order in which to read them:
 //! - `gate`: what a worker asks before it judges

@@ -45,7 +45,7 @@ fn run_unchecked<const C: usize, G: Gate, R: Threads + Wait + Sync>(
     ensures fault { IfErr result (λ fault.
         IsPlayFault C G.may_shut (scenario_view scenario.now) fault) }
 {
-    // Roles and cells are made before any thread is started, so that want of memory here starts none.
+    // Roles and cells are made before any thread is started, so that a failed allocation here starts none.
     let Ok(roles) = roles_of(alloc, &scenario.topology) else {
         return Err(RunFault::NoMemory);
     };

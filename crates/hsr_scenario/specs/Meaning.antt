@@ -35,7 +35,7 @@ pub record Meant : Type 0 where
 abbrev pub scenario_view : Scenario → Meant
 scenario_view s = record { topology = s.topology; capacity = s.capacity; steps = s.steps.items }
 
--- why there is no topology, as a fault of the document
+-- why nodes and links do not form a valid topology, as a fault of the document
 abbrev pub wired : Result Topology TopologyFault → Result Topology What
 wired (Ok topology) = Ok topology
 wired (Err fault) = Err (NoTopology fault)

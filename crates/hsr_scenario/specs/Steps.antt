@@ -24,7 +24,7 @@ use Rattle.hsr_scenario.specs.declared.steps.Order.TheVariants.{Step as OfStep, 
 use Rattle.hsr_scenario.specs.declared.words.Deed.{Deed}
 use Rattle.hsr_scenario.specs.declared.words.Deed.TheVariants as deed
 
--- the number of one of so many links
+-- the number of a link that is there
 abbrev pub link_numbered : ℕ → ℤ → Option ℕ
 link_numbered links (pos n) = if nat_lt n links then Some n else None
 link_numbered links (negsuc n) = None
@@ -117,7 +117,7 @@ order_of deed.Mend unit nodes links ms = stepped (at_link Mend links ms)
 order_of deed.Inject unit nodes links ms = stepped (inject links ms)
 order_of deed.Drain unit nodes links ms = drain ms
 
--- the step of a table, where moments are in this unit, and there are these nodes and so many links
+-- the step of a table, where moments are in this unit, and there are these nodes and `links` links
 unfoldable pub order_in : TimeUnit → List Named → ℕ → Members → Result Order What
 order_in unit nodes links ms = do
   deed ← needed faults key.Do (word faults deed_of) ms

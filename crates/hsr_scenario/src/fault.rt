@@ -130,7 +130,7 @@ pub enum What {
     NameTwice,
     /// No node has the name, or its role hasn't the port, or there is no link of that number.
     NoSuchName,
-    /// The nodes and links are no topology.
+    /// The nodes and links do not form a valid topology.
     Topology(TopologyFault),
     /// A growth was refused.
     NoMemory,
@@ -190,7 +190,7 @@ impl fmt::Display for What {
     }
 }
 
-// `from_gives` says which fault `?` makes, so that no clause takes want of memory for another fault.
+// `from_gives` says which fault `?` makes, so that no clause takes a failed allocation for another fault.
 impl From<NoMemory> for What {
     ghost from_gives = { λ _ what. what ≡ NoRoom };
 

@@ -241,7 +241,7 @@ fn life(nodes: &[Named], table: &Table) -> Result<Step, What>
     }
 }
 
-/// A node gives up what is expired.
+/// A node drops what is expired.
 #[tactic(auto, unfolding(crate::specs::Steps::age))]
 fn age(nodes: &[Named], table: &Table) -> Result<Step, What>
     ensures { Gives (λ s. s) result (age nodes.now (table_view table.now)) }
@@ -378,7 +378,7 @@ fn order_of(
     }
 }
 
-/// What the table of a step says, where moments are in this unit, and there are these nodes and so many links.
+/// What the table of a step says, where moments are in this unit, and there are these nodes and `links` links.
 #[tactic(auto, unfolding(crate::specs::Steps::order_in))]
 pub(crate) fn order_in(
     alloc: Global,

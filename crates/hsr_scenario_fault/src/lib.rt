@@ -1,4 +1,5 @@
-//! How a fault of a scenario is told in plain words: line, column, what is wrong, and what would be right.
+//! How a fault of a scenario is told in plain words, with line and column, what is wrong, and what would be right: a fault of its text,
+//! a step that was refused, and why its run stops or can't be closed.
 //!
 //! Its modules, in the order in which to read them:
 //! - `keys`: which keys the tables of a scenario have

@@ -60,7 +60,7 @@ fn put_place_of(
     put_place(line, text.as_bytes(), start_of(source, spot))?;
     put_spots(line, spot)?;
     let Ok(document) = toml::table_from_str(alloc, text) else {
-        // Want of memory: that it is TOML was found before.
+        // A failed allocation: that it is TOML was found before.
         return Err(NoMemory);
     };
     match table_of(&document, spot) {

@@ -201,7 +201,7 @@ fn put_told(
     };
     match toml::table_from_str(alloc, text) {
         Ok(document) => put_fault(line, source, &document, fault),
-        // Want of memory: that it is TOML was found before.
+        // A failed allocation: that it is TOML was found before.
         Err(_) => Err(NoMemory),
     }
 }

@@ -11,7 +11,7 @@ use Rattle.hsr_table_demand.specs.declared.most.Needed.{Needed}
 use Rattle.hsr_table_demand.proofs.Walking.{each_needs, there_met, there_most}
 
 module _ (run : Run) (k : ℕ) where
-  -- at this place below another so many are needed, and before it fewer
+  -- at this place below another n are needed, and before it fewer
   record IsFound (top n i : ℕ) : Type 0 where
     some : 0 < n
     low : i < top

@@ -1,10 +1,10 @@
 -- How many entries the duplicate tables of a run needed.
---     Needs             an arrival needs so many of the youngest notes of an egress
+--     Needs             an arrival needs n of the youngest notes of an egress
 --     IsMost            the greatest number that an arrival needs, and where first
 --     IsMostAt          that of one node
 --     NothingExpired    nothing was forgotten by age
 --     LegalWithNeeded   the same records are legal with all tables that are as large
---     IsJustEnough      nothing that was needed was forgotten where tables have so many entries
+--     IsJustEnough      nothing that was needed was forgotten where tables have n entries or more
 use Rattle.std.specs.Prelude.{ℕ, ◌+◌, ◌-◌, ◌<◌, ◌≤◌, ◌≡◌, ◌↔◌, nat_lt, Bool, true, false, max, List, [], ◌∷◌, ◌++◌, length, reverse, take, slice_index_or, Option, Some, None}
 use Rattle.std.specs.List.{list_any}
 use Rattle.hsr_frame.specs.Egress.{Egress}
@@ -44,7 +44,7 @@ pub record IsWanted (owner : Owner) (past : List Entry) (at port : ℕ) (copy : 
   pub ring : is_on_ring owner.place port ≡ true
   pub wanted : wants owner.place (knows owner.place past at (Arrive port copy)) port (classified copy.octets) e ≡ true
 
--- What comes from a ring wants an egress where its send was noted, and the latest such note isn't expired: so many notes
+-- What comes from a ring wants an egress where its send was noted, and the latest such note isn't expired: n notes
 -- stand there from that one to the youngest, both counted.
 pub record NeedsAt (owner : Owner) (past : List Entry) (at port : ℕ) (copy : Carried) (n : ℕ) : Type 0 where
   pub egress : Egress
@@ -61,12 +61,12 @@ Needs owner past at event n = ⊥
 
 -- ---- all arrivals
 
--- the arrival at a place of a node's record needs so many notes
+-- the arrival at a place of a node's record needs n notes
 abbrev pub NeedsThere : Run → ℕ → ℕ → ℕ → Type 0
 NeedsThere run k i n = (d : Entry) → let past = reverse (take i (record_of run k)) in let x = slice_index_or (record_of run k) i d in
     Needs (owner_of run k) past (now (x ∷ past)) x.event n
 
--- so many notes are needed at this place, and at none before it, by node and then place
+-- n notes are needed at this place, and at none before it, by node and then place
 pub record IsFirst (run : Run) (n k i : ℕ) : Type 0 where
   pub node : k < length run.places
   pub place : i < length (record_of run k)
@@ -74,12 +74,12 @@ pub record IsFirst (run : Run) (n k i : ℕ) : Type 0 where
   pub before : (j : ℕ) → j < i → ¬ NeedsThere run k j n
   pub nodes : (l j : ℕ) → l < k → j < length (record_of run l) → ¬ NeedsThere run l j n
 
--- where so many are needed first; nowhere, where none are
+-- where n are needed first; nowhere, where none are
 abbrev pub IsMet : Run → ℕ → Option (ℕ × ℕ) → Type 0
 IsMet run n None = n ≡ 0
 IsMet run n (Some at) = IsFirst run n at.0 at.1
 
--- no arrival needs more, and where so many are needed first
+-- no arrival needs more, and where as many are needed first
 pub record IsMost (run : Run) (needed : Needed) : Type 0 where
   pub most : (k : ℕ) → k < length run.places →
       Each (λ x past. (n : ℕ) → Needs (owner_of run k) past (now (x ∷ past)) x.event n → n ≤ needed.entries) (past_of run k)
@@ -87,7 +87,7 @@ pub record IsMost (run : Run) (needed : Needed) : Type 0 where
 
 -- ---- the arrivals of one node
 
--- so many notes are needed at this place of a node's record, and at none before it
+-- n notes are needed at this place of a node's record, and at none before it
 pub record IsFirstAt (run : Run) (k n i : ℕ) : Type 0 where
   pub place : i < length (record_of run k)
   pub needs : NeedsThere run k i n
@@ -97,7 +97,7 @@ abbrev pub IsMetAt : Run → ℕ → ℕ → Option (ℕ × ℕ) → Type 0
 IsMetAt run k n None = n ≡ 0
 IsMetAt run k n (Some at) = (at.0 ≡ k) × IsFirstAt run k n at.1
 
--- no arrival of a node needs more, and where so many are needed first
+-- no arrival of a node needs more, and where as many are needed first
 pub record IsMostAt (run : Run) (k : ℕ) (needed : Needed) : Type 0 where
   pub most : Each (λ x past. (n : ℕ) → Needs (owner_of run k) past (now (x ∷ past)) x.event n → n ≤ needed.entries) (past_of run k)
   pub met : IsMetAt run k needed.entries needed.at
@@ -114,13 +114,13 @@ IsYoung owner past at event = Unit {0}
 abbrev pub NothingExpired : Run → Type 0
 NothingExpired run = (k : ℕ) → k < length run.places → Each (λ x past. IsYoung (owner_of run k) past (now (x ∷ past)) x.event) (past_of run k)
 
--- Nothing that was needed was forgotten just where nothing was forgotten by age and tables have so many entries.
+-- Nothing that was needed was forgotten just where nothing was forgotten by age and tables have n entries or more.
 abbrev pub IsJustEnough : Run → ℕ → Type 0
 IsJustEnough run n = NothingForgotten run ↔ (NothingExpired run × (n ≤ run.capacity))
 
 -- ---- other tables
 
--- the same run, with tables of so many entries
+-- the same run, with tables of n entries
 abbrev pub with_tables : ℕ → Run → Run
 with_tables n run = record run { capacity = n }
 

@@ -11,7 +11,7 @@ use Rattle.hsr_table_demand.specs.declared.most.Needed.{Needed}
 abbrev pub nothing_needed : Needed
 nothing_needed = record { entries = 0; at = None }
 
--- so many are needed at a place, after what was needed before it
+-- n are needed at a place, after what was needed before it
 abbrev pub or_more : Needed → ℕ → ℕ → ℕ → Needed
 or_more needed n k i = if nat_lt needed.entries n then record { entries = n; at = Some (k, i) } else needed
 
@@ -27,7 +27,7 @@ abbrev pub walked : Run → ℕ → Needed → ℕ → Needed
 walked run k before zero = before
 walked run k before (suc i) = or_more (walked run k before i) (needs_at run k i) k i
 
--- at this place, before another, so many are needed, and before it fewer
+-- at this place, before another, n are needed, and before it fewer
 pub record IsFoundBefore (run : Run) (l j n k i : ℕ) : Type 0 where
   pub some : 0 < n
   pub place : i < length (record_of run k)

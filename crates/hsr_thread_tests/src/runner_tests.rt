@@ -57,7 +57,7 @@ const THREE: &str = r#"
 {do="drain"},
 "#;
 
-/// The scenario with these steps in the ring, in which so many copies may wait in each direction of a link.
+/// The scenario with these steps in the ring, in which `capacity` copies may wait in each direction of a link.
 fn scenario(rt: &HostRuntime, capacity: u16, steps: &str) -> Result<Scenario, Fail> {
     let text = format!(in rt.alloc(); "capacity = {capacity}{RING}step = [{steps}]\n")?;
     match hsr_scenario::read(rt.alloc(), text.as_str()) {

@@ -36,7 +36,7 @@ cause_in (pair ∷ pairs) spot = option_or (cause_in pairs spot) (cause_if spot 
 abbrev pub is_for : ℕ → Planned → Bool
 is_for node x = x.node == node
 
--- the main worker's next entry of a node, behind so many
+-- the main worker's next entry of a node, behind those that come before
 abbrev pub main_next : Run → List Planned → Planned → Option Spot
 main_next run before x = spot_at x.node (slice_get (holds_from 0 (record_of run x.node) 0) (count_by (is_for x.node) before))
 

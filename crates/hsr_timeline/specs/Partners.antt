@@ -19,7 +19,7 @@ places_below copy xs n = filter (λ i. is_at copy (slice_index_or xs i None)) (r
 abbrev pub places : Carried → List (Option Carried) → List ℕ
 places copy xs = places_below copy xs (length xs)
 
--- of the places at which a copy stands, the one that so many equal copies before it leave
+-- of the places at which a copy stands, the one that is left by the equal copies before it
 abbrev pub partner_of : List (Option Carried) → List (Option Carried) → ℕ → Option Carried → Option ℕ
 partner_of xs ys j None = None
 partner_of xs ys j (Some copy) = slice_get (places copy xs) (count_by (is_at copy) (take j ys))

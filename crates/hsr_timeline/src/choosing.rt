@@ -90,7 +90,7 @@ fn add_if(rows: &mut Vec<Shown>, is_wanted: bool, row: Shown) -> Result<(), NoMe
     Ok(())
 }
 
-/// The rows of a run that are wanted, of these and in their order. `NoMemory` where room is refused.
+/// The rows of a run that are wanted, of these and in their order. `NoMemory` if allocation fails.
 pub fn chosen<const C: usize>(
     alloc: Global,
     closed: &Closed<C>,

@@ -1,5 +1,5 @@
-//! A finished run along time: when each entry took place, which entry passed each copy and which judged it, the rows in order;
-//! and the names by which texts call nodes and ports.
+//! A finished run along time: when each entry took place, which entry passed each copy and which judged it, the rows in order, all or
+//! those of a link or a send; and the names by which texts call nodes and ports.
 //!
 //! Its modules, in the order in which to read them:
 //! - `origin`: an entry's place, its own moment, and what it follows

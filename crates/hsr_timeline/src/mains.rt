@@ -52,7 +52,7 @@ fn all_places<const C: usize>(
     Ok(records)
 }
 
-/// The main worker's next entry of a node, behind so many.
+/// The main worker's next entry of a node, behind `count` of them.
 fn main_by(records: &[Vec<usize>], node: usize, count: usize) -> Option<Spot>
     ensures { result ≡ main_by (lists_of records.now) node count }
 {

@@ -9,7 +9,7 @@ use hsr_text::put_decimal;
 use hsr_topology::End;
 
 /// Puts the name of a node last; `n` and its number, where it has none.
-/// `NoMemory` where room is refused; a front of the name may stand there then.
+/// `NoMemory` if allocation fails; a front of the name may stand there then.
 #[tactic(auto, unfolding(crate::specs::Names::name_of))]
 pub fn put_name(text: &mut Vec<u8>, names: &[Vec<u8>], node: usize) -> Result<(), NoMemory>
     ensures { OnOk result (text.new.items ≡ text.old.items ++ name_of (lists_of names.now) node) }
@@ -40,7 +40,7 @@ fn put_letter(text: &mut Vec<u8>, places: &[Place], end: End) -> Result<(), NoMe
 }
 
 /// Puts a port of a node last: the node's name, what parts them, and the port's letter.
-/// `parted` stands between name and letter; a node that isn't there has no letter. `NoMemory` where room is refused;
+/// `parted` stands between name and letter; a node that isn't there has no letter. `NoMemory` if allocation fails;
 /// a front of the port may stand there then.
 #[tactic(auto, unfolding(crate::specs::Names::port_text))]
 pub fn put_port(

@@ -27,11 +27,11 @@ use std::alloc::Global;
 pub enum StoryFault {
     /// Entries follow one another in a circle, so that no order of time has them all.
     Circle,
-    /// Room was refused.
+    /// Allocation failed.
     NoMemory,
 }
 
-// `from_gives` says which fault `?` makes, so that no clause takes want of memory for a circle.
+// `from_gives` says which fault `?` makes, so that no clause takes a failed allocation for a circle.
 impl From<NoMemory> for StoryFault {
     ghost use Rattle.std.specs.Prelude.{◌≡◌};
     ghost use Rattle.hsr_timeline.specs.declared.telling.StoryFault.TheVariants.{NoMemory as NoRoom};
@@ -145,7 +145,7 @@ fn ordered(alloc: Global, origins: &[Vec<Origin>], list: &[Hop]) -> Result<Vec<S
 }
 
 /// The time of each entry of a finished run, by node and place: the latest of its own moment and of one step after each entry that it
-/// follows. `Circle` exactly where there are no such times. `NoMemory` where room is refused.
+/// follows. `Circle` exactly where there are no such times. `NoMemory` if allocation fails.
 pub fn entry_times<const C: usize>(
     alloc: Global,
     closed: &Closed<C>,
@@ -162,7 +162,7 @@ pub fn entry_times<const C: usize>(
 /// The rows of a finished run in the order of time, each once. A row stands at the entry that judged its copy, or where the copy was
 /// lost at the one that passed it. An entry comes after the one before it in its record, after the main worker's entry before it if
 /// it is the main worker's, and after the one that passed the copy with which it came. `Circle` exactly where there is no such
-/// order. `NoMemory` where room is refused.
+/// order. `NoMemory` if allocation fails.
 pub fn story<const C: usize>(alloc: Global, closed: &Closed<C>) -> Result<Vec<Shown>, StoryFault>
     ensures story { IfOk result (λ rows. IsStory closed.now.run closed.now.plan rows.items) }
     ensures circle { IfErr result (IfCircle (HasNoStory closed.now.run closed.now.plan)) }

@@ -14,11 +14,11 @@ use std::alloc::Global;
 pub enum OrderFault {
     /// Entries follow one another in a circle, or one follows an entry that isn't there.
     Circle,
-    /// Room was refused.
+    /// Allocation failed.
     NoMemory,
 }
 
-// `from_gives` says which fault `?` makes, so that no clause takes want of memory for a circle.
+// `from_gives` says which fault `?` makes, so that no clause takes a failed allocation for a circle.
 impl From<NoMemory> for OrderFault {
     ghost use Rattle.std.specs.Prelude.{◌≡◌};
     ghost use Rattle.hsr_timeline.specs.declared.timing.OrderFault.TheVariants.{NoMemory as NoRoom};
@@ -130,7 +130,7 @@ fn are_all_known(records: &[Vec<Origin>], times: &[Vec<Time>]) -> bool
 /// When all entries took place, by node and place. An entry follows the one before it in its record, the main worker's entry
 /// before it if it is the main worker's, and the entry that passed the copy with which it came; its time is the latest of its own
 /// moment at step 0 and of one step after each of these. `Circle` exactly where there are no such times, and then entries follow
-/// one another in a circle, or follow one that isn't there. `NoMemory` where room is refused.
+/// one another in a circle, or follow one that isn't there. `NoMemory` if allocation fails.
 #[tactic(auto, using(crate::proofs::Circles::all_known, crate::proofs::Circles::none_left))]
 pub fn times(alloc: Global, records: &[Vec<Origin>]) -> Result<Vec<Vec<Time>>, OrderFault>
     ensures times { IfOk result (λ times. AreTimes (lists_of records.now)

@@ -31,7 +31,7 @@ pub fn document_of(alloc: Global, text: &str) -> Result<Table, NoDocument>
     match toml::table_from_str(alloc, text) {
         Ok(table) => Ok(table),
         Err(error) => {
-            // Want of memory is told from bad TOML, as everywhere.
+            // A failed allocation is told from bad TOML, as everywhere.
             if error.is_memory() {
                 Err(NoDocument::NoMemory)
             } else {

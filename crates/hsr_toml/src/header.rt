@@ -39,7 +39,7 @@ fn is_bracketed(text: &[u8], at: usize, long: usize) -> bool
         && is_octet(text.get(at + long).copied(), b']')
 }
 
-/// Where the word of the header `[[name]]` of that number stands, counted from 0, if there are so many.
+/// Where the word of the header `[[name]]` of that number stands, counted from 0, if there is one.
 pub fn table_header(text: &[u8], name: &[u8], number: usize) -> Option<usize>
     ensures header { IfSome result (λ at. IsHeader text.now name.now at) }
     ensures within { IfSome result (λ at. at < length text.now) }

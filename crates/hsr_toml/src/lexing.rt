@@ -23,7 +23,7 @@ pub enum Lexing {
     Line(u8),
     /// Behind a backslash there.
     LineEscape,
-    /// In a string of several lines, behind so many quotes of its end.
+    /// In a string of several lines, behind this number of quotes of its end.
     Long(u8, u8),
     /// Behind a backslash there.
     LongEscape,
@@ -136,8 +136,8 @@ impl Lexing {
     }
 }
 
-/// A text of TOML, octet for octet, in which a comment is blank, and a string with its quotes is a row of quotes. `NoMemory` where room
-/// is refused.
+/// A text of TOML, octet for octet, in which a comment is blank, and a string with its quotes is a row of quotes. `NoMemory` if allocation
+/// fails.
 #[tactic(auto, using(crate::proofs::Lexings::bare_step))]
 pub fn bare(alloc: Global, text: &[u8]) -> Result<Vec<u8>, NoMemory>
     ensures { IfOk result (λ v. v.items ≡ bare lexing.Plain text.now) }

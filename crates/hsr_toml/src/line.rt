@@ -14,7 +14,7 @@ fn shown(b: u8) -> u8
 }
 
 /// Puts words last, each control octet of which is a question mark.
-/// `NoMemory` where room is refused; a front of the words may stand there then.
+/// `NoMemory` if allocation fails; a front of the words may stand there then.
 pub fn put_shown(line: &mut Vec<u8>, words: &[u8]) -> Result<(), NoMemory>
     ensures { OnOk result (line.new.items ≡ line.old.items ++ map shown words.now) }
 {
@@ -35,7 +35,7 @@ fn spelled(alloc: Global, words: &[u8]) -> Result<Vec<u8>, NoMemory>
 }
 
 /// The line of a fault with these words: `fault: ` and the words, each control octet of which is a question mark, without a line
-/// feed. `NoMemory` where room is refused.
+/// feed. `NoMemory` if allocation fails.
 #[tactic(auto, using(crate::proofs::Lines::is_line))]
 pub fn fault_line(alloc: Global, words: &[u8]) -> Result<Vec<u8>, NoMemory>
     ensures { IfOk result (λ v. IsLine v.items) }

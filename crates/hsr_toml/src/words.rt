@@ -6,7 +6,7 @@ use hsr_text::{put, put_number};
 use std::alloc::Global;
 
 /// Puts line and column of an offset last, or those of the end of the text where it has no such offset.
-/// Both are counted from 1, columns in octets. `NoMemory` where room is refused.
+/// Both are counted from 1, columns in octets. `NoMemory` if allocation fails.
 pub fn put_place(line: &mut Vec<u8>, text: &[u8], at: usize) -> Result<(), NoMemory> {
     let position = position_of(text, at.min(text.len()));
     put_number(line, position.line as u64)?;
@@ -26,14 +26,14 @@ fn put_broken(alloc: Global, line: &mut Vec<u8>, text: &str) -> Result<(), NoMem
                 put(line, "no TOML: ")?;
                 put(line, error.message())
             }
-            // Only want of memory has no offset in the text.
+            // Only a failed allocation has no offset in the text.
             None => Err(NoMemory),
         },
     }
 }
 
 /// Puts where a text isn't TOML last, and why.
-/// A text of over 16 MiB isn't read for it. `NoMemory` where room is refused.
+/// A text of over 16 MiB isn't read for it. `NoMemory` if allocation fails.
 pub fn put_no_toml(alloc: Global, line: &mut Vec<u8>, text: &str) -> Result<(), NoMemory> {
     if text.len() > TEXT_LIMIT {
         return put(line, "1:1 over 16 MiB of text");

@@ -53,7 +53,7 @@ planned_times k (p ∷ ps) = go (p.node == k) refl (planned_times k ps)
     go true e h = rw e (omega (arith, h))
     go false e h = rw e (omega (arith, h))
 
--- a plan in order has so many entries of a node
+-- a plan in order has as many entries of a node as the main worker has there
 order_times : (main : List ℕ) (records : List (List Entry)) (plan : List Planned) (k : ℕ) → IsOrder main records plan → times k main ≡ length (filter_map (planned_by k) (record_in records k))
 order_times main records plan k o = sym (ap (times k) o.nodes) ∙ sym (planned_times k plan) ∙ ap length (o.each k)
 

@@ -15,7 +15,7 @@ pub record IsSpelledSection {Y : Type 0} (name : List ℕ) (of : List ℕ → Op
   pub count : IsSpelled (count_of name) (head name) (length ys)
   pub lines : AllByRecursion (IsSpelled of spelled) ys
 
--- a text all of whose lines are spelled, of tables with so many entries
+-- a text all of whose lines are spelled, of tables with `capacity` entries
 pub record AreSpelled (capacity : ℕ) (t : Said) : Type 0 where
   pub version : IsSpelled version_of version_text t.unit
   pub table : IsSpelled (only (head (codes "table") capacity)) (λ _. head (codes "table") capacity) tt

@@ -43,7 +43,7 @@ pub record IsEarlier (f : Finished) : Type 0 where
 
 -- ---- moments
 
--- in a unit of which so many are one of the old
+-- in a unit of which `factor` are one of the old
 abbrev pub planned_in_unit : ℕ → Planned → Planned
 planned_in_unit factor p = record p { at = p.at * factor }
 
@@ -67,7 +67,7 @@ earlier_lines f = codes "hsr-bench 1" ∷ drop 1 (said_lines f.run.capacity (sai
 abbrev pub earlier_text : Finished → List ℕ
 earlier_text f = text_of (earlier_lines f)
 
--- The text that an earlier release wrote of a run with tables of so many entries, whose moments are below 2^64 microseconds, with
+-- The text that an earlier release wrote of a run with tables of `capacity` entries, whose moments are below 2^64 microseconds, with
 -- no line of more than 8192 octets.
 pub record IsEarlierText (capacity : ℕ) (f : Finished) (text : List ℕ) : Type 0 where
   pub capacity_is : f.run.capacity ≡ capacity

@@ -66,7 +66,7 @@ links_on unit nodes = section_at (codes "links") (link_of nodes) >>= λ links. m
 unfoldable pub nodes_on : TimeUnit → Reader Said
 nodes_on unit = section_at (codes "nodes") place_of >>= λ nodes. links_on unit nodes
 
--- what follows the first line, of tables with so many entries
+-- what follows the first line, of tables with `capacity` entries
 unfoldable pub table_on : ℕ → TimeUnit → Reader Said
 table_on capacity unit = only_at (head (codes "table") capacity) >>= λ _. nodes_on unit
 

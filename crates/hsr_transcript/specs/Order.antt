@@ -28,7 +28,7 @@ IsNext entries from None = (k : ℕ) → filter_map (planned_by k) (drop from en
 IsNext entries from (Some i) = (i < length entries)
     × ((k : ℕ) (d : Entry) → filter_map (planned_by k) (drop from entries) ≡ planned_at k (slice_index_or entries i d) ∷ filter_map (planned_by k) (drop (i + 1) entries))
 
--- what is left of the main worker's entries of a node, of whose entries so many were passed
+-- what is left of the main worker's entries of a node, behind the number of its entries that were passed
 abbrev pub left_in : List (List Entry) → List ℕ → ℕ → List Planned
 left_in records passed k = filter_map (planned_by k) (drop (slice_index_or passed k 0) (record_in records k))
 

@@ -33,7 +33,7 @@ pub record IsReadable (t : Said) : Type 0 where
 abbrev pub IsFixed : List ℕ → Type 0
 IsFixed word = IsLineOf (only word) (λ _. word) tt
 
--- all lines of a text, of tables with so many entries
+-- all lines of a text, of tables with `capacity` entries
 pub record AreLines (capacity : ℕ) (t : Said) : Type 0 where
   pub version : IsLineOf version_of version_text t.unit
   pub table : IsFixed (head (codes "table") capacity)

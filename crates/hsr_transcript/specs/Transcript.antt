@@ -44,7 +44,7 @@ record_lines unit place entries = section (codes "record") (entry_text unit plac
 abbrev pub carried_lines : List Row → List (List ℕ)
 carried_lines rows = section (codes "carried") row_text rows
 
--- the lines up to the records, of tables with so many entries
+-- the lines up to the records, of tables with `capacity` entries
 unfoldable pub said_front : ℕ → Said → List (List ℕ)
 said_front capacity t =
     version_text t.unit ∷ head (codes "table") capacity

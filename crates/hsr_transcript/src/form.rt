@@ -293,7 +293,7 @@ fn table_line(alloc: Global, capacity: usize) -> Result<Vec<u8>, NoMemory>
     Ok(line)
 }
 
-/// Reads what follows the first line, of tables with so many entries, with moments in this unit.
+/// Reads what follows the first line, of tables with `capacity` entries, with moments in this unit.
 #[tactic(auto, using(crate::proofs::Parts::bind_told, crate::proofs::Parts::bind_fails), unfolding(crate::specs::Form::table_on))]
 fn behind_version<R: BufRead>(
     capacity: usize,
@@ -340,7 +340,7 @@ fn all_lines<R: BufRead>(
     }
 }
 
-/// Reads what the lines of a whole text say that is in form, of tables with so many entries.
+/// Reads what the lines of a whole text say that is in form, of tables with `capacity` entries.
 #[tactic(auto, using(crate::proofs::Parts::form_told, crate::proofs::Parts::form_more, crate::proofs::Parts::form_fails))]
 fn whole<R: BufRead>(capacity: usize, alloc: Global, reader: &mut R) -> Result<Plain, ReadFault>
     ensures { Says plain_view (R.remaining reader.old) result (form_of capacity) }
@@ -356,11 +356,11 @@ fn whole<R: BufRead>(capacity: usize, alloc: Global, reader: &mut R) -> Result<P
     }
 }
 
-/// Reads what a whole text says that is in form, of tables with so many entries.
+/// Reads what a whole text says that is in form, of tables with `capacity` entries.
 /// Lines have at most 8192 octets, and a text takes at most 2^40 reads. `Version` where the first line is another
 /// one; `BadLine` with the number, from 1, of the lowest line that is out of form, or names another size of tables;
-/// `End` where the text breaks off; `Read` where the reader fails or takes too many reads; `NoMemory` where room is
-/// refused. Whether the values fit together isn't asked.
+/// `End` where the text breaks off; `Read` where the reader fails or takes too many reads; `NoMemory` if allocation
+/// fails. Whether the values fit together isn't asked.
 pub fn read_plain<R: Read>(
     capacity: usize,
     alloc: Global,

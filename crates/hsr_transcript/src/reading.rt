@@ -36,7 +36,7 @@ fn close<const C: usize>(alloc: Global, records: Records<C>) -> Result<Closed<C>
 /// first line is another one; `BadLine` with the number of the line, from 1, that is out of form, or else of the last line of
 /// the links where the topology is refused, of the line `main` where the order doesn't fit, or of the first entry whose event
 /// is refused or whose outcome is another one; `End` where the text ends early; `Disagrees` with the first cause where all of
-/// this stands, but is no closed run; `Read` where the reader fails or takes over 2^40 reads; `NoMemory` where room is refused.
+/// this stands, but is no closed run; `Read` where the reader fails or takes over 2^40 reads; `NoMemory` if allocation fails.
 /// The text that an earlier release wrote of a run, with moments in milliseconds, is read as that run with each moment times 1000.
 pub fn read<const C: usize, R: Read>(alloc: Global, reader: &mut R) -> Result<Closed<C>, ReadFault>
     requires entries { IsTableSize C }

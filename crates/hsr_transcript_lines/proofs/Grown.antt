@@ -40,7 +40,7 @@ word_grown text left rest x old new whole e n h =
     ∙ sym (ap (λ l. old ++ behind (map text l)) e)
     ∙ h
 
--- one more section has so many more lines
+-- one more section has its head and its lines more
 pub line_count_push : {Y : Type 0} (yss : List (List Y)) (ys : List Y) → line_count (yss ++ ys ∷ []) ≡ line_count yss + (1 + length ys)
 line_count_push [] ys = omega arith
 line_count_push (zs ∷ yss) ys = let h : line_count (yss ++ ys ∷ []) ≡ line_count yss + (1 + length ys) = line_count_push yss ys in omega (arith, h)

@@ -86,7 +86,7 @@ read_port place (c ∷ cs) = port_of place c
 
 -- ---- nodes and links
 
--- addresses, at most so many
+-- addresses, at most n
 unfoldable pub read_macs : ℕ → Option (List ℕ) → Option (List (List ℕ))
 read_macs n None = Some []
 read_macs zero (Some text) = None

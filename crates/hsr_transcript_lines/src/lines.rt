@@ -58,7 +58,7 @@ fn is_line_of<K: LineKind>(
 }
 
 /// Reads the value whose line this is: what the line says, if it is spelled so. `spelled` is room to spell the value again
-/// where its words don't tell that it is. `Bad` where the line is of no such value, `Memory` where room is refused.
+/// where its words don't tell that it is. `Bad` where the line is of no such value, `Memory` if allocation fails.
 #[tactic(auto, using(crate::proofs::Exact::exactly_sure))]
 pub fn read_line<K: LineKind>(
     kind: &K,
@@ -84,7 +84,7 @@ pub fn read_line<K: LineKind>(
 }
 
 /// Puts a line of a name and a number, `<name> <count>`, behind what the text holds.
-/// The line ends with a line feed. `NoMemory` where room is refused; a front of the line may stand there then.
+/// The line ends with a line feed. `NoMemory` if allocation fails; a front of the line may stand there then.
 pub fn put_head(text: &mut Vec<u8>, name: &[u8], count: usize) -> Result<(), NoMemory>
     ensures { OnOk result (text.new.items ≡ text.old.items ++ text_of (head name.now count ∷ [])) }
 {
@@ -95,7 +95,7 @@ pub fn put_head(text: &mut Vec<u8>, name: &[u8], count: usize) -> Result<(), NoM
 }
 
 /// Puts a section behind what the text holds: a line that says how many values there are, and the line of each.
-/// Each line ends with a line feed. `NoMemory` where room is refused; a front of the section may stand there then.
+/// Each line ends with a line feed. `NoMemory` if allocation fails; a front of the section may stand there then.
 #[tactic(auto, unfolding(crate::specs::Lines::section))]
 pub fn put_section<K: LineKind>(
     kind: &K,

@@ -15,7 +15,7 @@ use hsr_text::{put_decimal, put_hex, put_mac};
 use std::alloc::Global;
 
 /// Puts a space and a number, in decimal, behind what the text holds.
-/// `NoMemory` where room is refused; a front of it may stand there then.
+/// `NoMemory` if allocation fails; a front of it may stand there then.
 pub fn put_number(text: &mut Vec<u8>, n: u64) -> Result<(), NoMemory>
     ensures { OnOk result (text.new.items ≡ text.old.items ++ 32 ∷ decimal n) }
 {

@@ -25,6 +25,8 @@ or send), `fault: nothing to show: ..` (--link and --send leave no copy), or `fa
 can have taken place: its entries follow one another in a circle). A line `explain: ..` may follow, which says what
 was given in place of a transcript.
 
+docs/REFERENCE.md says what a comment names, and has each fault.
+
 Examples: hsr_bench run --transcript < scenario.toml | hsr_view capture --names scenario.toml > run.pcapng
           hsr_view capture --link 2 --send n0:3 < run.transcript > run.pcapng";
 
@@ -44,6 +46,8 @@ scenario can't be read, or has other nodes or links than the run), `fault: send`
 (there are none), or `fault: order` (the text is of no run that can have taken place: its entries follow one another in
 a circle). A line `explain: ..` may follow, which says what was given in place of a transcript.
 
+docs/GUIDE.md shows how a picture is read; docs/REFERENCE.md has the look of each arrow, and each fault.
+
 Examples: hsr_bench run --transcript < scenario.toml | hsr_view picture --names scenario.toml > run.svg
           hsr_view picture --send n0:3 --send n1:0 --from 5000 --until 9000 < run.transcript > run.svg";
 
@@ -57,6 +61,8 @@ and the other DANHs and RedBoxes of which supervision never told it.
 Status 1: nothing is written, and one line on standard error says why: as with `hsr_bench audit`, or `fault: names`
 (the scenario can't be read, or has other nodes or links than the run). A line `explain: ..` may follow, which says
 what was given in place of a transcript.
+
+docs/REFERENCE.md explains each line, and has each fault.
 
 Example: hsr_bench run --transcript < scenario.toml | hsr_view devices --names scenario.toml";
 

@@ -211,7 +211,7 @@ next_step w =
     (option_or (option_map (λ (end : End). Put end.node end.port) (find (is_waiting w) ends))
     (take_from 0 w.spans))
 
--- so many steps of a drain lead from one world to another
+-- a number of steps of a drain lead from one world to another
 abbrev pub Drains : ℕ → ℕ → World → World → Type 0
 Drains capacity zero w after = w ≡ after
 Drains capacity (suc n) w after =

@@ -13,7 +13,7 @@ abbrev pub touching_from : ℕ → ℕ → List Span → List ℕ
 touching_from n k [] = []
 touching_from n k (span ∷ spans) = if touches n span then k ∷ touching_from n (k + 1) spans else touching_from n (k + 1) spans
 
--- of so many nodes
+-- of each node below a number
 abbrev pub touching_in : ℕ → List Span → List (List ℕ)
 touching_in nodes spans = map (λ n. touching_from n 0 spans) (range_with_len 0 nodes)
 
@@ -25,7 +25,7 @@ abbrev pub at_each : (Span → Span) → List ℕ → List Span → List Span
 at_each f [] spans = spans
 at_each f (l ∷ links) spans = at_each f links (on_span f l spans)
 
--- these are links of so many, each once, the lowest first
+-- these are links below `count`, each once, the lowest first
 pub record AreRising (count : ℕ) (links : List ℕ) : Type 0 where
   pub below : (j d : ℕ) → j < length links → slice_index_or links j d < count
   pub rising : (i j d e : ℕ) → i < j → j < length links → slice_index_or links i d < slice_index_or links j e

@@ -85,7 +85,7 @@ fn port_at<const C: usize>(nodes: &[Kept<C>], spans: &[Span], number: usize) -> 
     port_if(port_fault(nodes, node, port), spans, End { node, port })
 }
 
-/// All ports of these nodes and links, by their numbers, 8 for each node. `NoMemory` where room is refused.
+/// All ports of these nodes and links, by their numbers, 8 for each node. `NoMemory` if allocation fails.
 pub fn new_ports<const C: usize>(
     alloc: Global,
     nodes: &[Kept<C>],

@@ -117,7 +117,7 @@ fn put_from(link: &mut Link, lane: &mut Lane, dir: Dir) -> Result<(), WorldFault
         × (lane_view lane.new ≡ lane_view lane.old)
         × ((f ≡ NoMemory) ⊎ (put_lane dir link.old (lane_view lane.old) ≡ Err f))) }
 {
-    // The copy is moved out and not copied; where room is refused it goes back to the front, into the place that it left.
+    // The copy is moved out and not copied; if allocation fails it goes back to the front, into the place that it left.
     let Some(copy) = lane.outbox.pop_front() else {
         return Err(WorldFault::Nothing);
     };

@@ -38,8 +38,8 @@ fn new_span(alloc: Global, capacity: usize, link: &[End; 2]) -> Result<Span, NoM
     })
 }
 
-/// A span for each link, with nothing in it and room for `capacity` copies, 1 to 4096, in each direction. `NoMemory` where
-/// room is refused.
+/// A span for each link, with nothing in it and room for `capacity` copies, 1 to 4096, in each direction. `NoMemory` if
+/// allocation fails.
 pub fn new_spans(alloc: Global, capacity: usize, links: &[[End; 2]]) -> Result<Vec<Span>, NoMemory>
     requires { (1 ≤ capacity) × (capacity ≤ 4096) }
     ensures { IfOk result (λ spans. map span_view spans.items ≡ map (new_span capacity) links.now) }

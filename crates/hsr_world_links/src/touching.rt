@@ -31,8 +31,8 @@ fn touching(alloc: Global, spans: &[Span], node: usize) -> Result<Vec<usize>, No
     Ok(links)
 }
 
-/// The links that touch each of so many nodes, by their numbers, the lowest first. They stay what they are, whatever is done,
-/// so that none is looked for again. `NoMemory` where room is refused.
+/// The links that touch each node below `nodes`, by their numbers, the lowest first. They stay what they are, whatever is done,
+/// so that none is looked for again. `NoMemory` if allocation fails.
 pub fn new_touching(
     alloc: Global,
     nodes: usize,

@@ -1,4 +1,4 @@
-//! The steps that a world of nodes and links can take, and why one is refused.
+//! The steps that a world of nodes and links can take, why one is refused, and why a drain doesn't end.
 //!
 //! Its modules, in the order in which to read them:
 //! - `step`: what may happen in a world, and why it doesn't

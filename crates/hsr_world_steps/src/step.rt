@@ -28,7 +28,7 @@ pub enum Step {
         node: usize,
         about: About,
     },
-    /// A node gives up what is expired.
+    /// A node drops what is expired.
     Age {
         node: usize,
     },
@@ -63,7 +63,7 @@ pub enum Step {
     },
 }
 
-// `NoMemory` stands last, though it may come at any point: no clause says when memory is refused.
+// `NoMemory` stands last, though it may come at any point: no clause says when an allocation fails.
 /// Why a step is refused, in the order in which the reasons are tried.
 #[derive(Clone, Copy, Debug, PartialEq, Eq)]
 pub enum WorldFault {

@@ -7,7 +7,7 @@ use Rattle.hsr_cli.specs.declared.task.WordsFault.TheVariants.{Usage, Memory}
 use Rattle.hsr_plan.specs.Planning.{Answers, Plans}
 use Rattle.hsr_plan.proofs.planning.plan.Goals as goal
 
--- what is answered of what the words choose, is what the program does
+-- what is answered of what the arguments choose, is what the program does
 plans : (chosen : Result Task WordsFault) (words : List Text) (text : List ℕ) (shown : Bool) (held holds told tells : Option (List ℕ)) (code : ℕ) →
     IfOk chosen (Says words) → IfErr chosen (λ f. IfUsage f (IsRefused words)) → IfErr chosen (λ f. IfUsage f (λ why. 0 < length why)) →
     Answers chosen text shown held holds told tells code → Plans words text shown held holds told tells code
