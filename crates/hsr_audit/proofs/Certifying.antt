@@ -1,8 +1,8 @@
 -- The sends of a ring of DANHs, listed by their destinations.
-use Rattle.std.proofs.Common.{◌≡◌, ℕ, ◌+◌, ◌<◌, if◌then◌else◌, List, [], ◌∷◌, ◌++◌, length, filter, reverse, slice_index_or, Option, Some, None, refl, sym, ap, ◌∙◌, subst, arith, zero, suc, take_all}
+use Rattle.std.proofs.Common.{◌≡◌, ℕ, ◌+◌, ◌<◌, if◌then◌else◌, List, [], ◌∷◌, ◌++◌, length, reverse, slice_index_or, Option, Some, None, refl, sym, ap, ◌∙◌, subst, arith, suc, take_all}
 use Rattle.std.specs.Prelude.{option_map}
-use Rattle.std.specs.List.{cons_option, range_with_len}
-use Rattle.std.proofs.lemmas.List.Elements.{filter-append}
+use Rattle.std.specs.List.{cons_option}
+use Rattle.hsr_frame.proofs.OneMore.{passing_more}
 use Rattle.hsr_node.specs.Flow.{sent_by}
 use Rattle.hsr_node.specs.declared.sending.Sending.{Sending}
 use Rattle.hsr_node.specs.declared.entry.Entry.{Entry}
@@ -17,20 +17,10 @@ use Rattle.hsr_table_demand.proofs.Places.{past_length, past_more}
 
 -- ---- receivers
 
-range_more : (a n : ℕ) → range_with_len a (n + 1) ≡ range_with_len a n ++ (a + n) ∷ []
-range_more a zero = let e : a ≡ a + 0 = omega arith in ap (λ m. m ∷ []) e
-range_more a (suc n) =
-    let more : suc n + 1 ≡ suc (n + 1) = omega arith in
-    let last : (a + 1) + n ≡ a + suc n = omega arith in
-    ap (range_with_len a) more ∙ ap (λ ns. a ∷ ns) (range_more (a + 1) n ∙ ap (λ m. range_with_len (a + 1) n ++ m ∷ []) last)
-
 -- one more node, which may be one that a frame is for
 pub receivers_more : (macs : List (List ℕ)) (sender : ℕ) (dst : List ℕ) (k : ℕ) →
     receivers_below macs sender dst (k + 1) ≡ receivers_below macs sender dst k ++ (if is_for (mac_at macs k) dst sender k then k ∷ [] else [])
-receivers_more macs sender dst k =
-    let p = is_addressed macs sender (frame_to dst) in
-    let last : 0 + k ≡ k = omega arith in
-    ap (filter p) (range_more 0 k ∙ ap (λ m. range_with_len 0 k ++ m ∷ []) last) ∙ filter-append p (range_with_len 0 k) (k ∷ [])
+receivers_more macs sender dst k = passing_more (is_addressed macs sender (frame_to dst)) k
 
 -- ---- entries
 

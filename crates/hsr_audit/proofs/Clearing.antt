@@ -8,6 +8,7 @@ use Rattle.hsr_audit.specs.declared.doubt.AuditFault.TheVariants as fault
 use Rattle.hsr_audit.specs.declared.doubt.Doubt.{Doubt}
 use Rattle.hsr_audit.specs.declared.doubt.Doubt.TheVariants as doubt
 use Rattle.hsr_audit.specs.Certificate.{Certified, IsCertified, certified}
+use Rattle.hsr_deliveries.specs.Delivered.{AreComplete, OnceIsComplete}
 use Rattle.hsr_run_laws.specs.Closed.{IsClosed}
 use Rattle.hsr_run_laws.specs.Once.{ExactlyOnce}
 use Rattle.hsr_audit.specs.Round.{IsClear, IsOwnRing}
@@ -67,7 +68,7 @@ fault_refuses run fault.NoMemory first = tt
 pub own_ring : (run : Run) (macs : List (List ℕ)) → IsWired run.places run.links → IsOwnRing run macs → IsRing run macs
 own_ring run macs wired own = subst (IsRing run) (sym own.macs_is) (ring_of_own run wired own.ring own.modes own.own)
 
-pub certified_is : (run : Run) (macs : List (List ℕ)) (sends : List Certified) → IsWired run.places run.links × IsClosed run → ExactlyOnce → IsClear run macs → sends ≡ certified run macs →
+certified_is : (run : Run) (macs : List (List ℕ)) (sends : List Certified) → IsWired run.places run.links × IsClosed run → ExactlyOnce → IsClear run macs → sends ≡ certified run macs →
     IsCertified run sends
 certified_is run macs sends finished law clear listed =
     let ring = own_ring run macs finished.0 clear.ring in
@@ -77,3 +78,10 @@ certified_is run macs sends finished law clear listed =
       listed = listed;
       once = law run macs finished.1 ring clear.losses clear.forgotten clear.mistaken;
     }
+
+-- each send is complete, too
+pub certified_so : (run : Run) (macs : List (List ℕ)) (sends : List Certified) → IsWired run.places run.links × IsClosed run → ExactlyOnce → OnceIsComplete → IsClear run macs → sends ≡ certified run macs →
+    IsCertified run sends × AreComplete run
+certified_so run macs sends finished law completes clear listed =
+    let it = certified_is run macs sends finished law clear listed in
+    (it, completes run it.macs finished.1 it.premised.ring it.once)

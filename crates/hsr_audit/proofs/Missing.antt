@@ -123,8 +123,12 @@ module _ (run : Run) (k : ℕ) (known : List ℕ → Bool) (send : Probe) (sendi
     λ u. at ∙ is_unknown u,
   )
 
-pub unknown_some : (run : Run) (k : ℕ) (known : List ℕ → Bool) (send : Probe) (sending : Sending) → k < length run.places → sending_at run send ≡ Some sending → (b : Bool) → b ≡ (not (known sending.frame.dst) && is_box_of run.places run.links send.node sending.frame k) → (b ≡ true) ↔ IsUnknown run k known send
-unknown_some run k known send sending node at b is = unknown_same run k known send sending (sending_is run send sending at) node b is
+-- by what a test of the destination said
+pub unknown_some : (run : Run) (k : ℕ) (known : List ℕ → Bool) (send : Probe) (sending : Sending) → k < length run.places → sending_at run send ≡ Some sending → (heard : Bool) → heard ≡ known sending.frame.dst →
+    (b : Bool) → b ≡ (not heard && is_box_of run.places run.links send.node sending.frame k) → (b ≡ true) ↔ IsUnknown run k known send
+unknown_some run k known send sending node at heard told b is =
+    unknown_same run k known send sending (sending_is run send sending at) node b
+    (is ∙ ap (λ x. not x && is_box_of run.places run.links send.node sending.frame k) told)
 
 pub unknown_none : (run : Run) (k : ℕ) (known : List ℕ → Bool) (send : Probe) → sending_at run send ≡ None → (false ≡ true) ↔ IsUnknown run k known send
 unknown_none run k known send none = (λ e. absurd (false≢true e), λ u. absurd (none-some u.sending (sym none ∙ is_sending run send u.sending u.is_send)))

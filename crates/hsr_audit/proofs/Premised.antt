@@ -1,5 +1,5 @@
 -- What is asked of nodes and links, and of all places of all records, and what it is to be a ring without a doubt.
-use Rattle.std.proofs.Common.{◌≡◌, ◌⊎◌, ℕ, ◌+◌, ◌%◌, ◌<◌, ◌&&◌, Bool, true, List, [], ◌∷◌, length, map, filter_map, slice_index_or, refl, sym, ap, ◌∙◌, subst, arith, zero, suc, inl, inr, ⊎_elim}
+use Rattle.std.proofs.Common.{◌≡◌, ◌⊎◌, ℕ, ◌+◌, ◌%◌, ◌<◌, ◌&&◌, true, List, [], ◌∷◌, length, filter_map, refl, sym, ap, ◌∙◌, subst, arith, inl, inr, ⊎_elim}
 use Rattle.std.specs.List.{list_all}
 use Rattle.std.proofs.lemmas.Bool.{and_from, and_parts, false≢true, or_cases, or_left, or_right}
 use Rattle.hsr_frame.specs.declared.node.Mode.TheVariants.{H, N, U}
@@ -16,29 +16,17 @@ use Rattle.hsr_run_laws.specs.Premises.{IsRing, Joins, mac_at}
 use Rattle.hsr_audit.specs.Round.{IsRound, address_of, is_joint, is_joint_of}
 use Rattle.hsr_run_laws.specs.Run.{Run, ends_of, from_end, place_of}
 use Rattle.hsr_topology.specs.declared.end.End.{End}
-use Rattle.std.proofs.lemmas.List.{length-map}
-use Rattle.std.proofs.lemmas.List.Elements.{All-get_or}
+use Rattle.std.proofs.lemmas.List.{get_or_default, length-map}
+use Rattle.std.proofs.lemmas.List.Elements.{All-from_get_or, All-get_or}
+use Rattle.std.proofs.lemmas.List.Sums.{AllPass-from_list_all, list_all-from_AllPass}
+use Rattle.std.proofs.Math.ListN.{get_or-map}
 use Rattle.hsr_node.specs.Place.{HasOwnAddress}
 use Rattle.hsr_topology.specs.Wired.{IsWired}
 
--- ---- lists
-
-all_at : {X : Type 0} (p : X → Bool) (xs : List X) (k : ℕ) (d : X) → list_all p xs ≡ true → k < length xs → p (slice_index_or xs k d) ≡ true
-all_at p [] k d h below = absurd (omega (arith, below))
-all_at p (x ∷ xs) zero d h below = (and_parts (p x) (list_all p xs) h).0
-all_at p (x ∷ xs) (suc k) d h below = all_at p xs k d (and_parts (p x) (list_all p xs) h).1 (omega (arith, below))
-
-at_all : {X : Type 0} (p : X → Bool) (xs : List X) (d : X) → ((k : ℕ) → k < length xs → p (slice_index_or xs k d) ≡ true) → list_all p xs ≡ true
-at_all p [] d h = refl
-at_all p (x ∷ xs) d h = and_from (p x) (list_all p xs) (h zero (omega arith)) (at_all p xs d (λ k below. h (suc k) (omega (arith, below))))
-
-map_at : {X Y : Type 0} (f : X → Y) (xs : List X) (k : ℕ) (d : X) → slice_index_or (map f xs) k (f d) ≡ f (slice_index_or xs k d)
-map_at f [] k d = refl
-map_at f (x ∷ xs) zero d = refl
-map_at f (x ∷ xs) (suc k) d = map_at f xs k d
+-- ---- addresses
 
 pub mac_is : (run : Run) (k : ℕ) → mac_at (macs_of run.places) k ≡ mac_of (place_of run k)
-mac_is run k = map_at mac_of run.places k QuadBox
+mac_is run k = get_or-map mac_of run.places k QuadBox
 
 -- ---- nodes
 
@@ -90,16 +78,11 @@ ring_of_round run round =
     record {
       two = round.two;
       count = round.count;
-      danhs = λ k below. all_at is_danh run.places k QuadBox round.danhs below;
+      danhs = λ k below. AllPass-from_list_all is_danh run.places round.danhs k QuadBox below;
       joined = λ k below.
           let P : ℕ → Type 0 = λ n. Joins (ends_of run k) k ((k + 1) % n) in
           subst P round.count (joins_so (ends_of run k) k ((k + 1) % length run.links) (round.joined k [] (omega (arith, below, count))));
     }
-
-index_any : {X : Type 0} (xs : List X) (k : ℕ) (d e : X) → k < length xs → slice_index_or xs k d ≡ slice_index_or xs k e
-index_any [] k d e below = absurd (omega (arith, below))
-index_any (x ∷ xs) zero d e below = refl
-index_any (x ∷ xs) (suc k) d e below = index_any xs k d e (omega (arith, below))
 
 pub round_of_ring : (run : Run) → IsDanhRing run → IsRound run.places run.links
 unfolding is_joint_of
@@ -108,11 +91,11 @@ round_of_ring run ring =
     record {
       two = ring.two;
       count = ring.count;
-      danhs = at_all is_danh run.places QuadBox ring.danhs;
+      danhs = list_all-from_AllPass is_danh run.places (All-from_get_or (λ (p : Place). is_danh p ≡ true) run.places QuadBox ring.danhs);
       joined = λ k d below.
           let P : ℕ → Type 0 = λ n. Joins (ends_of run k) k ((k + 1) % n) in
           let here = so_joins (ends_of run k) k ((k + 1) % length run.links) (subst P (sym ring.count) (ring.joined k (omega (arith, below, count)))) in
-          ap (λ ends. is_joint ends k ((k + 1) % length run.links)) (index_any run.links k d [] below) ∙ here;
+          ap (λ ends. is_joint ends k ((k + 1) % length run.links)) (get_or_default run.links k d [] below) ∙ here;
     }
 
 -- ---- a ring, and a ring of DANHs in modes H and U with addresses of their own

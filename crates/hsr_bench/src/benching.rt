@@ -1,26 +1,17 @@
 //! The whole program.
-ghost use Rattle.std.specs.Prelude.{◌≡◌, ◌++◌, IfOk, IfSome, OnOk, codes, map, string_bytes};
-ghost use Rattle.std.specs.Io.KnownBytes.{Appends};
+ghost use Rattle.std.specs.Prelude.{◌≡◌, IfOk, IfSome, OnOk, map};
 ghost use Rattle.hsr_bench.specs.Benching.{Answers, AppendsLines, Benches, IsDone, Tells, explains};
 
 use crate::performing::perform;
 use hsr_cli::{OptionFault, options};
 use hsr_commands::{Explanation, Fault, Notes, Status, put_explanation};
 use hsr_options::Options;
+use hsr_text::write_line;
 use std::alloc::Global;
 use std::io::{self, Read, Write};
 use std::marker::Sync;
 use std::sync::Wait;
 use std::thread::Threads;
-
-/// Writes a line.
-fn put_line<E: Write>(errors: &mut E, text: &str) -> io::Result<()>
-    ensures { OnOk result (Appends (E.contents errors.old) (E.contents errors.new)
-        (text.now ++ codes "\n")) }
-{
-    errors.write_all(text.as_bytes())?;
-    errors.write_all(b"\n")
-}
 
 /// Writes what is explained. What there is no room for isn't written.
 fn explain<E: Write>(alloc: Global, errors: &mut E, lines: &[Vec<u8>]) -> io::Result<()>
@@ -106,7 +97,7 @@ fn answer<H: Threads + Wait + Sync, R: Read, W: Write, E: Write>(
             report_ending(alloc, errors, status, explains(chosen), &notes.explanation)
         }
         Err(OptionFault::Usage { text }) => {
-            put_line(errors, text.as_str())?;
+            write_line(errors, text.as_str())?;
             // A status of its own, so that scripts tell refused arguments from faults and doubts.
             Ok(3)
         }

@@ -1,5 +1,5 @@
 -- Deliveries of one more node, entry or record.
-use Rattle.std.proofs.Common.{◌≡◌, ℕ, ◌+◌, ◌<◌, ◌≤◌, suc, List, [], ◌∷◌, ◌++◌, length, reverse, take, slice_index_or, Option, refl, sym, ap, ◌∙◌, subst, arith}
+use Rattle.std.proofs.Common.{◌≡◌, ℕ, ◌+◌, ◌<◌, ◌≤◌, suc, List, [], ◌∷◌, ◌++◌, length, reverse, take, slice_index_or, Option, refl, sym, ap, ◌∙◌, append_assoc, subst, arith}
 use Rattle.std.specs.Prelude.{filter_map, option_map}
 use Rattle.std.specs.List.{cons_option}
 use Rattle.std.proofs.lemmas.List.{length-reverse, length-take, reverse-append, take_all, take_more}
@@ -26,6 +26,10 @@ delivery_more run send at dst ethertype k =
     ∙ ap (λ ns. record (added (delivery_below run send at dst ethertype k) k (is_due run send.node dst ethertype k) (times run send k)) { strayed = ns }) (passing_more (is_strayed run send dst ethertype) k)))
 
 -- ---- one more entry
+
+-- a list that began with a start, and got more
+pub put_on : {X : Type 0} (start old new so_far more all : List X) → new ≡ old ++ more → old ≡ start ++ so_far → so_far ++ more ≡ all → new ≡ start ++ all
+put_on start old new so_far more all is before whole = is ∙ (ap (λ xs. xs ++ more) before ∙ (append_assoc start so_far more ∙ ap (λ xs. start ++ xs) whole))
 
 past_more : (xs : List Entry) (i : ℕ) (d : Entry) → i < length xs → reverse (take (i + 1) xs) ≡ slice_index_or xs i d ∷ reverse (take i xs)
 past_more xs i d below = ap reverse (take_more xs i d below) ∙ reverse-append (take i xs) (slice_index_or xs i d ∷ [])

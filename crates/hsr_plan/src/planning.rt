@@ -1,6 +1,5 @@
 //! The whole program, over arguments, a reader and two writers.
-ghost use Rattle.std.specs.Prelude.{◌≡◌, ◌++◌, IfOk, IfSome, OnOk, codes, map};
-ghost use Rattle.std.specs.Io.KnownBytes.{Appends};
+ghost use Rattle.std.specs.Prelude.{◌≡◌, IfOk, IfSome, OnOk, map};
 ghost use Rattle.hsr_duptable.specs.Sizes.{capacity_of};
 ghost use Rattle.hsr_plan_scenario.specs.Ends.{Ends, code_of};
 ghost use Rattle.hsr_plan.specs.Planning.{Answers, Does, IsDone, Plans, TellsWrite};
@@ -9,6 +8,7 @@ use hsr_cli::{Task, WordsFault, task_by};
 use hsr_duptable::TableSize;
 use hsr_plan_scenario::{Ending, check_run, plan_run};
 use hsr_plan_sweep::sweep_run;
+use hsr_text::write_line;
 use std::alloc::Global;
 use std::io::{self, Read, Write};
 
@@ -82,15 +82,6 @@ fn done<R: Read, W: Write, E: Write>(
     finish(errors, ending)
 }
 
-/// Writes a line.
-fn put_line<E: Write>(errors: &mut E, text: &str) -> io::Result<()>
-    ensures { OnOk result (Appends (E.contents errors.old) (E.contents errors.new) (text.now
-        ++ codes "\n")) }
-{
-    errors.write_all(text.as_bytes())?;
-    errors.write_all(b"\n")
-}
-
 /// Does what was chosen, or tells why nothing was.
 fn answer<R: Read, W: Write, E: Write>(
     alloc: Global,
@@ -107,7 +98,7 @@ fn answer<R: Read, W: Write, E: Write>(
     match chosen {
         Ok(task) => done(alloc, *task, is_terminal, reader, writer, errors),
         Err(WordsFault::Usage { text }) => {
-            put_line(errors, text.as_str())?;
+            write_line(errors, text.as_str())?;
             Ok(USAGE)
         }
         Err(WordsFault::Memory) => {

@@ -32,6 +32,11 @@ pub record IsBegun (capacity us : ℕ) (told : Meaning) (v : Woven) : Type 0 whe
   pub begins : Begins capacity us told v.orders v.stage
   pub few : length v.orders ≤ order_limit
 
+-- and nothing is left to judge or to put
+pub record IsIdle (capacity us : ℕ) (told : Meaning) (v : Woven) : Type 0 where
+  pub begun : IsBegun capacity us told v
+  pub settled : IsSettled capacity v.stage.world v.stage.due
+
 -- ---- a step
 
 -- a world does a step, which leads from one stage to another; or it refuses it for this

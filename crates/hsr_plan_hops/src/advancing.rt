@@ -1,11 +1,11 @@
 //! What comes next, done until nothing is left to do.
 ghost use Rattle.std.specs.Prelude.{◌≡◌, ◌≤◌, ◌<◌, ◌∷◌, true, None, Some, IfErr, IfOk, OnOk};
 ghost use Rattle.hsr_duptable.specs.Table.{IsTableSize};
-ghost use Rattle.hsr_plan_hops.specs.Beginning.{DoesAll, IsSettled, next_copy};
+ghost use Rattle.hsr_plan_hops.specs.Beginning.{DoesAll, next_copy};
 ghost use Rattle.hsr_plan_hops.specs.Flights.{elapsed};
 ghost use Rattle.hsr_plan_hops.specs.Moving.{world_of};
 ghost use Rattle.hsr_plan_hops.specs.Refusing.{IsUnmovedByHops, comes_first, may_be_told};
-ghost use Rattle.hsr_plan_hops.specs.Weaving.{Advances, AdvancesIf, GoesOnFrom, IsBegun, arriving, behind_moment};
+ghost use Rattle.hsr_plan_hops.specs.Weaving.{Advances, AdvancesIf, GoesOnFrom, IsIdle, arriving, behind_moment};
 
 use crate::flights::{Flight, elapsed};
 use crate::stage::Stage;
@@ -52,8 +52,7 @@ fn takes<const C: usize>(
     weaving: &mut Weaving<'_, C>,
 ) -> Result<(), Unmoved>
     requires time { 1 ≤ us }
-    requires begun { IsBegun C us told.now weaving.old }
-    requires settled { IsSettled C weaving.old.stage.world weaving.old.stage.due }
+    requires idle { IsIdle C us told.now weaving.old }
     requires next { next_copy weaving.old.stage ≡ Some copy }
     requires over { us ≤ elapsed weaving.old.stage.moment copy }
     ensures ok { OnOk result (Advances C us told.now weaving.old weaving.new) }
@@ -83,8 +82,7 @@ fn waits<const C: usize>(
     weaving: &mut Weaving<'_, C>,
 ) -> Result<(), Unmoved>
     requires time { 1 ≤ us }
-    requires begun { IsBegun C us told.now weaving.old }
-    requires settled { IsSettled C weaving.old.stage.world weaving.old.stage.due }
+    requires idle { IsIdle C us told.now weaving.old }
     requires next { next_copy weaving.old.stage ≡ Some copy }
     requires first { comes_first us weaving.old.stage.moment weaving.old.stage.told copy ≡ true }
     requires early { elapsed weaving.old.stage.moment copy < us }
@@ -107,8 +105,7 @@ fn lands<const C: usize>(
     weaving: &mut Weaving<'_, C>,
 ) -> Result<(), Unmoved>
     requires time { 1 ≤ us }
-    requires begun { IsBegun C us told.now weaving.old }
-    requires settled { IsSettled C weaving.old.stage.world weaving.old.stage.due }
+    requires idle { IsIdle C us told.now weaving.old }
     requires arriving { arriving us weaving.old.stage ≡ Some copy }
     ensures ok { OnOk result (Advances C us told.now weaving.old weaving.new) }
     ensures err { IfErr result (IsUnmovedByHops C us told.now) }
@@ -141,8 +138,7 @@ fn follows<'a, const C: usize>(
     more: &'a [Order],
     weaving: &mut Weaving<'a, C>,
 ) -> Result<(), Unmoved>
-    requires begun { IsBegun C us told.now weaving.old }
-    requires settled { IsSettled C weaving.old.stage.world weaving.old.stage.due }
+    requires idle { IsIdle C us told.now weaving.old }
     requires first { weaving.old.stage.told ≡ order.now ∷ more.now }
     requires arriving { arriving us weaving.old.stage ≡ None }
     ensures ok { OnOk result (Advances C us told.now weaving.old weaving.new) }
@@ -164,8 +160,7 @@ fn advances<const C: usize>(
     weaving: &mut Weaving<'_, C>,
 ) -> Result<bool, Unmoved>
     requires time { 1 ≤ us }
-    requires begun { IsBegun C us told.now weaving.old }
-    requires settled { IsSettled C weaving.old.stage.world weaving.old.stage.due }
+    requires idle { IsIdle C us told.now weaving.old }
     ensures ok { IfOk result (AdvancesIf C us told.now weaving.old weaving.new) }
     ensures err { IfErr result (IsUnmovedByHops C us told.now) }
 {
@@ -187,8 +182,7 @@ fn goes_on<const C: usize>(
     weaving: &mut Weaving<'_, C>,
 ) -> Result<bool, Unmoved>
     requires time { 1 ≤ us }
-    requires begun { IsBegun C us told.now weaving.old }
-    requires settled { IsSettled C weaving.old.stage.world weaving.old.stage.due }
+    requires idle { IsIdle C us told.now weaving.old }
     ensures ok { IfOk result (GoesOnFrom C us told.now weaving.old weaving.new) }
     ensures err { IfErr result (IsUnmovedByHops C us told.now) }
 {
@@ -208,8 +202,7 @@ fn does_all<const C: usize>(
     weaving: &mut Weaving<'_, C>,
 ) -> Result<(), Unmoved>
     requires time { 1 ≤ us }
-    requires begun { IsBegun C us told.now weaving.old }
-    requires settled { IsSettled C weaving.old.stage.world weaving.old.stage.due }
+    requires idle { IsIdle C us told.now weaving.old }
     ensures ok { OnOk result (DoesAll C us told.now weaving.new.orders weaving.new.stage) }
     ensures err { IfErr result (IsUnmovedByHops C us told.now) }
 {

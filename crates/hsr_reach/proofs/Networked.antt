@@ -1,7 +1,10 @@
 -- From tests of nodes and links to a network, or to the first reason why they are none.
-use Rattle.std.proofs.Common.{◌≡◌, ℕ, ◌+◌, ◌<◌, Bool, true, List, [], ◌∷◌, length, slice_index_or, refl, sym, ◌∙◌, subst, arith, zero, suc, ⊎_elim}
+use Rattle.std.proofs.Common.{◌≡◌, ℕ, ◌+◌, ◌<◌, true, List, [], length, slice_index_or, sym, subst, arith, ⊎_elim}
 use Rattle.std.specs.List.{list_all}
-use Rattle.std.proofs.lemmas.Bool.{and_from, and_parts, cases_lt}
+use Rattle.std.proofs.lemmas.Bool.{cases_lt}
+use Rattle.std.proofs.lemmas.List.{get_or_default}
+use Rattle.std.proofs.lemmas.List.Elements.{All-from_get_or}
+use Rattle.std.proofs.lemmas.List.Sums.{AllPass-from_list_all, list_all-from_AllPass}
 use Rattle.hsr_link.specs.declared.row.Dir.{Dir}
 use Rattle.hsr_link.specs.declared.row.Dir.TheVariants.{Forth, Back}
 use Rattle.hsr_node.specs.declared.place.Place.{Place}
@@ -14,25 +17,11 @@ use Rattle.hsr_network_laws.proofs.Wired.{wired_network}
 use Rattle.hsr_reach.specs.Addressed.{AreLike, IsUnlikeAt, LikeBelow}
 use Rattle.hsr_reach.specs.Networks.{AreGoingRound, HasLikeEnds, HaveOwnAddresses, IsFirstUnlike}
 
-all_at : {X : Type 0} (p : X → Bool) (xs : List X) (k : ℕ) (d : X) → list_all p xs ≡ true → k < length xs → p (slice_index_or xs k d) ≡ true
-all_at p [] k d h below = absurd (omega (arith, below))
-all_at p (x ∷ xs) zero d h below = (and_parts (p x) (list_all p xs) h).0
-all_at p (x ∷ xs) (suc k) d h below = all_at p xs k d (and_parts (p x) (list_all p xs) h).1 (omega (arith, below))
-
-at_all : {X : Type 0} (p : X → Bool) (xs : List X) (d : X) → ((k : ℕ) → k < length xs → p (slice_index_or xs k d) ≡ true) → list_all p xs ≡ true
-at_all p [] d h = refl
-at_all p (x ∷ xs) d h = and_from (p x) (list_all p xs) (h zero (omega arith)) (at_all p xs d (λ k below. h (suc k) (omega (arith, below))))
-
 pub rounds_all : (run : Run) → list_all is_in_h_or_u run.places ≡ true → AreGoingRound run
-rounds_all run h = λ k below. all_at is_in_h_or_u run.places k QuadBox h below
+rounds_all run h = λ k below. AllPass-from_list_all is_in_h_or_u run.places h k QuadBox below
 
 pub all_rounds : (run : Run) → AreGoingRound run → list_all is_in_h_or_u run.places ≡ true
-all_rounds run h = at_all is_in_h_or_u run.places QuadBox h
-
-index_any : {X : Type 0} (xs : List X) (k : ℕ) (d e : X) → k < length xs → slice_index_or xs k d ≡ slice_index_or xs k e
-index_any [] k d e below = absurd (omega (arith, below))
-index_any (x ∷ xs) zero d e below = refl
-index_any (x ∷ xs) (suc k) d e below = index_any xs k d e (omega (arith, below))
+all_rounds run h = list_all-from_AllPass is_in_h_or_u run.places (All-from_get_or (λ (p : Place). is_in_h_or_u p ≡ true) run.places QuadBox h)
 
 -- one more link
 pub like_more : (places : List Place) (links : List (List End)) (l : ℕ) → l < length links → AreLike places (slice_index_or links l []) →
@@ -41,7 +30,7 @@ like_more places links l below like before m d low =
     ⊎_elim (λ lower. before m d lower)
     (λ high.
     let same : m ≡ l = omega (arith, low, high) in
-    subst (λ n. AreLike places (slice_index_or links n d)) (sym same) (subst (AreLike places) (index_any links l [] d below) like))
+    subst (λ n. AreLike places (slice_index_or links n d)) (sym same) (subst (AreLike places) (get_or_default links l [] d below) like))
     (cases_lt m l)
 
 pub first_unlike_is : (run : Run) (l : ℕ) → IsUnlikeAt run.places run.links l → IsFirstUnlike run l

@@ -3,6 +3,7 @@ use Rattle.std.proofs.Common.{◌≡◌, ℕ, ◌<◌, ◌||◌, Bool, true, fal
 use Rattle.std.specs.Prelude.{slice_get}
 use Rattle.std.specs.List.{list_any}
 use Rattle.std.proofs.lemmas.Bool.{cases_Bool, cases_lt, false≢true, or_cases, or_left, or_right}
+use Rattle.std.proofs.lemmas.List.{get_or_default}
 use Rattle.hsr_node.specs.declared.place.Place.{Place}
 use Rattle.hsr_node.specs.declared.place.Place.TheVariants.{Danh, RedBox, QuadBox, Station}
 use Rattle.hsr_node.specs.Place.{owns}
@@ -102,11 +103,6 @@ any_before p (x ∷ xs) zero i low below is = absurd (omega (arith, low))
 any_before p (x ∷ xs) (suc n) zero low below is = or_left (p x) (list_any p (take n xs)) is
 any_before p (x ∷ xs) (suc n) (suc i) low below is = or_right (p x) (list_any p (take n xs)) (any_before p xs n i (omega (arith, low)) (omega (arith, below)) is)
 
-index_any : {X : Type 0} (xs : List X) (k : ℕ) (d e : X) → k < length xs → slice_index_or xs k d ≡ slice_index_or xs k e
-index_any [] k d e below = absurd (omega (arith, below))
-index_any (x ∷ xs) zero d e below = Rattle.std.proofs.Common.refl
-index_any (x ∷ xs) (suc k) d e below = index_any xs k d e (omega (arith, below))
-
 pub own_of_below : (run : Run) → OwnBelow run.places (length run.places) → HaveOwnAddresses run
 unfolding shares_any
 own_of_below run own i j mac low high first second =
@@ -126,7 +122,7 @@ below_of_own run own k d below =
     clash : list_any (shares (slice_index_or run.places k d)) (take k run.places) ≡ true → ⊥
     clash again =
         let P : Place → Type 0 = λ p. list_any (shares p) (take k run.places) ≡ true in
-        let at = before_any (shares (place_of run k)) run.places k (subst P (index_any run.places k d QuadBox below) again) in
+        let at = before_any (shares (place_of run k)) run.places k (subst P (get_or_default run.places k d QuadBox below) again) in
         let both = sharers (place_of run k) (place_of run at.i) at.is in
         let same = own at.i k both.mac at.below below both.second both.first in
         let low = at.low in

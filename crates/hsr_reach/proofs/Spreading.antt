@@ -1,6 +1,7 @@
 -- A search goes on, channel by channel.
-use Rattle.std.proofs.Common.{◌≡◌, ◌⊎◌, inl, inr, ℕ, ◌+◌, ◌*◌, ◌/◌, ◌%◌, ◌<◌, ◌≤◌, ◌==◌, ◌&&◌, not, Bool, true, false, if◌then◌else◌, List, [], ◌∷◌, length, slice_index_or, Option, Some, None, refl, sym, ap, ◌∙◌, subst, arith, zero, suc, ⊎_elim, eq-eqb, eqb-true}
+use Rattle.std.proofs.Common.{◌≡◌, ◌⊎◌, inl, inr, ℕ, ◌+◌, ◌*◌, ◌/◌, ◌%◌, ◌<◌, ◌≤◌, ◌==◌, ◌&&◌, not, Bool, true, false, if◌then◌else◌, List, length, slice_index_or, Option, Some, None, refl, sym, ap, ◌∙◌, subst, arith, zero, suc, ⊎_elim, eq-eqb, eqb-true}
 use Rattle.std.proofs.lemmas.Bool.{cases_Bool, cases_lt, false≢true}
+use Rattle.std.proofs.lemmas.List.{get_or_default}
 use Rattle.hsr_frame.specs.Grammar.{Fields}
 use Rattle.hsr_node.specs.declared.event.Probe.{Probe}
 use Rattle.hsr_link.specs.declared.row.Dir.{Dir}
@@ -104,11 +105,6 @@ module _ (run : Run) (send : Probe) (frame : Fields) (from : Option Channel) whe
     all = λ i d low. absurd (omega (arith, low));
   }
 
-  index_any : {X : Type 0} (xs : List X) (k : ℕ) (d e : X) → k < length xs → slice_index_or xs k d ≡ slice_index_or xs k e
-  index_any [] k d e below = absurd (omega (arith, below))
-  index_any (x ∷ xs) zero d e below = refl
-  index_any (x ∷ xs) (suc k) d e below = index_any xs k d e (omega (arith, below))
-
   pub spread_more : (channels : List Channel) (j : ℕ) (channel : Channel) (b : Bool) (f w f1 w1 f2 w2 : List ℕ) → length run.links ≤ 128 → j < length channels → slice_index_or channels j channel ≡ channel → channel.link < length run.links →
       (b ≡ true → Carries run send channel × Follows run send frame from channel) → (Carries run send channel × Follows run send frame from channel → b ≡ true) →
       IsPut b (number_of channel) f1 w1 f2 w2 → IsSpreadBelow run send frame from channels j f w f1 w1 → IsSpreadBelow run send frame from channels (j + 1) f w f2 w2
@@ -133,7 +129,7 @@ module _ (run : Run) (send : Probe) (frame : Fields) (from : Option Channel) whe
 
       here : (i : ℕ) (d : Channel) → i ≡ j → Carries run send (slice_index_or channels i d) → Follows run send frame from (slice_index_or channels i d) → has f2 (number_of (slice_index_or channels i d)) ≡ true
       here i d same carries follows =
-          let is : slice_index_or channels i d ≡ channel = ap (λ n. slice_index_or channels n d) same ∙ (index_any channels j d channel inside ∙ at) in
+          let is : slice_index_or channels i d ≡ channel = ap (λ n. slice_index_or channels n d) same ∙ (get_or_default channels j d channel inside ∙ at) in
           let P : Channel → Type 0 = λ x. Carries run send x in
           let Q : Channel → Type 0 = λ x. Follows run send frame from x in
           let R : Bool → Type 0 = λ t. IsPut t (number_of channel) f1 w1 f2 w2 in
@@ -200,7 +196,7 @@ module _ (run : Run) (send : Probe) (frame : Fields) (small : length run.links �
   pub waiting_channel : (f w : List ℕ) (n : ℕ) → IsFront run send frame f w → n < 512 → has w n ≡ true → (channel_at n).link < length run.links
   waiting_channel f w n front low waits = let here = (front.waits n low waits).1 in omega (arith, here)
 
-  pub front_next : (f w w1 f2 w2 : List ℕ) (n : ℕ) → IsFront run send frame f w → IsTakenOut n w w1 → IsSpread run send frame (Some (channel_at n)) f w1 f2 w2 → IsFront run send frame f2 w2
+  front_next : (f w w1 f2 w2 : List ℕ) (n : ℕ) → IsFront run send frame f w → IsTakenOut n w w1 → IsSpread run send frame (Some (channel_at n)) f w1 f2 w2 → IsFront run send frame f2 w2
   front_next f w w1 f2 w2 n front out s = record {
     comes = λ channel below is. ⊎_elim
         (λ was. front.comes channel below was)
@@ -290,7 +286,7 @@ least run f w w1 f2 w2 n found out grows = ⊎_elim
     (λ (a : IsAdded run f f2 w2 n). absurd (false≢true (sym a.missing ∙ found)))
     (grows n out.below)
 
-pub left_less : (run : Run) (f w w1 f2 w2 : List ℕ) (n : ℕ) → has f n ≡ true → IsTakenOut n w w1 → Grows run f w1 f2 w2 → left_over f2 w2 < left_over f w
+left_less : (run : Run) (f w w1 f2 w2 : List ℕ) (n : ℕ) → has f n ≡ true → IsTakenOut n w w1 → Grows run f w1 f2 w2 → left_over f2 w2 < left_over f w
 unfolding left_over
 left_less run f w w1 f2 w2 n found out grows = under 512 (omega arith) out.below
   where
@@ -314,3 +310,14 @@ left_less run f w w1 f2 w2 n found out grows = under 512 (omega arith) out.below
         let least_here : weight (has f2 m) (has w2 m) < weight (has f m) (has w m) = subst (λ k. weight (has f2 k) (has w2 k) < weight (has f k) (has w k)) same (least run f w w1 f2 w2 n found out grows) in
         omega (arith, rest, least_here))
         (cases_lt n m)
+
+-- ---- a step of the search
+
+-- it goes on from a channel that waited, which is told by its number, and less is left to do
+pub went_on : (run : Run) (send : Probe) (frame : Fields) → length run.links ≤ 128 → (channel : Channel) (n : ℕ) (found f w w1 f2 w2 : List ℕ) → channel ≡ channel_at n → found ≡ f →
+    IsFront run send frame f w → IsTakenOut n w w1 → IsSpread run send frame (Some channel) found w1 f2 w2 → IsFront run send frame f2 w2 × (left_over f2 w2 < left_over f w)
+went_on run send frame small channel n found f w w1 f2 w2 at same front out s =
+    let spread : IsSpread run send frame (Some (channel_at n)) f w1 f2 w2 =
+    subst (λ (x : List ℕ). IsSpread run send frame (Some (channel_at n)) x w1 f2 w2) same
+    (subst (λ (x : Channel). IsSpread run send frame (Some x) found w1 f2 w2) at s) in
+    (front_next run send frame small f w w1 f2 w2 n front out spread, left_less run f w w1 f2 w2 n (front.waits n out.below out.waited).0 out spread.grows)

@@ -7,7 +7,7 @@
 //! - `words`: the words of a line, numbers, octets in digits, and addresses
 //! - `putting`: texts that grow by words, octets and numbers
 //! - `time_unit`: the unit in which a text tells its moments
-//! - `command_line`: the arguments of a program
+//! - `command_line`: the arguments of a program, and a line that tells of them
 #![tactic(auto)]
 
 mod command_line;
@@ -17,7 +17,7 @@ mod time_unit;
 mod whole;
 mod words;
 
-pub use command_line::arguments;
+pub use command_line::{arguments, write_line};
 pub use lines::{Front, READ_LIMIT, ReaderFault, next_line};
 pub use putting::{put, put_number, put_octets};
 pub use time_unit::TimeUnit;

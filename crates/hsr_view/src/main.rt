@@ -35,7 +35,7 @@ use crate::fault::Fault;
 use crate::running::{report_ending, view_run};
 use crate::unnamed::{Unnamed, no_text};
 use hsr_scenario::TEXT_LIMIT;
-use hsr_text::arguments;
+use hsr_text::{arguments, write_line};
 use std::alloc::Global;
 use std::fs::{File, Files};
 use std::io::{ErrorKind, Read, Write};
@@ -110,8 +110,7 @@ fn refuse<E: Write>(errors: &mut E, text: &str) -> io::Result<u8>
     ensures { OnOk result (Appends (E.contents errors.old) (E.contents errors.new) (text.now
         ++ codes "\n")) }
 {
-    errors.write_all(text.as_bytes())?;
-    errors.write_all(b"\n")?;
+    write_line(errors, text)?;
     Ok(USAGE)
 }
 

@@ -1,19 +1,14 @@
-use Rattle.std.proofs.Common.{Result, Ok, Err}
-use Rattle.std.specs.Prelude.{IfErr}
-use Rattle.std.proofs.lemmas.Result.{IfOk-weaker}
+use Rattle.std.proofs.lemmas.Result.{IfErr-weaker, IfOk-weaker}
 use Rattle.hsr_finished_run.proofs.Shaped.{from_there}
 use Rattle.hsr_run_laws.specs.Run.{Run}
 use Rattle.hsr_audit.specs.Budgeted.{IsFirstBreach, IsOverspent}
-use Rattle.hsr_audit.specs.declared.breach.BudgetFault.{BudgetFault}
 use Rattle.hsr_audit.proofs.Spending.{breach_refuses, enough_is}
 use Rattle.hsr_audit.proofs.budgeting.budget.Goals as goal
 
-so_refused : {A : Type 0} (run : Run) (result : Result A BudgetFault) → IfErr result (IsFirstBreach run) → IfErr result (IsOverspent run)
-so_refused run (Ok b) h = h
-so_refused run (Err fault) h = breach_refuses run fault h
-
 pub returns-clause-refused : goal.returns-clause-refused
-returns-clause-refused g c = so_refused c.args.closed.now.run c.budget_of.result c.budget_of.ensures.first
+returns-clause-refused g c =
+    let run : Run = c.args.closed.now.run in
+    IfErr-weaker c.budget_of.result (IsFirstBreach run) (IsOverspent run) (breach_refuses run) c.budget_of.ensures.first
 
 pub returns-clause-enough : goal.returns-clause-enough
 returns-clause-enough g c =

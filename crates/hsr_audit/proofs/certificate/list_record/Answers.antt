@@ -1,7 +1,7 @@
-use Rattle.std.proofs.Common.{rules, ◌≡◌, ◌++◌, ◌<◌, length, slice_index_or, ap, ◌∙◌}
-use Rattle.std.proofs.lemmas.List.{append_assoc}
+use Rattle.std.proofs.Common.{rules, ◌≡◌, ◌++◌, slice_index_or}
 use Rattle.hsr_node.specs.declared.entry.Entry.{Entry}
 use Rattle.hsr_node.specs.declared.event.Probe.{Probe}
+use Rattle.hsr_deliveries.proofs.Gathering.{put_on}
 use Rattle.hsr_audit.specs.Listed.{listed_by}
 use Rattle.hsr_audit.proofs.Certifying.{listed_more}
 use Rattle.hsr_audit.proofs.certificate.list_record.Goals as goal
@@ -10,8 +10,6 @@ pub loop-i-preserved : goal.loop-i-preserved
 loop-i-preserved c =
     let d : Entry = c.index-entries-i.result in
     let here : Probe = record { node = c.args.number; place = c.loop-i.i } in
-    let below : c.loop-i.i < length c.args.entries.now = search rules in
-    let more = listed_more c.args.macs.now c.args.number c.args.place.now c.args.entries.now c.loop-i.i d below in
     let new : c.list_entry.new.sends.items ≡ c.loop-i.sends.items ++ listed_by c.args.macs.now here c.args.place.now (slice_index_or c.args.entries.now c.loop-i.i d) = search rules in
-    new ∙ (ap (λ sends. sends ++ listed_by c.args.macs.now here c.args.place.now (slice_index_or c.args.entries.now c.loop-i.i d)) c.loop-i.invariant
-    ∙ (append_assoc c.args.sends.now.items _ _ ∙ ap (λ sends. c.args.sends.now.items ++ sends) more))
+    put_on c.args.sends.now.items c.loop-i.sends.items c.list_entry.new.sends.items _ _ _ new c.loop-i.invariant
+    (listed_more c.args.macs.now c.args.number c.args.place.now c.args.entries.now c.loop-i.i d (search rules))

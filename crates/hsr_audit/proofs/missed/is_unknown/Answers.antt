@@ -1,4 +1,4 @@
-use Rattle.std.proofs.Common.{rules, ◌≡◌, ◌∙◌, ◌&&◌, not, Some, true, false, sym, ap}
+use Rattle.std.proofs.Common.{rules, ◌≡◌, ◌∙◌, ◌&&◌, not, Some, sym, ap}
 use Rattle.hsr_run_laws.specs.Run.{Run}
 use Rattle.hsr_node.specs.declared.sending.Sending.{Sending}
 use Rattle.hsr_tables.specs.Proxies.{is_known}
@@ -16,18 +16,14 @@ returns-then-not-knows g c =
     let run : Run = c.args.closed.now.run in
     let s : Sending = record { frame = c.sending.inside.frame; seq = c.sending.inside.seq } in
     let some : sending_at run c.args.send ≡ Some s = sym c.in-Some.ensures ∙ ap (λ (t : Sending). Some t) (sym c.sending.view_is) in
-    let known : c.knows.result ≡ is_known c.args.at c.args.stations.now.heard s.frame.dst = search rules in
     let is : c.is_box_of.result ≡ is_box_of run.places run.links c.args.send.node s.frame c.args.node = search rules in
-    let other : not (is_known c.args.at c.args.stations.now.heard s.frame.dst) ≡ true = ap not (sym known ∙ c.if-not-knows.true) in
-    unknown_some run c.args.node (is_known c.args.at c.args.stations.now.heard) c.args.send s c.requires.node some c.is_box_of.result
-    (is ∙ sym (ap (λ z. z && is_box_of run.places run.links c.args.send.node s.frame c.args.node) other))
+    unknown_some run c.args.node (is_known c.args.at c.args.stations.now.heard) c.args.send s c.requires.node some c.knows.result (search rules) c.is_box_of.result
+    (is ∙ sym (ap (λ z. not z && is_box_of run.places run.links c.args.send.node s.frame c.args.node) c.if-not-knows.true))
 
 pub returns-else-not-knows : goal.returns-else-not-knows
 returns-else-not-knows g c =
     let run : Run = c.args.closed.now.run in
     let s : Sending = record { frame = c.sending.inside.frame; seq = c.sending.inside.seq } in
     let some : sending_at run c.args.send ≡ Some s = sym c.in-Some.ensures ∙ ap (λ (t : Sending). Some t) (sym c.sending.view_is) in
-    let known : c.knows.result ≡ is_known c.args.at c.args.stations.now.heard s.frame.dst = search rules in
-    let other : not (is_known c.args.at c.args.stations.now.heard s.frame.dst) ≡ false = ap not (sym known ∙ c.if-not-knows.false) in
-    unknown_some run c.args.node (is_known c.args.at c.args.stations.now.heard) c.args.send s c.requires.node some (not c.knows.result)
-    (ap not c.if-not-knows.false ∙ sym (ap (λ z. z && is_box_of run.places run.links c.args.send.node s.frame c.args.node) other))
+    unknown_some run c.args.node (is_known c.args.at c.args.stations.now.heard) c.args.send s c.requires.node some c.knows.result (search rules) (not c.knows.result)
+    (ap not c.if-not-knows.false ∙ sym (ap (λ z. not z && is_box_of run.places run.links c.args.send.node s.frame c.args.node) c.if-not-knows.false))

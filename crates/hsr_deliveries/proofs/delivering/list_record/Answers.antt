@@ -1,16 +1,14 @@
-use Rattle.std.proofs.Common.{rules, ◌≡◌, ◌++◌, ◌<◌, length, slice_index_or, ap, ◌∙◌, append_assoc}
+use Rattle.std.proofs.Common.{rules, ◌≡◌, ◌++◌, slice_index_or}
 use Rattle.hsr_node.specs.declared.entry.Entry.{Entry}
 use Rattle.hsr_node.specs.declared.event.Probe.{Probe}
 use Rattle.hsr_deliveries.specs.Counted.{delivered_by}
-use Rattle.hsr_deliveries.proofs.Gathering.{listed_more}
+use Rattle.hsr_deliveries.proofs.Gathering.{listed_more, put_on}
 use Rattle.hsr_deliveries.proofs.delivering.list_record.Goals as goal
 
 pub loop-i-preserved : goal.loop-i-preserved
 loop-i-preserved g c =
     let d : Entry = c.index-entries-i.result in
     let here : Probe = record { node = c.args.number; place = c.loop-i.i } in
-    let below : c.loop-i.i < length c.args.entries.now = search rules in
-    let more = listed_more c.args.traces.now c.args.number c.args.place.now c.args.entries.now c.loop-i.i d below in
     let new : c.list_entry.new.sends.items ≡ c.loop-i.sends.items ++ delivered_by c.args.traces.now here c.args.place.now (slice_index_or c.args.entries.now c.loop-i.i d) = search rules in
-    new ∙ (ap (λ sends. sends ++ delivered_by c.args.traces.now here c.args.place.now (slice_index_or c.args.entries.now c.loop-i.i d)) c.loop-i.invariant
-    ∙ (append_assoc c.args.sends.now.items _ _ ∙ ap (λ sends. c.args.sends.now.items ++ sends) more))
+    put_on c.args.sends.now.items c.loop-i.sends.items c.list_entry.new.sends.items _ _ _ new c.loop-i.invariant
+    (listed_more c.args.traces.now c.args.number c.args.place.now c.args.entries.now c.loop-i.i d (search rules))
