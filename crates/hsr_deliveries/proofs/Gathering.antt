@@ -1,18 +1,18 @@
 -- Deliveries of one more node, entry or record.
-use Rattle.std.proofs.Common.{◌≡◌, ℕ, ◌+◌, ◌<◌, ◌≤◌, suc, List, [], ◌∷◌, ◌++◌, length, reverse, take, slice_index_or, Option, refl, sym, ap, ◌∙◌, append_assoc, subst, arith}
-use Rattle.std.specs.Prelude.{filter_map, option_map}
+use Rattle.std.proofs.Common.{◌≡◌, ℕ, ◌+◌, ◌<◌, suc, List, [], ◌∷◌, ◌++◌, length, reverse, take, slice_index_or, Option, refl, sym, ap, ◌∙◌, append_assoc, arith}
+use Rattle.std.specs.Prelude.{filter_map}
 use Rattle.std.specs.List.{cons_option}
-use Rattle.std.proofs.lemmas.List.{length-reverse, length-take, reverse-append, take_all, take_more}
+use Rattle.std.proofs.lemmas.List.{take_all}
 use Rattle.std.proofs.lemmas.List.Elements.{filter_map-append}
 use Rattle.hsr_frame.proofs.OneMore.{passing_more}
-use Rattle.hsr_node.specs.Flow.{sent_by}
 use Rattle.hsr_node.specs.declared.entry.Entry.{Entry}
 use Rattle.hsr_node.specs.declared.event.Probe.{Probe}
 use Rattle.hsr_node.specs.declared.place.Place.{Place}
 use Rattle.hsr_link.specs.declared.row.Row.{Row}
 use Rattle.hsr_run_laws.specs.Run.{Run, owner_of, past_of}
+use Rattle.hsr_finished_run.proofs.Places.{past_length, past_more}
 use Rattle.hsr_deliveries.specs.Counted.{added, deliveries_at, delivered_by, if_one}
-use Rattle.hsr_deliveries.specs.Delivered.{deliveries_below, deliveries_in, delivery_below, delivery_of, is_due, is_missed, is_strayed, is_twice, loss_of, nodes_below, times}
+use Rattle.hsr_deliveries.specs.Delivered.{deliveries_below, deliveries_in, delivery_below, is_due, is_missed, is_strayed, is_twice, loss_of, nodes_below, times}
 use Rattle.hsr_deliveries.specs.declared.loss.Loss.{Loss}
 
 -- ---- one more node
@@ -31,22 +31,24 @@ delivery_more run send at dst ethertype k =
 pub put_on : {X : Type 0} (start old new so_far more all : List X) → new ≡ old ++ more → old ≡ start ++ so_far → so_far ++ more ≡ all → new ≡ start ++ all
 put_on start old new so_far more all is before whole = is ∙ (ap (λ xs. xs ++ more) before ∙ (append_assoc start so_far more ∙ ap (λ xs. start ++ xs) whole))
 
-past_more : (xs : List Entry) (i : ℕ) (d : Entry) → i < length xs → reverse (take (i + 1) xs) ≡ slice_index_or xs i d ∷ reverse (take i xs)
-past_more xs i d below = ap reverse (take_more xs i d below) ∙ reverse-append (take i xs) (slice_index_or xs i d ∷ [])
+-- where one more entry adds what it gives at its place, a list of the entries of a record does
+pub one_more : {X : Type 0} (listed : List Entry → List X) (gives : ℕ → Entry → List X) → ((x : Entry) (past : List Entry) → listed (x ∷ past) ≡ listed past ++ gives (length past) x) →
+    (xs : List Entry) (i : ℕ) (d : Entry) → i < length xs → listed (reverse (take i xs)) ++ gives i (slice_index_or xs i d) ≡ listed (reverse (take (i + 1) xs))
+one_more listed gives more xs i d below =
+    let x = slice_index_or xs i d in
+    let past = reverse (take i xs) in
+    ap (λ n. listed past ++ gives n x) (sym (past_length xs i (omega (arith, below))))
+    ∙ sym (ap listed (past_more xs i d below) ∙ more x past)
 
-past_length : (xs : List Entry) (i : ℕ) → i ≤ length xs → length (reverse (take i xs)) ≡ i
-past_length xs i below = let taken = length-take i xs in length-reverse (take i xs) ∙ (let e : length (take i xs) ≡ i = omega (arith, taken, below) in e)
+-- and at its end it lists the whole record
+pub all_listed : {X : Type 0} (listed : List Entry → List X) (xs : List Entry) → listed (reverse (take (length xs) xs)) ≡ listed (reverse xs)
+all_listed listed xs = ap (λ ys. listed (reverse ys)) (take_all (length xs) xs (omega arith))
 
 pub listed_more : (run : Run) (number : ℕ) (place : Place) (xs : List Entry) (i : ℕ) (d : Entry) → i < length xs →
     deliveries_at run number place xs i ++ delivered_by run (record { node = number; place = i }) place (slice_index_or xs i d) ≡ deliveries_at run number place xs (i + 1)
 unfolding delivered_by
-listed_more run number place xs i d below =
-    let x = slice_index_or xs i d in
-    let sent = sent_by place x.event x.outcome in
-    let P : ℕ → Type 0 = λ n. deliveries_at run number place xs i ++ cons_option (option_map (delivery_of run (record { node = number; place = i }) x.at) sent) []
-    ≡ deliveries_at run number place xs i ++ cons_option (option_map (delivery_of run (record { node = number; place = n }) x.at) sent) [] in
-    subst P (sym (past_length xs i (omega (arith, below)))) refl
-    ∙ sym (ap (deliveries_in run (record { number = number; place = place })) (past_more xs i d below))
+listed_more run number place =
+    one_more (deliveries_in run (record { number = number; place = place })) (λ n x. delivered_by run (record { node = number; place = n }) place x) (λ x past. refl)
 
 -- ---- one more row
 
@@ -65,4 +67,4 @@ deliveries_more run k = let next : k + 1 ≡ suc k = omega arith in ap (deliveri
 
 pub listed_whole : (run : Run) (number : ℕ) (place : Place) (xs : List Entry) →
     deliveries_at run number place xs (length xs) ≡ deliveries_in run (record { number = number; place = place }) (reverse xs)
-listed_whole run number place xs = ap (λ ys. deliveries_in run (record { number = number; place = place }) (reverse ys)) (take_all (length xs) xs (omega arith))
+listed_whole run number place = all_listed (deliveries_in run (record { number = number; place = place }))

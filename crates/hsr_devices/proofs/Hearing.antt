@@ -1,8 +1,7 @@
 -- What a record lets its node know.
-use Rattle.std.proofs.Common.{◌≡◌, ◌⊎◌, inl, inr, ⊎_elim, ℕ, ◌≤◌, Bool, true, false, cond, List, [], ◌∷◌, ◌++◌, map, reverse, Option, Some, None, Result, Ok, Err, refl, sym, ap, ◌∙◌, subst, arith}
+use Rattle.std.proofs.Common.{◌≡◌, inl, inr, ℕ, ◌≤◌, Bool, true, false, cond, List, [], ◌∷◌, map, reverse, Option, Some, None, Result, Ok, Err, refl, sym, ap, ◌∙◌, arith}
 use Rattle.std.specs.Prelude.{fold}
-use Rattle.std.proofs.lemmas.List.{reverse-append, reverse-reverse}
-use Rattle.std.proofs.lemmas.List.Sums.{fold-append}
+use Rattle.std.proofs.lemmas.List.{reverse-reverse}
 use Rattle.std.proofs.Math.Nat.{le-max_left}
 use Rattle.hsr_frame.specs.declared.fault.FrameFault.{FrameFault}
 use Rattle.hsr_frame.specs.declared.node.RingPort.{RingPort}
@@ -25,47 +24,37 @@ use Rattle.hsr_node.specs.declared.event.Event.TheVariants.{Send, Supervise, Arr
 use Rattle.hsr_node.specs.declared.place.Place.{Place}
 use Rattle.hsr_node.specs.declared.place.Place.TheVariants.{Danh, RedBox, QuadBox, Station}
 use Rattle.hsr_table_demand.specs.Read.{stations_of}
-use Rattle.hsr_table_demand.proofs.Hearing.{folded as stations_folded}
+use Rattle.hsr_table_demand.proofs.Hearing.{IsOne, folded as stations_folded, one_folded, one_last}
 use Rattle.hsr_devices.specs.Known.{hears_with, nodes_of, stations_known, with_own}
 
 -- an entry lets hear one node at most, at its moment
-abbrev IsOne : ℕ → List Hearing → Type 0
-IsOne at hs = (hs ≡ []) ⊎ ((h : Hearing) × (hs ≡ h ∷ []) × (h.at ≡ at))
+abbrev IsOneNode : ℕ → List Hearing → Type 0
+IsOneNode at hs = IsOne Hearing (λ h. h.at) at hs
 
-one_said : (x : RingPort) (at : ℕ) (said : Result Said SupFault) → IsOne at (hearing_if x at said)
+one_said : (x : RingPort) (at : ℕ) (said : Result Said SupFault) → IsOneNode at (hearing_if x at said)
 one_said x at (Ok said) = inr (record { said = said; port = x; at = at }, refl, refl)
 one_said x at (Err fault) = inl refl
 
-one_by : (own : Option (List ℕ)) (port : Option RingPort) (at : ℕ) (seen : Result Seen FrameFault) → IsOne at (hearing_by own port at seen)
+one_by : (own : Option (List ℕ)) (port : Option RingPort) (at : ℕ) (seen : Result Seen FrameFault) → IsOneNode at (hearing_by own port at seen)
 one_by None port at seen = inl refl
 one_by (Some own) None at seen = inl refl
 one_by (Some own) (Some x) at seen = by_told (is_told own seen)
   where
-    by_told : (b : Bool) → IsOne at (cond b (hearing_if x at (read_of (payload_in seen))) [])
+    by_told : (b : Bool) → IsOneNode at (cond b (hearing_if x at (read_of (payload_in seen))) [])
     by_told true = one_said x at (read_of (payload_in seen))
     by_told false = inl refl
 
-one_from : (place : Place) (at : ℕ) (event : Event) → IsOne at (hearings_from place at event)
+one_from : (place : Place) (at : ℕ) (event : Event) → IsOneNode at (hearings_from place at event)
 one_from place at (Arrive port copy) = one_by (ring_address place) (hears_on place port) at (classified copy.octets)
 one_from place at (Send from dst vlan kind payload) = inl refl
 one_from place at (Supervise about) = inl refl
 one_from place at Age = inl refl
 
-turned : (at : ℕ) (hs : List Hearing) → IsOne at hs → reverse hs ≡ hs
-turned at hs one =
-    let P : List Hearing → Type 0 = λ ys. reverse ys ≡ ys in
-    ⊎_elim (λ none. subst P (sym none) refl) (λ some. subst P (sym some.1) refl) one
-
 folded : (place : Place) (past : List Entry) → nodes_of place past ≡ fold node_heard no_nodes (reverse (hearings place past))
 folded place [] = refl
 folded place (x ∷ past) =
     let at = now (x ∷ past) in
-    let hs = hearings_from place at x.event in
-    ap (λ (n : Nodes). fold node_heard n hs) (folded place past)
-    ∙ (sym (fold-append node_heard no_nodes (reverse (hearings place past)) hs)
-    ∙ ap (fold node_heard no_nodes)
-    (ap (λ ys. reverse (hearings place past) ++ ys) (sym (turned at hs (one_from place at x.event)))
-    ∙ sym (reverse-append hs (hearings place past))))
+    one_folded Nodes Hearing (λ h. h.at) at node_heard no_nodes (nodes_of place past) (hearings_from place at x.event) (hearings place past) (one_from place at x.event) (folded place past)
 
 -- the rows of a table that heard a record are those that the record lets know
 pub rows_same : (place : Place) (past : List Entry) (at : ℕ) → map (λ r. r.0) (known at (nodes_of place past).rows) ≡ rows place past at
@@ -73,16 +62,11 @@ rows_same place past at =
     let F : Nodes → List NodeRow = λ n. map (λ r. r.0) (known at n.rows) in
     ap F (folded place past) ∙ (rows_of_latest (reverse (hearings place past)) at ∙ ap (λ (hs : List Hearing). Rattle.hsr_tables.specs.Nodes.rows_known hs at) (reverse-reverse (hearings place past)))
 
--- nothing was heard after a moment at or after its own
-heard_last : (m at : ℕ) (hs : List Hearing) (nodes : Nodes) → IsOne at hs → nodes.last ≤ m → m ≤ at → (fold node_heard nodes hs).last ≤ at
-heard_last m at hs nodes one before later =
-    let P : List Hearing → Type 0 = λ ys. (fold node_heard nodes ys).last ≤ at in
-    ⊎_elim (λ none. subst P (sym none) (omega (arith, before, later))) (λ some. subst P (sym some.1) (let same = some.2 in omega (arith, same))) one
-
 pub nodes_last : (place : Place) (past : List Entry) → (nodes_of place past).last ≤ now past
 nodes_last place [] = omega arith
 nodes_last place (x ∷ past) =
-    heard_last (now past) (now (x ∷ past)) (hearings_from place (now (x ∷ past)) x.event) (nodes_of place past) (one_from place (now (x ∷ past)) x.event) (nodes_last place past) (le-max_left (now past) x.at)
+    let at = now (x ∷ past) in
+    one_last Nodes Hearing (λ h. h.at) (now past) at node_heard (λ n. n.last) (nodes_of place past) (hearings_from place at x.event) (λ n h. refl) (one_from place at x.event) (nodes_last place past) (le-max_left (now past) x.at)
 
 -- what a node table hears of an arrival
 heard_here : (own : List ℕ) (x : RingPort) (at : ℕ) (seen : Result Seen FrameFault) (nodes : Nodes) → (heard_of own nodes x seen at).1 ≡ fold node_heard nodes (hearing_by (Some own) (Some x) at seen)

@@ -7,3 +7,7 @@ left width cell = cell ++ replicate (width - length cell) 32
 
 unfoldable pub right : ℕ → List ℕ → List ℕ
 right width cell = replicate (width - length cell) 32 ++ cell
+
+-- the cell of the first column
+abbrev pub label_cell : List ℕ → List ℕ
+label_cell label = left 20 label

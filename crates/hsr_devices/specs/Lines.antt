@@ -6,7 +6,7 @@ use Rattle.std.specs.Fmt.{decimal}
 use Rattle.std.specs.List.{flat_map, range_with_len}
 use Rattle.hsr_frame.specs.declared.counters.Counters.{Counters}
 use Rattle.hsr_node.specs.declared.entry.Entry.{Entry}
-use Rattle.hsr_devices.specs.Cells.{left, right}
+use Rattle.hsr_devices.specs.Cells.{label_cell, right}
 use Rattle.hsr_devices.specs.Counted.{is_counted}
 use Rattle.hsr_devices.specs.declared.counted.Counted.{Counted}
 use Rattle.hsr_devices.specs.declared.counted.Counted.TheVariants.{Arrived, Up, Passed, Duplicate, Returned, Foreign, Local, Untagged, Tagged, Malformed, Own, Forwarded}
@@ -20,7 +20,7 @@ node_cell width None = []
 node_cell width (Some n) = cell_text width n
 
 unfoldable pub row_text : ℕ → List ℕ → List ℕ → Option ℕ → List ℕ
-row_text width label cells node = left 20 label ++ flat_map (cell_text width) cells ++ node_cell width node ++ codes "\n"
+row_text width label cells node = label_cell label ++ flat_map (cell_text width) cells ++ node_cell width node ++ codes "\n"
 
 -- what is counted at each port of a record
 unfoldable pub counts : List Entry → ℕ → Counted → List ℕ
@@ -54,6 +54,10 @@ octets_row width octets = row_text width (codes "    octets") octets None
 unfoldable pub lost_row : ℕ → List ℕ → List ℕ
 lost_row width lost = row_text width (codes "    lost on the way") lost None
 
+-- the octets at each port, and what was lost on its way
+unfoldable pub way_text : ℕ → List ℕ → List ℕ → List ℕ
+way_text width octets lost = octets_row width octets ++ lost_row width lost
+
 -- all that came, and what was wanted of it; what was taken up was passed too
 unfoldable pub wanted_text : ℕ → List Entry → ℕ → Counters → List ℕ
 wanted_text width entries ports node =
@@ -69,9 +73,9 @@ unwanted_text width entries ports node =
 -- what came, by what became of it, its octets, and what was lost on its way here
 unfoldable pub arrivals_text : ℕ → List Entry → ℕ → Counters → List ℕ → List ℕ → List ℕ
 arrivals_text width entries ports node octets lost =
-    wanted_text width entries ports node ++ unwanted_text width entries ports node ++ octets_row width octets ++ lost_row width lost
+    wanted_text width entries ports node ++ unwanted_text width entries ports node ++ way_text width octets lost
 
 -- what left, its octets, and what was lost on its way from here
 unfoldable pub departures_text : ℕ → List Entry → ℕ → Counters → List ℕ → List ℕ → List ℕ
 departures_text width entries ports node octets lost =
-    counted_row width entries ports Own None ++ counted_row width entries ports Forwarded (Some node.forwarded) ++ octets_row width octets ++ lost_row width lost
+    counted_row width entries ports Own None ++ counted_row width entries ports Forwarded (Some node.forwarded) ++ way_text width octets lost

@@ -15,7 +15,7 @@ use Rattle.hsr_run_laws.specs.Run.{Run, past_of, place_of, record_of}
 use Rattle.hsr_timeline.specs.Names.{name_of, port_text}
 use Rattle.hsr_table_demand.specs.Needs.{IsMostAt}
 use Rattle.hsr_table_demand.specs.declared.most.Needed.{Needed}
-use Rattle.hsr_devices.specs.Cells.{left, right}
+use Rattle.hsr_devices.specs.Cells.{label_cell, right}
 use Rattle.hsr_devices.specs.Counted.{SumsAre}
 use Rattle.hsr_devices.specs.Describing.{addresses_text, known_text, unheard_text}
 use Rattle.hsr_devices.specs.Known.{stations_known}
@@ -56,10 +56,10 @@ abbrev pub letter_cell : ℕ → ℕ → List ℕ
 letter_cell width letter = right width (letter ∷ [])
 
 unfoldable pub ports_row : ℕ → Place → List ℕ
-ports_row width place = left 20 (codes "  port") ++ flat_map (letter_cell width) (letters place) ++ right width (codes "node") ++ codes "\n"
+ports_row width place = label_cell (codes "  port") ++ flat_map (letter_cell width) (letters place) ++ right width (codes "node") ++ codes "\n"
 
 unfoldable pub peers_row : ℕ → List (List ℕ) → List ℕ
-peers_row width peers = left 20 (codes "  leads to") ++ flat_map (right width) peers ++ codes "\n"
+peers_row width peers = label_cell (codes "  leads to") ++ flat_map (right width) peers ++ codes "\n"
 
 -- ---- lines
 

@@ -1,11 +1,14 @@
 //! Columns of a table.
 ghost use Rattle.std.specs.Prelude.{◌≡◌, ◌-◌, ◌++◌, OnOk, length, replicate};
 ghost use Rattle.std.specs.Fmt.{decimal};
-ghost use Rattle.hsr_devices.specs.Cells.{left, right};
+ghost use Rattle.hsr_devices.specs.Cells.{label_cell, left, right};
 
 use hsr_frame::NoMemory;
 use hsr_text::{put_number, put_octets};
 use std::alloc::Global;
+
+/// How wide the first column of a table is.
+const LABEL: usize = 20;
 
 /// Puts spaces last, `count` of them.
 fn put_spaces(text: &mut Vec<u8>, count: usize) -> Result<(), NoMemory>
@@ -21,11 +24,18 @@ fn put_spaces(text: &mut Vec<u8>, count: usize) -> Result<(), NoMemory>
 
 /// Puts a cell last, with spaces behind it up to a width.
 #[tactic(auto, unfolding(crate::specs::Cells::left))]
-pub(crate) fn put_left(text: &mut Vec<u8>, width: usize, cell: &[u8]) -> Result<(), NoMemory>
+fn put_left(text: &mut Vec<u8>, width: usize, cell: &[u8]) -> Result<(), NoMemory>
     ensures { OnOk result (text.new.items ≡ text.old.items ++ left width cell.now) }
 {
     put_octets(text, cell)?;
     put_spaces(text, width.saturating_sub(cell.len()))
+}
+
+/// Puts the cell of the first column last.
+pub(crate) fn put_label(text: &mut Vec<u8>, label: &[u8]) -> Result<(), NoMemory>
+    ensures { OnOk result (text.new.items ≡ text.old.items ++ label_cell label.now) }
+{
+    put_left(text, LABEL, label)
 }
 
 /// Puts a cell last, with spaces before it up to a width.

@@ -1,17 +1,14 @@
 //! The lines of a device.
 ghost use Rattle.std.specs.Prelude.{◌≡◌, ◌++◌, IfOk, OnOk};
 ghost use Rattle.std.specs.List.{flat_map};
-ghost use Rattle.hsr_devices.specs.Lines.{arrivals_text, cell_text, counted_if, counted_row, counts, departures_text, label_of, lost_row, node_cell, octets_row, row_text, unwanted_text, wanted_text};
+ghost use Rattle.hsr_devices.specs.Lines.{arrivals_text, cell_text, counted_if, counted_row, counts, departures_text, label_of, lost_row, node_cell, octets_row, row_text, unwanted_text, wanted_text, way_text};
 
-use crate::cells::{put_count, put_left};
+use crate::cells::{put_count, put_label};
 use crate::counted::{Counted, count};
 use hsr_frame::{Counters, NoMemory};
 use hsr_node::Entry;
 use hsr_text::put;
 use std::alloc::Global;
-
-/// How wide the first column of a table is.
-const LABEL: usize = 20;
 
 /// A table of a node: what its record counts at each of its ports, in columns of this width.
 #[derive(Clone, Copy)]
@@ -61,7 +58,7 @@ pub(crate) fn put_row(
     ensures { OnOk result (text.new.items ≡ text.old.items
         ++ row_text width label.now cells.now node) }
 {
-    put_left(text, LABEL, label)?;
+    put_label(text, label)?;
     put_cells(alloc, text, width, cells)?;
     put_node_cell(alloc, text, width, node)?;
     put(text, "\n")
@@ -164,6 +161,22 @@ fn put_lost(alloc: Global, text: &mut Vec<u8>, width: usize, lost: &[u64]) -> Re
     put_row(alloc, text, width, b"    lost on the way", lost, None)
 }
 
+/// Puts the rows of octets and of what was lost on the way last.
+#[tactic(auto, unfolding(crate::specs::Lines::way_text))]
+fn put_way(
+    alloc: Global,
+    text: &mut Vec<u8>,
+    width: usize,
+    octets: &[u64],
+    lost: &[u64],
+) -> Result<(), NoMemory>
+    ensures { OnOk result (text.new.items ≡ text.old.items
+        ++ way_text width octets.now lost.now) }
+{
+    put_octets(alloc, text, width, octets)?;
+    put_lost(alloc, text, width, lost)
+}
+
 /// Puts the rows of all arrivals last, and of those that were wanted.
 #[tactic(auto, unfolding(crate::specs::Lines::wanted_text))]
 fn put_wanted(
@@ -222,8 +235,7 @@ pub(crate) fn put_arrivals(
 {
     put_wanted(alloc, text, columns, node)?;
     put_unwanted(alloc, text, columns, node)?;
-    put_octets(alloc, text, columns.width, octets)?;
-    put_lost(alloc, text, columns.width, lost)
+    put_way(alloc, text, columns.width, octets, lost)
 }
 
 /// Puts the rows of what left last.
@@ -248,6 +260,5 @@ pub(crate) fn put_departures(
         Counted::Forwarded,
         Some(node.forwarded),
     )?;
-    put_octets(alloc, text, columns.width, octets)?;
-    put_lost(alloc, text, columns.width, lost)
+    put_way(alloc, text, columns.width, octets, lost)
 }

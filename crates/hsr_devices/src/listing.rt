@@ -7,7 +7,7 @@ ghost use Rattle.hsr_timeline.specs.Fronts.{lists_of};
 ghost use Rattle.hsr_devices.specs.Listing.{AreMost, AreSums, IsListing, amount_at, amount_in, columns_text, device_text, devices_below, head_text, known_at, letter_cell, links_at, needed_if, needed_text, peer_text, peers_row, ports_row, sent_text, table_text, traffic_text, unheard_at, unreadable_if, unreadable_line, wider};
 ghost use Rattle.hsr_devices.specs.Cells.{right};
 
-use crate::cells::{put_left, put_right};
+use crate::cells::{put_label, put_right};
 use crate::describing::{put_addresses, put_known, put_unheard};
 use crate::known::known_by;
 use crate::lines::{Columns, put_arrivals, put_departures};
@@ -21,9 +21,6 @@ use hsr_text::{put, put_number, put_octets};
 use hsr_timeline::{put_name, put_port};
 use hsr_topology::End;
 use std::alloc::Global;
-
-/// How wide the first column of a table is.
-const LABEL: usize = 20;
 
 /// The least width of the other columns.
 const WIDTH: usize = 10;
@@ -151,7 +148,7 @@ fn width_of(texts: &[Vec<u8>]) -> usize
 fn put_ports(text: &mut Vec<u8>, width: usize, place: &Place) -> Result<(), NoMemory>
     ensures { OnOk result (text.new.items ≡ text.old.items ++ ports_row width place.now) }
 {
-    put_left(text, LABEL, b"  port")?;
+    put_label(text, b"  port")?;
     put_letters(text, width, place.letters())?;
     put_right(text, width, b"node")?;
     put(text, "\n")
@@ -196,7 +193,7 @@ fn put_peers(text: &mut Vec<u8>, width: usize, peers: &[Vec<u8>]) -> Result<(), 
     ensures { OnOk result (text.new.items ≡ text.old.items
         ++ peers_row width (lists_of peers.now)) }
 {
-    put_left(text, LABEL, b"  leads to")?;
+    put_label(text, b"  leads to")?;
     put_texts(text, width, peers)?;
     put(text, "\n")
 }

@@ -6,7 +6,7 @@ use Rattle.std.specs.Prelude.{ℕ, nat_lt, not, ◌&&◌, Bool, true, if◌then�
 use Rattle.std.specs.List.{flat_map, list_any}
 use Rattle.hsr_downs.specs.declared.changing.Change.{Change}
 use Rattle.hsr_downs.specs.declared.downing.Down.{Down}
-use Rattle.hsr_diagram_text.specs.Labels.{change_words}
+use Rattle.hsr_diagram_text.specs.Labels.{change_word, done_words}
 use Rattle.hsr_svg.specs.Elements.{Shape, shade, text}
 use Rattle.hsr_svg.specs.declared.elements.Label.TheVariants as label
 
@@ -42,8 +42,12 @@ shade_shapes moments downs = flat_map (shade_if moments) downs
 
 -- ---- marks
 
+-- what was done, in a word
+abbrev pub mark_if : List ℕ → List ℕ → Change → List Shape
+mark_if moments word change = if is_among moments change then text label.Change (done_words word change.moment) ∷ [] else []
+
 abbrev pub change_if : List ℕ → Change → List Shape
-change_if moments change = if is_among moments change then text label.Change (change_words change.is_cut change.moment) ∷ [] else []
+change_if moments change = mark_if moments (change_word change.is_cut) change
 
 -- a cut that ends a time begins another, which has its mark
 abbrev pub end_if : List ℕ → Option Change → List Shape

@@ -6,9 +6,9 @@ use crate::shades::is_among;
 use crate::shelves::{Foot, Shelves, Side};
 use crate::widths::{COPY, width_of};
 use hsr_diagram::{Arrow, Look};
-use hsr_diagram_text::{change_words, switch_words};
+use hsr_diagram_text::{change_word, done_words, switch_word};
 use hsr_downs::{Change, Down, Switch};
-use hsr_finished_run::{Closed, next_place};
+use hsr_finished_run::{Closed, first_places, next_place};
 use hsr_frame::NoMemory;
 use hsr_link::Fate;
 use hsr_svg::Anchor;
@@ -82,15 +82,6 @@ fn times_of_entries<const C: usize>(
         Err(StoryFault::Circle) => Ok(Vec::new(alloc)),
         Err(StoryFault::NoMemory) => Err(NoMemory),
     }
-}
-
-/// A first place for each node.
-fn first_places(alloc: Global, count: usize) -> Result<Vec<usize>, NoMemory> {
-    let mut next = Vec::new(alloc);
-    for _node in 0..count {
-        next.push(0)?;
-    }
-    Ok(next)
 }
 
 /// When each thing took place that is planned.
@@ -225,7 +216,7 @@ fn edge_of<const C: usize>(
     if !is_marked || !is_among(grounds.moments, change) {
         return Ok(Edge { row, shelf: 0 });
     }
-    let words = change_words(alloc, change.is_cut, change.moment)?;
+    let words = done_words(alloc, change_word(change.is_cut), change.moment)?;
     let foot = change_foot(grounds.times, grounds.columns, change.link, row);
     let shelf = shelves.put(foot, width_of(words.as_slice(), COPY))?;
     Ok(Edge { row, shelf })
@@ -302,7 +293,7 @@ fn put_flags<const C: usize>(
         return Ok(());
     }
     let row = row_of_change(closed, grounds, change);
-    let words = switch_words(alloc, switch.is_off, change.moment)?;
+    let words = done_words(alloc, switch_word(switch.is_off), change.moment)?;
     let width = width_of(words.as_slice(), COPY);
     for (line, node) in grounds.columns.nodes.as_slice().iter().enumerate() {
         if *node == switch.node {

@@ -2,11 +2,11 @@
 ghost use Rattle.std.specs.Prelude.{◌≡◌, ◌++◌, OnOk};
 ghost use Rattle.std.specs.List.{flat_map, list_any};
 ghost use Rattle.hsr_svg.specs.Elements.{shapes};
-ghost use Rattle.hsr_diagram_layout.specs.Shades.{change_if, change_shapes, down_shapes, down_words, end_if, is_among, is_by_some, is_open_since, is_seen, is_since_some, sample_shade, shade_if, shade_shapes};
+ghost use Rattle.hsr_diagram_layout.specs.Shades.{change_if, change_shapes, down_shapes, down_words, end_if, is_among, is_by_some, is_open_since, is_seen, is_since_some, mark_if, sample_shade, shade_if, shade_shapes};
 
 use crate::legend::{LINE, words_at};
 use crate::sheet::{Marked, Sheet};
-use hsr_diagram_text::change_words;
+use hsr_diagram_text::{change_word, done_words};
 use hsr_downs::{Change, Down};
 use hsr_frame::NoMemory;
 use hsr_svg::{Area, Element, Label, Spot, add_shade, add_text, add_words};
@@ -85,7 +85,27 @@ pub(crate) fn add_shades(
 
 // ---- marks
 
-/// Adds the mark of a change, if a picture of these moments shows it.
+/// Adds the mark of what was done, in a word, if a picture of these moments shows it.
+pub(crate) fn add_mark_if(
+    alloc: Global,
+    elements: &mut Vec<Element>,
+    moments: &[u64],
+    word: &str,
+    change: &Change,
+    spot: Spot,
+) -> Result<(), NoMemory>
+    ensures { OnOk result (shapes elements.new.items ≡ shapes elements.old.items
+        ++ mark_if moments.now word.now change.now) }
+{
+    if is_among(moments, change) {
+        let words = done_words(alloc, word, change.moment)?;
+        add_text(elements, Label::Change, words, spot)
+    } else {
+        Ok(())
+    }
+}
+
+/// Adds the mark of a cut or a mend, if a picture of these moments shows it.
 fn add_change_if(
     alloc: Global,
     elements: &mut Vec<Element>,
@@ -96,12 +116,14 @@ fn add_change_if(
     ensures { OnOk result (shapes elements.new.items ≡ shapes elements.old.items
         ++ change_if moments.now change.now) }
 {
-    if is_among(moments, change) {
-        let words = change_words(alloc, change.is_cut, change.moment)?;
-        add_text(elements, Label::Change, words, spot)
-    } else {
-        Ok(())
-    }
+    add_mark_if(
+        alloc,
+        elements,
+        moments,
+        change_word(change.is_cut),
+        change,
+        spot,
+    )
 }
 
 /// Adds the mark of the mend that ends a time, if a mend ends it, and the picture shows it.

@@ -4,12 +4,12 @@ ghost use Rattle.std.specs.List.{flat_map};
 ghost use Rattle.hsr_svg.specs.Elements.{shapes};
 ghost use Rattle.hsr_diagram_layout.specs.Switches.{switch_if, switch_shapes};
 
-use crate::shades::is_among;
+use crate::shades::add_mark_if;
 use crate::sheet::Sheet;
-use hsr_diagram_text::switch_words;
+use hsr_diagram_text::switch_word;
 use hsr_downs::Switch;
 use hsr_frame::NoMemory;
-use hsr_svg::{Element, Label, Spot, add_text};
+use hsr_svg::{Element, Spot};
 use std::alloc::Global;
 
 /// Adds the mark of a node that goes off or comes on, if a line is of this node, and a picture of these moments shows
@@ -25,9 +25,15 @@ fn add_switch_if(
     ensures { OnOk result (shapes elements.new.items ≡ shapes elements.old.items
         ++ switch_if moments.now switch.now node) }
 {
-    if node == switch.node && is_among(moments, &switch.change) {
-        let words = switch_words(alloc, switch.is_off, switch.change.moment)?;
-        add_text(elements, Label::Change, words, spot)
+    if node == switch.node {
+        add_mark_if(
+            alloc,
+            elements,
+            moments,
+            switch_word(switch.is_off),
+            &switch.change,
+            spot,
+        )
     } else {
         Ok(())
     }

@@ -21,18 +21,16 @@ letter_at (Some place) port = letter place port
 abbrev pub link_words : ℕ → List ℕ
 link_words link = codes "link " ++ decimal link
 
+-- that a link was cut or mended
 abbrev pub change_word : Bool → List ℕ
 change_word true = codes "cut"
 change_word false = codes "mend"
 
--- that a link was cut or mended, and when
-abbrev pub change_words : Bool → ℕ → List ℕ
-change_words is_cut moment = change_word is_cut ++ codes " " ++ moment_text moment
-
+-- that a node went off or came on
 abbrev pub switch_word : Bool → List ℕ
 switch_word true = codes "off"
 switch_word false = codes "on"
 
--- that a node went off or came on, and when
-abbrev pub switch_words : Bool → ℕ → List ℕ
-switch_words is_off moment = switch_word is_off ++ codes " " ++ moment_text moment
+-- what was done, in a word, and when
+abbrev pub done_words : List ℕ → ℕ → List ℕ
+done_words word moment = word ++ codes " " ++ moment_text moment

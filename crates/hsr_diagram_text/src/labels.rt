@@ -2,7 +2,7 @@
 ghost use Rattle.std.specs.Prelude.{◌≡◌, slice_get, IfOk};
 ghost use Rattle.hsr_timeline.specs.Names.{name_of};
 ghost use Rattle.hsr_timeline.specs.Fronts.{lists_of};
-ghost use Rattle.hsr_diagram_text.specs.Labels.{change_word, change_words, kind_word, letter_at, link_words, switch_word, switch_words};
+ghost use Rattle.hsr_diagram_text.specs.Labels.{change_word, done_words, kind_word, letter_at, link_words, switch_word};
 ghost use Rattle.hsr_diagram_text.specs.Moments.{moment_text};
 
 use crate::moments::put_moment;
@@ -54,36 +54,25 @@ pub fn link_words(alloc: Global, link: usize) -> Result<Vec<u8>, NoMemory>
 }
 
 /// What was done to a link, in a word.
-fn change_word(is_cut: bool) -> &'static str
+pub fn change_word(is_cut: bool) -> &'static str
     ensures { result.now ≡ change_word is_cut }
 {
     if is_cut { "cut" } else { "mend" }
 }
 
-/// That a link was cut or mended, and when. `NoMemory` if allocation fails.
-pub fn change_words(alloc: Global, is_cut: bool, moment: u64) -> Result<Vec<u8>, NoMemory>
-    ensures { IfOk result (λ words. words.items ≡ change_words is_cut moment) }
-{
-    let mut words = Vec::new(alloc);
-    put(&mut words, change_word(is_cut))?;
-    put(&mut words, " ")?;
-    put_moment(&mut words, moment)?;
-    Ok(words)
-}
-
 /// Whether a node went off or came on, in a word.
-fn switch_word(is_off: bool) -> &'static str
+pub fn switch_word(is_off: bool) -> &'static str
     ensures { result.now ≡ switch_word is_off }
 {
     if is_off { "off" } else { "on" }
 }
 
-/// That a node went off or came on, and when. `NoMemory` if allocation fails.
-pub fn switch_words(alloc: Global, is_off: bool, moment: u64) -> Result<Vec<u8>, NoMemory>
-    ensures { IfOk result (λ words. words.items ≡ switch_words is_off moment) }
+/// What was done to a link or a node, in a word, and when. `NoMemory` if allocation fails.
+pub fn done_words(alloc: Global, word: &str, moment: u64) -> Result<Vec<u8>, NoMemory>
+    ensures { IfOk result (λ words. words.items ≡ done_words word.now moment) }
 {
     let mut words = Vec::new(alloc);
-    put(&mut words, switch_word(is_off))?;
+    put(&mut words, word)?;
     put(&mut words, " ")?;
     put_moment(&mut words, moment)?;
     Ok(words)

@@ -14,3 +14,4 @@ pub mod MainPass
 pub mod Telling
 pub mod Existing
 pub mod OfRecords
+pub mod Places

@@ -11,3 +11,4 @@ pub mod Passes
 pub mod Reached
 pub mod Told
 pub mod OfRecords
+pub mod Places

@@ -39,7 +39,7 @@ mod workers;
 pub use closed::Closed;
 pub use disagree::{CheckFault, Disagree};
 pub use ends::{from_end, to_end};
-pub use next::next_place;
+pub use next::{first_places, next_place};
 pub use parts::Parts;
 pub use passes::passes_of;
 pub use planned::Planned;

@@ -26,9 +26,9 @@ fn add_place(next: &mut Vec<usize>) -> Result<(), NoMemory>
     Ok(())
 }
 
-/// A first place for each node.
+/// The first place of each of `count` records: 0. `NoMemory` if allocation fails.
 #[tactic(auto, using(crate::proofs::Coming::first_more))]
-pub(crate) fn first_places(alloc: Global, count: usize) -> Result<Vec<usize>, NoMemory>
+pub fn first_places(alloc: Global, count: usize) -> Result<Vec<usize>, NoMemory>
     ensures { IfOk result (λ next. AreFirst count next.items) }
 {
     let mut next = Vec::new(alloc);

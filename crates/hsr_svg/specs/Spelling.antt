@@ -147,18 +147,24 @@ line_text kind way = codes "<line" ++ way_text way ++ stroke_text (line_colour k
 
 -- ---- marks
 
-unfoldable pub square_text : ℕ → ℕ → List ℕ
-square_text x y =
-    codes "<rect" ++ attribute_text X (decimal x) ++ attribute_text Y (decimal y) ++ attribute_text Width (codes "8") ++ attribute_text Height (codes "8")
-    ++ attribute_text Fill (codes "#111") ++ codes "/>\n"
-
 unfoldable pub area_text : Area → List ℕ
 area_text area =
     attribute_text X (decimal area.x) ++ attribute_text Y (decimal area.y) ++ attribute_text Width (decimal area.width) ++ attribute_text Height (decimal area.height)
 
+-- an area of a colour, and the end of its element
+unfoldable pub filled_text : Area → List ℕ → List ℕ
+filled_text area colour = area_text area ++ attribute_text Fill colour ++ codes "/>\n"
+
+-- so wide and so high
+abbrev pub square_at : ℕ → ℕ → Area
+square_at x y = record { x = x; y = y; width = 8; height = 8 }
+
+unfoldable pub square_text : ℕ → ℕ → List ℕ
+square_text x y = codes "<rect" ++ filled_text (square_at x y) (codes "#111")
+
 -- the time in which a link is down
 unfoldable pub shade_text : Area → List ℕ
-shade_text area = codes "<rect" ++ attribute_text Class (codes "down") ++ area_text area ++ attribute_text Fill (codes "#e3e3e3") ++ codes "/>\n"
+shade_text area = codes "<rect" ++ attribute_text Class (codes "down") ++ filled_text area (codes "#e3e3e3")
 
 -- where texts and marks on a white ground begin
 unfoldable pub labels_text : List ℕ

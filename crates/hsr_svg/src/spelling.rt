@@ -2,7 +2,7 @@
 ghost use Rattle.std.specs.Prelude.{◌≡◌, ◌++◌, OnOk};
 ghost use Rattle.std.specs.Fmt.{decimal};
 ghost use Rattle.std.specs.List.{flat_map};
-ghost use Rattle.hsr_svg.specs.Spelling.{anchor_word, area_text, arrow_text, element_text, ground_text, head_text, label_colour, label_size, label_weight, labels_text, line_colour, line_dashes, line_text, line_width, marker_text, outline_text, place_text, point_box, point_text, points_text, quarter_text, rotation_text, sample_text, setting_text, shade_text, square_text, stroke_text, svg_text, title_text, turn_text, view_text, way_text, words_text};
+ghost use Rattle.hsr_svg.specs.Spelling.{anchor_word, area_text, arrow_text, element_text, filled_text, ground_text, head_text, label_colour, label_size, label_weight, labels_text, line_colour, line_dashes, line_text, line_width, marker_text, outline_text, place_text, point_box, point_text, points_text, quarter_text, rotation_text, sample_text, setting_text, shade_text, square_text, stroke_text, svg_text, title_text, turn_text, view_text, way_text, words_text};
 ghost use Rattle.hsr_svg.specs.Style.{looks};
 
 use crate::elements::{Anchor, Area, Element, Label, Line, Reading, Spot, Way};
@@ -255,20 +255,6 @@ fn put_line(text: &mut Vec<u8>, line: Line, way: Way) -> Result<(), NoMemory>
 
 // ---- marks
 
-/// Puts the mark of a send last.
-#[tactic(auto, unfolding(crate::specs::Spelling::square_text))]
-fn put_square(text: &mut Vec<u8>, x: u64, y: u64) -> Result<(), NoMemory>
-    ensures { OnOk result (text.new.items ≡ text.old.items ++ square_text x y) }
-{
-    put(text, "<rect")?;
-    put_length(text, Attribute::X, x)?;
-    put_length(text, Attribute::Y, y)?;
-    put_attribute(text, Attribute::Width, "8")?;
-    put_attribute(text, Attribute::Height, "8")?;
-    put_attribute(text, Attribute::Fill, "#111")?;
-    put(text, "/>\n")
-}
-
 /// Puts where something lies last, and how wide and high it is.
 #[tactic(auto, unfolding(crate::specs::Spelling::area_text))]
 fn put_area(text: &mut Vec<u8>, area: Area) -> Result<(), NoMemory>
@@ -280,6 +266,31 @@ fn put_area(text: &mut Vec<u8>, area: Area) -> Result<(), NoMemory>
     put_length(text, Attribute::Height, area.height)
 }
 
+/// Puts an area of a colour last, and the end of its element.
+#[tactic(auto, unfolding(crate::specs::Spelling::filled_text))]
+fn put_filled(text: &mut Vec<u8>, area: Area, colour: &str) -> Result<(), NoMemory>
+    ensures { OnOk result (text.new.items ≡ text.old.items ++ filled_text area colour.now) }
+{
+    put_area(text, area)?;
+    put_attribute(text, Attribute::Fill, colour)?;
+    put(text, "/>\n")
+}
+
+/// Puts the mark of a send last.
+#[tactic(auto, unfolding(crate::specs::Spelling::square_text))]
+fn put_square(text: &mut Vec<u8>, x: u64, y: u64) -> Result<(), NoMemory>
+    ensures { OnOk result (text.new.items ≡ text.old.items ++ square_text x y) }
+{
+    let area = Area {
+        x,
+        y,
+        width: 8,
+        height: 8,
+    };
+    put(text, "<rect")?;
+    put_filled(text, area, "#111")
+}
+
 /// Puts the time in which a link is down last.
 #[tactic(auto, unfolding(crate::specs::Spelling::shade_text))]
 fn put_shade(text: &mut Vec<u8>, area: Area) -> Result<(), NoMemory>
@@ -287,9 +298,7 @@ fn put_shade(text: &mut Vec<u8>, area: Area) -> Result<(), NoMemory>
 {
     put(text, "<rect")?;
     put_attribute(text, Attribute::Class, "down")?;
-    put_area(text, area)?;
-    put_attribute(text, Attribute::Fill, "#e3e3e3")?;
-    put(text, "/>\n")
+    put_filled(text, area, "#e3e3e3")
 }
 
 /// Puts where texts and marks on a white ground begin last.

@@ -25,26 +25,55 @@ use Rattle.hsr_node.specs.declared.place.Place.{Place}
 use Rattle.hsr_node.specs.declared.place.Place.TheVariants.{Danh, RedBox, QuadBox, Station}
 use Rattle.hsr_table_demand.specs.Read.{heard_in, stations_of}
 
--- an entry lets hear one station at most, at its moment
-abbrev IsOne : ℕ → List (List ℕ × ℕ) → Type 0
-IsOne at xs = (xs ≡ []) ⊎ ((mac : List ℕ) × (xs ≡ (mac, at) ∷ []))
+-- ---- one heard at most
 
-one_source : (own : List ℕ) (at : ℕ) (seen : Result Seen FrameFault) → IsOne at (source_in own at seen)
+-- one is heard at most, at this moment
+abbrev pub IsOne : (X : Type 0) → (X → ℕ) → ℕ → List X → Type 0
+IsOne X moment at xs = (xs ≡ []) ⊎ ((x : X) × (xs ≡ x ∷ []) × (moment x ≡ at))
+
+turned : (X : Type 0) (moment : X → ℕ) (at : ℕ) (xs : List X) → IsOne X moment at xs → reverse xs ≡ xs
+turned X moment at xs one =
+    let P : List X → Type 0 = λ ys. reverse ys ≡ ys in
+    ⊎_elim (λ none. subst P (sym none) refl) (λ some. subst P (sym some.1) refl) one
+
+-- it is heard behind all that was
+pub one_folded : (S X : Type 0) (moment : X → ℕ) (at : ℕ) (hears : S → X → S) (first heard : S) (xs old : List X) → IsOne X moment at xs → heard ≡ fold hears first (reverse old)
+    → fold hears heard xs ≡ fold hears first (reverse (xs ++ old))
+one_folded S X moment at hears first heard xs old one is =
+    ap (λ (s : S). fold hears s xs) is
+    ∙ (sym (fold-append hears first (reverse old) xs)
+    ∙ ap (fold hears first) (ap (λ ys. reverse old ++ ys) (sym (turned X moment at xs one)) ∙ sym (reverse-append xs old)))
+
+-- nothing was heard after a moment at or after its own
+pub one_last : (S X : Type 0) (moment : X → ℕ) (m at : ℕ) (hears : S → X → S) (last : S → ℕ) (heard : S) (xs : List X) → ((s : S) (x : X) → last (hears s x) ≡ moment x)
+    → IsOne X moment at xs → last heard ≤ m → m ≤ at → last (fold hears heard xs) ≤ at
+one_last S X moment m at hears last heard xs is one before later =
+    let P : List X → Type 0 = λ ys. last (fold hears heard ys) ≤ at in
+    ⊎_elim (λ none. subst P (sym none) (omega (arith, before, later)))
+    (λ some. subst P (sym some.1) (let so = is heard some.0 in let same = some.2 in omega (arith, so, same))) one
+
+-- ---- stations
+
+-- an entry lets hear one station at most, at its moment
+abbrev IsOneStation : ℕ → List (List ℕ × ℕ) → Type 0
+IsOneStation at xs = IsOne (List ℕ × ℕ) (λ h. h.1) at xs
+
+one_source : (own : List ℕ) (at : ℕ) (seen : Result Seen FrameFault) → IsOneStation at (source_in own at seen)
 one_source own at (Err fault) = inl refl
 one_source own at (Ok (Tagged frame)) = inl refl
 one_source own at (Ok (Plain frame)) = by_own (is_same_address frame.src own)
   where
-    by_own : (b : Bool) → IsOne at (cond b [] ((frame.src, at) ∷ []))
+    by_own : (b : Bool) → IsOneStation at (cond b [] ((frame.src, at) ∷ []))
     by_own true = inl refl
-    by_own false = inr (frame.src, refl)
+    by_own false = inr ((frame.src, at), refl, refl)
 
-one_at : (o : Option BoxPort) (own : List ℕ) (at : ℕ) (seen : Result Seen FrameFault) → IsOne at (source_at o own at seen)
+one_at : (o : Option BoxPort) (own : List ℕ) (at : ℕ) (seen : Result Seen FrameFault) → IsOneStation at (source_at o own at seen)
 one_at None own at seen = inl refl
 one_at (Some box.A) own at seen = inl refl
 one_at (Some box.B) own at seen = inl refl
 one_at (Some box.I) own at seen = one_source own at seen
 
-one_heard : (place : Place) (at : ℕ) (event : Event) → IsOne at (heard_from place at event)
+one_heard : (place : Place) (at : ℕ) (event : Event) → IsOneStation at (heard_from place at event)
 one_heard (RedBox mac mode) at (Arrive port copy) = one_at (box_port port) mac at (classified copy.octets)
 one_heard (RedBox mac mode) at (Send from dst vlan ethertype payload) = inl refl
 one_heard (RedBox mac mode) at (Supervise about) = inl refl
@@ -53,21 +82,11 @@ one_heard (Danh mac mode) at event = inl refl
 one_heard QuadBox at event = inl refl
 one_heard (Station macs) at event = inl refl
 
-turned : (at : ℕ) (xs : List (List ℕ × ℕ)) → IsOne at xs → reverse xs ≡ xs
-turned at xs one =
-    let P : List (List ℕ × ℕ) → Type 0 = λ ys. reverse ys ≡ ys in
-    ⊎_elim (λ none. subst P (sym none) refl) (λ some. subst P (sym some.1) refl) one
-
 pub folded : (place : Place) (past : List Entry) → stations_of place past ≡ fold learned no_proxies (reverse (heard place past))
 folded place [] = refl
 folded place (x ∷ past) =
     let at = now (x ∷ past) in
-    let xs = heard_from place at x.event in
-    ap (λ (s : Proxies). fold learned s xs) (folded place past)
-    ∙ (sym (fold-append learned no_proxies (reverse (heard place past)) xs)
-    ∙ ap (fold learned no_proxies)
-    (ap (λ ys. reverse (heard place past) ++ ys) (sym (turned at xs (one_heard place at x.event)))
-    ∙ sym (reverse-append xs (heard place past))))
+    one_folded Proxies (List ℕ × ℕ) (λ h. h.1) at learned no_proxies (stations_of place past) (heard_from place at x.event) (heard place past) (one_heard place at x.event) (folded place past)
 
 -- what is known after an entry is what the past knows at it
 pub known_same : (place : Place) (x : Entry) (past : List Entry) → is_known (now (x ∷ past)) (stations_of place (x ∷ past)).heard ≡ knows place past (now (x ∷ past)) x.event
@@ -82,8 +101,7 @@ known_same place x past =
 -- nothing was heard after a moment at or after its own
 pub heard_last : (place : Place) (m at : ℕ) (event : Event) (stations : Proxies) → stations.last ≤ m → m ≤ at → (heard_in place at event stations).last ≤ at
 heard_last place m at event stations before later =
-    let P : List (List ℕ × ℕ) → Type 0 = λ xs. (fold learned stations xs).last ≤ at in
-    ⊎_elim (λ none. subst P (sym none) (omega (arith, before, later))) (λ some. subst P (sym some.1) (omega arith)) (one_heard place at event)
+    one_last Proxies (List ℕ × ℕ) (λ h. h.1) m at learned (λ s. s.last) stations (heard_from place at event) (λ s h. refl) (one_heard place at event) before later
 
 pub stations_last : (place : Place) (past : List Entry) → (stations_of place past).last ≤ now past
 stations_last place [] = omega arith

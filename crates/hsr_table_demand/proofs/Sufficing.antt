@@ -16,7 +16,7 @@ use Rattle.hsr_run_laws.specs.Run.{Run, owner_of, past_of, record_of}
 use Rattle.hsr_run_laws.proofs.Records.{each_so, notes_more}
 use Rattle.hsr_table_demand.specs.Needs.{AreUpTo, IsLatest, IsJustEnough, IsMet, IsMost, IsWanted, IsYoung, Needs, NothingExpired, is_unexpired}
 use Rattle.hsr_table_demand.specs.declared.most.Needed.{Needed}
-use Rattle.hsr_table_demand.proofs.Places.{from_each, no_entry}
+use Rattle.hsr_finished_run.proofs.Places.{from_each, no_entry}
 
 -- ---- moments
 

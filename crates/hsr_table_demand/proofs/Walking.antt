@@ -27,7 +27,7 @@ use Rattle.hsr_table_demand.specs.declared.log.Log.{Log}
 use Rattle.hsr_table_demand.specs.declared.most.Needed.{Needed}
 use Rattle.hsr_table_demand.proofs.Latest.{reach_latest, reached}
 use Rattle.hsr_table_demand.proofs.Logging.{has_room, is_aged, log_more, needs_same}
-use Rattle.hsr_table_demand.proofs.Places.{each_from, here_is, no_entry, past_length, past_more, past_with}
+use Rattle.hsr_finished_run.proofs.Places.{each_from, here_is, no_entry, past_length, past_more, past_with}
 
 -- ---- one entry
 

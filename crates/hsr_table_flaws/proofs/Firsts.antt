@@ -6,7 +6,7 @@ use Rattle.hsr_node.specs.Record.{now}
 use Rattle.hsr_node.specs.declared.entry.Entry.{Entry}
 use Rattle.hsr_run_laws.specs.Premises.{KnowsOwn, NothingForgotten, NothingMistaken, Remembers}
 use Rattle.hsr_run_laws.specs.Run.{Run, owner_of, place_of, record_of}
-use Rattle.hsr_table_demand.proofs.Places.{each_from, here_is, no_entry, past_more, past_with}
+use Rattle.hsr_finished_run.proofs.Places.{each_from, here_is, no_entry, past_more, past_with}
 use Rattle.hsr_table_flaws.specs.Flaws.{ClearBelow, IsFirstAt, IsFirstNot, IsFirstPlace, IsFirstPlaceOf, IsInTimeAt, KnowsOwnAt, NoneBelow, RemembersAt, Test, first_after, test_at}
 use Rattle.hsr_table_flaws.specs.Looked.{IsLogOf, IsLoggedAfter, came_in, forgets_by, forgets_of, is_late_by, lates_of, mistakes_by, mistakes_of, moment_of, read_by}
 use Rattle.hsr_table_flaws.specs.declared.log.Log.{Log}

@@ -3,7 +3,8 @@
 --     IsInTimeAt                nothing is numbered late there
 --     IsFirstNot                the first place where such a fact fails
 --     IsFirstFlaw               the first flaw of a run, or none
-use Rattle.std.specs.Prelude.{ℕ, ◌+◌, ◌<◌, ◌≡◌, Bool, true, false, List, ◌∷◌, length, reverse, take, slice_index_or, Option, Some, None}
+pub use Rattle.hsr_finished_run.specs.Places.{HoldsAt}
+use Rattle.std.specs.Prelude.{ℕ, ◌+◌, ◌<◌, ◌≡◌, Bool, true, false, List, ◌∷◌, length, reverse, take, Option, Some, None}
 use Rattle.hsr_node.specs.Record.{Owner, now}
 use Rattle.hsr_node.specs.declared.entry.Entry.{Entry}
 use Rattle.hsr_run_laws.specs.Premises.{KnowsOwn, NothingForgotten, NothingMistaken, Remembers}
@@ -12,10 +13,6 @@ use Rattle.hsr_network_laws.specs.Late.{NothingLate, is_numbered_late}
 use Rattle.hsr_table_flaws.specs.Looked.{forgets_of, lates_of, mistakes_of}
 use Rattle.hsr_table_flaws.specs.declared.flaw.Flaw.{Flaw}
 use Rattle.hsr_table_flaws.specs.declared.flaw.Flaw.TheVariants.{Forgot, Late, Mistaken}
-
--- P of the entry at a place of a record, and of its past
-abbrev pub HoldsAt : (Entry → List Entry → Type 0) → List Entry → ℕ → Type 0
-HoldsAt P xs i = (d : Entry) → P (slice_index_or xs i d) (reverse (take i xs))
 
 -- nothing that the arrival at a place of a node's record needs is forgotten
 abbrev pub RemembersAt : Run → ℕ → ℕ → Type 0

@@ -25,7 +25,8 @@ use Rattle.hsr_topology.specs.Wired.{IsJoin, IsWired}
 use Rattle.hsr_topology.specs.declared.end.End.{End}
 use Rattle.hsr_transcript.specs.Replay.{records_from}
 use Rattle.hsr_transcript.proofs.Numbered.{many_from, places_from, record_from}
-use Rattle.hsr_transcript.proofs.Unlike.{each_at, none_came}
+use Rattle.hsr_finished_run.proofs.Places.{from_each}
+use Rattle.hsr_transcript.proofs.Unlike.{none_came}
 
 -- ---- where a link leads, it is used
 
@@ -56,7 +57,7 @@ linked_by links k (Arrive port copy) h = ⊎_elim (λ is. is) (λ none. other (a
 are_linked : (run : Run) (k : ℕ) → IsWired run.places run.links → IsClosed run → k < length run.places → AreLinked run.links k (record_of run k) (length (record_of run k))
 are_linked run k wired closed below i d inside = linked_by run.links k (get_or (record_of run k) i d).event (λ port. ⊎_elim
     (λ link. inl (used run.places run.links link.link link.dir (record { node = k; port = port }) (recursion_from_All (IsJoin run.places) run.links wired.joined) link.below link.ends))
-    (λ none. inr (each_at (λ x past. copy_at port x.event ≡ None) (record_of run k) i d inside (none_came port (past_of run k) none)))
+    (λ none. inr (from_each (λ x past. copy_at port x.event ≡ None) (record_of run k) (none_came port (past_of run k) none) i inside d))
     (closed.linked k port below))
 
 -- ---- all

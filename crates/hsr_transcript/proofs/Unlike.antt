@@ -1,32 +1,17 @@
 -- No entry of a legal record is unlike what its past answers.
-use Rattle.std.proofs.Common.{◌≡◌, ℕ, ◌+◌, ◌<◌, List, [], ◌∷◌, ◌++◌, length, take, drop, reverse, get_or, Option, Some, None, Ok, sym, ap, ◌∙◌, subst, subst₂, arith, refl}
+use Rattle.std.proofs.Common.{◌≡◌, ℕ, ◌+◌, ◌<◌, List, [], ◌∷◌, length, take, reverse, get_or, Option, Some, None, Ok, ◌∙◌, subst, subst₂, arith, refl}
 use Rattle.std.specs.List.{cons_option}
-use Rattle.std.proofs.lemmas.List.{get_or_default, reverse-append, take-append-drop, take_more}
+use Rattle.std.proofs.lemmas.List.{get_or_default}
 use Rattle.hsr_node.specs.Flow.{arrivals, copy_at}
 use Rattle.hsr_node.specs.Kept.{answer_to}
 use Rattle.hsr_node.specs.Record.{Each, IsLegal, Owner, answer, now}
 use Rattle.hsr_node.specs.declared.entry.Entry.{Entry}
 use Rattle.hsr_node.specs.declared.place.Place.{Place}
 use Rattle.hsr_node.specs.declared.place.Place.TheVariants.{QuadBox}
+use Rattle.hsr_finished_run.proofs.Places.{from_each}
 use Rattle.hsr_transcript.specs.Replay.{IsFirstUnlike, IsUnlike, front_of}
 
--- ---- an entry and its past
-
-each_behind : (P : Entry → List Entry → Type 0) (newer past : List Entry) → Each P (newer ++ past) → Each P past
-each_behind P [] past each = each
-each_behind P (x ∷ newer) past each = each_behind P newer past each.1
-
--- the newest first: what came later, the entry, and its past
-turned : (entries : List Entry) (i : ℕ) (d : Entry) → i < length entries → reverse entries ≡ reverse (drop (i + 1) entries) ++ get_or entries i d ∷ reverse (take i entries)
-turned entries i d below =
-    ap reverse (sym (take-append-drop (i + 1) entries))
-    ∙ reverse-append (take (i + 1) entries) (drop (i + 1) entries)
-    ∙ ap (λ xs. reverse (drop (i + 1) entries) ++ xs) (ap reverse (take_more entries i d below) ∙ reverse-append (take i entries) (get_or entries i d ∷ []))
-
-pub each_at : (P : Entry → List Entry → Type 0) (entries : List Entry) (i : ℕ) (d : Entry) → i < length entries → Each P (reverse entries) → P (get_or entries i d) (reverse (take i entries))
-each_at P entries i d below each =
-    let Q : List Entry → Type 0 = Each P in
-    (each_behind P (reverse (drop (i + 1) entries)) (get_or entries i d ∷ reverse (take i entries)) (subst Q (turned entries i d below) each)).0
+-- ---- arrivals
 
 pub none_behind : {X : Type 0} (o : Option X) (xs : List X) → cons_option o xs ≡ [] → (o ≡ None) × (xs ≡ [])
 none_behind None xs h = (refl, h)
@@ -42,7 +27,7 @@ none_came port (x ∷ past) none = let parts = none_behind (copy_at port x.event
 legal_at : (capacity : ℕ) (owner : Owner) (entries : List Entry) (i : ℕ) (d : Entry) → i < length entries → IsLegal capacity owner (reverse entries)
     → answer capacity owner (reverse (take i entries)) (now (get_or entries i d ∷ reverse (take i entries))) (get_or entries i d).event ≡ Ok (get_or entries i d).outcome
 unfolding IsLegal
-legal_at capacity owner entries i d below legal = each_at (λ x past. answer capacity owner past (now (x ∷ past)) x.event ≡ Ok x.outcome) entries i d below legal
+legal_at capacity owner entries i d below legal = from_each (λ x past. answer capacity owner past (now (x ∷ past)) x.event ≡ Ok x.outcome) entries legal i below d
 
 not_unlike : (capacity node : ℕ) (place : Place) (entries : List Entry) (first line : ℕ) → IsLegal capacity (record { number = node; place = place }) (reverse entries) → ¬ IsUnlike capacity node place entries first line
 not_unlike capacity node place entries first line legal u =

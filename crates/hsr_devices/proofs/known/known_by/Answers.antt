@@ -5,7 +5,7 @@ use Rattle.hsr_tables.specs.Nodes.{Nodes, heard as node_heard}
 use Rattle.hsr_tables.specs.Proxies.{Proxies}
 use Rattle.hsr_table_demand.specs.Read.{heard_in, stations_of}
 use Rattle.hsr_table_demand.proofs.Hearing.{stations_last}
-use Rattle.hsr_table_demand.proofs.Places.{past_more}
+use Rattle.hsr_finished_run.proofs.Places.{past_more}
 use Rattle.hsr_node.specs.Record.{hearings_from, now, rows}
 use Rattle.hsr_node.specs.declared.entry.Entry.{Entry}
 use Rattle.hsr_node.specs.declared.place.Place.{Place}
