@@ -13,7 +13,7 @@ WIDTH = 2400
 # two rings that two QuadBoxes join, with a RedBox and its Station: 16 nodes; each ring loses a link, and then a node goes off
 JOINED = """until_us = 4000000
 moves = "{moves}"
-[rings]
+{hop}[rings]
 process = ["mu1", "mu2", "qb1", "prot1", "rb1", "mu3", "qb2"]
 station = ["ied1", "qb1", "ied2", "ied3", "qb2", "gw", "ied4", "ied5", "ied6", "ied7"]
 [redbox]
@@ -78,7 +78,8 @@ def try_picture(setting, name, scenario, *choice):
 
 def try_joined(setting, moves, since, until):
     """Draws a span of a run of joined rings."""
-    _, scenario, _ = run(setting, "hsr_plan", [], JOINED.format(moves=moves).encode())
+    hop = "hop_us = 10\n" if moves == "hops" else ""
+    _, scenario, _ = run(setting, "hsr_plan", [], JOINED.format(moves=moves, hop=hop).encode())
     name = f"joined-{moves.replace(' ', '-')}-{since}"
     return try_picture(setting, name, scenario, "--from", str(since), "--until", str(until))
 
@@ -154,4 +155,4 @@ def jobs(setting):
     drained = [Job(try_joined, (f"each {what} drains", moment, moment)) for what in ("send", "moment") for moment in (1000000, 3000000)]
     spans = [(1000000, 1000400), (2000000, 2000030), (2000030, 2000090), (3000000, 3000300)]
     downs = [Job(try_downs, (), 2), Job(try_offs, (), 2), Job(try_told, (), 2)]
-    return rings + drained + downs + [Job(try_joined, ("hop_us = 10", *span)) for span in spans]
+    return rings + drained + downs + [Job(try_joined, ("hops", *span)) for span in spans]

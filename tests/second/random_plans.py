@@ -92,13 +92,21 @@ def events_of(chance, rings, redboxes, until):
     return events
 
 
+def moving_of(chance):
+    """How copies move. Hops are told by two keys or by one; few are told wrong."""
+    hop = chance.choice([1, chance.randint(1, 1500)])
+    if chance.random() < 0.03:
+        return chance.choice([{"moves": "hops"}, {"hop_us": hop}, {"moves": "hops", "hop_us": 0}, {"moves": f"hop_us = {hop}", "hop_us": hop}])
+    return chance.choice([{"moves": "each send drains"}, {"moves": "each moment drains"}, {"moves": "hops", "hop_us": hop}, {"moves": f"hop_us = {hop}"}])
+
+
 def random_plan(chance):
     rings = names_of(chance)
     alone = [name for ring in rings for name in ring if sum(name in other for other in rings) == 1]
     boxes = chance.sample(alone, min(len(alone), chance.choice([0, 1, 1, 2])))
     redboxes = {box: [f"s-{box}-{k}" for k in range(chance.choice([1, 2, 3, 16]))] for box in boxes}
     senders = [*alone, *(name for names in redboxes.values() for name in names)]
-    said = {"title": "random", "until_us": chance.randint(1, 10000), "moves": chance.choice(["each send drains", "each moment drains", "hop_us = 1", f"hop_us = {chance.randint(1, 1500)}"])}
+    said = {"title": "random", "until_us": chance.randint(1, 10000), **moving_of(chance)}
     said |= {"ring": rings[0]} if len(rings) == 1 else {}
     said["life_ms"] = chance.choice([0, 1, 1, 2, 5])
     if chance.random() < 0.3:
@@ -145,6 +153,12 @@ def text(said):
 # ---- what a plan means
 
 
+def hop_of(plan):
+    """How long a hop takes, or None where copies don't move by hops."""
+    moves = plan.get("moves", "")
+    return plan.get("hop_us") if moves == "hops" else int(moves.split()[-1]) if moves.startswith("hop_us") else None
+
+
 class Meaning:
     def __init__(self, plan):
         self.plan = plan
@@ -179,6 +193,7 @@ class Meaning:
             yield "no network"
         given = self.plan.get("address", {})
         yield from (f"the address of {name} is another's:" for name in given if any(other != name and self.mac(other) == given[name] for other in known))
+        yield from self.reasons_of_moves()
         yield from self.reasons_of_events()
         for stream in self.plan.get("stream", []):
             target = stream["to"]
@@ -202,6 +217,14 @@ class Meaning:
             yield "bad value of size:"
         elif stream["type"] in SHORTEST and any(SHORTEST[stream["type"]](name) > stream.get("size", 1500) for name in self.senders(stream)):
             yield "a size below the shortest payload of this type:"
+
+    def reasons_of_moves(self):
+        """Why it isn't told how copies move: `hop_us` stands beside "hops", and there alone."""
+        moves, hop = self.plan.get("moves", ""), self.plan.get("hop_us")
+        if moves == "hops" and not hop:
+            yield "missing word hop_us:" if hop is None else "bad value of hop_us:"
+        if moves != "hops" and hop is not None:
+            yield "hop_us in moves and beside it:" if hop_of(self.plan) else "this changes nothing:"
 
     def reasons_of_events(self):
         """Why an event may change nothing: what comes last before it, of those about its link or node, doesn't cut it or put it off."""
@@ -321,7 +344,7 @@ class Hops:
     """A scenario that moves copies by hops, played step by step; a step that stands where it may not is what is wrong."""
 
     def __init__(self, plan, scenario, table):
-        self.meaning, self.hop = Meaning(plan), int(plan["moves"].split()[-1])
+        self.meaning, self.hop = Meaning(plan), hop_of(plan)
         self.world, self.wanted, self.abouts = model.World(scenario, table), wanted_deeds(self.meaning), []
 
     def waiting(self):
@@ -390,7 +413,7 @@ def check(plan, scenario, table):
     meaning = Meaning(plan)
     if [tuple(link["ends"]) for link in scenario["link"]] != list(meaning.ends()):
         return "links"
-    if plan.get("moves", "").startswith("hop_us"):
+    if hop_of(plan):
         return check_hops(plan, scenario, table)
     world, wanted = model.World(scenario, TABLES["large"]), meaning.steps()
     abouts, last, each_send = [], None, plan.get("moves", "each send drains") == "each send drains"
@@ -460,7 +483,7 @@ def played(scenario, table):
 def faulty(plan, table, ended):
     """The reason that a fault's line tells, and what is wrong with it, or None."""
     reasons = [*Meaning(plan).reasons()]
-    if table == "small" and plan["moves"].startswith("hop_us"):
+    if table == "small" and hop_of(plan):
         reasons.append("copies are still on their way after ")
     line = ended.stderr
     reason = next((reason for reason in reasons if reason in line), None)
@@ -477,7 +500,8 @@ def comments(plan, scenario):
         moments += [now] * (step["do"] in ("send", "life"))
     most = max((bisect_left(moments, start + 800_000) - bisect_left(moments, start) for start in moments), default=0)
     counts = f"{len(scenario['node'])} nodes, {len(scenario['link'])} links, {len(moments)} sends, at most {most} in 800 ms"
-    return f"# {plan['title']}\n# {counts}; copies: {plan.get('moves', 'each send drains')}\n"
+    moves = f"hop_us = {hop_of(plan)}" if hop_of(plan) else plan.get("moves", "each send drains")
+    return f"# {plan['title']}\n# {counts}; copies: {moves}\n"
 
 
 def checked(scenario):
@@ -507,7 +531,7 @@ def one(seed, counts):
     else:
         wrong = told(plan, table, ended.stdout)
         counts["told"] += 1
-        counts["by hops"] += plan["moves"].startswith("hop_us")
+        counts["by hops"] += hop_of(plan) is not None
         if not wrong and seed % EACH == 0:
             wrong = swept(said, seed % 3 * 2000)
             counts["swept"] += 1

@@ -31,8 +31,8 @@ const ENDS: &str = "\
 A plan is TOML, read from standard input:
   title, ring = [names] or a table [rings] with a list of names for each (a name in two rings is a QuadBox),
   redbox = {name = [stations]}, address = {name = \"02-..\"}, mode = {name = \"N\"}, capacity, life_ms (2000, 0 for
-  none), until_us, and moves: \"each send drains\" (where it isn't there), \"each moment drains\", or \"hop_us = 10\":
-  each copy is put at once, and taken and judged so many microseconds later, in a run with the tables of --table
+  none), until_us, and moves: \"each send drains\" (where it isn't there), \"each moment drains\", or \"hops\" with
+  hop_us = 10: each copy is put at once, and taken and judged so many us later, in a run with the tables of --table
   [[stream]]  from (a name or a list), to (a name or an address), type (\"goose\", \"sv\" or a number), size, vlan,
               priority, start_us (one or a list), every_us, grow, most_us, count, until_us
   [[event]]   at_us, and one of cut = [two ends], mend = [two ends], off = name, on = name
@@ -70,7 +70,7 @@ fn table_arg<'a>(alloc: Global, tables: &'a [&'a str]) -> Arg<'a>
     Arg::new(alloc, "table")
         .long("table")
         .help(
-            "The tables of the run that will follow (large, if not said); the moves of hop_us depend on them",
+            "The tables of the run that will follow (large, if not said); the moves of hops depend on them",
         )
         // No default: so a table that is named is told from none, and `--table` with `--check` is refused.
         .value_parser(tables)

@@ -1,6 +1,8 @@
 //! Supervision payloads: those of each kind of node, and each prefix and each change of one octet of one.
 use hsr_frame::Mac;
 use hsr_supervision::{SupFault, SupKind, Supervision};
+use std::process::Abort;
+use std::test::Fail;
 
 /// A RedBox tells of a station: the first TLV, that of the RedBox, and the end.
 const PAYLOAD: [u8; 22] = [
@@ -23,7 +25,7 @@ fn prefix_has(size: usize) -> Result<bool, SupFault> {
 }
 
 #[test]
-fn every_prefix(rt: HostRuntime) {
+fn every_prefix_of_a_payload(rt: HostRuntime) {
     for size in 0..=PAYLOAD.len() {
         assert!(rt; redbox_in(&PAYLOAD[..size]) == prefix_has(size));
     }
@@ -82,19 +84,21 @@ fn supervision_payloads(rt: HostRuntime) {
     }
 }
 
-/// Whether what octets say of a station is written in them and zeros behind them.
-fn is_written_again(octets: &[u8]) -> bool {
+/// Checks that what octets say of a station is written in them and zeros behind them.
+fn check_written_again(rt: &impl Abort, octets: &[u8]) -> Result<(), Fail> {
     let Ok(said) = Supervision::read(octets) else {
-        return false;
+        return Err("no payload".into());
     };
     let written = said.write();
-    match written.as_slice().strip_prefix(octets) {
-        Some(rest) => rest.len() == 24 && rest.iter().all(|octet| *octet == 0),
-        None => false,
-    }
+    let Some(rest) = written.as_slice().strip_prefix(octets) else {
+        return Err("another front".into());
+    };
+    assert!(rt; rest.len() == 24);
+    assert!(rt; rest.iter().all(|octet| *octet == 0));
+    Ok(())
 }
 
 #[test]
-fn supervision_of_a_redbox(rt: HostRuntime) {
-    assert!(rt; is_written_again(&PAYLOAD));
+fn supervision_of_a_redbox_is_written_again(rt: HostRuntime) -> Result<(), Fail> {
+    check_written_again(&rt, &PAYLOAD)
 }

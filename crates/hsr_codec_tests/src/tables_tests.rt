@@ -15,22 +15,22 @@ fn learn(rt: &impl Abort, proxies: &mut ProxyTable, last: u8) {
     proxies.learn(station(last), at);
 }
 
-/// Whether a table that learned of 65 stations knows all but the first, the latest of them first.
-fn knows_latest(rt: &impl Abort, proxies: &ProxyTable) -> bool {
+/// Checks that a table that learned of 65 stations knows all but the first, the latest of them first.
+fn check_latest(rt: &impl Abort, proxies: &ProxyTable) {
     assert!(rt; proxies.last() <= 64);
+    assert!(rt; !proxies.knows(station(0), 64));
+    assert!(rt; proxies.knows(station(1), 64));
     let list = proxies.list(64);
-    !proxies.knows(station(0), 64)
-        && proxies.knows(station(1), 64)
-        && list.len() == 64
-        && list.first() == Some(&(station(64), 64))
+    assert!(rt; list.len() == 64);
+    assert!(rt; list.first() == Some(&(station(64), 64)));
 }
 
 /// The station that was heard longest ago is dropped where there is no room. No network has that many stations behind one RedBox.
 #[test]
-fn tables_by_age(rt: HostRuntime) {
+fn oldest_station_is_given_up(rt: HostRuntime) {
     let mut proxies = ProxyTable::new();
     for last in 0..65 {
         learn(&rt, &mut proxies, last);
     }
-    assert!(rt; knows_latest(&rt, &proxies));
+    check_latest(&rt, &proxies);
 }

@@ -4,6 +4,8 @@ ghost use Rattle.std.specs.Prelude.{◌≤◌};
 use arrayvec::ArrayVec;
 use hsr_frame::{FrameFault, MAX_FRAME, Mac, copied};
 use hsr_tag::{EitherView, Frame, Seen, Spelled, classify, look_at};
+use std::process::Abort;
+use std::test::Fail;
 
 /// The octets of a frame's copy on path 1 with the largest number, of a payload of this size.
 fn copy(vlan: Option<u16>, size: usize) -> ArrayVec<u8, MAX_FRAME>
@@ -20,18 +22,19 @@ fn copy(vlan: Option<u16>, size: usize) -> ArrayVec<u8, MAX_FRAME>
     frame.tag(1, 65535).write()
 }
 
-/// Whether the copy without a VLAN tag has `len` octets, and this tag behind two addresses.
-fn has_tag(size: usize, len: usize, tag: [u8; 6]) -> bool
+/// Checks that the copy without a VLAN tag has `len` octets, and this tag behind two addresses.
+fn check_tag(rt: &impl Abort, size: usize, len: usize, tag: [u8; 6])
     requires { size ≤ 1500 }
 {
     let octets = copy(None, size);
-    octets.len() == len && octets.as_slice().get(12..18) == Some(tag.as_slice())
+    assert!(rt; octets.len() == len);
+    assert!(rt; octets.as_slice().get(12..18) == Some(tag.as_slice()));
 }
 
 #[test]
 fn largest_and_smallest_tags(rt: HostRuntime) {
-    assert!(rt; has_tag(0, 20, [0x89, 0x2F, 0x10, 0x06, 0xFF, 0xFF]));
-    assert!(rt; has_tag(1500, 1520, [0x89, 0x2F, 0x15, 0xE2, 0xFF, 0xFF]));
+    check_tag(&rt, 0, 20, [0x89, 0x2F, 0x10, 0x06, 0xFF, 0xFF]);
+    check_tag(&rt, 1500, 1520, [0x89, 0x2F, 0x15, 0xE2, 0xFF, 0xFF]);
     assert_eq!(rt; copy(Some(5), 1500).len(), 1524);
 }
 
@@ -104,29 +107,33 @@ fn every_change_of_one_octet(rt: HostRuntime) {
 /// The frame of the copy, before it is tagged.
 const PLAIN: [u8; 16] = [2, 0, 0, 0, 0, 2, 2, 0, 0, 0, 0, 1, 0x08, 0x00, 0xAA, 0xBB];
 
-/// Whether octets are spelled in a head of this length and the payload, where that stands.
-fn is_parted(spelled: &Spelled<'_>, head: usize) -> bool {
+/// Checks that octets are spelled in a head of this length and the payload, where that stands.
+fn check_parted(rt: &impl Abort, spelled: &Spelled<'_>, head: usize) {
     let (front, rest) = spelled.pieces();
-    front.len() == head && rest == [0xAA, 0xBB].as_slice()
+    assert!(rt; front.len() == head);
+    assert!(rt; rest == [0xAA, 0xBB].as_slice());
 }
 
-/// Whether the frame that octets spell, its copy for path 0, and the frame without its tag are parted so.
-fn are_parted(octets: &[u8]) -> bool {
+/// Checks that the frame that octets spell, its copy for path 0, and the frame without its tag are parted so.
+fn check_each_parted(rt: &impl Abort, octets: &[u8]) -> Result<(), Fail> {
     let Ok(seen) = look_at(octets) else {
-        return false;
+        return Err("no frame".into());
     };
     match &seen.frame {
         EitherView::Plain(frame) => {
-            is_parted(&frame.spell(), 14) && is_parted(&frame.tag(0, 0).spell(), 20)
+            check_parted(rt, &frame.spell(), 14);
+            check_parted(rt, &frame.tag(0, 0).spell(), 20);
         }
         EitherView::Tagged(frame) => {
-            is_parted(&frame.spell(), 20) && is_parted(&frame.untag().spell(), 14)
+            check_parted(rt, &frame.spell(), 20);
+            check_parted(rt, &frame.untag().spell(), 14);
         }
     }
+    Ok(())
 }
 
 #[test]
-fn tagged_and_untagged_where_they_stand(rt: HostRuntime) {
-    assert!(rt; are_parted(&PLAIN));
-    assert!(rt; are_parted(&COPY));
+fn tagged_and_untagged_where_they_stand(rt: HostRuntime) -> Result<(), Fail> {
+    check_each_parted(&rt, &PLAIN)?;
+    check_each_parted(&rt, &COPY)
 }

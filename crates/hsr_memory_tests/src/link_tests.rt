@@ -3,6 +3,7 @@ use crate::fixtures::carried;
 use hsr_link::{Dir, Fate, Link, LinkCell};
 use hsr_node::Carried;
 use std::alloc::Global;
+use std::process::Abort;
 use std::sync::Wait;
 use std::test::Fail;
 
@@ -14,26 +15,30 @@ fn link(alloc: Global) -> Option<Link> {
     }
 }
 
-/// Whether a link takes a copy. If allocation fails, it has no row more, and takes the copy then.
-fn puts_again(link: &mut Link, carried: Carried) -> bool {
+/// Checks that a link takes a copy. If allocation fails, it has no row more, and takes the copy then.
+fn check_put_again(rt: &impl Abort, link: &mut Link, carried: Carried) {
     match link.put(Dir::Forth, carried) {
-        Ok(fate) => fate == Fate::Queued,
+        Ok(fate) => {
+            assert!(rt; fate == Fate::Queued);
+        }
         Err((carried, _refused)) => {
-            let is_unchanged = link.rows().is_empty();
+            assert!(rt; link.rows().is_empty());
             let again = link.put(Dir::Forth, carried);
-            is_unchanged && again.is_ok_and(|fate| fate == Fate::Queued)
+            assert!(rt; again.is_ok_and(|fate| fate == Fate::Queued));
         }
     }
 }
 
 /// The same of octets that no port sent, the other way, behind one copy.
-fn injects_again(link: &mut Link, carried: Carried) -> bool {
+fn check_inject_again(rt: &impl Abort, link: &mut Link, carried: Carried) {
     match link.inject(Dir::Back, carried) {
-        Ok(fate) => fate == Fate::Queued,
+        Ok(fate) => {
+            assert!(rt; fate == Fate::Queued);
+        }
         Err((carried, _refused)) => {
-            let is_unchanged = link.rows().len() == 1;
+            assert!(rt; link.rows().len() == 1);
             let again = link.inject(Dir::Back, carried);
-            is_unchanged && again.is_ok_and(|fate| fate == Fate::Queued)
+            assert!(rt; again.is_ok_and(|fate| fate == Fate::Queued));
         }
     }
 }
@@ -42,9 +47,9 @@ fn injects_again(link: &mut Link, carried: Carried) -> bool {
 fn put_and_inject(rt: HostRuntime) -> Result<(), Fail> {
     let mut link = link(rt.alloc()).ok_or("link")?;
     let first = carried(rt.alloc()).ok_or("copy")?;
-    assert!(rt; puts_again(&mut link, first));
+    check_put_again(&rt, &mut link, first);
     let second = carried(rt.alloc()).ok_or("copy")?;
-    assert!(rt; injects_again(&mut link, second));
+    check_inject_again(&rt, &mut link, second);
     assert!(rt; link.rows().len() == 2);
     Ok(())
 }

@@ -2,6 +2,7 @@
 use crate::fixtures::{kept, send_event};
 use hsr_frame::NoMemory;
 use hsr_node::{Event, Kept, NodeCell, Pass, Receipt, StepFault};
+use std::process::Abort;
 use std::sync::Wait;
 use std::test::Fail;
 
@@ -17,11 +18,11 @@ fn receipt_again(kept: &mut Kept<4>, event: Event) -> Result<Receipt, Fail> {
     }
 }
 
-/// Whether a worker keeps a receipt. If allocation fails, it comes back and is kept then.
-fn keeps_again(pass: &mut Pass, receipt: Receipt) -> bool {
-    match pass.keep(receipt) {
-        Ok(()) => true,
-        Err((receipt, NoMemory)) => pass.receipts().is_empty() && pass.keep(receipt).is_ok(),
+/// Checks that a worker keeps a receipt. If allocation fails, it comes back and is kept then.
+fn check_keep_again(rt: &impl Abort, pass: &mut Pass, receipt: Receipt) {
+    if let Err((receipt, NoMemory)) = pass.keep(receipt) {
+        assert!(rt; pass.receipts().is_empty());
+        assert!(rt; pass.keep(receipt).is_ok());
     }
 }
 
@@ -32,22 +33,30 @@ fn step_and_receipt(rt: HostRuntime) -> Result<(), Fail> {
     let receipt = receipt_again(&mut kept, event)?;
     assert!(rt; kept.entries().len() == 1);
     let mut pass = Pass::new(rt.alloc(), 0);
-    assert!(rt; keeps_again(&mut pass, receipt));
+    check_keep_again(&rt, &mut pass, receipt);
     assert!(rt; pass.receipts().len() == 1);
     Ok(())
 }
 
-/// Whether a node under a lock takes its first step. If allocation fails, the pass hasn't grown, and the event is brought again.
-fn steps_again(rt: &impl Wait, cell: &NodeCell<4>, pass: &mut Pass, event: Event) -> bool {
+/// Checks that a node under a lock takes its first step. If allocation fails, the pass hasn't grown, and the event is brought again.
+fn check_step_again<R: Abort + Wait>(
+    rt: &R,
+    cell: &NodeCell<4>,
+    pass: &mut Pass,
+    event: Event,
+) -> Result<(), Fail> {
     match cell.step(rt, pass, 0, event) {
-        Ok(receipt) => receipt.place == 0,
-        Err((event, StepFault::NoMemory)) => {
-            let is_unchanged = pass.receipts().is_empty();
-            let again = cell.step(rt, pass, 0, event);
-            is_unchanged && again.is_ok_and(|receipt| receipt.place == 0)
+        Ok(receipt) => {
+            assert!(rt; receipt.place == 0);
         }
-        Err(_refused) => false,
+        Err((event, StepFault::NoMemory)) => {
+            assert!(rt; pass.receipts().is_empty());
+            let again = cell.step(rt, pass, 0, event);
+            assert!(rt; again.is_ok_and(|receipt| receipt.place == 0));
+        }
+        Err(_refused) => return Err("refused".into()),
     }
+    Ok(())
 }
 
 #[test]
@@ -55,7 +64,7 @@ fn step_under_a_lock(rt: HostRuntime) -> Result<(), Fail> {
     let event = send_event(rt.alloc()).ok_or("event")?;
     let cell = NodeCell::new(kept(rt.alloc()).ok_or("node")?);
     let mut pass = Pass::new(rt.alloc(), 0);
-    assert!(rt; steps_again(&rt, &cell, &mut pass, event));
+    check_step_again(&rt, &cell, &mut pass, event)?;
     assert!(rt; cell.into_kept().entries().len() == 1);
     Ok(())
 }

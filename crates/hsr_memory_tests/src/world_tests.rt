@@ -139,8 +139,11 @@ fn run_on(world: &mut World<4>, steps: &[Step]) -> Result<(), Fail> {
     let Err((done, fault)) = world.run(steps) else {
         return Ok(());
     };
-    if fault != WorldFault::NoMemory || entries_of(world, 0) != done {
+    if fault != WorldFault::NoMemory {
         return Err("other than refused".into());
+    }
+    if entries_of(world, 0) != done {
+        return Err("another place".into());
     }
     let rest = steps.get(done..).ok_or("rest")?;
     Ok(world.run(rest).ok().ok_or("refused twice")?)
@@ -203,12 +206,13 @@ fn drain_on(world: &mut World<4>) -> Result<(), Fail> {
     };
     let done = drained(world) as u64;
     let rest = world.drain(18).ok().ok_or("refused twice")?;
-    let is_refused = fault == DrainFault::World(WorldFault::NoMemory);
-    if is_refused && rest.checked_add(done) == Some(18) {
-        Ok(())
-    } else {
-        Err("other than refused".into())
+    if fault != DrainFault::World(WorldFault::NoMemory) {
+        return Err("other than refused".into());
     }
+    if rest.checked_add(done) != Some(18) {
+        return Err("another number of steps".into());
+    }
+    Ok(())
 }
 
 /// Of a drain that stops the steps before the refusal stand, and it can be gone on with.
@@ -226,10 +230,15 @@ fn closes(world: World<4>) -> Result<usize, Fail> {
     let before = size(&world);
     match world.close() {
         Ok(closed) => Ok(closed.plan().len()),
-        Err((world, CheckFault::NoMemory)) if size(&world) == before => match world.close() {
-            Ok(closed) => Ok(closed.plan().len()),
-            Err(_refused) => Err("refused twice".into()),
-        },
+        Err((world, CheckFault::NoMemory)) => {
+            if size(&world) != before {
+                return Err("changed by a refusal".into());
+            }
+            match world.close() {
+                Ok(closed) => Ok(closed.plan().len()),
+                Err(_refused) => Err("refused twice".into()),
+            }
+        }
         Err(_other) => Err("not closed".into()),
     }
 }

@@ -10,7 +10,14 @@ pub(crate) struct Misplaced {
 }
 
 /// The keys that stand at the top of a plan, and are no tables.
-const TOP_KEYS: [Key; 5] = [Key::Title, Key::Capacity, Key::Life, Key::Until, Key::Moves];
+const TOP_KEYS: [Key; 6] = [
+    Key::Title,
+    Key::Capacity,
+    Key::Life,
+    Key::Until,
+    Key::Moves,
+    Key::Hop,
+];
 
 /// The key of the top that a word is.
 fn top_key_of(word: &[u8]) -> Option<Key> {

@@ -39,9 +39,11 @@ fn late(key: Key) -> &'static str {
     }
 }
 
-/// Which event changes nothing.
+/// What changes nothing.
 fn idle(key: Key) -> &'static str {
     match key {
+        Key::Hop =>
+            "this changes nothing: copies move by hops where moves is \"hops\", and only there",
         Key::On => "this changes nothing: the node isn't off then; it goes off by an earlier event",
         _ => "this changes nothing: the link isn't cut then; it is cut by an earlier event",
     }
@@ -124,6 +126,10 @@ pub(crate) fn put_refusal(line: &mut Vec<u8>, refusal: &Refusal) -> Result<(), N
         Refusal::TooLate(key) => put(line, late(*key)),
         Refusal::TooSmall(least) => put_size(line, *least),
         Refusal::Idle(key) => put(line, idle(*key)),
+        Refusal::Together(Key::Hop) => put(
+            line,
+            "hop_us in moves and beside it: one of both; beside it moves is \"hops\"",
+        ),
         Refusal::Together(_) => put(
             line,
             "ring and rings together: one of both; rings has each ring by a name of its own",

@@ -152,7 +152,7 @@ fn offset_of(source: Source<'_>, fault: &PlanFault) -> usize {
 fn keys_at(spot: Spot) -> &'static str {
     match spot {
         Spot::Top => {
-            "a plan has title, ring or rings, redbox, address, mode, capacity, life_ms, until_us, moves, stream and event"
+            "a plan has title, ring or rings, redbox, address, mode, capacity, life_ms, until_us, moves, hop_us, stream and event"
         }
         Spot::Stream(_) => {
             "a stream has from, to, type, size, vlan, priority, start_us, every_us, grow, most_us, count and until_us"
@@ -174,8 +174,9 @@ fn values_of(key: Key) -> &'static str {
         Key::Life => "0 to 1073741824 milliseconds",
         Key::Until | Key::At => "0 to 1099511627776 microseconds",
         Key::Moves => {
-            "\"each send drains\", \"each moment drains\", or \"hop_us = 10\" with 1 to 1000000 microseconds"
+            "\"each send drains\", \"each moment drains\", or \"hops\" with hop_us from 1 to 1000000 microseconds"
         }
+        Key::Hop => "1 to 1000000 microseconds",
         Key::Stream | Key::Event =>
             "tables, each below a header of its own in two brackets, as [[stream]] or [[event]]",
         Key::From => "a name, or a list of 1 to 4096 names",

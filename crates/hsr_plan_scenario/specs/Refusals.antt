@@ -9,9 +9,6 @@
 use Rattle.std.specs.Prelude.{ℕ, ◌≡◌, ◌≢◌, ◌⊎◌, ◌<◌, ◌^◌, ⊤, IsOk, List, length, Option, Result, Ok, Err}
 use Rattle.std.specs.Str.{IsUtf8}
 use Rattle.hsr_world_steps.specs.declared.step.DrainFault.{DrainFault}
-use Rattle.hsr_world_steps.specs.declared.step.DrainFault.TheVariants.{World}
-use Rattle.hsr_world_steps.specs.declared.step.WorldFault.TheVariants as world
-use Rattle.hsr_finished_run.specs.declared.disagree.CheckFault.TheVariants as closing
 use Rattle.hsr_finished_run.specs.declared.disagree.Disagree.{Disagree}
 use Rattle.hsr_ring.specs.Finishing.{IsUnfinishedBy}
 use Rattle.hsr_ring.specs.declared.finishing.Unfinished.{Unfinished}
@@ -114,7 +111,7 @@ IsStopped m why = IsUnfinishedBy entries_tried m.topology m.capacity m.steps why
 
 -- there are no nodes; or an order is refused, or a drain doesn't end
 abbrev pub IsUnplayed : Meant → Type 0
-IsUnplayed m = (length m.topology.places ≡ 0) ⊎ ((place : ℕ) × (fault : DrainFault) × (fault ≢ World world.NoMemory) × IsStopped m (Step place fault))
+IsUnplayed m = (length m.topology.places ≡ 0) ⊎ ((place : ℕ) × (fault : DrainFault) × IsStopped m (Step place fault))
 
 -- a text is no scenario; or one that isn't played
 abbrev pub IsUnplayedIf : Result Meant ScenarioFault → Type 0
@@ -127,7 +124,7 @@ IsNoScenario octets = (¬ IsUtf8 octets) ⊎ IsUnplayedIf (meaning octets)
 
 -- all orders of a scenario are obeyed, but the run that they lead to isn't closed, for this cause: something is on its way, or was injected
 abbrev pub IsLeftOpen : List ℕ → Disagree → Type 0
-IsLeftOpen octets cause = (m : Meant) × (meaning octets ≡ Ok m) × IsStopped m (Check (closing.Disagree cause))
+IsLeftOpen octets cause = (m : Meant) × (meaning octets ≡ Ok m) × IsStopped m (Check cause)
 
 -- it is known why octets are no such scenario
 abbrev pub IsWrong : List ℕ → Wrong → Type 0

@@ -1,10 +1,8 @@
 //! Whether a text is a scenario that can be played to its end, over a reader and a writer.
-ghost use Rattle.std.specs.Prelude.{◌≡◌, ◌≢◌, ◌++◌, IfErr, IfOk, IfSome, IsOk, Ok, OnOk, codes, true};
+ghost use Rattle.std.specs.Prelude.{◌≡◌, ◌++◌, IfErr, IfOk, IfSome, Ok, OnOk, codes, true};
 ghost use Rattle.std.specs.Fmt.{decimal};
 ghost use Rattle.std.specs.Io.KnownBytes.{Appends};
 ghost use Rattle.hsr_finished_run.specs.Disagree.{disagree_code};
-ghost use Rattle.hsr_world_steps.specs.declared.step.DrainFault.TheVariants.{World as InWorld};
-ghost use Rattle.hsr_world_steps.specs.declared.step.WorldFault.TheVariants.{NoMemory as NoRoom};
 ghost use Rattle.hsr_scenario.specs.Meaning.{meaning, scenario_view};
 ghost use Rattle.hsr_plan_text.specs.Words.{is_title};
 ghost use Rattle.hsr_plan_scenario.specs.Ends.{Checks, TellsOpen, TellsWhyOpen};
@@ -13,13 +11,12 @@ ghost use Rattle.hsr_plan_scenario.specs.Says.{IsPlayed, IsScenario};
 ghost use Rattle.hsr_plan_scenario.specs.declared.planning.Ending.TheVariants.{Refused};
 
 use crate::planning::{Ending, Line, complain, fail, reason, words};
-use hsr_finished_run::{CheckFault, Disagree};
+use hsr_finished_run::Disagree;
 use hsr_frame::NoMemory;
 use hsr_ring::{Unfinished, finished};
 use hsr_scenario::{Scenario, TEXT_LIMIT, What, read};
 use hsr_scenario_fault::{scenario_fault_line, told_step, words_of_check, words_of_step};
 use hsr_text::{InputFault, put_decimal, read_text};
-use hsr_world_steps::{DrainFault, WorldFault};
 use std::alloc::Global;
 use std::io::{self, Read, Write};
 
@@ -33,17 +30,6 @@ pub enum Wrong {
     Told(Line),
     /// The run that the orders lead to can't be closed.
     Open(Disagree),
-}
-
-/// The line of an order that is refused; there is none for refused room.
-fn line_of_order(alloc: Global, text: &str, place: usize, fault: &DrainFault) -> Line
-    ensures { IsOk result → fault.now ≢ InWorld NoRoom }
-{
-    // Refused room is no fault of the text, so it has no place there.
-    if matches!(fault, DrainFault::World(WorldFault::NoMemory)) {
-        return Err(NoMemory);
-    }
-    told_step(alloc, text, place, words_of_step(fault))
 }
 
 /// Plays a scenario to its end, in tables of 512 entries.
@@ -64,12 +50,12 @@ fn played(alloc: Global, text: &str, scenario: Scenario) -> Result<(), Wrong>
     match finished::<TABLE>(alloc, topology, capacity, scenario.steps.as_slice()) {
         Ok(_closed) => Ok(()),
         Err(Unfinished::Step(place, fault)) => {
-            Err(Wrong::Told(line_of_order(alloc, text, place, &fault)))
+            let why = words_of_step(&fault);
+            Err(Wrong::Told(told_step(alloc, text, place, why)))
         }
-        Err(Unfinished::Check(CheckFault::Disagree(cause))) => Err(Wrong::Open(cause)),
-        Err(Unfinished::Check(CheckFault::NoMemory) | Unfinished::Memory) => {
-            Err(Wrong::Told(Err(NoMemory)))
-        }
+        Err(Unfinished::Check(cause)) => Err(Wrong::Open(cause)),
+        // Refused room is no fault of the text, so it has no place there.
+        Err(Unfinished::Memory) => Err(Wrong::Told(Err(NoMemory))),
     }
 }
 

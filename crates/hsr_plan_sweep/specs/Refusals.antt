@@ -6,10 +6,7 @@
 --     IsUnsweepable  nothing is counted of what octets say as a plan
 use Rattle.std.specs.Prelude.{ℕ, ◌≡◌, ◌⊎◌, ◌<◌, nat_lt, Bool, true, false, ⊤, List, length, Option, Some, None, Result, Ok, Err}
 use Rattle.std.specs.Str.{IsUtf8}
-use Rattle.hsr_world_steps.specs.declared.step.DrainFault.TheVariants.{World}
-use Rattle.hsr_world_steps.specs.declared.step.WorldFault.TheVariants as world
 use Rattle.hsr_topology.specs.declared.end.End.{End}
-use Rattle.hsr_finished_run.specs.declared.disagree.CheckFault.TheVariants as check
 use Rattle.hsr_ring.specs.Finishing.{IsUnfinishedBy}
 use Rattle.hsr_ring.specs.declared.finishing.Unfinished.{Unfinished}
 use Rattle.hsr_ring.specs.declared.finishing.Unfinished.TheVariants as unfinished
@@ -32,8 +29,6 @@ use Rattle.hsr_plan_sweep.specs.declared.running.Trouble.TheVariants.{Plan as Un
 -- it isn't that an allocation failed
 abbrev pub IsKnownRun : Unfinished → Type 0
 IsKnownRun unfinished.Memory = ⊥
-IsKnownRun (unfinished.Check check.NoMemory) = ⊥
-IsKnownRun (unfinished.Step place (World world.NoMemory)) = ⊥
 IsKnownRun fault = ⊤
 
 -- with tables of 512 entries an order is refused, or a drain doesn't end, or the world that all orders lead to isn't closed

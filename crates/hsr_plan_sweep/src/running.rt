@@ -4,12 +4,10 @@ ghost use Rattle.hsr_plan_sweep.specs.Refusals.{HasNoRun, IsKnown, IsKnownRun, I
 ghost use Rattle.hsr_plan_sweep.specs.Sweep.{IsCountOf, IsCountOfMeaning, with_deed};
 
 use crate::counting::{Count, counted};
-use hsr_finished_run::CheckFault;
 use hsr_plan_scenario::{Trouble as PlanTrouble, moved};
 use hsr_plan_schedule::Meaning;
 use hsr_plan_text::{Deed, Event, Plan};
 use hsr_ring::{Unfinished, finished};
-use hsr_world_steps::{DrainFault, WorldFault};
 use std::alloc::Global;
 
 /// How many entries the tables have.
@@ -34,9 +32,7 @@ fn trouble_of(fault: Unfinished) -> Trouble
     ensures { IsKnown result → IsKnownRun fault }
 {
     match fault {
-        Unfinished::Memory
-        | Unfinished::Check(CheckFault::NoMemory)
-        | Unfinished::Step(_, DrainFault::World(WorldFault::NoMemory)) => Trouble::Memory,
+        Unfinished::Memory => Trouble::Memory,
         Unfinished::Check(_) | Unfinished::Step(_, _) => Trouble::Run(fault),
     }
 }

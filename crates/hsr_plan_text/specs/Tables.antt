@@ -22,3 +22,7 @@ moment key d = between faults 0 (2 ^ 40) key d
 -- a time between moments, not 0
 abbrev pub gap : Key → Data → Result ℕ What
 gap key d = between faults 1 (2 ^ 40) key d
+
+-- a time from a copy's put to its judgement
+abbrev pub hop : Key → Data → Result ℕ What
+hop key d = between faults 1 1000000 key d

@@ -31,7 +31,7 @@ last_number words = do
 abbrev pub is_hop : List ℕ → List ℕ → ℕ → Bool
 is_hop key sign hop = bytes_eq key (codes "hop_us") && (bytes_eq sign (codes "=") && (nat_le 1 hop && nat_le hop 1000000))
 
--- `hop_us = N`, where N is from 1 to 10^6
+-- `hop_us = N`, where N is from 1 to 10^6, as plans told it before `hop_us` was a key
 unfoldable pub hop_of : List ℕ → Option ℕ
 hop_of s = do
   key ← word_at (Some s)

@@ -24,6 +24,8 @@ pub enum Key {
     /// Written `until_us`.
     Until,
     Moves,
+    /// Written `hop_us`.
+    Hop,
     Stream,
     Event,
     From,
@@ -93,6 +95,7 @@ impl Key {
             Key::Life => "life_ms",
             Key::Until => "until_us",
             Key::Moves => "moves",
+            Key::Hop => "hop_us",
             Key::Stream => "stream",
             Key::Event => "event",
             Key::From => "from",
@@ -151,7 +154,7 @@ pub enum Refusal {
     TooLate(Key),
     /// The size is below the shortest payload that there is, which has this number of octets.
     TooSmall(usize),
-    /// An event changes nothing.
+    /// An event changes nothing, or a key of the plan.
     Idle(Key),
     /// The key stands beside another in place of which it may stand.
     Together(Key),

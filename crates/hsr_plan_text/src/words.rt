@@ -7,7 +7,7 @@ use crate::plan::{Kind, Moves};
 use hsr_text::{decimal, word};
 
 /// The most microseconds from a copy's put to its judgement.
-const HOP_LIMIT: u64 = 1_000_000;
+pub(crate) const HOP_LIMIT: u64 = 1_000_000;
 
 /// Whether a text has no control characters.
 pub(crate) fn is_title(text: &[u8]) -> bool
@@ -42,7 +42,7 @@ fn hop_of(text: &[u8]) -> Option<u64>
     }
 }
 
-/// That copies move by hops, by its words.
+/// That copies move by hops, by its words: so plans told it before `hop_us` was a key.
 fn moves_by_hops(text: &[u8]) -> Option<Moves>
     ensures { result ≡ option_map (λ hop. Hop hop) (hop_of text.now) }
 {
@@ -52,7 +52,7 @@ fn moves_by_hops(text: &[u8]) -> Option<Moves>
     }
 }
 
-/// How copies move, by its words.
+/// How copies move, by words that tell it without another key.
 pub(crate) fn moves_of(word: &str) -> Option<Moves>
     ensures { result ≡ moves_of word.now }
 {

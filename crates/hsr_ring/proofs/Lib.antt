@@ -8,3 +8,4 @@ pub mod Looked
 pub mod Stopped
 pub mod Ending
 pub mod Orders
+pub mod Halted

@@ -1,28 +1,39 @@
 //! The finished run that orders lead to.
 ghost use Rattle.std.specs.Prelude.{◌≡◌, ◌≤◌, IfErr, IfOk};
 ghost use Rattle.hsr_duptable.specs.Table.{IsTableSize};
-ghost use Rattle.hsr_ring.specs.Finishing.{IsFinishedBy, IsUnfinishedBy};
+ghost use Rattle.hsr_ring.specs.Finishing.{IsFinishedBy, IsUnfinishedBy, halted};
 ghost use Rattle.hsr_ring.specs.Playing.{Plays};
 ghost use Rattle.hsr_world_laws.specs.World.{new_world};
 
 use crate::playing::play;
 use crate::world::World;
-use hsr_finished_run::{CheckFault, Closed};
+use hsr_finished_run::{CheckFault, Closed, Disagree};
 use hsr_scenario::Order;
 use hsr_topology::Topology;
-use hsr_world_steps::DrainFault;
+use hsr_world_steps::{DrainFault, WorldFault};
 use std::alloc::Global;
 
 /// Why orders lead to no finished run.
 /// Places are counted from 0.
 #[derive(Clone, Copy, Debug, PartialEq, Eq)]
 pub enum Unfinished {
-    /// The order at this place is refused.
+    /// The order at this place is refused, and not for want of memory.
     Step(usize, DrainFault),
-    /// The world can't be closed.
-    Check(CheckFault),
-    /// Allocation failed.
+    /// The world can't be closed, for this cause.
+    Check(Disagree),
+    /// Allocation failed, wherever that was.
     Memory,
+}
+
+/// Why there is no finished run where the order at a place is refused.
+fn halted(place: usize, fault: DrainFault) -> Unfinished
+    ensures { result ≡ halted place fault }
+{
+    match fault {
+        // Want of memory is one fault, wherever it comes: no user has to look for it in the faults below.
+        DrainFault::World(WorldFault::NoMemory) => Unfinished::Memory,
+        _ => Unfinished::Step(place, fault),
+    }
 }
 
 /// The world that orders lead to.
@@ -43,7 +54,7 @@ fn played<const C: usize>(
     };
     match play(&mut world, orders) {
         Ok(()) => Ok(world),
-        Err((place, fault)) => Err(Unfinished::Step(place, fault)),
+        Err((place, fault)) => Err(halted(place, fault)),
     }
 }
 
@@ -65,6 +76,7 @@ pub fn finished<const C: usize>(
     match world.close() {
         Ok(closed) => Ok(closed),
         // The world is let go: it was made here, and nobody else has it.
-        Err((_world, fault)) => Err(Unfinished::Check(fault)),
+        Err((_world, CheckFault::Disagree(cause))) => Err(Unfinished::Check(cause)),
+        Err((_world, CheckFault::NoMemory)) => Err(Unfinished::Memory),
     }
 }

@@ -37,14 +37,14 @@ fn ages(rt: &impl Wait, alloc: Global, cell: &NodeCell<4>, worker: u16) -> bool 
     pass.receipts().is_sorted_by(|a, b| a.place < b.place)
 }
 
-/// Whether two workers could age one node at once.
-fn age_both<R: Threads + Wait + Sync>(rt: &R, alloc: Global, cell: &NodeCell<4>) -> bool {
+/// Whether each of two workers could age one node, both at once.
+fn age_both<R: Threads + Wait + Sync>(rt: &R, alloc: Global, cell: &NodeCell<4>) -> (bool, bool) {
     thread::scope(thread::scope_env(), rt, |scope| {
         let Ok(other) = scope.spawn(move || ages(rt, alloc, cell, 8)) else {
-            return false;
+            return (false, false);
         };
         let one = ages(rt, alloc, cell, 1);
-        other.join(rt) && one
+        (one, other.join(rt))
     })
 }
 
@@ -59,9 +59,12 @@ fn entries_of(kept: &Kept<4>, worker: u16) -> usize {
 #[test]
 fn one_node_stepped_by_two_threads(rt: HostRuntime) -> Result<(), Fail> {
     let cell = NodeCell::new(Kept::<4>::new(rt.alloc(), 0, danh())?);
-    assert!(rt; age_both(&rt, rt.alloc(), &cell));
+    let (one, other) = age_both(&rt, rt.alloc(), &cell);
+    assert!(rt; one);
+    assert!(rt; other);
     let kept = cell.into_kept();
-    assert!(rt; entries_of(&kept, 1) == TURNS && entries_of(&kept, 8) == TURNS);
+    assert!(rt; entries_of(&kept, 1) == TURNS);
+    assert!(rt; entries_of(&kept, 8) == TURNS);
     Ok(())
 }
 
@@ -110,14 +113,14 @@ fn asks(rt: &impl Wait, alloc: Global, cell: &LinkCell) -> bool {
     came
 }
 
-/// Whether all copies came each way between two threads.
-fn exchange<R: Threads + Wait + Sync>(rt: &R, alloc: Global, cell: &LinkCell) -> bool {
+/// Whether all copies came between two threads, back to the one and forth to the other.
+fn exchange<R: Threads + Wait + Sync>(rt: &R, alloc: Global, cell: &LinkCell) -> (bool, bool) {
     thread::scope(thread::scope_env(), rt, |scope| {
         let Ok(other) = scope.spawn(move || answers(rt, alloc, cell)) else {
-            return false;
+            return (false, false);
         };
         let one = asks(rt, alloc, cell);
-        other.join(rt) && one
+        (one, other.join(rt))
     })
 }
 
@@ -132,7 +135,9 @@ fn taken_on(link: &Link) -> usize {
 #[test]
 fn copies_between_two_threads(rt: HostRuntime) -> Result<(), Fail> {
     let cell = LinkCell::new(Link::new(rt.alloc(), 1)?);
-    assert!(rt; exchange(&rt, rt.alloc(), &cell));
+    let (back, forth) = exchange(&rt, rt.alloc(), &cell);
+    assert!(rt; back);
+    assert!(rt; forth);
     assert!(rt; taken_on(&cell.into_link()) == 2 * TURNS);
     Ok(())
 }

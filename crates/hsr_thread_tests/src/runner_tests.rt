@@ -157,7 +157,7 @@ impl Gate for Shut {
 }
 
 #[test]
-fn shut_gate(rt: HostRuntime) -> Result<(), Fail> {
+fn shut_gate_ends_a_run(rt: HostRuntime) -> Result<(), Fail> {
     let scenario = scenario(&rt, 64, REFUSED)?;
     for before in 0..3usize {
         let gate = Shut {
@@ -179,7 +179,7 @@ fn shut_gate(rt: HostRuntime) -> Result<(), Fail> {
 }
 
 #[test]
-fn shut_before_a_judgement(rt: HostRuntime) -> Result<(), Fail> {
+fn gate_shut_before_a_judgement(rt: HostRuntime) -> Result<(), Fail> {
     let scenario = scenario(&rt, 64, ROUND)?;
     let gate = Shut {
         before: 3,
@@ -227,10 +227,14 @@ fn both_ports_at_once(rt: HostRuntime) -> Result<(), Fail> {
     let gate = BothPorts {
         at: [AtomicU64::new(0), AtomicU64::new(0)],
     };
-    let told = run(&rt, rt.alloc(), &scenario, &gate);
-    assert!(rt; told.is_ok_and(|told| told.up == [1, 1] && told.lost == [0, 0, 0]));
+    let Ok(told) = run(&rt, rt.alloc(), &scenario, &gate) else {
+        return Err("no run".into());
+    };
+    assert!(rt; told.up == [1, 1]);
+    assert!(rt; told.lost == [0, 0, 0]);
     let [a, b] = &gate.at;
-    assert!(rt; a.load(Ordering::SeqCst) == 1 && b.load(Ordering::SeqCst) == 1);
+    assert!(rt; a.load(Ordering::SeqCst) == 1);
+    assert!(rt; b.load(Ordering::SeqCst) == 1);
     Ok(())
 }
 
@@ -262,7 +266,7 @@ impl Gate for InOrder {
 }
 
 #[test]
-fn gate_orders(rt: HostRuntime) -> Result<(), Fail> {
+fn arrivals_in_the_order_of_a_gate(rt: HostRuntime) -> Result<(), Fail> {
     let scenario = scenario(&rt, 64, ROUND)?;
     for held in 0..2u8 {
         let gate = InOrder {
@@ -315,12 +319,6 @@ impl Gate for CutUnderPass {
     }
 }
 
-/// Whether each node took the frame up once, and no link but the one that was cut lost a copy.
-fn survives_a_cut(told: Told) -> bool {
-    let [first, _cut, last] = told.lost;
-    told.up == [1, 1] && first == 0 && last == 0
-}
-
 #[test]
 fn cut_in_a_running_ring(rt: HostRuntime) -> Result<(), Fail> {
     let scenario = scenario(&rt, 64, CUT)?;
@@ -331,7 +329,14 @@ fn cut_in_a_running_ring(rt: HostRuntime) -> Result<(), Fail> {
             begun: AtomicU64::new(0),
             drained: AtomicU64::new(0),
         };
-        assert!(rt; run(&rt, rt.alloc(), &scenario, &gate).is_ok_and(survives_a_cut));
+        let Ok(told) = run(&rt, rt.alloc(), &scenario, &gate) else {
+            return Err("no run".into());
+        };
+        // Each node took the frame up once, and no link but the one that was cut lost a copy.
+        assert!(rt; told.up == [1, 1]);
+        let [first, _cut, last] = told.lost;
+        assert!(rt; first == 0);
+        assert!(rt; last == 0);
     }
     Ok(())
 }
@@ -366,7 +371,10 @@ fn overrun_in_a_running_ring(rt: HostRuntime) -> Result<(), Fail> {
     let gate = AllHeld {
         drained: AtomicU64::new(0),
     };
-    let told = run(&rt, rt.alloc(), &scenario, &gate);
-    assert!(rt; told.is_ok_and(|told| told.lost[0] >= 1 && told.lost[2] >= 1));
+    let Ok(told) = run(&rt, rt.alloc(), &scenario, &gate) else {
+        return Err("no run".into());
+    };
+    assert!(rt; told.lost[0] >= 1);
+    assert!(rt; told.lost[2] >= 1);
     Ok(())
 }
