@@ -47,17 +47,17 @@ module _ (run : Run) (ms : List ℕ) (sends : AreSendMoments run ms) where
   is_moment : (m : ℕ) → list_any (λ n. n == m) ms ≡ list_any (λ (s : Sent). s.moment == m) (sends_of run)
   is_moment m = sym (list_any-IsPermutation (λ n. n == m) (map moment_sent (sends_of run)) ms sends.same) ∙ any_moment m (sends_of run)
 
-  moment_of_place : (i : ℕ) → i < length ms → IsSendMoment run (slice_index ms i)
-  moment_of_place i below = sym (is_moment (slice_index ms i)) ∙ list_any_at (λ n. n == slice_index ms i) ms i 0 below (eq-eqb (slice_index ms i) (slice_index ms i) refl)
+  moment_at_index : (i : ℕ) → i < length ms → IsSendMoment run (slice_index ms i)
+  moment_at_index i below = sym (is_moment (slice_index ms i)) ∙ list_any_at (λ n. n == slice_index ms i) ms i 0 below (eq-eqb (slice_index ms i) (slice_index ms i) refl)
 
-  place_of_moment : (m : ℕ) → IsSendMoment run m → (i : ℕ) × (i < length ms) × (slice_index ms i ≡ m)
-  place_of_moment m is =
+  index_of_moment : (m : ℕ) → IsSendMoment run m → (i : ℕ) × (i < length ms) × (slice_index ms i ≡ m)
+  index_of_moment m is =
       let at = Any-from_list_any (λ n. n == m) ms (is_moment m ∙ is) in
       (at.0, at.2, get_or_default ms at.0 0 at.1 at.2 ∙ (at.3 ∙ eqb-true at.1 m at.4))
 
   -- a test of each place tests each moment
   each_moment : (P : ℕ → Type 0) → ((i : ℕ) → i < length ms → P (slice_index ms i)) → (m : ℕ) → IsSendMoment run m → P m
-  each_moment P all m is = let at = place_of_moment m is in subst P at.2 (all at.0 at.1)
+  each_moment P all m is = let at = index_of_moment m is in subst P at.2 (all at.0 at.1)
 
   at_most : (most : ℕ) → ((i : ℕ) → i < length ms → crowd_in ms (slice_index ms i) ≤ most) → (m : ℕ) → IsSendMoment run m → crowd run m ≤ most
   at_most most all = each_moment (λ m. crowd run m ≤ most) (λ i below. let Q : ℕ → Type 0 = λ n. n ≤ most in subst Q (crowd_is (slice_index ms i)) (all i below))
@@ -72,7 +72,7 @@ module _ (run : Run) (ms : List ℕ) (sends : AreSendMoments run ms) where
   most_is most h = record {
     no_more = at_most most h.upper;
     as_many = ⊎_elim
-        (λ at. inl (slice_index ms at.0, moment_of_place at.0 at.1, sym (crowd_is (slice_index ms at.0)) ∙ at.2))
+        (λ at. inl (slice_index ms at.0, moment_at_index at.0 at.1, sym (crowd_is (slice_index ms at.0)) ∙ at.2))
         (λ none. inr (no_sends none.0, none.1))
         h.reached;
   }
@@ -89,18 +89,18 @@ module _ (run : Run) (ms : List ℕ) (sends : AreSendMoments run ms) where
       let below = first.below in
       record {
         in_time = timed;
-        moment = subst (IsSendMoment run) first.is (moment_of_place first.place first.below);
+        moment = subst (IsSendMoment run) first.is (moment_at_index first.index first.below);
         crowded = let Q : ℕ → Type 0 = λ n. run.capacity < n in subst Q (crowd_is m) first.crowded;
         before = λ n low is.
-            let at = place_of_moment n is in
+            let at = index_of_moment n is in
             let inside = at.1 in
             let there = at.2 in
             ⊎_elim
             (λ earlier.
             let Q : ℕ → Type 0 = λ c. c ≤ run.capacity in
             subst Q (ap (crowd_in ms) at.2 ∙ crowd_is n) (first.before at.0 earlier))
-            (λ later. let up = sends.rise first.place at.0 0 later at.1 in absurd (omega (arith, up, here, there, low)))
-            (cases_lt at.0 first.place);
+            (λ later. let up = sends.rise first.index at.0 0 later at.1 in absurd (omega (arith, up, here, there, low)))
+            (cases_lt at.0 first.index);
       }
 
 -- ---- arrivals

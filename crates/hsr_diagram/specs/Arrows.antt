@@ -11,7 +11,7 @@ use Rattle.hsr_node.specs.declared.event.Outcome.{Outcome}
 use Rattle.hsr_node.specs.declared.event.Outcome.TheVariants.{Judged}
 use Rattle.hsr_run_laws.specs.Run.{Run, record_of, rows_of}
 use Rattle.hsr_timeline.specs.declared.origin.Spot.{Spot}
-use Rattle.hsr_timeline.specs.declared.time.Time.{Time}
+use Rattle.hsr_timeline.specs.declared.stamp.Stamp.{Stamp}
 use Rattle.hsr_timeline.specs.declared.hop.Hop.{Hop}
 use Rattle.hsr_timeline.specs.Hops.{hops_from}
 use Rattle.hsr_timeline.specs.declared.shown.Shown.{Shown}
@@ -66,14 +66,14 @@ look_of run is_lost judged = if is_lost then Lost else look_at run judged
 
 -- ---- arrows
 
-abbrev pub arrow_by : Run → (Spot → Option Time) → Shown → Option Hop → Arrow
-arrow_by run time shown hop = record {
+abbrev pub arrow_by : Run → (Spot → Option Stamp) → Shown → Option Hop → Arrow
+arrow_by run stamp shown hop = record {
   row = shown;
   passed = passed_by hop;
-  start = option_and_then time (passed_by hop);
+  start = option_and_then stamp (passed_by hop);
   judged = judged_by hop;
   look = look_of run shown.is_lost (judged_by hop);
 }
 
-abbrev pub arrow_of : Run → List (List Hop) → (Spot → Option Time) → Shown → Arrow
-arrow_of run hops time shown = arrow_by run time shown (hop_at hops shown)
+abbrev pub arrow_of : Run → List (List Hop) → (Spot → Option Stamp) → Shown → Arrow
+arrow_of run hops stamp shown = arrow_by run stamp shown (hop_at hops shown)

@@ -5,9 +5,9 @@ use Rattle.std.specs.Prelude.{◌≡◌, ◌≤◌, ◌<◌, true, false, List, 
 use Rattle.hsr_node.specs.declared.event.Probe.{Probe}
 use Rattle.hsr_run_laws.specs.Run.{Run}
 use Rattle.hsr_finished_run.specs.declared.planned.Planned.{Planned}
-use Rattle.hsr_timeline.specs.Times.{AreTimes}
+use Rattle.hsr_timeline.specs.Stamps.{AreStamps}
 use Rattle.hsr_timeline.specs.declared.origin.Spot.{Spot}
-use Rattle.hsr_timeline.specs.declared.time.Time.{Time}
+use Rattle.hsr_timeline.specs.declared.stamp.Stamp.{Stamp}
 use Rattle.hsr_diagram.specs.Panels.{ArePanels, Panel}
 use Rattle.hsr_deliveries.specs.Delivered.{Delivery, deliveries}
 use Rattle.hsr_timeline.specs.Causes.{origins}
@@ -44,11 +44,11 @@ pub record IsPicture (run : Run) (plan : List Planned) (sends : List Probe) (spa
   pub wanted : List Shown
   pub rows : AreWanted run plan sends span wanted
   pub few : length wanted ≤ 400
-  pub time : Spot → Option Time
-  pub times : AreTimes (origins run plan) time
-  pub arrows : picture.arrows ≡ map (arrow_of run (hops_by_link run (length run.links)) time) wanted
+  pub stamp : Spot → Option Stamp
+  pub stamps : AreStamps (origins run plan) stamp
+  pub arrows : picture.arrows ≡ map (arrow_of run (hops_by_link run (length run.links)) stamp) wanted
   pub all : picture.deliveries ≡ deliveries run
-  pub listed : picture.sends ≡ sents time sends span picture.deliveries
+  pub listed : picture.sends ≡ sents stamp sends span picture.deliveries
 
 -- the run hasn't a send that is asked for; the span ends before it begins; the rows have no order of time; too many are wanted
 abbrev pub IsRefused : Run → List Planned → List Probe → Span → PictureFault → Type 0

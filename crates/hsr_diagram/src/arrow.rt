@@ -1,5 +1,5 @@
 //! An arrow, and how it looks.
-use hsr_timeline::{Shown, Spot, Time};
+use hsr_timeline::{Shown, Spot, Stamp};
 
 /// What became of a copy.
 #[derive(Clone, Copy, Debug, PartialEq, Eq)]
@@ -18,13 +18,13 @@ pub enum Look {
     Lost,
 }
 
-/// The way of a copy: its row, with its place in the order of time; the entry that passed it, with its time; and the
+/// The way of a copy: its row, with its place in the order of time; the entry that passed it, with its stamp; and the
 /// entry that judged it, none where it was lost.
 #[derive(Clone, Copy, Debug, PartialEq, Eq)]
 pub struct Arrow {
     pub row: Shown,
     pub passed: Option<Spot>,
-    pub start: Option<Time>,
+    pub start: Option<Stamp>,
     pub judged: Option<Spot>,
     pub look: Look,
 }

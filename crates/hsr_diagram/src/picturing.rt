@@ -14,7 +14,7 @@ use hsr_deliveries::{Deliveries, deliveries};
 use hsr_finished_run::Closed;
 use hsr_frame::NoMemory;
 use hsr_node::Probe;
-use hsr_timeline::{Shown, StoryFault, entry_times, story};
+use hsr_timeline::{Shown, StoryFault, entry_stamps, story};
 use std::alloc::Global;
 use std::marker::Model;
 
@@ -111,13 +111,13 @@ fn picture_of<const C: usize>(
     ensures refused { IfErr result (IsRefused closed.now.run closed.now.plan sends.now span) }
 {
     let panels = panels(alloc, closed.topology())?;
-    let times = entry_times(alloc, closed)?;
+    let stamps = entry_stamps(alloc, closed)?;
     let hops = hops_by_link(alloc, closed)?;
-    let arrows = arrows(alloc, closed, hops.as_slice(), times.as_slice(), wanted)?;
+    let arrows = arrows(alloc, closed, hops.as_slice(), stamps.as_slice(), wanted)?;
     let deliveries = deliveries(alloc, closed)?;
     let sends = sents(
         alloc,
-        times.as_slice(),
+        stamps.as_slice(),
         sends,
         span,
         deliveries.sends.as_slice(),

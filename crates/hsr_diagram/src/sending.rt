@@ -1,21 +1,21 @@
 //! The sends that are listed beside a picture.
 ghost use Rattle.std.specs.Prelude.{◌≡◌, ◌++◌, IfOk, OnOk};
 ghost use Rattle.hsr_timeline.specs.Fronts.{lists_of};
-ghost use Rattle.hsr_timeline.specs.Times.{at_spot};
-ghost use Rattle.hsr_diagram.specs.Sends.{is_among, is_listed, is_time_in, sent_if, sents};
+ghost use Rattle.hsr_timeline.specs.Stamps.{at_spot};
+ghost use Rattle.hsr_diagram.specs.Sends.{is_among, is_listed, is_stamp_in, sent_if, sents};
 
 use crate::span::Span;
 use hsr_deliveries::Delivery;
 use hsr_frame::NoMemory;
 use hsr_node::Probe;
-use hsr_timeline::{Spot, Time, time_at};
+use hsr_timeline::{Spot, Stamp, stamp_at};
 use std::alloc::Global;
 
-/// A send that is listed: its place among the deliveries of the run, and the time of its entry.
+/// A send that is listed: its place among the deliveries of the run, and the stamp of its entry.
 #[derive(Clone, Copy, Debug, PartialEq, Eq)]
 pub struct Sent {
     pub number: usize,
-    pub start: Option<Time>,
+    pub start: Option<Stamp>,
 }
 
 /// Whether a send is one of these.
@@ -32,22 +32,22 @@ fn is_among(sends: &[Probe], send: Probe) -> bool
 }
 
 /// Whether a moment is of a span, if there is one.
-fn is_time_in(span: Span, start: Option<Time>) -> bool
-    ensures { result ≡ is_time_in span start }
+fn is_stamp_in(span: Span, start: Option<Stamp>) -> bool
+    ensures { result ≡ is_stamp_in span start }
 {
     match start {
-        Some(time) => span.has(time.moment),
+        Some(stamp) => span.has(stamp.moment),
         None => false,
     }
 }
 
 /// Whether a send is listed.
-fn is_listed(sends: &[Probe], span: Span, send: Probe, start: Option<Time>) -> bool
+fn is_listed(sends: &[Probe], span: Span, send: Probe, start: Option<Stamp>) -> bool
     ensures { result ≡ is_listed sends.now span send start }
 {
     // Sends that are asked for are listed whatever their moments.
     if sends.is_empty() {
-        is_time_in(span, start)
+        is_stamp_in(span, start)
     } else {
         is_among(sends, send)
     }
@@ -60,7 +60,7 @@ fn add_if(
     span: Span,
     number: usize,
     send: Probe,
-    start: Option<Time>,
+    start: Option<Stamp>,
 ) -> Result<(), NoMemory>
     ensures { OnOk result (list.new.items ≡ list.old.items
         ++ sent_if sends.now span number send start) }
@@ -74,18 +74,18 @@ fn add_if(
 /// The sends that are listed.
 pub(crate) fn sents(
     alloc: Global,
-    times: &[Vec<Time>],
+    stamps: &[Vec<Stamp>],
     sends: &[Probe],
     span: Span,
     deliveries: &[Delivery],
 ) -> Result<Vec<Sent>, NoMemory>
     ensures { IfOk result (λ list. list.items
-        ≡ sents (at_spot (lists_of times.now)) sends.now span deliveries.now) }
+        ≡ sents (at_spot (lists_of stamps.now)) sends.now span deliveries.now) }
 {
     let mut list = Vec::new(alloc);
     for (i, delivery) in deliveries.iter().enumerate() {
         let Probe { node, place } = delivery.send;
-        let start = time_at(times, Spot { node, place });
+        let start = stamp_at(stamps, Spot { node, place });
         add_if(&mut list, sends, span, i, delivery.send, start)?;
     }
     Ok(list)

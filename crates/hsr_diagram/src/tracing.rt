@@ -2,14 +2,14 @@
 ghost use Rattle.std.specs.Prelude.{◌≡◌, ◌<◌, ◌++◌, ◌∷◌, [], length, map, IfOk, OnOk};
 ghost use Rattle.std.specs.Option.{option_and_then};
 ghost use Rattle.hsr_timeline.specs.Fronts.{lists_of};
-ghost use Rattle.hsr_timeline.specs.Times.{at_spot};
+ghost use Rattle.hsr_timeline.specs.Stamps.{at_spot};
 ghost use Rattle.hsr_diagram.specs.Arrows.{arrow_of, hop_at, hops_by_link, look_at, look_by, look_of, outcome_look};
 
 use crate::arrow::{Arrow, Look};
 use hsr_finished_run::Closed;
 use hsr_frame::{Cause, NoMemory};
 use hsr_node::Outcome;
-use hsr_timeline::{Hop, Shown, Spot, Time, link_hops, time_at};
+use hsr_timeline::{Hop, Shown, Spot, Stamp, link_hops, stamp_at};
 use std::alloc::Global;
 
 /// Puts the hops of one more link last.
@@ -95,12 +95,12 @@ fn look_of<const C: usize>(closed: &Closed<C>, is_lost: bool, judged: Option<Spo
     }
 }
 
-/// The time of an entry, if there is one.
-fn time_if(times: &[Vec<Time>], spot: Option<Spot>) -> Option<Time>
-    ensures { result ≡ option_and_then (at_spot (lists_of times.now)) spot }
+/// The stamp of an entry, if there is one.
+fn stamp_if(stamps: &[Vec<Stamp>], spot: Option<Spot>) -> Option<Stamp>
+    ensures { result ≡ option_and_then (at_spot (lists_of stamps.now)) spot }
 {
     match spot {
-        Some(spot) => time_at(times, spot),
+        Some(spot) => stamp_at(stamps, spot),
         None => None,
     }
 }
@@ -109,11 +109,11 @@ fn time_if(times: &[Vec<Time>], spot: Option<Spot>) -> Option<Time>
 fn arrow_of<const C: usize>(
     closed: &Closed<C>,
     hops: &[Vec<Hop>],
-    times: &[Vec<Time>],
+    stamps: &[Vec<Stamp>],
     shown: &Shown,
 ) -> Arrow
     ensures { result ≡ arrow_of closed.now.run (lists_of hops.now)
-        (at_spot (lists_of times.now)) shown.now }
+        (at_spot (lists_of stamps.now)) shown.now }
 {
     let (passed, judged) = match hop_at(hops, shown) {
         Some(hop) => (hop.passed, hop.judged),
@@ -122,7 +122,7 @@ fn arrow_of<const C: usize>(
     Arrow {
         row: *shown,
         passed,
-        start: time_if(times, passed),
+        start: stamp_if(stamps, passed),
         judged,
         look: look_of(closed, shown.is_lost, judged),
     }
@@ -133,15 +133,15 @@ pub(crate) fn arrows<const C: usize>(
     alloc: Global,
     closed: &Closed<C>,
     hops: &[Vec<Hop>],
-    times: &[Vec<Time>],
+    stamps: &[Vec<Stamp>],
     rows: &[Shown],
 ) -> Result<Vec<Arrow>, NoMemory>
     ensures { IfOk result (λ list. list.items ≡ map (arrow_of closed.now.run (lists_of hops.now)
-        (at_spot (lists_of times.now))) rows.now) }
+        (at_spot (lists_of stamps.now))) rows.now) }
 {
     let mut list = Vec::new(alloc);
     for row in rows {
-        list.push(arrow_of(closed, hops, times, row))?;
+        list.push(arrow_of(closed, hops, stamps, row))?;
     }
     Ok(list)
 }

@@ -3,12 +3,12 @@ use Rattle.std.specs.Prelude.{ℕ, List, map, Option, Some, None}
 use Rattle.std.specs.List.Sorted.{IsPermutation, IsSorted}
 use Rattle.std.specs.Ordering.{nat_cmp, ordering_then}
 use Rattle.std.specs.declared.cmp.Ordering.{Ordering}
-use Rattle.hsr_timeline.specs.declared.time.Time.{Time}
+use Rattle.hsr_timeline.specs.declared.stamp.Stamp.{Stamp}
 use Rattle.hsr_diagram.specs.declared.sending.Sent.{Sent}
 use Rattle.hsr_diagram_layout.specs.declared.items.Item.{Item}
 
--- a send with its time; the first moment, where it has none
-abbrev pub item_at : ℕ → Option Time → Item
+-- a send with its stamp; the first moment, where it has none
+abbrev pub item_at : ℕ → Option Stamp → Item
 item_at n None = record { moment = 0; step = 0; number = n }
 item_at n (Some t) = record { moment = t.moment; step = t.step; number = n }
 

@@ -2,11 +2,11 @@
 use Rattle.std.specs.Prelude.{ℕ, List, [], ◌∷◌, ◌++◌, Option, Some, None}
 use Rattle.std.specs.List.{Contains, flat_map}
 use Rattle.std.specs.List.Sorted.{IsStrictlyIncreasing}
-use Rattle.hsr_timeline.specs.declared.time.Time.{Time}
+use Rattle.hsr_timeline.specs.declared.stamp.Stamp.{Stamp}
 use Rattle.hsr_diagram.specs.declared.arrow.Arrow.{Arrow}
 use Rattle.hsr_diagram.specs.declared.sending.Sent.{Sent}
 
-abbrev pub moment_if : Option Time → List ℕ
+abbrev pub moment_if : Option Stamp → List ℕ
 moment_if None = []
 moment_if (Some t) = t.moment ∷ []
 

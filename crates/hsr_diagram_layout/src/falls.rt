@@ -1,7 +1,7 @@
 //! Between which rows links are down, and where nodes go off and come on.
 use crate::arrows::rows_at;
 use crate::columns::{BESIDE, Columns};
-use crate::rows::Times;
+use crate::rows::Stamps;
 use crate::shades::is_among;
 use crate::shelves::{Foot, Shelves, Side};
 use crate::widths::{COPY, width_of};
@@ -12,7 +12,7 @@ use hsr_finished_run::{Closed, first_places, next_place};
 use hsr_frame::NoMemory;
 use hsr_link::Fate;
 use hsr_svg::Anchor;
-use hsr_timeline::{Spot, StoryFault, Time, entry_times, time_at};
+use hsr_timeline::{Spot, Stamp, StoryFault, entry_stamps, stamp_at};
 use std::alloc::Global;
 
 /// A change of a link: the first row behind it, the number of all rows where none is; and the shelf of its mark.
@@ -53,7 +53,7 @@ pub(crate) struct Told<'a> {
     pub switches: &'a [Switch],
 }
 
-// ---- times
+// ---- stamps
 
 /// The place of the main worker's next entry of a node, behind those before a place, which is moved on.
 fn main_place<const C: usize>(
@@ -72,44 +72,44 @@ fn main_place<const C: usize>(
     Some(place)
 }
 
-/// The times of all entries. A run that is drawn has them: its rows have an order.
-fn times_of_entries<const C: usize>(
+/// The stamps of all entries. A run that is drawn has them: its rows have an order.
+fn stamps_of_entries<const C: usize>(
     alloc: Global,
     closed: &Closed<C>,
-) -> Result<Vec<Vec<Time>>, NoMemory> {
-    match entry_times(alloc, closed) {
-        Ok(times) => Ok(times),
+) -> Result<Vec<Vec<Stamp>>, NoMemory> {
+    match entry_stamps(alloc, closed) {
+        Ok(stamps) => Ok(stamps),
         Err(StoryFault::Circle) => Ok(Vec::new(alloc)),
         Err(StoryFault::NoMemory) => Err(NoMemory),
     }
 }
 
 /// When each thing took place that is planned.
-fn planned_times<const C: usize>(
+fn planned_stamps<const C: usize>(
     alloc: Global,
     closed: &Closed<C>,
-) -> Result<Vec<Option<Time>>, NoMemory> {
-    let times = times_of_entries(alloc, closed)?;
+) -> Result<Vec<Option<Stamp>>, NoMemory> {
+    let stamps = stamps_of_entries(alloc, closed)?;
     let mut next = first_places(alloc, closed.topology().places().len())?;
     let mut list = Vec::new(alloc);
     for planned in closed.plan() {
         let node = planned.node;
-        let time = match main_place(closed, &mut next, node) {
-            Some(place) => time_at(times.as_slice(), Spot { node, place }),
+        let stamp = match main_place(closed, &mut next, node) {
+            Some(place) => stamp_at(stamps.as_slice(), Spot { node, place }),
             None => None,
         };
-        list.push(time)?;
+        list.push(stamp)?;
     }
     Ok(list)
 }
 
 // ---- edges
 
-/// The time of what is planned at a place, if there is such a place.
-fn time_of(planned: &[Option<Time>], place: Option<usize>) -> Option<Time> {
+/// The stamp of what is planned at a place, if there is such a place.
+fn stamp_of(planned: &[Option<Stamp>], place: Option<usize>) -> Option<Stamp> {
     let place = place?;
     match planned.get(place) {
-        Some(Some(time)) => Some(*time),
+        Some(Some(stamp)) => Some(*stamp),
         _ => None,
     }
 }
@@ -126,11 +126,11 @@ fn met_down<const C: usize>(closed: &Closed<C>, arrow: &Arrow, link: usize) -> b
 }
 
 /// The first row that stands behind a change: the first of a later moment, or that of what is planned next.
-fn row_behind(times: &Times, planned: &[Option<Time>], change: &Change) -> usize {
-    let later = times.first_after(change.moment);
-    match time_of(planned, Some(change.planned)) {
+fn row_behind(stamps: &Stamps, planned: &[Option<Stamp>], change: &Change) -> usize {
+    let later = stamps.first_after(change.moment);
+    match stamp_of(planned, Some(change.planned)) {
         // A change stands before what is planned next, and before all of a later moment.
-        Some(time) => later.min(times.first_since(time)),
+        Some(stamp) => later.min(stamps.first_since(stamp)),
         None => later,
     }
 }
@@ -144,7 +144,7 @@ fn row_of_cut<const C: usize>(
     row: usize,
 ) -> usize {
     // A lost copy tells that the link was down before it. Of other copies at this moment neither text says what came first.
-    let since = time_of(grounds.planned, change.planned.checked_sub(1));
+    let since = stamp_of(grounds.planned, change.planned.checked_sub(1));
     let mut row = row;
     for arrow in grounds.arrows {
         if let Some(start) = arrow.start
@@ -152,18 +152,18 @@ fn row_of_cut<const C: usize>(
             && !since.is_some_and(|since| start.is_earlier(since))
             && met_down(closed, arrow, change.link)
         {
-            row = row.min(grounds.times.row_of(Some(start)));
+            row = row.min(grounds.stamps.row_of(Some(start)));
         }
     }
     row
 }
 
 /// Where a mark before a row stands; below the last row, where none stands behind it.
-fn foot_before(times: &Times, row: usize, x: u64, anchor: Anchor) -> Foot {
-    let (row, side) = if row < times.len() {
+fn foot_before(stamps: &Stamps, row: usize, x: u64, anchor: Anchor) -> Foot {
+    let (row, side) = if row < stamps.len() {
         (row, Side::Above)
     } else {
-        (times.len().saturating_sub(1), Side::Below)
+        (stamps.len().saturating_sub(1), Side::Below)
     };
     Foot {
         row,
@@ -174,18 +174,18 @@ fn foot_before(times: &Times, row: usize, x: u64, anchor: Anchor) -> Foot {
 }
 
 /// Where the mark of a change begins, beside the left line of its lane.
-fn change_foot(times: &Times, columns: &Columns, link: usize, row: usize) -> Foot {
+fn change_foot(stamps: &Stamps, columns: &Columns, link: usize, row: usize) -> Foot {
     let x = columns.strip_of(link).left.saturating_add(BESIDE);
-    foot_before(times, row, x, Anchor::Start)
+    foot_before(stamps, row, x, Anchor::Start)
 }
 
 /// What of a sheet is needed to find edges.
 #[derive(Clone, Copy)]
 struct Grounds<'a> {
-    times: &'a Times,
+    stamps: &'a Stamps,
     columns: &'a Columns,
     moments: &'a [u64],
-    planned: &'a [Option<Time>],
+    planned: &'a [Option<Stamp>],
     arrows: &'a [Arrow],
 }
 
@@ -195,7 +195,7 @@ fn row_of_change<const C: usize>(
     grounds: &Grounds<'_>,
     change: &Change,
 ) -> usize {
-    let behind = row_behind(grounds.times, grounds.planned, change);
+    let behind = row_behind(grounds.stamps, grounds.planned, change);
     if change.is_cut {
         row_of_cut(closed, grounds, change, behind)
     } else {
@@ -217,7 +217,7 @@ fn edge_of<const C: usize>(
         return Ok(Edge { row, shelf: 0 });
     }
     let words = done_words(alloc, change_word(change.is_cut), change.moment)?;
-    let foot = change_foot(grounds.times, grounds.columns, change.link, row);
+    let foot = change_foot(grounds.stamps, grounds.columns, change.link, row);
     let shelf = shelves.put(foot, width_of(words.as_slice(), COPY))?;
     Ok(Edge { row, shelf })
 }
@@ -266,7 +266,7 @@ fn put_flag(
     width: u64,
 ) -> Result<(), NoMemory> {
     let (x, anchor) = grounds.columns.beside(line, width);
-    let foot = foot_before(grounds.times, row, x, anchor);
+    let foot = foot_before(grounds.stamps, row, x, anchor);
     let shelf = shelves.put(foot, width)?;
     flags.push(Flag {
         number,
@@ -326,21 +326,21 @@ pub(crate) fn falls_of<const C: usize>(
     closed: &Closed<C>,
     told: Told<'_>,
     arrows: &[Arrow],
-    times: &Times,
+    stamps: &Stamps,
     columns: &Columns,
     moments: &[u64],
     shelves: &mut Shelves,
 ) -> Result<Falls, NoMemory> {
-    // Without a cut no node goes off either, so no times are needed.
+    // Without a cut no node goes off either, so no stamps are needed.
     if told.downs.is_empty() {
         return Ok(Falls {
             falls: Vec::new(alloc),
             flags: Vec::new(alloc),
         });
     }
-    let planned = planned_times(alloc, closed)?;
+    let planned = planned_stamps(alloc, closed)?;
     let grounds = Grounds {
-        times,
+        stamps,
         columns,
         moments,
         planned: planned.as_slice(),

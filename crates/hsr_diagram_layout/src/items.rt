@@ -7,7 +7,7 @@ use hsr_diagram::Sent;
 use hsr_frame::NoMemory;
 use std::alloc::Global;
 
-/// A send that is listed: its time, and its place among the deliveries. The order of its fields is that of the list.
+/// A send that is listed: its stamp, and its place among the deliveries. The order of its fields is that of the list.
 #[derive(Clone, Copy, Debug, PartialEq, Eq, PartialOrd, Ord)]
 pub(crate) struct Item {
     pub moment: u64,
@@ -15,14 +15,14 @@ pub(crate) struct Item {
     pub number: usize,
 }
 
-/// A send as an item. Each send that is listed has a time; one that hasn't would stand before all.
+/// A send as an item. Each send that is listed has a stamp; one that hasn't would stand before all.
 fn item_of(sent: &Sent) -> Item
     ensures { result ≡ item_of sent.now }
 {
     match sent.start {
-        Some(time) => Item {
-            moment: time.moment,
-            step: time.step,
+        Some(stamp) => Item {
+            moment: stamp.moment,
+            step: stamp.step,
             number: sent.number,
         },
         None => Item {

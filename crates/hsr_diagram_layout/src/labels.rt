@@ -1,7 +1,7 @@
 //! The shelves of labels: of what stands at the points of arrows, and beside the marks of sends.
 use crate::arrows::rows_at;
 use crate::columns::Columns;
-use crate::rows::Times;
+use crate::rows::Stamps;
 use crate::shelves::{Foot, Shelves, Side};
 use crate::widths::{COPY, MARK, width_of};
 use hsr_diagram::{Arrow, Look, Picture, Sent};
@@ -11,27 +11,27 @@ use hsr_frame::NoMemory;
 use hsr_link::Row;
 use hsr_node::Probe;
 use hsr_svg::Anchor;
-use hsr_timeline::Time;
+use hsr_timeline::Stamp;
 use std::alloc::Global;
 
 // ---- arrows
 
 /// Where the label of an arrow begins or ends: beyond its point, so that the arrow is free. That of a lost copy belongs
 /// to the row from which it was sent.
-pub(crate) fn foot_of(times: &Times, columns: &Columns, arrow: &Arrow) -> Foot {
+pub(crate) fn foot_of(stamps: &Stamps, columns: &Columns, arrow: &Arrow) -> Foot {
     let (from, to) = columns.run_of(arrow);
     let (x, anchor) = if from < to {
         (to.saturating_add(6), Anchor::Start)
     } else {
         (to.saturating_sub(6), Anchor::End)
     };
-    let (time, side) = if arrow.look == Look::Lost {
+    let (stamp, side) = if arrow.look == Look::Lost {
         (arrow.start, Side::Below)
     } else {
         (Some(judged_at(arrow)), Side::Above)
     };
     Foot {
-        row: times.row_of(time),
+        row: stamps.row_of(stamp),
         side,
         x,
         anchor,
@@ -39,8 +39,8 @@ pub(crate) fn foot_of(times: &Times, columns: &Columns, arrow: &Arrow) -> Foot {
 }
 
 /// When the copy of an arrow was judged.
-pub(crate) fn judged_at(arrow: &Arrow) -> Time {
-    Time {
+pub(crate) fn judged_at(arrow: &Arrow) -> Stamp {
+    Stamp {
         moment: arrow.row.moment,
         step: arrow.row.step,
     }
@@ -97,13 +97,13 @@ fn put_arrow<const C: usize>(
 
 /// Where the label of the mark of a send begins, on the line that has a number.
 pub(crate) fn mark_foot(
-    times: &Times,
+    stamps: &Stamps,
     columns: &Columns,
     number: usize,
-    start: Option<Time>,
+    start: Option<Stamp>,
 ) -> Foot {
     Foot {
-        row: times.row_of(start),
+        row: stamps.row_of(start),
         side: Side::Above,
         x: columns.line_at(number).saturating_add(7),
         anchor: Anchor::Start,
@@ -115,7 +115,7 @@ fn put_marks(
     alloc: Global,
     shelves: &mut Shelves,
     names: &[Vec<u8>],
-    times: &Times,
+    stamps: &Stamps,
     columns: &Columns,
     send: Probe,
     sent: &Sent,
@@ -123,7 +123,7 @@ fn put_marks(
     let width = send_width(alloc, names, Some(send), MARK)?;
     for (number, node) in columns.nodes.as_slice().iter().enumerate() {
         if *node == send.node {
-            shelves.put(mark_foot(times, columns, number, sent.start), width)?;
+            shelves.put(mark_foot(stamps, columns, number, sent.start), width)?;
         }
     }
     Ok(())
@@ -135,13 +135,13 @@ fn put_all_marks(
     shelves: &mut Shelves,
     names: &[Vec<u8>],
     picture: &Picture,
-    times: &Times,
+    stamps: &Stamps,
     columns: &Columns,
 ) -> Result<(), NoMemory> {
     let deliveries = picture.deliveries.sends.as_slice();
     for sent in picture.sends.as_slice() {
         if let Some(delivery) = deliveries.get(sent.number) {
-            put_marks(alloc, shelves, names, times, columns, delivery.send, sent)?;
+            put_marks(alloc, shelves, names, stamps, columns, delivery.send, sent)?;
         }
     }
     Ok(())
@@ -155,15 +155,15 @@ pub(crate) fn shelves_of<const C: usize>(
     closed: &Closed<C>,
     names: &[Vec<u8>],
     picture: &Picture,
-    times: &Times,
+    stamps: &Stamps,
     columns: &Columns,
 ) -> Result<Shelves, NoMemory> {
     let mut shelves = Shelves::new(alloc);
     let has_one = picture.sends.len() == 1;
     for arrow in picture.arrows.as_slice() {
-        let foot = foot_of(times, columns, arrow);
+        let foot = foot_of(stamps, columns, arrow);
         put_arrow(alloc, &mut shelves, names, closed, has_one, arrow, foot)?;
     }
-    put_all_marks(alloc, &mut shelves, names, picture, times, columns)?;
+    put_all_marks(alloc, &mut shelves, names, picture, stamps, columns)?;
     Ok(shelves)
 }

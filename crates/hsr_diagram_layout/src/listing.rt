@@ -12,7 +12,7 @@ use hsr_diagram_text::sent_words;
 use hsr_finished_run::Closed;
 use hsr_frame::NoMemory;
 use hsr_svg::{Anchor, Element, Label, Line, Reading, Spot, Way, add_line, add_text};
-use hsr_timeline::Time;
+use hsr_timeline::Stamp;
 use std::alloc::Global;
 
 /// How many places a line of the list takes.
@@ -103,7 +103,7 @@ fn add_item_if<const C: usize>(
     } = item;
     match deliveries.get(number) {
         Some(delivery) => {
-            let row = sheet.rows.at_some(Some(Time { moment, step }));
+            let row = sheet.rows.at_some(Some(Stamp { moment, step }));
             add_item(
                 alloc, elements, names, closed, delivery, row, sheet.list, ends,
             )

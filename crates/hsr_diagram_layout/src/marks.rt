@@ -12,7 +12,7 @@ use hsr_diagram_text::send_words;
 use hsr_frame::NoMemory;
 use hsr_node::Probe;
 use hsr_svg::{Element, Label, add_square, add_text};
-use hsr_timeline::Time;
+use hsr_timeline::Stamp;
 use std::alloc::Global;
 
 /// Adds the mark of a send, with its words.
@@ -60,7 +60,7 @@ fn add_marks_of(
     sheet: &Sheet,
     nodes: &[usize],
     send: Probe,
-    start: Option<Time>,
+    start: Option<Stamp>,
 ) -> Result<(), NoMemory>
     ensures { OnOk result (shapes elements.new.items ≡ shapes elements.old.items
         ++ marks_of (lists_of names.now) nodes.now send) }

@@ -5,15 +5,15 @@ ghost use Rattle.hsr_diagram_layout.specs.Moments.{AreMoments, all_moments, arro
 
 use hsr_diagram::{Arrow, Picture, Sent};
 use hsr_frame::NoMemory;
-use hsr_timeline::Time;
+use hsr_timeline::Stamp;
 use std::alloc::Global;
 
-/// Puts the moment of a time last, if there is one.
-fn push_if(moments: &mut Vec<u64>, time: Option<Time>) -> Result<(), NoMemory>
-    ensures { OnOk result (moments.new.items ≡ moments.old.items ++ moment_if time) }
+/// Puts the moment of a stamp last, if there is one.
+fn push_if(moments: &mut Vec<u64>, stamp: Option<Stamp>) -> Result<(), NoMemory>
+    ensures { OnOk result (moments.new.items ≡ moments.old.items ++ moment_if stamp) }
 {
-    if let Some(time) = time {
-        moments.push(time.moment)?;
+    if let Some(stamp) = stamp {
+        moments.push(stamp.moment)?;
     }
     Ok(())
 }

@@ -2,28 +2,28 @@
 use crate::shelves::{SHELF, Shelves, Side};
 use hsr_diagram::Picture;
 use hsr_frame::NoMemory;
-use hsr_timeline::Time;
+use hsr_timeline::Stamp;
 use std::alloc::Global;
 
 /// The more space between two moments.
 const GAP: u64 = 12;
 
-/// All times of a picture, rising: for each a row.
+/// All stamps of a picture, rising: for each a row.
 #[derive(Drop)]
-pub(crate) struct Times {
-    times: Vec<(u64, u64)>,
+pub(crate) struct Stamps {
+    stamps: Vec<(u64, u64)>,
 }
 
-impl Times {
-    /// The row of a time. Each time of a picture has one; what hasn't one would stand in the first, so that it is drawn
+impl Stamps {
+    /// The row of a stamp. Each stamp of a picture has one; what hasn't one would stand in the first, so that it is drawn
     /// all the same.
-    pub(crate) fn row_of(&self, time: Option<Time>) -> usize {
-        match time {
-            Some(time) => self
-                .times
+    pub(crate) fn row_of(&self, stamp: Option<Stamp>) -> usize {
+        match stamp {
+            Some(stamp) => self
+                .stamps
                 .as_slice()
                 .iter()
-                .position(|(moment, step)| *moment == time.moment && *step == time.step)
+                .position(|(moment, step)| *moment == stamp.moment && *step == stamp.step)
                 .unwrap_or(0),
             None => 0,
         }
@@ -31,32 +31,32 @@ impl Times {
 
     /// How many rows there are.
     pub(crate) fn len(&self) -> usize {
-        self.times.len()
+        self.stamps.len()
     }
 
     /// The first row of a moment behind one; the number of all, where there is none.
     pub(crate) fn first_after(&self, moment: u64) -> usize {
-        self.times
+        self.stamps
             .as_slice()
             .iter()
             .position(|(other, _)| moment < *other)
-            .unwrap_or(self.times.len())
+            .unwrap_or(self.stamps.len())
     }
 
-    /// The first row of a time, or behind it; the number of all, where there is none.
-    pub(crate) fn first_since(&self, time: Time) -> usize {
-        self.times
+    /// The first row of a stamp, or behind it; the number of all, where there is none.
+    pub(crate) fn first_since(&self, stamp: Stamp) -> usize {
+        self.stamps
             .as_slice()
             .iter()
             .position(|(moment, step)| {
-                time.moment < *moment || (time.moment == *moment && time.step <= *step)
+                stamp.moment < *moment || (stamp.moment == *moment && stamp.step <= *step)
             })
-            .unwrap_or(self.times.len())
+            .unwrap_or(self.stamps.len())
     }
 
     /// Whether a row is the first of its moment, and none stands before it.
     fn begins_moment(&self, row: usize) -> bool {
-        match self.times.as_slice().get(row) {
+        match self.stamps.as_slice().get(row) {
             Some((moment, _)) => self.first_of(*moment) == row,
             None => false,
         }
@@ -64,7 +64,7 @@ impl Times {
 
     /// The first row of a moment.
     fn first_of(&self, moment: u64) -> usize {
-        self.times
+        self.stamps
             .as_slice()
             .iter()
             .position(|(other, _)| *other == moment)
@@ -73,41 +73,41 @@ impl Times {
 
     /// The last moment.
     pub(crate) fn last_moment(&self) -> u64 {
-        match self.times.as_slice().last() {
+        match self.stamps.as_slice().last() {
             Some((moment, _)) => *moment,
             None => 0,
         }
     }
 }
 
-/// Puts a time last, if there is one.
-fn push_if(marks: &mut Vec<(u64, u64)>, time: Option<Time>) -> Result<(), NoMemory> {
-    if let Some(time) = time {
-        marks.push((time.moment, time.step))?;
+/// Puts a stamp last, if there is one.
+fn push_if(marks: &mut Vec<(u64, u64)>, stamp: Option<Stamp>) -> Result<(), NoMemory> {
+    if let Some(stamp) = stamp {
+        marks.push((stamp.moment, stamp.step))?;
     }
     Ok(())
 }
 
-/// The times of a picture.
-pub(crate) fn times_of(alloc: Global, picture: &Picture) -> Result<Times, NoMemory> {
-    let mut times = Vec::new(alloc);
+/// The stamps of a picture.
+pub(crate) fn stamps_of(alloc: Global, picture: &Picture) -> Result<Stamps, NoMemory> {
+    let mut stamps = Vec::new(alloc);
     for arrow in picture.arrows.as_slice() {
-        times.push((arrow.row.moment, arrow.row.step))?;
-        push_if(&mut times, arrow.start)?;
+        stamps.push((arrow.row.moment, arrow.row.step))?;
+        push_if(&mut stamps, arrow.start)?;
     }
     for sent in picture.sends.as_slice() {
-        push_if(&mut times, sent.start)?;
+        push_if(&mut stamps, sent.start)?;
     }
-    times.sort_unstable();
-    times.dedup();
-    Ok(Times { times })
+    stamps.sort_unstable();
+    stamps.dedup();
+    Ok(Stamps { stamps })
 }
 
 /// Where each row stands; the least space between two; how far the cross of a lost copy stands below its row; and where
 /// the last stands.
 #[derive(Drop)]
 pub(crate) struct Rows {
-    pub times: Times,
+    pub stamps: Stamps,
     places: Vec<u64>,
     pub top: u64,
     pub space: u64,
@@ -118,7 +118,7 @@ pub(crate) struct Rows {
 impl Rows {
     /// The place over a row at which what stands before it ends, where labels take this room between.
     pub(crate) fn over(&self, row: usize, room: u64) -> u64 {
-        let least = if row > 0 && self.times.begins_moment(row) {
+        let least = if row > 0 && self.stamps.begins_moment(row) {
             self.space
         } else {
             self.space / 2
@@ -134,14 +134,14 @@ impl Rows {
         }
     }
 
-    /// The place of a time; that of the first row, where there is none.
-    pub(crate) fn at_some(&self, time: Option<Time>) -> u64 {
-        self.at(self.times.row_of(time))
+    /// The place of a stamp; that of the first row, where there is none.
+    pub(crate) fn at_some(&self, stamp: Option<Stamp>) -> u64 {
+        self.at(self.stamps.row_of(stamp))
     }
 
     /// The place of the first row of a moment.
     pub(crate) fn first_of(&self, moment: u64) -> u64 {
-        self.at(self.times.first_of(moment))
+        self.at(self.stamps.first_of(moment))
     }
 }
 
@@ -176,25 +176,25 @@ fn room_below(shelves: &Shelves, row: usize, drop: u64) -> u64 {
 /// Rows from a place downwards, with room for these labels.
 pub(crate) fn rows_of(
     alloc: Global,
-    times: Times,
+    stamps: Stamps,
     top: u64,
     shelves: &Shelves,
 ) -> Result<Rows, NoMemory> {
-    let space = space_for(times.times.len());
+    let space = space_for(stamps.stamps.len());
     let drop = space / 3;
     let mut places = Vec::new(alloc);
     let mut y = top;
     let mut below = 0;
     let mut before = None;
-    for (row, time) in times.times.as_slice().iter().enumerate() {
+    for (row, stamp) in stamps.stamps.as_slice().iter().enumerate() {
         let above = shelves.room(row, Side::Above);
-        y = y.saturating_add(space_before(before, time.0, space, below, above));
+        y = y.saturating_add(space_before(before, stamp.0, space, below, above));
         places.push(y)?;
-        before = Some(time.0);
+        before = Some(stamp.0);
         below = room_below(shelves, row, drop);
     }
     Ok(Rows {
-        times,
+        stamps,
         places,
         top,
         space,

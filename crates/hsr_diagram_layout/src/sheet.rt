@@ -13,7 +13,7 @@ use crate::items::{Item, listed};
 use crate::labels::{foot_of, judged_at, mark_foot, shelves_of};
 use crate::listing::LETTER;
 use crate::moments::moments_of;
-use crate::rows::{Rows, rows_of, times_of};
+use crate::rows::{Rows, rows_of, stamps_of};
 use crate::shelves::{Foot, SHELF, Shelves, Side};
 use crate::widths::{MARK, NAME, width_of};
 use hsr_diagram::{Arrow, Look, Picture};
@@ -22,7 +22,7 @@ use hsr_downs::{Down, Switch};
 use hsr_finished_run::Closed;
 use hsr_frame::NoMemory;
 use hsr_svg::{Anchor, Area, Reading, Spot, Way};
-use hsr_timeline::{Time, put_name};
+use hsr_timeline::{Stamp, put_name};
 use std::alloc::Global;
 
 /// The least width of a lane where there is room, and where there isn't.
@@ -204,24 +204,24 @@ pub(crate) fn sheet_of<const C: usize>(
 {
     let panels = picture.panels.as_slice();
     let longest = longest_of(alloc, closed, names, picture)?;
-    let times = times_of(alloc, picture)?;
-    let Spaces { width, left, side } = spaces_of(longest, lane_count(panels), times.last_moment());
+    let stamps = stamps_of(alloc, picture)?;
+    let Spaces { width, left, side } = spaces_of(longest, lane_count(panels), stamps.last_moment());
     let columns = columns_of(alloc, panels, left, width)?;
     let heads = heads_of(width, longest.name);
     let moments = moments_of(alloc, picture)?;
     // Labels come before rows: how much room a row takes depends on its shelves.
-    let mut shelves = shelves_of(alloc, closed, names, picture, &times, &columns)?;
+    let mut shelves = shelves_of(alloc, closed, names, picture, &stamps, &columns)?;
     let falls = falls_of(
         alloc,
         closed,
         Told { downs, switches },
         picture.arrows.as_slice(),
-        &times,
+        &stamps,
         &columns,
         moments.as_slice(),
         &mut shelves,
     )?;
-    let rows = rows_of(alloc, times, heads.top, &shelves)?;
+    let rows = rows_of(alloc, stamps, heads.top, &shelves)?;
     let items = listed(alloc, picture.sends.as_slice())?;
     let list = list_at(&columns, longest.label);
     Ok(Sheet {
@@ -267,7 +267,7 @@ impl Sheet {
             Some(fall) => *fall,
             None => Fall {
                 cut: Edge {
-                    row: self.rows.times.len(),
+                    row: self.rows.stamps.len(),
                     shelf: 0,
                 },
                 end: None,
@@ -277,7 +277,7 @@ impl Sheet {
 
     /// Where a change of a link stands, that takes place before a row: above it, with its labels, or below the last row.
     fn edge_at(&self, row: usize) -> u64 {
-        if row < self.rows.times.len() {
+        if row < self.rows.stamps.len() {
             self.rows.over(row, self.shelves.room(row, Side::Above))
         } else {
             self.rows.bottom.saturating_add(TAIL / 4)
@@ -292,7 +292,7 @@ impl Sheet {
         let top = self.edge_at(fall.cut.row);
         let end = match fall.end {
             None => self.rows.bottom.saturating_add(TAIL),
-            Some(edge) if edge.row == fall.cut.row && edge.row < self.rows.times.len() => {
+            Some(edge) if edge.row == fall.cut.row && edge.row < self.rows.stamps.len() => {
                 self.rows.at(edge.row).saturating_add(self.rows.drop)
             }
             Some(edge) => self.edge_at(edge.row),
@@ -308,7 +308,7 @@ impl Sheet {
     /// Where a mark stands that has a shelf before a row, beside a line.
     fn spot_before(&self, edge: Edge, x: u64, anchor: Anchor) -> Spot {
         let raised = edge.shelf.saturating_mul(SHELF);
-        let last = self.rows.times.len();
+        let last = self.rows.stamps.len();
         let y = if edge.row < last {
             self.rows
                 .at(edge.row)
@@ -403,7 +403,7 @@ impl Sheet {
 
     /// Where the label of an arrow stands: above its point, or beside the cross where its copy was lost.
     pub(crate) fn label_at(&self, arrow: &Arrow) -> Spot {
-        let foot = foot_of(&self.rows.times, &self.columns, arrow);
+        let foot = foot_of(&self.rows.stamps, &self.columns, arrow);
         let y = self.way_of(arrow).y2;
         if arrow.look == Look::Lost {
             self.below(foot, y)
@@ -413,9 +413,9 @@ impl Sheet {
     }
 
     /// The mark of a send that began at a time, on the line that has a number.
-    pub(crate) fn mark_at(&self, number: usize, start: Option<Time>) -> Mark {
+    pub(crate) fn mark_at(&self, number: usize, start: Option<Stamp>) -> Mark {
         let y = self.rows.at_some(start);
-        let foot = mark_foot(&self.rows.times, &self.columns, number, start);
+        let foot = mark_foot(&self.rows.stamps, &self.columns, number, start);
         Mark {
             x: self.columns.line_at(number),
             y,

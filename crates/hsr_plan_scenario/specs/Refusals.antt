@@ -111,7 +111,7 @@ IsStopped m why = IsUnfinishedBy entries_tried m.topology m.capacity m.steps why
 
 -- there are no nodes; or an order is refused, or a drain doesn't end
 abbrev pub IsUnplayed : Meant → Type 0
-IsUnplayed m = (length m.topology.places ≡ 0) ⊎ ((place : ℕ) × (fault : DrainFault) × IsStopped m (Step place fault))
+IsUnplayed m = (length m.topology.places ≡ 0) ⊎ ((index : ℕ) × (fault : DrainFault) × IsStopped m (Step index fault))
 
 -- a text is no scenario; or one that isn't played
 abbrev pub IsUnplayedIf : Result Meant ScenarioFault → Type 0

@@ -49,9 +49,9 @@ fn played(alloc: Global, text: &str, scenario: Scenario) -> Result<(), Wrong>
     let (topology, capacity) = (scenario.topology, scenario.capacity);
     match finished::<TABLE>(alloc, topology, capacity, scenario.steps.as_slice()) {
         Ok(_closed) => Ok(()),
-        Err(Unfinished::Step(place, fault)) => {
+        Err(Unfinished::Step(index, fault)) => {
             let why = words_of_step(&fault);
-            Err(Wrong::Told(told_step(alloc, text, place, why)))
+            Err(Wrong::Told(told_step(alloc, text, index, why)))
         }
         Err(Unfinished::Check(cause)) => Err(Wrong::Open(cause)),
         // Refused room is no fault of the text, so it has no place there.

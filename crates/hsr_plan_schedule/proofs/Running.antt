@@ -73,11 +73,11 @@ runs_step seen starts i d timing until sent h =
     (runs (i + 1) (drop (i + 1) starts) timing until sent))
 
 abbrev pub first : ℕ → ℕ → Sender → List ℕ → Sent
-first i j s dst = record { stream = i; place = j; sender = s; dst = dst; state = 0; count = 0 }
+first i j s dst = record { stream = i; index = j; sender = s; dst = dst; state = 0; count = 0 }
 
 pub sent_by_step : (seen : List Occasion) (i : ℕ) (senders : List Sender) (j : ℕ) (d : Sender) (timing : Timing) (until : ℕ) (dst : List ℕ) → j < length senders
     → seen ++ sent_by i j (drop j senders) timing until dst
-    ≡ (seen ++ runs 0 timing.starts timing until (record { stream = i; place = j; sender = get_or senders j d; dst = dst; state = 0; count = 0 })) ++ sent_by i (j + 1) (drop (j + 1) senders) timing until dst
+    ≡ (seen ++ runs 0 timing.starts timing until (record { stream = i; index = j; sender = get_or senders j d; dst = dst; state = 0; count = 0 })) ++ sent_by i (j + 1) (drop (j + 1) senders) timing until dst
 sent_by_step seen i senders j d timing until dst h =
     ap (λ xs. seen ++ sent_by i j xs timing until dst) (drop_more senders j d h)
     ∙ sym (append_assoc seen (runs 0 timing.starts timing until (first i j (get_or senders j d) dst)) (sent_by i (j + 1) (drop (j + 1) senders) timing until dst))

@@ -94,7 +94,7 @@ runs s (start ∷ more) timing until sent =
 abbrev pub sent_by : ℕ → ℕ → List Sender → Timing → ℕ → List ℕ → List Occasion
 sent_by i j [] timing until dst = []
 sent_by i j (s ∷ more) timing until dst =
-    runs 0 timing.starts timing until (record { stream = i; place = j; sender = s; dst = dst; state = 0; count = 0 })
+    runs 0 timing.starts timing until (record { stream = i; index = j; sender = s; dst = dst; state = 0; count = 0 })
     ++ sent_by i (j + 1) more timing until dst
 
 -- how many octets the shortest payload of a kind has, in the first frame of a name

@@ -142,7 +142,7 @@ name_if (Some name) = name
 
 abbrev pub send_if : Setting → Option Stream → Sent → Told → Told
 send_if g None sent told = told
-send_if g (Some stream) sent told = sending g.moves (named_send stream sent (name_if (slice_get stream.from sent.place))) (hear g sent.sender told)
+send_if g (Some stream) sent told = sending g.moves (named_send stream sent (name_if (slice_get stream.from sent.index))) (hear g sent.sender told)
 
 -- ---- all
 

@@ -11,12 +11,12 @@ pub struct Sender {
     pub mac: Mac,
 }
 
-/// A frame of a stream: the stream's number, the place of its sender among the stream's, the sender, the destination, the number
+/// A frame of a stream: the stream's number, the index of its sender among the stream's, the sender, the destination, the number
 /// of the start that it follows, and how many were sent since.
 #[derive(Clone, Copy, Debug, PartialEq, Eq)]
 pub struct Sent {
     pub stream: usize,
-    pub place: usize,
+    pub index: usize,
     pub sender: Sender,
     pub dst: Mac,
     pub state: usize,
@@ -31,7 +31,7 @@ impl Sent {
     {
         Sent {
             stream: self.stream,
-            place: self.place,
+            index: self.index,
             sender: self.sender,
             dst: self.dst,
             state: self.state,
@@ -45,7 +45,7 @@ impl Sent {
     {
         Sent {
             stream: self.stream,
-            place: self.place,
+            index: self.index,
             sender: self.sender,
             dst: self.dst,
             state,

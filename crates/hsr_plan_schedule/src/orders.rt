@@ -148,10 +148,10 @@ fn is_to_speak(moves: Moves, is_known: bool) -> bool
 }
 
 /// The name of a stream's sender.
-fn name_of(stream: &Stream, place: usize) -> &[u8]
-    ensures { result.now ≡ name_if (slice_get stream.now.from place) }
+fn name_of(stream: &Stream, index: usize) -> &[u8]
+    ensures { result.now ≡ name_if (slice_get stream.now.from index) }
 {
-    match stream.from.get(place) {
+    match stream.from.get(index) {
         Some(name) => name.as_bytes(),
         None => &[],
     }
@@ -160,14 +160,14 @@ fn name_of(stream: &Stream, place: usize) -> &[u8]
 /// The send of a frame of a stream.
 fn named_send(alloc: Global, stream: &Stream, sent: Sent) -> Result<Order, NoMemory>
     ensures { IfOk result (λ o. o ≡ named_send stream.now sent
-        (name_if (slice_get stream.now.from sent.place))) }
+        (name_if (slice_get stream.now.from sent.index))) }
 {
     let framing = &stream.framing;
     // no plan that is read comes near these
     if framing.size > SIZE_LIMIT || sent.state > STATE_LIMIT {
         return Err(NoMemory);
     }
-    let name = name_of(stream, sent.place);
+    let name = name_of(stream, sent.index);
     let payload = payload(
         alloc,
         framing.kind,

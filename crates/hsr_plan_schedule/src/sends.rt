@@ -58,11 +58,11 @@ fn most_sent(count: Option<u64>) -> u64
     }
 }
 
-/// The first frame of the sender at a place among those of a stream.
-fn first(stream: usize, place: usize, sender: Sender, dst: Mac) -> Sent
+/// The first frame of the sender at an index among those of a stream.
+fn first(stream: usize, index: usize, sender: Sender, dst: Mac) -> Sent
     ensures { result ≡ record {
       stream = stream;
-      place = place;
+      index = index;
       sender = sender;
       dst = dst;
       state = 0;
@@ -71,7 +71,7 @@ fn first(stream: usize, place: usize, sender: Sender, dst: Mac) -> Sent
 {
     Sent {
         stream,
-        place,
+        index,
         sender,
         dst,
         state: 0,
@@ -177,8 +177,8 @@ fn left_by_all(
     ensures { result ≡ left room (length (sent_by stream 0 senders.now timing.now until dst)) }
 {
     let mut rest = room;
-    for (place, sender) in senders.iter().enumerate() {
-        let sent = first(stream, place, *sender, dst);
+    for (index, sender) in senders.iter().enumerate() {
+        let sent = first(stream, index, *sender, dst);
         match left_by_runs(rest, timing, until, &sent) {
             Some(less) => rest = less,
             None => return None,
@@ -296,8 +296,8 @@ fn sent_by(
     ensures { IfOk result (λ v. v.items ≡ sent_by stream 0 senders.now timing.now until dst) }
 {
     let mut occasions = Vec::new(alloc);
-    for (place, sender) in senders.iter().enumerate() {
-        let sent = first(stream, place, *sender, dst);
+    for (index, sender) in senders.iter().enumerate() {
+        let sent = first(stream, index, *sender, dst);
         add_runs(&mut occasions, timing, until, &sent)?;
     }
     Ok(occasions)

@@ -54,7 +54,7 @@ IsPlanEnd capacity topology planned NoRoom = Unit {0}
 IsPlanEnd capacity topology planned (Node fault) = IsRefusedEvent capacity planned.at planned.event fault
 IsPlanEnd capacity topology planned fault = if_node topology planned.node ≡ Some fault
 
--- the main worker's order at a place isn't done
+-- the main worker's order at an index isn't done
 abbrev pub IsOwnEnd : ℕ → Meant → ℕ → WorldFault → Type 0
 IsOwnEnd capacity s k fault = MatchOption (slice_get s.steps k) ⊥ (λ o. IsOrderEnd capacity s.topology o fault)
 
@@ -63,7 +63,7 @@ abbrev pub FitsNode : Topology → Option Planned → Type 0
 FitsNode topology None = Unit {0}
 FitsNode topology (Some planned) = if_node topology planned.node ≡ None
 
--- the main worker ends after all steps, of which each fits; or at a place, or by its gate where that may shut
+-- the main worker ends after all steps, of which each fits; or at an index, or by its gate where that may shut
 abbrev pub IsConducted : ℕ → Bool → Meant → Conducted → Type 0
 IsConducted capacity may_shut s All = AllFit s.topology s.steps
 IsConducted capacity may_shut s (Left k) = k ≤ length s.steps
@@ -72,7 +72,7 @@ IsConducted capacity may_shut s conducted.Shut = may_shut ≡ true
 IsConducted capacity may_shut s conducted.NoThread = Unit {0}
 IsConducted capacity may_shut s conducted.NoMemory = Unit {0}
 
--- why there is no run where the main worker is at a place, and the lowest of the others that gave up ended so
+-- why there is no run where the main worker is at an index, and the lowest of the others that gave up ended so
 abbrev pub worker_fault : ℕ → Ending → Option RunFault
 worker_fault k Stopped = None
 worker_fault k Shut = Some fault.GateShut

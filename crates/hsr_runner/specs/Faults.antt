@@ -1,7 +1,7 @@
 -- What is known of the reason why there is no run.
 --     misfit        why a step is refused whatever was done before it
 --     AllFit        no step of these is
---     IsOwnFault    why the order at a place is refused
+--     IsOwnFault    why the order at an index is refused
 --     IsNoRunOf     what there is in place of a run, as a cause of the closing check
 --     IsRunFault    why there is no run of a scenario
 use Rattle.std.specs.Prelude.{ℕ, ◌≡◌, ◌≤◌, ◌⊎◌, nat_lt, Bool, true, false, if◌then◌else◌, List, [], ◌∷◌, length, slice_get, position, MatchOption, Option, Some, None, Err, Vec}
@@ -87,7 +87,7 @@ abbrev pub IsCopyFault : ℕ → WorldFault → Type 0
 IsCopyFault capacity (Node fault) = IsRefusedCopy capacity fault
 IsCopyFault capacity _ = ⊥
 
--- the main worker's order at a place is refused
+-- the main worker's order at an index is refused
 abbrev pub IsOwnFault : ℕ → Meant → ℕ → WorldFault → Type 0
 IsOwnFault capacity s k fault = MatchOption (slice_get s.steps k) ⊥ (λ o. IsRefusedOrder capacity s.topology o fault)
 
@@ -112,7 +112,7 @@ IsNoRunOf capacity s d = IsCause capacity s.topology (plan_of s.steps) d ⊎ IsU
 -- ---- faults
 
 -- Why there is no run of a scenario: its lowest fine step; an order of the main worker that is refused, or a copy that is while the main
--- worker is at a place; or what the closing check found, or the look behind it. A failed allocation is always `NoMemory`.
+-- worker is at an index; or what the closing check found, or the look behind it. A failed allocation is always `NoMemory`.
 abbrev pub IsRunFault : ℕ → Meant → RunFault → Type 0
 IsRunFault capacity s (FineStep k) = position is_fine s.steps ≡ Some k
 IsRunFault capacity s (Step k fault) = (k ≤ length s.steps) × (IsOwnFault capacity s k fault ⊎ IsCopyFault capacity fault)

@@ -50,7 +50,7 @@ fn injected_link(orders: &[Order]) -> Option<usize>
     ensures { result ≡ first_injected orders.now }
 {
     // The index is used by the loop's invariant alone.
-    for (place, order) in orders.iter().enumerate() {
+    for (index, order) in orders.iter().enumerate() {
         if let Order::Step(Step::Inject { link, .. }) = order {
             return Some(*link);
         }

@@ -24,9 +24,9 @@ use std::sync::Wait;
 pub(crate) enum Conducted {
     /// All were done, and no copy is on its way.
     All,
-    /// It was told to stop when it was at this place.
+    /// It was told to stop when it was at the step with this index.
     Left(usize),
-    /// The step at this place was refused.
+    /// The step with this index was refused.
     Own(usize, WorldFault),
     /// The gate answered false before a step.
     Shut,

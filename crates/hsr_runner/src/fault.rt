@@ -5,9 +5,9 @@ use hsr_world_steps::WorldFault;
 /// Why a scenario has no run in threads, in the order in which the reasons are tried.
 #[derive(Clone, Copy, Debug, PartialEq, Eq)]
 pub enum RunFault {
-    /// The step at this place, counted from 0, is a Put, Take or Judge: no thread was started.
+    /// The step with this index, counted from 0, is a Put, Take or Judge: no thread was started.
     FineStep { step: usize },
-    /// The step at this place was refused; or a node had no room for another step when the main worker was there.
+    /// The step with this index was refused; or a node had no room for another step when the main worker was there.
     Step { step: usize, fault: WorldFault },
     /// The gate answered false.
     GateShut,

@@ -16,7 +16,7 @@ pub trait Gate: Sync {
     fn pass(&self, rt: &impl Wait, node: usize, port: u8, probe: Option<Probe>) -> bool
         ensures { result ≡ false → may_shut ≡ true };
 
-    /// Whether the main worker goes on with the step at this place of the scenario, counted from 0. False ends the run.
+    /// Whether the main worker goes on with the step with this index in the scenario. False ends the run.
     fn before(&self, _rt: &impl Wait, _step: usize) -> bool
         ensures { result ≡ false → may_shut ≡ true }
     {

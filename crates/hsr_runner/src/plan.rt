@@ -22,7 +22,7 @@ fn is_fine(order: &Order) -> bool
     }
 }
 
-/// The lowest place of a Put, Take or Judge.
+/// The lowest index of a Put, Take or Judge.
 pub fn first_fine(orders: &[Order]) -> Option<usize>
     ensures { result ≡ position is_fine orders.now }
 {

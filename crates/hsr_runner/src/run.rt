@@ -93,7 +93,7 @@ fn checked<const C: usize>(
 /// Only a finished run is answered, of a scenario in which each step names a node or link that is there and none injects. In it each
 /// entry is the main worker's, number 0, or an arrival of the worker of its port, `1 + 8 k + p` at port p of node k, or an age of the
 /// node's ager, `8 + 8 k`. The first of these faults is: `FineStep` exactly where the scenario has a Put, Take or
-/// Judge, with its lowest place, and then no thread was started; the main worker's own `Step`, `GateShut`, `Thread` or `NoMemory`;
+/// Judge, with its lowest index, and then no thread was started; the main worker's own `Step`, `GateShut`, `Thread` or `NoMemory`;
 /// that of the lowest worker that gave up, `GateShut`, `NoMemory` or `Step`; and `Check`. `GateShut` comes only where the type of the
 /// gate may answer false. It waits for its threads and may not return; what is said of its answer is said if it does.
 #[tactic(auto, using(crate::proofs::Endings::run_fault, crate::proofs::Endings::not_fine, crate::proofs::Endings::check_fault, crate::proofs::Endings::shuts, crate::proofs::Endings::unlike_fault))]

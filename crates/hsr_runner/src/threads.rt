@@ -116,7 +116,7 @@ fn join_all<const C: usize, G: Gate, R: Threads>(
     first
 }
 
-/// Why there is no run where the main worker was at a place when the lowest of the others that gave up ended so.
+/// Why there is no run where the main worker was at a step when the lowest of the others that gave up ended so.
 fn worker_fault(step: usize, ending: Ending) -> Option<RunFault>
     ensures { result ≡ worker_fault step ending }
 {
@@ -132,7 +132,7 @@ fn worker_fault(step: usize, ending: Ending) -> Option<RunFault>
 }
 
 /// Why there is no run where the main worker and the others ended so, in the order of the faults; none where all is done. `last` is the
-/// place after the last step.
+/// index after the last step.
 fn fault_of(conducted: Conducted, ending: Ending, last: usize) -> Option<RunFault>
     ensures { result ≡ fault_of conducted ending last }
 {

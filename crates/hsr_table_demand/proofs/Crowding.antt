@@ -6,7 +6,7 @@ use Rattle.std.proofs.lemmas.List.Sums.{sum_by-cons}
 use Rattle.std.proofs.lemmas.Bool.{cases_lt}
 use Rattle.hsr_table_demand.specs.Windows.{IsFirstOver, IsMostBelow, crowd_in, greatest, lies_in, most_in}
 
--- ---- the place up to which a test passes is how many pass
+-- ---- the index up to which a test passes is how many pass
 
 abbrev ones : Bool → ℕ
 ones b = cond b 1 0
@@ -68,7 +68,7 @@ most_more ms i most count new before here is =
 pub first_over : (room : ℕ) (ms : List ℕ) (i most count : ℕ) → i < length ms → IsMostBelow ms i most → most ≤ room → count ≡ crowd_in ms (slice_index ms i) → room < count → IsFirstOver room ms (slice_index ms i)
 first_over room ms i most count below before fits here more =
     record {
-      place = i;
+      index = i;
       below = below;
       is = refl;
       crowded = omega (arith, here, more);

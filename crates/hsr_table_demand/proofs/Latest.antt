@@ -17,44 +17,44 @@ use Rattle.hsr_table_demand.specs.declared.tally.Tally.{Tally}
 -- ---- the latest note
 
 found : ℕ → ℕ → Latest
-found place moment = record { place = place; moment = moment }
+found index moment = record { index = index; moment = moment }
 
 -- the latest one is found
 pub latest_found : (send : Option Probe) (noted younger : List Noted) (note : Noted) (l : IsLatest send noted younger note) →
-    latest_in send noted ≡ Some (record { place = length l.older; moment = note.moment })
+    latest_in send noted ≡ Some (record { index = length l.older; moment = note.moment })
 latest_found send noted younger note l = ap (latest_in send) l.all ∙ skip younger l.none_later
   where
-    here : latest_in send (note ∷ l.older) ≡ Some (record { place = length l.older; moment = note.moment })
-    here = ap (λ b. cond b (Some (record { place = length l.older; moment = note.moment })) (latest_in send l.older)) l.of_send
+    here : latest_in send (note ∷ l.older) ≡ Some (record { index = length l.older; moment = note.moment })
+    here = ap (λ b. cond b (Some (record { index = length l.older; moment = note.moment })) (latest_in send l.older)) l.of_send
 
-    skip : (ys : List Noted) → list_any (is_note_of send) ys ≡ false → latest_in send (ys ++ note ∷ l.older) ≡ Some (record { place = length l.older; moment = note.moment })
+    skip : (ys : List Noted) → list_any (is_note_of send) ys ≡ false → latest_in send (ys ++ note ∷ l.older) ≡ Some (record { index = length l.older; moment = note.moment })
     skip [] none = here
     skip (y ∷ ys) none =
         let parts = or_parts (is_note_of send y) (list_any (is_note_of send) ys) none in
-        ap (λ b. cond b (Some (record { place = length (ys ++ note ∷ l.older); moment = y.moment })) (latest_in send (ys ++ note ∷ l.older))) parts.0 ∙ skip ys parts.1
+        ap (λ b. cond b (Some (record { index = length (ys ++ note ∷ l.older); moment = y.moment })) (latest_in send (ys ++ note ∷ l.older))) parts.0 ∙ skip ys parts.1
 
 -- what is found is the latest one
 pub record IsFound (send : Option Probe) (noted : List Noted) (latest : Latest) : Type 0 where
   pub younger : List Noted
   pub note : Noted
   pub is : IsLatest send noted younger note
-  pub place : latest.place ≡ length is.older
+  pub index : latest.index ≡ length is.older
   pub moment : latest.moment ≡ note.moment
 
 pub found_latest : (send : Option Probe) (noted : List Noted) (latest : Latest) → latest_in send noted ≡ Some latest → IsFound send noted latest
 found_latest send [] latest h = absurd (none-some latest h)
 found_latest send (n ∷ ns) latest h = by_head (is_note_of send n) refl h (found_latest send ns latest)
   where
-    by_head : (b : Bool) → is_note_of send n ≡ b → cond b (Some (record { place = length ns; moment = n.moment })) (latest_in send ns) ≡ Some latest →
+    by_head : (b : Bool) → is_note_of send n ≡ b → cond b (Some (record { index = length ns; moment = n.moment })) (latest_in send ns) ≡ Some latest →
         (latest_in send ns ≡ Some latest → IsFound send ns latest) → IsFound send (n ∷ ns) latest
     by_head true on h rest =
-        let there : Latest = record { place = length ns; moment = n.moment } in
+        let there : Latest = record { index = length ns; moment = n.moment } in
         let same : there ≡ latest = cc in
         record {
           younger = [];
           note = n;
           is = record { older = ns; all = refl; of_send = on; none_later = refl };
-          place = sym (ap (λ (l : Latest). l.place) same);
+          index = sym (ap (λ (l : Latest). l.index) same);
           moment = sym (ap (λ (l : Latest). l.moment) same);
         }
     by_head false off h rest =
@@ -63,7 +63,7 @@ found_latest send (n ∷ ns) latest h = by_head (is_note_of send n) refl h (foun
           younger = n ∷ f.younger;
           note = f.note;
           is = record { older = f.is.older; all = ap (λ xs. n ∷ xs) f.is.all; of_send = f.is.of_send; none_later = ap (λ b. b || list_any (is_note_of send) f.younger) off ∙ f.is.none_later };
-          place = f.place;
+          index = f.index;
           moment = f.moment;
         }
 
@@ -125,6 +125,6 @@ told_more old new false (Some key) at send noted after t = record { count = afte
 told_more old new true (Some key) at send noted after t = record {
   count = let a = after.count in let b = t.count in omega (arith, a, b);
   latest = λ p. after.latest p
-      ∙ (ap (λ n. cond (is_same_send (Some p) send) (Some (record { place = n; moment = at })) (latest_of old.sends p)) t.count
-      ∙ ap (λ o. cond (is_same_send (Some p) send) (Some (record { place = length noted; moment = at })) o) (t.latest p));
+      ∙ (ap (λ n. cond (is_same_send (Some p) send) (Some (record { index = n; moment = at })) (latest_of old.sends p)) t.count
+      ∙ ap (λ o. cond (is_same_send (Some p) send) (Some (record { index = length noted; moment = at })) o) (t.latest p));
 }

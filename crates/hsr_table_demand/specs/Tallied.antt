@@ -18,12 +18,12 @@ use Rattle.hsr_table_demand.specs.declared.tally.Tally.{Tally}
 -- the latest note of a send: how many notes are older, and its moment
 abbrev pub latest_in : Option Probe → List Noted → Option Latest
 latest_in send [] = None
-latest_in send (note ∷ past) = if is_note_of send note then Some (record { place = length past; moment = note.moment }) else latest_in send past
+latest_in send (note ∷ past) = if is_note_of send note then Some (record { index = length past; moment = note.moment }) else latest_in send past
 
 -- how many notes there are from the latest one of a send on, where it isn't expired
 abbrev pub reach_from : ℕ → ℕ → Option Latest → ℕ
 reach_from count at None = 0
-reach_from count at (Some latest) = if nat_lt (at - latest.moment) entry_forget then count - latest.place else 0
+reach_from count at (Some latest) = if nat_lt (at - latest.moment) entry_forget then count - latest.index else 0
 
 abbrev pub reach_in : ℕ → Option Probe → List Noted → ℕ
 reach_in at send noted = reach_from (length noted) at (latest_in send noted)
@@ -44,4 +44,4 @@ pub record Tells (tally : Tally) (noted : List Noted) : Type 0 where
 pub record IsTalliedAfter (old : Tally) (is_noted : Bool) (moment : ℕ) (send : Option Probe) (new : Tally) : Type 0 where
   pub count : new.count ≡ (if is_noted then old.count + 1 else old.count)
   pub latest : (p : Probe) → latest_of new.sends p
-      ≡ (if is_noted && is_same_send (Some p) send then Some (record { place = old.count; moment = moment }) else latest_of old.sends p)
+      ≡ (if is_noted && is_same_send (Some p) send then Some (record { index = old.count; moment = moment }) else latest_of old.sends p)

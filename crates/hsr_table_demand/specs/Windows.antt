@@ -29,8 +29,8 @@ pub record IsMostBelow (ms : List ℕ) (n most : ℕ) : Type 0 where
 
 -- the window of this moment has more than there is room for, and those of the moments before it have not
 pub record IsFirstOver (room : ℕ) (ms : List ℕ) (m : ℕ) : Type 0 where
-  pub place : ℕ
-  pub below : place < length ms
-  pub is : slice_index ms place ≡ m
+  pub index : ℕ
+  pub below : index < length ms
+  pub is : slice_index ms index ≡ m
   pub crowded : room < crowd_in ms m
-  pub before : (j : ℕ) → j < place → crowd_in ms (slice_index ms j) ≤ room
+  pub before : (j : ℕ) → j < index → crowd_in ms (slice_index ms j) ≤ room

@@ -13,8 +13,8 @@ use std::alloc::Global;
 /// The latest note of a send.
 #[derive(Clone, Copy)]
 pub(crate) struct Latest {
-    /// How many notes are older.
-    place: usize,
+    /// Its index among the notes of its egress: how many are older.
+    index: usize,
     /// Its effective moment in microseconds.
     moment: u64,
 }
@@ -74,7 +74,7 @@ impl Tally {
         match latest_of(&self.sends, send) {
             // A difference and no sum, which may overflow.
             Some(latest) if at.saturating_sub(latest.moment) < ENTRY_FORGET => {
-                self.count.saturating_sub(latest.place)
+                self.count.saturating_sub(latest.index)
             }
             _ => 0,
         }
@@ -92,7 +92,7 @@ impl Tally {
     {
         if is_noted {
             let latest = Latest {
-                place: self.count,
+                index: self.count,
                 moment,
             };
             name_latest(&mut self.sends, send, latest)?;

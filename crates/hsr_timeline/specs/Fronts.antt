@@ -1,12 +1,12 @@
--- Times as far as they are known: of each record a front.
+-- Stamps as far as they are known: of each record a front.
 use Rattle.std.specs.Prelude.{ℕ, ◌≡◌, ◌<◌, List, [], length, map, slice_index_or, Option, Some, None, Vec}
 use Rattle.std.specs.Global.{Global}
 use Rattle.hsr_timeline.specs.declared.origin.Origin.{Origin}
 use Rattle.hsr_timeline.specs.declared.origin.Spot.{Spot}
-use Rattle.hsr_timeline.specs.declared.time.Time.{Time}
+use Rattle.hsr_timeline.specs.declared.stamp.Stamp.{Stamp}
 use Rattle.hsr_timeline.specs.declared.timing.OrderFault.{OrderFault}
 use Rattle.hsr_timeline.specs.declared.timing.OrderFault.TheVariants.{Circle, NoMemory}
-use Rattle.hsr_timeline.specs.Times.{at_spot, time_of}
+use Rattle.hsr_timeline.specs.Stamps.{at_spot, stamp_of}
 
 -- lists in memory, as lists
 abbrev pub items_of : {X : Type 0} → Vec X Global → List X
@@ -20,27 +20,27 @@ abbrev pub length_at : {X : Type 0} → List (List X) → ℕ → ℕ
 length_at rows node = length (slice_index_or rows node [])
 
 -- a node's next entry
-abbrev pub next_spot : List (List Time) → ℕ → Spot
-next_spot times node = record { node = node; place = length_at times node }
+abbrev pub next_spot : List (List Stamp) → ℕ → Spot
+next_spot stamps node = record { node = node; place = length_at stamps node }
 
--- its time, if the times of its causes are known
-abbrev pub next_of : List (List Origin) → List (List Time) → ℕ → Option Time
-next_of records times node = time_of records (at_spot times) (next_spot times node)
+-- its stamp, if the stamps of its causes are known
+abbrev pub next_of : List (List Origin) → List (List Stamp) → ℕ → Option Stamp
+next_of records stamps node = stamp_of records (at_spot stamps) (next_spot stamps node)
 
--- each time that is known is right
-pub record IsFront (records : List (List Origin)) (times : List (List Time)) : Type 0 where
-  pub nodes : length times ≡ length records
-  pub each : (spot : Spot) (t : Time) → at_spot times spot ≡ Some t → time_of records (at_spot times) spot ≡ Some t
+-- each stamp that is known is right
+pub record IsFront (records : List (List Origin)) (stamps : List (List Stamp)) : Type 0 where
+  pub nodes : length stamps ≡ length records
+  pub each : (spot : Spot) (t : Stamp) → at_spot stamps spot ≡ Some t → stamp_of records (at_spot stamps) spot ≡ Some t
 
--- none of the first nodes' next entries has a time yet
-abbrev pub AreBlocked : List (List Origin) → List (List Time) → ℕ → Type 0
-AreBlocked records times n = (k : ℕ) → k < n → next_of records times k ≡ None
+-- none of the first nodes' next entries has a stamp yet
+abbrev pub AreBlocked : List (List Origin) → List (List Stamp) → ℕ → Type 0
+AreBlocked records stamps n = (k : ℕ) → k < n → next_of records stamps k ≡ None
 
--- the times of all entries are known
-abbrev pub AreAllKnown : List (List Origin) → List (List Time) → Type 0
-AreAllKnown records times = (k : ℕ) → k < length records → length_at times k ≡ length_at records k
+-- the stamps of all entries are known
+abbrev pub AreAllKnown : List (List Origin) → List (List Stamp) → Type 0
+AreAllKnown records stamps = (k : ℕ) → k < length records → length_at stamps k ≡ length_at records k
 
--- why there are no times: a circle says so
+-- why there are no stamps: a circle says so
 abbrev pub IfCircle : Type 0 → OrderFault → Type 0
 IfCircle P Circle = P
 IfCircle P NoMemory = Unit {0}

@@ -1,4 +1,4 @@
-pub mod Times
+pub mod Stamps
 pub mod Fronts
 pub mod Names
 pub mod Partners

@@ -11,10 +11,10 @@ use Rattle.std.specs.Ordering.{bool_cmp, nat_cmp, ordering_then}
 use Rattle.std.specs.declared.cmp.Ordering.{Ordering}
 use Rattle.hsr_run_laws.specs.Run.{Run}
 use Rattle.hsr_finished_run.specs.declared.planned.Planned.{Planned}
-use Rattle.hsr_timeline.specs.Times.{AreTimes, HasNoTimes}
+use Rattle.hsr_timeline.specs.Stamps.{AreStamps, HasNoStamps}
 use Rattle.hsr_timeline.specs.declared.origin.Origin.{Origin}
 use Rattle.hsr_timeline.specs.declared.origin.Spot.{Spot}
-use Rattle.hsr_timeline.specs.declared.time.Time.{Time}
+use Rattle.hsr_timeline.specs.declared.stamp.Stamp.{Stamp}
 use Rattle.hsr_timeline.specs.declared.hop.Hop.{Hop}
 use Rattle.hsr_timeline.specs.Hops.{hops}
 use Rattle.hsr_timeline.specs.declared.shown.Shown.{Shown}
@@ -26,7 +26,7 @@ use Rattle.hsr_timeline.specs.Causes.{origins}
 abbrev pub shown_where : Hop → Option Spot
 shown_where hop = option_or hop.judged hop.passed
 
-abbrev pub shown_by : Hop → Spot → Time → Shown
+abbrev pub shown_by : Hop → Spot → Stamp → Shown
 shown_by hop spot t = record {
   moment = t.moment;
   step = t.step;
@@ -37,15 +37,15 @@ shown_by hop spot t = record {
   number = hop.number;
 }
 
-abbrev pub shown_then : (Spot → Option Time) → Hop → Spot → Option Shown
-shown_then time hop spot = option_map (shown_by hop spot) (time spot)
+abbrev pub shown_then : (Spot → Option Stamp) → Hop → Spot → Option Shown
+shown_then stamp hop spot = option_map (shown_by hop spot) (stamp spot)
 
-abbrev pub shown_at : (Spot → Option Time) → Hop → Option Shown
-shown_at time hop = option_and_then (shown_then time hop) (shown_where hop)
+abbrev pub shown_at : (Spot → Option Stamp) → Hop → Option Shown
+shown_at stamp hop = option_and_then (shown_then stamp hop) (shown_where hop)
 
 -- each hop has its row
-abbrev pub AreShown : (Spot → Option Time) → List Hop → List Shown → Type 0
-AreShown time list rows = map (shown_at time) list ≡ map (λ row. Some row) rows
+abbrev pub AreShown : (Spot → Option Stamp) → List Hop → List Shown → Type 0
+AreShown stamp list rows = map (shown_at stamp) list ≡ map (λ row. Some row) rows
 
 -- ---- the order
 
@@ -56,16 +56,16 @@ shown_cmp x y =
 
 -- by what entries follow, each row of these hops once, in the order of time
 pub record IsOrdered (records : List (List Origin)) (list : List Hop) (story : List Shown) : Type 0 where
-  pub time : Spot → Option Time
-  pub times : AreTimes records time
+  pub stamp : Spot → Option Stamp
+  pub stamps : AreStamps records stamp
   pub rows : List Shown
-  pub shown : AreShown time list rows
+  pub shown : AreShown stamp list rows
   pub once : IsPermutation rows story
   pub sorted : IsSorted shown_cmp story
 
--- entries follow one another in a circle; or a row stands at none that has a time
+-- entries follow one another in a circle; or a row stands at none that has a stamp
 abbrev pub HasNoOrder : List (List Origin) → List Hop → Type 0
-HasNoOrder records list = HasNoTimes records ⊎ ((time : Spot → Option Time) × AreTimes records time × ((rows : List Shown) → AreShown time list rows → ⊥))
+HasNoOrder records list = HasNoStamps records ⊎ ((stamp : Spot → Option Stamp) × AreStamps records stamp × ((rows : List Shown) → AreShown stamp list rows → ⊥))
 
 -- each row of a run once, in the order of time
 abbrev pub IsStory : Run → List Planned → List Shown → Type 0

@@ -1,18 +1,18 @@
-//! Times as far as they are known: the time of a node's next entry.
+//! Stamps as far as they are known: the stamp of a node's next entry.
 ghost use Rattle.std.specs.Prelude.{◌≡◌, ◌+◌, ◌<◌, length, IfOk};
-ghost use Rattle.hsr_timeline.specs.Times.{after, at_spot, before, time_by};
+ghost use Rattle.hsr_timeline.specs.Stamps.{after, at_spot, before, stamp_by};
 ghost use Rattle.hsr_timeline.specs.Fronts.{lists_of, next_of};
 
 use crate::origin::{Origin, Spot};
-use crate::time::Time;
+use crate::stamp::Stamp;
 use hsr_frame::NoMemory;
 
-/// The time of an entry; none where it isn't known.
-/// `times` has a list for each node, in the order of its record.
-pub fn time_at(times: &[Vec<Time>], spot: Spot) -> Option<Time>
-    ensures { result ≡ at_spot (lists_of times.now) spot }
+/// The stamp of an entry; none where it isn't known.
+/// `stamps` has a list for each node, in the order of its record.
+pub fn stamp_at(stamps: &[Vec<Stamp>], spot: Spot) -> Option<Stamp>
+    ensures { result ≡ at_spot (lists_of stamps.now) spot }
 {
-    match times.get(spot.node) {
+    match stamps.get(spot.node) {
         Some(record) => record.get(spot.place).copied(),
         None => None,
     }
@@ -41,67 +41,71 @@ fn before(spot: Spot) -> Option<Spot>
     })
 }
 
-/// One step after a time.
-fn next(time: Time) -> Result<Time, NoMemory>
-    ensures { IfOk result (λ t. t ≡ record { moment = time.moment; step = time.step + 1 }) }
+/// One step after a stamp.
+fn next(stamp: Stamp) -> Result<Stamp, NoMemory>
+    ensures { IfOk result (λ t. t ≡ record { moment = stamp.moment; step = stamp.step + 1 }) }
 {
     // 64 bits of steps are never used up; if they were, that would be want of room.
-    match time.step.checked_add(1) {
-        Some(step) => Ok(Time {
-            moment: time.moment,
+    match stamp.step.checked_add(1) {
+        Some(step) => Ok(Stamp {
+            moment: stamp.moment,
             step,
         }),
         None => Err(NoMemory),
     }
 }
 
-/// A time, or one step after that of a cause, whichever is later; none where the cause's isn't known.
-fn after(times: &[Vec<Time>], cause: Option<Spot>, time: Time) -> Result<Option<Time>, NoMemory>
-    ensures { IfOk result (λ t. t ≡ after (at_spot (lists_of times.now)) cause time) }
+/// A stamp, or one step after that of a cause, whichever is later; none where the cause's isn't known.
+fn after(
+    stamps: &[Vec<Stamp>],
+    cause: Option<Spot>,
+    stamp: Stamp,
+) -> Result<Option<Stamp>, NoMemory>
+    ensures { IfOk result (λ t. t ≡ after (at_spot (lists_of stamps.now)) cause stamp) }
 {
     let Some(cause) = cause else {
-        return Ok(Some(time));
+        return Ok(Some(stamp));
     };
-    match time_at(times, cause) {
-        Some(known) => Ok(Some(time.later(next(known)?))),
+    match stamp_at(stamps, cause) {
+        Some(known) => Ok(Some(stamp.later(next(known)?))),
         None => Ok(None),
     }
 }
 
-/// The time of an entry, by those of its causes.
-fn time_by(times: &[Vec<Time>], spot: Spot, origin: Origin) -> Result<Option<Time>, NoMemory>
-    ensures { IfOk result (λ t. t ≡ time_by (at_spot (lists_of times.now)) spot origin) }
+/// The stamp of an entry, by those of its causes.
+fn stamp_by(stamps: &[Vec<Stamp>], spot: Spot, origin: Origin) -> Result<Option<Stamp>, NoMemory>
+    ensures { IfOk result (λ t. t ≡ stamp_by (at_spot (lists_of stamps.now)) spot origin) }
 {
-    let own = Time {
+    let own = Stamp {
         moment: origin.at,
         step: 0,
     };
     // The order of the three causes doesn't matter: the latest counts.
-    let Some(recorded) = after(times, before(spot), own)? else {
+    let Some(recorded) = after(stamps, before(spot), own)? else {
         return Ok(None);
     };
-    let Some(planned) = after(times, origin.planned, recorded)? else {
+    let Some(planned) = after(stamps, origin.planned, recorded)? else {
         return Ok(None);
     };
-    after(times, origin.passed, planned)
+    after(stamps, origin.passed, planned)
 }
 
-/// The time of a node's next entry, if there is one and the times of its causes are known.
+/// The stamp of a node's next entry, if there is one and the stamps of its causes are known.
 pub(crate) fn next_of(
     records: &[Vec<Origin>],
-    times: &[Vec<Time>],
+    stamps: &[Vec<Stamp>],
     node: usize,
-) -> Result<Option<Time>, NoMemory>
-    requires { node < length times.now }
-    ensures { IfOk result (λ t. t ≡ next_of (lists_of records.now) (lists_of times.now) node) }
+) -> Result<Option<Stamp>, NoMemory>
+    requires { node < length stamps.now }
+    ensures { IfOk result (λ t. t ≡ next_of (lists_of records.now) (lists_of stamps.now) node) }
 {
     let spot = Spot {
         node,
-        // Times are found in the order of the record, so the next entry is the one behind those that are known.
-        place: times[node].len(),
+        // Stamps are found in the order of the record, so the next entry is the one behind those that are known.
+        place: stamps[node].len(),
     };
     match origin_at(records, spot) {
-        Some(origin) => time_by(times, spot, origin),
+        Some(origin) => stamp_by(stamps, spot, origin),
         None => Ok(None),
     }
 }

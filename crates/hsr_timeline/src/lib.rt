@@ -3,10 +3,10 @@
 //!
 //! Its modules, in the order in which to read them:
 //! - `origin`: an entry's place, its own moment, and what it follows
-//! - `time`: a moment and a step
-//! - `front`: times as far as they are known
-//! - `timing`: the times of all entries, its call
-//! - `law`: what holds of times
+//! - `stamp`: a moment and a step
+//! - `front`: stamps as far as they are known
+//! - `timing`: the stamps of all entries, its call
+//! - `law`: what holds of stamps
 //! - `naming`: the names of nodes and of their ports, put into texts
 //! - `calling`: the node that a word names
 //! - `hop`: a hop
@@ -37,20 +37,20 @@ mod origins;
 mod pairs;
 mod partners;
 mod shown;
+mod stamp;
 mod telling;
-mod time;
 mod timing;
 
 pub use calling::node_called;
 pub use choice::{Choice, ChoiceFault};
 pub use choosing::{check_choice, chosen, is_wanted};
-pub use front::time_at;
+pub use front::stamp_at;
 pub use hop::Hop;
 pub use hopping::{hops, link_hops};
 pub use law::causes_first;
 pub use naming::{put_name, put_port};
 pub use origin::{Origin, Spot};
 pub use shown::Shown;
-pub use telling::{StoryFault, entry_times, story};
-pub use time::Time;
-pub use timing::{OrderFault, times};
+pub use stamp::Stamp;
+pub use telling::{StoryFault, entry_stamps, story};
+pub use timing::{OrderFault, stamps};

@@ -2,13 +2,13 @@
 ghost use Rattle.std.specs.Prelude.{◌≡◌, ◌∷◌, [], ◌++◌, List, IfErr, IfOk, OnOk, IsPermutation};
 ghost use Rattle.std.specs.List.Sorted.{IsSorted};
 ghost use Rattle.hsr_timeline.specs.Fronts.{lists_of};
-ghost use Rattle.hsr_timeline.specs.Times.{AreTimes, HasNoTimes, at_spot};
+ghost use Rattle.hsr_timeline.specs.Stamps.{AreStamps, HasNoStamps, at_spot};
 ghost use Rattle.hsr_timeline.specs.Hops.{hops};
 ghost use Rattle.hsr_timeline.specs.Causes.{origins};
 ghost use Rattle.hsr_timeline.specs.declared.shown.Shown as spec;
 ghost use Rattle.hsr_timeline.specs.Story.{AreShown, HasNoOrder, HasNoStory, IfCircle, IsOrdered, IsStory, shown_at, shown_cmp};
 
-use crate::front::time_at;
+use crate::front::stamp_at;
 use crate::hop::Hop;
 use crate::hopping::hops;
 use crate::mains::main_pairs;
@@ -16,8 +16,8 @@ use crate::origin::Origin;
 use crate::origins::all_origins;
 use crate::pairs::{causes_of, hop_pairs};
 use crate::shown::Shown;
-use crate::time::Time;
-use crate::timing::{OrderFault, times};
+use crate::stamp::Stamp;
+use crate::timing::{OrderFault, stamps};
 use hsr_finished_run::Closed;
 use hsr_frame::NoMemory;
 use std::alloc::Global;
@@ -43,16 +43,16 @@ impl From<NoMemory> for StoryFault {
     }
 }
 
-/// Where the row of a hop stands; none where its entry has no time.
-fn shown_at(times: &[Vec<Time>], hop: &Hop) -> Option<Shown>
-    ensures { result ≡ shown_at (at_spot (lists_of times.now)) hop.now }
+/// Where the row of a hop stands; none where its entry has no stamp.
+fn shown_at(stamps: &[Vec<Stamp>], hop: &Hop) -> Option<Shown>
+    ensures { result ≡ shown_at (at_spot (lists_of stamps.now)) hop.now }
 {
     // A lost copy was judged by none, so it stands where it was passed.
     let spot = hop.judged.or(hop.passed)?;
-    let time = time_at(times, spot)?;
+    let stamp = stamp_at(stamps, spot)?;
     Some(Shown {
-        moment: time.moment,
-        step: time.step,
+        moment: stamp.moment,
+        step: stamp.step,
         node: spot.node,
         place: spot.place,
         is_lost: hop.judged.is_none(),
@@ -70,16 +70,16 @@ fn add(rows: &mut Vec<Shown>, row: Shown) -> Result<(), NoMemory>
 }
 
 /// Where the rows of hops stand, one after another.
-fn all_shown(alloc: Global, times: &[Vec<Time>], hops: &[Hop]) -> Result<Vec<Shown>, StoryFault>
+fn all_shown(alloc: Global, stamps: &[Vec<Stamp>], hops: &[Hop]) -> Result<Vec<Shown>, StoryFault>
     ensures shown { IfOk result (λ rows. AreShown
-        (at_spot (lists_of times.now)) hops.now rows.items) }
+        (at_spot (lists_of stamps.now)) hops.now rows.items) }
     ensures circle { IfErr result (IfCircle
-        ((rows : List spec.Shown) → AreShown (at_spot (lists_of times.now)) hops.now rows → ⊥)) }
+        ((rows : List spec.Shown) → AreShown (at_spot (lists_of stamps.now)) hops.now rows → ⊥)) }
 {
     let mut rows = Vec::new(alloc);
     // The index is used by the loop's invariant alone.
     for (i, hop) in hops.iter().enumerate() {
-        let Some(row) = shown_at(times, hop) else {
+        let Some(row) = shown_at(stamps, hop) else {
             return Err(StoryFault::Circle);
         };
         add(&mut rows, row)?;
@@ -113,14 +113,14 @@ fn origins<const C: usize>(
     all_origins(alloc, closed, &planned, &passed)
 }
 
-/// The times of all entries.
-fn times_of(alloc: Global, origins: &[Vec<Origin>]) -> Result<Vec<Vec<Time>>, StoryFault>
-    ensures times { IfOk result (λ times. AreTimes (lists_of origins.now)
-        (at_spot (lists_of times.items))) }
-    ensures circle { IfErr result (IfCircle (HasNoTimes (lists_of origins.now))) }
+/// The stamps of all entries.
+fn stamps_of(alloc: Global, origins: &[Vec<Origin>]) -> Result<Vec<Vec<Stamp>>, StoryFault>
+    ensures stamps { IfOk result (λ stamps. AreStamps (lists_of origins.now)
+        (at_spot (lists_of stamps.items))) }
+    ensures circle { IfErr result (IfCircle (HasNoStamps (lists_of origins.now))) }
 {
-    match times(alloc, origins) {
-        Ok(times) => Ok(times),
+    match stamps(alloc, origins) {
+        Ok(stamps) => Ok(stamps),
         Err(OrderFault::Circle) => Err(StoryFault::Circle),
         Err(OrderFault::NoMemory) => Err(StoryFault::NoMemory),
     }
@@ -131,11 +131,11 @@ fn ordered(alloc: Global, origins: &[Vec<Origin>], list: &[Hop]) -> Result<Vec<S
     ensures story { IfOk result (λ rows. IsOrdered (lists_of origins.now) list.now rows.items) }
     ensures circle { IfErr result (IfCircle (HasNoOrder (lists_of origins.now) list.now)) }
 {
-    let times = match times_of(alloc, origins) {
-        Ok(times) => times,
+    let stamps = match stamps_of(alloc, origins) {
+        Ok(stamps) => stamps,
         Err(fault) => return Err(fault),
     };
-    match all_shown(alloc, times.as_slice(), list) {
+    match all_shown(alloc, stamps.as_slice(), list) {
         Ok(mut rows) => {
             sort(&mut rows);
             Ok(rows)
@@ -144,19 +144,20 @@ fn ordered(alloc: Global, origins: &[Vec<Origin>], list: &[Hop]) -> Result<Vec<S
     }
 }
 
-/// The time of each entry of a finished run, by node and place: the latest of its own moment and of one step after each entry that it
-/// follows. `Circle` exactly where there are no such times. `NoMemory` if allocation fails.
-pub fn entry_times<const C: usize>(
+/// The stamp of each entry of a finished run, by node and place: the latest of its own moment and of one step after each entry that it
+/// follows. `Circle` exactly where there are no such stamps. `NoMemory` if allocation fails.
+pub fn entry_stamps<const C: usize>(
     alloc: Global,
     closed: &Closed<C>,
-) -> Result<Vec<Vec<Time>>, StoryFault>
-    ensures times { IfOk result (λ times. AreTimes (origins closed.now.run closed.now.plan)
-        (at_spot (lists_of times.items))) }
-    ensures circle { IfErr result (IfCircle (HasNoTimes (origins closed.now.run closed.now.plan))) }
+) -> Result<Vec<Vec<Stamp>>, StoryFault>
+    ensures stamps { IfOk result (λ stamps. AreStamps (origins closed.now.run closed.now.plan)
+        (at_spot (lists_of stamps.items))) }
+    ensures circle { IfErr result (IfCircle
+        (HasNoStamps (origins closed.now.run closed.now.plan))) }
 {
     let hops = hops(alloc, closed)?;
     let origins = origins(alloc, closed, hops.as_slice())?;
-    times_of(alloc, origins.as_slice())
+    stamps_of(alloc, origins.as_slice())
 }
 
 /// The rows of a finished run in the order of time, each once. A row stands at the entry that judged its copy, or where the copy was

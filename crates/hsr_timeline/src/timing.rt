@@ -1,15 +1,15 @@
-//! The times of all entries.
+//! The stamps of all entries.
 ghost use Rattle.std.specs.Prelude.{◌≡◌, ◌↔◌, ◌<◌, ◌++◌, ◌∷◌, [], None, false, length, slice_index_or, slice_set, IfOk, IfErr, IsTrue, OnOk};
-ghost use Rattle.hsr_timeline.specs.Times.{AreTimes, HasNoTimes, at_spot};
+ghost use Rattle.hsr_timeline.specs.Stamps.{AreStamps, HasNoStamps, at_spot};
 ghost use Rattle.hsr_timeline.specs.Fronts.{AreAllKnown, AreBlocked, IsFront, IfCircle, lists_of, next_of};
 
 use crate::front::next_of;
 use crate::origin::Origin;
-use crate::time::Time;
+use crate::stamp::Stamp;
 use hsr_frame::NoMemory;
 use std::alloc::Global;
 
-/// Why entries have no times.
+/// Why entries have no stamps.
 #[derive(Clone, Copy, Debug, PartialEq, Eq)]
 pub enum OrderFault {
     /// Entries follow one another in a circle, or one follows an entry that isn't there.
@@ -30,37 +30,37 @@ impl From<NoMemory> for OrderFault {
     }
 }
 
-/// Gives a node's next entry its time.
-fn push(times: &mut Vec<Vec<Time>>, node: usize, time: Time) -> Result<(), NoMemory>
-    requires { node < length times.old.items }
-    ensures { OnOk result (lists_of times.new.items
-        ≡ slice_set (lists_of times.old.items) node
-        (slice_index_or (lists_of times.old.items) node [] ++ time ∷ [])) }
+/// Gives a node's next entry its stamp.
+fn push(stamps: &mut Vec<Vec<Stamp>>, node: usize, stamp: Stamp) -> Result<(), NoMemory>
+    requires { node < length stamps.old.items }
+    ensures { OnOk result (lists_of stamps.new.items
+        ≡ slice_set (lists_of stamps.old.items) node
+        (slice_index_or (lists_of stamps.old.items) node [] ++ stamp ∷ [])) }
 {
-    times[node].push(time)?;
+    stamps[node].push(stamp)?;
     Ok(())
 }
 
-/// Gives a node's entries their times as far as those of their causes are known. Whether any got one.
+/// Gives a node's entries their stamps as far as those of their causes are known. Whether any got one.
 fn catch_up(
     records: &[Vec<Origin>],
-    times: &mut Vec<Vec<Time>>,
+    stamps: &mut Vec<Vec<Stamp>>,
     node: usize,
 ) -> Result<bool, NoMemory>
-    requires front { IsFront (lists_of records.now) (lists_of times.old.items) }
-    requires below { node < length times.old.items }
-    ensures front { OnOk result (IsFront (lists_of records.now) (lists_of times.new.items)) }
+    requires front { IsFront (lists_of records.now) (lists_of stamps.old.items) }
+    requires below { node < length stamps.old.items }
+    ensures front { OnOk result (IsFront (lists_of records.now) (lists_of stamps.new.items)) }
     ensures still { IfOk result (λ moved. moved ≡ false
-        → lists_of times.new.items ≡ lists_of times.old.items) }
+        → lists_of stamps.new.items ≡ lists_of stamps.old.items) }
     ensures blocked { IfOk result (λ moved.
-        moved ≡ false → next_of (lists_of records.now) (lists_of times.old.items) node ≡ None) }
+        moved ≡ false → next_of (lists_of records.now) (lists_of stamps.old.items) node ≡ None) }
 {
     let mut moved = false;
     // A loop with a bound has an end by its form. Its own end is never reached: memory runs out before.
     for _ in 0..u64::MAX {
-        match next_of(records, times.as_slice(), node)? {
-            Some(time) => {
-                push(times, node, time)?;
+        match next_of(records, stamps.as_slice(), node)? {
+            Some(stamp) => {
+                push(stamps, node, stamp)?;
                 moved = true;
             }
             None => return Ok(moved),
@@ -69,17 +69,17 @@ fn catch_up(
     Err(NoMemory)
 }
 
-/// Lets each node catch up once. Whether any entry got a time.
-fn round(records: &[Vec<Origin>], times: &mut Vec<Vec<Time>>) -> Result<bool, NoMemory>
-    requires { IsFront (lists_of records.now) (lists_of times.old.items) }
-    ensures front { OnOk result (IsFront (lists_of records.now) (lists_of times.new.items)) }
+/// Lets each node catch up once. Whether any entry got a stamp.
+fn round(records: &[Vec<Origin>], stamps: &mut Vec<Vec<Stamp>>) -> Result<bool, NoMemory>
+    requires { IsFront (lists_of records.now) (lists_of stamps.old.items) }
+    ensures front { OnOk result (IsFront (lists_of records.now) (lists_of stamps.new.items)) }
     ensures blocked { IfOk result (λ moved.
-        moved ≡ false → AreBlocked (lists_of records.now) (lists_of times.new.items)
+        moved ≡ false → AreBlocked (lists_of records.now) (lists_of stamps.new.items)
         (length records.now)) }
 {
     let mut moved = false;
     for node in 0..records.len() {
-        if catch_up(records, times, node)? {
+        if catch_up(records, stamps, node)? {
             moved = true;
         }
     }
@@ -87,40 +87,40 @@ fn round(records: &[Vec<Origin>], times: &mut Vec<Vec<Time>>) -> Result<bool, No
 }
 
 /// Lets nodes catch up until none can.
-fn settle(records: &[Vec<Origin>], times: &mut Vec<Vec<Time>>) -> Result<(), NoMemory>
-    requires { IsFront (lists_of records.now) (lists_of times.old.items) }
-    ensures front { OnOk result (IsFront (lists_of records.now) (lists_of times.new.items)) }
-    ensures blocked { OnOk result (AreBlocked (lists_of records.now) (lists_of times.new.items)
+fn settle(records: &[Vec<Origin>], stamps: &mut Vec<Vec<Stamp>>) -> Result<(), NoMemory>
+    requires { IsFront (lists_of records.now) (lists_of stamps.old.items) }
+    ensures front { OnOk result (IsFront (lists_of records.now) (lists_of stamps.new.items)) }
+    ensures blocked { OnOk result (AreBlocked (lists_of records.now) (lists_of stamps.new.items)
         (length records.now)) }
 {
-    // A loop with a bound has an end by its form. Its own end is never reached: each turn gives a time to an entry.
+    // A loop with a bound has an end by its form. Its own end is never reached: each turn gives a stamp to an entry.
     for _ in 0..u64::MAX {
-        if !round(records, times)? {
+        if !round(records, stamps)? {
             return Ok(());
         }
     }
     Err(NoMemory)
 }
 
-/// No entry's time is known yet.
-fn none_known(alloc: Global, records: &[Vec<Origin>]) -> Result<Vec<Vec<Time>>, NoMemory>
-    ensures { IfOk result (λ times. IsFront (lists_of records.now) (lists_of times.items)) }
+/// No entry's stamp is known yet.
+fn none_known(alloc: Global, records: &[Vec<Origin>]) -> Result<Vec<Vec<Stamp>>, NoMemory>
+    ensures { IfOk result (λ stamps. IsFront (lists_of records.now) (lists_of stamps.items)) }
 {
-    let mut times = Vec::new(alloc);
+    let mut stamps = Vec::new(alloc);
     for _ in records {
-        times.push(Vec::new(alloc))?;
+        stamps.push(Vec::new(alloc))?;
     }
-    Ok(times)
+    Ok(stamps)
 }
 
-/// Whether the times of all entries are known.
-fn are_all_known(records: &[Vec<Origin>], times: &[Vec<Time>]) -> bool
-    requires { length times.now ≡ length records.now }
-    ensures { IsTrue result ↔ AreAllKnown (lists_of records.now) (lists_of times.now) }
+/// Whether the stamps of all entries are known.
+fn are_all_known(records: &[Vec<Origin>], stamps: &[Vec<Stamp>]) -> bool
+    requires { length stamps.now ≡ length records.now }
+    ensures { IsTrue result ↔ AreAllKnown (lists_of records.now) (lists_of stamps.now) }
 {
     for (node, record) in records.iter().enumerate() {
-        // Known times are a front of their record, so the numbers tell whether all are.
-        if times[node].len() != record.len() {
+        // Known stamps are a front of their record, so the numbers tell whether all are.
+        if stamps[node].len() != record.len() {
             return false;
         }
     }
@@ -128,19 +128,19 @@ fn are_all_known(records: &[Vec<Origin>], times: &[Vec<Time>]) -> bool
 }
 
 /// When all entries took place, by node and place. An entry follows the one before it in its record, the main worker's entry
-/// before it if it is the main worker's, and the entry that passed the copy with which it came; its time is the latest of its own
-/// moment at step 0 and of one step after each of these. `Circle` exactly where there are no such times, and then entries follow
+/// before it if it is the main worker's, and the entry that passed the copy with which it came; its stamp is the latest of its own
+/// moment at step 0 and of one step after each of these. `Circle` exactly where there are no such stamps, and then entries follow
 /// one another in a circle, or follow one that isn't there. `NoMemory` if allocation fails.
 #[tactic(auto, using(crate::proofs::Circles::all_known, crate::proofs::Circles::none_left))]
-pub fn times(alloc: Global, records: &[Vec<Origin>]) -> Result<Vec<Vec<Time>>, OrderFault>
-    ensures times { IfOk result (λ times. AreTimes (lists_of records.now)
-        (at_spot (lists_of times.items))) }
-    ensures circle { IfErr result (IfCircle (HasNoTimes (lists_of records.now))) }
+pub fn stamps(alloc: Global, records: &[Vec<Origin>]) -> Result<Vec<Vec<Stamp>>, OrderFault>
+    ensures stamps { IfOk result (λ stamps. AreStamps (lists_of records.now)
+        (at_spot (lists_of stamps.items))) }
+    ensures circle { IfErr result (IfCircle (HasNoStamps (lists_of records.now))) }
 {
-    let mut times = none_known(alloc, records)?;
-    settle(records, &mut times)?;
-    if are_all_known(records, times.as_slice()) {
-        Ok(times)
+    let mut stamps = none_known(alloc, records)?;
+    settle(records, &mut stamps)?;
+    if are_all_known(records, stamps.as_slice()) {
+        Ok(stamps)
     } else {
         Err(OrderFault::Circle)
     }

@@ -1,4 +1,4 @@
--- Where an entry comes before another, its time is earlier.
+-- Where an entry comes before another, its stamp is earlier.
 use Rattle.std.proofs.Common.{◌≡◌, ℕ, zero, suc, ◌+◌, ◌-◌, ◌<◌, ◌≤◌, true, false, List, [], ◌∷◌, length, get_or, Option, Some, sym, ap, ◌∙◌, subst, ⊎_elim, arith, slice_get}
 use Rattle.std.specs.Prelude.{is_some}
 use Rattle.std.proofs.lemmas.Bool.{cases_lt}
@@ -8,19 +8,19 @@ use Rattle.hsr_node.specs.declared.entry.Entry.{Entry}
 use Rattle.hsr_run_laws.specs.Run.{Run, record_of}
 use Rattle.hsr_finished_run.specs.Finished.{Finished, IsFinished}
 use Rattle.hsr_finished_run.specs.declared.planned.Planned.{Planned}
-use Rattle.hsr_timeline.specs.Times.{AreTimes, IsAfter, at_spot}
+use Rattle.hsr_timeline.specs.Stamps.{AreStamps, IsAfter, at_spot}
 use Rattle.hsr_timeline.specs.declared.origin.Origin.{Origin}
 use Rattle.hsr_timeline.specs.declared.origin.Spot.{Spot}
-use Rattle.hsr_timeline.specs.declared.time.Time.{Time}
+use Rattle.hsr_timeline.specs.declared.stamp.Stamp.{Stamp}
 use Rattle.hsr_timeline.specs.declared.hop.Hop.{Hop}
 use Rattle.hsr_timeline.specs.Hops.{hops}
 use Rattle.hsr_timeline.specs.Causes.{cause_in, hop_pair, hop_pairs, main_at, main_pairs, origin_at, origins, origins_from, pair_of}
-use Rattle.hsr_timeline_laws.specs.Keeps.{ComesBefore, IsPassedTo, TimesRise}
+use Rattle.hsr_timeline_laws.specs.Keeps.{ComesBefore, IsPassedTo, StampsRise}
 use Rattle.hsr_timeline_laws.proofs.Judging.{hop_below, one_judged}
 use Rattle.hsr_timeline_laws.proofs.Listed.{IsIn, from_mapped, in_at, in_mapped}
 use Rattle.hsr_timeline_laws.proofs.MainOrder.{cause_one, main_cause, main_there, main_told, pair_told}
 use Rattle.hsr_timeline_laws.proofs.Rising.{after_later, follows, recorded_before}
-use Rattle.hsr_timeline_laws.proofs.Standing.{below_at, below_long, time_there}
+use Rattle.hsr_timeline_laws.proofs.Standing.{below_at, below_long, stamp_there}
 
 -- ---- what entries follow
 
@@ -63,16 +63,16 @@ origin_told run plan q x is = ⊎_elim inside outside (cases_lt q.node (length r
 
 -- ---- the three orders
 
-module _ (f : Finished) (finished : IsFinished f) (time : Spot → Option Time) (are : AreTimes (origins f.run f.plan) time) where
+module _ (f : Finished) (finished : IsFinished f) (stamp : Spot → Option Stamp) (are : AreStamps (origins f.run f.plan) stamp) where
   -- by what is planned before it
-  main_step : (i : ℕ) (p q : Spot) (u : Time) → main_at f.run f.plan i ≡ Some p → main_at f.run f.plan (i + 1) ≡ Some q → time q ≡ Some u → IsAfter time (Some p) u
+  main_step : (i : ℕ) (p q : Spot) (u : Stamp) → main_at f.run f.plan i ≡ Some p → main_at f.run f.plan (i + 1) ≡ Some q → stamp q ≡ Some u → IsAfter stamp (Some p) u
   main_step i p q u before is at =
-      let k = follows (origins f.run f.plan) time are q u at in
+      let k = follows (origins f.run f.plan) stamp are q u at in
       let cause : k.0.planned ≡ Some p = (origin_told f.run f.plan q k.0 k.1).0 ∙ main_cause f.run f.plan i p q before is in
-      let P : Option Spot → Type 0 = λ o. IsAfter time o u in
+      let P : Option Spot → Type 0 = λ o. IsAfter stamp o u in
       subst P cause k.2.planned
 
-  main_rises : (k i : ℕ) (p q : Spot) (u : Time) → main_at f.run f.plan i ≡ Some p → main_at f.run f.plan (i + 1 + k) ≡ Some q → time q ≡ Some u → IsAfter time (Some p) u
+  main_rises : (k i : ℕ) (p q : Spot) (u : Stamp) → main_at f.run f.plan i ≡ Some p → main_at f.run f.plan (i + 1 + k) ≡ Some q → stamp q ≡ Some u → IsAfter stamp (Some p) u
   main_rises zero i p q u before is at = let e : i + 1 ≡ i + 1 + 0 = omega arith in main_step i p q u before (ap (main_at f.run f.plan) e ∙ is) at
   main_rises (suc k) i p q u before is at =
       let e : i + 1 + k + 1 ≡ i + 1 + suc k = omega arith in
@@ -81,16 +81,16 @@ module _ (f : Finished) (finished : IsFinished f) (time : Spot → Option Time) 
       let x : Planned = get_or f.plan (i + 1 + k) told.0 in
       let r = main_there f.run f.plan finished.planned (i + 1 + k) x (slice_get-get_or f.plan (i + 1 + k) told.0 (omega (arith, below))) in
       let last = main_step (i + 1 + k) r.0 q u r.1 (ap (main_at f.run f.plan) e ∙ is) at in
-      after_later (origins f.run f.plan) time are p last.0 u (main_rises k i p r.0 last.0 before r.1 last.1) last.2
+      after_later (origins f.run f.plan) stamp are p last.0 u (main_rises k i p r.0 last.0 before r.1 last.1) last.2
 
   -- by the copy with which it came
-  passed_rises : (p q : Spot) (u : Time) → IsPassedTo f.run p q → time q ≡ Some u → IsAfter time (Some p) u
+  passed_rises : (p q : Spot) (u : Stamp) → IsPassedTo f.run p q → stamp q ≡ Some u → IsAfter stamp (Some p) u
   passed_rises p q u h at =
       let pair : hop_pair h.0 ≡ Some (q, p) = ap (λ o. pair_of o h.0.passed) h.3 ∙ ap (pair_of (Some q)) h.2 in
-      let k = follows (origins f.run f.plan) time are q u at in
+      let k = follows (origins f.run f.plan) stamp are q u at in
       let found : cause_in (hop_pairs f.run) q ≡ Some p = cause_one (hop_pairs f.run) q p only (in_mapped hop_pair (hops f.run) h.0 (q, p) inside pair) in
       let cause : k.0.passed ≡ Some p = (origin_told f.run f.plan q k.0 k.1).1 ∙ found in
-      let P : Option Spot → Type 0 = λ o. IsAfter time o u in
+      let P : Option Spot → Type 0 = λ o. IsAfter stamp o u in
       subst P cause k.2.passed
     where
       inside : IsIn h.0 (hops f.run)
@@ -106,9 +106,9 @@ module _ (f : Finished) (finished : IsFinished f) (time : Spot → Option Time) 
           let hop_same : h.0 ≡ k.0 = sym a.5 ∙ (same ∙ b.5) in
           same_Some c p (sym told.1 ∙ (sym (ap (λ (o : Hop). o.passed) hop_same) ∙ h.2))
 
-  pub comes_after : (p q : Spot) (u : Time) → ComesBefore f p q → time q ≡ Some u → IsAfter time (Some p) u
+  pub comes_after : (p q : Spot) (u : Stamp) → ComesBefore f p q → stamp q ≡ Some u → IsAfter stamp (Some p) u
   comes_after p q u before at = ⊎_elim
-      (λ recorded. recorded_before (origins f.run f.plan) time are p q u recorded.0 recorded.1 at)
+      (λ recorded. recorded_before (origins f.run f.plan) stamp are p q u recorded.0 recorded.1 at)
       (λ other. ⊎_elim
       (λ main. let i = main.0 in let j = main.1 in let less = main.2 in
       let e : j ≡ i + 1 + (j - i - 1) = omega (arith, less) in main_rises (j - i - 1) i p q u main.3 (ap (main_at f.run f.plan) (sym e) ∙ main.4) at)
@@ -116,11 +116,11 @@ module _ (f : Finished) (finished : IsFinished f) (time : Spot → Option Time) 
       other)
       before
 
-pub times_rise : TimesRise
-times_rise f finished time are p q entry before =
+pub stamps_rise : StampsRise
+stamps_rise f finished stamp are p q entry before =
     ⊎_elim
-    (λ h. let t = time_there f.run f.plan time finished.closed are q h.1 in
-    let a = comes_after f finished time are p q t.0 before t.1 in
+    (λ h. let t = stamp_there f.run f.plan stamp finished.closed are q h.1 in
+    let a = comes_after f finished stamp are p q t.0 before t.1 in
     (a.0, t.0, a.1, t.1, a.2))
     (λ h. absurd (let e : false ≡ true = sym (ap is_some h.1) ∙ entry in cc))
     (slice_get_cases (record_of f.run q.node) q.place).1

@@ -16,7 +16,7 @@ use Rattle.hsr_run_laws.specs.Closed.{IsClosed}
 use Rattle.hsr_run_laws.specs.Run.{Run, rows_of}
 use Rattle.hsr_finished_run.specs.Finished.{Finished, IsFinished}
 use Rattle.hsr_timeline.specs.declared.origin.Spot.{Spot}
-use Rattle.hsr_timeline.specs.declared.time.Time.{Time}
+use Rattle.hsr_timeline.specs.declared.stamp.Stamp.{Stamp}
 use Rattle.hsr_timeline.specs.declared.hop.Hop.{Hop}
 use Rattle.hsr_timeline.specs.Hops.{hop_of, hops, hops_below, hops_from}
 use Rattle.hsr_timeline.specs.Choice.{is_copy_of, is_on, is_wanted}
@@ -31,39 +31,39 @@ use Rattle.hsr_timeline_laws.proofs.Rising.{not_both, up_trans}
 
 -- ---- what a row tells
 
-abbrev time_of : Shown → Time
-time_of x = record { moment = x.moment; step = x.step }
+abbrev stamp_of : Shown → Stamp
+stamp_of x = record { moment = x.moment; step = x.step }
 
 -- where and when it stands
-abbrev IsTold : (Spot → Option Time) → Hop → Shown → Type 0
-IsTold time hop x = (x.link ≡ hop.link) × (x.number ≡ hop.number) × (shown_where hop ≡ Some (entry_of x)) × (time (entry_of x) ≡ Some (time_of x))
+abbrev IsTold : (Spot → Option Stamp) → Hop → Shown → Type 0
+IsTold stamp hop x = (x.link ≡ hop.link) × (x.number ≡ hop.number) × (shown_where hop ≡ Some (entry_of x)) × (stamp (entry_of x) ≡ Some (stamp_of x))
 
-told : (time : Spot → Option Time) (hop : Hop) (x : Shown) → shown_at time hop ≡ Some x → IsTold time hop x
-told time hop x is = at_where (shown_where hop) refl
+told : (stamp : Spot → Option Stamp) (hop : Hop) (x : Shown) → shown_at stamp hop ≡ Some x → IsTold stamp hop x
+told stamp hop x is = at_where (shown_where hop) refl
   where
-    at_where : (o : Option Spot) → shown_where hop ≡ o → IsTold time hop x
-    at_where None e = absurd (let f : option_and_then (shown_then time hop) None ≡ Some x = ap (option_and_then (shown_then time hop)) (sym e) ∙ is in cc)
-    at_where (Some spot) e = at_time (time spot) refl
+    at_where : (o : Option Spot) → shown_where hop ≡ o → IsTold stamp hop x
+    at_where None e = absurd (let f : option_and_then (shown_then stamp hop) None ≡ Some x = ap (option_and_then (shown_then stamp hop)) (sym e) ∙ is in cc)
+    at_where (Some spot) e = at_stamp (stamp spot) refl
       where
-        then : option_map (shown_by hop spot) (time spot) ≡ Some x
-        then = ap (option_and_then (shown_then time hop)) (sym e) ∙ is
+        then : option_map (shown_by hop spot) (stamp spot) ≡ Some x
+        then = ap (option_and_then (shown_then stamp hop)) (sym e) ∙ is
 
-        at_time : (o : Option Time) → time spot ≡ o → IsTold time hop x
-        at_time None f = absurd (let g : option_map (shown_by hop spot) None ≡ Some x = ap (option_map (shown_by hop spot)) (sym f) ∙ then in cc)
-        at_time (Some t) f =
+        at_stamp : (o : Option Stamp) → stamp spot ≡ o → IsTold stamp hop x
+        at_stamp None f = absurd (let g : option_map (shown_by hop spot) None ≡ Some x = ap (option_map (shown_by hop spot)) (sym f) ∙ then in cc)
+        at_stamp (Some t) f =
             let g : shown_by hop spot t ≡ x = same_Some (shown_by hop spot t) x (ap (option_map (shown_by hop spot)) (sym f) ∙ then) in
             let at : spot ≡ entry_of x = ap entry_of g in
-            let when : t ≡ time_of x = ap time_of g in
-            (sym (ap (λ (y : Shown). y.link) g), sym (ap (λ (y : Shown). y.number) g), e ∙ ap (λ s. Some s) at, ap time (sym at) ∙ (f ∙ ap (λ u. Some u) when))
+            let when : t ≡ stamp_of x = ap stamp_of g in
+            (sym (ap (λ (y : Shown). y.link) g), sym (ap (λ (y : Shown). y.number) g), e ∙ ap (λ s. Some s) at, ap stamp (sym at) ∙ (f ∙ ap (λ u. Some u) when))
 
 -- each row is told by a hop
-hop_at : (time : Spot → Option Time) (hs : List Hop) (rs : List Shown) (k : ℕ) (x : Shown) → AreShown time hs rs → slice_get rs k ≡ Some x → (hop : Hop) × IsIn hop hs × (shown_at time hop ≡ Some x)
-hop_at time hs [] k x are is = absurd (cc)
-hop_at time [] (r ∷ rs) k x are is = absurd (cc)
-hop_at time (h ∷ hs) (r ∷ rs) zero x are is = let e : shown_at time h ≡ Some r = cc in (h, inl refl, e ∙ is)
-hop_at time (h ∷ hs) (r ∷ rs) (suc k) x are is =
-    let rest : map (shown_at time) hs ≡ map (λ (y : Shown). Some y) rs = cc in
-    let more = hop_at time hs rs k x rest is in
+hop_at : (stamp : Spot → Option Stamp) (hs : List Hop) (rs : List Shown) (k : ℕ) (x : Shown) → AreShown stamp hs rs → slice_get rs k ≡ Some x → (hop : Hop) × IsIn hop hs × (shown_at stamp hop ≡ Some x)
+hop_at stamp hs [] k x are is = absurd (cc)
+hop_at stamp [] (r ∷ rs) k x are is = absurd (cc)
+hop_at stamp (h ∷ hs) (r ∷ rs) zero x are is = let e : shown_at stamp h ≡ Some r = cc in (h, inl refl, e ∙ is)
+hop_at stamp (h ∷ hs) (r ∷ rs) (suc k) x are is =
+    let rest : map (shown_at stamp) hs ≡ map (λ (y : Shown). Some y) rs = cc in
+    let more = hop_at stamp hs rs k x rest is in
     (more.0, inr more.1, more.2)
 
 -- ---- each row once
@@ -74,19 +74,19 @@ hop_is l j hop = hop.link == l && hop.number == j
 
 module _ (l j : ℕ) where
   -- as many rows of a number as hops
-  rows_counted : (time : Spot → Option Time) (hs : List Hop) (rs : List Shown) → AreShown time hs rs → count_by (is_row l j) rs ≡ count_by (hop_is l j) hs
-  rows_counted time [] [] are = refl
-  rows_counted time [] (r ∷ rs) are = absurd (cc)
-  rows_counted time (h ∷ hs) [] are = absurd (cc)
-  rows_counted time (h ∷ hs) (r ∷ rs) are =
-      let e : shown_at time h ≡ Some r = cc in
-      let rest : map (shown_at time) hs ≡ map (λ (y : Shown). Some y) rs = cc in
-      let k = told time h r e in
+  rows_counted : (stamp : Spot → Option Stamp) (hs : List Hop) (rs : List Shown) → AreShown stamp hs rs → count_by (is_row l j) rs ≡ count_by (hop_is l j) hs
+  rows_counted stamp [] [] are = refl
+  rows_counted stamp [] (r ∷ rs) are = absurd (cc)
+  rows_counted stamp (h ∷ hs) [] are = absurd (cc)
+  rows_counted stamp (h ∷ hs) (r ∷ rs) are =
+      let e : shown_at stamp h ≡ Some r = cc in
+      let rest : map (shown_at stamp) hs ≡ map (λ (y : Shown). Some y) rs = cc in
+      let k = told stamp h r e in
       let same : is_row l j r ≡ hop_is l j h = ap₂ (λ m n. m == l && n == j) k.0 k.1 in
       let one : cond (is_row l j r) 1 0 ≡ cond (hop_is l j h) 1 0 = ap (λ b. cond {A = ℕ} b 1 0) same in
       let a = count_more (is_row l j) r rs in
       let b = count_more (hop_is l j) h hs in
-      let c = rows_counted time hs rs rest in
+      let c = rows_counted stamp hs rs rest in
       omega (arith, one, a, b, c)
 
   none_of : (run : Run) (m n : ℕ) (rows : List Row) → ¬ (m ≡ l) → count_by (hop_is l j) (hops_from run m n rows) ≡ 0
@@ -182,40 +182,40 @@ then_less o p e = ap (λ q. is_lt (ordering_then q p)) e
 then_same : (o p : Ordering) → o ≡ Equal → is_lt p ≡ true → is_lt (ordering_then o p) ≡ true
 then_same o p e h = ap (λ q. is_lt (ordering_then q p)) e ∙ h
 
-less : (x y : Shown) → IsBefore (time_of x) (time_of y) → is_lt (shown_cmp x y) ≡ true
+less : (x y : Shown) → IsBefore (stamp_of x) (stamp_of y) → is_lt (shown_cmp x y) ≡ true
 less x y h = ⊎_elim
     (λ lt. then_less (nat_cmp x.moment y.moment) _ (nat_less x.moment y.moment lt))
     (λ both. then_same (nat_cmp x.moment y.moment) _ (nat_same x.moment y.moment both.0) (then_less (nat_cmp x.step y.step) _ (nat_less x.step y.step both.1)))
     h
 
-up : (a b : Shown) → is_lt (shown_cmp b a) ≡ false → IsUpTo (time_of a) (time_of b)
-up a b h = ⊎_elim (λ before. absurd (false≢true (sym h ∙ less b a before))) (λ le. le) (order_cases (time_of b) (time_of a))
+up : (a b : Shown) → is_lt (shown_cmp b a) ≡ false → IsUpTo (stamp_of a) (stamp_of b)
+up a b h = ⊎_elim (λ before. absurd (false≢true (sym h ∙ less b a before))) (λ le. le) (order_cases (stamp_of b) (stamp_of a))
 
 -- no row is earlier than one before it
-never_earlier : (story : List Shown) → IsSorted shown_cmp story → (n i : ℕ) (d : Shown) → i + n < length story → IsUpTo (time_of (get_or story i d)) (time_of (get_or story (i + n) d))
+never_earlier : (story : List Shown) → IsSorted shown_cmp story → (n i : ℕ) (d : Shown) → i + n < length story → IsUpTo (stamp_of (get_or story i d)) (stamp_of (get_or story (i + n) d))
 never_earlier story sorted zero i d below =
     let e : i ≡ i + 0 = omega arith in
-    let P : ℕ → Type 0 = λ k. IsUpTo (time_of (get_or story i d)) (time_of (get_or story k d)) in
+    let P : ℕ → Type 0 = λ k. IsUpTo (stamp_of (get_or story i d)) (stamp_of (get_or story k d)) in
     subst P e (inr (refl, omega arith))
 never_earlier story sorted (suc n) i d below =
     let e : i + n + 1 ≡ i + suc n = omega arith in
-    let P : ℕ → Type 0 = λ k. IsUpTo (time_of (get_or story i d)) (time_of (get_or story k d)) in
+    let P : ℕ → Type 0 = λ k. IsUpTo (stamp_of (get_or story i d)) (stamp_of (get_or story k d)) in
     let last = up (get_or story (i + n) d) (get_or story (i + n + 1) d) (sorted (i + n) d (omega arith) (omega (arith, below))) in
-    subst P e (up_trans (time_of (get_or story i d)) (time_of (get_or story (i + n) d)) (time_of (get_or story (i + n + 1) d)) (never_earlier story sorted n i d (omega (arith, below))) last)
+    subst P e (up_trans (stamp_of (get_or story i d)) (stamp_of (get_or story (i + n) d)) (stamp_of (get_or story (i + n + 1) d)) (never_earlier story sorted n i d (omega (arith, below))) last)
 
 -- ---- the law
 
 module _ (f : Finished) (finished : IsFinished f) (story : List Shown) (is : IsStory f.run f.plan story) where
   -- a row of the list is told by a hop
-  hop_of_row : (x : Shown) → Contains story x → (hop : Hop) × IsIn hop (hops f.run) × IsTold is.time hop x
+  hop_of_row : (x : Shown) → Contains story x → (hop : Hop) × IsIn hop (hops f.run) × IsTold is.stamp hop x
   hop_of_row x inside =
       let k = Contains-permutation story is.rows x (IsPermutation-sym is.rows story is.once) inside in
-      let h = hop_at is.time (hops f.run) is.rows k.0 x is.shown (slice_get-get_or is.rows k.0 x k.1 ∙ ap (λ y. Some y) k.2) in
-      (h.0, h.1, told is.time h.0 x h.2)
+      let h = hop_at is.stamp (hops f.run) is.rows k.0 x is.shown (slice_get-get_or is.rows k.0 x k.1 ∙ ap (λ y. Some y) k.2) in
+      (h.0, h.1, told is.stamp h.0 x h.2)
 
   each_once : HasEachOnce f.run story
   each_once = record {
-    once = λ l j row there. sum_by-IsPermutation (λ x. cond {A = ℕ} (is_row l j x) 1 0) is.rows story is.once ∙ (rows_counted l j is.time (hops f.run) is.rows is.shown ∙ one_hop f.run finished.closed l j row there);
+    once = λ l j row there. sum_by-IsPermutation (λ x. cond {A = ℕ} (is_row l j x) 1 0) is.rows story is.once ∙ (rows_counted l j is.stamp (hops f.run) is.rows is.shown ∙ one_hop f.run finished.closed l j row there);
     only = only;
   }
     where
@@ -239,19 +239,19 @@ module _ (f : Finished) (finished : IsFinished f) (story : List Shown) (is : IsS
       behind le =
           let a = hop_of_row x (there i x at) in
           let b = hop_of_row y (there j y also) in
-          let after = comes_after f finished is.time is.times (entry_of x) (entry_of y) (time_of y) before b.2.3 in
-          let same : after.0 ≡ time_of x = same_Some after.0 (time_of x) (sym after.1 ∙ a.2.3) in
-          let P : Time → Type 0 = λ t. IsBefore t (time_of y) in
-          let earlier : IsBefore (time_of x) (time_of y) = subst P same (earlier_told after.0 (time_of y) after.2) in
+          let after = comes_after f finished is.stamp is.stamps (entry_of x) (entry_of y) (stamp_of y) before b.2.3 in
+          let same : after.0 ≡ stamp_of x = same_Some after.0 (stamp_of x) (sym after.1 ∙ a.2.3) in
+          let P : Stamp → Type 0 = λ t. IsBefore t (stamp_of y) in
+          let earlier : IsBefore (stamp_of x) (stamp_of y) = subst P same (earlier_told after.0 (stamp_of y) after.2) in
           let within = slice_get_within story i x at in
           let e : j + (i - j) ≡ i = omega (arith, le) in
           let far = never_earlier story is.sorted (i - j) j x (omega (arith, within, e)) in
-          let Q : ℕ → Type 0 = λ k. IsUpTo (time_of (get_or story j x)) (time_of (get_or story k x)) in
+          let Q : ℕ → Type 0 = λ k. IsUpTo (stamp_of (get_or story j x)) (stamp_of (get_or story k x)) in
           let first : get_or story j x ≡ y = get_or_from_slice_get story j y x also in
           let last : get_or story i x ≡ x = get_or_from_slice_get story i x x at in
-          let R : Shown → Type 0 = λ z. IsUpTo (time_of z) (time_of x) in
-          let S : Shown → Type 0 = λ z. IsUpTo (time_of (get_or story j x)) (time_of z) in
-          not_both (time_of x) (time_of y) earlier (subst R first (subst S last (subst Q e far)))
+          let R : Shown → Type 0 = λ z. IsUpTo (stamp_of z) (stamp_of x) in
+          let S : Shown → Type 0 = λ z. IsUpTo (stamp_of (get_or story j x)) (stamp_of z) in
+          not_both (stamp_of x) (stamp_of y) earlier (subst R first (subst S last (subst Q e far)))
 
 pub story_keeps_order : StoryKeepsOrder
 story_keeps_order f finished story is = (each_once f finished story is, keeps_order f finished story is)

@@ -1,4 +1,4 @@
--- Each row of a closed run stands at an entry that is there. So its entry has a time where entries have times.
+-- Each row of a closed run stands at an entry that is there. So its entry has a stamp where entries have stamps.
 use Rattle.std.proofs.Common.{◌≡◌, ℕ, zero, suc, ◌+◌, ◌<◌, ◌≤◌, Bool, true, false, cond, List, [], ◌∷◌, ◌++◌, length, map, take, drop, get_or, count_by, reverse, Option, Some, None, refl, sym, ap, ◌∙◌, subst, ⊎_elim, arith, slice_get}
 use Rattle.std.specs.Prelude.{filter_map, option_map, is_some, not, ◌&&◌}
 use Rattle.std.specs.List.{AllByRecursion, cons_option, range_with_len}
@@ -25,10 +25,10 @@ use Rattle.hsr_run_index.specs.declared.agreement.Passage.TheVariants.{Put, Take
 use Rattle.hsr_run_index.proofs.Often.{as_often, carried_itself, each_often}
 use Rattle.hsr_run_index.proofs.Forwards.{passes_of}
 use Rattle.hsr_finished_run.specs.declared.planned.Planned.{Planned}
-use Rattle.hsr_timeline.specs.Times.{AreTimes, HasNoTimes, at_spot}
+use Rattle.hsr_timeline.specs.Stamps.{AreStamps, HasNoStamps, at_spot}
 use Rattle.hsr_timeline.specs.declared.origin.Origin.{Origin}
 use Rattle.hsr_timeline.specs.declared.origin.Spot.{Spot}
-use Rattle.hsr_timeline.specs.declared.time.Time.{Time}
+use Rattle.hsr_timeline.specs.declared.stamp.Stamp.{Stamp}
 use Rattle.hsr_timeline.specs.declared.hop.Hop.{Hop}
 use Rattle.hsr_timeline.specs.Hops.{came_at, hop_of, hops, hops_below, hops_from, judged_place, passed_at, passed_from, spot_at}
 use Rattle.hsr_timeline.specs.Partners.{is_at, partner, partner_of, places, places_below}
@@ -183,7 +183,7 @@ module _ (run : Run) (closed : IsClosed run) (l : ℕ) (in_links : l < length ru
           (p.0, ap (λ o. option_or o ((hop_of run l j row).passed)) e ∙ p.1, p.2)
       of (Some spot) e = (spot, ap (λ o. option_or o ((hop_of run l j row).passed)) e, judged_within j row spot e)
 
--- ---- times
+-- ---- stamps
 
 origins_long : (planned passed : Spot → Option Spot) (node n : ℕ) (xs : List Entry) → length (origins_from planned passed node n xs) ≡ length xs
 origins_long planned passed node n [] = refl
@@ -213,8 +213,8 @@ below_at run planned passed (suc n) k lt = ⊎_elim here (before (λ less. below
         let f = below_long run planned passed n in
         get_or_append_left (origins_below run planned passed n) one [] k (omega (arith, f, other)) ∙ lower (omega (arith, other))
 
-pub time_there : (run : Run) (plan : List Planned) (time : Spot → Option Time) → IsClosed run → AreTimes (origins run plan) time → (spot : Spot) → spot.place < length (record_of run spot.node) → (t : Time) × (time spot ≡ Some t)
-time_there run plan time closed are spot below = of (time spot) refl
+pub stamp_there : (run : Run) (plan : List Planned) (stamp : Spot → Option Stamp) → IsClosed run → AreStamps (origins run plan) stamp → (spot : Spot) → spot.place < length (record_of run spot.node) → (t : Stamp) × (stamp spot ≡ Some t)
+stamp_there run plan stamp closed are spot below = of (stamp spot) refl
   where
     planned : Spot → Option Spot
     planned = cause_in (main_pairs run plan)
@@ -230,52 +230,52 @@ time_there run plan time closed are spot below = of (time spot) refl
         ap (λ os. slice_get os spot.place) (below_at run planned passed_on (length run.places) spot.node inside)
         ∙ slice_get-get_or (origins_from planned passed_on spot.node 0 (record_of run spot.node)) spot.place (record { at = 0; planned = None; passed = None }) (omega (arith, long, below))
 
-    of : (o : Option Time) → time spot ≡ o → (t : Time) × (time spot ≡ Some t)
+    of : (o : Option Stamp) → stamp spot ≡ o → (t : Stamp) × (stamp spot ≡ Some t)
     of (Some t) e = (t, e)
     of None e = absurd (false≢true (sym (ap is_some e) ∙ are.known spot _ there))
 
 -- ---- all rows
 
-abbrev IsShownAt : (Spot → Option Time) → Hop → Type 0
-IsShownAt time hop = (row : Shown) × (shown_at time hop ≡ Some row)
+abbrev IsShownAt : (Spot → Option Stamp) → Hop → Type 0
+IsShownAt stamp hop = (row : Shown) × (shown_at stamp hop ≡ Some row)
 
-module _ (run : Run) (plan : List Planned) (time : Spot → Option Time) (closed : IsClosed run) (are : AreTimes (origins run plan) time) where
-  hop_shown : (l j : ℕ) (row : Row) → l < length run.links → j < length (rows_of run l) → get_or (rows_of run l) j row ≡ row → row.injected ≡ false → IsShownAt time (hop_of run l j row)
+module _ (run : Run) (plan : List Planned) (stamp : Spot → Option Stamp) (closed : IsClosed run) (are : AreStamps (origins run plan) stamp) where
+  hop_shown : (l j : ℕ) (row : Row) → l < length run.links → j < length (rows_of run l) → get_or (rows_of run l) j row ≡ row → row.injected ≡ false → IsShownAt stamp (hop_of run l j row)
   hop_shown l j row in_links below is own =
       let hop : Hop = hop_of run l j row in
       let s = shown_there run closed l in_links j row below is own in
-      let t = time_there run plan time closed are s.0 s.2 in
-      (shown_by hop s.0 t.0, ap (option_and_then (shown_then time hop)) s.1 ∙ ap (option_map (shown_by hop s.0)) t.1)
+      let t = stamp_there run plan stamp closed are s.0 s.2 in
+      (shown_by hop s.0 t.0, ap (option_and_then (shown_then stamp hop)) s.1 ∙ ap (option_map (shown_by hop s.0)) t.1)
 
-  link_shown : (l : ℕ) (front rows : List Row) → l < length run.links → front ++ rows ≡ rows_of run l → AllByRecursion (IsSettled run) rows → AllByRecursion (IsShownAt time) (hops_from run l (length front) rows)
+  link_shown : (l : ℕ) (front rows : List Row) → l < length run.links → front ++ rows ≡ rows_of run l → AllByRecursion (IsSettled run) rows → AllByRecursion (IsShownAt stamp) (hops_from run l (length front) rows)
   link_shown l front [] in_links whole settled = tt
   link_shown l front (row ∷ rows) in_links whole settled =
       let long : length (rows_of run l) ≡ length front + suc (length rows) = ap length (sym whole) ∙ length-append front (row ∷ rows) in
       let here : get_or (rows_of run l) (length front) row ≡ row = ap (λ rs. get_or rs (length front) row) (sym whole) ∙ get_or_at front row rows row (length front) refl in
       let next : (front ++ row ∷ []) ++ rows ≡ rows_of run l = append_assoc front (row ∷ []) rows ∙ whole in
       let count : length (front ++ row ∷ []) ≡ length front + 1 = length-append front (row ∷ []) in
-      let P : ℕ → Type 0 = λ n. AllByRecursion (IsShownAt time) (hops_from run l n rows) in
+      let P : ℕ → Type 0 = λ n. AllByRecursion (IsShownAt stamp) (hops_from run l n rows) in
       (hop_shown l (length front) row in_links (omega (arith, long)) here settled.0.put, subst P count (link_shown l (front ++ row ∷ []) rows in_links next settled.1))
 
-  all_append : (xs ys : List Hop) → AllByRecursion (IsShownAt time) xs → AllByRecursion (IsShownAt time) ys → AllByRecursion (IsShownAt time) (xs ++ ys)
+  all_append : (xs ys : List Hop) → AllByRecursion (IsShownAt stamp) xs → AllByRecursion (IsShownAt stamp) ys → AllByRecursion (IsShownAt stamp) (xs ++ ys)
   all_append [] ys xall yall = yall
   all_append (x ∷ xs) ys xall yall = (xall.0, all_append xs ys xall.1 yall)
 
-  below_shown : (n : ℕ) → n ≤ length run.links → AllByRecursion (IsShownAt time) (hops_below run n)
+  below_shown : (n : ℕ) → n ≤ length run.links → AllByRecursion (IsShownAt stamp) (hops_below run n)
   below_shown zero le = tt
   below_shown (suc n) le =
       all_append (hops_below run n) (hops_from run n 0 (rows_of run n)) (below_shown n (omega arith))
       (link_shown n [] (rows_of run n) (omega arith) refl (closed.settled n (omega arith)))
 
-  collected : (list : List Hop) → AllByRecursion (IsShownAt time) list → (rows : List Shown) × AreShown time list rows
+  collected : (list : List Hop) → AllByRecursion (IsShownAt stamp) list → (rows : List Shown) × AreShown stamp list rows
   collected [] all = ([], refl)
   collected (hop ∷ list) all =
       let more = collected list all.1 in
-      (all.0.0 ∷ more.0, ap (λ o. o ∷ map (shown_at time) list) all.0.1 ∙ ap (λ os. Some all.0.0 ∷ os) more.1)
+      (all.0.0 ∷ more.0, ap (λ o. o ∷ map (shown_at stamp) list) all.0.1 ∙ ap (λ os. Some all.0.0 ∷ os) more.1)
 
-  pub rows_shown : (rows : List Shown) × AreShown time (hops run) rows
+  pub rows_shown : (rows : List Shown) × AreShown stamp (hops run) rows
   rows_shown = collected (hops run) (below_shown (length run.links) (omega arith))
 
--- where there is no order of rows, there are no times
-pub no_times : (run : Run) (plan : List Planned) → IsClosed run → HasNoStory run plan → HasNoTimes (origins run plan)
-no_times run plan closed none = ⊎_elim (λ h. h) (λ h. absurd (let shown = rows_shown run plan h.0 closed h.1 in h.2 shown.0 shown.1)) none
+-- where there is no order of rows, there are no stamps
+pub no_stamps : (run : Run) (plan : List Planned) → IsClosed run → HasNoStory run plan → HasNoStamps (origins run plan)
+no_stamps run plan closed none = ⊎_elim (λ h. h) (λ h. absurd (let shown = rows_shown run plan h.0 closed h.1 in h.2 shown.0 shown.1)) none

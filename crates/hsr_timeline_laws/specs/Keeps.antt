@@ -3,7 +3,7 @@
 --     ComesBefore        an entry comes before another: in their node's record; in the main order; or it passed a copy that the
 --                        other judged
 --     KeepsOrder         where an entry comes before another, the rows at it stand before those at the other
---     TimesRise          each entry is earlier than all that it comes before
+--     StampsRise         each entry is earlier than all that it comes before
 --     StoryKeepsOrder    the list has each row once, and keeps that order
 --     ChosenKeepOrder    so do those of its rows that are wanted
 use Rattle.std.specs.Prelude.{ℕ, ◌≡◌, ◌<◌, ◌==◌, ◌&&◌, ◌⊎◌, Bool, true, List, count_by, filter, slice_get, Contains, Option, Some, IsSome}
@@ -11,9 +11,9 @@ use Rattle.hsr_link.specs.declared.row.Row.{Row}
 use Rattle.hsr_run_laws.specs.Run.{Run, record_of, rows_of}
 use Rattle.hsr_finished_run.specs.Finished.{Finished, IsFinished}
 use Rattle.hsr_finished_run.specs.declared.planned.Planned.{Planned}
-use Rattle.hsr_timeline.specs.Times.{AreTimes, is_earlier}
+use Rattle.hsr_timeline.specs.Stamps.{AreStamps, is_earlier}
 use Rattle.hsr_timeline.specs.declared.origin.Spot.{Spot}
-use Rattle.hsr_timeline.specs.declared.time.Time.{Time}
+use Rattle.hsr_timeline.specs.declared.stamp.Stamp.{Stamp}
 use Rattle.hsr_timeline.specs.declared.hop.Hop.{Hop}
 use Rattle.hsr_timeline.specs.Hops.{hop_of, hops}
 use Rattle.hsr_timeline.specs.Causes.{main_at, origins}
@@ -66,16 +66,16 @@ ComesBefore f p q = IsRecordedBefore p q ⊎ (IsMainBefore f.run f.plan p q ⊎ 
 abbrev pub IsEntry : Run → Spot → Type 0
 IsEntry run spot = IsSome (slice_get (record_of run spot.node) spot.place)
 
--- both have times, and the one's is earlier
-abbrev pub IsEarlierBy : (Spot → Option Time) → Spot → Spot → Type 0
-IsEarlierBy time p q = (t : Time) × (u : Time) × (time p ≡ Some t) × (time q ≡ Some u) × (is_earlier t u ≡ true)
+-- both have stamps, and the one's is earlier
+abbrev pub IsEarlierBy : (Spot → Option Stamp) → Spot → Spot → Type 0
+IsEarlierBy stamp p q = (t : Stamp) × (u : Stamp) × (stamp p ≡ Some t) × (stamp q ≡ Some u) × (is_earlier t u ≡ true)
 
 -- where an entry comes before another, the rows at it stand before those at the other
 abbrev pub KeepsOrder : Finished → List Shown → Type 0
 KeepsOrder f list = (i j : ℕ) (x y : Shown) → slice_get list i ≡ Some x → slice_get list j ≡ Some y → ComesBefore f (entry_of x) (entry_of y) → i < j
 
-abbrev pub TimesRise : Type 0
-TimesRise = (f : Finished) → IsFinished f → (time : Spot → Option Time) → AreTimes (origins f.run f.plan) time → (p q : Spot) → IsEntry f.run q → ComesBefore f p q → IsEarlierBy time p q
+abbrev pub StampsRise : Type 0
+StampsRise = (f : Finished) → IsFinished f → (stamp : Spot → Option Stamp) → AreStamps (origins f.run f.plan) stamp → (p q : Spot) → IsEntry f.run q → ComesBefore f p q → IsEarlierBy stamp p q
 
 abbrev pub StoryKeepsOrder : Type 0
 StoryKeepsOrder = (f : Finished) → IsFinished f → (story : List Shown) → IsStory f.run f.plan story → HasEachOnce f.run story × KeepsOrder f story

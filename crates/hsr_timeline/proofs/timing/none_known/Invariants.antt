@@ -3,4 +3,4 @@ use Rattle.hsr_timeline.specs.Fronts.{lists_of}
 use Rattle.hsr_timeline.proofs.timing.none_known.Given as goal
 
 abbrev pub invariant-loop : goal.invariant-loop
-invariant-loop l = lists_of l.times.items ≡ replicate l.index []
+invariant-loop l = lists_of l.stamps.items ≡ replicate l.index []

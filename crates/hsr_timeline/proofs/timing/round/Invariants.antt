@@ -4,6 +4,6 @@ use Rattle.hsr_timeline.proofs.timing.round.Given as goal
 
 abbrev pub invariant-loop-node : goal.invariant-loop-node
 invariant-loop-node l = record {
-  front : IsFront (lists_of l.records) (lists_of l.times.items);
-  blocked : l.moved ≡ false → AreBlocked (lists_of l.records) (lists_of l.times.items) l.node;
+  front : IsFront (lists_of l.records) (lists_of l.stamps.items);
+  blocked : l.moved ≡ false → AreBlocked (lists_of l.records) (lists_of l.stamps.items) l.node;
 }
