@@ -32,7 +32,7 @@ A plan is TOML, read from standard input:
   title, ring = [names] or a table [rings] with a list of names for each (a name in two rings is a QuadBox),
   redbox = {name = [stations]}, address = {name = \"02-..\"}, mode = {name = \"N\"}, capacity, life_ms (2000, 0 for
   none), until_us, and moves: \"each send drains\" (where it isn't there), \"each moment drains\", or \"hops\" with
-  hop_us = 10: each copy is put at once, and taken and judged so many us later, in a run with the tables of --table
+  hop_us = 10: each copy is put at once, and taken and judged 10 us later, in a run with the tables of --table
   [[stream]]  from (a name or a list), to (a name or an address), type (\"goose\", \"sv\" or a number), size, vlan,
               priority, start_us (one or a list), every_us, grow, most_us, count, until_us
   [[event]]   at_us, and one of cut = [two ends], mend = [two ends], off = name, on = name

@@ -17,6 +17,6 @@ abbrev pub looks_until : Key → List Note → ℕ
 looks_until key [] = 0
 looks_until key (note ∷ notes) = if is_same_key note.key key then 1 else looks_until key notes + 1
 
--- so many notes of the key's bucket, from the youngest on
+-- how many notes of the key's bucket are looked at, from the youngest on
 abbrev pub looks_of : ℕ → Key → List Note → ℕ
 looks_of buckets key notes = looks_until key (reverse (bucket_notes buckets (bucket_of buckets key) notes))

@@ -17,7 +17,7 @@ pub(crate) struct Entry {
     pub older: u64,
 }
 
-/// The entry that has a serial, where it is still held; `gone` entries were given up, the oldest ones.
+/// The entry that has a serial, where it is still held; `gone` entries were dropped, the oldest ones.
 fn held_entry(ring: &HeapCircularBuffer<Entry>, gone: u64, serial: u64) -> Option<&Entry>
     ensures { option_copied result ≡ entry_of gone ring.now.items serial }
 {
@@ -49,7 +49,7 @@ pub(crate) fn look_up<const C: usize>(
 {
     let mut serial = head;
     let mut looks = 0;
-    // A chain ends at a serial that is no longer held: nothing is unlinked when a note is given up.
+    // A chain ends at a serial that is no longer held: nothing is unlinked when a note is dropped.
     while let Some(entry) = held_entry(ring, gone, serial) {
         looks += 1;
         if entry.note.key == key {
@@ -62,7 +62,7 @@ pub(crate) fn look_up<const C: usize>(
 }
 
 /// Takes out the expired notes, which stand first.
-pub(crate) fn give_up_expired(ring: &mut HeapCircularBuffer<Entry>, forget: u64, at: u64)
+pub(crate) fn drop_expired(ring: &mut HeapCircularBuffer<Entry>, forget: u64, at: u64)
     requires { IsRising 0 (notes_of ring.old.items) at }
     ensures notes { notes_of ring.new.items ≡ unexpired_notes forget at (notes_of ring.old.items) }
     ensures last { ring.new

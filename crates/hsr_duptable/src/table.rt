@@ -4,7 +4,7 @@ ghost use Rattle.hsr_frame.specs.Counters.{step_limit};
 ghost use Rattle.hsr_duptable.specs.Table.{IsTableSize};
 ghost use Rattle.hsr_duptable.specs.Log.{AnswersAsLog};
 
-use crate::chain::{Entry, give_up_expired, look_up};
+use crate::chain::{Entry, drop_expired, look_up};
 use crate::note::{Key, Note};
 use byteorder::{BigEndian, ByteOrder};
 use circular_buffer::HeapCircularBuffer;
@@ -114,7 +114,7 @@ impl<const C: usize> DupTable<C> {
         look_up::<C>(&self.ring, gone, head, key, self.forget, at)
     }
 
-    /// Notes that the frame passed at a moment, in microseconds; a full table gives up its oldest note.
+    /// Notes that the frame passed at a moment, in microseconds; a full table drops its oldest note.
     pub fn note(&mut self, key: Key, at: u64)
         requires later { self.old.last ≤ at }
         requires room { self.old.noted < step_limit }
@@ -156,13 +156,13 @@ impl<const C: usize> DupTable<C> {
         }
     }
 
-    /// Gives up the notes that are expired at a moment, in microseconds.
+    /// Drops the notes that are expired at a moment, in microseconds.
     pub fn age(&mut self, at: u64)
         requires { self.old.last ≤ at }
         ensures { self.new ≡ after_age self.old at }
     {
         // `heads` stays as it is: a serial that is no longer held ends a chain.
-        give_up_expired(&mut self.ring, self.forget, at);
+        drop_expired(&mut self.ring, self.forget, at);
         self.last = at;
     }
 }

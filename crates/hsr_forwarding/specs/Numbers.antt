@@ -1,6 +1,6 @@
 -- The numbers of a node's own frames.
 use Rattle.std.specs.Prelude.{ℕ}
 
--- after so many the numbers of frames, and those of supervision frames, begin anew
+-- how many numbers there are, of frames and of supervision frames: after as many they begin anew
 abbrev pub number_range : ℕ
 number_range = 65536

@@ -118,7 +118,7 @@ after_passes capacity notes passes key now = record notes {
   d = after_pass capacity notes.d passes.d key now;
 }
 
--- the tables after the expired notes were given up
+-- the tables after the expired notes were dropped
 abbrev pub aged : Notes → ℕ → Notes
 aged notes now = record notes {
   up = age_if notes.there.up notes.up now;

@@ -29,7 +29,7 @@ counted_more test xs i d below = by_test (test (get_or xs i d)) refl
     by_test true is = count_by_more_yes test xs i d below is
     by_test false is = let e = count_by_more_no test xs i d below is in omega (arith, e)
 
--- so many are fewer than all
+-- those that passed up to here are fewer than all
 pub count_fits : {X : Type 0} (test : X → Bool) (xs : List X) (i n : ℕ) → n ≡ count_by test (take i xs) → i < length xs → n < length xs
 count_fits test xs i n is below =
     let most = count_by-le-length test (take i xs) in let taken = length-take i xs in omega (arith, is, below, most, taken)

@@ -1,7 +1,7 @@
 -- A fact of each of a few places, shown place by place.
 use Rattle.std.proofs.Common.{ℕ, ◌<◌, zero, suc, arith}
 
--- a fact of so many places, from the first on
+-- a fact of each of the first n places
 unfoldable pub UpTo : (ℕ → Type 0) → ℕ → Type 0
 UpTo P zero = Unit {0}
 UpTo P (suc n) = P 0 × UpTo (λ k. P (suc k)) n

@@ -35,7 +35,7 @@ counted counters cause up copies =
 abbrev pub dropped : Counters → ℕ
 dropped c = c.foreign + c.local + c.untagged + c.tagged + c.malformed
 
--- of so many accepted steps each goes up once at most, leaves by three ports at most, and adds two other counts at most
+-- of the accepted steps each goes up once at most, leaves by three ports at most, and adds two other counts at most
 pub record AreWithin (counters : Counters) (accepted : ℕ) : Type 0 where
   pub up : counters.up ≤ accepted
   pub forwarded : counters.forwarded ≤ 3 * accepted

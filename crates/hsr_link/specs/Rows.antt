@@ -38,7 +38,7 @@ waits dir row = goes dir row && is_queued row.fate
 abbrev pub queued : Dir → List Row → List Row
 queued dir rows = filter (waits dir) rows
 
--- what becomes of a copy that is put where so many are Queued
+-- what becomes of a copy that is put where `count` are Queued
 abbrev pub put_fate : Bool → ℕ → ℕ → Fate
 put_fate is_cut count capacity = first_of ((is_cut, LostDown) ∷ (count == capacity, LostOverrun) ∷ []) Queued
 

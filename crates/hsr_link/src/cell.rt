@@ -115,7 +115,7 @@ impl LinkCell {
     }
 
     /// Waits for the lock, puts a copy, wakes all who wait for one, and tells what became of it: Queued, LostDown on a cut
-    /// link, or LostOverrun where its queue is full. A closed cell takes copies as before. `NoMemory` where room is refused:
+    /// link, or LostOverrun where its queue is full. A closed cell takes copies as before. `NoMemory` if allocation fails:
     /// then the copy comes back.
     pub fn put(
         &self,
@@ -131,7 +131,7 @@ impl LinkCell {
 
     /// Waits for the lock, puts a copy that no port sent, whose row says so, wakes all who wait for one, and tells what
     /// became of it: Queued, LostDown on a cut link, or LostOverrun where its queue is full. A closed cell takes copies as
-    /// before. `NoMemory` where room is refused: then the copy comes back.
+    /// before. `NoMemory` if allocation fails: then the copy comes back.
     pub fn inject(
         &self,
         rt: &impl Wait,

@@ -55,7 +55,7 @@ impl Link {
     }
 
     /// Puts a copy, and tells what became of it: Queued, LostDown on a cut link, or LostOverrun where its queue is
-    /// full. `NoMemory` where room is refused: then nothing changes, and the copy comes back.
+    /// full. `NoMemory` if allocation fails: then nothing changes, and the copy comes back.
     pub fn put(&mut self, dir: Dir, carried: Carried) -> Result<Fate, (Carried, NoMemory)>
         ensures ok { IfOk result (λ fate. (fate, self.new) ≡ put_step self.old dir carried) }
         ensures err { IfErr result (λ e. (self.new ≡ self.old) × (e.0 ≡ carried)) }
@@ -64,7 +64,7 @@ impl Link {
     }
 
     /// Puts a copy that no port sent, whose row says so, and tells what became of it: Queued, LostDown on a cut link, or
-    /// LostOverrun where its queue is full. `NoMemory` where room is refused: then nothing changes, and the copy comes back.
+    /// LostOverrun where its queue is full. `NoMemory` if allocation fails: then nothing changes, and the copy comes back.
     pub fn inject(&mut self, dir: Dir, carried: Carried) -> Result<Fate, (Carried, NoMemory)>
         ensures ok { IfOk result (λ fate. (fate, self.new) ≡ inject_step self.old dir carried) }
         ensures err { IfErr result (λ e. (self.new ≡ self.old) × (e.0 ≡ carried)) }

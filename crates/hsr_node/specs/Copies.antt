@@ -111,7 +111,7 @@ plain_in (Ok (Tagged frame)) = Some (untag_of frame)
 abbrev pub plain_octets : List ℕ → Option (List ℕ)
 plain_octets octets = option_map spelling (plain_in (classified octets))
 
--- the octets as they came, where a frame may have so many
+-- the octets as they came, where they are no more than a frame may have
 abbrev pub as_came : List ℕ → Option (List ℕ)
 as_came octets = if nat_lt max_frame (length octets) then None else Some octets
 

@@ -12,6 +12,6 @@ pub record Times : Type 0 where
 abbrev pub usual : Times
 usual = record { entry = entry_forget; node = node_forget }
 
--- the same times in a unit of which so many are one of the old
+-- the same times in a finer unit, `factor` of which are one of the old
 abbrev pub finer_times : ℕ → Times → Times
 finer_times factor times = record { entry = times.entry * factor; node = times.node * factor }

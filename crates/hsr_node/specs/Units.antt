@@ -1,5 +1,5 @@
 -- What a record is where its moments are told in a finer unit.
---     in_unit          each moment times so many
+--     in_unit          each moment times a factor
 --     SameInFinerUnit  the replay is the same
 use Rattle.std.specs.Prelude.{ℕ, ◌*◌, ◌<◌, ◌≡◌, ◌↔◌, List, map}
 use Rattle.hsr_node.specs.Record.{IsLegal, IsLegalBy, Owner, answer_by}
@@ -7,7 +7,7 @@ use Rattle.hsr_node.specs.Times.{Times, finer_times}
 use Rattle.hsr_node.specs.declared.entry.Entry.{Entry}
 use Rattle.hsr_node.specs.declared.event.Event.{Event}
 
--- an entry in a unit of which so many are one of the old
+-- an entry in a finer unit, `factor` of which are one of the old
 abbrev pub entry_in_unit : ℕ → Entry → Entry
 entry_in_unit factor x = record x { at = x.at * factor }
 

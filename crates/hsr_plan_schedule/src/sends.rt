@@ -121,7 +121,7 @@ fn left_by_run(
         if at >= until {
             return left(room, count);
         }
-        // Given up at once: how many there would be beyond the room isn't counted.
+        // Refused at once: how many there would be beyond the room isn't counted.
         if count >= room {
             return None;
         }

@@ -67,8 +67,8 @@ result_map f (Err fault) = Err fault
 abbrev pub onto : ℕ → List ℕ → Result (List Tlv) SupFault → Result (List Tlv) SupFault
 onto kind value others = result_map (λ tlvs. record { kind = kind; value = value } ∷ tlvs) others
 
--- The TLVs up to the one that ends the payload, or else to the last octet. So many octets of a value,
--- which its TLV has taken, are stepped over first.
+-- The TLVs up to the one that ends the payload, or else to the last octet. The octets of a value,
+-- which its TLV has taken, are stepped over first: here is how many they are.
 abbrev pub tlvs_past : ℕ → List ℕ → Result (List Tlv) SupFault
 tlvs_past zero [] = Ok []
 tlvs_past zero (kind ∷ []) = Err Truncated

@@ -126,7 +126,7 @@ fn mac_at(o: &[u8]) -> Mac
     Mac::new([o[0], o[1], o[2], o[3], o[4], o[5]])
 }
 
-/// What stands after so many octets.
+/// What stands after the first `n` octets.
 fn after(octets: &[u8], n: usize) -> &[u8]
     requires { n ≤ length octets.now }
     ensures { result.now ≡ drop n octets.now }

@@ -57,7 +57,7 @@ impl NodeTable {
     }
 
     /// Puts the node that a payload is about first, as heard on a port at this moment in microseconds,
-    /// and gives up what there is no room for.
+    /// and drops what there is no room for.
     pub fn hear(&mut self, said: &Supervision, port: RingPort, at: u64)
         requires { self.old.last ≤ at }
         ensures { self.new ≡ heard self.old (record { said = said.now; port = port; at = at }) }

@@ -44,7 +44,7 @@ impl ProxyTable {
         self.last
     }
 
-    /// Puts an address first, as heard at this moment in microseconds, and gives up what there is no room for.
+    /// Puts an address first, as heard at this moment in microseconds, and drops what there is no room for.
     pub fn learn(&mut self, mac: Mac, at: u64)
         requires { self.old.last ≤ at }
         ensures { self.new ≡ learned self.old (mac, at) }

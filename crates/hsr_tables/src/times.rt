@@ -2,15 +2,15 @@
 ghost use Rattle.std.specs.Prelude.{◌≡◌};
 ghost use Rattle.hsr_tables.specs.Known.{is_young};
 
-/// An address is forgotten so many microseconds after it was heard last (NodeForgetTime and
+/// An address is forgotten this many microseconds after it was heard last (NodeForgetTime and
 /// ProxyNodeTableForgetTime, IEC 62439-3 clause 5.8).
 pub const NODE_FORGET: u64 = 60_000_000;
 
-/// A node sends a supervision frame every so many microseconds (LifeCheckInterval, IEC 62439-3
+/// A node sends a supervision frame every two seconds, here in microseconds (LifeCheckInterval, IEC 62439-3
 /// clause 5.8).
 pub const LIFE_CHECK: u64 = 2_000_000;
 
-/// A table keeps what was heard of so many addresses (this profile's choice).
+/// A table keeps what was heard of 64 addresses at most (this profile's choice).
 pub const ROW_LIMIT: usize = 64;
 
 /// Whether what was heard at one moment isn't forgotten at another, both in microseconds.

@@ -1,8 +1,8 @@
-//! Why nodes and links are no topology.
+//! Why nodes and links do not form a valid topology.
 ghost use Rattle.std.specs.Prelude.{◌≡◌};
 ghost use Rattle.hsr_topology.specs.Fault.{topology_fault_code};
 
-/// Why nodes and links are no topology, in the order in which the reasons are tried.
+/// Why nodes and links do not form a valid topology, in the order in which the reasons are tried.
 #[derive(Clone, Copy, Debug, PartialEq, Eq)]
 pub enum TopologyFault {
     /// There are over 64 nodes or over 128 links.

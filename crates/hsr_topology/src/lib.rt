@@ -5,7 +5,7 @@
 //! - `worker`: the numbers of workers
 //! - `nodes`: what the nodes may be
 //! - `links`: what the links may be
-//! - `fault`: why nodes and links are no topology
+//! - `fault`: why nodes and links do not form a valid topology
 //! - `topology`: the topology, its calls
 //! - `same`: whether two topologies are the same
 #![tactic(auto)]

@@ -38,7 +38,7 @@ impl Model for Topology {
     ghost invariant = { λ t. topology_fault t.places.items t.links.items ≡ None };
 }
 
-/// The first reason why nodes and links are no topology.
+/// The first reason why nodes and links do not form a valid topology.
 #[tactic(auto, unfolding(crate::specs::Topology::topology_fault))]
 fn topology_fault(places: &[Place], links: &[[End; 2]]) -> Option<TopologyFault>
     ensures { result ≡ topology_fault places.now links.now }

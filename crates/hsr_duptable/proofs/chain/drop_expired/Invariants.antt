@@ -1,7 +1,7 @@
 use Rattle.std.proofs.Common.{◌≡◌, ◌≤◌, length}
 use Rattle.hsr_duptable.specs.Notes.{unexpired_notes, IsRising}
 use Rattle.hsr_duptable.specs.Chains.{notes_of, last_entries}
-use Rattle.hsr_duptable.proofs.chain.give_up_expired.Given as goal
+use Rattle.hsr_duptable.proofs.chain.drop_expired.Given as goal
 
 -- what is left is the end of all, and has the same unexpired notes
 abbrev pub invariant-loop-oldest : goal.invariant-loop-oldest

@@ -1,7 +1,7 @@
 use Rattle.std.proofs.Common.{arith, length, length-drop, sym, ◌∙◌, ◌≡◌, ◌-◌, drop}
 use Rattle.hsr_duptable.proofs.RisingNotes.{unexpired_notes-front, unexpired_notes-drop_front, unexpired_notes-no_front, IsRising-drop}
 use Rattle.hsr_duptable.proofs.Chains.{last_entries-drop_front, notes_of-drop, notes_of-front, notes_of-no_front, has_front}
-use Rattle.hsr_duptable.proofs.chain.give_up_expired.Goals as goal
+use Rattle.hsr_duptable.proofs.chain.drop_expired.Goals as goal
 
 pub returns-then-is_unexpired-clause-notes : goal.returns-then-is_unexpired-clause-notes
 returns-then-is_unexpired-clause-notes c =
