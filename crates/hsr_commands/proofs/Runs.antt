@@ -1,6 +1,5 @@
 -- What a run in threads tells of the scenario.
 use Rattle.std.proofs.Common.{ℕ, ◌≡◌, Bool, true, false, Option, None, Some, Result, Ok, Err, MatchOption, position, refl, sym, subst}
-use Rattle.hsr_finished_run.specs.declared.disagree.CheckFault.TheVariants as check
 use Rattle.hsr_runner.specs.Faults.{IsRunFault, is_fine_step}
 use Rattle.hsr_runner.specs.Plan.{is_fine}
 use Rattle.hsr_runner.specs.declared.fault.RunFault.{RunFault}
@@ -24,8 +23,7 @@ orderly_unrun capacity said meant (run.Step k (world.Node f)) means none why fin
 orderly_unrun capacity said meant (run.Step k world.NoMemory) means none why fine never = tt
 orderly_unrun capacity said meant run.GateShut means none why fine never = absurd (never refl)
 orderly_unrun capacity said meant run.Thread means none why fine never = (meant, means, none, why)
-orderly_unrun capacity said meant (run.Check (check.Disagree d)) means none why fine never = (meant, means, none, why)
-orderly_unrun capacity said meant (run.Check check.NoMemory) means none why fine never = tt
+orderly_unrun capacity said meant (run.Check d) means none why fine never = (meant, means, none, why)
 orderly_unrun capacity said meant run.NoMemory means none why fine never = tt
 
 -- why there is no run, by the first such step and the answer

@@ -4,7 +4,6 @@
 --     ThreadsEnds  how a run ends, and what it wrote
 use Rattle.std.specs.Prelude.{ℕ, ◌≡◌, List, Option, None, Some, Ok, Err, position}
 use Rattle.hsr_finished_run.specs.Finished.{Finished}
-use Rattle.hsr_finished_run.specs.declared.disagree.CheckFault.TheVariants as check
 use Rattle.hsr_runner.specs.Brought.{InjectsNothing, NoneIsAlien}
 use Rattle.hsr_runner.specs.Faults.{AllFit, IsRunFault}
 use Rattle.hsr_runner.specs.Plan.{is_fine}
@@ -15,7 +14,7 @@ use Rattle.hsr_scenario.specs.Meaning.{Meant}
 use Rattle.hsr_world_steps.specs.declared.step.DrainFault.TheVariants as drain
 use Rattle.hsr_world_steps.specs.declared.step.WorldFault.TheVariants as world
 use Rattle.hsr_commands.specs.Ending.{Ends}
-use Rattle.hsr_commands.specs.Fault.{check_fault, step_fault}
+use Rattle.hsr_commands.specs.Fault.{step_fault}
 use Rattle.hsr_commands.specs.Reading.{Said}
 use Rattle.hsr_report.specs.Found.{IsFound}
 use Rattle.hsr_report.specs.declared.finding.Finding.{Finding}
@@ -31,7 +30,7 @@ run_fault (run.FineStep step) = Fine step
 run_fault (run.Step step fault) = step_fault step (drain.World fault)
 run_fault run.GateShut = Gate
 run_fault run.Thread = Thread
-run_fault (run.Check fault) = check_fault fault
+run_fault (run.Check disagree) = Check disagree
 run_fault run.NoMemory = Memory
 
 -- There is a scenario, in which no step moves or judges one copy, and this is why it has no run.
@@ -45,7 +44,7 @@ IsUnrun capacity said (Scenario fault) = said ≡ Err fault
 IsUnrun capacity said (Fine step) = (meant : Meant) × (said ≡ Ok meant) × (position is_fine meant.steps ≡ Some step)
 IsUnrun capacity said (Step step (drain.World world.NoMemory)) = ⊥
 IsUnrun capacity said (Step step (drain.World fault)) = IsNoRun capacity said (run.Step step fault)
-IsUnrun capacity said (Check disagree) = IsNoRun capacity said (run.Check (check.Disagree disagree))
+IsUnrun capacity said (Check disagree) = IsNoRun capacity said (run.Check disagree)
 IsUnrun capacity said Thread = IsNoRun capacity said run.Thread
 IsUnrun capacity said Memory = Unit {0}
 IsUnrun capacity said _ = ⊥

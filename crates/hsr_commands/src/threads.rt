@@ -34,7 +34,7 @@ fn run_fault(fault: RunFault) -> Fault
         RunFault::Step { step, fault } => Fault::of_step(step, DrainFault::World(fault)),
         RunFault::GateShut => Fault::Gate,
         RunFault::Thread => Fault::Thread,
-        RunFault::Check(fault) => Fault::of_check(fault),
+        RunFault::Check(disagree) => Fault::Check(disagree),
         RunFault::NoMemory => Fault::Memory,
     }
 }

@@ -16,7 +16,7 @@ use Rattle.hsr_node.specs.declared.event.StepFault.{StepFault}
 use Rattle.hsr_node.specs.declared.event.StepFault.TheVariants as refused
 use Rattle.hsr_node.specs.declared.place.Place.{Place}
 use Rattle.hsr_node.specs.declared.place.Place.TheVariants.{QuadBox}
-use Rattle.hsr_ring.specs.Entering.{IsEntered, IsNotEntered, IsRefusal, IsStepped, IsThere, IsUnplanned, answer_in, past_in, world_fault}
+use Rattle.hsr_ring.specs.Entering.{IsEntered, IsNotEntered, IsRefusal, IsStepped, IsThere, IsUnplanned, answer_in, past_in}
 use Rattle.hsr_world_links.specs.Ports.{places_of}
 use Rattle.hsr_world_links.specs.Giving.{given_lane, given_span, receipt_of}
 use Rattle.hsr_world_laws.specs.Spans.{Span, emptied, held_in, lanes_of, on_lanes, spread}
@@ -24,6 +24,7 @@ use Rattle.hsr_ring.specs.Views.{AreNumbered, world_of}
 use Rattle.hsr_world_links.specs.Views.{span_view}
 use Rattle.hsr_world_laws.specs.World.{World, added, and_added, cleared, entered, judged_at, planned}
 use Rattle.hsr_world_links.specs.declared.span.Span as code
+use Rattle.hsr_world_steps.specs.Refused.{world_fault}
 use Rattle.hsr_world_steps.specs.declared.step.WorldFault.{WorldFault}
 use Rattle.hsr_world_steps.specs.declared.step.WorldFault.TheVariants.{NoMemory, Node, Nothing}
 use Rattle.hsr_world_links.proofs.Places.{or_map}

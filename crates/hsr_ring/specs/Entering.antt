@@ -7,7 +7,6 @@ use Rattle.hsr_node.specs.declared.entry.Receipt.{Receipt}
 use Rattle.hsr_node.specs.declared.event.Event.{Event}
 use Rattle.hsr_node.specs.declared.event.Outcome.{Outcome}
 use Rattle.hsr_node.specs.declared.event.StepFault.{StepFault}
-use Rattle.hsr_node.specs.declared.event.StepFault.TheVariants as refused
 use Rattle.hsr_world_links.specs.Ports.{places_of}
 use Rattle.hsr_world_laws.specs.Spans.{Span}
 use Rattle.hsr_ring.specs.Views.{world_of}
@@ -15,7 +14,7 @@ use Rattle.hsr_world_laws.specs.World.{World, entered}
 use Rattle.hsr_run_laws.specs.Run.{owner_in, record_in}
 use Rattle.hsr_finished_run.specs.declared.planned.Planned.{Planned}
 use Rattle.hsr_world_steps.specs.declared.step.WorldFault.{WorldFault}
-use Rattle.hsr_world_steps.specs.declared.step.WorldFault.TheVariants.{Node, NoMemory}
+use Rattle.hsr_world_steps.specs.declared.step.WorldFault.TheVariants.{Node}
 
 abbrev pub past_in : List Record → ℕ → List Entry
 past_in nodes n = record_in (map past_of nodes) n
@@ -23,13 +22,6 @@ past_in nodes n = record_in (map past_of nodes) n
 -- what a node answers to an event, at a moment that is given
 abbrev pub answer_in : ℕ → List Record → ℕ → ℕ → Event → Result Outcome StepFault
 answer_in capacity nodes n at event = answer capacity (owner_in (places_of nodes) n) (past_in nodes n) (max (now (past_in nodes n)) at) event
-
-abbrev pub world_fault : StepFault → WorldFault
-world_fault refused.NoMemory = NoMemory
-world_fault refused.WrongEvent = Node refused.WrongEvent
-world_fault (refused.Send fault) = Node (refused.Send fault)
-world_fault refused.NotProxied = Node refused.NotProxied
-world_fault refused.Spent = Node refused.Spent
 
 -- a node did this, and keeps it
 pub record IsStepped (capacity : ℕ) (worker n at : ℕ) (event : Event) (old new : List Record) (receipt : Receipt) : Type 0 where

@@ -1,27 +1,16 @@
 //! An event that a worker brings to a node.
 ghost use Rattle.std.specs.Prelude.{◌≡◌, ◌⊎◌, ◌<◌, IfErr, IfOk, OnOk, length, map, slice_index_or};
-ghost use Rattle.hsr_ring.specs.Entering.{IsEntered, IsNotEntered, IsRefusal, IsStepped, IsThere, world_fault};
+ghost use Rattle.hsr_ring.specs.Entering.{IsEntered, IsNotEntered, IsRefusal, IsStepped, IsThere};
 ghost use Rattle.hsr_world_links.specs.Giving.{receipt_of};
 ghost use Rattle.hsr_world_links.specs.Touching.{touching_from};
 ghost use Rattle.hsr_ring.specs.Views.{AreNumbered};
 ghost use Rattle.hsr_world_links.specs.Views.{span_view};
 ghost use Rattle.hsr_world_steps.specs.declared.step.WorldFault.TheVariants.{NoMemory};
 
-use hsr_node::{Answer, Entry, Event, Kept, Probe, StepFault};
+use hsr_node::{Answer, Entry, Event, Kept, Probe};
 use hsr_world_links::{Span, commit, prepare};
 use hsr_world_steps::WorldFault;
 use std::alloc::Global;
-
-/// Why a step is refused for which a node refuses an event.
-fn world_fault(fault: StepFault) -> WorldFault
-    ensures { result ≡ world_fault fault }
-{
-    match fault {
-        // A failed allocation is no refusal by the node, so it is told in the same way wherever it comes.
-        StepFault::NoMemory => WorldFault::NoMemory,
-        _ => WorldFault::Node(fault),
-    }
-}
 
 /// Lets an event happen at a node. A refusal hands the event back.
 fn step_at<const C: usize>(
@@ -44,7 +33,7 @@ fn step_at<const C: usize>(
 {
     match nodes[node].enter(worker, at, event) {
         Ok(answer) => Ok(answer),
-        Err((event, fault)) => Err((event, world_fault(fault))),
+        Err((event, fault)) => Err((event, WorldFault::of_node(fault))),
     }
 }
 

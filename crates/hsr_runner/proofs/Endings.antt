@@ -6,7 +6,6 @@ use Rattle.hsr_link.specs.declared.row.Row.{Row}
 use Rattle.hsr_topology.specs.Topology.{Topology}
 use Rattle.hsr_finished_run.specs.declared.planned.Planned.{Planned}
 use Rattle.hsr_scenario.specs.Meaning.{Meant}
-use Rattle.hsr_finished_run.specs.declared.disagree.CheckFault.TheVariants as check
 use Rattle.hsr_world_steps.specs.declared.step.WorldFault.TheVariants as world
 use Rattle.hsr_runner.specs.Endings.{IsCheckFault, IsConducted, IsEnding, IsPlayFault, fault_of, worker_fault}
 use Rattle.hsr_finished_run.specs.Finished.{Finished}
@@ -103,11 +102,10 @@ check_fault capacity may_shut s topology kept rows passes plan (fault.FineStep k
 check_fault capacity may_shut s topology kept rows passes plan fault.GateShut here planned h = absurd h
 check_fault capacity may_shut s topology kept rows passes plan (fault.Step k f) here planned h = absurd h
 check_fault capacity may_shut s topology kept rows passes plan fault.Thread here planned h = absurd h
-check_fault capacity may_shut s topology kept rows passes plan (fault.Check (check.Disagree d)) here planned h =
+check_fault capacity may_shut s topology kept rows passes plan (fault.Check d) here planned h =
     inl (subst (λ t. IsCause capacity t (plan_of s.steps) d) here (subst (λ p. IsCause capacity topology p d) planned (record { kept = kept; rows = rows; passes = passes; first = h })))
-check_fault capacity may_shut s topology kept rows passes plan (fault.Check check.NoMemory) here planned h = absurd h
 check_fault capacity may_shut s topology kept rows passes plan fault.NoMemory here planned h = tt
 
 -- and so is what the look behind it leaves
-pub unlike_fault : (capacity : ℕ) (s : Meant) (f : Finished) (d : Disagree) → IsRunOf capacity s f → IsUnlike f.run s.steps d → IsRunFault capacity s (fault.Check (check.Disagree d))
+pub unlike_fault : (capacity : ℕ) (s : Meant) (f : Finished) (d : Disagree) → IsRunOf capacity s f → IsUnlike f.run s.steps d → IsRunFault capacity s (fault.Check d)
 unlike_fault capacity s f d is_run unlike = inr (record { finished = f; is_run = is_run; unlike = unlike })

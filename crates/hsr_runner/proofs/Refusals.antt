@@ -14,9 +14,10 @@ use Rattle.hsr_link.specs.declared.row.Dir.{Dir}
 use Rattle.hsr_scenario.specs.declared.steps.Order.{Order}
 use Rattle.hsr_scenario.specs.declared.steps.Order.TheVariants.{Step, Drain}
 use Rattle.hsr_world_steps.specs.declared.step.Step.TheVariants.{Clock, Send, Supervise, Age, Put, Take, Judge, Cut, Mend, Inject}
+use Rattle.hsr_world_steps.specs.Refused.{world_fault}
 use Rattle.hsr_world_steps.specs.declared.step.WorldFault.{WorldFault}
 use Rattle.hsr_world_steps.specs.declared.step.WorldFault.TheVariants.{NoSuchNode, NoSuchLink, NoSuchPort, Busy, Nothing, TooLong, Node, NoMemory}
-use Rattle.hsr_runner.specs.Endings.{IsEnding, IsOrderEnd, IsPlanEnd, ending_of, own_fault}
+use Rattle.hsr_runner.specs.Endings.{IsEnding, IsOrderEnd, IsPlanEnd, ending_of}
 use Rattle.hsr_runner.specs.Faults.{IsRefusedPlan, if_link, if_node, misfit, too_long}
 use Rattle.hsr_runner.specs.Plan.{planned_at}
 
@@ -35,7 +36,7 @@ copy_refused capacity at port copy may_shut refused.NotProxied (inr told) = (at,
 copy_refused capacity at port copy may_shut refused.Spent (inl e) = absurd cc
 copy_refused capacity at port copy may_shut refused.Spent (inr told) = (at, port, copy, told)
 
-pub plan_refused : (capacity : ℕ) (topology : Topology) (planned : Planned) (fault : StepFault) → Told capacity planned.at planned.event fault → IsPlanEnd capacity topology planned (own_fault fault)
+pub plan_refused : (capacity : ℕ) (topology : Topology) (planned : Planned) (fault : StepFault) → Told capacity planned.at planned.event fault → IsPlanEnd capacity topology planned (world_fault fault)
 plan_refused capacity topology planned refused.NoMemory told = tt
 plan_refused capacity topology planned refused.WrongEvent (inl e) = absurd cc
 plan_refused capacity topology planned refused.WrongEvent (inr told) = told

@@ -14,7 +14,6 @@ use Rattle.hsr_node.specs.declared.event.StepFault.TheVariants as refused
 use Rattle.hsr_topology.specs.Topology.{Topology}
 use Rattle.hsr_link.specs.declared.row.Row.{Row}
 use Rattle.hsr_finished_run.specs.Checked.{IsFirst}
-use Rattle.hsr_finished_run.specs.declared.disagree.CheckFault.TheVariants as check
 use Rattle.hsr_finished_run.specs.declared.planned.Planned.{Planned}
 use Rattle.hsr_scenario.specs.declared.steps.Order.{Order}
 use Rattle.hsr_runner.specs.Faults.{AllFit, IsRefusedCopy, IsRefusedEvent, IsRefusedOrder, IsRunFault, if_node}
@@ -30,11 +29,6 @@ use Rattle.hsr_runner.specs.declared.fault.RunFault.TheVariants as fault
 abbrev pub ending_of : StepFault → Ending
 ending_of refused.NoMemory = NoMemory
 ending_of fault = Refused fault
-
--- why an order isn't done that a node refused
-abbrev pub own_fault : StepFault → WorldFault
-own_fault refused.NoMemory = NoRoom
-own_fault fault = Node fault
 
 -- a worker ends by its gate only where that may shut, and by its node only where that refused a copy
 abbrev pub IsEnding : ℕ → Bool → Ending → Type 0
@@ -98,6 +92,6 @@ IsPlayFault capacity may_shut s f = IsRunFault capacity s f
 
 -- what the closing check of these parts leaves: the first cause why they don't agree, or a failed allocation
 abbrev pub IsCheckFault : ℕ → Topology → List Record → List (Vec Row Global) → List Receipts → List Planned → RunFault → Type 0
-IsCheckFault capacity topology kept rows passes plan (fault.Check (check.Disagree d)) = IsFirst capacity topology kept rows passes plan d
+IsCheckFault capacity topology kept rows passes plan (fault.Check d) = IsFirst capacity topology kept rows passes plan d
 IsCheckFault capacity topology kept rows passes plan fault.NoMemory = Unit {0}
 IsCheckFault capacity topology kept rows passes plan _ = ⊥

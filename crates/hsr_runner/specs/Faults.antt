@@ -17,7 +17,6 @@ use Rattle.hsr_node.specs.declared.event.StepFault.{StepFault}
 use Rattle.hsr_node.specs.declared.event.StepFault.TheVariants.{NoMemory as NoRoom}
 use Rattle.hsr_finished_run.specs.Checked.{IsFirst}
 use Rattle.hsr_finished_run.specs.Finished.{Finished}
-use Rattle.hsr_finished_run.specs.declared.disagree.CheckFault.TheVariants as check
 use Rattle.hsr_finished_run.specs.declared.disagree.Disagree.{Disagree}
 use Rattle.hsr_finished_run.specs.declared.planned.Planned.{Planned}
 use Rattle.hsr_scenario.specs.Meaning.{Meant}
@@ -116,8 +115,7 @@ IsNoRunOf capacity s d = IsCause capacity s.topology (plan_of s.steps) d ⊎ IsU
 abbrev pub IsRunFault : ℕ → Meant → RunFault → Type 0
 IsRunFault capacity s (FineStep k) = position is_fine s.steps ≡ Some k
 IsRunFault capacity s (Step k fault) = (k ≤ length s.steps) × (IsOwnFault capacity s k fault ⊎ IsCopyFault capacity fault)
-IsRunFault capacity s (Check (check.Disagree d)) = IsNoRunOf capacity s d
-IsRunFault capacity s (Check check.NoMemory) = ⊥
+IsRunFault capacity s (Check d) = IsNoRunOf capacity s d
 IsRunFault capacity s GateShut = Unit {0}
 IsRunFault capacity s Thread = Unit {0}
 IsRunFault capacity s NoMemory = Unit {0}

@@ -3,7 +3,7 @@ ghost use Rattle.std.specs.Prelude.{◌≡◌, ◌⊎◌, IfErr, IfOk, None, Som
 ghost use Rattle.hsr_world_steps.specs.declared.step.WorldFault.TheVariants.{NoMemory as NoRoom};
 ghost use Rattle.hsr_runner.specs.Faults.{if_link, if_node, misfit, too_long};
 ghost use Rattle.hsr_scenario.specs.Meaning.{scenario_view};
-ghost use Rattle.hsr_runner.specs.Endings.{FitsNode, IsConducted, IsOrderEnd, IsPlanEnd, own_fault};
+ghost use Rattle.hsr_runner.specs.Endings.{FitsNode, IsConducted, IsOrderEnd, IsPlanEnd};
 ghost use Rattle.hsr_runner.specs.Plan.{planned_at};
 
 use crate::cells::Cells;
@@ -12,7 +12,7 @@ use crate::leaving::{inject, put_all};
 use crate::plan::{clock_after, planned_at};
 use hsr_finished_run::Planned;
 use hsr_link::Dir;
-use hsr_node::{Octets, Pass, StepFault};
+use hsr_node::{Octets, Pass};
 use hsr_scenario::{Order, Scenario};
 use hsr_topology::Topology;
 use hsr_world_steps::{INJECT_LIMIT, Step, WorldFault};
@@ -36,16 +36,6 @@ pub(crate) enum Conducted {
     NoMemory,
 }
 
-/// Why an order isn't done that a node refused.
-fn own_fault(fault: StepFault) -> WorldFault
-    ensures { result ≡ own_fault fault }
-{
-    match fault {
-        StepFault::NoMemory => WorldFault::NoMemory,
-        _ => WorldFault::Node(fault),
-    }
-}
-
 /// Brings about what is planned, and puts on their links the copies that leave.
 #[tactic(auto, using(crate::proofs::Refusals::plan_refused))]
 fn bring<const C: usize>(
@@ -66,7 +56,7 @@ fn bring<const C: usize>(
     let receipt = match seat.cell.step(rt, pass, planned.at, planned.event) {
         Ok(receipt) => receipt,
         // The event is let go: the run ends here.
-        Err((_event, fault)) => return Err(own_fault(fault)),
+        Err((_event, fault)) => return Err(WorldFault::of_node(fault)),
     };
     match put_all(rt, alloc, cells, seat, &receipt) {
         Ok(()) => Ok(()),

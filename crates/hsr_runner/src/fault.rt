@@ -1,5 +1,5 @@
 //! Why there is no run.
-use hsr_finished_run::CheckFault;
+use hsr_finished_run::Disagree;
 use hsr_world_steps::WorldFault;
 
 /// Why a scenario has no run in threads, in the order in which the reasons are tried.
@@ -13,8 +13,8 @@ pub enum RunFault {
     GateShut,
     /// A thread couldn't be started.
     Thread,
-    /// What the threads left isn't a finished run.
-    Check(CheckFault),
-    /// Memory ran out.
+    /// What the threads left isn't a finished run, for this cause.
+    Check(Disagree),
+    /// Memory ran out, wherever that was.
     NoMemory,
 }

@@ -81,7 +81,7 @@ fn checked<const C: usize>(
             Ok(closed)
         }
         Err((_parts, CheckFault::NoMemory)) => Err(RunFault::NoMemory),
-        Err((_parts, fault)) => Err(RunFault::Check(fault)),
+        Err((_parts, CheckFault::Disagree(disagree))) => Err(RunFault::Check(disagree)),
     }
 }
 
@@ -129,7 +129,7 @@ pub fn run_threads<const C: usize, G: Gate, R: Threads + Wait + Sync>(
     };
     // What the closing check can't see is looked at behind it, at the price of one walk over the entries.
     match unlike(&closed, scenario.steps.as_slice()) {
-        Some(disagree) => Err(RunFault::Check(CheckFault::Disagree(disagree))),
+        Some(disagree) => Err(RunFault::Check(disagree)),
         None => Ok(closed),
     }
 }

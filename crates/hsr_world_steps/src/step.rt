@@ -1,4 +1,7 @@
 //! What may happen in a world, and why it doesn't.
+ghost use Rattle.std.specs.Prelude.{◌≡◌};
+ghost use Rattle.hsr_world_steps.specs.Refused.{world_fault};
+
 use hsr_frame::{About, Mac};
 use hsr_link::Dir;
 use hsr_node::{Octets, StepFault};
@@ -83,6 +86,19 @@ pub enum WorldFault {
     Node(StepFault),
     /// Room for the step was refused.
     NoMemory,
+}
+
+impl WorldFault {
+    /// Why a step is refused for which a node refuses an event.
+    pub fn of_node(fault: StepFault) -> WorldFault
+        ensures { result ≡ world_fault fault }
+    {
+        match fault {
+            // Want of memory is no refusal by the node, so it is told in the same way wherever it comes.
+            StepFault::NoMemory => WorldFault::NoMemory,
+            _ => WorldFault::Node(fault),
+        }
+    }
 }
 
 /// Why a drain ends early.

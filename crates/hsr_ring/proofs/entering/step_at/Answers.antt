@@ -21,6 +21,6 @@ pub returns-in-Err-clause-err : goal.returns-in-Err-clause-err
 returns-in-Err-clause-err g c = (
   ap (set c.args.nodes.now c.args.node) c.in-Err.ensures.refused.0 ∙ set-get_or c.args.nodes.now c.args.node c.index-nodes-node.result,
   c.in-Err.ensures.refused.1,
-  refused_at g.row.C c.args.nodes.now c.args.node c.args.at c.args.event c.index-nodes-node.result c.in-Err.fault c.world_fault.result c.requires.numbered c.requires.below
-      c.world_fault.ensures c.in-Err.ensures.answered,
+  refused_at g.row.C c.args.nodes.now c.args.node c.args.at c.args.event c.index-nodes-node.result c.in-Err.fault c.of_node.result c.requires.numbered c.requires.below
+      c.of_node.ensures c.in-Err.ensures.answered,
 )
