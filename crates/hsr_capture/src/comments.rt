@@ -3,7 +3,7 @@ ghost use Rattle.std.specs.Prelude.{◌≡◌, ◌++◌, ◌∷◌, [], codes, i
 ghost use Rattle.hsr_frame.specs.declared.node.Cause.TheVariants.{Passed};
 ghost use Rattle.hsr_node.specs.Words.{letter};
 ghost use Rattle.hsr_tag.specs.Seen.{classified};
-ghost use Rattle.hsr_run_laws.specs.Run.{ends_of, record_of, to_end};
+ghost use Rattle.hsr_run_laws.specs.Run.{ends_of, to_end};
 ghost use Rattle.hsr_timeline.specs.Fronts.{lists_of};
 ghost use Rattle.hsr_capture.specs.Comments.{became, comment, entry_text, interface_description, judge_if, judge_text, judge_words, judged_if, judged_text, judgement, letters_from, loss_reason, loss_text, name_from, number_text, outcome_text, send_if, send_text, send_words, sequence_text};
 
@@ -218,17 +218,6 @@ fn put_judged(
     }
 }
 
-/// The record of a node; nothing where there is no such node.
-fn entries_at<const C: usize>(closed: &Closed<C>, node: usize) -> &[Entry]
-    ensures { result.now ≡ record_of closed.now.run node }
-{
-    if node < closed.topology().places().len() {
-        closed.entries(node)
-    } else {
-        &[]
-    }
-}
-
 /// Puts last where a copy came, and what became of it by the entry at a place of that node's record.
 fn put_arrival<const C: usize>(
     text: &mut Vec<u8>,
@@ -243,7 +232,7 @@ fn put_arrival<const C: usize>(
     let places = closed.topology().places();
     put_port(text, b" ", names, places, end)?;
     put(text, ": ")?;
-    put_judged(text, places, end.node, entries_at(closed, end.node), place)
+    put_judged(text, places, end.node, closed.entries_at(end.node), place)
 }
 
 /// Puts the words before an entry that judged a copy last.

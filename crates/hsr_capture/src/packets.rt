@@ -1,6 +1,5 @@
 //! Interfaces and packets.
-ghost use Rattle.std.specs.Prelude.{◌≡◌, ◌<◌, ◌≤◌, ◌++◌, length, Some, IfErr, OnOk};
-ghost use Rattle.hsr_run_laws.specs.Run.{rows_of};
+ghost use Rattle.std.specs.Prelude.{◌≡◌, ◌<◌, ◌++◌, length, Some, IfErr, OnOk};
 ghost use Rattle.hsr_timeline.specs.Fronts.{lists_of};
 ghost use Rattle.hsr_capture.specs.Capture.{interface_number, interface_of, packet_if, packet_of};
 ghost use Rattle.hsr_capture.specs.Comments.{comment_of};
@@ -85,19 +84,6 @@ fn put_row<const C: usize>(
     )
 }
 
-/// The rows of a link; none where there is no such link. No topology has over 128 links.
-fn rows_at<const C: usize>(closed: &Closed<C>, link: usize) -> &[Row]
-    ensures rows { result.now ≡ rows_of closed.now.run link }
-    ensures few { length closed.now.run.links ≤ 128 }
-{
-    let topology = closed.topology();
-    if link < topology.links().len() {
-        closed.rows(link)
-    } else {
-        &[]
-    }
-}
-
 /// Puts the packet of a row last, if there is such a row. `TooLong` exactly where it doesn't fit.
 pub(crate) fn put_shown<const C: usize>(
     alloc: Global,
@@ -116,7 +102,7 @@ pub(crate) fn put_shown<const C: usize>(
     if shown.link >= closed.topology().links().len() {
         return Ok(());
     }
-    match rows_at(closed, shown.link).get(shown.number) {
+    match closed.rows_at(shown.link).get(shown.number) {
         Some(row) => put_row(alloc, text, names, closed, shown, row),
         None => Ok(()),
     }
@@ -137,7 +123,7 @@ pub fn put_shown_comment<const C: usize>(
     if shown.link >= closed.topology().links().len() {
         return Ok(());
     }
-    match rows_at(closed, shown.link).get(shown.number) {
+    match closed.rows_at(shown.link).get(shown.number) {
         Some(row) => {
             let to = closed.to_end(shown.link, row.dir);
             put_comment(text, names, closed, shown, row, to)

@@ -1,9 +1,10 @@
 //! What is told of a send.
-ghost use Rattle.std.specs.Prelude.{◌≡◌, ◌∷◌, [], ◌++◌, count_by, if◌then◌else◌, OnOk};
+ghost use Rattle.std.specs.Prelude.{◌≡◌, count_by, OnOk};
 ghost use Rattle.hsr_deliveries.specs.Counted.{added, delivery_at};
 ghost use Rattle.hsr_deliveries.specs.Delivered.{is_complete};
 
 use crate::loss::Loss;
+use hsr_finished_run::push_if;
 use hsr_frame::{Mac, NoMemory};
 use hsr_node::Probe;
 use std::alloc::Global;
@@ -39,17 +40,6 @@ impl Model for Delivery {
 #[derive(Debug, Drop)]
 pub struct Deliveries {
     pub sends: Vec<Delivery>,
-}
-
-/// Adds an item to others, if it is one of them. `NoMemory` if allocation fails.
-pub fn push_if<T: Copy + Drop>(items: &mut Vec<T>, is_one: bool, item: T) -> Result<(), NoMemory>
-    ensures { OnOk result (items.new.items ≡ items.old.items
-        ++ (if is_one then item ∷ [] else [])) }
-{
-    if is_one {
-        items.push(item)?;
-    }
-    Ok(())
 }
 
 impl Delivery {

@@ -22,9 +22,12 @@ mod losses;
 mod tally;
 
 pub use delivering::deliveries;
-pub use delivery::{Deliveries, Delivery, push_if};
+pub use delivery::{Deliveries, Delivery};
 pub use due::is_due;
 pub use law::once_is_complete;
 pub use lines::put_deliveries;
 pub use loss::Loss;
 pub use losses::Losses;
+
+// Named here too for who lists what was delivered.
+pub use hsr_finished_run::push_if;

@@ -1,5 +1,5 @@
 //! Of whom supervision never told a node.
-ghost use Rattle.std.specs.Prelude.{◌≡◌, ◌++◌, ◌∷◌, [], ◌<◌, if◌then◌else◌, length, reverse, IfOk, OnOk};
+ghost use Rattle.std.specs.Prelude.{◌≡◌, ◌<◌, length, reverse, IfOk};
 ghost use Rattle.std.specs.List.{list_any};
 ghost use Rattle.hsr_run_laws.specs.Run.{place_of};
 ghost use Rattle.hsr_supervision.specs.Payload.{read_of};
@@ -7,7 +7,7 @@ ghost use Rattle.hsr_devices.specs.Told.{about_of, is_mac, told_by, told_in};
 ghost use Rattle.hsr_devices.specs.Unheard.{is_told_of, is_unheard, is_unheard_of, unheard};
 
 use crate::known::hears_on;
-use hsr_finished_run::Closed;
+use hsr_finished_run::{Closed, push_if};
 use hsr_frame::{FrameFault, Mac, NoMemory, is_supervision};
 use hsr_node::{Entry, Event, Place};
 use hsr_supervision::Supervision;
@@ -101,17 +101,6 @@ fn is_unheard<const C: usize>(
 {
     // Its whole record counts: a node table forgets after a minute, so it doesn't tell this.
     number != node && is_unheard_of(place, closed.entries(node), other)
-}
-
-/// Puts a node last, if it is one of them.
-fn push_if(nodes: &mut Vec<usize>, is_one: bool, node: usize) -> Result<(), NoMemory>
-    ensures { OnOk result (nodes.new.items ≡ nodes.old.items
-        ++ (if is_one then node ∷ [] else [])) }
-{
-    if is_one {
-        nodes.push(node)?;
-    }
-    Ok(())
 }
 
 /// The DANHs and RedBoxes of which supervision never told a node, by number.

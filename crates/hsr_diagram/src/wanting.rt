@@ -1,9 +1,9 @@
 //! Which rows are wanted.
-ghost use Rattle.std.specs.Prelude.{◌≡◌, ◌++◌, ◌∷◌, [], filter, if◌then◌else◌, IfOk, OnOk};
+ghost use Rattle.std.specs.Prelude.{◌≡◌, filter, IfOk};
 ghost use Rattle.hsr_diagram.specs.Wanted.{has_all, is_of_any, is_of_one, is_pictured};
 
 use crate::span::Span;
-use hsr_finished_run::Closed;
+use hsr_finished_run::{Closed, push_if};
 use hsr_frame::NoMemory;
 use hsr_node::Probe;
 use hsr_timeline::{Choice, Shown, check_choice, is_wanted};
@@ -64,16 +64,6 @@ fn is_pictured<const C: usize>(
     span.has(shown.moment) && is_of_any(closed, sends, shown)
 }
 
-/// Puts a row last, if it is wanted.
-fn add_if(rows: &mut Vec<Shown>, wanted: bool, row: Shown) -> Result<(), NoMemory>
-    ensures { OnOk result (rows.new.items ≡ rows.old.items ++ (if wanted then row ∷ [] else [])) }
-{
-    if wanted {
-        rows.push(row)?;
-    }
-    Ok(())
-}
-
 /// The rows that are wanted, of these and in their order.
 pub(crate) fn pictured<const C: usize>(
     alloc: Global,
@@ -88,7 +78,7 @@ pub(crate) fn pictured<const C: usize>(
     let mut list = Vec::new(alloc);
     // The index is used by the loop's invariant alone.
     for (i, row) in rows.iter().enumerate() {
-        add_if(&mut list, is_pictured(closed, sends, span, row), *row)?;
+        push_if(&mut list, is_pictured(closed, sends, span, row), *row)?;
     }
     Ok(list)
 }

@@ -1,7 +1,6 @@
 //! Arrows, and what stands at their points.
 ghost use Rattle.std.specs.Prelude.{◌≡◌, ◌++◌, ◌∷◌, [], map, IfOk, OnOk};
 ghost use Rattle.std.specs.List.{flat_map};
-ghost use Rattle.hsr_run_laws.specs.Run.{rows_of};
 ghost use Rattle.hsr_timeline.specs.Fronts.{lists_of};
 ghost use Rattle.hsr_capture.specs.Comments.{comment_of};
 ghost use Rattle.hsr_diagram_layout.specs.Arrows.{arrow_shape, copy_if, label_by, label_shapes};
@@ -136,17 +135,6 @@ fn add_label_by(
     }
 }
 
-/// The rows of a link; none where there is no such link.
-pub(crate) fn rows_at<const C: usize>(closed: &Closed<C>, link: usize) -> &[Row]
-    ensures { result.now ≡ rows_of closed.now.run link }
-{
-    if link < closed.topology().links().len() {
-        closed.rows(link)
-    } else {
-        &[]
-    }
-}
-
 /// Adds the label of an arrow, if there is such a row.
 fn add_label<const C: usize>(
     alloc: Global,
@@ -160,7 +148,7 @@ fn add_label<const C: usize>(
     ensures { OnOk result (shapes elements.new.items ≡ shapes elements.old.items
         ++ label_shapes (lists_of names.now) closed.now.run has_one arrow.now) }
 {
-    match rows_at(closed, arrow.row.link).get(arrow.row.number) {
+    match closed.rows_at(arrow.row.link).get(arrow.row.number) {
         Some(row) => add_label_by(alloc, elements, names, has_one, arrow.look, row, spot),
         None => Ok(()),
     }

@@ -1,5 +1,4 @@
 //! Between which rows links are down, and where nodes go off and come on.
-use crate::arrows::rows_at;
 use crate::columns::{BESIDE, Columns};
 use crate::rows::Stamps;
 use crate::shades::is_among;
@@ -119,7 +118,7 @@ fn met_down<const C: usize>(closed: &Closed<C>, arrow: &Arrow, link: usize) -> b
     if arrow.row.link != link || arrow.look != Look::Lost {
         return false;
     }
-    match rows_at(closed, link).get(arrow.row.number) {
+    match closed.rows_at(link).get(arrow.row.number) {
         Some(row) => matches!(row.fate, Fate::LostDown | Fate::LostCut),
         None => false,
     }

@@ -4,7 +4,7 @@ ghost use Rattle.std.specs.List.{flat_map};
 ghost use Rattle.hsr_timeline.specs.Fronts.{lists_of};
 ghost use Rattle.hsr_svg.specs.Elements.{shapes, text as text_shape};
 ghost use Rattle.hsr_svg.specs.declared.elements.Label.TheVariants as labels;
-ghost use Rattle.hsr_diagram_layout.specs.Telling.{incomplete, incomplete_if, is_incomplete, line_shape, lines_of, more_if, told_at, told_shapes};
+ghost use Rattle.hsr_diagram_layout.specs.Telling.{incomplete, is_incomplete, line_shape, lines_of, more_if, told_at, told_shapes};
 
 use crate::legend::LINE;
 use crate::listing::{Ends, LETTER};
@@ -12,6 +12,7 @@ use crate::widths::width_of;
 use hsr_deliveries::Delivery;
 use hsr_diagram::Sent;
 use hsr_diagram_text::{more_words, told_words, wrapped};
+use hsr_finished_run::push_if;
 use hsr_frame::NoMemory;
 use hsr_svg::{Anchor, Element, Label, Reading, Spot, add_words};
 use std::alloc::Global;
@@ -36,17 +37,6 @@ fn is_incomplete(deliveries: &[Delivery], sent: &Sent) -> bool
     }
 }
 
-/// Adds the number of a send to others, if it isn't complete.
-fn push_if(numbers: &mut Vec<usize>, deliveries: &[Delivery], sent: &Sent) -> Result<(), NoMemory>
-    ensures { OnOk result (numbers.new.items ≡ numbers.old.items
-        ++ incomplete_if deliveries.now sent.now) }
-{
-    if is_incomplete(deliveries, sent) {
-        numbers.push(sent.number)?;
-    }
-    Ok(())
-}
-
 /// The sends that are listed and aren't complete, by their places among the deliveries.
 #[tactic(auto, using(hsr_svg::proofs::Growing::grown))]
 fn incomplete(
@@ -58,7 +48,7 @@ fn incomplete(
 {
     let mut numbers = Vec::new(alloc);
     for sent in sends {
-        push_if(&mut numbers, deliveries, sent)?;
+        push_if(&mut numbers, is_incomplete(deliveries, sent), sent.number)?;
     }
     Ok(numbers)
 }

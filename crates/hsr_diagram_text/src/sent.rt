@@ -1,6 +1,5 @@
 //! Sends as they are listed.
 ghost use Rattle.std.specs.Prelude.{◌≡◌, ◌++◌, option_map, IfOk, OnOk};
-ghost use Rattle.hsr_run_laws.specs.Run.{record_of};
 ghost use Rattle.hsr_timeline.specs.Fronts.{lists_of};
 ghost use Rattle.hsr_diagram_text.specs.Sent.{address_words, complete_if, entry_is_supervision, is_supervision, sent_words, target_text};
 
@@ -22,22 +21,11 @@ fn entry_is_supervision(entry: Option<&Entry>) -> bool
     }
 }
 
-/// The record of a node; nothing where there is no such node.
-fn entries_at<const C: usize>(closed: &Closed<C>, node: usize) -> &[Entry]
-    ensures { result.now ≡ record_of closed.now.run node }
-{
-    if node < closed.topology().places().len() {
-        closed.entries(node)
-    } else {
-        &[]
-    }
-}
-
 /// Whether a send is a supervision frame.
 fn is_supervision<const C: usize>(closed: &Closed<C>, send: Probe) -> bool
     ensures { result ≡ is_supervision closed.now.run send }
 {
-    entry_is_supervision(entries_at(closed, send.node).get(send.place))
+    entry_is_supervision(closed.entries_at(send.node).get(send.place))
 }
 
 /// Puts to whom a send goes last: to a node that it is due at, or to an address.

@@ -1,5 +1,5 @@
 //! A run that is finished, and agrees with itself.
-ghost use Rattle.std.specs.Prelude.{◌≡◌, ◌<◌, ◌^◌, length, IfErr, IfOk};
+ghost use Rattle.std.specs.Prelude.{◌≡◌, ◌<◌, ◌≤◌, ◌^◌, length, IfErr, IfOk};
 ghost use Rattle.hsr_frame.specs.Counters.{AreWithin};
 ghost use Rattle.hsr_finished_run.specs.Finished.{IsFinished};
 ghost use Rattle.hsr_run_laws.specs.Run.{ends_of, from_end, past_of, place_of, record_of, rows_of, to_end};
@@ -186,6 +186,17 @@ impl<const C: usize> Closed<C> {
         self.kept[node].entries()
     }
 
+    /// The record of a node; nothing where there is no such node.
+    pub fn entries_at(&self, node: usize) -> &[Entry]
+        ensures { result.now ≡ record_of self.now.run node }
+    {
+        if node < self.topology().places().len() {
+            self.entries(node)
+        } else {
+            &[]
+        }
+    }
+
     /// How often each thing happened at a node, counted over its record.
     pub fn counters(&self, node: usize) -> Counters
         requires { node < length self.now.run.places }
@@ -201,6 +212,18 @@ impl<const C: usize> Closed<C> {
         ensures { result.now ≡ rows_of self.now.run link }
     {
         self.rows[link].as_slice()
+    }
+
+    /// The rows of a link; none where there is no such link. No topology has over 128 links.
+    pub fn rows_at(&self, link: usize) -> &[Row]
+        ensures rows { result.now ≡ rows_of self.now.run link }
+        ensures few { length self.now.run.links ≤ 128 }
+    {
+        if link < self.topology().links().len() {
+            self.rows(link)
+        } else {
+            &[]
+        }
     }
 
     /// What the main worker brought about, in order.

@@ -17,6 +17,7 @@
 //! - `check`: all of this, one after another
 //! - `passes`: the passes that records and a plan tell of
 //! - `closed`: the finished run, its calls
+//! - `listing`: lists of what passes a test, as whoever reads a run makes them
 #![tactic(auto)]
 
 mod check;
@@ -24,6 +25,7 @@ mod closed;
 mod disagree;
 mod ends;
 mod links_agree;
+mod listing;
 mod next;
 mod parts;
 mod passes;
@@ -39,6 +41,7 @@ mod workers;
 pub use closed::Closed;
 pub use disagree::{CheckFault, Disagree};
 pub use ends::{from_end, to_end};
+pub use listing::push_if;
 pub use next::{first_places, next_place};
 pub use parts::Parts;
 pub use passes::passes_of;

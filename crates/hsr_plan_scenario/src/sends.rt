@@ -1,8 +1,9 @@
 //! When a scenario's orders send.
-ghost use Rattle.std.specs.Prelude.{◌≡◌, ◌++◌, ◌∷◌, [], if◌then◌else◌, IfOk, OnOk};
+ghost use Rattle.std.specs.Prelude.{◌≡◌, IfOk};
 ghost use Rattle.std.specs.List.Sorted.{IsNonDecreasing};
 ghost use Rattle.hsr_plan_scenario.specs.Sends.{is_sending, moment_behind, send_moments};
 
+use hsr_finished_run::push_if;
 use hsr_frame::NoMemory;
 use hsr_scenario::Order;
 use hsr_world_steps::Step;
@@ -27,17 +28,6 @@ fn moment_behind(now: u64, order: &Order) -> u64
         Order::Step(Step::Clock { at }) => now.max(*at),
         _ => now,
     }
-}
-
-/// Puts a moment last, if it is a send's.
-fn push_if(sends: &mut Vec<u64>, is_send: bool, moment: u64) -> Result<(), NoMemory>
-    ensures { OnOk result (sends.new.items
-        ≡ sends.old.items ++ (if is_send then moment ∷ [] else [])) }
-{
-    if is_send {
-        sends.push(moment)?;
-    }
-    Ok(())
 }
 
 /// The moments of the sends of orders, in microseconds.

@@ -14,6 +14,7 @@ use Rattle.hsr_plan_text.specs.declared.fault.Refusal.{Refusal}
 use Rattle.hsr_plan_text.specs.declared.fault.Refusal.TheVariants.{NoAddress, NoSuchName, Nobody, ToItself}
 use Rattle.hsr_plan_text.specs.declared.plan.Target.{Target}
 use Rattle.hsr_plan_text.specs.declared.plan.Target.TheVariants.{Named, Address}
+use Rattle.hsr_node.specs.Copies.{ring_address}
 use Rattle.hsr_node.specs.Place.{owns}
 use Rattle.hsr_plan_network.specs.Names.{is_in, number}
 use Rattle.hsr_plan_network.specs.Nodes.{Node}
@@ -24,12 +25,6 @@ use Rattle.hsr_plan_schedule.specs.declared.occasion.Sender.{Sender}
 -- the number of the node that has the name
 abbrev pub named : List Node → List ℕ → Option ℕ
 named nodes n = position (λ node. bytes_eq node.name n) nodes
-
-abbrev pub own_mac : Place → Option (List ℕ)
-own_mac (Danh mac mode) = Some mac
-own_mac (RedBox mac mode) = Some mac
-own_mac QuadBox = None
-own_mac (Station macs) = None
 
 abbrev pub station_mac : Place → ℕ → Option (List ℕ)
 station_mac (Danh mac mode) j = None
@@ -42,7 +37,7 @@ sender_at k from mac = option_map (λ m. record { node = k; from = from; mac = m
 
 abbrev pub own_sender : ℕ → Option Node → Option Sender
 own_sender k None = None
-own_sender k (Some node) = sender_at k 0 (own_mac node.place)
+own_sender k (Some node) = sender_at k 0 (ring_address node.place)
 
 abbrev pub as_node : List Node → Option ℕ → Option Sender
 as_node nodes None = None

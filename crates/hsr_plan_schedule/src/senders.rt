@@ -4,11 +4,11 @@ ghost use Rattle.hsr_plan_text.specs.Fallible.{Gives};
 ghost use Rattle.hsr_plan_text.specs.declared.fault.What.TheVariants.{Refused};
 ghost use Rattle.hsr_plan_text.specs.declared.fault.Refusal.TheVariants.{NoSuchName};
 ghost use Rattle.hsr_plan_network.specs.Names.{is_in};
-ghost use Rattle.hsr_plan_schedule.specs.Senders.{as_node, as_station, is_own, is_somebody, named, nobody, own_mac, own_sender, sender, some_has, source, sources, station_mac, station_sender, target};
+ghost use Rattle.hsr_plan_schedule.specs.Senders.{as_node, as_station, is_own, is_somebody, named, nobody, own_sender, sender, some_has, source, sources, station_mac, station_sender, target};
 
 use crate::occasion::Sender;
 use hsr_frame::Mac;
-use hsr_node::Place;
+use hsr_node::{Place, ring_address};
 use hsr_plan_network::{Node, is_in, number};
 use hsr_plan_text::{Key, Refusal, Target, What, Word};
 use std::alloc::Global;
@@ -20,16 +20,6 @@ pub(crate) fn named(nodes: &[Node], name: &[u8]) -> Option<usize>
     ensures { result ≡ named nodes.now name.now }
 {
     nodes.iter().position(|node| node.name.as_bytes() == name)
-}
-
-/// The one address of a kind of node.
-fn own_mac(place: &Place) -> Option<Mac>
-    ensures { result ≡ own_mac place.now }
-{
-    match place {
-        Place::Danh { mac, .. } | Place::RedBox { mac, .. } => Some(*mac),
-        Place::QuadBox | Place::Station { .. } => None,
-    }
 }
 
 /// The address of a Station at that place.
@@ -54,7 +44,7 @@ fn as_node(nodes: &[Node], number: usize) -> Option<Sender>
     ensures { result ≡ own_sender number (slice_get nodes.now number) }
 {
     match nodes.get(number) {
-        Some(node) => match own_mac(&node.place) {
+        Some(node) => match ring_address(&node.place) {
             Some(mac) => Some(Sender {
                 node: number,
                 from: 0,

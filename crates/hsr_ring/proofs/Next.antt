@@ -26,7 +26,8 @@ use Rattle.hsr_world_steps.specs.declared.step.Step.{Step}
 use Rattle.hsr_world_steps.specs.declared.step.Step.TheVariants.{Judge, Put, Take}
 use Rattle.hsr_world_steps.specs.declared.step.WorldFault.{WorldFault}
 use Rattle.hsr_bitset.proofs.Bits.{nat_cases}
-use Rattle.hsr_world_links.proofs.Ports.{IsThere, few_ports, held_spot, into_there, is_there, out_there, port_beyond, port_told}
+use Rattle.hsr_world_links.proofs.Behind.{all_there, first_there, others_there}
+use Rattle.hsr_world_links.proofs.Ports.{IsThere, few_ports, held_spot, into_there, is_there, out_there, port_beyond, port_told, same_spans}
 
 -- ---- the ports of one node
 
@@ -66,15 +67,12 @@ find_from : (p : End → Bool) (all : List Place) (m : ℕ) (places : List Place
 find_from p all m [] n port same from below there is none = absurd (omega (arith, from, below))
 find_from p all m (place ∷ places) n port same from below there is none =
     ⊎_elim
-    (λ h. later h (find_from p all (m + 1) places n port further (omega (arith, h)) (omega (arith, below)) there is
+    (λ h. later h (find_from p all (m + 1) places n port (others_there all QuadBox m place places same) (omega (arith, h)) (omega (arith, below)) there is
     (λ n' port' from' below' there' under. none n' port' (omega (arith, from')) (omega (arith, below')) there' under)))
     here (nat_cases m n)
   where
     own : slice_index_or all m QuadBox ≡ place
-    own = let e : m ≡ m + 0 = omega arith in ap (λ (j : ℕ). slice_index_or all j QuadBox) e ∙ same 0
-
-    further : (j : ℕ) → slice_index_or all ((m + 1) + j) QuadBox ≡ slice_index_or places j QuadBox
-    further j = let e : (m + 1) + j ≡ m + suc j = omega arith in ap (λ (j : ℕ). slice_index_or all j QuadBox) e ∙ same (suc j)
+    own = first_there all QuadBox m place places same
 
     few : ports place ≤ 4
     few = few_ports place
@@ -99,16 +97,13 @@ none_from p all m [] same none = refl
 none_from p all m (place ∷ places) same none =
     skip_ports p m 0 (ports place) (ports_from (m + 1) places)
     (λ r from below. none m r (omega arith) (omega arith) (subst (λ (x : Place). r < ports x) (sym own) (omega (arith, below))))
-    ∙ none_from p all (m + 1) places further (λ n port from below there. none n port (omega (arith, from)) (omega (arith, below)) there)
+    ∙ none_from p all (m + 1) places (others_there all QuadBox m place places same) (λ n port from below there. none n port (omega (arith, from)) (omega (arith, below)) there)
   where
     own : slice_index_or all m QuadBox ≡ place
-    own = let e : m ≡ m + 0 = omega arith in ap (λ (j : ℕ). slice_index_or all j QuadBox) e ∙ same 0
-
-    further : (j : ℕ) → slice_index_or all ((m + 1) + j) QuadBox ≡ slice_index_or places j QuadBox
-    further j = let e : (m + 1) + j ≡ m + suc j = omega arith in ap (λ (j : ℕ). slice_index_or all j QuadBox) e ∙ same (suc j)
+    own = first_there all QuadBox m place places same
 
 same_places : (places : List Place) (j : ℕ) → slice_index_or places (0 + j) QuadBox ≡ slice_index_or places j QuadBox
-same_places places j = let e : 0 + j ≡ j = omega arith in ap (λ (i : ℕ). slice_index_or places i QuadBox) e
+same_places places = all_there places QuadBox
 
 -- ---- the first end of which the number is in a set
 
@@ -211,13 +206,10 @@ take_found : (all : List Span) (l : ℕ) (spans : List Span) (k : ℕ) → ((j :
 take_found all l [] k same from below is none = absurd (omega (arith, from, below))
 take_found all l (span ∷ spans) k same from below is none =
     ap₂ (λ f b. first_take l f b (take_from (l + 1) spans)) (ready_forth all l span here) (ready_back all l span here)
-    ∙ ⊎_elim (λ h. later h (take_found all (l + 1) spans k further (omega (arith, h)) (omega (arith, below)) is none)) now (nat_cases (2 * l + 1) k)
+    ∙ ⊎_elim (λ h. later h (take_found all (l + 1) spans k (others_there all _ l span spans same) (omega (arith, h)) (omega (arith, below)) is none)) now (nat_cases (2 * l + 1) k)
   where
     here : span_in all l ≡ span
-    here = let e : l ≡ l + 0 = omega arith in ap (span_in all) e ∙ same 0
-
-    further : (j : ℕ) → span_in all ((l + 1) + j) ≡ span_in spans j
-    further j = let e : (l + 1) + j ≡ l + suc j = omega arith in ap (span_in all) e ∙ same (suc j)
+    here = first_there all _ l span spans same
 
     later : 2 * l + 1 < k → take_from (l + 1) spans ≡ Some (take_at k) → first_take l (is_ready all (2 * l)) (is_ready all (2 * l + 1)) (take_from (l + 1) spans) ≡ Some (take_at k)
     later h rest = ap₂ (λ f b. first_take l f b (take_from (l + 1) spans)) (none (2 * l) (omega (arith, h))) (none (2 * l + 1) h) ∙ rest
@@ -241,13 +233,10 @@ take_none : (all : List Span) (l : ℕ) (spans : List Span) → ((j : ℕ) → s
 take_none all l [] same none = refl
 take_none all l (span ∷ spans) same none =
     ap₂ (λ f b. first_take l f b (take_from (l + 1) spans)) (ready_forth all l span here ∙ none (2 * l) (omega arith)) (ready_back all l span here ∙ none (2 * l + 1) (omega arith))
-    ∙ take_none all (l + 1) spans further (λ j below. none j (omega (arith, below)))
+    ∙ take_none all (l + 1) spans (others_there all _ l span spans same) (λ j below. none j (omega (arith, below)))
   where
     here : span_in all l ≡ span
-    here = let e : l ≡ l + 0 = omega arith in ap (span_in all) e ∙ same 0
-
-    further : (j : ℕ) → span_in all ((l + 1) + j) ≡ span_in spans j
-    further j = let e : (l + 1) + j ≡ l + suc j = omega arith in ap (span_in all) e ∙ same (suc j)
+    here = first_there all _ l span spans same
 
 ready_within : (spans : List Span) (k : ℕ) → is_ready spans k ≡ true → k < 2 * (0 + length spans)
 ready_within spans k h = ⊎_elim (λ below. below) (λ past. absurd (false≢true (sym (none (dir_at k) past) ∙ h))) (nat_cases k (2 * (0 + length spans)))
@@ -256,9 +245,6 @@ ready_within spans k h = ⊎_elim (λ below. below) (λ past. absurd (false≢tr
     none dir past =
         let half : length spans ≤ k / 2 = omega (arith, past) in
         ap (λ (s : Span). is_some (first_copy dir s.link.rows)) (get_or_past spans (k / 2) (record { link = new_link 0; forth = no_lane; back = no_lane }) half)
-
-same_spans : (spans : List Span) (j : ℕ) → span_in spans (0 + j) ≡ span_in spans j
-same_spans spans j = let e : 0 + j ≡ j = omega arith in ap (span_in spans) e
 
 taken : (spans : List Span) (numbers : List ℕ) → length spans ≤ 128 → Has numbers (is_ready spans) → (lowest : Option ℕ) → IsLowest 512 numbers lowest → take_from 0 spans ≡ option_map take_at lowest
 taken spans numbers few is None none = take_none spans 0 spans (same_spans spans) (λ j below. let small : j < 512 = omega (arith, few, below) in sym (is j small) ∙ none j small)

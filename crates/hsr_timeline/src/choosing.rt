@@ -1,11 +1,10 @@
 //! The rows that are wanted.
-ghost use Rattle.std.specs.Prelude.{◌≡◌, ◌∷◌, [], ◌++◌, filter, if◌then◌else◌, slice_get, IfOk, OnOk, Some};
-ghost use Rattle.hsr_run_laws.specs.Run.{rows_of};
+ghost use Rattle.std.specs.Prelude.{◌≡◌, filter, slice_get, IfOk, Some};
 ghost use Rattle.hsr_timeline.specs.Choice.{checked, has_send, is_copy_of, is_send_at, is_wanted};
 
 use crate::choice::{Choice, ChoiceFault};
 use crate::shown::Shown;
-use hsr_finished_run::Closed;
+use hsr_finished_run::{Closed, push_if};
 use hsr_frame::NoMemory;
 use hsr_link::Row;
 use hsr_node::{Entry, Outcome, Probe};
@@ -57,17 +56,6 @@ fn is_copy_of(send: Option<Probe>, rows: &[Row], number: usize) -> bool
     }
 }
 
-/// The rows of a link; none where there is no such link.
-fn rows_at<const C: usize>(closed: &Closed<C>, link: usize) -> &[Row]
-    ensures { result.now ≡ rows_of closed.now.run link }
-{
-    if link < closed.topology().links().len() {
-        closed.rows(link)
-    } else {
-        &[]
-    }
-}
-
 /// Whether a row is wanted.
 pub fn is_wanted<const C: usize>(closed: &Closed<C>, choice: Choice, shown: &Shown) -> bool
     ensures { result ≡ is_wanted closed.now.run choice shown.now }
@@ -76,18 +64,7 @@ pub fn is_wanted<const C: usize>(closed: &Closed<C>, choice: Choice, shown: &Sho
         Some(link) => shown.link == link,
         None => true,
     };
-    is_on && is_copy_of(choice.send, rows_at(closed, shown.link), shown.number)
-}
-
-/// Puts a row last, if it is wanted.
-fn add_if(rows: &mut Vec<Shown>, is_wanted: bool, row: Shown) -> Result<(), NoMemory>
-    ensures { OnOk result (rows.new.items ≡ rows.old.items
-        ++ (if is_wanted then row ∷ [] else [])) }
-{
-    if is_wanted {
-        rows.push(row)?;
-    }
-    Ok(())
+    is_on && is_copy_of(choice.send, closed.rows_at(shown.link), shown.number)
 }
 
 /// The rows of a run that are wanted, of these and in their order. `NoMemory` if allocation fails.
@@ -103,7 +80,7 @@ pub fn chosen<const C: usize>(
     // The index is used by the loop's invariant alone.
     for (i, row) in rows.iter().enumerate() {
         // A filter of the list, so that a part has the order and the moments of the whole.
-        add_if(&mut list, is_wanted(closed, choice, row), *row)?;
+        push_if(&mut list, is_wanted(closed, choice, row), *row)?;
     }
     Ok(list)
 }

@@ -1,7 +1,7 @@
 -- How often a copy is among rows, passes and hands.
 use Rattle.std.proofs.Common.{◌≡◌, ℕ, zero, suc, set, get_or, ◌+◌, Bool, true, false, cond, List, [], ◌∷◌, ◌++◌, map, count_by, option_map, option_to_list, IsPermutation, Option, Some, None, refl, sym, ap, ◌∙◌, arith}
 use Rattle.std.proofs.lemmas.List.Sorted.{sum_by-IsPermutation}
-use Rattle.std.specs.Prelude.{◌&&◌, if◌then◌else◌, slice_get}
+use Rattle.std.specs.Prelude.{◌&&◌, filter_map, if◌then◌else◌, slice_get}
 use Rattle.std.specs.List.{cons_option}
 use Rattle.std.proofs.lemmas.List.Sums.{sum_by-append}
 use Rattle.std.proofs.lemmas.Bool.{false≢true}
@@ -33,21 +33,20 @@ pub count_option : {X : Type 0} (p : X → Bool) (o : Option X) (xs : List X) �
 count_option p None xs = count_append p [] xs
 count_option p (Some x) xs = count_cons p x xs
 
-pub put_more : (p : Carried → Bool) (dir : Dir) (rows : List Row) (r : Row) → count_by p (put_copies dir (rows ++ r ∷ [])) ≡ count_by p (put_copies dir rows) + count_by p (option_to_list (put_copy dir r))
-put_more p dir [] r = let a = count_option p (put_copy dir r) [] in omega (arith, a)
-put_more p dir (x ∷ rows) r =
-    let a = count_option p (put_copy dir x) (put_copies dir (rows ++ r ∷ [])) in
-    let b = count_option p (put_copy dir x) (put_copies dir rows) in
-    let c = put_more p dir rows r in
+-- one more row, whose copy may be among those that are looked for
+copy_more : (p : Carried → Bool) (f : Row → Option Carried) (rows : List Row) (r : Row) → count_by p (filter_map f (rows ++ r ∷ [])) ≡ count_by p (filter_map f rows) + count_by p (option_to_list (f r))
+copy_more p f [] r = let a = count_option p (f r) [] in omega (arith, a)
+copy_more p f (x ∷ rows) r =
+    let a = count_option p (f x) (filter_map f (rows ++ r ∷ [])) in
+    let b = count_option p (f x) (filter_map f rows) in
+    let c = copy_more p f rows r in
     omega (arith, a, b, c)
 
+pub put_more : (p : Carried → Bool) (dir : Dir) (rows : List Row) (r : Row) → count_by p (put_copies dir (rows ++ r ∷ [])) ≡ count_by p (put_copies dir rows) + count_by p (option_to_list (put_copy dir r))
+put_more p dir rows r = copy_more p (put_copy dir) rows r
+
 pub taken_more : (p : Carried → Bool) (dir : Dir) (rows : List Row) (r : Row) → count_by p (taken_copies dir (rows ++ r ∷ [])) ≡ count_by p (taken_copies dir rows) + count_by p (option_to_list (taken_copy dir r))
-taken_more p dir [] r = let a = count_option p (taken_copy dir r) [] in omega (arith, a)
-taken_more p dir (x ∷ rows) r =
-    let a = count_option p (taken_copy dir x) (taken_copies dir (rows ++ r ∷ [])) in
-    let b = count_option p (taken_copy dir x) (taken_copies dir rows) in
-    let c = taken_more p dir rows r in
-    omega (arith, a, b, c)
+taken_more p dir rows r = copy_more p (taken_copy dir) rows r
 
 pub put_taken : (dir other : Dir) (rows : List Row) → put_copies dir (turned Taken other rows) ≡ put_copies dir rows
 put_taken dir other [] = refl

@@ -1,3 +1,4 @@
+pub mod Behind
 pub mod Places
 pub mod Ports
 pub mod Touched

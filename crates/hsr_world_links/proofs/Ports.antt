@@ -3,6 +3,7 @@ use Rattle.std.specs.Prelude.{is_some, if◌then◌else◌, ◌&&◌, slice_inde
 use Rattle.std.proofs.Common.{◌≡◌, ℕ, ◌+◌, ◌*◌, ◌/◌, ◌%◌, ◌<◌, ◌≤◌, suc, nat_lt, Bool, true, false, List, [], ◌∷◌, map, length, Option, Some, None, option_map, refl, ap, ap₂, sym, subst, ◌∙◌, arith, ⊎_elim}
 use Rattle.std.proofs.lemmas.Bool.{cases_lt}
 use Rattle.std.proofs.lemmas.List.{get_or_past}
+use Rattle.std.proofs.lemmas.Option.{none-some}
 use Rattle.std.proofs.lemmas.List.FromFn.{get_or-map-range_with_len, length-map-range_with_len}
 use Rattle.hsr_topology.specs.Links.{is_same_end}
 use Rattle.hsr_topology.specs.declared.end.End.{End}
@@ -12,6 +13,7 @@ use Rattle.hsr_node.specs.Place.{ports}
 use Rattle.hsr_node.specs.declared.place.Place.{Place}
 use Rattle.hsr_node.specs.declared.place.Place.TheVariants.{Danh, RedBox, QuadBox, Station}
 use Rattle.hsr_world_laws.specs.Spans.{Lane, Span, Spot, held_in, lane_of, lanes_of, on_lanes, spot_from}
+use Rattle.hsr_world_links.proofs.Behind.{all_there, first_there, others_there}
 use Rattle.hsr_world_links.specs.Hands.{hand_in}
 use Rattle.hsr_world_links.specs.Ports.{AreTold, end_at, held_at, no_port, port_at, port_if, port_in, port_of, ports_in, spot_code, spot_to, port_fault}
 use Rattle.hsr_world_links.specs.Views.{spot_view}
@@ -204,94 +206,57 @@ record Leads (all : List Span) (end : End) (spot : Spot) (pick : Lane → End) :
 some_spot : (a b : Spot) → Some a ≡ Some b → a ≡ b
 some_spot a b e = ap (λ (o : Option Spot). elim o as (λ _. Spot) [ None ↦ a | Some x ↦ x ]) e
 
-to_leads : (end : End) (all : List Span) (k : ℕ) (spans : List Span) (spot : Spot) → ((j : ℕ) → span_in all (k + j) ≡ span_in spans j) → k + length spans ≡ length all →
-    spot_to end k spans ≡ Some spot → Leads all end spot (λ lane. lane.to)
-to_leads end all k [] spot h long e = absurd cc
-to_leads end all k (span ∷ spans) spot h long e =
-    by_case (is_same_end span.forth.to end) (is_same_end span.back.to end) refl refl e (λ f. to_leads end all (k + 1) spans spot further (omega (arith, long)) f)
+-- where each lane of a span is asked in turn, Forth before Back, for the end that is picked
+abbrev IsSought : (Lane → End) → End → (ℕ → List Span → Option Spot) → Type 0
+IsSought pick end spot_of = (k : ℕ) (span : Span) (spans : List Span) → spot_of k (span ∷ spans)
+    ≡ (if is_same_end (pick span.forth) end then Some (record { link = k; dir = Forth }) else (if is_same_end (pick span.back) end then Some (record { link = k; dir = Back }) else spot_of (k + 1) spans))
+
+leads : (pick : Lane → End) (end : End) (spot_of : ℕ → List Span → Option Spot) → ((k : ℕ) → spot_of k [] ≡ None) → IsSought pick end spot_of →
+    (all : List Span) (k : ℕ) (spans : List Span) (spot : Spot) → ((j : ℕ) → span_in all (k + j) ≡ span_in spans j) → k + length spans ≡ length all → spot_of k spans ≡ Some spot → Leads all end spot pick
+leads pick end spot_of none sought all k [] spot h long e = absurd (none-some spot (sym (none k) ∙ e))
+leads pick end spot_of none sought all k (span ∷ spans) spot h long e =
+    by_case (is_same_end (pick span.forth) end) (is_same_end (pick span.back) end) refl refl (sym (sought k span spans) ∙ e) (λ f. leads pick end spot_of none sought all (k + 1) spans spot (others_there all _ k span spans h) (omega (arith, long)) f)
   where
     here : span_in all k ≡ span
-    here = let e : k ≡ k + 0 = omega arith in ap (span_in all) e ∙ h 0
+    here = first_there all _ k span spans h
 
-    further : (j : ℕ) → span_in all ((k + 1) + j) ≡ span_in spans j
-    further j = let e : (k + 1) + j ≡ k + suc j = omega arith in ap (span_in all) e ∙ h (suc j)
-
-    by_case : (f b : Bool) → is_same_end span.forth.to end ≡ f → is_same_end span.back.to end ≡ b →
-        (if f then Some (record { link = k; dir = Forth }) else (if b then Some (record { link = k; dir = Back }) else spot_to end (k + 1) spans)) ≡ Some spot →
-        (spot_to end (k + 1) spans ≡ Some spot → Leads all end spot (λ lane. lane.to)) → Leads all end spot (λ lane. lane.to)
-    by_case true b is n found rest = subst (λ (s : Spot). Leads all end s (λ lane. lane.to)) (some_spot _ _ found)
-        (record { is = ap (λ (l : Span). l.forth.to) here ∙ end_is span.forth.to end is; below = omega (arith, long) })
-    by_case false true n is found rest = subst (λ (s : Spot). Leads all end s (λ lane. lane.to)) (some_spot _ _ found)
-        (record { is = ap (λ (l : Span). l.back.to) here ∙ end_is span.back.to end is; below = omega (arith, long) })
+    by_case : (f b : Bool) → is_same_end (pick span.forth) end ≡ f → is_same_end (pick span.back) end ≡ b →
+        (if f then Some (record { link = k; dir = Forth }) else (if b then Some (record { link = k; dir = Back }) else spot_of (k + 1) spans)) ≡ Some spot →
+        (spot_of (k + 1) spans ≡ Some spot → Leads all end spot pick) → Leads all end spot pick
+    by_case true b is n found rest = subst (λ (s : Spot). Leads all end s pick) (some_spot _ _ found)
+        (record { is = ap (λ (l : Span). pick l.forth) here ∙ end_is (pick span.forth) end is; below = omega (arith, long) })
+    by_case false true n is found rest = subst (λ (s : Spot). Leads all end s pick) (some_spot _ _ found)
+        (record { is = ap (λ (l : Span). pick l.back) here ∙ end_is (pick span.back) end is; below = omega (arith, long) })
     by_case false false n m found rest = rest found
 
-from_leads : (end : End) (all : List Span) (k : ℕ) (spans : List Span) (spot : Spot) → ((j : ℕ) → span_in all (k + j) ≡ span_in spans j) → k + length spans ≡ length all →
-    spot_from end k spans ≡ Some spot → Leads all end spot (λ lane. lane.from)
-from_leads end all k [] spot h long e = absurd cc
-from_leads end all k (span ∷ spans) spot h long e =
-    by_case (is_same_end span.forth.from end) (is_same_end span.back.from end) refl refl e (λ f. from_leads end all (k + 1) spans spot further (omega (arith, long)) f)
-  where
-    here : span_in all k ≡ span
-    here = let e : k ≡ k + 0 = omega arith in ap (span_in all) e ∙ h 0
+pub same_spans : (spans : List Span) (j : ℕ) → span_in spans (0 + j) ≡ span_in spans j
+same_spans spans = all_there spans _
 
-    further : (j : ℕ) → span_in all ((k + 1) + j) ≡ span_in spans j
-    further j = let e : (k + 1) + j ≡ k + suc j = omega arith in ap (span_in all) e ∙ h (suc j)
+to_leads : (end : End) (spans : List Span) (spot : Spot) → spot_to end 0 spans ≡ Some spot → Leads spans end spot (λ lane. lane.to)
+to_leads end spans spot e = leads (λ lane. lane.to) end (spot_to end) (λ k. refl) (λ k span rest. refl) spans 0 spans spot (same_spans spans) (omega arith) e
 
-    by_case : (f b : Bool) → is_same_end span.forth.from end ≡ f → is_same_end span.back.from end ≡ b →
-        (if f then Some (record { link = k; dir = Forth }) else (if b then Some (record { link = k; dir = Back }) else spot_from end (k + 1) spans)) ≡ Some spot →
-        (spot_from end (k + 1) spans ≡ Some spot → Leads all end spot (λ lane. lane.from)) → Leads all end spot (λ lane. lane.from)
-    by_case true b is n found rest = subst (λ (s : Spot). Leads all end s (λ lane. lane.from)) (some_spot _ _ found)
-        (record { is = ap (λ (l : Span). l.forth.from) here ∙ end_is span.forth.from end is; below = omega (arith, long) })
-    by_case false true n is found rest = subst (λ (s : Spot). Leads all end s (λ lane. lane.from)) (some_spot _ _ found)
-        (record { is = ap (λ (l : Span). l.back.from) here ∙ end_is span.back.from end is; below = omega (arith, long) })
-    by_case false false n m found rest = rest found
-
-same_spans : (spans : List Span) (j : ℕ) → span_in spans (0 + j) ≡ span_in spans j
-same_spans spans j = let e : 0 + j ≡ j = omega arith in ap (span_in spans) e
+from_leads : (end : End) (spans : List Span) (spot : Spot) → spot_from end 0 spans ≡ Some spot → Leads spans end spot (λ lane. lane.from)
+from_leads end spans spot e = leads (λ lane. lane.from) end (spot_from end) (λ k. refl) (λ k span rest. refl) spans 0 spans spot (same_spans spans) (omega arith) e
 
 pub spot_to_leads : (end : End) (spans : List Span) (spot : Spot) → spot_to end 0 spans ≡ Some spot → (lane_of spot.dir (span_in spans spot.link)).to ≡ end
-spot_to_leads end spans spot e = (to_leads end spans 0 spans spot (same_spans spans) (omega arith) e).is
+spot_to_leads end spans spot e = (to_leads end spans spot e).is
 
 pub spot_from_leads : (end : End) (spans : List Span) (spot : Spot) → spot_from end 0 spans ≡ Some spot → (lane_of spot.dir (span_in spans spot.link)).from ≡ end
-spot_from_leads end spans spot e = (from_leads end spans 0 spans spot (same_spans spans) (omega arith) e).is
+spot_from_leads end spans spot e = (from_leads end spans spot e).is
 
 pub spot_to_below : (end : End) (spans : List Span) (spot : Spot) → spot_to end 0 spans ≡ Some spot → spot.link < length spans
-spot_to_below end spans spot e = (to_leads end spans 0 spans spot (same_spans spans) (omega arith) e).below
+spot_to_below end spans spot e = (to_leads end spans spot e).below
 
 pub spot_from_below : (end : End) (spans : List Span) (spot : Spot) → spot_from end 0 spans ≡ Some spot → spot.link < length spans
-spot_from_below end spans spot e = (from_leads end spans 0 spans spot (same_spans spans) (omega arith) e).below
-
--- the hand of a direction is that of the port that receives there
-held_from : (end : End) (all : List Span) (k : ℕ) (spans : List Span) → ((j : ℕ) → span_in all (k + j) ≡ span_in spans j) → held_at all (spot_to end k spans) ≡ is_some (held_in end (lanes_of spans))
-held_from end all k [] h = refl
-held_from end all k (span ∷ spans) h = by_case (held_from end all (k + 1) spans further) (is_same_end span.forth.to end) (is_same_end span.back.to end)
-  where
-    here : span_in all k ≡ span
-    here = let e : k ≡ k + 0 = omega arith in ap (span_in all) e ∙ h 0
-
-    further : (j : ℕ) → span_in all ((k + 1) + j) ≡ span_in spans j
-    further j = let e : (k + 1) + j ≡ k + suc j = omega arith in ap (span_in all) e ∙ h (suc j)
-
-    by_case : held_at all (spot_to end (k + 1) spans) ≡ is_some (held_in end (lanes_of spans)) → (f b : Bool) →
-        held_at all (if f then Some (record { link = k; dir = Forth }) else (if b then Some (record { link = k; dir = Back }) else spot_to end (k + 1) spans))
-        ≡ is_some (if f then span.forth.hand else (if b then span.back.hand else held_in end (lanes_of spans)))
-    by_case rest true b = ap (λ (l : Span). is_some l.forth.hand) here
-    by_case rest false true = ap (λ (l : Span). is_some l.back.hand) here
-    by_case rest false false = rest
-
-pub held_spot : (spans : List Span) (end : End) → held_at spans (spot_to end 0 spans) ≡ is_some (held_in end (lanes_of spans))
-held_spot spans end = held_from end spans 0 spans (same_spans spans)
+spot_from_below end spans spot e = (from_leads end spans spot e).below
 
 -- what is in the hand of a direction is what its port holds
 hand_from : (end : End) (all : List Span) (k : ℕ) (spans : List Span) → ((j : ℕ) → span_in all (k + j) ≡ span_in spans j) → hand_in all (spot_to end k spans) ≡ held_in end (lanes_of spans)
 hand_from end all k [] h = refl
-hand_from end all k (span ∷ spans) h = by_case (hand_from end all (k + 1) spans further) (is_same_end span.forth.to end) (is_same_end span.back.to end)
+hand_from end all k (span ∷ spans) h = by_case (hand_from end all (k + 1) spans (others_there all _ k span spans h)) (is_same_end span.forth.to end) (is_same_end span.back.to end)
   where
     here : span_in all k ≡ span
-    here = let e : k ≡ k + 0 = omega arith in ap (span_in all) e ∙ h 0
-
-    further : (j : ℕ) → span_in all ((k + 1) + j) ≡ span_in spans j
-    further j = let e : (k + 1) + j ≡ k + suc j = omega arith in ap (span_in all) e ∙ h (suc j)
+    here = first_there all _ k span spans h
 
     by_case : hand_in all (spot_to end (k + 1) spans) ≡ held_in end (lanes_of spans) → (f b : Bool) →
         hand_in all (if f then Some (record { link = k; dir = Forth }) else (if b then Some (record { link = k; dir = Back }) else spot_to end (k + 1) spans))
@@ -302,3 +267,11 @@ hand_from end all k (span ∷ spans) h = by_case (hand_from end all (k + 1) span
 
 pub hand_spot : (spans : List Span) (end : End) → hand_in spans (spot_to end 0 spans) ≡ held_in end (lanes_of spans)
 hand_spot spans end = hand_from end spans 0 spans (same_spans spans)
+
+-- and whether it holds one
+pub held_spot : (spans : List Span) (end : End) → held_at spans (spot_to end 0 spans) ≡ is_some (held_in end (lanes_of spans))
+held_spot spans end = held_by (spot_to end 0 spans) ∙ ap is_some (hand_spot spans end)
+  where
+    held_by : (spot : Option Spot) → held_at spans spot ≡ is_some (hand_in spans spot)
+    held_by None = refl
+    held_by (Some spot) = refl
