@@ -3,13 +3,12 @@ ghost use Rattle.std.specs.Prelude.{◌≡◌, ◌↔◌, ◌<◌, ◌≤◌, le
 ghost use Rattle.std.specs.List.{list_any};
 ghost use Rattle.hsr_run_laws.specs.Run.{past_of};
 ghost use Rattle.hsr_audit.specs.Missed.{IsFirstMissed, IsLowest, IsUnknown, IsUnknownOf, MissedBelow, MissedOn, is_box_of, is_due_below, is_lower, leads_below, lower_of, sending_at};
-ghost use Rattle.hsr_node.specs.Record.{probe_handled};
 ghost use Rattle.hsr_tables.specs.Proxies.{is_known};
 
 use crate::covered::{is_redbox, is_to_station};
 use hsr_deliveries::is_due;
 use hsr_finished_run::Closed;
-use hsr_node::{Event, Place, Probe, SentView, sent_view};
+use hsr_node::{Place, Probe, SentView, sent_view};
 use hsr_table_demand::hear;
 use hsr_tables::ProxyTable;
 use hsr_tag::FrameView;
@@ -36,16 +35,6 @@ fn lower_of(send: Option<Probe>, other: Option<Probe>) -> Option<Probe>
                 Some(send)
             }
         }
-    }
-}
-
-/// The send that an entry's frame is of, of an entry that stands here.
-fn handled(here: Probe, event: &Event) -> Option<Probe>
-    ensures { result ≡ probe_handled here event.now }
-{
-    match event {
-        Event::Arrive { carried, .. } => carried.probe,
-        _ => Some(here),
     }
 }
 
@@ -158,7 +147,7 @@ fn missed_by<const C: usize>(closed: &Closed<C>, node: usize) -> Option<Probe>
         moment = moment.max(x.at);
         // Heard first: a RedBox knows a frame's source before it decides on the frame.
         hear(&mut stations, box_place, moment, &x.event);
-        let send = handled(Probe { node, place }, &x.event);
+        let send = x.event.probe(Probe { node, place });
         lowest = lower_of(lowest, unknown_of(closed, node, &stations, moment, send));
     }
     lowest

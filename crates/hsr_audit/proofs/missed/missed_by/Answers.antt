@@ -32,5 +32,5 @@ loop-place-preserved g c =
       moment = heard.moment_is;
       stations = heard.stations_is;
       lowest = missed_more run c.args.node c.loop-place.place x (search rules) (search rules) c.hear.new.stations c.max-moment.result c.loop-place.lowest c.unknown_of.result c.lower_of-lowest.result heard.moment_is heard.stations_is c.loop-place.invariant.lowest
-          (subst F c.handled-send.ensures c.unknown_of.ensures) c.lower_of-lowest.ensures;
+          (subst F c.probe-send.ensures c.unknown_of.ensures) c.lower_of-lowest.ensures;
     }

@@ -13,18 +13,14 @@ loop-number-init g c =
 
 pub loop-number-smaller : goal.loop-number-smaller
 loop-number-smaller g c =
-    let front = c.loop-number.front in
-    let next = c.next.new.self in
-    let spread = c.spread-in-Some.new.front in
-    (went_on c.args.self.now c.args.send c.args.frame.now c.spread-in-Some.ensures.few _ c.in-Some.number next.found front.found front.waiting next.waiting spread.found spread.waiting
+    (went_on c.args.self.now c.args.send c.args.frame.now c.spread-in-Some.ensures.few _ c.in-Some.number c.next.new.self.found c.loop-number.front.found
+    c.loop-number.front.waiting c.next.new.self.waiting c.spread-in-Some.new.front.found c.spread-in-Some.new.front.waiting
     c.at.ensures c.in-Some.ensures.found c.loop-number.invariant c.in-Some.ensures.taken c.spread-in-Some.ensures.spread).1
 
 pub loop-number-preserved : goal.loop-number-preserved
 loop-number-preserved g c =
-    let front = c.loop-number.front in
-    let next = c.next.new.self in
-    let spread = c.spread-in-Some.new.front in
-    (went_on c.args.self.now c.args.send c.args.frame.now c.spread-in-Some.ensures.few _ c.in-Some.number next.found front.found front.waiting next.waiting spread.found spread.waiting
+    (went_on c.args.self.now c.args.send c.args.frame.now c.spread-in-Some.ensures.few _ c.in-Some.number c.next.new.self.found c.loop-number.front.found
+    c.loop-number.front.waiting c.next.new.self.waiting c.spread-in-Some.new.front.found c.spread-in-Some.new.front.waiting
     c.at.ensures c.in-Some.ensures.found c.loop-number.invariant c.in-Some.ensures.taken c.spread-in-Some.ensures.spread).0
 
 pub returns : goal.returns
