@@ -15,11 +15,11 @@ use crate::fault::OptionFault;
 use clap::error::ErrorKind;
 use clap::{Arg, ArgAction, ArgMatches, Command, Error};
 use hsr_duptable::TableSize;
-use hsr_frame::{Mac, Mode};
+use hsr_frame::{Mac, Mode, NoMemory};
 use hsr_options::{Asked, Form, NodeOptions, Options, Scope, Showing};
 use hsr_text::TimeUnit;
 use hsr_version::VERSION;
-use std::alloc::{AllocError, Global};
+use std::alloc::Global;
 use std::fmt::Display;
 
 const NODE_LINES: &str = "\
@@ -129,10 +129,10 @@ doubt that, named in the last line. Status 1: there is no report, and one line o
 why: `fault: transcript line <n>` (bad, or not what the node answers), `fault: transcript version`,
 `fault: transcript end` (it breaks off), `fault: check <n>` (links and records disagree).";
 
-impl From<AllocError> for OptionFault {
+impl From<NoMemory> for OptionFault {
     ghost from_gives = { λ _ f. f ≡ Memory };
 
-    fn from(_e: AllocError) -> OptionFault {
+    fn from(_e: NoMemory) -> OptionFault {
         OptionFault::Memory
     }
 }
@@ -197,17 +197,17 @@ fn with_flag<'a>(
     command: Command<'a>,
     name: &'a str,
     help: &'a str,
-) -> Result<Command<'a>, AllocError>
+) -> Result<Command<'a>, NoMemory>
     requires own { (fields_of command).has_globals ≡ false }
     ensures app { IfOk result (λ c. app_of c ≡ with_rule (app_of command.entry)
         (flag_rule name.entry.now)) }
     ensures own { IfOk result (λ c. (fields_of c).has_globals ≡ false) }
 {
-    command.arg(flag_arg(alloc, name, help))
+    Ok(command.arg(flag_arg(alloc, name, help))?)
 }
 
 /// A command, with the flags for the parts of a report.
-fn asking<'a>(alloc: Global, command: Command<'a>) -> Result<Command<'a>, AllocError>
+fn asking<'a>(alloc: Global, command: Command<'a>) -> Result<Command<'a>, NoMemory>
     requires own { (fields_of command).has_globals ≡ false }
     ensures app { IfOk result (λ c. app_of c ≡ with_asked (app_of command.entry)) }
     ensures own { IfOk result (λ c. (fields_of c).has_globals ≡ false) }
@@ -221,7 +221,7 @@ fn asking<'a>(alloc: Global, command: Command<'a>) -> Result<Command<'a>, AllocE
 }
 
 /// A command, with these flags, and those for the audit of a report's last line and for more about how the run ended.
-fn telling<'a>(alloc: Global, command: Command<'a>) -> Result<Command<'a>, AllocError>
+fn telling<'a>(alloc: Global, command: Command<'a>) -> Result<Command<'a>, NoMemory>
     requires own { (fields_of command).has_globals ≡ false }
     ensures app { IfOk result (λ c. app_of c ≡ with_told (app_of command.entry)) }
     ensures own { IfOk result (λ c. (fields_of c).has_globals ≡ false) }
@@ -235,16 +235,17 @@ fn telling<'a>(alloc: Global, command: Command<'a>) -> Result<Command<'a>, Alloc
 }
 
 /// The command `node` with the options for the node's address and mode.
-fn node_placed<'a>(alloc: Global, modes: &'a [&'a str]) -> Result<Command<'a>, AllocError>
+fn node_placed<'a>(alloc: Global, modes: &'a [&'a str]) -> Result<Command<'a>, NoMemory>
     ensures app { IfOk result (λ c. app_of c
         ≡ with_rule (with_rule (new_app (codes "node")) mac_rule) (mode_rule modes.entry)) }
     ensures own { IfOk result (λ c. (fields_of c).has_globals ≡ false) }
 {
-    Command::new(alloc, "node")
+    let command = Command::new(alloc, "node")
         .about("Answers lines of standard input as one DANH")
         .after_help(NODE_LINES)
         .arg(mac_arg(alloc))?
-        .arg(mode_arg(alloc, modes))
+        .arg(mode_arg(alloc, modes))?;
+    Ok(command)
 }
 
 fn node_command<'a>(
@@ -252,13 +253,14 @@ fn node_command<'a>(
     modes: &'a [&'a str],
     tables: &'a [&'a str],
     units: &'a [&'a str],
-) -> Result<Command<'a>, AllocError>
+) -> Result<Command<'a>, NoMemory>
     ensures app { IfOk result (λ c. app_of c ≡ node_app modes.entry tables.entry units.entry) }
     ensures own { IfOk result (λ c. (fields_of c).has_globals ≡ false) }
 {
-    node_placed(alloc, modes)?
+    let command = node_placed(alloc, modes)?
         .arg(table_arg(alloc, tables))?
-        .arg(unit_arg(alloc, units))
+        .arg(unit_arg(alloc, units))?;
+    Ok(command)
 }
 
 /// A command that plays a scenario.
@@ -268,7 +270,7 @@ fn playing_command<'a>(
     about: &'a str,
     ends: &'a str,
     tables: &'a [&'a str],
-) -> Result<Command<'a>, AllocError>
+) -> Result<Command<'a>, NoMemory>
     ensures app { IfOk result (λ c. app_of c ≡ playing_app name.entry.now tables.entry) }
     ensures own { IfOk result (λ c. (fields_of c).has_globals ≡ false) }
 {
@@ -281,7 +283,7 @@ fn playing_command<'a>(
 }
 
 /// The command `run`, which may show a run that can't be closed.
-fn run_command<'a>(alloc: Global, tables: &'a [&'a str]) -> Result<Command<'a>, AllocError>
+fn run_command<'a>(alloc: Global, tables: &'a [&'a str]) -> Result<Command<'a>, NoMemory>
     ensures app { IfOk result (λ c. app_of c ≡ run_app tables.entry) }
     ensures own { IfOk result (λ c. (fields_of c).has_globals ≡ false) }
 {
@@ -290,7 +292,7 @@ fn run_command<'a>(alloc: Global, tables: &'a [&'a str]) -> Result<Command<'a>, 
     with_flag(alloc, command, "open", open)
 }
 
-fn audit_command<'a>(alloc: Global, tables: &'a [&'a str]) -> Result<Command<'a>, AllocError>
+fn audit_command<'a>(alloc: Global, tables: &'a [&'a str]) -> Result<Command<'a>, NoMemory>
     ensures app { IfOk result (λ c. app_of c ≡ audit_app tables.entry) }
     ensures own { IfOk result (λ c. (fields_of c).has_globals ≡ false) }
 {
@@ -301,16 +303,17 @@ fn audit_command<'a>(alloc: Global, tables: &'a [&'a str]) -> Result<Command<'a>
     telling(alloc, command)
 }
 
-fn top_command<'a>(alloc: Global) -> Result<Command<'a>, AllocError>
+fn top_command<'a>(alloc: Global) -> Result<Command<'a>, NoMemory>
     ensures { IfOk result (λ c. app_of c ≡ top_app) }
 {
     // The arguments come without the program's name, so usage lines are told it.
-    Command::new(alloc, "hsr_bench")
+    let command = Command::new(alloc, "hsr_bench")
         .about("A bench for HSR rings (IEC 62439-3 clause 5). With no words it runs `node`.")
         .version(VERSION)
         .no_binary_name(true)
         .subcommand_required(true)
-        .bin_name("hsr_bench")
+        .bin_name("hsr_bench")?;
+    Ok(command)
 }
 
 fn bench_command<'a>(
@@ -318,7 +321,7 @@ fn bench_command<'a>(
     modes: &'a [&'a str],
     tables: &'a [&'a str],
     units: &'a [&'a str],
-) -> Result<Command<'a>, AllocError>
+) -> Result<Command<'a>, NoMemory>
     ensures { IfOk result (λ c. app_of c ≡ bench_app modes.entry tables.entry units.entry) }
 {
     let node = node_command(alloc, modes, tables, units)?;

@@ -13,9 +13,10 @@ use crate::task::{Task, WordsFault};
 use clap::error::ErrorKind;
 use clap::{Arg, ArgAction, ArgMatches, Command, Error};
 use hsr_duptable::TableSize;
+use hsr_frame::NoMemory;
 use hsr_text::decimal;
 use hsr_version::VERSION;
-use std::alloc::{AllocError, Global};
+use std::alloc::Global;
 use std::fmt::Display;
 
 /// Which arguments go together.
@@ -55,10 +56,10 @@ error says why, with line and column of the word. Status 3: the arguments are re
 Example: hsr_plan < plan.toml > plan.scenario && hsr_bench run --budget < plan.scenario
          hsr_plan sweep --at-us 5000 < plan.toml";
 
-impl From<AllocError> for WordsFault {
+impl From<NoMemory> for WordsFault {
     ghost from_gives = { λ _ f. f ≡ Memory };
 
-    fn from(_e: AllocError) -> WordsFault {
+    fn from(_e: NoMemory) -> WordsFault {
         WordsFault::Memory
     }
 }
@@ -98,13 +99,14 @@ fn at_arg<'a>(alloc: Global) -> Arg<'a>
         .default_value("0")
 }
 
-fn sweep_command<'a>(alloc: Global) -> Result<Command<'a>, AllocError>
+fn sweep_command<'a>(alloc: Global) -> Result<Command<'a>, NoMemory>
     ensures app { IfOk result (λ c. app_of c ≡ sweep_app) }
     ensures own { IfOk result (λ c. (fields_of c).has_globals ≡ false) }
 {
-    Command::new(alloc, "sweep")
+    let command = Command::new(alloc, "sweep")
         .about("Runs a plan with each link and each node off, one by one")
-        .arg(at_arg(alloc))
+        .arg(at_arg(alloc))?;
+    Ok(command)
 }
 
 fn top_command<'a>(alloc: Global) -> Command<'a>
@@ -118,7 +120,7 @@ fn top_command<'a>(alloc: Global) -> Command<'a>
         .after_help(ENDS)
 }
 
-fn plan_command<'a>(alloc: Global, tables: &'a [&'a str]) -> Result<Command<'a>, AllocError>
+fn plan_command<'a>(alloc: Global, tables: &'a [&'a str]) -> Result<Command<'a>, NoMemory>
     ensures { IfOk result (λ c. app_of c ≡ plan_app tables.entry) }
 {
     let sweep = sweep_command(alloc)?;

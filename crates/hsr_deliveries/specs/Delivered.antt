@@ -55,7 +55,7 @@ times run send k = count_by (delivers send) (record_of run k)
 abbrev pub loss_of : Probe → ℕ → Row → Option Loss
 loss_of send link row = if is_lost row.fate && is_of send row.carried.probe then Some (record { link = link; dir = row.dir; fate = row.fate }) else None
 
--- the losses of a send on the links below one, by link, then by place on the link
+-- the losses of a send on the links below one, by link, then by index on the link
 abbrev pub lost_below : Run → Probe → ℕ → List Loss
 lost_below run send zero = []
 lost_below run send (suc link) = lost_below run send link ++ filter_map (loss_of send link) (rows_of run link)

@@ -12,7 +12,7 @@ use std::marker::Model;
 
 /// Who got a send: its moment as it was given, in microseconds, and its destination; the nodes that it was due at,
 /// which of these didn't take it up or did more than once, and the other nodes that did, all by number and rising; and
-/// the copies of it that were lost, by link and place on the link.
+/// the copies of it that were lost, by link and index on the link.
 ///
 /// To a group a send is due at each DANH, RedBox and Station but the sender, a supervision frame at no Station (IEC 62439-3
 /// clause 5.7); else at each node but the sender that has the address.

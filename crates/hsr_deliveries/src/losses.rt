@@ -47,7 +47,7 @@ fn keep_row(alloc: Global, kept: &mut ByProbe, link: usize, row: &Row) -> Result
     }
 }
 
-/// Keeps the losses of a link, by place.
+/// Keeps the losses of a link, by index.
 fn keep_rows(alloc: Global, kept: &mut ByProbe, link: usize, rows: &[Row]) -> Result<(), NoMemory>
     ensures { OnOk result ((other : spec.Probe) → losses_in kept.new other
         ≡ losses_in kept.old other ++ filter_map (loss_of other link) rows.now) }
@@ -70,7 +70,7 @@ fn losses_by_send<const C: usize>(alloc: Global, closed: &Closed<C>) -> Result<B
     Ok(kept)
 }
 
-/// Those of a send, by link and place on the link.
+/// Those of a send, by link and index on the link.
 fn losses_of(alloc: Global, kept: &ByProbe, send: Probe) -> Result<Vec<Loss>, NoMemory>
     ensures { IfOk result (λ losses. losses.items ≡ losses_in kept.now send) }
 {
@@ -113,7 +113,7 @@ impl<'a, const C: usize> Losses<'a, C> {
         Ok(Losses { closed, by_send })
     }
 
-    /// Those of a send, by link and place on the link. `NoMemory` if allocation fails.
+    /// Those of a send, by link and index on the link. `NoMemory` if allocation fails.
     pub fn of_send(&self, alloc: Global, send: Probe) -> Result<Vec<Loss>, NoMemory>
         ensures { IfOk result (λ losses. losses.items ≡ lost self.now send) }
     {

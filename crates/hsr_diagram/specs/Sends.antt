@@ -28,7 +28,7 @@ start_of stamp send = stamp (record { node = send.node; place = send.place })
 abbrev pub sent_if : List Probe → Span → ℕ → Probe → Option Stamp → List Sent
 sent_if sends span i send start = if is_listed sends span send start then record { number = i; start = start } ∷ [] else []
 
--- those of some deliveries, the i-th first: each by its place among them
+-- those of some deliveries, the i-th first: each by its index among them
 abbrev pub sents_from : (Spot → Option Stamp) → List Probe → Span → ℕ → List Delivery → List Sent
 sents_from stamp sends span i [] = []
 sents_from stamp sends span i (d ∷ ds) = sent_if sends span i d.send (start_of stamp d.send) ++ sents_from stamp sends span (i + 1) ds

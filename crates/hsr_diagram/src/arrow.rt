@@ -18,7 +18,7 @@ pub enum Look {
     Lost,
 }
 
-/// The way of a copy: its row, with its place in the order of time; the entry that passed it, with its stamp; and the
+/// The way of a copy: its row, with where it stands in the order of time; the entry that passed it, with its stamp; and the
 /// entry that judged it, none where it was lost.
 #[derive(Clone, Copy, Debug, PartialEq, Eq)]
 pub struct Arrow {

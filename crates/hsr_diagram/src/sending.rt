@@ -11,7 +11,7 @@ use hsr_node::Probe;
 use hsr_timeline::{Spot, Stamp, stamp_at};
 use std::alloc::Global;
 
-/// A send that is listed: its place among the deliveries of the run, and the stamp of its entry.
+/// A send that is listed: its index among the deliveries of the run, and the stamp of its entry.
 #[derive(Clone, Copy, Debug, PartialEq, Eq)]
 pub struct Sent {
     pub number: usize,

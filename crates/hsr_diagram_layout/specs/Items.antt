@@ -15,7 +15,7 @@ item_at n (Some t) = record { moment = t.moment; step = t.step; number = n }
 abbrev pub item_of : Sent → Item
 item_of sent = item_at sent.number sent.start
 
--- by moment, then by step, then by place among the deliveries
+-- by moment, then by step, then by index among the deliveries
 abbrev pub item_cmp : Item → Item → Ordering
 item_cmp x y = ordering_then (nat_cmp x.moment y.moment) (ordering_then (nat_cmp x.step y.step) (nat_cmp x.number y.number))
 

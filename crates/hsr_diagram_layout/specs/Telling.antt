@@ -23,7 +23,7 @@ is_incomplete deliveries sent = is_open (slice_get deliveries sent.number)
 abbrev pub incomplete_if : List Delivery → Sent → List ℕ
 incomplete_if deliveries sent = if is_incomplete deliveries sent then sent.number ∷ [] else []
 
--- by their places among the deliveries
+-- by their indices among the deliveries
 abbrev pub incomplete : List Delivery → List Sent → List ℕ
 incomplete deliveries sends = flat_map (incomplete_if deliveries) sends
 

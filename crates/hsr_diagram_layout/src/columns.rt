@@ -53,7 +53,7 @@ impl Columns {
         ensures lanes { OnOk result (self.new.lanes.items ≡ self.old.lanes.items ++ lane ∷ []) }
     {
         let left = self.next;
-        // Saturating, as all places: no contract speaks of them, so no proof bounds them.
+        // Saturating, as all coordinates: no contract speaks of them, so no proof bounds them.
         self.next = left.saturating_add(self.width);
         self.strips.push(Strip {
             node: lane.left.node,
@@ -87,7 +87,7 @@ impl Columns {
         Ok(())
     }
 
-    /// The place of the line that has a number.
+    /// The x of the line that has a number.
     pub(crate) fn line_at(&self, number: usize) -> u64 {
         match self.lines.as_slice().get(number) {
             Some(x) => *x,
@@ -107,7 +107,7 @@ impl Columns {
         }
     }
 
-    /// The place of the lane that has a number.
+    /// The strip of the lane that has a number.
     pub(crate) fn strip_at(&self, number: usize) -> Strip {
         match self.strips.as_slice().get(number) {
             Some(strip) => *strip,
@@ -119,7 +119,7 @@ impl Columns {
         }
     }
 
-    /// The place of a link. Each link of a topology is a lane; one that isn't would stand behind all, so that its
+    /// The strip of a link. Each link of a topology is a lane; one that isn't would stand behind all, so that its
     /// arrows are drawn all the same.
     pub(crate) fn strip_of(&self, link: usize) -> Strip {
         let lane = self
@@ -180,7 +180,7 @@ pub(crate) fn lane_count(panels: &[Panel]) -> u64 {
     count
 }
 
-/// The columns of panels, from a place on.
+/// The columns of panels, from an x on.
 pub(crate) fn columns_of(
     alloc: Global,
     panels: &[Panel],

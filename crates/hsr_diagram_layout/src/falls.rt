@@ -104,10 +104,10 @@ fn planned_stamps<const C: usize>(
 
 // ---- edges
 
-/// The stamp of what is planned at a place, if there is such a place.
-fn stamp_of(planned: &[Option<Stamp>], place: Option<usize>) -> Option<Stamp> {
-    let place = place?;
-    match planned.get(place) {
+/// The stamp of what is planned at an index, if there is such an index.
+fn stamp_of(planned: &[Option<Stamp>], index: Option<usize>) -> Option<Stamp> {
+    let index = index?;
+    match planned.get(index) {
         Some(Some(stamp)) => Some(*stamp),
         _ => None,
     }

@@ -28,7 +28,7 @@ pub(crate) fn heads_of(lane: u64, name: u64) -> Heads {
 }
 
 impl Heads {
-    /// A place so far over the first row. A text stands around its middle, or runs upwards from there at the right of it.
+    /// The spot so far over the first row. A text stands around its middle, or runs upwards from there at the right of it.
     fn over(&self, x: u64, right: u64, above: u64, above_turned: u64) -> Spot {
         if self.is_turned {
             Spot {

@@ -12,7 +12,7 @@ use hsr_svg::{
 };
 use std::alloc::Global;
 
-/// How many places a line takes.
+/// How high a line is.
 pub(crate) const LINE: u64 = 15;
 
 /// Where the words of a mark or an arrow of the legend stand.

@@ -1,5 +1,5 @@
 //! The diagram of a finished run laid out on paper: each thing that hsr_diagram shows becomes an element of hsr_svg, in
-//! order, with its words and its look, and gets its place. No contract speaks of places.
+//! order, with its words and its look, and gets its coordinates. No contract speaks of these.
 //!
 //! Its modules, in the order in which to read them:
 //! - `widths`: how wide texts are
@@ -11,7 +11,7 @@
 //! - `falls`: between which rows links are down, and where nodes go off and come on
 //! - `moments`: the moments of a picture, in their order
 //! - `items`: the sends that are listed, in the order of time
-//! - `sheet`: these, all places, and where arrows run
+//! - `sheet`: these, all coordinates, and where arrows run
 //! - `frame`: node lines, their names, and moments
 //! - `arrows`: arrows and their labels
 //! - `marks`: the marks of sends, on the lines of their nodes

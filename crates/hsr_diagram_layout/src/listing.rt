@@ -15,7 +15,7 @@ use hsr_svg::{Anchor, Element, Label, Line, Reading, Spot, Way, add_line, add_te
 use hsr_timeline::Stamp;
 use std::alloc::Global;
 
-/// How many places a line of the list takes.
+/// How high a line of the list is.
 const LINE: u64 = 12;
 
 /// How wide a letter of it is, at most.

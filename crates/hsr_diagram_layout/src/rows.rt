@@ -108,7 +108,7 @@ pub(crate) fn stamps_of(alloc: Global, picture: &Picture) -> Result<Stamps, NoMe
 #[derive(Drop)]
 pub(crate) struct Rows {
     pub stamps: Stamps,
-    places: Vec<u64>,
+    ys: Vec<u64>,
     pub top: u64,
     pub space: u64,
     pub drop: u64,
@@ -116,7 +116,7 @@ pub(crate) struct Rows {
 }
 
 impl Rows {
-    /// The place over a row at which what stands before it ends, where labels take this room between.
+    /// The y over a row at which what stands before it ends, where labels take this room between.
     pub(crate) fn over(&self, row: usize, room: u64) -> u64 {
         let least = if row > 0 && self.stamps.begins_moment(row) {
             self.space
@@ -126,20 +126,20 @@ impl Rows {
         self.at(row).saturating_sub(least.max(room))
     }
 
-    /// The place of a row.
+    /// The y of a row.
     pub(crate) fn at(&self, row: usize) -> u64 {
-        match self.places.as_slice().get(row) {
+        match self.ys.as_slice().get(row) {
             Some(y) => *y,
             None => self.top,
         }
     }
 
-    /// The place of a stamp; that of the first row, where there is none.
+    /// The y of a stamp; that of the first row, where there is none.
     pub(crate) fn at_some(&self, stamp: Option<Stamp>) -> u64 {
         self.at(self.stamps.row_of(stamp))
     }
 
-    /// The place of the first row of a moment.
+    /// The y of the first row of a moment.
     pub(crate) fn first_of(&self, moment: u64) -> u64 {
         self.at(self.stamps.first_of(moment))
     }
@@ -173,7 +173,7 @@ fn room_below(shelves: &Shelves, row: usize, drop: u64) -> u64 {
     }
 }
 
-/// Rows from a place downwards, with room for these labels.
+/// Rows from a y downwards, with room for these labels.
 pub(crate) fn rows_of(
     alloc: Global,
     stamps: Stamps,
@@ -182,20 +182,20 @@ pub(crate) fn rows_of(
 ) -> Result<Rows, NoMemory> {
     let space = space_for(stamps.stamps.len());
     let drop = space / 3;
-    let mut places = Vec::new(alloc);
+    let mut ys = Vec::new(alloc);
     let mut y = top;
     let mut below = 0;
     let mut before = None;
     for (row, stamp) in stamps.stamps.as_slice().iter().enumerate() {
         let above = shelves.room(row, Side::Above);
         y = y.saturating_add(space_before(before, stamp.0, space, below, above));
-        places.push(y)?;
+        ys.push(y)?;
         before = Some(stamp.0);
         below = room_below(shelves, row, drop);
     }
     Ok(Rows {
         stamps,
-        places,
+        ys,
         top,
         space,
         drop,

@@ -1,4 +1,4 @@
-//! What stands beside the arrows of a picture, all places, and where its arrows run. No contract speaks of places: what
+//! What stands beside the arrows of a picture, all coordinates, and where its arrows run. No contract speaks of coordinates: what
 //! is drawn doesn't depend on them.
 ghost use Rattle.std.specs.Prelude.{◌≡◌, IfOk};
 ghost use Rattle.hsr_diagram.specs.Panels.{lanes_in};
@@ -138,7 +138,7 @@ fn longest_of<const C: usize>(
     })
 }
 
-// ---- places
+// ---- coordinates
 
 /// How wide a lane is, where there is room for the longest name over it, and for two labels side by side.
 fn wide_lane(longest: Longest) -> u64 {
@@ -147,7 +147,7 @@ fn wide_lane(longest: Longest) -> u64 {
     LANE.max(by_name).max(by_label)
 }
 
-/// How wide each of `count` lanes is, from a place on: as narrow as it takes to have room for all in the width of a
+/// How wide each of `count` lanes is, from an x on: as narrow as it takes to have room for all in the width of a
 /// picture, if there are any.
 fn lane_width(longest: Longest, count: u64, left: u64) -> u64 {
     let wide = wide_lane(longest);
@@ -335,7 +335,7 @@ impl Sheet {
         self.spot_before(edge, x, Anchor::Start)
     }
 
-    /// Where the mark of a node stands, by the numbers of its switch and of its line. Each that is drawn has a place;
+    /// Where the mark of a node stands, by the numbers of its switch and of its line. Each that is drawn has coordinates;
     /// one that hasn't would be drawn at its line, below all.
     pub(crate) fn flag_at(&self, number: usize, line: usize) -> Spot {
         let flag = self
@@ -379,7 +379,7 @@ impl Sheet {
         Way { x1, y1, x2, y2 }
     }
 
-    /// A label on its shelf above a place.
+    /// A label on its shelf above a point.
     fn above(&self, foot: Foot, y: u64) -> Spot {
         let raised = self.shelves.shelf_of(foot).saturating_mul(SHELF);
         Spot {
@@ -390,7 +390,7 @@ impl Sheet {
         }
     }
 
-    /// A label on its shelf below a place.
+    /// A label on its shelf below a point.
     fn below(&self, foot: Foot, y: u64) -> Spot {
         let lowered = self.shelves.shelf_of(foot).saturating_mul(SHELF);
         Spot {

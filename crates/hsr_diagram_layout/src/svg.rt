@@ -88,7 +88,7 @@ fn add_above<const C: usize>(
     add_list(alloc, elements, names, closed, sheet, deliveries, items)
 }
 
-/// Adds what stands below, from a place on. Where it ends.
+/// Adds what stands below, from a y on. Where it ends.
 #[tactic(auto, unfolding(crate::specs::Drawing::below_shapes))]
 fn add_below(
     alloc: Global,

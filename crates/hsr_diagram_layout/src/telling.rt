@@ -37,7 +37,7 @@ fn is_incomplete(deliveries: &[Delivery], sent: &Sent) -> bool
     }
 }
 
-/// The sends that are listed and aren't complete, by their places among the deliveries.
+/// The sends that are listed and aren't complete, by their indices among the deliveries.
 #[tactic(auto, using(hsr_svg::proofs::Growing::grown))]
 fn incomplete(
     alloc: Global,

@@ -1,4 +1,4 @@
-//! How wide texts are, near enough, in places of the paper.
+//! How wide texts are, near enough, in units of the picture.
 
 // A test measures these (`tests/run pictures`): no contract says that no text lies on another.
 /// How wide a letter is: of a name of a node, of a mark, and of what stands at the point of an arrow.

@@ -62,7 +62,7 @@ abbrev pub switches_of : List (List End) → List Change → ℕ → Option Chan
 switches_of links changes i None = []
 switches_of links changes i (Some change) = switches_by links (take i changes) (take (i + 1) changes) change
 
--- with the change that has a place among all
+-- with the change at an index among all
 abbrev pub switches_at : List (List End) → List Change → ℕ → List Switch
 switches_at links changes i = switches_of links changes i (slice_get changes i)
 

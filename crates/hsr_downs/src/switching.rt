@@ -132,7 +132,7 @@ fn push_by(
     }
 }
 
-/// Puts the switches last that the change at a place makes.
+/// Puts the switches last that the change at an index makes.
 fn push_at(
     list: &mut Vec<Switch>,
     links: &[[End; 2]],

@@ -32,11 +32,11 @@ settled_rows r (row ∷ rows) known quiet =
 
 pub known_rows : (r : Run) (rows : List Row) → AllByRecursion (IsSettled r) rows → AreKnown r rows (length rows)
 known_rows r [] h = λ i d below. absurd (omega arith)
-known_rows r (row ∷ rows) h = by_place (known_rows r rows h.1)
+known_rows r (row ∷ rows) h = by_index (known_rows r rows h.1)
   where
-    by_place : AreKnown r rows (length rows) → AreKnown r (row ∷ rows) (length (row ∷ rows))
-    by_place rest zero d below = record { put = h.0.put; origin = h.0.origin }
-    by_place rest (suc i) d below = rest i d (omega (arith, below))
+    by_index : AreKnown r rows (length rows) → AreKnown r (row ∷ rows) (length (row ∷ rows))
+    by_index rest zero d below = record { put = h.0.put; origin = h.0.origin }
+    by_index rest (suc i) d below = rest i d (omega (arith, below))
 
 pub quiet_rows : (r : Run) (rows : List Row) → AllByRecursion (IsSettled r) rows → is_noisy rows ≡ false
 quiet_rows r [] h = refl

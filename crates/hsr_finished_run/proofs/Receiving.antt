@@ -128,16 +128,16 @@ all_right P (x ∷ xs) ys h = all_right P xs ys h.1
 
 pub shown_flat : (kept : List Record) (w : ℕ) (ps : List Receipts) → AllByRecursion (Shows kept) (receipts_of w ps) → IsShown kept w ps (length ps)
 shown_flat kept w [] all = λ j d below is. absurd (omega arith)
-shown_flat kept w (p ∷ ps) all = by_place (shown_flat kept w ps (all_right (Shows kept) (receipts_in w p) (receipts_of w ps) all))
+shown_flat kept w (p ∷ ps) all = by_index (shown_flat kept w ps (all_right (Shows kept) (receipts_in w p) (receipts_of w ps) all))
   where
     here : p.worker ≡ w → AllByRecursion (Shows kept) p.receipts
     here is =
         let P : Bool → Type 0 = λ b. AllByRecursion (Shows kept) (cond b p.receipts []) in
         subst P (same p.worker w is) (all_left (Shows kept) (receipts_in w p) (receipts_of w ps) all)
 
-    by_place : IsShown kept w ps (length ps) → IsShown kept w (p ∷ ps) (length (p ∷ ps))
-    by_place rest zero d below is = all_at (Shows kept) p.receipts (here is)
-    by_place rest (suc j) d below is = rest j d (omega (arith, below)) is
+    by_index : IsShown kept w ps (length ps) → IsShown kept w (p ∷ ps) (length (p ∷ ps))
+    by_index rest zero d below is = all_at (Shows kept) p.receipts (here is)
+    by_index rest (suc j) d below is = rest j d (omega (arith, below)) is
 
 -- ---- other workers
 

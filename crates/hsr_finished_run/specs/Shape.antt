@@ -22,14 +22,14 @@ is_linked links node event = true
 abbrev pub AreLinked : List (List End) → ℕ → List Entry → ℕ → Type 0
 AreLinked links node entries n = (i : ℕ) (d : Entry) → i < n → is_linked links node (slice_index_or entries i d).event ≡ true
 
--- the record has the number of its place in the list
+-- the record has its index in the list as its number
 abbrev pub NodeFits : List (List End) → ℕ → Record → Type 0
 NodeFits links k r = (r.number ≡ k) × AreLinked links k r.entries (length r.entries)
 
 abbrev pub NodesFit : List (List End) → List Record → ℕ → Type 0
 NodesFit links kept n = (k : ℕ) (d : Record) → k < n → NodeFits links k (slice_index_or kept k d)
 
--- there is a record for each node, at its place, and a list of rows for each link, and nothing came by a port without one
+-- there is a record for each node, at its index, and a list of rows for each link, and nothing came by a port without one
 pub record IsShaped (topology : Topology) (kept : List Record) (rows : List (Vec Row Global)) : Type 0 where
   pub places : map (λ (r : Record). r.place) kept ≡ topology.places
   pub of_links : length rows ≡ length topology.links

@@ -8,7 +8,7 @@ use hsr_link::Dir;
 #[derive(Clone, Copy, Debug, PartialEq, Eq)]
 pub enum Disagree {
     /// Duplicate tables have no entries or over 65535, or records or rows aren't the topology's by their number or
-    /// places, or something came by a port without a link.
+    /// indices, or something came by a port without a link.
     Shape,
     /// What was put on a link in a direction isn't what the node at the one end passed there.
     LinkPut { link: usize, dir: Dir },

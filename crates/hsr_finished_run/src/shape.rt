@@ -46,7 +46,7 @@ fn are_linked(ends: &Ends<'_>, node: usize, entries: &[Entry]) -> bool
     true
 }
 
-/// Whether each record has the number of its place, and nothing came by a port without a link.
+/// Whether each record has its index as its number, and nothing came by a port without a link.
 fn nodes_fit<const C: usize>(ends: &Ends<'_>, kept: &[Kept<C>]) -> bool
     ensures { IsTrue result ↔ NodesFit ends.now kept.now (length kept.now) }
 {
@@ -77,7 +77,7 @@ fn are_at<const C: usize>(places: &[Place], kept: &[Kept<C>]) -> bool
     left.is_empty()
 }
 
-/// Whether tables have 1 to 65535 entries, there is a record for each node, at its place, and a list of rows for each link,
+/// Whether tables have 1 to 65535 entries, there is a record for each node, at its index, and a list of rows for each link,
 /// and nothing came by a port without one.
 pub(crate) fn is_shaped<const C: usize>(
     topology: &Topology,

@@ -3,7 +3,7 @@ ghost use Rattle.std.specs.Prelude.{◌≡◌};
 
 use hsr_frame::Mac;
 
-/// Who sends: a node, by its number, from the address at a place among its own.
+/// Who sends: a node, by its number, from the address at an index among its own.
 #[derive(Clone, Copy, Debug, PartialEq, Eq)]
 pub struct Sender {
     pub node: usize,

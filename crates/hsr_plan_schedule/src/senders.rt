@@ -22,13 +22,13 @@ pub(crate) fn named(nodes: &[Node], name: &[u8]) -> Option<usize>
     nodes.iter().position(|node| node.name.as_bytes() == name)
 }
 
-/// The address of a Station at that place.
+/// The address of a Station at that index.
 fn station_mac(place: &Place, at: usize) -> Option<Mac>
     ensures { result ≡ station_mac place.now at }
 {
     match place {
         Place::Station { macs } => {
-            // A Station has 16 addresses at most, so its place fits 8 bits.
+            // A Station has 16 addresses at most, so its index fits 8 bits.
             if at < 16 {
                 macs.as_slice().get(at).copied()
             } else {

@@ -18,7 +18,7 @@ use Rattle.hsr_world_laws.specs.World.{World, next_step, no_lane, ports_from, po
 use Rattle.hsr_world_laws.specs.World as world
 use Rattle.hsr_bitset.specs.Numbers.{IsLowest}
 use Rattle.hsr_ring.specs.Pending.{ArePending, Has, IsJudgeOr, IsNext, IsPutOr, take_at}
-use Rattle.hsr_world_links.specs.Ports.{AreTold, dir_at, end_at, is_held, is_ready, is_waiting, no_port, port_if, port_in, port_of, held_at, port_fault}
+use Rattle.hsr_world_links.specs.Ports.{AreTold, dir_at, end_at, is_held, is_ready, is_waiting, no_port, port_if, port_in, port_number, port_of, held_at, port_fault}
 use Rattle.hsr_world_links.specs.Views.{spot_view}
 use Rattle.hsr_ring.specs.declared.pending.Pending.{Pending}
 use Rattle.hsr_world_links.specs.declared.port.Port.{Port}
@@ -108,7 +108,7 @@ same_places places = all_there places QuadBox
 -- ---- the first end of which the number is in a set
 
 record IsTest (places : List Place) (p : End → Bool) (test : ℕ → Bool) : Type 0 where
-  there : (n port : ℕ) → IsThere places n port → test (8 * n + port) ≡ p (end_of n port)
+  there : (n port : ℕ) → IsThere places n port → test (port_number (end_of n port)) ≡ p (end_of n port)
   only : (k : ℕ) → test k ≡ true → IsThere places (k / 8) (k % 8)
 
 found : (places : List Place) (p : End → Bool) (test : ℕ → Bool) (numbers : List ℕ) → length places ≤ 64 → IsTest places p test → Has numbers test →
@@ -120,7 +120,7 @@ found places p test numbers few t is None none =
     let number : 8 * n + port < 512 = omega (arith, few, below, there, four) in
     let low : port < 8 = omega (arith, there, four) in
     let inside : n < length places = omega (arith, below) in
-    sym (t.there n port (record { node = inside; port = there; low = low })) ∙ sym (is (8 * n + port) number) ∙ none (8 * n + port) number)
+    sym (t.there n port (record { node = inside; port = there; low = low })) ∙ sym (is (port_number (end_of n port)) number) ∙ none (port_number (end_of n port)) number)
 found places p test numbers few t is (Some k) lowest =
     let here : test k ≡ true = sym (is k lowest.0) ∙ lowest.1 in
     let at = t.only k here in
@@ -135,7 +135,7 @@ found places p test numbers few t is (Some k) lowest =
     let less : 8 * n + port < k = omega (arith, under, number) in
     let most = lowest.0 in
     let small : 8 * n + port < 512 = omega (arith, less, most) in
-    sym (t.there n port (record { node = inside; port = there; low = low })) ∙ sym (is (8 * n + port) small) ∙ lowest.2 (8 * n + port) less)
+    sym (t.there n port (record { node = inside; port = there; low = low })) ∙ sym (is (port_number (end_of n port)) small) ∙ lowest.2 (port_number (end_of n port)) less)
 
 -- ---- ports that hold a copy, and that have one to put
 
@@ -154,11 +154,11 @@ only_ports places spans list k of told without h = ⊎_elim within beyond (nat_c
     beyond : 8 * length places ≤ k → IsThere places (k / 8) (k % 8)
     beyond past = absurd (false≢true (sym without ∙ ap of (sym (port_beyond places spans list k told past)) ∙ h))
 
-number_in : (list : List Port) (n port : ℕ) → n < 64 → port < 8 → port_of list (end_of n port) ≡ port_in list (8 * n + port)
+number_in : (list : List Port) (n port : ℕ) → n < 64 → port < 8 → port_of list (end_of n port) ≡ port_in list (port_number (end_of n port))
 number_in list n port node low =
     let a : nat_lt n 64 ≡ true = grind (arith, node) in
     let b : nat_lt port 8 ≡ true = grind (arith, low) in
-    ap₂ (λ x y. if x && y then port_in list (8 * n + port) else no_port) a b
+    ap₂ (λ x y. if x && y then port_in list (port_number (end_of n port)) else no_port) a b
 
 held_test : (w : World) (list : List Port) → AreTold w.places w.spans list → IsTest w.places (world.is_held w) (is_held list w.spans)
 held_test w list told = record {

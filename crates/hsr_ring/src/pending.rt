@@ -15,7 +15,7 @@ ghost use Rattle.hsr_world_links.specs.Views.{span_view, spot_view};
 use hsr_bitset::Numbers;
 use hsr_link::Dir;
 use hsr_topology::End;
-use hsr_world_links::{Port, Span, Spot, number_of, port_in, port_of};
+use hsr_world_links::{Port, Span, Spot, port_in, port_number, port_of};
 use hsr_world_steps::Step;
 
 /// The numbers of the ports that hold a copy, of those that have one to put, and of the directions in which one waits. A node
@@ -104,7 +104,7 @@ fn look_at_hand(held: &mut Numbers, ports: &[Port], spans: &[Span], end: End)
 {
     // Past these the number would be another port's, or none of the set.
     if end.node < 64 && end.port < 8 {
-        let number = number_of(end);
+        let number = port_number(end);
         held.put(number, is_held(spans, port_in(ports, number).into));
     }
 }
@@ -116,7 +116,7 @@ fn look_at_box(waiting: &mut Numbers, ports: &[Port], spans: &[Span], end: End)
 {
     // Past these the number would be another port's, or none of the set.
     if end.node < 64 && end.port < 8 {
-        let number = number_of(end);
+        let number = port_number(end);
         waiting.put(number, is_waiting(spans, port_in(ports, number).out));
     }
 }

@@ -14,7 +14,7 @@ use Rattle.hsr_node.specs.declared.event.Probe.{Probe}
 use Rattle.hsr_node.specs.declared.place.Place.{Place}
 use Rattle.hsr_link.specs.declared.row.Dir.{Dir}
 use Rattle.hsr_link.specs.declared.row.Row.{Row}
-use Rattle.hsr_run_index.specs.InOrder.{PutsFit, TakensFit, came, came_by, passed, passed_by, told}
+use Rattle.hsr_run_index.specs.InOrder.{PutsFit, TakensFit, came, came_by, copies_of_passage, passed, passed_by}
 use Rattle.hsr_run_index.specs.declared.agreement.Passage.TheVariants.{Put, Taken}
 use Rattle.hsr_run_index.specs.Often.{AsOften}
 use Rattle.hsr_run_laws.specs.Run.{given_at, gives}
@@ -65,34 +65,34 @@ arrivals_moved r port =
     let P : List Carried → Type 0 = IsPermutation (came port r.entries) in
     subst P (sym (arrivals_of port r.entries)) (IsPermutation-reverse (came port r.entries))
 
-puts_from : (r : Record) (port : ℕ) (dir : Dir) (rows : List Row) → IsPermutation (passed (owner_of r) port 0 r.entries) (told Put dir rows) → PutsFit r port dir rows
+puts_from : (r : Record) (port : ℕ) (dir : Dir) (rows : List Row) → IsPermutation (passed (owner_of r) port 0 r.entries) (copies_of_passage Put dir rows) → PutsFit r port dir rows
 puts_from r port dir rows h =
-    IsPermutation-trans (passes (owner_of r) port (past_of r)) (passed (owner_of r) port 0 r.entries) (told Put dir rows)
+    IsPermutation-trans (passes (owner_of r) port (past_of r)) (passed (owner_of r) port 0 r.entries) (copies_of_passage Put dir rows)
     (IsPermutation-sym (passed (owner_of r) port 0 r.entries) (passes (owner_of r) port (past_of r)) (passes_moved r port)) h
 
-takens_from : (r : Record) (port : ℕ) (dir : Dir) (rows : List Row) → IsPermutation (told Taken dir rows) (came port r.entries) → TakensFit r port dir rows
-takens_from r port dir rows h = IsPermutation-trans (told Taken dir rows) (came port r.entries) (arrivals port (past_of r)) h (arrivals_moved r port)
+takens_from : (r : Record) (port : ℕ) (dir : Dir) (rows : List Row) → IsPermutation (copies_of_passage Taken dir rows) (came port r.entries) → TakensFit r port dir rows
+takens_from r port dir rows h = IsPermutation-trans (copies_of_passage Taken dir rows) (came port r.entries) (arrivals port (past_of r)) h (arrivals_moved r port)
 
-pub puts_same : (r : Record) (port : ℕ) (dir : Dir) (rows : List Row) → passed (owner_of r) port 0 r.entries ≡ told Put dir rows → PutsFit r port dir rows
+pub puts_same : (r : Record) (port : ℕ) (dir : Dir) (rows : List Row) → passed (owner_of r) port 0 r.entries ≡ copies_of_passage Put dir rows → PutsFit r port dir rows
 puts_same r port dir rows e =
-    let P : List Carried → Type 0 = λ xs. IsPermutation xs (told Put dir rows) in
-    puts_from r port dir rows (subst P (sym e) (IsPermutation-refl (told Put dir rows)))
+    let P : List Carried → Type 0 = λ xs. IsPermutation xs (copies_of_passage Put dir rows) in
+    puts_from r port dir rows (subst P (sym e) (IsPermutation-refl (copies_of_passage Put dir rows)))
 
-pub takens_same : (r : Record) (port : ℕ) (dir : Dir) (rows : List Row) → told Taken dir rows ≡ came port r.entries → TakensFit r port dir rows
+pub takens_same : (r : Record) (port : ℕ) (dir : Dir) (rows : List Row) → copies_of_passage Taken dir rows ≡ came port r.entries → TakensFit r port dir rows
 takens_same r port dir rows e =
     let P : List Carried → Type 0 = λ xs. IsPermutation xs (came port r.entries) in
     takens_from r port dir rows (subst P (sym e) (IsPermutation-refl (came port r.entries)))
 
-pub puts_often : (r : Record) (port : ℕ) (dir : Dir) (rows : List Row) → AsOften (passed (owner_of r) port 0 r.entries) (told Put dir rows) ↔ PutsFit r port dir rows
+pub puts_often : (r : Record) (port : ℕ) (dir : Dir) (rows : List Row) → AsOften (passed (owner_of r) port 0 r.entries) (copies_of_passage Put dir rows) ↔ PutsFit r port dir rows
 puts_often r port dir rows = (
   λ h. puts_from r port dir rows (in_order _ _ h),
-  λ fit. as_often _ _ (IsPermutation-trans (passed (owner_of r) port 0 r.entries) (passes (owner_of r) port (past_of r)) (told Put dir rows) (passes_moved r port) fit),
+  λ fit. as_often _ _ (IsPermutation-trans (passed (owner_of r) port 0 r.entries) (passes (owner_of r) port (past_of r)) (copies_of_passage Put dir rows) (passes_moved r port) fit),
 )
 
-pub takens_often : (r : Record) (port : ℕ) (dir : Dir) (rows : List Row) → AsOften (told Taken dir rows) (came port r.entries) ↔ TakensFit r port dir rows
+pub takens_often : (r : Record) (port : ℕ) (dir : Dir) (rows : List Row) → AsOften (copies_of_passage Taken dir rows) (came port r.entries) ↔ TakensFit r port dir rows
 takens_often r port dir rows = (
   λ h. takens_from r port dir rows (in_order _ _ h),
-  λ fit. as_often _ _ (IsPermutation-trans (told Taken dir rows) (arrivals port (past_of r)) (came port r.entries) fit
+  λ fit. as_often _ _ (IsPermutation-trans (copies_of_passage Taken dir rows) (arrivals port (past_of r)) (came port r.entries) fit
       (IsPermutation-sym (came port r.entries) (arrivals port (past_of r)) (arrivals_moved r port))),
 )
 

@@ -18,8 +18,9 @@ abbrev pub copy_of_passage : Passage → Dir → Row → Option Carried
 copy_of_passage Put = put_copy
 copy_of_passage Taken = taken_copy
 
-abbrev pub told : Passage → Dir → List Row → List Carried
-told which dir rows = filter_map (copy_of_passage which dir) rows
+-- those of rows
+abbrev pub copies_of_passage : Passage → Dir → List Row → List Carried
+copies_of_passage which dir rows = filter_map (copy_of_passage which dir) rows
 
 -- the copy that the n-th entry of a record let leave by a port
 abbrev pub passed_by : Owner → ℕ → ℕ → Entry → Option Carried

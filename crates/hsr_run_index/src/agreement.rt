@@ -1,7 +1,7 @@
 //! Whether links agree with the records of the nodes at their ends.
 ghost use Rattle.std.specs.Prelude.{◌≡◌, ◌↔◌, [], ◌∷◌, IfOk, IfSome, IsTrue, MatchOption};
 ghost use Rattle.std.specs.List.{cons_option};
-ghost use Rattle.hsr_run_index.specs.InOrder.{PutsFit, TakensFit, came, came_by, passed, passed_by, told, copy_of_passage};
+ghost use Rattle.hsr_run_index.specs.InOrder.{PutsFit, TakensFit, came, came_by, copies_of_passage, copy_of_passage, passed, passed_by};
 
 use crate::counts::is_as_often;
 use hsr_frame::NoMemory;
@@ -32,9 +32,14 @@ fn is_told(which: Passage, dir: Dir, row: &Row) -> bool
 ghost use Rattle.std.specs.Prelude.{if◌then◌else◌, Some, None};
 
 /// The first copy that was put, or taken, in a direction, and the rows after it.
-fn next_told<'a>(which: Passage, dir: Dir, rows: &'a [Row]) -> Option<(&'a Carried, &'a [Row])>
-    ensures { MatchOption result (told which dir rows.now ≡ []) (λ r. told which dir rows.now
-        ≡ r.0.now ∷ told which dir r.1.now) }
+fn next_of_passage<'a>(
+    which: Passage,
+    dir: Dir,
+    rows: &'a [Row],
+) -> Option<(&'a Carried, &'a [Row])>
+    ensures { MatchOption result (copies_of_passage which dir rows.now ≡ [])
+        (λ r. copies_of_passage which dir rows.now
+        ≡ r.0.now ∷ copies_of_passage which dir r.1.now) }
 {
     let mut left = rows;
     // What is left is a variable, since the loop's invariant speaks of it.
@@ -64,15 +69,15 @@ fn after_pass<'a>(
     dir: Dir,
     rows: &'a [Row],
 ) -> Option<&'a [Row]>
-    ensures { IfSome result (λ left. told Put dir rows.now
+    ensures { IfSome result (λ left. copies_of_passage Put dir rows.now
         ≡ cons_option (passed_by (record { number = number; place = place.now }) port at entry.now)
-        (told Put dir left.now)) }
+        (copies_of_passage Put dir left.now)) }
 {
     // Spelled where it stands, so that comparing needs no memory.
     let Some(octets) = spelled_out(place, &entry.event, &entry.outcome, port) else {
         return Some(rows);
     };
-    let (copy, left) = next_told(Passage::Put, dir, rows)?;
+    let (copy, left) = next_of_passage(Passage::Put, dir, rows)?;
     if is_copy(
         copy,
         entry.event.probe(Probe {
@@ -100,7 +105,7 @@ fn puts_in_order(
 ) -> bool
     ensures { IsTrue result
         → (passed (record { number = number; place = place.now }) port 0 entries.now
-        ≡ told Put dir rows.now) }
+        ≡ copies_of_passage Put dir rows.now) }
 {
     let mut left = rows;
     for (at, entry) in entries.iter().enumerate() {
@@ -109,7 +114,7 @@ fn puts_in_order(
         };
         left = more;
     }
-    next_told(Passage::Put, dir, left).is_none()
+    next_of_passage(Passage::Put, dir, left).is_none()
 }
 
 /// Whether they are one copy.
@@ -133,13 +138,14 @@ ghost use Rattle.std.specs.Prelude.{option_map};
 
 /// The rows that are left where the first that was taken is the copy that came with an entry, if one did.
 fn after_arrival<'a>(port: u8, entry: &Entry, dir: Dir, rows: &'a [Row]) -> Option<&'a [Row]>
-    ensures { IfSome result (λ left. told Taken dir rows.now ≡ cons_option (came_by port entry.now)
-        (told Taken dir left.now)) }
+    ensures { IfSome result (λ left. copies_of_passage Taken dir rows.now
+        ≡ cons_option (came_by port entry.now)
+        (copies_of_passage Taken dir left.now)) }
 {
     let Some(came) = came_by(port, entry) else {
         return Some(rows);
     };
-    let (copy, left) = next_told(Passage::Taken, dir, rows)?;
+    let (copy, left) = next_of_passage(Passage::Taken, dir, rows)?;
     if is_same_copy(copy, came) {
         Some(left)
     } else {
@@ -149,7 +155,7 @@ fn after_arrival<'a>(port: u8, entry: &Entry, dir: Dir, rows: &'a [Row]) -> Opti
 
 /// Whether what was taken in a direction is what came to a port, in the same order.
 fn takens_in_order(entries: &[Entry], port: u8, dir: Dir, rows: &[Row]) -> bool
-    ensures { IsTrue result → (told Taken dir rows.now ≡ came port entries.now) }
+    ensures { IsTrue result → (copies_of_passage Taken dir rows.now ≡ came port entries.now) }
 {
     let mut left = rows;
     // The index is used by the loop's invariant alone.
@@ -159,17 +165,17 @@ fn takens_in_order(entries: &[Entry], port: u8, dir: Dir, rows: &[Row]) -> bool
         };
         left = more;
     }
-    next_told(Passage::Taken, dir, left).is_none()
+    next_of_passage(Passage::Taken, dir, left).is_none()
 }
 
 /// The copies that were put, or taken, in a direction.
-fn copies_told(
+fn copies_of_passage(
     alloc: Global,
     which: Passage,
     dir: Dir,
     rows: &[Row],
 ) -> Result<Vec<Carried>, NoMemory>
-    ensures { IfOk result (λ copies. copies.items ≡ told which dir rows.now) }
+    ensures { IfOk result (λ copies. copies.items ≡ copies_of_passage which dir rows.now) }
 {
     let mut copies = Vec::new(alloc);
     // The index is used by the loop's invariant alone.
@@ -257,7 +263,7 @@ pub fn puts_fit<const C: usize>(
         return Ok(true);
     }
     let passed = passed(alloc, kept.node(), kept.place(), port, entries)?;
-    let put = copies_told(alloc, Passage::Put, dir, rows)?;
+    let put = copies_of_passage(alloc, Passage::Put, dir, rows)?;
     is_as_often(alloc, passed.as_slice(), put.as_slice())
 }
 
@@ -278,7 +284,7 @@ pub fn takens_fit<const C: usize>(
     if takens_in_order(entries, port, dir, rows) {
         return Ok(true);
     }
-    let taken = copies_told(alloc, Passage::Taken, dir, rows)?;
+    let taken = copies_of_passage(alloc, Passage::Taken, dir, rows)?;
     let came = arrived(alloc, port, entries)?;
     is_as_often(alloc, taken.as_slice(), came.as_slice())
 }

@@ -1,6 +1,6 @@
 -- The hops of a finished run: each copy that was put on a link, with the entry that passed it and the entry that judged it.
 --     hop_of       that of a row
---     hops         those of all rows, by link and place
+--     hops         those of all rows, by link and index
 use Rattle.std.specs.Prelude.{ℕ, zero, suc, ◌+◌, List, [], ◌∷◌, ◌++◌, length, map, Option, option_map}
 use Rattle.hsr_node.specs.Record.{Owner}
 use Rattle.hsr_node.specs.declared.entry.Entry.{Entry}

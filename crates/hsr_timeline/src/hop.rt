@@ -1,7 +1,7 @@
 //! A copy's way over a link.
 use crate::origin::Spot;
 
-/// The way of a copy over a link: the link, and the place of its row there, both from 0; the entry that passed it, and the entry that
+/// The way of a copy over a link: the link, and the index of its row there, both from 0; the entry that passed it, and the entry that
 /// judged it. A copy that was lost was judged by none.
 #[derive(Clone, Copy, Debug, PartialEq, Eq)]
 pub struct Hop {

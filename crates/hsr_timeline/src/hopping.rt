@@ -139,7 +139,7 @@ pub fn link_hops<const C: usize>(
     Ok(list)
 }
 
-/// The hops of a finished run, by link, then by place on the link: for each copy that was put on a link, the entry that passed it, and
+/// The hops of a finished run, by link, then by index on the link: for each copy that was put on a link, the entry that passed it, and
 /// the entry that judged it. Copies that are equal in send and octets are told apart by their order: the k-th that was put is the
 /// k-th that was passed, and the k-th that was taken is the k-th that came. `NoMemory` if allocation fails.
 pub fn hops<const C: usize>(alloc: Global, closed: &Closed<C>) -> Result<Vec<Hop>, NoMemory>

@@ -10,7 +10,7 @@
 //! - `naming`: the names of nodes and of their ports, put into texts
 //! - `calling`: the node that a word names
 //! - `hop`: a hop
-//! - `partners`: which of some copies is which of others, by an index
+//! - `partners`: which of some copies is which of others, by a map
 //! - `copies`: what the entries of a record passed, and what they let in
 //! - `hopping`: the hops of a run, its calls
 //! - `shown`: a row in that order

@@ -1,13 +1,13 @@
-//! Which of some copies is which of others, by an index.
+//! Which of some copies is which of others, by a map.
 //!
-//! The k-th of the equal copies on one side is the k-th on the other. An index and a count of those so far make this one
+//! The k-th of the equal copies on one side is the k-th on the other. A map and a count of those so far make this one
 //! walk, where a search for each copy would grow with the square of the run.
 ghost use Rattle.std.specs.Prelude.{◌≡◌, ◌+◌, ◌<◌, ◌^◌, ◌∷◌, [], ◌++◌, count_by, if◌then◌else◌, length, map, option_map, IfOk, OnOk};
 ghost use Rattle.hsr_node.specs.declared.event.Carried as spec;
 ghost use Rattle.hsr_run_index.specs.InOrder.{copy_of_passage};
 ghost use Rattle.hsr_run_index.specs.Often.{count_of, is_same_carried};
-ghost use Rattle.hsr_timeline.specs.Partners.{is_at, partners, places};
-ghost use Rattle.hsr_timeline.specs.IndexedCopies.{found_at, places_in};
+ghost use Rattle.hsr_timeline.specs.Partners.{indices, is_at, partners};
+ghost use Rattle.hsr_timeline.specs.IndexedCopies.{found_at, indices_in};
 
 use hsr_frame::NoMemory;
 use hsr_link::{Dir, Fate, Row};
@@ -17,50 +17,50 @@ use indexmap::IndexMap;
 use std::alloc::Global;
 
 /// Where each copy stands, rising.
-type PlacesByCopy<'a> = IndexMap<Key<'a>, Vec<usize>>;
+type IndicesByCopy<'a> = IndexMap<Key<'a>, Vec<usize>>;
 
-/// Keeps one more place of a copy.
+/// Keeps one more index of a copy.
 fn keep<'a>(
     alloc: Global,
-    kept: &mut PlacesByCopy<'a>,
+    kept: &mut IndicesByCopy<'a>,
     copy: &'a Carried,
-    place: usize,
+    index: usize,
 ) -> Result<(), NoMemory>
     ensures { OnOk result ((other : spec.Carried)
-        → places_in kept.new other ≡ places_in kept.old other
-        ++ (if is_same_carried other copy.now then place ∷ [] else [])) }
+        → indices_in kept.new other ≡ indices_in kept.old other
+        ++ (if is_same_carried other copy.now then index ∷ [] else [])) }
 {
     kept.entry(key_of(copy))?
         .or_insert(Vec::new(alloc))
-        .push(place)?;
+        .push(index)?;
     Ok(())
 }
 
-/// Keeps one more place of a copy, if there is one.
+/// Keeps one more index of a copy, if there is one.
 fn keep_if<'a>(
     alloc: Global,
-    kept: &mut PlacesByCopy<'a>,
+    kept: &mut IndicesByCopy<'a>,
     copy: &'a Option<Carried>,
-    place: usize,
+    index: usize,
 ) -> Result<(), NoMemory>
     ensures { OnOk result ((other : spec.Carried)
-        → places_in kept.new other ≡ places_in kept.old other
-        ++ (if is_at other copy.now then place ∷ [] else [])) }
+        → indices_in kept.new other ≡ indices_in kept.old other
+        ++ (if is_at other copy.now then index ∷ [] else [])) }
 {
     match copy {
-        Some(copy) => keep(alloc, kept, copy, place),
-        // Places without a copy are counted all the same, so that a place is that of its entry.
+        Some(copy) => keep(alloc, kept, copy, index),
+        // Indices without a copy are counted all the same, so that an index is the place of its entry.
         None => Ok(()),
     }
 }
 
 /// Where each of some copies stands.
-fn places_by_copy<'a>(
+fn indices_by_copy<'a>(
     alloc: Global,
     copies: &'a [Option<Carried>],
-) -> Result<PlacesByCopy<'a>, NoMemory>
+) -> Result<IndicesByCopy<'a>, NoMemory>
     ensures { IfOk result (λ kept. (copy : spec.Carried)
-        → places_in kept copy ≡ places copy copies.now) }
+        → indices_in kept copy ≡ indices copy copies.now) }
 {
     let mut kept = IndexMap::new(alloc);
     for (i, copy) in copies.iter().enumerate() {
@@ -70,11 +70,11 @@ fn places_by_copy<'a>(
 }
 
 /// Where a copy stands.
-fn places_of<'b>(kept: &'b PlacesByCopy<'_>, copy: &'b Carried) -> &'b [usize]
-    ensures { result.now ≡ places_in kept.now copy.now }
+fn indices_of<'b>(kept: &'b IndicesByCopy<'_>, copy: &'b Carried) -> &'b [usize]
+    ensures { result.now ≡ indices_in kept.now copy.now }
 {
     match kept.get(&key_of(copy)) {
-        Some(places) => places.as_slice(),
+        Some(indices) => indices.as_slice(),
         None => &[],
     }
 }
@@ -93,12 +93,12 @@ fn copy_of_passage<'a>(which: Passage, dir: Dir, row: &'a Row) -> Option<&'a Car
 
 /// Where the copy of a row stands, by how many equal ones came so far; and counts it.
 fn next_partner<'a>(
-    kept: &PlacesByCopy<'_>,
+    kept: &IndicesByCopy<'_>,
     counts: &mut Counts<'a>,
     copy: Option<&'a Carried>,
 ) -> Result<Option<usize>, NoMemory>
     requires { (other : spec.Carried) → count_of counts.old other + 1 < 2 ^ 64 }
-    ensures place { IfOk result (λ place. place
+    ensures index { IfOk result (λ index. index
         ≡ found_at kept.now counts.old (option_map (λ c. c.now) copy.entry)) }
     ensures counts { OnOk result ((other : spec.Carried)
         → count_of counts.new other ≡ count_of counts.old other +
@@ -107,9 +107,9 @@ fn next_partner<'a>(
     let Some(copy) = copy else {
         return Ok(None);
     };
-    let place = places_of(kept, copy).get(count_of(counts, copy)).copied();
+    let index = indices_of(kept, copy).get(count_of(counts, copy)).copied();
     count_one(counts, copy)?;
-    Ok(place)
+    Ok(index)
 }
 
 /// Where the copies of rows that were put, or taken, in a direction stand among others, row by row.
@@ -120,15 +120,15 @@ pub(crate) fn partners(
     dir: Dir,
     rows: &[Row],
 ) -> Result<Vec<Option<usize>>, NoMemory>
-    ensures { IfOk result (λ places. places.items
+    ensures { IfOk result (λ indices. indices.items
         ≡ partners copies.now (map (copy_of_passage which dir) rows.now)) }
 {
-    let kept = places_by_copy(alloc, copies)?;
+    let kept = indices_by_copy(alloc, copies)?;
     let mut counts = IndexMap::new(alloc);
-    let mut places = Vec::new(alloc);
+    let mut indices = Vec::new(alloc);
     for (j, row) in rows.iter().enumerate() {
-        let place = next_partner(&kept, &mut counts, copy_of_passage(which, dir, row))?;
-        places.push(place)?;
+        let index = next_partner(&kept, &mut counts, copy_of_passage(which, dir, row))?;
+        indices.push(index)?;
     }
-    Ok(places)
+    Ok(indices)
 }

@@ -25,8 +25,8 @@ use Rattle.hsr_run_index.proofs.Often.{carried_itself, carried_tells}
 use Rattle.hsr_timeline.specs.declared.origin.Spot.{Spot}
 use Rattle.hsr_timeline.specs.declared.hop.Hop.{Hop}
 use Rattle.hsr_timeline.specs.Hops.{came_at, hop_of, hops_below, hops_from, judged_place, spot_at}
-use Rattle.hsr_timeline.specs.Partners.{is_at, partner, partner_of, places}
-use Rattle.hsr_timeline_laws.proofs.Listed.{IsIn, holds_at, in_parts, one_place, range_rises, rises_kept}
+use Rattle.hsr_timeline.specs.Partners.{indices, is_at, partner, partner_of}
+use Rattle.hsr_timeline_laws.proofs.Listed.{IsIn, holds_at, in_parts, one_index, range_rises, rises_kept}
 
 -- ---- counts of fronts
 
@@ -49,19 +49,19 @@ count_rises p (y ∷ ys) (suc i) (suc j) x less is good =
 
 -- a place that is found is one of the copy's
 found : (xs ys : List (Option Carried)) (j place : ℕ) → partner xs ys j ≡ Some place →
-    (copy : Carried) × (get_or ys j None ≡ Some copy) × (slice_get (places copy xs) (count_by (is_at copy) (take j ys)) ≡ Some place)
+    (copy : Carried) × (get_or ys j None ≡ Some copy) × (slice_get (indices copy xs) (count_by (is_at copy) (take j ys)) ≡ Some place)
 found xs ys j place is = of (get_or ys j None) refl is
   where
     of : (o : Option Carried) → get_or ys j None ≡ o → partner_of xs ys j o ≡ Some place →
-        (copy : Carried) × (get_or ys j None ≡ Some copy) × (slice_get (places copy xs) (count_by (is_at copy) (take j ys)) ≡ Some place)
+        (copy : Carried) × (get_or ys j None ≡ Some copy) × (slice_get (indices copy xs) (count_by (is_at copy) (take j ys)) ≡ Some place)
     of None e f = absurd (cc)
     of (Some copy) e f = (copy, e, f)
 
 -- and the copy stands there
-stands : (xs : List (Option Carried)) (copy : Carried) (k place : ℕ) → slice_get (places copy xs) k ≡ Some place → get_or xs place None ≡ Some copy
+stands : (xs : List (Option Carried)) (copy : Carried) (k place : ℕ) → slice_get (indices copy xs) k ≡ Some place → get_or xs place None ≡ Some copy
 stands xs copy k place is =
     is_copy (get_or xs place None)
-    (holds_at (λ i. is_at copy (get_or xs i None) ≡ true) (places copy xs) k place (filter_holds (λ i. is_at copy (get_or xs i None)) (range_with_len 0 (length xs))) is)
+    (holds_at (λ i. is_at copy (get_or xs i None) ≡ true) (indices copy xs) k place (filter_holds (λ i. is_at copy (get_or xs i None)) (range_with_len 0 (length xs))) is)
   where
     is_copy : (o : Option Carried) → is_at copy o ≡ true → o ≡ Some copy
     is_copy None h = absurd (false≢true h)
@@ -83,10 +83,10 @@ one_partner xs ys i j place a b =
     let f = found xs ys i place a in
     let g = found xs ys j place b in
     let copies : f.0 ≡ g.0 = same_Some f.0 g.0 (sym (stands xs f.0 (count_by (is_at f.0) (take i ys)) place f.2) ∙ stands xs g.0 (count_by (is_at g.0) (take j ys)) place g.2) in
-    let P : Carried → Type 0 = λ c. slice_get (places c xs) (count_by (is_at c) (take j ys)) ≡ Some place in
-    let other : slice_get (places f.0 xs) (count_by (is_at f.0) (take j ys)) ≡ Some place = subst P (sym copies) g.2 in
+    let P : Carried → Type 0 = λ c. slice_get (indices c xs) (count_by (is_at c) (take j ys)) ≡ Some place in
+    let other : slice_get (indices f.0 xs) (count_by (is_at f.0) (take j ys)) ≡ Some place = subst P (sym copies) g.2 in
     let up = rises_kept (λ i. is_at f.0 (get_or xs i None)) (range_with_len 0 (length xs)) (range_rises 0 (length xs)) in
-    let counts : count_by (is_at f.0) (take i ys) ≡ count_by (is_at f.0) (take j ys) = one_place (places f.0 xs) (count_by (is_at f.0) (take i ys)) (count_by (is_at f.0) (take j ys)) place up f.2 other in
+    let counts : count_by (is_at f.0) (take i ys) ≡ count_by (is_at f.0) (take j ys) = one_index (indices f.0 xs) (count_by (is_at f.0) (take i ys)) (count_by (is_at f.0) (take j ys)) place up f.2 other in
     let later : get_or ys j None ≡ Some f.0 = g.1 ∙ ap (λ c. Some c) (sym copies) in
     ⊎_elim (λ same. same)
     (λ apart. absurd (⊎_elim (λ lt. not_later xs ys i j f.0 f.1 counts lt) (λ ge. not_later xs ys j i f.0 later (sym counts) (omega (arith, ge, apart))) (cases_lt i j)))

@@ -25,7 +25,7 @@ use Rattle.hsr_timeline.specs.declared.shown.Shown.{Shown}
 use Rattle.hsr_timeline_laws.specs.Keeps.{ChosenKeepOrder, HasEachOnce, KeepsOrder, StoryKeepsOrder, entry_of, is_row}
 use Rattle.hsr_timeline_laws.proofs.Following.{comes_after}
 use Rattle.hsr_timeline_laws.proofs.Judging.{hop_below}
-use Rattle.hsr_timeline_laws.proofs.Listed.{IsIn, contains_in, count_kept, in_contains, in_kept, kept_place, kept_places}
+use Rattle.hsr_timeline_laws.proofs.Listed.{IsIn, contains_in, count_kept, in_contains, in_kept, kept_index, kept_indices}
 use Rattle.hsr_timeline.proofs.Circles.{IsBefore, IsUpTo, earlier_told, order_cases}
 use Rattle.hsr_timeline_laws.proofs.Rising.{not_both, up_trans}
 
@@ -265,13 +265,13 @@ kept_order f w list order i j x y at also before = ⊎_elim (λ lt. lt) (λ ge. 
     same : j ≤ i → j ≡ i → ⊥
     same ge e =
         let one : x ≡ y = same_Some x y (sym at ∙ (ap (slice_get (filter w list)) (sym e) ∙ also)) in
-        let k = kept_place w list i x at in
+        let k = kept_index w list i x at in
         let less : k.0 < k.0 = order k.0 k.0 x y k.1 (k.1 ∙ ap (λ z. Some z) one) before in
         omega (arith, less)
 
     later : j < i → ⊥
     later lt =
-        let k = kept_places w list j i y x lt also at in
+        let k = kept_indices w list j i y x lt also at in
         let one = k.2 in
         let other = order k.1 k.0 x y k.4 k.3 before in
         omega (arith, one, other)

@@ -63,12 +63,12 @@ holds_at P (y ∷ ys) zero x all is = subst P (same_Some y x is) all.0
 holds_at P (y ∷ ys) (suc i) x all is = holds_at P ys i x all.1 is
 
 -- no number stands twice
-pub one_place : (xs : List ℕ) (i j x : ℕ) → Rises xs → slice_get xs i ≡ Some x → slice_get xs j ≡ Some x → i ≡ j
-one_place [] i j x up a b = absurd (cc)
-one_place (y ∷ ys) zero zero x up a b = refl
-one_place (y ∷ ys) zero (suc j) x up a b = absurd (let e : y ≡ x = same_Some y x a in let lt : y < x = holds_at (λ z. y < z) ys j x up.0 b in omega (arith, e, lt))
-one_place (y ∷ ys) (suc i) zero x up a b = absurd (let e : y ≡ x = same_Some y x b in let lt : y < x = holds_at (λ z. y < z) ys i x up.0 a in omega (arith, e, lt))
-one_place (y ∷ ys) (suc i) (suc j) x up a b = ap suc (one_place ys i j x up.1 a b)
+pub one_index : (xs : List ℕ) (i j x : ℕ) → Rises xs → slice_get xs i ≡ Some x → slice_get xs j ≡ Some x → i ≡ j
+one_index [] i j x up a b = absurd (cc)
+one_index (y ∷ ys) zero zero x up a b = refl
+one_index (y ∷ ys) zero (suc j) x up a b = absurd (let e : y ≡ x = same_Some y x a in let lt : y < x = holds_at (λ z. y < z) ys j x up.0 b in omega (arith, e, lt))
+one_index (y ∷ ys) (suc i) zero x up a b = absurd (let e : y ≡ x = same_Some y x b in let lt : y < x = holds_at (λ z. y < z) ys i x up.0 a in omega (arith, e, lt))
+one_index (y ∷ ys) (suc i) (suc j) x up a b = ap suc (one_index ys i j x up.1 a b)
 
 pub all_kept : {X : Type 0} (f : X → Bool) (P : X → Type 0) (xs : List X) → AllByRecursion P xs → AllByRecursion P (filter f xs)
 all_kept f P [] all = tt
@@ -121,9 +121,9 @@ in_kept w (y ∷ ys) x h = of (w y) refl (in_kept w ys x) h
     of false fails rest h = let k = rest h in (inr k.0, k.1)
 
 -- where it stood
-pub kept_place : {X : Type 0} (w : X → Bool) (xs : List X) (i : ℕ) (x : X) → slice_get (filter w xs) i ≡ Some x → (k : ℕ) × (slice_get xs k ≡ Some x)
-kept_place w [] i x is = absurd (cc)
-kept_place w (y ∷ ys) i x is = of (w y) i is (λ j at. let k = kept_place w ys j x at in (suc k.0, k.1))
+pub kept_index : {X : Type 0} (w : X → Bool) (xs : List X) (i : ℕ) (x : X) → slice_get (filter w xs) i ≡ Some x → (k : ℕ) × (slice_get xs k ≡ Some x)
+kept_index w [] i x is = absurd (cc)
+kept_index w (y ∷ ys) i x is = of (w y) i is (λ j at. let k = kept_index w ys j x at in (suc k.0, k.1))
   where
     of : (b : Bool) (i : ℕ) → slice_get (cond b (y ∷ filter w ys) (filter w ys)) i ≡ Some x → ((j : ℕ) → slice_get (filter w ys) j ≡ Some x → (k : ℕ) × (slice_get (y ∷ ys) k ≡ Some x)) → (k : ℕ) × (slice_get (y ∷ ys) k ≡ Some x)
     of true zero is rest = (0, is)
@@ -131,18 +131,18 @@ kept_place w (y ∷ ys) i x is = of (w y) i is (λ j at. let k = kept_place w ys
     of false i is rest = rest i is
 
 -- what is kept stays in its order
-pub kept_places : {X : Type 0} (w : X → Bool) (xs : List X) (i j : ℕ) (x z : X) → i < j → slice_get (filter w xs) i ≡ Some x → slice_get (filter w xs) j ≡ Some z →
+pub kept_indices : {X : Type 0} (w : X → Bool) (xs : List X) (i j : ℕ) (x z : X) → i < j → slice_get (filter w xs) i ≡ Some x → slice_get (filter w xs) j ≡ Some z →
     (k : ℕ) × (m : ℕ) × (k < m) × (slice_get xs k ≡ Some x) × (slice_get xs m ≡ Some z)
-kept_places w [] i j x z less is was = absurd (cc)
-kept_places w (y ∷ ys) i j x z less is was =
-    of (w y) i j less is was (λ i j less is was. let k = kept_places w ys i j x z less is was in let lt = k.2 in (suc k.0, suc k.1, omega (arith, lt), k.3, k.4))
+kept_indices w [] i j x z less is was = absurd (cc)
+kept_indices w (y ∷ ys) i j x z less is was =
+    of (w y) i j less is was (λ i j less is was. let k = kept_indices w ys i j x z less is was in let lt = k.2 in (suc k.0, suc k.1, omega (arith, lt), k.3, k.4))
   where
     of : (b : Bool) (i j : ℕ) → i < j → slice_get (cond b (y ∷ filter w ys) (filter w ys)) i ≡ Some x → slice_get (cond b (y ∷ filter w ys) (filter w ys)) j ≡ Some z →
         ((i j : ℕ) → i < j → slice_get (filter w ys) i ≡ Some x → slice_get (filter w ys) j ≡ Some z → (k : ℕ) × (m : ℕ) × (k < m) × (slice_get (y ∷ ys) k ≡ Some x) × (slice_get (y ∷ ys) m ≡ Some z)) →
         (k : ℕ) × (m : ℕ) × (k < m) × (slice_get (y ∷ ys) k ≡ Some x) × (slice_get (y ∷ ys) m ≡ Some z)
     of false i j less is was rest = rest i j less is was
     of true i zero less is was rest = absurd (omega (arith, less))
-    of true zero (suc j) less is was rest = let m = kept_place w ys j z was in (0, suc m.0, omega arith, is, m.1)
+    of true zero (suc j) less is was rest = let m = kept_index w ys j z was in (0, suc m.0, omega arith, is, m.1)
     of true (suc i) (suc j) less is was rest = rest i j (omega (arith, less)) is was
 
 -- as many pass a test, where each that does is kept

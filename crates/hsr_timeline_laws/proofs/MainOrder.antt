@@ -16,7 +16,7 @@ use Rattle.hsr_timeline.specs.Hops.{spot_at}
 use Rattle.hsr_timeline.specs.Causes.{cause_if, cause_in, is_for, is_spot, main_at, main_before, main_next, main_pair, main_pairs, pair_of}
 use Rattle.hsr_timeline.proofs.Pairing.{before_more}
 use Rattle.hsr_timeline_laws.proofs.Judging.{count_rises, spot_told}
-use Rattle.hsr_timeline_laws.proofs.Listed.{IsIn, Rises, all_weaker, from_mapped, in_mapped, in_range, one_place, take_all}
+use Rattle.hsr_timeline_laws.proofs.Listed.{IsIn, Rises, all_weaker, from_mapped, in_mapped, in_range, one_index, take_all}
 
 -- ---- the places of a worker's entries rise
 
@@ -60,7 +60,7 @@ one_number : (run : Run) (plan : List Planned) (i j : ℕ) (p : Spot) → main_a
 one_number run plan i j p here also =
     let a = main_told run plan i p here in
     let b = main_told run plan j p also in
-    let counts = one_place (holds_from 0 (record_of run p.node) 0) (count_by (is_for p.node) (take i plan)) (count_by (is_for p.node) (take j plan)) p.place (holds_rise 0 0 (record_of run p.node)) a.3 b.3 in
+    let counts = one_index (holds_from 0 (record_of run p.node) 0) (count_by (is_for p.node) (take i plan)) (count_by (is_for p.node) (take j plan)) p.place (holds_rise 0 0 (record_of run p.node)) a.3 b.3 in
     ⊎_elim (λ same. same)
     (λ apart. absurd (⊎_elim (λ lt. not_later run plan i j p a counts lt) (λ ge. not_later run plan j i p b (sym counts) (omega (arith, ge, apart))) (cases_lt i j)))
     (cases_eq i j)

@@ -31,9 +31,9 @@ use Rattle.hsr_timeline.specs.declared.origin.Spot.{Spot}
 use Rattle.hsr_timeline.specs.declared.stamp.Stamp.{Stamp}
 use Rattle.hsr_timeline.specs.declared.hop.Hop.{Hop}
 use Rattle.hsr_timeline.specs.Hops.{came_at, hop_of, hops, hops_below, hops_from, judged_place, passed_at, passed_from, spot_at}
-use Rattle.hsr_timeline.specs.Partners.{is_at, partner, partner_of, places, places_below}
+use Rattle.hsr_timeline.specs.Partners.{indices, indices_below, is_at, partner, partner_of}
 use Rattle.hsr_frame.proofs.OneMore.{counted_more}
-use Rattle.hsr_timeline.proofs.Placing.{places_more}
+use Rattle.hsr_timeline.proofs.Placing.{indices_more}
 use Rattle.hsr_timeline.specs.Causes.{cause_in, hop_pairs, main_pairs, origins, origins_below, origins_from}
 use Rattle.hsr_timeline.specs.Story.{AreShown, HasNoStory, shown_at, shown_by, shown_then, shown_where}
 use Rattle.hsr_timeline.specs.declared.shown.Shown.{Shown}
@@ -64,18 +64,18 @@ count_turned copy xs = each_often (reverse xs) xs (as_often (reverse xs) xs (IsP
 
 -- ---- partners
 
-places_counted : (copy : Carried) (xs : List (Option Carried)) (n : ℕ) → n ≤ length xs → length (places_below copy xs n) ≡ count_by (is_at copy) (take n xs)
-places_counted copy xs zero le = refl
-places_counted copy xs (suc n) le =
+indices_counted : (copy : Carried) (xs : List (Option Carried)) (n : ℕ) → n ≤ length xs → length (indices_below copy xs n) ≡ count_by (is_at copy) (take n xs)
+indices_counted copy xs zero le = refl
+indices_counted copy xs (suc n) le =
     let more : suc n ≡ n + 1 = omega arith in
-    let so_far = places_counted copy xs n (omega arith) in
-    ap (λ k. length (places_below copy xs k)) more
-    ∙ (ap length (places_more copy xs n)
-    ∙ (length-append (places_below copy xs n) (cond (is_at copy (get_or xs n None)) (n ∷ []) [])
+    let so_far = indices_counted copy xs n (omega arith) in
+    ap (λ k. length (indices_below copy xs k)) more
+    ∙ (ap length (indices_more copy xs n)
+    ∙ (length-append (indices_below copy xs n) (cond (is_at copy (get_or xs n None)) (n ∷ []) [])
     ∙ (by (is_at copy (get_or xs n None)) ∙ (ap (λ k. k + cond {A = ℕ} (is_at copy (get_or xs n None)) 1 0) so_far
     ∙ (sym (counted_more (is_at copy) xs n None (omega arith)) ∙ ap (λ k. count_by (is_at copy) (take k xs)) (sym more))))))
   where
-    by : (b : Bool) → length (places_below copy xs n) + length (cond b (n ∷ []) []) ≡ length (places_below copy xs n) + cond {A = ℕ} b 1 0
+    by : (b : Bool) → length (indices_below copy xs n) + length (cond b (n ∷ []) []) ≡ length (indices_below copy xs n) + cond {A = ℕ} b 1 0
     by true = refl
     by false = refl
 
@@ -90,7 +90,7 @@ partner_within xs ys j place is = of (get_or ys j None) is
     of : (o : Option Carried) → partner_of xs ys j o ≡ Some place → place < length xs
     of None is = absurd (cc)
     of (Some copy) is =
-        holds_at (λ i. i < length xs) (places copy xs) (count_by (is_at copy) (take j ys)) place
+        holds_at (λ i. i < length xs) (indices copy xs) (count_by (is_at copy) (take j ys)) place
         (all_kept (λ i. is_at copy (get_or xs i None)) (λ i. i < length xs) (range_with_len 0 (length xs)) (all_below 0 (length xs) (length xs) (omega arith))) is
 
 count_front : (copy : Carried) (ys : List (Option Carried)) (n : ℕ) → count_by (is_at copy) (take n ys) ≤ count_by (is_at copy) ys
@@ -107,9 +107,9 @@ partner_there xs ys j copy below is same =
     let here : is_at copy (get_or ys j None) ≡ true = ap (is_at copy) is ∙ carried_itself copy in
     let more : count_by (is_at copy) (take (j + 1) ys) ≡ count_by (is_at copy) (take j ys) + 1 = counted_more (is_at copy) ys j None below ∙ ap (λ b. count_by (is_at copy) (take j ys) + cond {A = ℕ} b 1 0) here in
     let front = count_front copy ys (j + 1) in
-    let long : length (places copy xs) ≡ count_by (is_at copy) xs = places_counted copy xs (length xs) (omega arith) ∙ ap (count_by (is_at copy)) (take_all xs) in
-    let within : k < length (places copy xs) = omega (arith, more, front, long, same) in
-    (get_or (places copy xs) k 0, ap (partner_of xs ys j) is ∙ slice_get-get_or (places copy xs) k 0 within)
+    let long : length (indices copy xs) ≡ count_by (is_at copy) xs = indices_counted copy xs (length xs) (omega arith) ∙ ap (count_by (is_at copy)) (take_all xs) in
+    let within : k < length (indices copy xs) = omega (arith, more, front, long, same) in
+    (get_or (indices copy xs) k 0, ap (partner_of xs ys j) is ∙ slice_get-get_or (indices copy xs) k 0 within)
 
 -- ---- the entry of a row
 

@@ -4,9 +4,10 @@ use crate::views::What;
 use clap::error::ErrorKind;
 use clap::{Arg, ArgAction, ArgMatches, Command, Error};
 use hsr_diagram::Span;
+use hsr_frame::NoMemory;
 use hsr_text::decimal;
 use hsr_version::VERSION;
-use std::alloc::{AllocError, Global};
+use std::alloc::Global;
 
 const CAPTURE_ENDS: &str = "\
 The transcript is one that `hsr_bench run --transcript` or `threads --transcript` wrote, with either size of
@@ -87,8 +88,8 @@ pub enum WordFault {
     Memory,
 }
 
-impl From<AllocError> for WordFault {
-    fn from(_refused: AllocError) -> WordFault {
+impl From<NoMemory> for WordFault {
+    fn from(_refused: NoMemory) -> WordFault {
         WordFault::Memory
     }
 }
@@ -158,23 +159,24 @@ fn names_arg<'a>(alloc: Global) -> Arg<'a> {
     value_arg(alloc, "names", "FILE", help)
 }
 
-fn capture_command<'a>(alloc: Global) -> Result<Command<'a>, AllocError> {
-    Command::new(alloc, "capture")
+fn capture_command<'a>(alloc: Global) -> Result<Command<'a>, NoMemory> {
+    let command = Command::new(alloc, "capture")
         .about("Writes the transcript on standard input as a capture in the format pcapng")
         .after_help(CAPTURE_ENDS)
         .arg(names_arg(alloc))?
         .arg(value_arg(alloc, "link", "N", "Only the packets of this link"))?
-        .arg(value_arg(alloc, "send", "NODE:PLACE", "Only the copies of this send"))
+        .arg(value_arg(alloc, "send", "NODE:PLACE", "Only the copies of this send"))?;
+    Ok(command)
 }
 
-fn picture_command<'a>(alloc: Global) -> Result<Command<'a>, AllocError> {
+fn picture_command<'a>(alloc: Global) -> Result<Command<'a>, NoMemory> {
     let send = value_arg(
         alloc,
         "send",
         "NODE:PLACE",
         "Only the copies of this send, or of these",
     );
-    Command::new(alloc, "picture")
+    let command = Command::new(alloc, "picture")
         .about("Draws the transcript on standard input as SVG")
         .after_help(PICTURE_ENDS)
         .arg(names_arg(alloc))?
@@ -190,25 +192,28 @@ fn picture_command<'a>(alloc: Global) -> Result<Command<'a>, AllocError> {
             "until",
             "MOMENT",
             "Only the copies until this moment",
-        ))
+        ))?;
+    Ok(command)
 }
 
-fn devices_command<'a>(alloc: Global) -> Result<Command<'a>, AllocError> {
-    Command::new(alloc, "devices")
+fn devices_command<'a>(alloc: Global) -> Result<Command<'a>, NoMemory> {
+    let command = Command::new(alloc, "devices")
         .about("Lists the devices of the transcript on standard input, with their counters")
         .after_help(DEVICES_ENDS)
-        .arg(names_arg(alloc))
+        .arg(names_arg(alloc))?;
+    Ok(command)
 }
 
-fn view_command<'a>(alloc: Global) -> Result<Command<'a>, AllocError> {
-    Command::new(alloc, "hsr_view")
+fn view_command<'a>(alloc: Global) -> Result<Command<'a>, NoMemory> {
+    let command = Command::new(alloc, "hsr_view")
         .about("Shows finished runs of hsr_bench")
         .version(VERSION)
         .no_binary_name(true)
         .subcommand_required(true)
         .subcommand(capture_command(alloc)?)?
         .subcommand(picture_command(alloc)?)?
-        .subcommand(devices_command(alloc)?)
+        .subcommand(devices_command(alloc)?)?;
+    Ok(command)
 }
 
 /// The link of `--link`, if it is there.

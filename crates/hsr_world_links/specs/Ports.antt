@@ -41,8 +41,8 @@ spot_code spot = record { link = spot.link; dir = spot.dir }
 abbrev pub end_at : ℕ → End
 end_at k = record { node = k / 8; port = k % 8 }
 
-abbrev pub number_of : End → ℕ
-number_of end = 8 * end.node + end.port
+abbrev pub port_number : End → ℕ
+port_number end = 8 * end.node + end.port
 
 abbrev pub no_port : Port
 no_port = record { into = None; out = None }
@@ -64,7 +64,7 @@ abbrev pub port_in : List Port → ℕ → Port
 port_in ports k = slice_index_or ports k no_port
 
 abbrev pub port_of : List Port → End → Port
-port_of ports end = if nat_lt end.node 64 && nat_lt end.port 8 then port_in ports (number_of end) else no_port
+port_of ports end = if nat_lt end.node 64 && nat_lt end.port 8 then port_in ports (port_number end) else no_port
 
 -- whether a copy is in the hand of a direction
 abbrev pub held_at : List Span → Option Spot → Bool

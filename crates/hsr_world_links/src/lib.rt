@@ -26,7 +26,7 @@ pub use giving::{commit, prepare};
 pub use hand::{change_hand, clear};
 pub use lane::Lane;
 pub use parting::{Bare, Parted, join, part};
-pub use port::{Port, new_ports, number_of, port_fault, port_in, port_of};
+pub use port::{Port, new_ports, port_fault, port_in, port_number, port_of};
 pub use span::{Span, cut_at, inject_at, mend_at, take_at};
 pub use spot::{Spot, put_at_spot};
 pub use starting::new_spans;

@@ -1,6 +1,6 @@
 //! The ports of a world, each with the directions of a link in which it receives and sends.
 ghost use Rattle.std.specs.Prelude.{◌≡◌, ◌≤◌, ◌<◌, ◌/◌, ◌%◌, IfOk, Option, Result, length, map, option_map};
-ghost use Rattle.hsr_world_links.specs.Ports.{no_port, number_of, places_of, port_at, port_fault, port_if, port_in, port_of, ports_in, spot_to};
+ghost use Rattle.hsr_world_links.specs.Ports.{no_port, places_of, port_at, port_fault, port_if, port_in, port_number, port_of, ports_in, spot_to};
 ghost use Rattle.hsr_world_links.specs.Views.{span_view, spot_view};
 
 use crate::span::Span;
@@ -116,9 +116,9 @@ pub fn port_in(ports: &[Port], number: usize) -> Port
 }
 
 /// The number of the port at an end, of a node below 64.
-pub fn number_of(end: End) -> usize
+pub fn port_number(end: End) -> usize
     requires { end.node < 64 }
-    ensures { result ≡ number_of end }
+    ensures { result ≡ port_number end }
 {
     8 * end.node + usize::from(end.port)
 }
@@ -129,7 +129,7 @@ pub fn port_of(ports: &[Port], end: End) -> Port
 {
     // Past these the number would be another port's, or overflow.
     if end.node < 64 && end.port < 8 {
-        port_in(ports, number_of(end))
+        port_in(ports, port_number(end))
     } else {
         Port {
             into: None,

@@ -32,18 +32,18 @@ loop-j-preserved c =
     let here : get_or ys j None ≡ copy_of_passage c.args.which c.args.dir c.index-rows-j.result =
     get_or-map (copy_of_passage c.args.which c.args.dir) rows j c.index-rows-j.result None below ∙ ap (copy_of_passage c.args.which c.args.dir) (sym c.index-rows-j.is) in
     let it = c.copy_of_passage.ensures ∙ sym here in
-    let placed : c.in_ok-place.place ≡ partner c.args.copies.now ys j =
-    c.in_ok-place.ensures.place
+    let placed : c.in_ok-index.index ≡ partner c.args.copies.now ys j =
+    c.in_ok-index.ensures.index
     ∙ (ap (λ (o : Option Carried). found_at c.in_ok-kept.kept c.loop-j.counts o) it
     ∙ found_partner c.in_ok-kept.kept c.loop-j.counts c.args.copies.now ys j c.in_ok-kept.ensures c.loop-j.invariant.counts (get_or ys j None)) in
     record {
       counts = λ copy.
-          c.in_ok-place.ensures.counts copy
+          c.in_ok-index.ensures.counts copy
           ∙ (ap (λ (n : ℕ). n + cond (is_at copy (option_map (λ r. r.now) c.copy_of_passage.result)) 1 0) (c.loop-j.invariant.counts copy)
           ∙ (ap (λ (o : Option Carried). count_by (is_at copy) (take j ys) + cond (is_at copy o) 1 0) it ∙ sym (counted_more (is_at copy) ys j None below_ys)));
-      places =
+      indices =
           c.in_ok-push.ensures.items
-          ∙ (ap (λ (ps : List (Option ℕ)). ps ++ c.in_ok-place.place ∷ []) c.loop-j.invariant.places
+          ∙ (ap (λ (ps : List (Option ℕ)). ps ++ c.in_ok-index.index ∷ []) c.loop-j.invariant.indices
           ∙ (ap (λ (p : Option ℕ). map (partner c.args.copies.now ys) (range_with_len 0 j) ++ p ∷ []) placed
           ∙ sym (ap (map (partner c.args.copies.now ys)) (numbers_more j) ∙ map-append (partner c.args.copies.now ys) (range_with_len 0 j) (j ∷ []))));
     }

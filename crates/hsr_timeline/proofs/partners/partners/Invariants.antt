@@ -9,5 +9,5 @@ use Rattle.hsr_timeline.proofs.partners.partners.Given as goal
 abbrev pub invariant-loop-j : goal.invariant-loop-j
 invariant-loop-j l = record {
   counts : (copy : Carried) → count_of l.counts copy ≡ count_by (is_at copy) (take l.j (map (copy_of_passage l.fn.which l.fn.dir) l.rows));
-  places : l.places.items ≡ map (partner l.copies (map (copy_of_passage l.fn.which l.fn.dir) l.rows)) (range_with_len 0 l.j);
+  indices : l.indices.items ≡ map (partner l.copies (map (copy_of_passage l.fn.which l.fn.dir) l.rows)) (range_with_len 0 l.j);
 }
