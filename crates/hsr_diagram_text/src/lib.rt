@@ -20,7 +20,8 @@ mod told;
 mod wrapping;
 
 pub use labels::{
-    change_word, done_words, kind_word, letter_at, link_words, moment_words, name_words, switch_word,
+    change_word, done_words, kind_word, letter_at, link_words, moment_words, name_words,
+    switch_word,
 };
 pub use sends::send_words;
 pub use sent::sent_words;
