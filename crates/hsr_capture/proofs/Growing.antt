@@ -6,9 +6,9 @@ use Rattle.hsr_link.specs.declared.row.Dir.TheVariants.{Forth, Back}
 use Rattle.hsr_run_laws.specs.Run.{Run}
 use Rattle.hsr_capture.specs.Capture.{interface_of, interfaces_below}
 
-pub told : {X : Type 0} (text : X → List ℕ) (xs : List X) (i : ℕ) (d : X) (start old new : List ℕ) → i < length xs →
+pub text_grown : {X : Type 0} (text : X → List ℕ) (xs : List X) (i : ℕ) (d : X) (start old new : List ℕ) → i < length xs →
     old ≡ start ++ flat_map text (take i xs) → new ≡ old ++ text (slice_index_or xs i d) → new ≡ start ++ flat_map text (take (i + 1) xs)
-told text xs i d start old new below so_far more = more ∙ ap (λ t. t ++ text (slice_index_or xs i d)) so_far ∙ grown text xs i d start below
+text_grown text xs i d start old new below so_far more = more ∙ ap (λ t. t ++ text (slice_index_or xs i d)) so_far ∙ grown text xs i d start below
 
 -- the interfaces of one more link
 pub links_grown : (names : List (List ℕ)) (run : Run) (l : ℕ) (start old new : List ℕ) → old ≡ start ++ interfaces_below names run l →

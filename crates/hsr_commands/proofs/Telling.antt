@@ -24,22 +24,22 @@ use Rattle.hsr_report.specs.declared.finding.Finding.{Finding}
 use Rattle.hsr_commands.proofs.Said.{as_read}
 
 -- what was delivered ends a run of which it is shown
-told : (IsShown : Finding → List ℕ → Type 0) (IsStopped : Fault → Type 0) (held holds : Option (List ℕ)) (found : Finding) (text : List ℕ) (status : Status)
+delivered_ends : (IsShown : Finding → List ℕ → Type 0) (IsStopped : Fault → Type 0) (held holds : Option (List ℕ)) (found : Finding) (text : List ℕ) (status : Status)
     → IsShown found text → IsDelivered held holds found text status → Ends IsShown IsStopped held holds status
-told IsShown IsStopped held holds found text Certified r d = (found, text, r, d.0, d.1)
-told IsShown IsStopped held holds found text Doubt r d = (found, text, r, d.0, d.1)
-told IsShown IsStopped held holds found text Open r d = absurd d
-told IsShown IsStopped held holds found text (Stopped Write) r d = (found, text, r)
-told IsShown IsStopped held holds found text (Stopped Read) r d = absurd d
-told IsShown IsStopped held holds found text (Stopped Memory) r d = absurd d
-told IsShown IsStopped held holds found text (Stopped (Line n)) r d = absurd d
-told IsShown IsStopped held holds found text (Stopped (Scenario f)) r d = absurd d
-told IsShown IsStopped held holds found text (Stopped (Step n f)) r d = absurd d
-told IsShown IsStopped held holds found text (Stopped (Fine n)) r d = absurd d
-told IsShown IsStopped held holds found text (Stopped (Transcript f)) r d = absurd d
-told IsShown IsStopped held holds found text (Stopped (Check f)) r d = absurd d
-told IsShown IsStopped held holds found text (Stopped Thread) r d = absurd d
-told IsShown IsStopped held holds found text (Stopped Gate) r d = absurd d
+delivered_ends IsShown IsStopped held holds found text Certified r d = (found, text, r, d.0, d.1)
+delivered_ends IsShown IsStopped held holds found text Doubt r d = (found, text, r, d.0, d.1)
+delivered_ends IsShown IsStopped held holds found text Open r d = absurd d
+delivered_ends IsShown IsStopped held holds found text (Stopped Write) r d = (found, text, r)
+delivered_ends IsShown IsStopped held holds found text (Stopped Read) r d = absurd d
+delivered_ends IsShown IsStopped held holds found text (Stopped Memory) r d = absurd d
+delivered_ends IsShown IsStopped held holds found text (Stopped (Line n)) r d = absurd d
+delivered_ends IsShown IsStopped held holds found text (Stopped (Scenario f)) r d = absurd d
+delivered_ends IsShown IsStopped held holds found text (Stopped (Step n f)) r d = absurd d
+delivered_ends IsShown IsStopped held holds found text (Stopped (Fine n)) r d = absurd d
+delivered_ends IsShown IsStopped held holds found text (Stopped (Transcript f)) r d = absurd d
+delivered_ends IsShown IsStopped held holds found text (Stopped (Check f)) r d = absurd d
+delivered_ends IsShown IsStopped held holds found text (Stopped Thread) r d = absurd d
+delivered_ends IsShown IsStopped held holds found text (Stopped Gate) r d = absurd d
 
 -- a reason that is there, but no writer's, ends a run
 stopped : (IsShown : Finding → List ℕ → Type 0) (IsStopped : Fault → Type 0) (held holds : Option (List ℕ)) (fault : Fault) → ¬ IsStopped Write → IsStopped fault → Keeps held holds
@@ -58,7 +58,7 @@ stopped IsShown IsStopped held holds Gate never u k = (u, k)
 
 pub told_report : (capacity : ℕ) (showing : Showing) (said : Said) (held holds : Option (List ℕ)) (found : Finding) (text : List ℕ) (status : Status)
     → IsReported capacity showing said found text → IsDelivered held holds found text status → ScenarioEnds capacity showing said held holds status
-told_report capacity showing said held holds found text status r d = told (IsReported capacity showing said) (IsUnreported capacity said) held holds found text status r d
+told_report capacity showing said held holds found text status r d = delivered_ends (IsReported capacity showing said) (IsUnreported capacity said) held holds found text status r d
 
 pub told_fault : (capacity : ℕ) (showing : Showing) (said : Said) (held holds : Option (List ℕ)) (fault : Fault) → IsUnreported capacity said fault → Keeps held holds
     → ScenarioEnds capacity showing said held holds (Stopped fault)
@@ -71,7 +71,7 @@ delivered_told held holds found text status d is = subst (λ s. IsDelivered held
 
 pub told_run : (capacity : ℕ) (showing : Showing) (said : Said) (held holds : Option (List ℕ)) (found : Finding) (text : List ℕ) (status : Status)
     → IsRunShown capacity showing said found text → IsDelivered held holds found text status → ThreadsEnds capacity showing said held holds status
-told_run capacity showing said held holds found text status r d = told (IsRunShown capacity showing said) (IsUnrun capacity said) held holds found text status r d
+told_run capacity showing said held holds found text status r d = delivered_ends (IsRunShown capacity showing said) (IsUnrun capacity said) held holds found text status r d
 
 pub told_unrun : (capacity : ℕ) (showing : Showing) (said : Said) (held holds : Option (List ℕ)) (fault : Fault) → IsUnrun capacity said fault → Keeps held holds
     → ThreadsEnds capacity showing said held holds (Stopped fault)
@@ -80,8 +80,8 @@ told_unrun capacity showing said held holds fault u k = stopped (IsRunShown capa
 -- what is told of what was read is told of the text
 pub run_text_told : (capacity : ℕ) (showing : Showing) (all : Option (List ℕ)) (read : List ℕ) (held holds : Option (List ℕ)) (status : Status) → IfSome all (λ text. IsWhole (2 ^ 24) text read)
     → ThreadsEnds capacity showing (scenario_of read) held holds status → IfSome all (λ text. ThreadsEnds capacity showing (scenario_of text) held holds status)
-run_text_told capacity showing None read held holds status whole told = tt
-run_text_told capacity showing (Some text) read held holds status whole told = subst (λ (said : Said). ThreadsEnds capacity showing said held holds status) (as_read text read whole) told
+run_text_told capacity showing None read held holds status whole delivered_ends = tt
+run_text_told capacity showing (Some text) read held holds status whole delivered_ends = subst (λ (said : Said). ThreadsEnds capacity showing said held holds status) (as_read text read whole) delivered_ends
 
 -- what is told of octets is no fault of a reader
 pub unrun_told : (capacity : ℕ) (said : Said) (fault : Fault) → IsUnrun capacity said fault → Stopped fault ≢ Stopped Read
@@ -91,7 +91,7 @@ unrun_told capacity said fault u is = let same : fault ≡ Read = cc in subst (�
 
 audited_report : (capacity : ℕ) (scope : Scope) (asked : Asked) (text : List ℕ) (held holds : Option (List ℕ)) (found : Finding) (written : List ℕ) (status : Status) → IsAudited capacity scope asked text found written
     → IsDelivered held holds found written status → AuditEnds capacity scope asked text held holds status
-audited_report capacity scope asked text held holds found written status r d = told (IsAudited capacity scope asked text) (IsUnread capacity text) held holds found written status r d
+audited_report capacity scope asked text held holds found written status r d = delivered_ends (IsAudited capacity scope asked text) (IsUnread capacity text) held holds found written status r d
 
 audited_fault : (capacity : ℕ) (scope : Scope) (asked : Asked) (text : List ℕ) (held holds : Option (List ℕ)) (fault : Fault) → IsUnread capacity text fault → Keeps held holds
     → AuditEnds capacity scope asked text held holds (Stopped fault)

@@ -5,7 +5,7 @@ use Rattle.std.specs.Prelude.{ℕ, ◌-◌, nat_lt, not, Bool, false, if◌then�
 use Rattle.std.specs.List.{flat_map}
 use Rattle.hsr_deliveries.specs.Delivered.{Delivery, is_complete}
 use Rattle.hsr_diagram.specs.declared.sending.Sent.{Sent}
-use Rattle.hsr_diagram_text.specs.Told.{more_words, told_words}
+use Rattle.hsr_diagram_text.specs.Told.{more_words, incomplete_words}
 use Rattle.hsr_diagram_text.specs.Wrapped.{wrapped}
 use Rattle.hsr_svg.specs.Elements.{Shape, text}
 use Rattle.hsr_svg.specs.declared.elements.Label.TheVariants as label
@@ -39,7 +39,7 @@ lines_of words = map line_shape (wrapped words)
 
 abbrev pub told_if : List (List ℕ) → Option Delivery → List Shape
 told_if names None = []
-told_if names (Some d) = lines_of (told_words names d)
+told_if names (Some d) = lines_of (incomplete_words names d)
 
 abbrev pub told_at : List (List ℕ) → List Delivery → ℕ → List Shape
 told_at names deliveries n = told_if names (slice_get deliveries n)

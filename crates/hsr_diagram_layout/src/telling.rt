@@ -11,7 +11,7 @@ use crate::listing::{Ends, LETTER};
 use crate::widths::width_of;
 use hsr_deliveries::Delivery;
 use hsr_diagram::Sent;
-use hsr_diagram_text::{more_words, told_words, wrapped};
+use hsr_diagram_text::{incomplete_words, more_words, wrapped};
 use hsr_finished_run::push_if;
 use hsr_frame::NoMemory;
 use hsr_svg::{Anchor, Element, Label, Reading, Spot, add_words};
@@ -128,7 +128,7 @@ fn add_told_at(
 {
     match deliveries.get(number) {
         Some(delivery) => {
-            let words = told_words(alloc, names, delivery)?;
+            let words = incomplete_words(alloc, names, delivery)?;
             add_told(alloc, elements, words.as_slice(), ends)
         }
         None => Ok(ends),

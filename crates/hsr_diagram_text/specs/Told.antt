@@ -1,6 +1,6 @@
 -- Sends that aren't complete.
---     told_words   one of them
---     more_words   how many more there are
+--     incomplete_words   one of them
+--     more_words         how many more there are
 use Rattle.std.specs.Prelude.{ℕ, List, [], ◌∷◌, ◌++◌, codes}
 use Rattle.std.specs.Fmt.{decimal}
 use Rattle.std.specs.List.{flat_map}
@@ -27,8 +27,8 @@ unfoldable pub at_text : List (List ℕ) → Delivery → List ℕ
 at_text names d = send_text names d.send ++ codes " at " ++ moment_text d.at
 
 -- the send, which nodes missed it, took it up twice, or took it up though it wasn't due there, and where copies of it were lost
-unfoldable pub told_words : List (List ℕ) → Delivery → List ℕ
-told_words names d =
+unfoldable pub incomplete_words : List (List ℕ) → Delivery → List ℕ
+incomplete_words names d =
     at_text names d ++ nodes_text names (codes "; missed by ") d.missed ++ nodes_text names (codes "; twice at ") d.twice
     ++ nodes_text names (codes "; strayed to ") d.strayed ++ losses_text d.lost
 

@@ -26,5 +26,5 @@ pub use labels::{
 pub use sends::send_words;
 pub use sent::sent_words;
 pub use title::title_words;
-pub use told::{more_words, told_words};
+pub use told::{incomplete_words, more_words};
 pub use wrapping::wrapped;

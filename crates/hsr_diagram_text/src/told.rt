@@ -2,7 +2,7 @@
 ghost use Rattle.std.specs.Prelude.{◌≡◌, ◌++◌, IfOk, OnOk};
 ghost use Rattle.std.specs.List.{flat_map};
 ghost use Rattle.hsr_timeline.specs.Fronts.{lists_of};
-ghost use Rattle.hsr_diagram_text.specs.Told.{at_text, loss_text, losses_text, more_words, next_loss, told_words};
+ghost use Rattle.hsr_diagram_text.specs.Told.{at_text, incomplete_words, loss_text, losses_text, more_words, next_loss};
 
 use crate::moments::put_moment;
 use crate::sends::{put_nodes, put_send};
@@ -70,13 +70,14 @@ fn put_at(text: &mut Vec<u8>, names: &[Vec<u8>], delivery: &Delivery) -> Result<
 
 /// A send that isn't complete: its moment, which nodes missed it, took it up twice, or took it up though it wasn't due
 /// there, and where copies of it were lost. `NoMemory` if allocation fails.
-#[tactic(auto, unfolding(crate::specs::Told::told_words))]
-pub fn told_words(
+#[tactic(auto, unfolding(crate::specs::Told::incomplete_words))]
+pub fn incomplete_words(
     alloc: Global,
     names: &[Vec<u8>],
     delivery: &Delivery,
 ) -> Result<Vec<u8>, NoMemory>
-    ensures { IfOk result (λ words. words.items ≡ told_words (lists_of names.now) delivery.now) }
+    ensures { IfOk result (λ words. words.items
+        ≡ incomplete_words (lists_of names.now) delivery.now) }
 {
     let mut words = Vec::new(alloc);
     put_at(&mut words, names, delivery)?;

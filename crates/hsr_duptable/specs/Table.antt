@@ -53,7 +53,7 @@ pub record IsSound (capacity room : ℕ) (notes : List Note) (last : ℕ) : Type
   pub exact : room ≡ capacity
   pub rising : IsRising 0 notes last
 
--- A node's table: it forgets after `entry_forget` microseconds, its time isn't ahead of the node's moment, and no more was
+-- A node's table: it forgets after `entry_forget` microseconds, its last moment isn't ahead of the node's, and no more was
 -- noted than the node accepted.
 pub record IsWithin (table : Table) (moment accepted : ℕ) : Type 0 where
   pub forget : table.forget ≡ entry_forget

@@ -6,7 +6,7 @@ use hsr_finished_run::Disagree;
 use hsr_frame::NoMemory;
 use hsr_ring::World;
 use hsr_scenario::{ScenarioFault, read_names};
-use hsr_scenario_fault::{scenario_fault_line, told_step, words_of_check, words_of_step};
+use hsr_scenario_fault::{refused_step_line, scenario_fault_line, words_of_check, words_of_step};
 use hsr_toml::put;
 use hsr_world_steps::DrainFault;
 use std::alloc::Global;
@@ -64,7 +64,7 @@ fn of_step(
     let mut explanation = Explanation::new(alloc);
     // It was read before, so it is UTF-8.
     let text = str::from_utf8(octets).unwrap_or("");
-    let line = told_step(alloc, text, number, why)?;
+    let line = refused_step_line(alloc, text, number, why)?;
     explanation.add(behind_fault(alloc, line.as_slice())?)?;
     Ok(explanation)
 }

@@ -37,14 +37,14 @@ module _ (kept : List Record) (next : List ℕ) (planned : Planned) (e : Record)
   abbrev k : ℕ
   k = planned.node
 
-  abbrev told : Planned
-  told = record { node = k; at = x.at; event = x.event }
+  abbrev as_planned : Planned
+  as_planned = record { node = k; at = x.at; event = x.event }
 
   abbrev later : List ℕ
   later = set next k (place + 1)
 
   -- what the node's record tells from its next place on
-  here : (d : Record) → filter_map (planned_by k) (left_at kept next k d) ≡ told ∷ filter_map (planned_by k) (left_at kept later k d)
+  here : (d : Record) → filter_map (planned_by k) (left_at kept next k d) ≡ as_planned ∷ filter_map (planned_by k) (left_at kept later k d)
   here d =
       let number : get_or later k 0 ≡ place + 1 = get_or-set_same next k (place + 1) 0 (omega (arith, inside, long)) in
       let kept_is : get_or kept k d ≡ e = get_or_default kept k d e inside ∙ sym at in
@@ -73,8 +73,8 @@ module _ (kept : List Record) (next : List ℕ) (planned : Planned) (e : Record)
     λ h. record { nodes = nodes h; left = record { each = back h } },
   )
     where
-      is_told : told ≡ planned
-      is_told = λ i. record { node = k; at = one.0 i; event = one.1 i }
+      is_planned : as_planned ≡ planned
+      is_planned = λ i. record { node = k; at = one.0 i; event = one.1 i }
 
       on : IsRest kept next (planned ∷ rest) → (j : ℕ) (d : Record) → j < length kept → filter_map (planned_for j) rest ≡ filter_map (planned_by j) (left_at kept later j d)
       on h j d below = ⊎_elim
@@ -84,7 +84,7 @@ module _ (kept : List Record) (next : List ℕ) (planned : Planned) (e : Record)
 
       back : IsRest kept later rest → (j : ℕ) (d : Record) → j < length kept → filter_map (planned_for j) (planned ∷ rest) ≡ filter_map (planned_by j) (left_at kept next j d)
       back h j d below = ⊎_elim
-          (λ same_node. subst (Left next (planned ∷ rest)) same_node (λ d2. for_node rest ∙ ((λ i. sym is_told i ∷ h.left.each k d2 inside i) ∙ sym (here d2))) d)
+          (λ same_node. subst (Left next (planned ∷ rest)) same_node (λ d2. for_node rest ∙ ((λ i. sym is_planned i ∷ h.left.each k d2 inside i) ∙ sym (here d2))) d)
           (λ other. for_other j rest other ∙ (h.left.each j d below ∙ ap (filter_map (planned_by j)) (sym (there j d other))))
           (cases_eq k j)
 
@@ -95,7 +95,7 @@ module _ (kept : List Record) (next : List ℕ) (planned : Planned) (e : Record)
   -- where the rest is told, it tells the next of the plan
   pub is_of : (rest : List Planned) → IsRest kept next (planned ∷ rest) → (x.at ≡ planned.at) × (x.event ≡ planned.event)
   is_of rest h =
-      let first : planned ≡ told = ap (λ ps. get_or ps 0 planned) (sym (for_node rest) ∙ (h.left.each k e inside ∙ here e)) in
+      let first : planned ≡ as_planned = ap (λ ps. get_or ps 0 planned) (sym (for_node rest) ∙ (h.left.each k e inside ∙ here e)) in
       (sym (ap (λ (p : Planned). p.at) first), sym (ap (λ (p : Planned). p.event) first))
 
 -- no entry is left for the next of the plan

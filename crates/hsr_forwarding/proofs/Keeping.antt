@@ -27,7 +27,7 @@ within-of w b = w.b
 within-of w c = w.c
 within-of w d = w.d
 
--- no table's time is ahead of a later moment
+-- no table's last moment is ahead of a later one
 pub last-earlier : {notes : Notes} {moment now accepted : ℕ} → AreWithin notes moment accepted → moment ≤ now → (e : Egress) → (table_of notes e).last ≤ now
 last-earlier w later e = let one = within-of w e in omega (arith, one.last, later)
 

@@ -69,7 +69,7 @@ among exits others = record {
   d = exits.d && others.d;
 }
 
--- no table's time is ahead of the node's, and none noted more than the node accepted
+-- no table's last moment is ahead of the node's, and none noted more than the node accepted
 pub record AreWithin (notes : Notes) (moment accepted : ℕ) : Type 0 where
   pub up : IsWithin notes.up moment accepted
   pub a : IsWithin notes.a moment accepted
@@ -77,7 +77,7 @@ pub record AreWithin (notes : Notes) (moment accepted : ℕ) : Type 0 where
   pub c : IsWithin notes.c moment accepted
   pub d : IsWithin notes.d moment accepted
 
--- no table's time is ahead of this moment
+-- no table's last moment is ahead of this one
 pub record AreEarlier (notes : Notes) (now : ℕ) : Type 0 where
   pub up : notes.up.last ≤ now
   pub a : notes.a.last ≤ now

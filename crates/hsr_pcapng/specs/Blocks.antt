@@ -28,8 +28,11 @@ padded octets = octets ++ padding (length octets)
 unfoldable pub option_of : ℕ → List ℕ → List ℕ
 option_of code value = number16 code ++ number16 (length value) ++ padded value
 
+abbrev pub opt_endofopt : ℕ
+opt_endofopt = 0
+
 abbrev pub end_of_options : List ℕ
-end_of_options = number16 0 ++ number16 0
+end_of_options = number16 opt_endofopt ++ number16 0
 
 -- ---- any block
 
@@ -51,6 +54,23 @@ packet_type = 6
 abbrev pub byte_order_magic : ℕ
 byte_order_magic = 0x1A2B3C4D
 
+abbrev pub major_version : ℕ
+major_version = 1
+
+abbrev pub minor_version : ℕ
+minor_version = 0
+
+abbrev pub linktype_ethernet : ℕ
+linktype_ethernet = 1
+
+-- packets of any length are captured whole
+abbrev pub no_snaplen : ℕ
+no_snaplen = 0
+
+-- moments are in units of ten to the power of minus this number of seconds
+abbrev pub microseconds : ℕ
+microseconds = 6
+
 abbrev pub opt_comment : ℕ
 opt_comment = 1
 
@@ -71,7 +91,7 @@ if_tsresol = 9
 -- the magic number, version 1.0, a section of unknown length, and the program's name (shb_userappl)
 unfoldable pub section_body : List ℕ → List ℕ
 section_body program =
-    number32 byte_order_magic ++ number16 1 ++ number16 0 ++ replicate 8 255 ++ option_of shb_userappl program ++ end_of_options
+    number32 byte_order_magic ++ number16 major_version ++ number16 minor_version ++ replicate 8 255 ++ option_of shb_userappl program ++ end_of_options
 
 abbrev pub section_header : List ℕ → List ℕ
 section_header program = block section_header_type (section_body program)
@@ -79,7 +99,8 @@ section_header program = block section_header_type (section_body program)
 -- Ethernet, packets of any length; its name (if_name), its description (if_description) and microseconds (if_tsresol)
 unfoldable pub interface_body : List ℕ → List ℕ → List ℕ
 interface_body name description =
-    number16 1 ++ number16 0 ++ number32 0 ++ option_of if_name name ++ option_of if_description description ++ option_of if_tsresol (6 ∷ []) ++ end_of_options
+    number16 linktype_ethernet ++ number16 0 ++ number32 no_snaplen ++ option_of if_name name ++ option_of if_description description
+    ++ option_of if_tsresol (microseconds ∷ []) ++ end_of_options
 
 abbrev pub interface : List ℕ → List ℕ → List ℕ
 interface name description = block interface_type (interface_body name description)

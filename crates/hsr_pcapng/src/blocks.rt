@@ -57,6 +57,17 @@ const ENHANCED_PACKET: u32 = 6;
 /// Tells in which order the octets of numbers stand (section 4.1).
 const BYTE_ORDER_MAGIC: u32 = 0x1A2B_3C4D;
 
+/// The version of the format (section 4.1).
+const MAJOR_VERSION: u16 = 1;
+
+const MINOR_VERSION: u16 = 0;
+
+/// The link type of Ethernet (section 4.2).
+const LINKTYPE_ETHERNET: u16 = 1;
+
+/// Where packets of any length are captured whole, as the most octets that are captured of one (section 4.2).
+const NO_SNAPLEN: u32 = 0;
+
 /// The option with a comment (section 3.5).
 const OPT_COMMENT: u16 = 1;
 
@@ -118,8 +129,8 @@ fn section_body(alloc: Global, program: &[u8]) -> Result<Vec<u8>, BlockFault>
 {
     let mut body = Vec::new(alloc);
     put_u32(&mut body, BYTE_ORDER_MAGIC)?;
-    put_u16(&mut body, 1)?;
-    put_u16(&mut body, 0)?;
+    put_u16(&mut body, MAJOR_VERSION)?;
+    put_u16(&mut body, MINOR_VERSION)?;
     // How long the section is isn't known yet, and all ones say so (section 4.1).
     body.extend_from_slice(b"\xFF\xFF\xFF\xFF\xFF\xFF\xFF\xFF")?;
     put_option(&mut body, SHB_USERAPPL, program)?;
@@ -137,11 +148,13 @@ fn interface_body(alloc: Global, name: &[u8], description: &[u8]) -> Result<Vec<
         (length name.now < 2 ^ 16 → length description.now < 2 ^ 16 → ⊥)) }
 {
     let mut body = Vec::new(alloc);
-    put_u16(&mut body, 1)?;
+    put_u16(&mut body, LINKTYPE_ETHERNET)?;
+    // Reserved.
     put_u16(&mut body, 0)?;
-    put_u32(&mut body, 0)?;
+    put_u32(&mut body, NO_SNAPLEN)?;
     put_option(&mut body, IF_NAME, name)?;
     put_option(&mut body, IF_DESCRIPTION, description)?;
+    // Ten to the power of minus 6: microseconds.
     put_option(&mut body, IF_TSRESOL, b"\x06")?;
     put_end_of_options(&mut body)?;
     Ok(body)

@@ -15,7 +15,7 @@ use hsr_finished_run::Disagree;
 use hsr_frame::NoMemory;
 use hsr_ring::{Unfinished, finished};
 use hsr_scenario::{Scenario, TEXT_LIMIT, What, read};
-use hsr_scenario_fault::{scenario_fault_line, told_step, words_of_check, words_of_step};
+use hsr_scenario_fault::{refused_step_line, scenario_fault_line, words_of_check, words_of_step};
 use hsr_text::{InputFault, put_decimal, read_text};
 use std::alloc::Global;
 use std::io::{self, Read, Write};
@@ -51,7 +51,7 @@ fn played(alloc: Global, text: &str, scenario: Scenario) -> Result<(), Wrong>
         Ok(_closed) => Ok(()),
         Err(Unfinished::Step(index, fault)) => {
             let why = words_of_step(&fault);
-            Err(Wrong::Told(told_step(alloc, text, index, why)))
+            Err(Wrong::Told(refused_step_line(alloc, text, index, why)))
         }
         Err(Unfinished::Check(cause)) => Err(Wrong::Open(cause)),
         // Refused room is no fault of the text, so it has no place there.
@@ -90,7 +90,7 @@ fn digits_of(alloc: Global, cause: Disagree) -> Line
 }
 
 /// Writes the lines of a run that can't be closed, with the number of the cause, in decimal digits, and what it means.
-fn tell_open<E: Write>(errors: &mut E, number: &[u8], why: &[u8]) -> io::Result<()>
+fn write_open<E: Write>(errors: &mut E, number: &[u8], why: &[u8]) -> io::Result<()>
     ensures { OnOk result (Appends (E.contents errors.old) (E.contents errors.new)
         (codes "fault: check " ++ number.now ++ codes "\nexplain: " ++ why.now ++ codes "\n")) }
 {
@@ -115,7 +115,7 @@ fn explain<E: Write>(
     ensures is { IfOk result (λ ending. ending ≡ Refused) }
     ensures told { OnOk result (TellsOpen cause (E.contents errors.old) (E.contents errors.new)) }
 {
-    tell_open(errors, number, why)?;
+    write_open(errors, number, why)?;
     Ok(Ending::Refused)
 }
 

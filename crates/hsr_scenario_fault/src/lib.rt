@@ -20,5 +20,5 @@ mod wiring;
 mod words;
 
 pub use reasons::{words_of_check, words_of_step};
-pub use refused::told_step;
+pub use refused::refused_step_line;
 pub use telling::scenario_fault_line;

@@ -72,7 +72,12 @@ fn put_place_of(
 /// The line of a step of a scenario that was refused, for a reason in these words, as `fault: scenario 16:1 step 3:
 /// send of ied1: ..`, without a line feed. Line and column are those of the step's table. `NoMemory` if allocation
 /// fails.
-pub fn told_step(alloc: Global, text: &str, number: usize, why: &str) -> Result<Vec<u8>, NoMemory>
+pub fn refused_step_line(
+    alloc: Global,
+    text: &str,
+    number: usize,
+    why: &str,
+) -> Result<Vec<u8>, NoMemory>
     ensures { IfOk result (λ v. IsLine v.items) }
 {
     let mut words = Vec::new(alloc);

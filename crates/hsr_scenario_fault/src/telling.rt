@@ -210,7 +210,11 @@ fn put_told(
 /// without a line feed. Line and column are those of the word that the fault is about, in its own table, outside of
 /// comments and strings; of a missing word, and of a node or link that no topology has, those of its table; and of a
 /// text that is no TOML those at which that shows. `NoMemory` if allocation fails.
-pub fn scenario_fault_line(alloc: Global, text: &str, fault: &ScenarioFault) -> Result<Vec<u8>, NoMemory>
+pub fn scenario_fault_line(
+    alloc: Global,
+    text: &str,
+    fault: &ScenarioFault,
+) -> Result<Vec<u8>, NoMemory>
     ensures { IfOk result (λ v. IsLine v.items) }
 {
     let mut words = Vec::new(alloc);

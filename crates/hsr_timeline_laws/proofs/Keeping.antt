@@ -38,8 +38,8 @@ stamp_of x = record { moment = x.moment; step = x.step }
 abbrev IsTold : (Spot → Option Stamp) → Hop → Shown → Type 0
 IsTold stamp hop x = (x.link ≡ hop.link) × (x.number ≡ hop.number) × (shown_where hop ≡ Some (entry_of x)) × (stamp (entry_of x) ≡ Some (stamp_of x))
 
-told : (stamp : Spot → Option Stamp) (hop : Hop) (x : Shown) → shown_at stamp hop ≡ Some x → IsTold stamp hop x
-told stamp hop x is = at_where (shown_where hop) refl
+shown_told : (stamp : Spot → Option Stamp) (hop : Hop) (x : Shown) → shown_at stamp hop ≡ Some x → IsTold stamp hop x
+shown_told stamp hop x is = at_where (shown_where hop) refl
   where
     at_where : (o : Option Spot) → shown_where hop ≡ o → IsTold stamp hop x
     at_where None e = absurd (let f : option_and_then (shown_then stamp hop) None ≡ Some x = ap (option_and_then (shown_then stamp hop)) (sym e) ∙ is in cc)
@@ -81,7 +81,7 @@ module _ (l j : ℕ) where
   rows_counted stamp (h ∷ hs) (r ∷ rs) are =
       let e : shown_at stamp h ≡ Some r = cc in
       let rest : map (shown_at stamp) hs ≡ map (λ (y : Shown). Some y) rs = cc in
-      let k = told stamp h r e in
+      let k = shown_told stamp h r e in
       let same : is_row l j r ≡ hop_is l j h = ap₂ (λ m n. m == l && n == j) k.0 k.1 in
       let one : cond (is_row l j r) 1 0 ≡ cond (hop_is l j h) 1 0 = ap (λ b. cond {A = ℕ} b 1 0) same in
       let a = count_more (is_row l j) r rs in
@@ -211,7 +211,7 @@ module _ (f : Finished) (finished : IsFinished f) (story : List Shown) (is : IsS
   hop_of_row x inside =
       let k = Contains-permutation story is.rows x (IsPermutation-sym is.rows story is.once) inside in
       let h = hop_at is.stamp (hops f.run) is.rows k.0 x is.shown (slice_get-get_or is.rows k.0 x k.1 ∙ ap (λ y. Some y) k.2) in
-      (h.0, h.1, told is.stamp h.0 x h.2)
+      (h.0, h.1, shown_told is.stamp h.0 x h.2)
 
   each_once : HasEachOnce f.run story
   each_once = record {
