@@ -10,7 +10,7 @@ is_in n ns = list_any (λ m. bytes_eq m n) ns
 abbrev pub place : List (List ℕ) → List ℕ → Option ℕ
 place ns n = position (λ m. bytes_eq m n) ns
 
--- the place of a name among names; 0 where it isn't there
+-- the index of a name among names; 0 where it isn't there
 abbrev pub number : List (List ℕ) → List ℕ → ℕ
 number ns n = unwrap_or (place ns n) 0
 

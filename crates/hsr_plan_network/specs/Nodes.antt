@@ -47,7 +47,7 @@ abbrev pub ring_if : Option (List (List ℕ)) → List ℕ → ℕ
 ring_if None n = 0
 ring_if (Some ring) n = number ring n
 
--- a node's address: by the ring in which it is met first, and its place there
+-- a node's address: by the ring in which it is met first, and its index there
 abbrev pub node_mac : Network → List ℕ → List ℕ
 node_mac network n =
     mac_or network.addresses n (usual_mac 0 (met_first network.rings n) (ring_if (slice_get network.rings (met_first network.rings n)) n))
@@ -76,7 +76,7 @@ behind_if (Some b) = b.stations
 abbrev pub behind : List Behind → List ℕ → List (List ℕ)
 behind bs n = behind_if (given_at bs (position (λ b. bytes_eq b.redbox n) bs))
 
--- a station's address: by its RedBox among the RedBoxes, and its place there
+-- a station's address: by its RedBox among the RedBoxes, and its index there
 abbrev pub station_mac : Network → List (List ℕ) → List ℕ → List ℕ → List ℕ
 station_mac network boxes box n = mac_or network.addresses n (usual_mac 1 (number boxes box) (number (behind network.redboxes box) n))
 

@@ -13,7 +13,7 @@ pub fn is_in(name: &[u8], names: &[Word]) -> bool
     names.iter().any(|other| other.as_bytes() == name)
 }
 
-/// The place of a name among names.
+/// The index of a name among names.
 fn place(names: &[Word], name: &[u8]) -> Option<usize>
     ensures value { result ≡ place names.now name.now }
     ensures most { IfSome result (λ k. k < length names.now) }
@@ -21,7 +21,7 @@ fn place(names: &[Word], name: &[u8]) -> Option<usize>
     names.iter().position(|other| other.as_bytes() == name)
 }
 
-/// The place of a name among names; 0 where it isn't there.
+/// The index of a name among names; 0 where it isn't there.
 pub fn number(names: &[Word], name: &[u8]) -> usize
     ensures value { result ≡ number names.now name.now }
     ensures most { result ≤ length names.now }

@@ -26,7 +26,7 @@ fn usual_mac(of: u8, first: usize, second: usize) -> Mac
     Mac::new([2, 0, 0, of, octet_after(first), octet_after(second)])
 }
 
-/// The place of a name's address among addresses.
+/// The index of a name's address among addresses.
 fn address_of(addresses: &[Addressed], name: &[u8]) -> Option<usize>
     ensures { result ≡ position (λ a. bytes_eq a.name name.now) addresses.now }
 {
@@ -48,7 +48,7 @@ fn mac_or(addresses: &[Addressed], name: &[u8], usual: Mac) -> Mac
     }
 }
 
-/// The place of a name's mode among modes.
+/// The index of a name's mode among modes.
 fn mode_of(modes: &[InMode], name: &[u8]) -> Option<usize>
     ensures { result ≡ position (λ m. bytes_eq m.name name.now) modes.now }
 {
@@ -68,8 +68,8 @@ fn mode_for(modes: &[InMode], name: &[u8]) -> Mode
     }
 }
 
-/// The place of a name in a ring of that number; 0 where there is none.
-fn place_in(rings: &[Ring], ring: usize, name: &[u8]) -> usize
+/// The index of a name in a ring of that number; 0 where there is none.
+fn index_in(rings: &[Ring], ring: usize, name: &[u8]) -> usize
     ensures { result ≡ ring_if (slice_get rings.now ring) name.now }
 {
     match rings.get(ring) {
@@ -84,7 +84,7 @@ fn node_mac(network: &Network, name: &[u8]) -> Mac
 {
     let rings = network.rings.as_slice();
     let ring = met_first(rings, name);
-    let usual = usual_mac(0, ring, place_in(rings, ring, name));
+    let usual = usual_mac(0, ring, index_in(rings, ring, name));
     mac_or(network.addresses.as_slice(), name, usual)
 }
 
@@ -116,7 +116,7 @@ pub(crate) fn place_of(network: &Network, name: &[u8]) -> Place
 
 // ---- Stations
 
-/// The place of a RedBox among RedBoxes.
+/// The index of a RedBox among RedBoxes.
 fn redbox_of(redboxes: &[Behind], name: &[u8]) -> Option<usize>
     ensures { result ≡ position (λ b. bytes_eq b.redbox name.now) redboxes.now }
 {

@@ -20,16 +20,16 @@ pub record IsFinishedBy (capacity : ℕ) (topology : Topology) (room : ℕ) (ord
   pub ended : IsEnded world
   pub is : run ≡ finished_of capacity world
 
--- an order that is refused for memory is no refusal, but want of memory
+-- an order that is refused for memory isn't told as refused: an allocation failed
 abbrev pub halted : ℕ → DrainFault → Unfinished
-halted place (fault.World NoMemory) = Memory
-halted place f = Step place f
+halted index (fault.World NoMemory) = Memory
+halted index f = Step index f
 
--- the orders before a place are obeyed in that world, and the one at that place is refused, not for memory; or all are obeyed, and the
+-- the orders before an index are obeyed in that world, and the one at that index is refused, not for memory; or all are obeyed, and the
 -- world that they lead to isn't closed, with the first cause; or an allocation failed
 abbrev pub IsUnfinishedBy : ℕ → Topology → ℕ → List Order → Unfinished → Type 0
-IsUnfinishedBy capacity topology room orders (Step place (fault.World NoMemory)) = ⊥
-IsUnfinishedBy capacity topology room orders (Step place f) = (w : World) × Halts capacity orders place (new_world room topology.places topology.links) w f
+IsUnfinishedBy capacity topology room orders (Step index (fault.World NoMemory)) = ⊥
+IsUnfinishedBy capacity topology room orders (Step index f) = (w : World) × Halts capacity orders index (new_world room topology.places topology.links) w f
 IsUnfinishedBy capacity topology room orders (Check d) =
     (w : World) × Plays capacity orders (new_world room topology.places topology.links) w × IsOpen (finished_of capacity w).run d
 IsUnfinishedBy capacity topology room orders Memory = Unit {0}

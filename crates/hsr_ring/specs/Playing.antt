@@ -27,7 +27,7 @@ abbrev pub Plays : ℕ → List Order → World → World → Type 0
 Plays capacity [] w after = w ≡ after
 Plays capacity (order ∷ orders) w after = (between : World) × Obeys capacity order w between × Plays capacity orders between after
 
--- the orders before a place are obeyed, and the one at that place is refused
+-- the orders before an index are obeyed, and the one at that index is refused
 abbrev pub Halts : ℕ → List Order → ℕ → World → World → DrainFault → Type 0
 Halts capacity [] n w after f = ⊥
 Halts capacity (order ∷ orders) zero w after f = Refuses capacity order w after f

@@ -16,7 +16,7 @@ abbrev pub Runs : ℕ → List Step → World → World → Type 0
 Runs capacity [] w after = w ≡ after
 Runs capacity (step ∷ steps) w after = (between : World) × (tried capacity w step ≡ Ok between) × Runs capacity steps between after
 
--- the steps before a place are done, and lead from one world to another, which refuses the step at that place
+-- the steps before an index are done, and lead from one world to another, which refuses the step at that index
 abbrev pub Stops : ℕ → List Step → ℕ → World → World → WorldFault → Type 0
 Stops capacity [] n w after f = ⊥
 Stops capacity (step ∷ steps) zero w after f = (after ≡ w) × IsRefused capacity w step f

@@ -11,7 +11,7 @@ abbrev pub in_world : World → Result (List Span) WorldFault → Result World W
 in_world w (Ok spans) = Ok (record w { spans = spans })
 in_world w (Err fault) = Err fault
 
--- each node has the number of its place, and the numbers of ports fit
+-- each node has its index as its number, and the numbers of ports fit
 pub record AreNumbered (nodes : List Record) : Type 0 where
   pub few : length nodes ≤ 64
   pub numbered : map (λ (r : Record). r.number) nodes ≡ range_with_len 0 (length nodes)

@@ -14,10 +14,10 @@ use hsr_world_steps::{DrainFault, WorldFault};
 use std::alloc::Global;
 
 /// Why orders lead to no finished run.
-/// Places are counted from 0.
+/// Orders are counted from 0.
 #[derive(Clone, Copy, Debug, PartialEq, Eq)]
 pub enum Unfinished {
-    /// The order at this place is refused, and not for want of memory.
+    /// The order with this index is refused, and not because an allocation failed.
     Step(usize, DrainFault),
     /// The world can't be closed, for this cause.
     Check(Disagree),
@@ -25,14 +25,14 @@ pub enum Unfinished {
     Memory,
 }
 
-/// Why there is no finished run where the order at a place is refused.
-fn halted(place: usize, fault: DrainFault) -> Unfinished
-    ensures { result ≡ halted place fault }
+/// Why there is no finished run where the order at an index is refused.
+fn halted(index: usize, fault: DrainFault) -> Unfinished
+    ensures { result ≡ halted index fault }
 {
     match fault {
         // Want of memory is one fault, wherever it comes: no user has to look for it in the faults below.
         DrainFault::World(WorldFault::NoMemory) => Unfinished::Memory,
-        _ => Unfinished::Step(place, fault),
+        _ => Unfinished::Step(index, fault),
     }
 }
 
@@ -54,12 +54,12 @@ fn played<const C: usize>(
     };
     match play(&mut world, orders) {
         Ok(()) => Ok(world),
-        Err((place, fault)) => Err(halted(place, fault)),
+        Err((index, fault)) => Err(halted(index, fault)),
     }
 }
 
 /// The finished run that orders lead to, in a new world of the topology, where `capacity` copies wait in each direction of a link, with
-/// tables of `C` entries. Else why there is none: the place of the first order that is refused, the first cause why the world isn't
+/// tables of `C` entries. Else why there is none: the index of the first order that is refused, the first cause why the world isn't
 /// closed, or a failed allocation.
 pub fn finished<const C: usize>(
     alloc: Global,

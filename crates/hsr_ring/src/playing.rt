@@ -42,7 +42,7 @@ fn obey<const C: usize>(world: &mut World<C>, order: &Order) -> Result<(), Drain
     }
 }
 
-/// Does what orders ask for, up to the first that is refused, of which the place is told.
+/// Does what orders ask for, up to the first that is refused, of which the index is told.
 pub fn play<const C: usize>(
     world: &mut World<C>,
     orders: &[Order],
@@ -52,7 +52,7 @@ pub fn play<const C: usize>(
 {
     for (place, order) in orders.iter().enumerate() {
         match obey(world, order) {
-            // A `match` and no `?`: the place of the order is told with its fault.
+            // A `match` and no `?`: the index of the order is told with its fault.
             Ok(()) => {}
             Err(fault) => return Err((place, fault)),
         }

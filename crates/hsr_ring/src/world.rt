@@ -92,7 +92,7 @@ impl<const C: usize> World<C> {
         }
     }
 
-    /// Does steps, up to the first that is refused, of which the place is told.
+    /// Does steps, up to the first that is refused, of which the index is told.
     pub fn run(&mut self, steps: &[Step]) -> Result<(), (usize, WorldFault)>
         ensures ok { OnOk result (Runs C steps.now self.old self.new) }
         ensures err { IfErr result (λ e. Stops C steps.now e.0 self.old self.new e.1) }

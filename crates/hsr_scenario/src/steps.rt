@@ -165,7 +165,7 @@ fn vlan(table: &Table) -> Result<Option<u16>, What>
     }
 }
 
-/// The place of a send's source among the addresses of its node.
+/// The index of a send's source among the addresses of its node.
 fn from(table: &Table) -> Result<u8, What>
     ensures { Gives (λ n. n) result (optional faults key.From 0 (between faults 0 15)
         (table_view table.now)) }

@@ -37,7 +37,7 @@ fn mac_of(value: &Value) -> Option<Mac> {
     }
 }
 
-/// Whether the address at a place among others is a group's, or stands again further on.
+/// Whether the address at an index among others is a group's, or stands again further on.
 fn is_bad_among(macs: &[Value], at: usize) -> bool {
     let Some(mac) = macs.get(at).and_then(mac_of) else {
         return false;

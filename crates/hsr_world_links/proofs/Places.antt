@@ -1,4 +1,4 @@
--- A place of the spans of the code, and of the list of what is seen of them.
+-- An index in the spans of the code, and of the list of what is seen of them.
 use Rattle.std.proofs.Common.{◌≡◌, ◌⊎◌, inl, inr, ℕ, ◌<◌, List, [], ◌∷◌, map, set, get_or, length, Option, Some, None, Result, Ok, Err, refl, sym, ap, ◌∙◌, arith}
 use Rattle.hsr_world_steps.specs.declared.step.WorldFault.TheVariants.{Nothing}
 use Rattle.std.specs.Prelude.{is_some, false, OnOk, IfErr}

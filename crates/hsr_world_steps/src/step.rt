@@ -16,7 +16,7 @@ pub enum Step {
     Clock {
         at: u64,
     },
-    /// A node sends a frame of its own, from the address at a place among its own.
+    /// A node sends a frame of its own, from the address at an index among its own.
     Send {
         node: usize,
         from: u8,
