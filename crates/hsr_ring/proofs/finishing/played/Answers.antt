@@ -9,6 +9,6 @@ pub returns-in-Err-clause-err : goal.returns-in-Err-clause-err
 returns-in-Err-clause-err g c =
     let orders = c.args.orders.now in
     let after = c.play.new.world in
-    let from : World → Type 0 = λ w. Halts g.row.C orders c.in-Err.place w after c.in-Err.fault in
+    let from : World → Type 0 = λ w. Halts g.row.C orders c.in-Err.index w after c.in-Err.fault in
     subst (IsUnfinishedBy g.row.C c.args.topology c.args.capacity orders) (sym c.halted.ensures)
-    (halted_so g.row.C c.args.topology c.args.capacity orders c.in-Err.place after c.in-Err.fault (subst from c.in-Ok.ensures c.in-Err.ensures.err))
+    (halted_so g.row.C c.args.topology c.args.capacity orders c.in-Err.index after c.in-Err.fault (subst from c.in-Ok.ensures c.in-Err.ensures.err))
