@@ -37,10 +37,7 @@ on_link send channel l (row ∷ rows) =
 pub lost_on : (run : Run) (send : Probe) (channel : Channel) → channel.link < length run.links → list_any (is_on channel) (lost run send) ≡ list_any (is_loss send channel.dir) (rows_of run channel.link)
 lost_on run send channel below = up_to (length run.links) below
   where
-    abbrev any_at : ℕ → Bool
-    any_at n = list_any (is_loss send channel.dir) (rows_of run n)
-
-    one_more : (n : ℕ) (b : Bool) → list_any (is_on channel) (lost_below run send n) ≡ b → list_any (is_on channel) (lost_below run send (suc n)) ≡ (b || ((n == channel.link) && any_at n))
+    one_more : (n : ℕ) (b : Bool) → list_any (is_on channel) (lost_below run send n) ≡ b → list_any (is_on channel) (lost_below run send (suc n)) ≡ (b || ((n == channel.link) && list_any (is_loss send channel.dir) (rows_of run n)))
     one_more n b before =
         list_any-append (is_on channel) (lost_below run send n) (filter_map (loss_of send n) (rows_of run n))
         ∙ (ap (λ c. c || list_any (is_on channel) (filter_map (loss_of send n) (rows_of run n))) before
@@ -50,21 +47,21 @@ lost_on run send channel below = up_to (length run.links) below
     none zero low = refl
     none (suc n) low =
         let other : (n == channel.link) ≡ false = ne_eqb n channel.link (λ same. omega (arith, same, low)) in
-        one_more n false (none n (omega (arith, low))) ∙ ap (λ b. b && any_at n) other
+        one_more n false (none n (omega (arith, low))) ∙ ap (λ b. b && list_any (is_loss send channel.dir) (rows_of run n)) other
 
     or_false : (b : Bool) → (b || false) ≡ b
     or_false true = refl
     or_false false = refl
 
-    up_to : (n : ℕ) → channel.link < n → list_any (is_on channel) (lost_below run send n) ≡ any_at channel.link
+    up_to : (n : ℕ) → channel.link < n → list_any (is_on channel) (lost_below run send n) ≡ list_any (is_loss send channel.dir) (rows_of run channel.link)
     up_to zero low = absurd (omega (arith, low))
     up_to (suc n) low = ⊎_elim
         (λ lower.
         let other : (n == channel.link) ≡ false = ne_eqb n channel.link (λ same. omega (arith, same, lower)) in
-        one_more n (any_at channel.link) (up_to n lower) ∙ (ap (λ b. any_at channel.link || (b && any_at n)) other ∙ or_false (any_at channel.link)))
+        one_more n (list_any (is_loss send channel.dir) (rows_of run channel.link)) (up_to n lower) ∙ (ap (λ b. list_any (is_loss send channel.dir) (rows_of run channel.link) || (b && list_any (is_loss send channel.dir) (rows_of run n))) other ∙ or_false (list_any (is_loss send channel.dir) (rows_of run channel.link))))
         (λ high.
         let same : n ≡ channel.link = omega (arith, low, high) in
-        one_more n false (none n (omega (arith, same))) ∙ (ap (λ b. b && any_at n) (eq-eqb n channel.link same) ∙ ap any_at same))
+        one_more n false (none n (omega (arith, same))) ∙ (ap (λ b. b && list_any (is_loss send channel.dir) (rows_of run n)) (eq-eqb n channel.link same) ∙ ap (λ m. list_any (is_loss send channel.dir) (rows_of run m)) same))
         (cases_lt channel.link n)
 
 pub losses_found : (run : Run) (send : Probe) (losses : List Loss) (set : List ℕ) → length run.links ≤ 128 → losses ≡ lost run send → AreWaysOf losses set → IsLossOf run send set
