@@ -74,16 +74,16 @@ anchor_word anchor.Start = codes "start"
 anchor_word anchor.Middle = codes "middle"
 anchor_word anchor.End = codes "end"
 
-unfoldable pub place_text : ℕ → ℕ → List ℕ
-place_text x y = decimal x ++ codes " " ++ decimal y
+unfoldable pub coordinates_text : ℕ → ℕ → List ℕ
+coordinates_text x y = decimal x ++ codes " " ++ decimal y
 
 -- a quarter turn against the clock
 unfoldable pub quarter_text : List ℕ
 quarter_text = codes "=\"rotate(-90 "
 
--- a text that runs upwards is turned about its place
+-- a text that runs upwards is turned about its point
 unfoldable pub rotation_text : ℕ → ℕ → List ℕ
-rotation_text x y = codes " " ++ attribute_name Transform ++ quarter_text ++ place_text x y ++ codes ")\""
+rotation_text x y = codes " " ++ attribute_name Transform ++ quarter_text ++ coordinates_text x y ++ codes ")\""
 
 abbrev pub turn_text : Reading → ℕ → ℕ → List ℕ
 turn_text Across x y = []

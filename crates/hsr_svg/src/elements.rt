@@ -65,7 +65,7 @@ pub struct Area {
     pub height: u64,
 }
 
-/// Which part of a text stands at its place.
+/// Which part of a text stands at its point.
 #[derive(Clone, Copy, Debug)]
 pub enum Anchor {
     Start,

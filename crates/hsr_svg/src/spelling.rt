@@ -2,7 +2,7 @@
 ghost use Rattle.std.specs.Prelude.{◌≡◌, ◌++◌, OnOk};
 ghost use Rattle.std.specs.Fmt.{decimal};
 ghost use Rattle.std.specs.List.{flat_map};
-ghost use Rattle.hsr_svg.specs.Spelling.{anchor_word, area_text, arrow_text, element_text, filled_text, ground_text, head_text, label_colour, label_size, label_weight, labels_text, line_colour, line_dashes, line_text, line_width, marker_text, outline_text, place_text, point_box, point_text, points_text, quarter_text, rotation_text, sample_text, setting_text, shade_text, square_text, stroke_text, svg_text, title_text, turn_text, view_text, way_text, words_text};
+ghost use Rattle.hsr_svg.specs.Spelling.{anchor_word, area_text, arrow_text, coordinates_text, element_text, filled_text, ground_text, head_text, label_colour, label_size, label_weight, labels_text, line_colour, line_dashes, line_text, line_width, marker_text, outline_text, point_box, point_text, points_text, quarter_text, rotation_text, sample_text, setting_text, shade_text, square_text, stroke_text, svg_text, title_text, turn_text, view_text, way_text, words_text};
 ghost use Rattle.hsr_svg.specs.Style.{looks};
 
 use crate::elements::{Anchor, Area, Element, Label, Line, Reading, Spot, Way};
@@ -80,10 +80,10 @@ fn put_setting(text: &mut Vec<u8>, label: Label, anchor: Anchor) -> Result<(), N
     put_attribute(text, Attribute::Weight, weight_of(label))
 }
 
-/// Puts a place last.
-#[tactic(auto, unfolding(crate::specs::Spelling::place_text))]
-fn put_place(text: &mut Vec<u8>, x: u64, y: u64) -> Result<(), NoMemory>
-    ensures { OnOk result (text.new.items ≡ text.old.items ++ place_text x y) }
+/// Puts coordinates last.
+#[tactic(auto, unfolding(crate::specs::Spelling::coordinates_text))]
+fn put_coordinates(text: &mut Vec<u8>, x: u64, y: u64) -> Result<(), NoMemory>
+    ensures { OnOk result (text.new.items ≡ text.old.items ++ coordinates_text x y) }
 {
     put_number(text, x)?;
     put(text, " ")?;
@@ -99,7 +99,7 @@ fn put_quarter(text: &mut Vec<u8>) -> Result<(), NoMemory>
     put(text, "=\"rotate(-90 ")
 }
 
-/// Puts by how much a text at a place is turned last, so that it runs upwards from there.
+/// Puts by how much a text at a point is turned last, so that it runs upwards from there.
 #[tactic(auto, unfolding(crate::specs::Spelling::rotation_text))]
 fn put_rotation(text: &mut Vec<u8>, x: u64, y: u64) -> Result<(), NoMemory>
     ensures { OnOk result (text.new.items ≡ text.old.items ++ rotation_text x y) }
@@ -107,7 +107,7 @@ fn put_rotation(text: &mut Vec<u8>, x: u64, y: u64) -> Result<(), NoMemory>
     put(text, " ")?;
     put(text, name_of(Attribute::Transform))?;
     put_quarter(text)?;
-    put_place(text, x, y)?;
+    put_coordinates(text, x, y)?;
     put(text, ")\"")
 }
 
