@@ -619,16 +619,17 @@ class World:
         return None
 
     def comes(self, send, frame, number, reached, lost):
-        """Whether a send comes to a node. To a Station with its address it comes over the last way, from the sender or a RedBox."""
+        """Whether a send comes to a node. To a Station with its address it comes over the last channel, from the sender or a RedBox."""
         if is_group(frame.dst) or self.nodes[number].role != "station":
             return number in reached
-        lasts = [way for way in self.lanes if self.goal(way)[0] == number and way not in lost]
-        return any(way[0] == send[0] or self.nodes[way[0]].role == "redbox" and way[0] in reached for way in lasts)
+        lasts = [channel for channel in self.lanes if self.goal(channel)[0] == number and channel not in lost]
+        return any(channel[0] == send[0] or self.nodes[channel[0]].role == "redbox" and channel[0] in reached for channel in lasts)
 
     def is_known(self, send, frame):
         """Whether each RedBox at a Station that a send to one address is for knew that address each time that it handled the send."""
         stations = [number for number in self.due(send, frame) if self.nodes[number].role == "station" and not is_group(frame.dst)]
-        boxes = [self.nodes[way[0]] for way in self.lanes if self.goal(way)[0] in stations and self.nodes[way[0]].role == "redbox"]
+        starts = [channel[0] for channel in self.lanes if self.goal(channel)[0] in stations]
+        boxes = [self.nodes[start] for start in starts if self.nodes[start].role == "redbox"]
         return not any(send in box.unknown for box in boxes)
 
     def is_covered(self, send, frame):
@@ -637,27 +638,27 @@ class World:
         return not (frame.is_supervision() and here in self.lanes and self.nodes[self.goal(here)[0]].role == "station")
 
     def goal(self, start):
-        """The end of a way. A way is named by the port at which it starts, as each port has one link."""
+        """The end of a channel. A channel is named by the port at which it starts, as each port has one link."""
         link, dir = self.lanes[start]
         return link.ends[1 - dir]
 
     def onward(self, start, send, frame):
-        """The ways that a send takes from the end of a way, lost or not."""
+        """The channels that a send takes from the end of a channel, lost or not."""
         number, port = self.goal(start)
-        node, others = self.nodes[number], [way for way in self.ends if way[0] == number and way[1] != port]
+        node, others = self.nodes[number], [channel for channel in self.ends if channel[0] == number and channel[1] != port]
         if not node.passes_on(port, frame):
             return []
-        return [way for way in others if node.lets_out(way[1], frame) and self.goal(way)[0] != send[0]]
+        return [channel for channel in others if node.lets_out(channel[1], frame) and self.goal(channel)[0] != send[0]]
 
     def reached(self, send, frame, lost):
-        """The nodes that a send reaches: the ends of the ways that it takes, from its sender on, but for those where it was lost."""
-        todo, taken = [way for way in self.ends if way[0] == send[0]], []
+        """The nodes that a send reaches: the ends of the channels that it takes, from its sender on, but for those where it was lost."""
+        todo, taken = [channel for channel in self.ends if channel[0] == send[0]], []
         while todo:
-            way = todo.pop()
-            if way not in taken and way not in lost:
-                taken.append(way)
-                todo += self.onward(way, send, frame)
-        return {self.goal(way)[0] for way in taken}
+            channel = todo.pop()
+            if channel not in taken and channel not in lost:
+                taken.append(channel)
+                todo += self.onward(channel, send, frame)
+        return {self.goal(channel)[0] for channel in taken}
 
     # -- what is written
 

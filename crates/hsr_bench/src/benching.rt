@@ -13,13 +13,13 @@ use std::marker::Sync;
 use std::sync::Wait;
 use std::thread::Threads;
 
-/// Writes what is explained. What there is no room for isn't written.
+/// Writes what is explained; nothing if allocation fails.
 fn explain<E: Write>(alloc: Global, errors: &mut E, lines: &[Vec<u8>]) -> io::Result<()>
     ensures { OnOk result (AppendsLines (E.contents errors.old) (E.contents errors.new)) }
 {
     let mut text = Vec::new(alloc);
     if put_explanation(&mut text, lines).is_err() {
-        // What can't be explained for want of room isn't: the status stays.
+        // A failed allocation leaves out what is explained, and nothing else: the status stays.
         return Ok(());
     }
     errors.write_all(text.as_slice())

@@ -5,7 +5,7 @@ ghost use Rattle.hsr_bitset.specs.Numbers.{has, has_bit, IsLowest};
 
 use std::marker::Model;
 
-// 512 is the number of ports that 64 nodes may have, 8 for each; directions of links and ways are fewer.
+// 512 is the number of ports that 64 nodes may have, 8 for each. Channels of links are no more: two for each of 256.
 /// How many words a set has.
 const WORDS: usize = 8;
 

@@ -69,9 +69,9 @@ impl Notes {
         }
     }
 
-    /// Notes what is explained. What can't be for want of room isn't: that is no reason to stop.
+    /// Notes what is explained; nothing where an allocation failed, which is no reason to stop.
     fn note(&mut self, explained: Result<Explanation, NoMemory>) {
-        // What can't be explained for want of room isn't: the status is that of the run.
+        // A failed allocation leaves out what is explained, and nothing else: the status is that of the run.
         if let Ok(explanation) = explained {
             self.explanation = explanation;
         }

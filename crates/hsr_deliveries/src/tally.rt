@@ -37,7 +37,7 @@ impl<'a> Model for Tally<'a> {
         ≡ count_by (delivers send) t.entries.now };
 }
 
-/// The send of an arrival that went up.
+/// The send of an entry that is an arrival and went up; none of any other.
 fn taken_up(x: &Entry) -> Option<Probe>
     ensures { (send : spec.Probe) → is_of send result ≡ delivers send x.now }
 {
@@ -50,6 +50,7 @@ fn taken_up(x: &Entry) -> Option<Probe>
     }
 }
 
+/// How often a send was counted; 0 where it never was.
 fn times_in(counts: &Counts, send: Probe) -> usize
     ensures { result ≡ times_in counts.now send }
 {

@@ -11,8 +11,8 @@ use hsr_frame::NoMemory;
 use hsr_link::{Dir, Fate, Row};
 use hsr_topology::End;
 
-/// The link of a port, counted from 0: the port at its other end, how many copies were lost on their way in and on
-/// their egress, and the octets of those that came and of all that were put there.
+/// The link of a port, counted from 0: the port at its other end; how many copies were lost on the way to the port, and
+/// how many of those that left by it; and the octets of those that came and of all that were put there.
 #[derive(Clone, Copy, Debug, PartialEq, Eq)]
 pub struct PortLink {
     pub link: usize,
@@ -23,14 +23,14 @@ pub struct PortLink {
     pub octets_out: u64,
 }
 
-/// The direction of the copies that leave by an end.
+/// The direction of the copies that leave by an end of a link, the link's first or its second.
 fn out_dir(is_first: bool) -> Dir
     ensures { result ≡ out_dir is_first }
 {
     if is_first { Dir::Forth } else { Dir::Back }
 }
 
-/// The direction of the copies that come to an end.
+/// The direction of the copies that come to an end of a link, its first or its second.
 fn in_dir(is_first: bool) -> Dir
     ensures { result ≡ in_dir is_first }
 {

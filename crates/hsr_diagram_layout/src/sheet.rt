@@ -412,7 +412,7 @@ impl Sheet {
         }
     }
 
-    /// The mark of a send that began at a time, on the line that has a number.
+    /// The mark of a send that began at a stamp, on the line that has a number.
     pub(crate) fn mark_at(&self, number: usize, start: Option<Stamp>) -> Mark {
         let y = self.rows.at_some(start);
         let foot = mark_foot(&self.rows.stamps, &self.columns, number, start);

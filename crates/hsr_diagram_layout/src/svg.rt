@@ -88,7 +88,7 @@ fn add_above<const C: usize>(
     add_list(alloc, elements, names, closed, sheet, deliveries, items)
 }
 
-/// Adds what stands below, from a y on. Where it ends.
+/// Adds what stands below, from the height `y` on. Where it ends.
 #[tactic(auto, unfolding(crate::specs::Drawing::below_shapes))]
 fn add_below(
     alloc: Global,
@@ -114,7 +114,8 @@ fn add_below(
     })
 }
 
-/// Adds all elements of a picture that has this sheet.
+/// Adds all elements of a picture that has this sheet, each behind what it covers. The width and height of the whole, in
+/// user units of SVG.
 #[tactic(auto, unfolding(crate::specs::Drawing::picture_shapes))]
 fn add_all<const C: usize>(
     alloc: Global,

@@ -155,7 +155,7 @@ fn add_all_told(
     Ok(ends)
 }
 
-/// The first of these, as many as are told of.
+/// The first 12 of these, or all where there are fewer: the others are counted.
 fn first_of(numbers: &[usize]) -> &[usize]
     ensures { result.now ≡ take 12 numbers.now }
 {

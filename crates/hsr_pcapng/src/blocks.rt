@@ -120,7 +120,7 @@ pub fn put_section_header(
     put_block(text, SECTION_HEADER, body.as_slice())
 }
 
-/// The body of a section header.
+/// The body of a section header (section 4.1, drawn above). `TooLong` where the program's name has 2^16 octets or more.
 #[tactic(auto, unfolding(crate::specs::Blocks::section_body))]
 fn section_body(alloc: Global, program: &[u8]) -> Result<Vec<u8>, BlockFault>
     ensures bytes { IfOk result (λ body. body.items ≡ section_body program.now) }
@@ -138,7 +138,8 @@ fn section_body(alloc: Global, program: &[u8]) -> Result<Vec<u8>, BlockFault>
     Ok(body)
 }
 
-/// The body of an interface's description.
+/// The body of an interface description (section 4.2, drawn above): Ethernet, moments in microseconds. `TooLong` where
+/// the name or the description has 2^16 octets or more.
 #[tactic(auto, unfolding(crate::specs::Blocks::interface_body))]
 fn interface_body(alloc: Global, name: &[u8], description: &[u8]) -> Result<Vec<u8>, BlockFault>
     ensures bytes { IfOk result (λ body. body.items ≡ interface_body name.now description.now) }
@@ -177,7 +178,8 @@ pub fn put_interface(
     put_block(text, INTERFACE_DESCRIPTION, body.as_slice())
 }
 
-/// The body of a packet.
+/// The body of an enhanced packet (section 4.3, drawn above), of which all octets are captured; its moment is in
+/// microseconds.
 #[tactic(auto, unfolding(crate::specs::Blocks::packet_body))]
 fn packet_body(
     alloc: Global,

@@ -68,7 +68,7 @@ pub(crate) fn forget(flights: &mut VecDeque<Flight>, count: usize)
     }
 }
 
-/// The copy that comes to its end next.
+/// The copy that comes to its end next; none where none is on its way.
 pub(crate) fn next<const C: usize>(world: &World<C>, flights: &VecDeque<Flight>) -> Option<Flight>
     ensures { result ≡ slice_get (on_way world.now flights.now.items) 0 }
 {
@@ -76,7 +76,7 @@ pub(crate) fn next<const C: usize>(world: &World<C>, flights: &VecDeque<Flight>)
     flights.get(place).copied()
 }
 
-/// The copy that a port is about to put, where it has a link.
+/// The copy that a port is about to put at the moment `now`, where the port has a link.
 fn leaving<const C: usize>(
     world: &World<C>,
     topology: &Topology,
@@ -118,7 +118,7 @@ pub(crate) fn put_by<const C: usize>(
     }
 }
 
-/// For how long a copy has been on its way.
+/// For how many microseconds a copy has been on its way.
 pub(crate) fn elapsed(now: u64, flight: Flight) -> u64
     ensures { result ≡ elapsed now flight }
 {

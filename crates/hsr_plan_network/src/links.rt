@@ -8,7 +8,7 @@ use hsr_plan_text::{Ring, Word};
 use hsr_topology::End;
 use std::alloc::Global;
 
-/// The first of the two ports of a node in the ring of that number.
+/// The first of the two ports of a node in the ring of that number: A (0), or C (2) of a QuadBox in its second ring.
 fn side(rings: &[Ring], ring: usize, name: &[u8]) -> u8
     ensures value { result ≡ side rings.now ring name.now }
     ensures most { result ≤ 2 }
@@ -27,7 +27,7 @@ fn end_at(names: &[Word], port: u8, name: &[u8]) -> End
     }
 }
 
-/// The name that follows round a ring.
+/// The name that follows another round a ring; behind the last comes the first.
 fn next<'a>(ring: &'a [Word], name: &[u8]) -> &'a [u8]
     requires { 0 < length ring.now }
     ensures { result.now ≡ next ring.now name.now }
@@ -39,7 +39,8 @@ fn next<'a>(ring: &'a [Word], name: &[u8]) -> &'a [u8]
     }
 }
 
-/// The link from a node to the next one round a ring.
+/// The link from a node to the next one round a ring; `number` is the ring's, and `names` are those of all nodes of
+/// rings, by their numbers.
 #[tactic(auto, unfolding(crate::specs::Links::ring_link))]
 fn ring_link(rings: &[Ring], names: &[Word], number: usize, ring: &[Word], name: &[u8]) -> [End; 2]
     requires { 0 < length ring.now }
@@ -53,7 +54,7 @@ fn ring_link(rings: &[Ring], names: &[Word], number: usize, ring: &[Word], name:
     ]
 }
 
-/// Puts the links of a ring behind others.
+/// Puts the links of a ring behind others: one for each of its nodes, to the next one.
 fn add_ring(
     links: &mut Vec<[End; 2]>,
     rings: &[Ring],
@@ -70,7 +71,8 @@ fn add_ring(
     Ok(())
 }
 
-/// The links of rings.
+/// The links of all rings, ring by ring: of each node of a ring the link to the next one. `names` are those of all
+/// nodes of rings, by their numbers. `NoMemory` if allocation fails.
 #[tactic(auto, using(crate::proofs::Linking::ring_links_step))]
 pub(crate) fn ring_links(
     alloc: Global,
@@ -100,7 +102,7 @@ fn interlink(names: &[Word], boxes: &[Word], name: &[u8]) -> [End; 2]
     ]
 }
 
-/// Puts the interlinks behind other links.
+/// Puts the interlinks of RedBoxes behind other links, in the order of `boxes`.
 pub(crate) fn add_interlinks(
     links: &mut Vec<[End; 2]>,
     names: &[Word],

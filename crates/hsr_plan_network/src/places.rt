@@ -55,7 +55,7 @@ fn mode_of(modes: &[InMode], name: &[u8]) -> Option<usize>
     modes.iter().position(|mode| mode.name.as_bytes() == name)
 }
 
-/// The mode of a name.
+/// The mode of a name; H where none is given.
 fn mode_for(modes: &[InMode], name: &[u8]) -> Mode
     ensures { result ≡ mode_for modes.now name.now }
 {

@@ -29,7 +29,7 @@ IsDelivered held holds text Unwritten = ⊤
 abbrev pub TellsFault : Option (List ℕ) → Option (List ℕ) → Type 0
 TellsFault told tells = (why : List ℕ) × (is_title why ≡ true) × Appends told tells (codes "fault: " ++ why ++ codes "\n")
 
--- one line was told of a text that wasn't read, or of refused room
+-- one line was told of a text that wasn't read, or of a failed allocation
 abbrev pub TellsInput : Option (List ℕ) → Option (List ℕ) → Type 0
 TellsInput told tells = (fault : InputFault) × Appends told tells (input_line fault)
 
@@ -51,7 +51,7 @@ Ends capacity octets held holds told tells Unwritten = Keeps told tells
 abbrev pub TellsOpen : Disagree → Option (List ℕ) → Option (List ℕ) → Type 0
 TellsOpen cause told tells = (why : List ℕ) × (is_title why ≡ true) × Appends told tells (codes "fault: check " ++ decimal (disagree_code cause) ++ codes "\nexplain: " ++ why ++ codes "\n")
 
--- a run that isn't closed was told, or refused room
+-- a run that isn't closed was told, or a failed allocation
 abbrev pub TellsWhyOpen : Disagree → Option (List ℕ) → Option (List ℕ) → Ending → Type 0
 TellsWhyOpen cause told tells Refused = TellsOpen cause told tells
 TellsWhyOpen cause told tells Failed = TellsInput told tells

@@ -26,7 +26,7 @@ const TABLE: usize = 512;
 /// Why octets are no scenario that can be played to its end.
 #[derive(Debug, Drop)]
 pub enum Wrong {
-    /// They are none, or an order is refused: the line that says it, or no room for that line.
+    /// They are none, or an order is refused: the line that says it, or `NoMemory` where an allocation failed.
     Told(Line),
     /// The run that the orders lead to can't be closed.
     Open(Disagree),
@@ -54,7 +54,7 @@ fn played(alloc: Global, text: &str, scenario: Scenario) -> Result<(), Wrong>
             Err(Wrong::Told(refused_step_line(alloc, text, index, why)))
         }
         Err(Unfinished::Check(cause)) => Err(Wrong::Open(cause)),
-        // Refused room is no fault of the text, so it has no place there.
+        // A failed allocation is no fault of the text, so it has no line and column there.
         Err(Unfinished::Memory) => Err(Wrong::Told(Err(NoMemory))),
     }
 }
@@ -119,7 +119,7 @@ fn explain<E: Write>(
     Ok(Ending::Refused)
 }
 
-/// Writes why a run can't be closed, and what would do; or the line of refused room.
+/// Writes why a run can't be closed, and what would do; or the line of a failed allocation.
 fn complain_open<E: Write>(alloc: Global, errors: &mut E, cause: Disagree) -> io::Result<Ending>
     ensures { IfOk result (TellsWhyOpen cause (E.contents errors.old) (E.contents errors.new)) }
 {

@@ -43,11 +43,10 @@ impl Ending {
     }
 }
 
-/// Why there is nothing to write: a line that says it, or no room for that line.
+/// Why there is nothing to write: a line that says it, or `NoMemory` where an allocation failed.
 pub type Line = Result<Vec<u8>, NoMemory>;
 
-/// The line of words alone.
-/// `Err` where room for them is refused.
+/// The line of words alone; `NoMemory` if allocation fails.
 pub fn words(alloc: Global, words: &str) -> Line {
     let mut line = Vec::new(alloc);
     line.extend_from_slice(words.as_bytes())?;
@@ -64,7 +63,8 @@ fn too_long(alloc: Global, octets: usize) -> Line {
     Ok(line)
 }
 
-/// The line of copies that are still on their way after `steps` steps.
+/// The line of copies that are still on their way after `steps` steps. A table that is too small forgets what it passed, so that copies
+/// go round again and again.
 fn endless(alloc: Global, steps: usize) -> Line {
     let mut line = words(
         alloc,
@@ -85,7 +85,7 @@ fn line_of_fault(alloc: Global, text: &str, fault: &PlanFault) -> Line
     plan_fault_line(alloc, text, fault)
 }
 
-/// The line of a trouble; there is none for refused room.
+/// The line of a trouble; `NoMemory` where that is the trouble, or if allocation fails.
 pub fn line_of(alloc: Global, text: &str, trouble: &Trouble) -> Line
     ensures { IsOk result → IsKnown trouble.now }
 {
@@ -163,8 +163,8 @@ fn refuse<E: Write>(errors: &mut E, why: &[u8]) -> io::Result<Ending>
     Ok(Ending::Refused)
 }
 
-/// Writes the line of a text that isn't read, or of refused room, after which nothing is written. The error of `errors`, where it can't
-/// be written there.
+/// Writes the line of a text that isn't read, or of a failed allocation, after which nothing is written. The error of `errors`, where
+/// it can't be written there.
 pub fn fail<E: Write>(errors: &mut E, fault: InputFault) -> io::Result<Ending>
     ensures is { IfOk result (λ ending. ending ≡ Failed) }
     ensures told { OnOk result (TellsInput (E.contents errors.old) (E.contents errors.new)) }
@@ -174,7 +174,7 @@ pub fn fail<E: Write>(errors: &mut E, fault: InputFault) -> io::Result<Ending>
     Ok(Ending::Failed)
 }
 
-/// Writes the line of what is wrong, or of refused room. The error of `errors`, where it can't be written there.
+/// Writes the line of what is wrong, or of a failed allocation. The error of `errors`, where it can't be written there.
 pub fn complain<E: Write>(alloc: Global, errors: &mut E, line: Line) -> io::Result<Ending>
     ensures { IfOk result (TellsWhy (IsOk line) (E.contents errors.old) (E.contents errors.new)) }
 {

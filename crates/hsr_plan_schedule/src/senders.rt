@@ -56,7 +56,8 @@ fn as_node(nodes: &[Node], number: usize) -> Option<Sender>
     }
 }
 
-/// The station of a name as a sender, at the Station of that number.
+/// The station of a name as a sender: the node `at` is the Station that is it, and `from` the index of its address there. None where
+/// there is no such node, or it is no Station.
 fn as_station(nodes: &[Node], at: usize, name: &[u8]) -> Option<Sender>
     ensures { result ≡ station_sender at (slice_get nodes.now at) name.now }
 {

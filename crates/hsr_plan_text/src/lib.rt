@@ -4,7 +4,7 @@
 //! - `word`: a word of a plan
 //! - `fault`: why a text is no plan
 //! - `plan`: what a plan says
-//! - `table`: which keys a table may have, and the times of a plan
+//! - `table`: which keys a table may have, and the moments and gaps of a plan
 //! - `words`: the words that texts of a plan spell
 //! - `network`: what the keys of a plan say of its nodes
 //! - `streams`: the streams of a plan

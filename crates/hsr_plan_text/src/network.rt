@@ -23,7 +23,7 @@ use toml::{Table, Value};
 
 // ---- names
 
-/// Refuses a word that is no name.
+/// Refuses a word that is no name: there is never a word, but a fault.
 fn no_name(alloc: Global, key: Key, text: &[u8]) -> Result<Word, What>
     ensures { Gives (λ w. w) result (Err (BadName key text.now)) }
 {
@@ -50,7 +50,7 @@ pub(crate) fn name(alloc: Global, key: Key, value: &Value) -> Result<Word, What>
     name_in(alloc, key, text(key, value)?.as_bytes())
 }
 
-/// The names that items are.
+/// The names that items are, in their order; or the first fault.
 #[tactic(auto, using(crate::proofs::Lists::names_step, crate::proofs::Lists::names_fail))]
 pub(crate) fn names_of(alloc: Global, key: Key, items: &[Value]) -> Result<Vec<Word>, What>
     ensures { Gives (λ v. v.items) result (each_item (name key) [] (items_view items.now)) }
@@ -92,7 +92,7 @@ fn only_ring(alloc: Global, value: &Value) -> Result<Vec<Ring>, What>
     Ok(rings)
 }
 
-/// The rings of a table.
+/// The rings of a table in its order; or the first fault.
 #[tactic(auto, using(crate::proofs::Lists::rings_step, crate::proofs::Lists::rings_fail))]
 fn rings_of(alloc: Global, members: &Table) -> Result<Vec<Ring>, What>
     ensures { Gives (λ v. v.items) result (each_member ring [] (table_view members.now)) }
@@ -151,7 +151,7 @@ fn redbox(alloc: Global, word: &str, value: &Value) -> Result<Behind, What>
     Ok(Behind { redbox, stations })
 }
 
-/// The RedBoxes of a table.
+/// The RedBoxes of a table in its order, each with its stations; or the first fault.
 #[tactic(auto, using(crate::proofs::Lists::redboxes_step, crate::proofs::Lists::redboxes_fail))]
 fn redboxes_of(alloc: Global, members: &Table) -> Result<Vec<Behind>, What>
     ensures { Gives (λ v. v.items) result (each_member redbox [] (table_view members.now)) }
@@ -193,7 +193,7 @@ fn address(alloc: Global, word: &str, value: &Value) -> Result<Addressed, What>
     Ok(Addressed { name, mac })
 }
 
-/// The addresses of a table.
+/// The addresses of a table in its order; or the first fault.
 #[tactic(auto, using(crate::proofs::Lists::addresses_step, crate::proofs::Lists::addresses_fail))]
 fn addresses_of(alloc: Global, members: &Table) -> Result<Vec<Addressed>, What>
     ensures { Gives (λ v. v.items) result (each_member address [] (table_view members.now)) }

@@ -1,4 +1,4 @@
-//! Which keys a table may have, and the times of a plan.
+//! Which keys a table may have, and the moments and gaps of a plan.
 ghost use Rattle.std.specs.Prelude.{◌≡◌, ◌^◌, Err};
 ghost use Rattle.toml.specs.View.{view, table_view};
 ghost use Rattle.hsr_plan_text.specs.Fallible.{Gives};

@@ -155,7 +155,7 @@ pub fn report<const C: usize>(
     ensures text { IfOk result (λ text. IsReportOf scope asked closed.now.run finding text.items) }
     ensures finished { OnOk result (IsFinished closed.now) }
 {
-    // Formed before the rest and lent: a function that owns one value has few egresses on which others are dropped.
+    // Formed before the rest and lent: a function that owns one value has few returns on which others are dropped.
     let parts = parts(alloc, closed, asked)?;
     report_with(alloc, closed, scope, finding, parts.as_slice())
 }

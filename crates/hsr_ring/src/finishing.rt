@@ -30,7 +30,7 @@ fn halted(index: usize, fault: DrainFault) -> Unfinished
     ensures { result ≡ halted index fault }
 {
     match fault {
-        // Want of memory is one fault, wherever it comes: no user has to look for it in the faults below.
+        // A failed allocation is one fault, wherever it comes: no user has to look for it in the faults below. Its order isn't named.
         DrainFault::World(WorldFault::NoMemory) => Unfinished::Memory,
         _ => Unfinished::Step(index, fault),
     }

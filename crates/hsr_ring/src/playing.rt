@@ -42,7 +42,7 @@ fn obey<const C: usize>(world: &mut World<C>, order: &Order) -> Result<(), Drain
     }
 }
 
-/// Does what orders ask for, up to the first that is refused, of which the index is told.
+/// Does what orders ask for, up to the first that is refused: its index, and why. What the orders before it did stands.
 pub fn play<const C: usize>(
     world: &mut World<C>,
     orders: &[Order],

@@ -92,7 +92,7 @@ impl<const C: usize> World<C> {
         }
     }
 
-    /// Does steps, up to the first that is refused, of which the index is told.
+    /// Does steps, up to the first that is refused: its index, and why. The steps before it stand.
     pub fn run(&mut self, steps: &[Step]) -> Result<(), (usize, WorldFault)>
         ensures ok { OnOk result (Runs C steps.now self.old self.new) }
         ensures err { IfErr result (λ e. Stops C steps.now e.0 self.old self.new e.1) }
@@ -188,8 +188,8 @@ impl<const C: usize> World<C> {
 
     /// Closes the world: a finished run exactly where nothing waits in an outbox, in a hand or on a link and nothing was
     /// injected. In that run each RedBox numbers a frame of its Station before anything tagged of it comes, with the number
-    /// of its send. Else the world comes back as it was, with the first cause; or with `NoMemory` where room for copies or
-    /// the check was refused.
+    /// of its send. Else the world comes back as it was, with the first cause; or with `NoMemory` if
+    /// allocation fails.
     pub fn close(self) -> Result<Closed<C>, (World<C>, CheckFault)>
         ensures closed { IfOk result (λ closed. closed ≡ finished_of C self.entry) }
         ensures ended { IfOk result (λ closed. IsEnded self.entry) }

@@ -88,7 +88,7 @@ pub(crate) fn clock_after(at: u64, order: &Order) -> u64
 }
 
 /// The sends, supervisions and ages of a scenario in order, each with the moment of the last clock step before it, 0 at first.
-/// `NoMemory` where room for them is refused.
+/// `NoMemory` if allocation fails.
 pub fn plan_of(alloc: Global, orders: &[Order]) -> Result<Vec<Planned>, NoMemory>
     ensures { IfOk result (λ plan. plan.items ≡ plan_of orders.now) }
 {

@@ -41,7 +41,7 @@ pub(crate) fn at_spot<T>(spot: Spot, told: Result<T, What>) -> Result<T, Scenari
     told.map_err(|what| ScenarioFault { spot, what })
 }
 
-/// The fault where room for what a table says is refused.
+/// The fault where an allocation for what a table says fails.
 fn no_memory_at(spot: Spot) -> ScenarioFault
     ensures { result ≡ record { spot = spot; what = NoMemory } }
 {

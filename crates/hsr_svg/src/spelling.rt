@@ -412,7 +412,7 @@ fn put_head(text: &mut Vec<u8>) -> Result<(), NoMemory>
     put(text, "<svg xmlns=\"http://www.w3.org/2000/svg\"")
 }
 
-/// Puts what part of the plane is shown last.
+/// Puts last, as the attribute viewBox, what part of the plane is shown: from 0 0 on, this wide and this high.
 #[tactic(auto, unfolding(crate::specs::Spelling::view_text))]
 fn put_view(text: &mut Vec<u8>, width: u64, height: u64) -> Result<(), NoMemory>
     ensures { OnOk result (text.new.items ≡ text.old.items ++ view_text width height) }

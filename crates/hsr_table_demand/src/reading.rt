@@ -52,7 +52,8 @@ fn is_own_numbered(place: &Place, outcome: &Outcome) -> bool
     }
 }
 
-/// Whether what came has a number, or got this one.
+/// Whether what came has a sequence number: a tagged frame has its own, a plain one that which its node gave it (`seq`),
+/// if it gave one. Octets that are no frame have none.
 fn is_numbered(seen: &Result<SeenView<'_>, FrameFault>, seq: Option<u16>) -> bool
     ensures { result ≡ is_some (key_in seen.now seq) }
 {

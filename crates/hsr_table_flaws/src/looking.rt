@@ -63,6 +63,6 @@ pub(crate) fn firsts_of<const C: usize>(
     ensures { IfOk result (λ f. AreFirsts closed.now.run node f.forgot f.mistaken f.late) }
 {
     let mut log = Log::new(alloc);
-    // Made here and lent: a function that owns one value has few egresses on which others are dropped.
+    // Made here and lent: a function that owns one value has few returns on which others are dropped.
     walk(closed, node, &mut log)
 }

@@ -38,10 +38,10 @@ impl Model for Mark {
 /// The latest mark with a source and number.
 #[derive(Clone, Copy)]
 pub(crate) struct Latest {
-    /// Its place among the marks.
+    /// Its index among the marks.
     place: usize,
     send: Option<Probe>,
-    /// The place of the latest mark with that source and number that is of another send.
+    /// The index of the latest mark with that source and number that is of another send.
     other: Option<usize>,
 }
 
@@ -49,7 +49,7 @@ pub(crate) struct Latest {
 #[derive(Drop)]
 pub(crate) struct Marks {
     marks: Vec<Mark>,
-    /// The place of the latest mark of each send, by the send's node and place.
+    /// The index of the latest mark of each send, by the send's node and place.
     sends: IndexMap<(usize, usize), usize>,
     /// The latest mark with each source and number.
     keys: IndexMap<(Mac, u16), Latest>,
@@ -82,21 +82,21 @@ fn is_same_send(send: Option<Probe>, other: Option<Probe>) -> bool
     }
 }
 
-/// The place that an index has for a send.
+/// The index among the marks of the latest one of a send.
 fn place_of(sends: &IndexMap<(usize, usize), usize>, send: Probe) -> Option<usize>
     ensures { result ≡ place_of sends.now send }
 {
     sends.get(&(send.node, send.place)).copied()
 }
 
-/// The latest mark that an index has for a source and number.
+/// The latest mark with a source and number.
 fn latest_of(keys: &IndexMap<(Mac, u16), Latest>, key: Key) -> Option<Latest>
     ensures { result ≡ latest_of keys.now key }
 {
     keys.get(&(key.src, key.seq)).copied()
 }
 
-/// The place of the latest mark that is of another send, of the marks with one source and number.
+/// The index of the latest mark that is of another send, of the marks with one source and number.
 fn other_of(latest: Option<Latest>, send: Option<Probe>) -> Option<usize>
     ensures { result ≡ other_in send latest }
 {
@@ -116,7 +116,7 @@ fn is_unexpired(at: u64, mark: &Mark) -> bool
     at.saturating_sub(mark.moment) < ENTRY_FORGET
 }
 
-/// Whether the mark at a place is remembered: whether it is young, and among as many of the latest as a table has entries.
+/// Whether the mark with an index is remembered: whether it is young, and among as many of the latest as a table has entries.
 #[tactic(auto, using(crate::proofs::Placing::within))]
 fn is_kept(capacity: usize, at: u64, place: Option<usize>, marks: &[Mark]) -> bool
     ensures { result ≡ is_kept capacity at marks.now place }
@@ -154,7 +154,7 @@ fn add_mark(marks: &mut Vec<Mark>, mark: Mark) -> Result<(), NoMemory>
     Ok(())
 }
 
-/// Names the place of the latest mark of a send, if it is of one.
+/// Keeps the index of the latest mark of a send, if it is of one.
 fn name_send(sends: &mut IndexMap<(usize, usize), usize>, send: Option<Probe>, place: usize)
     requires { 0 < spare sends.old }
     ensures { (p : Probe) → place_of sends.new p
@@ -198,7 +198,7 @@ impl Marks {
         }
     }
 
-    /// The place of the latest mark of a send.
+    /// The index of the latest mark of a send.
     #[tactic(auto, using(crate::proofs::Placing::nowhere_of_none))]
     fn place_of(&self, send: Option<Probe>) -> Option<usize>
         ensures { result ≡ place_in (is_note_of send) (reverse self.now) }
@@ -217,7 +217,7 @@ impl Marks {
         self.place_of(send).is_some()
     }
 
-    /// The place of the latest mark with a source and number that is of another send.
+    /// The index of the latest mark with a source and number that is of another send.
     #[tactic(auto, using(crate::proofs::Placing::other_found))]
     fn place_of_other(&self, key: Key, send: Option<Probe>) -> Option<usize>
         ensures { result ≡ place_in (is_mistaken key send) (reverse self.now) }

@@ -45,7 +45,7 @@ fn before(spot: Spot) -> Option<Spot>
 fn next(stamp: Stamp) -> Result<Stamp, NoMemory>
     ensures { IfOk result (λ t. t ≡ record { moment = stamp.moment; step = stamp.step + 1 }) }
 {
-    // 64 bits of steps are never used up; if they were, that would be want of room.
+    // 64 bits of steps are never used up; if they were, that would be told as a failed allocation.
     match stamp.step.checked_add(1) {
         Some(step) => Ok(Stamp {
             moment: stamp.moment,

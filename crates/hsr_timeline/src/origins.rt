@@ -13,7 +13,7 @@ use hsr_frame::NoMemory;
 use hsr_node::Entry;
 use std::alloc::Global;
 
-/// Puts what is known of an entry last.
+/// Puts what is known of an entry last: its moment, and the entries that it follows by these causes.
 fn add(
     origins: &mut Vec<Origin>,
     planned: &Causes,
@@ -33,7 +33,8 @@ fn add(
     Ok(())
 }
 
-/// What is known of the entries of a record.
+/// What is known of each entry of a node's record, in their order: `planned` has the main worker's entry before it,
+/// `passed` the entry that passed the copy with which it came.
 fn origins_of(
     alloc: Global,
     planned: &Causes,

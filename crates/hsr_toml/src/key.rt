@@ -28,7 +28,7 @@ pub trait TableKey: Copy {
     fn bad_value(self) -> Self::Fault
         ensures { result ≡ faults.bad_value self };
 
-    /// That room for what the value of the key says was refused.
+    /// That an allocation for what the value of the key says failed.
     fn no_memory(self) -> Self::Fault
         ensures { faults.is_memory result ≡ true };
 }

@@ -12,7 +12,7 @@
 //! - `walk`: how deep in brackets the octets of a bare text are
 //! - `source`: where keys, tables and names stand in a text
 //! - `line`: a fault's one line
-//! - `words`: the words of a fault that name its place, and of a text that isn't TOML
+//! - `words`: the words of a fault that name its position, and of a text that isn't TOML
 #![tactic(auto)]
 
 mod document;

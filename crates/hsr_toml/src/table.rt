@@ -156,8 +156,8 @@ fn texts_of<'a, K: TableKey>(
 }
 
 /// The texts of an array.
-/// `wrong_kind` where the value is no array or an item no text, `no_memory` where room for the list is refused. The
-/// texts are those of the document, and aren't copied.
+/// `wrong_kind` where the value is no array or an item no text, `no_memory` if allocation fails. The texts are those of
+/// the document, and aren't copied.
 #[tactic(auto, using(crate::proofs::Fallible::stays))]
 pub fn texts<'a, K: TableKey>(
     alloc: Global,
@@ -191,8 +191,8 @@ fn tables_of<'a, K: TableKey>(
 }
 
 /// The tables of an array.
-/// `wrong_kind` where the value is no array or an item no table, `no_memory` where room for the list is refused. The
-/// tables are those of the document, and aren't copied.
+/// `wrong_kind` where the value is no array or an item no table, `no_memory` if allocation fails. The tables are those
+/// of the document, and aren't copied.
 #[tactic(auto, using(crate::proofs::Fallible::stays))]
 pub fn tables<'a, K: TableKey>(
     alloc: Global,
@@ -206,8 +206,8 @@ pub fn tables<'a, K: TableKey>(
 }
 
 /// The tables of an array that may be missing.
-/// None where it is missing; `wrong_kind` where the value is no array or an item no table, `no_memory` where room for
-/// the list is refused.
+/// None where it is missing; `wrong_kind` where the value is no array or an item no table, `no_memory` if allocation
+/// fails.
 pub fn tables_at<'a, K: TableKey>(
     alloc: Global,
     table: &'a Table,

@@ -31,7 +31,7 @@ fn commit_span(alloc: Global, span: &mut Span, place: &Place, here: Probe, entry
     commit_lane(alloc, &mut span.back, place, here, entry);
 }
 
-/// Makes room for one more copy wherever a node sends at these links. `NoMemory` where it is refused.
+/// Makes room for one more copy wherever a node sends at these links. `NoMemory` if allocation fails; no copy is changed.
 /// Room that isn't needed stays for the next entry.
 pub fn prepare(spans: &mut [Span], links: &[usize], node: usize) -> Result<(), NoMemory>
     requires { AreRising (length spans.old) links.now }

@@ -80,7 +80,7 @@ fn part_into(spans: Vec<Span>, rows: &mut Vec<Vec<Row>>, bares: &mut Vec<Bare>)
     }
 }
 
-/// Links apart from their rows. Where room for the parts is refused the links come back as they were.
+/// Links apart from their rows. If allocation fails the links come back as they were.
 pub fn part(alloc: Global, spans: Vec<Span>) -> Result<Parted, Vec<Span>>
     ensures ok { IfOk result (λ p. IsParted (map span_view spans.items) p) }
     ensures err { IfErr result (λ back. map span_view back.items ≡ map span_view spans.items) }

@@ -35,7 +35,7 @@ pub fn cut_at(spans: &mut [Span], link: usize)
     let _lost = spans[link].link.cut();
 }
 
-/// Puts octets that no port sent onto the link of this number, in this direction. `NoMemory` where room for them is refused;
+/// Puts octets that no port sent onto the link of this number, in this direction. `NoMemory` if allocation fails;
 /// then nothing changes.
 pub fn inject_at(
     alloc: Global,
@@ -145,8 +145,8 @@ fn put(span: &mut Span, dir: Dir) -> Result<(), WorldFault>
     }
 }
 
-/// The oldest copy of the outbox of a direction goes onto its link. `Nothing` where the outbox is empty, `NoMemory` where room
-/// for the copy is refused; then nothing changes.
+/// The oldest copy of the outbox of a direction goes onto its link. `Nothing` where the outbox is empty, `NoMemory` if
+/// allocation fails; then nothing changes.
 pub(crate) fn put_at(spans: &mut [Span], link: usize, dir: Dir) -> Result<(), WorldFault>
     requires { link < length spans.old }
     ensures ok { OnOk result (put_spans dir link (map span_view spans.old)

@@ -38,7 +38,7 @@ pub(crate) fn find_spot(spans: &[Span], end: End) -> Option<Spot>
 }
 
 /// The oldest copy of the outbox of a port that sends there goes onto its link. `Nothing` where it sends nowhere or its outbox
-/// is empty, `NoMemory` where room for the copy is refused; then nothing changes.
+/// is empty, `NoMemory` if allocation fails; then nothing changes.
 pub fn put_at_spot(spans: &mut [Span], spot: Option<Spot>) -> Result<(), WorldFault>
     ensures ok { OnOk result (put_at_spot (map span_view spans.old) (option_map spot_view spot)
         ≡ Ok (map span_view spans.new)) }
