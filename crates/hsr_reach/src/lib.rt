@@ -13,16 +13,16 @@
 #![tactic(auto)]
 
 mod addresses;
+mod channel;
 mod follow;
 mod front;
 mod network;
 mod search;
 mod sides;
 mod starting;
-mod channel;
 
 pub use addresses::share_address;
+pub use channel::Channel;
 pub use network::{are_going_round, first_unlike_link, have_own_addresses, is_in_h_or_u};
 pub use search::Channels;
 pub use sides::is_edge;
-pub use channel::Channel;

@@ -9,10 +9,10 @@ ghost use Rattle.hsr_reach.specs.Numbered.{IsLossOf, is_found, number_of};
 ghost use Rattle.hsr_reach.specs.Spread.{Follows, IsSpread, next_node};
 ghost use Rattle.hsr_reach.specs.Started.{channels_from};
 
+use crate::channel::Channel;
 use crate::follow::{lets_out, passes_on};
 use crate::front::Front;
 use crate::starting::starting_in;
-use crate::channel::Channel;
 use hsr_bitset::Numbers;
 use hsr_finished_run::{Closed, from_end, to_end};
 use hsr_frame::NoMemory;
@@ -131,7 +131,13 @@ impl<'a, const C: usize> Channels<'a, C> {
     }
 
     /// Whether a send takes a channel, from its sender or from the end of another channel.
-    fn follows(&self, send: Probe, frame: &FrameView<'_>, from: &Option<Channel>, channel: Channel) -> bool
+    fn follows(
+        &self,
+        send: Probe,
+        frame: &FrameView<'_>,
+        from: &Option<Channel>,
+        channel: Channel,
+    ) -> bool
         requires from { IfSome from.now (λ before. before.link < length self.now.links) }
         requires channel { channel.link < length self.now.links }
         ensures { IsTrue result ↔ Follows self.now send frame.now from.now channel }
