@@ -80,10 +80,7 @@ fn put_unlinked_ports<const C: usize>(
 }
 
 /// Puts the lines of all ports on rings that have no link.
-fn put_all_unlinked<const C: usize>(
-    text: &mut Vec<u8>,
-    closed: &Closed<C>,
-) -> Result<(), NoMemory>
+fn put_all_unlinked<const C: usize>(text: &mut Vec<u8>, closed: &Closed<C>) -> Result<(), NoMemory>
     ensures { OnOk result (text.new.items ≡ text.old.items ++ unlinked_lines closed.now.run
         (length closed.now.run.places)) }
 {

@@ -66,12 +66,7 @@ fn put_ring_node(
 }
 
 /// Puts a word and the addresses behind it.
-fn put_station(
-    alloc: Global,
-    text: &mut Vec<u8>,
-    word: &[u8],
-    macs: &[Mac],
-) -> Result<(), NoMemory>
+fn put_station(alloc: Global, text: &mut Vec<u8>, word: &[u8], macs: &[Mac]) -> Result<(), NoMemory>
     ensures written { OnOk result (text.new.items
         ≡ text.old.items ++ spaced word.now (map mac_text macs.now)) }
     ensures fit { OnOk result (AllByRecursion IsAddress macs.now) }

@@ -68,12 +68,7 @@ fn put_event(
 }
 
 /// Puts a space and the letter of a port, if something left by it.
-fn put_port(
-    text: &mut Vec<u8>,
-    place: &Place,
-    ports: &[bool; 4],
-    port: u8,
-) -> Result<(), NoMemory>
+fn put_port(text: &mut Vec<u8>, place: &Place, ports: &[bool; 4], port: u8) -> Result<(), NoMemory>
     ensures { OnOk result (text.new.items ≡ text.old.items ++ port_text place.now ports.now port) }
 {
     // A node has four ports at most, so a port past them let nothing out.
