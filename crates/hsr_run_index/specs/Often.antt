@@ -23,13 +23,13 @@ AsOften xs ys = (copy : Carried) → count_by (is_same_carried copy) xs ≡ coun
 -- ---- counts by an index
 
 -- the node and place of a send
-abbrev pub send_key : Option Probe → Option (ℕ × ℕ)
-send_key None = None
-send_key (Some send) = Some (send.node, send.place)
+abbrev pub probe_pair : Option Probe → Option (ℕ × ℕ)
+probe_pair None = None
+probe_pair (Some send) = Some (send.node, send.place)
 
 -- a key of an index is that of a copy
 abbrev pub is_key_of : Carried → Option (ℕ × ℕ) × Bor (List ℕ) → Bool
-is_key_of copy key = option_eq (λ x y. nat_eq x.0 y.0 && nat_eq x.1 y.1) (send_key copy.probe) key.0 && bytes_eq copy.octets key.1.now
+is_key_of copy key = option_eq (λ x y. nat_eq x.0 y.0 && nat_eq x.1 y.1) (probe_pair copy.probe) key.0 && bytes_eq copy.octets key.1.now
 
 -- how often a copy is by an index
 abbrev pub count_of : {S : Type 0} → IndexMap (Option (ℕ × ℕ) × Bor (List ℕ)) ℕ S → Carried → ℕ

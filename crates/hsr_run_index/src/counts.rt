@@ -1,7 +1,7 @@
 //! Whether each copy is as often in one list as in another, by an index of either.
 ghost use Rattle.std.specs.Prelude.{◌≡◌, ℕ, ◌+◌, ◌<◌, ◌↔◌, ◌^◌, count_by, if◌then◌else◌, length, slice_index_or, true, false, IfOk, IsTrue, OnOk};
 ghost use Rattle.hsr_node.specs.declared.event.Carried as spec;
-ghost use Rattle.hsr_run_index.specs.Often.{AsOften, count_of, is_same_carried, send_key};
+ghost use Rattle.hsr_run_index.specs.Often.{AsOften, count_of, is_same_carried, probe_pair};
 
 use hsr_frame::NoMemory;
 use hsr_node::Carried;
@@ -16,7 +16,7 @@ pub type Counts<'a> = IndexMap<Key<'a>, usize>;
 
 /// The node and place of a copy's send, and its octets.
 pub fn key_of<'a>(copy: &'a Carried) -> Key<'a>
-    ensures send { result.0 ≡ send_key copy.now.probe }
+    ensures send { result.0 ≡ probe_pair copy.now.probe }
     ensures octets { result.1.now ≡ copy.now.octets }
 {
     let send = match copy.probe {

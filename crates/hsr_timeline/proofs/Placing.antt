@@ -8,7 +8,7 @@ use Rattle.std.proofs.lemmas.List.{append-nil}
 use Rattle.indexmap.specs.IndexMap.{IndexMap, Updates, get_by}
 use Rattle.hsr_frame.proofs.OneMore.{passing_more}
 use Rattle.hsr_node.specs.declared.event.Carried.{Carried}
-use Rattle.hsr_run_index.specs.Often.{count_of, is_key_of, is_same_carried, send_key}
+use Rattle.hsr_run_index.specs.Often.{count_of, is_key_of, is_same_carried, probe_pair}
 use Rattle.hsr_run_index.proofs.Counting.{is_same_key, keys_same}
 use Rattle.hsr_run_index.proofs.Often.{carried_tells}
 use Rattle.hsr_timeline.specs.IndexedCopies.{found_at, indices_in, items_if}
@@ -17,11 +17,11 @@ use Rattle.hsr_timeline.specs.Partners.{indices, indices_below, is_at, partner_o
 -- ---- one more index
 
 pub one_kept : {S : Type 0} (old new : IndexMap (Option (ℕ × ℕ) × Bor (List ℕ)) (Vec ℕ Global) S) (copy : Carried) (key : Option (ℕ × ℕ) × Bor (List ℕ)) (index : ℕ) (indices : Vec ℕ Global) →
-    key.0 ≡ send_key copy.probe → key.1.now ≡ copy.octets → indices.items ≡ indices_in old copy ++ index ∷ [] → Updates is_same_key old new key (Some indices) →
+    key.0 ≡ probe_pair copy.probe → key.1.now ≡ copy.octets → indices.items ≡ indices_in old copy ++ index ∷ [] → Updates is_same_key old new key (Some indices) →
     (other : Carried) → indices_in new other ≡ indices_in old other ++ cond (is_same_carried other copy) (index ∷ []) []
 one_kept old new copy key index indices at octets more updates other =
-    let other_key : Option (ℕ × ℕ) × Bor (List ℕ) = (send_key other.probe, record key.1 { now = other.octets }) in
-    let P : Option (ℕ × ℕ) → Type 0 = λ p. (option_eq (λ a b. nat_eq a.0 b.0 && nat_eq a.1 b.1) p (send_key other.probe) && bytes_eq key.1.now other.octets) ≡ is_same_carried other copy in
+    let other_key : Option (ℕ × ℕ) × Bor (List ℕ) = (probe_pair other.probe, record key.1 { now = other.octets }) in
+    let P : Option (ℕ × ℕ) → Type 0 = λ p. (option_eq (λ a b. nat_eq a.0 b.0 && nat_eq a.1 b.1) p (probe_pair other.probe) && bytes_eq key.1.now other.octets) ≡ is_same_carried other copy in
     let same : is_same_key key other_key ≡ is_same_carried other copy = subst P (sym at) (keys_same copy other key.1.now octets) in
     let found : get_by (is_key_of other) new ≡ cond (is_same_carried other copy) (Some indices) (get_by (is_key_of other) old) =
     updates.0 other_key ∙ ap (λ b. cond b (Some indices) (get_by (is_key_of other) old)) same in
@@ -37,10 +37,10 @@ items_kept None none is = is
 items_kept (Some indices) none is = refl
 
 pub found : {S : Type 0} (kept : IndexMap (Option (ℕ × ℕ) × Bor (List ℕ)) (Vec ℕ Global) S) (copy : Carried) (key : Option (ℕ × ℕ) × Bor (List ℕ)) →
-    key.0 ≡ send_key copy.probe → key.1.now ≡ copy.octets → get_by (is_same_key key) kept ≡ get_by (is_key_of copy) kept
+    key.0 ≡ probe_pair copy.probe → key.1.now ≡ copy.octets → get_by (is_same_key key) kept ≡ get_by (is_key_of copy) kept
 found kept copy key send octets =
     let by : Option (ℕ × ℕ) → List ℕ → Option (Vec ℕ Global) = λ p xs. get_by (λ k. option_eq (λ a b. nat_eq a.0 b.0 && nat_eq a.1 b.1) p k.0 && bytes_eq xs k.1.now) kept in
-    ap (λ p. by p key.1.now) send ∙ ap (by (send_key copy.probe)) octets
+    ap (λ p. by p key.1.now) send ∙ ap (by (probe_pair copy.probe)) octets
 
 -- ---- one more copy
 
