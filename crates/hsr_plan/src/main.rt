@@ -21,7 +21,10 @@ fn run<H: AllocGlobal + Env + Input + Print, E: Write>(
     errors: &mut E,
 ) -> io::Result<ExitCode> {
     let args: Vec<String> = env::args(rt)?.collect(rt.alloc())?;
-    let words = arguments(rt.alloc(), &args)?;
+    // Refused memory is told as the standard library tells it, so that `main` finds it in one place.
+    let Ok(words) = arguments(rt.alloc(), &args) else {
+        return Err(io::Error::from(ErrorKind::OutOfMemory));
+    };
     let mut reader = rt.reader();
     let mut writer = BufWriter::new(rt.alloc(), io::writer(rt))?;
     let code = plan(

@@ -130,7 +130,10 @@ fn run<H: AllocGlobal + Env + Files + Input + Print, E: Write>(
     errors: &mut E,
 ) -> io::Result<ExitCode> {
     let args: Vec<String> = env::args(rt)?.collect(rt.alloc())?;
-    let words = arguments(rt.alloc(), &args)?;
+    // Refused memory is told as the standard library tells it, so that `main` finds it in one place.
+    let Ok(words) = arguments(rt.alloc(), &args) else {
+        return Err(io::Error::from(ErrorKind::OutOfMemory));
+    };
     let code = match asked(rt.alloc(), words.as_slice()) {
         Ok(asked) => view_input(rt, asked, errors),
         Err(WordFault::Usage { text }) => refuse(errors, text.as_str()),
