@@ -1,5 +1,4 @@
 //! The shelves of labels: of what stands at the points of arrows, and beside the marks of sends.
-use crate::arrows::rows_at;
 use crate::columns::Columns;
 use crate::rows::Stamps;
 use crate::shelves::{Foot, Shelves, Side};
@@ -84,7 +83,7 @@ fn put_arrow<const C: usize>(
     arrow: &Arrow,
     foot: Foot,
 ) -> Result<(), NoMemory> {
-    if let Some(row) = rows_at(closed, arrow.row.link).get(arrow.row.number) {
+    if let Some(row) = closed.rows_at(arrow.row.link).get(arrow.row.number) {
         let width = row_width(alloc, names, has_one, arrow.look, row)?;
         if width > 0 {
             shelves.put(foot, width)?;
