@@ -22,7 +22,7 @@ pub(crate) fn named(nodes: &[Node], name: &[u8]) -> Option<usize>
     nodes.iter().position(|node| node.name.as_bytes() == name)
 }
 
-/// The address of a Station at that index.
+/// The address of a Station with that index among its own; none where it is no Station or has no such address.
 fn station_mac(place: &Place, at: usize) -> Option<Mac>
     ensures { result ≡ station_mac place.now at }
 {
