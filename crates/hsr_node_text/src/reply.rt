@@ -11,7 +11,7 @@ use hsr_danh::Verdict;
 use hsr_frame::{About, Cause, Counters, FrameFault, Life, Mac, NoMemory, RingPort, SendFault};
 use hsr_node::{life_frame, plain_octets, ring_octets};
 use hsr_tag::{FrameView, Spelled};
-use hsr_text::{put_count, put_hex};
+use hsr_text::{put, put_count, put_hex, put_octets};
 
 /// Puts the octets of a frame, as hexadecimal digits.
 fn put_spelled(text: &mut Vec<u8>, spelled: &Spelled<'_>) -> Result<(), NoMemory>
@@ -30,8 +30,7 @@ fn put_both(text: &mut Vec<u8>, frame: &FrameView<'_>, seq: u16) -> Result<(), N
     put_spelled(text, &ring_octets(RingPort::A, seq, frame))?;
     text.extend_from_slice(b"\nB ")?;
     put_spelled(text, &ring_octets(RingPort::B, seq, frame))?;
-    text.extend_from_slice(b"\n")?;
-    Ok(())
+    put(text, "\n")
 }
 
 /// Puts the copies of a frame, if there is one.
@@ -60,8 +59,7 @@ pub fn put_refused(text: &mut Vec<u8>, fault: SendFault) -> Result<(), NoMemory>
     ensures { OnOk result (text.new.items ≡ text.old.items ++ refused_text fault) }
 {
     put_count(text, b"refused ", u64::from(fault.code()))?;
-    text.extend_from_slice(b"\n")?;
-    Ok(())
+    put(text, "\n")
 }
 
 /// Puts the lines of a supervision that was accepted.
@@ -80,8 +78,7 @@ fn put_if(text: &mut Vec<u8>, said: bool, word: &[u8]) -> Result<(), NoMemory>
     ensures { OnOk result (text.new.items ≡ text.old.items ++ word_if said word.now) }
 {
     if said {
-        text.extend_from_slice(word)?;
-        return Ok(());
+        return put_octets(text, word);
     }
     Ok(())
 }
@@ -93,8 +90,7 @@ fn put_port_if(text: &mut Vec<u8>, leaves: bool, port: RingPort) -> Result<(), N
 {
     if leaves {
         text.push(b' ')?;
-        text.extend_from_slice(port.word().as_bytes())?;
-        return Ok(());
+        return put(text, port.word());
     }
     Ok(())
 }
@@ -125,8 +121,7 @@ fn put_verdict(text: &mut Vec<u8>, verdict: Verdict) -> Result<(), NoMemory>
     put_if(text, verdict.up, b" up")?;
     put_port_if(text, verdict.a, RingPort::A)?;
     put_port_if(text, verdict.b, RingPort::B)?;
-    text.extend_from_slice(b"\n")?;
-    Ok(())
+    put(text, "\n")
 }
 
 /// Puts the line of what goes up.
@@ -139,8 +134,7 @@ fn put_up(text: &mut Vec<u8>, octets: &[u8]) -> Result<(), NoMemory>
     };
     text.extend_from_slice(b"up ")?;
     put_spelled(text, &plain)?;
-    text.extend_from_slice(b"\n")?;
-    Ok(())
+    put(text, "\n")
 }
 
 /// Puts the lines of an arrival that was judged.
@@ -175,8 +169,7 @@ fn put_stopped(text: &mut Vec<u8>, counters: &Counters) -> Result<(), NoMemory>
     put_count(text, b" duplicate ", counters.duplicate)?;
     put_count(text, b" returned ", counters.returned)?;
     put_count(text, b" dropped ", counters.dropped())?;
-    text.extend_from_slice(b"\n")?;
-    Ok(())
+    put(text, "\n")
 }
 
 /// Puts the line of a node's counters.
