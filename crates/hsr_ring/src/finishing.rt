@@ -76,7 +76,9 @@ pub fn finished<const C: usize>(
     match world.close() {
         Ok(closed) => Ok(closed),
         // The world is let go: it was made here, and nobody else has it.
-        Err((_world, CheckFault::Disagree(cause))) => Err(Unfinished::Check(cause)),
-        Err((_world, CheckFault::NoMemory)) => Err(Unfinished::Memory),
+        Err((_world, fault)) => match fault {
+            CheckFault::Disagree(cause) => Err(Unfinished::Check(cause)),
+            CheckFault::NoMemory => Err(Unfinished::Memory),
+        },
     }
 }

@@ -80,8 +80,10 @@ fn checked<const C: usize>(
             let _finished = closed.topology();
             Ok(closed)
         }
-        Err((_parts, CheckFault::NoMemory)) => Err(RunFault::NoMemory),
-        Err((_parts, CheckFault::Disagree(disagree))) => Err(RunFault::Check(disagree)),
+        Err((_parts, fault)) => match fault {
+            CheckFault::NoMemory => Err(RunFault::NoMemory),
+            CheckFault::Disagree(disagree) => Err(RunFault::Check(disagree)),
+        },
     }
 }
 
