@@ -1,2 +1,3 @@
+pub mod Mapped
 mod Scenes
 pub mod Lines

@@ -55,7 +55,7 @@ fn add_shown<const C: usize>(
 }
 
 /// Adds all arrows.
-#[tactic(auto, using(hsr_svg::proofs::Growing::more))]
+#[tactic(auto, using(crate::proofs::Mapped::mapped_more))]
 pub(crate) fn add_arrows<const C: usize>(
     alloc: Global,
     elements: &mut Vec<Element>,
@@ -155,7 +155,7 @@ fn add_label<const C: usize>(
 }
 
 /// Adds the labels of all arrows.
-#[tactic(auto, using(hsr_svg::proofs::Growing::grown))]
+#[tactic(auto, using(hsr_frame::proofs::OneMore::grown))]
 pub(crate) fn add_labels<const C: usize>(
     alloc: Global,
     elements: &mut Vec<Element>,

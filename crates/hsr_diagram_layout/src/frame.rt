@@ -152,7 +152,7 @@ fn add_link(
 }
 
 /// Adds the letters and the numbers of all links.
-#[tactic(auto, using(hsr_svg::proofs::Growing::grown))]
+#[tactic(auto, using(hsr_frame::proofs::OneMore::grown))]
 fn add_links(
     alloc: Global,
     elements: &mut Vec<Element>,
@@ -204,7 +204,7 @@ fn add_moment(
 }
 
 /// Adds moments.
-#[tactic(auto, using(hsr_svg::proofs::Growing::grown))]
+#[tactic(auto, using(hsr_frame::proofs::OneMore::grown))]
 fn add_moments(
     alloc: Global,
     elements: &mut Vec<Element>,

@@ -34,7 +34,7 @@ fn item_of(sent: &Sent) -> Item
 }
 
 /// Sends as items.
-#[tactic(auto, using(hsr_svg::proofs::Growing::more))]
+#[tactic(auto, using(crate::proofs::Mapped::mapped_more))]
 fn items_of(alloc: Global, sends: &[Sent]) -> Result<Vec<Item>, NoMemory>
     ensures { IfOk result (λ items. items.items ≡ map item_of sends.now) }
 {

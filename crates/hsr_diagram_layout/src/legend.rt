@@ -104,7 +104,7 @@ fn add_meaning_if(
 }
 
 /// Adds what arrows of these looks mean, of those that there are. Where the next line stands.
-#[tactic(auto, using(hsr_svg::proofs::Growing::grown))]
+#[tactic(auto, using(hsr_frame::proofs::OneMore::grown))]
 fn add_meanings(
     alloc: Global,
     elements: &mut Vec<Element>,

@@ -113,7 +113,7 @@ fn add_item_if<const C: usize>(
 }
 
 /// Adds the sends of items. Where the list ends.
-#[tactic(auto, using(hsr_svg::proofs::Growing::grown))]
+#[tactic(auto, using(hsr_frame::proofs::OneMore::grown))]
 pub(crate) fn add_list<const C: usize>(
     alloc: Global,
     elements: &mut Vec<Element>,

@@ -52,7 +52,7 @@ fn add_mark_if(
 }
 
 /// Adds the marks of a send, one on each line of its node.
-#[tactic(auto, using(hsr_svg::proofs::Growing::grown))]
+#[tactic(auto, using(hsr_frame::proofs::OneMore::grown))]
 fn add_marks_of(
     alloc: Global,
     elements: &mut Vec<Element>,
@@ -102,7 +102,7 @@ fn add_sent(
 }
 
 /// Adds the marks of all sends that are listed.
-#[tactic(auto, using(hsr_svg::proofs::Growing::grown))]
+#[tactic(auto, using(hsr_frame::proofs::OneMore::grown))]
 pub(crate) fn add_marks(
     alloc: Global,
     elements: &mut Vec<Element>,

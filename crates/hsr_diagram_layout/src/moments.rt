@@ -27,7 +27,7 @@ fn push_arrow(moments: &mut Vec<u64>, arrow: &Arrow) -> Result<(), NoMemory>
 }
 
 /// Puts the moments of arrows last.
-#[tactic(auto, using(hsr_svg::proofs::Growing::grown))]
+#[tactic(auto, using(hsr_frame::proofs::OneMore::grown))]
 fn push_arrows(moments: &mut Vec<u64>, arrows: &[Arrow]) -> Result<(), NoMemory>
     ensures { OnOk result (moments.new.items ≡ moments.old.items
         ++ flat_map arrow_moments arrows.now) }
@@ -39,7 +39,7 @@ fn push_arrows(moments: &mut Vec<u64>, arrows: &[Arrow]) -> Result<(), NoMemory>
 }
 
 /// Puts the moments of sends last.
-#[tactic(auto, using(hsr_svg::proofs::Growing::grown))]
+#[tactic(auto, using(hsr_frame::proofs::OneMore::grown))]
 fn push_sends(moments: &mut Vec<u64>, sends: &[Sent]) -> Result<(), NoMemory>
     ensures { OnOk result (moments.new.items ≡ moments.old.items
         ++ flat_map sent_moments sends.now) }

@@ -66,7 +66,7 @@ fn add_shade_if(
 }
 
 /// Adds the shades of all times in which links are down.
-#[tactic(auto, using(hsr_svg::proofs::Growing::grown))]
+#[tactic(auto, using(hsr_frame::proofs::OneMore::grown))]
 pub(crate) fn add_shades(
     elements: &mut Vec<Element>,
     sheet: &Sheet,
@@ -159,7 +159,7 @@ fn add_changes_of(
 }
 
 /// Adds the marks of all cuts and mends.
-#[tactic(auto, using(hsr_svg::proofs::Growing::grown))]
+#[tactic(auto, using(hsr_frame::proofs::OneMore::grown))]
 pub(crate) fn add_changes(
     alloc: Global,
     elements: &mut Vec<Element>,

@@ -40,7 +40,7 @@ fn add_switch_if(
 }
 
 /// Adds the marks of a node that goes off or comes on, one on each of its lines.
-#[tactic(auto, using(hsr_svg::proofs::Growing::grown))]
+#[tactic(auto, using(hsr_frame::proofs::OneMore::grown))]
 fn add_switch(
     alloc: Global,
     elements: &mut Vec<Element>,
@@ -61,7 +61,7 @@ fn add_switch(
 }
 
 /// Adds the marks of all nodes that go off or come on, on lines of these nodes.
-#[tactic(auto, using(hsr_svg::proofs::Growing::grown))]
+#[tactic(auto, using(hsr_frame::proofs::OneMore::grown))]
 pub(crate) fn add_switches(
     alloc: Global,
     elements: &mut Vec<Element>,

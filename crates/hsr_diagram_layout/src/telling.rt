@@ -38,7 +38,7 @@ fn is_incomplete(deliveries: &[Delivery], sent: &Sent) -> bool
 }
 
 /// The sends that are listed and aren't complete, by their indices among the deliveries.
-#[tactic(auto, using(hsr_svg::proofs::Growing::grown))]
+#[tactic(auto, using(hsr_frame::proofs::OneMore::grown))]
 fn incomplete(
     alloc: Global,
     deliveries: &[Delivery],
@@ -136,7 +136,7 @@ fn add_told_at(
 }
 
 /// Adds the lines of sends that aren't complete. Where the lines end then.
-#[tactic(auto, using(hsr_svg::proofs::Growing::grown))]
+#[tactic(auto, using(hsr_frame::proofs::OneMore::grown))]
 fn add_all_told(
     alloc: Global,
     elements: &mut Vec<Element>,
