@@ -2,8 +2,9 @@
 of each command, to the end; then all cases, examples and plans, for 90 seconds of one processor or to the end.
 
 A row has to answer as without a refusal, where the memory wasn't needed; or to end with status 1, the line `fault: memory` and nothing on
-standard output. Of what `node` and `sweep` write a front stands, `threads` may say `fault: thread`, and hsr_plan names a place too. A run
-of more than ten seconds has failed. So has a row without requests.
+standard output. Of what `node` and `sweep` write a front stands, `threads` may say `fault: thread`, and hsr_plan names a place too. With
+`--explain` the lines that explain may be missing: a failed allocation leaves them out, and nothing else. A run of more than ten seconds has
+failed. So has a row without requests.
 """
 import re
 from dataclasses import dataclass
@@ -46,9 +47,17 @@ def is_want(row, run):
     return run.error in told
 
 
+def is_unexplained(row, run, whole):
+    """Whether a run answers as the one without a refusal, but for lines that explain."""
+    if "--explain" not in row.words or (run.status, run.output) != (whole.status, whole.output):
+        return False
+    told = [line for line in whole.error.splitlines(keepends=True) if not line.startswith(b"explain: ")]
+    return [line for line in run.error.splitlines(keepends=True) if not line.startswith(b"explain: ")] == told
+
+
 def verdict(row, run, whole):
     """What a run with a refusal answers, beside the run without."""
-    if run.answer() == whole.answer():
+    if run.answer() == whole.answer() or is_unexplained(row, run, whole):
         return SPARE
     is_front = (row.program, row.command) in FRONTS and whole.output.startswith(run.output)
     return WANT if is_want(row, run) and (not run.output or is_front) else WRONG
