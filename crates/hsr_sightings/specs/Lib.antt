@@ -1,0 +1,4 @@
+pub mod Frames
+pub mod Ring
+pub mod Copies
+pub mod Sightings

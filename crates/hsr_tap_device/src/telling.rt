@@ -1,0 +1,28 @@
+//! The words of a fault.
+use crate::fault::{DeviceFault, Key};
+use hsr_frame::NoMemory;
+use hsr_text::put;
+use hsr_toml::put_shown;
+
+/// Puts a key and what is wrong with it.
+fn put_key(line: &mut Vec<u8>, key: Key, what: &str) -> Result<(), NoMemory> {
+    put(line, key.text())?;
+    put(line, what)
+}
+
+/// Puts the words of a fault last, as they stand behind `fault: device `. A key that documents don't have is told without control
+/// octets. `NoMemory` where room is refused.
+pub fn put_device_fault(line: &mut Vec<u8>, fault: &DeviceFault) -> Result<(), NoMemory> {
+    match fault {
+        DeviceFault::Text => put(line, "top text"),
+        DeviceFault::Unknown(word) => {
+            put_shown(line, word.as_slice())?;
+            put(line, " unknown")
+        }
+        DeviceFault::WrongKind(key) => put_key(line, *key, " wrong-kind"),
+        DeviceFault::Missing(key) => put_key(line, *key, " missing"),
+        DeviceFault::Unwanted(key) => put_key(line, *key, " unknown"),
+        DeviceFault::BadValue(key) => put_key(line, *key, " bad-value"),
+        DeviceFault::NoMemory => Err(NoMemory),
+    }
+}

@@ -1,0 +1,29 @@
+//! What is asked of interfaces, taps and points.
+
+/// How the directions of interfaces are to be told apart.
+#[derive(Clone, Copy, Debug, Default, PartialEq, Eq)]
+pub enum TapsAsked {
+    /// As each interface's packets tell.
+    #[default]
+    Auto,
+    /// Each interface is one direction.
+    One,
+    /// Each interface has both directions, one by lane.
+    Both,
+}
+
+/// Interfaces that are to be one point, and its name.
+#[derive(Drop)]
+pub struct PointAsked<'a> {
+    pub name: &'a str,
+    pub interfaces: Vec<usize>,
+}
+
+/// What is asked for.
+#[derive(Drop)]
+pub struct Choice<'a> {
+    /// Only these interfaces, by number; all of them where there is none.
+    pub interfaces: Vec<usize>,
+    pub taps: TapsAsked,
+    pub points: Vec<PointAsked<'a>>,
+}

@@ -1,0 +1,78 @@
+//! The directions of an interface: what passes one way at a tap.
+use hsr_capture_reader::Way;
+
+/// How the directions of an interface are told apart.
+#[derive(Clone, Copy, Debug, PartialEq, Eq)]
+pub enum Taps {
+    /// It is one direction.
+    One,
+    /// Both are there, one by lane.
+    Both,
+    /// The flags of packets tell the direction.
+    Flags,
+}
+
+/// Which of an interface's directions one is.
+#[derive(Clone, Copy, Debug, PartialEq, Eq)]
+pub enum Part {
+    /// All of it, or packets whose flags don't tell it.
+    Whole,
+    LaneA,
+    LaneB,
+    In,
+    Out,
+}
+
+/// How many parts an interface may have.
+const PARTS: usize = 5;
+
+/// How many directions 64 interfaces have.
+pub const DIRECTIONS: usize = 320;
+
+/// The part of an interface that a copy is of.
+fn part_by(taps: Taps, way: Option<Way>, path: u8) -> Part {
+    match taps {
+        Taps::One => Part::Whole,
+        Taps::Both if path % 2 == 0 => Part::LaneA,
+        Taps::Both => Part::LaneB,
+        Taps::Flags => match way {
+            Some(Way::In) => Part::In,
+            Some(Way::Out) => Part::Out,
+            None => Part::Whole,
+        },
+    }
+}
+
+/// The number of a part.
+fn number_of(part: Part) -> usize {
+    match part {
+        Part::Whole => 0,
+        Part::LaneA => 1,
+        Part::LaneB => 2,
+        Part::In => 3,
+        Part::Out => 4,
+    }
+}
+
+/// The number of the direction of a copy, by its interface. The directions of an interface follow one another.
+pub fn direction_of(interface: usize, taps: Taps, way: Option<Way>, path: u8) -> usize {
+    interface
+        .saturating_mul(PARTS)
+        .saturating_add(number_of(part_by(taps, way, path)))
+}
+
+/// The interface of a direction.
+pub fn interface_of(direction: usize) -> usize {
+    direction / PARTS
+}
+
+/// Which of its interface's directions one is.
+pub fn part_of(direction: usize) -> Part {
+    match direction % PARTS {
+        0 => Part::Whole,
+        1 => Part::LaneA,
+        2 => Part::LaneB,
+        3 => Part::In,
+        _ => Part::Out,
+    }
+}
