@@ -1,0 +1,10 @@
+pub mod Serves
+pub mod Firsts
+pub mod Sending
+pub mod Rises
+pub mod Turning
+pub mod Brief
+pub mod Lately
+pub mod Heard
+pub mod Meaning
+pub mod Verdicts
