@@ -26,7 +26,7 @@ use Rattle.hsr_options.specs.declared.chosen.Options.TheVariants.{Node, Run, Thr
 -- equal look-ups choose the same
 asked_same : (f g : Text → Option Text) (asked : Asked) → ((id : Text) → f id ≡ g id) → IsAsked f asked → IsAsked g asked
 asked_same f g asked e h =
-    (sym (e (codes "deliveries")) ∙ h.0, sym (e (codes "needed")) ∙ h.1, sym (e (codes "budget")) ∙ h.2)
+    (sym (e (codes "load")) ∙ h.0, sym (e (codes "latency")) ∙ h.1, sym (e (codes "deliveries")) ∙ h.2, sym (e (codes "needed")) ∙ h.3, sym (e (codes "budget")) ∙ h.4)
 
 form_same : (f g : Text → Option Text) (form : Form) → ((id : Text) → f id ≡ g id) → IsForm f form → IsForm g form
 form_same f g Transcript e h = sym (e (codes "transcript")) ∙ h

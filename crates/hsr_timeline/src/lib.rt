@@ -46,7 +46,7 @@ pub use choice::{Choice, ChoiceFault};
 pub use choosing::{check_choice, chosen, is_wanted};
 pub use front::stamp_at;
 pub use hop::Hop;
-pub use hopping::{hops, link_hops};
+pub use hopping::{hops, link_hops, passed_places};
 pub use law::causes_first;
 pub use naming::{put_name, put_port};
 pub use origin::{Origin, Spot};
