@@ -96,9 +96,9 @@ impl<const C: usize> Danh<C> {
         })
     }
 
-    /// Numbers a frame of this node's own and sends it by both ports (IEC 62439-3 clause 5.3). It refuses a
-    /// frame to itself, one of the type of a VLAN or HSR tag, any where `STEP_LIMIT` steps are spent, and one whose
-    /// payload has more than `MAX_PAYLOAD` octets, in this order; a refusal changes nothing.
+    /// Numbers a frame of this node's own and sends it by both ports (IEC 62439-3 clause 5.3); `at` is the moment in
+    /// microseconds. It refuses a frame to itself, one of the type of a VLAN or HSR tag, any where `STEP_LIMIT` steps are
+    /// spent, and one whose payload has more than `MAX_PAYLOAD` octets, in this order; a refusal changes nothing.
     /// The VLAN tag isn't looked at: a send is judged by address, type and length, and its frame is formed elsewhere
     /// (`asked_frame` of hsr_node). It is taken so that a call says all of the frame.
     pub fn send(

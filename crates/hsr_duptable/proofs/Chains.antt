@@ -71,13 +71,13 @@ IsYoungest-own c b gone (x ∷ es) serial new own e = (IsYoungest-own c b (suc g
 
 -- ---- all chains
 
--- with one more entry at the end: what stands at a place, and what before it
-last_or_before : (es : List Entry) (new : Entry) (place : ℕ) (entry : Entry) → slice_get (es ++ new ∷ []) place ≡ Some entry
-    → (slice_get es place ≡ Some entry) × (take place (es ++ new ∷ []) ≡ take place es) ⊎ (entry ≡ new) × (take place (es ++ new ∷ []) ≡ es)
+-- with one more entry at the end: what stands at an index, and what before it
+last_or_before : (es : List Entry) (new : Entry) (index : ℕ) (entry : Entry) → slice_get (es ++ new ∷ []) index ≡ Some entry
+    → (slice_get es index ≡ Some entry) × (take index (es ++ new ∷ []) ≡ take index es) ⊎ (entry ≡ new) × (take index (es ++ new ∷ []) ≡ es)
 last_or_before [] new zero entry h = inr (cc, refl)
-last_or_before [] new (suc place) entry h = absurd (cc)
+last_or_before [] new (suc index) entry h = absurd (cc)
 last_or_before (x ∷ es) new zero entry h = inl (h, refl)
-last_or_before (x ∷ es) new (suc place) entry h = elim (last_or_before es new place entry h) [
+last_or_before (x ∷ es) new (suc index) entry h = elim (last_or_before es new index entry h) [
   | inl before ↦ inl (before.0, ap (λ (ys : List Entry). x ∷ ys) before.1)
   | inr last ↦ inr (last.0, ap (λ (ys : List Entry). x ∷ ys) last.1)
 ]
@@ -93,9 +93,9 @@ AreChained-drop c es heads noted d few s =
       counted = omega (arith, s.counted);
       head_count = s.head_count;
       youngest = λ k inside. IsYoungest-drop d c k gone after es (slice_index heads k) moved (s.youngest k inside);
-      older = λ place entry h.
-          let there : slice_get es (d + place) ≡ Some entry = sym (slice_get-drop d es place (d + place) refl) ∙ h in
-          rw (sym (drop-take d place es)) (IsYoungest-drop d c (bucket_of c entry.note.key) gone after (take (d + place) es) entry.older moved (s.older (d + place) entry there));
+      older = λ index entry h.
+          let there : slice_get es (d + index) ≡ Some entry = sym (slice_get-drop d es index (d + index) refl) ∙ h in
+          rw (sym (drop-take d index es)) (IsYoungest-drop d c (bucket_of c entry.note.key) gone after (take (d + index) es) entry.older moved (s.older (d + index) entry there));
     }
 
 -- an entry comes, and none goes
@@ -108,7 +108,7 @@ AreChained-push c es heads noted b new within bucket link s =
       counted = omega (arith, s.counted);
       head_count = length-set heads b (noted + 1) ∙ s.head_count;
       youngest = λ k inside. rw gone (youngest_of k inside (cases_eq k b));
-      older = λ place entry h. rw gone (older_of place entry (last_or_before es new place entry h));
+      older = λ index entry h. rw gone (older_of index entry (last_or_before es new index entry h));
     }
   where
     youngest_of : (k : ℕ) → k < c → (k ≡ b) ⊎ (k ≡ b → ⊥) → IsYoungest c k (noted - length es) (es ++ new ∷ []) (slice_index (slice_set heads b (noted + 1)) k)
@@ -119,11 +119,11 @@ AreChained-push c es heads noted b new within bucket link s =
         let read : slice_index (slice_set heads b (noted + 1)) k ≡ slice_index heads k = get_or-set_other heads b k (noted + 1) 0 other in
         rw read (IsYoungest-other c k (noted - length es) es (slice_index heads k) new (λ e. other (sym e ∙ sym bucket)) (s.youngest k inside))
 
-    older_of : (place : ℕ) (entry : Entry)
-        → (slice_get es place ≡ Some entry) × (take place (es ++ new ∷ []) ≡ take place es) ⊎ (entry ≡ new) × (take place (es ++ new ∷ []) ≡ es)
-        → IsYoungest c (bucket_of c entry.note.key) (noted - length es) (take place (es ++ new ∷ [])) entry.older
-    older_of place entry (inl before) = rw before.1 (s.older place entry before.0)
-    older_of place entry (inr last) = rw (last.1, last.0, link, sym bucket) (s.youngest b within)
+    older_of : (index : ℕ) (entry : Entry)
+        → (slice_get es index ≡ Some entry) × (take index (es ++ new ∷ []) ≡ take index es) ⊎ (entry ≡ new) × (take index (es ++ new ∷ []) ≡ es)
+        → IsYoungest c (bucket_of c entry.note.key) (noted - length es) (take index (es ++ new ∷ [])) entry.older
+    older_of index entry (inl before) = rw before.1 (s.older index entry before.0)
+    older_of index entry (inr last) = rw (last.1, last.0, link, sym bucket) (s.youngest b within)
 
 -- an entry comes, and the oldest goes where there is no room
 pub AreChained-note : (c : ℕ) (es : List Entry) (heads : List ℕ) (noted b : ℕ) (new : Entry) → b < c → b ≡ bucket_of c new.note.key → new.older ≡ slice_index heads b

@@ -22,7 +22,7 @@ fn held_entry(ring: &HeapCircularBuffer<Entry>, gone: u64, serial: u64) -> Optio
     ensures { option_copied result ≡ entry_of gone ring.now.items serial }
 {
     if serial > gone {
-        // Serials follow one another and the oldest are gone, so a serial says the place.
+        // Serials follow one another and the oldest are gone, so a serial says the index.
         ring.get((serial - gone - 1) as usize)
     } else {
         None

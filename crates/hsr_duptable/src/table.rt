@@ -43,7 +43,7 @@ impl<const C: usize> DupTable<C> {
     ghost use Rattle.hsr_duptable.specs.Buckets.{bucket_of, looks_of};
 
     /// A table that holds nothing, and remembers a frame until `forget` microseconds have passed;
-    /// `NoMemory` where room for `C` notes or for the heads of `C` buckets is refused.
+    /// `NoMemory` where allocation of `C` notes or of the heads of `C` buckets fails.
     pub fn new(alloc: Global, forget: u64) -> Result<Self, NoMemory>
         requires { IsTableSize C }
         ensures { IfOk result (λ table. table ≡ empty_table forget) }

@@ -49,7 +49,7 @@ impl Fate {
 }
 
 impl Row {
-    /// An equal row; `NoMemory` where room for it is refused.
+    /// An equal row; `NoMemory` where its allocation fails.
     pub fn copy(&self) -> Result<Row, NoMemory>
         ensures { IfOk result (λ row. row ≡ self.now) }
     {

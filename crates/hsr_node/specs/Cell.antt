@@ -15,7 +15,7 @@ abbrev pub IsNextOf : ℕ → ℕ → Event → Record → Receipt → Type 0
 IsNextOf capacity at event r receipt =
     (receipt.node ≡ r.number) × (receipt.place ≡ length r.entries) × (answer_to capacity r at event ≡ Ok receipt.entry.outcome)
 
--- An answer is some legal record's, at its end; a refusal is some legal record's, or want of memory.
+-- An answer is some legal record's, at its end; a refusal is some legal record's, or a failed allocation.
 abbrev pub IsAnsweredByRecord : ℕ → ℕ → Event → Result Receipt (Event × StepFault) → Type 0
 IsAnsweredByRecord capacity at event result = MatchResult result
     (λ receipt. (r : Record) × IsLegalRecord capacity r × IsNextOf capacity at event r receipt)

@@ -34,7 +34,7 @@ Replays capacity place (x ∷ past) node =
 abbrev pub answer_to : ℕ → Record → ℕ → Event → Result Outcome StepFault
 answer_to capacity r at event = answer capacity (owner_of r) (past_of r) (max (now (past_of r)) at) event
 
--- An answer is the record's; a refusal is the record's, or want of memory.
+-- An answer is the record's; a refusal is the record's, or a failed allocation.
 abbrev pub IsAnswered : ℕ → Record → ℕ → Event → Result Receipt (Event × StepFault) → Type 0
 IsAnswered capacity r at event result = MatchResult result
     (λ receipt. answer_to capacity r at event ≡ Ok receipt.entry.outcome)

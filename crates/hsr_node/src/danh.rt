@@ -7,7 +7,8 @@ use crate::port::ring_port;
 use hsr_danh::Danh;
 use hsr_frame::{About, Mac, RingPort};
 
-/// Sends a frame of the node's own.
+/// Sends a frame of the node's own at a moment in microseconds; `vlan` is the control information of a VLAN tag
+/// (IEEE 802.1Q). A refusal changes nothing.
 fn send<const C: usize>(
     danh: &mut Danh<C>,
     at: u64,

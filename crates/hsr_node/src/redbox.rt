@@ -17,7 +17,8 @@ fn step_fault(fault: LifeFault) -> StepFault
     }
 }
 
-/// Sends a frame of the node's own.
+/// Sends a frame of the node's own at a moment in microseconds; `vlan` is the control information of a VLAN tag
+/// (IEEE 802.1Q). A refusal changes nothing.
 fn send<const C: usize>(
     redbox: &mut RedBox<C>,
     at: u64,

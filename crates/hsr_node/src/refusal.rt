@@ -14,7 +14,7 @@ impl fmt::Display for StepFault {
             StepFault::Send(fault) => write!(f, "{fault}"),
             StepFault::NotProxied => write!(f, "not-proxied"),
             StepFault::Spent => write!(f, "spent"),
-            // No line has it, since want of memory is `fault: memory`. Words are total all the same.
+            // No line has it, since a failed allocation is `fault: memory`. Words are total all the same.
             StepFault::NoMemory => write!(f, "memory"),
         }
     }

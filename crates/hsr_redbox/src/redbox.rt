@@ -88,9 +88,9 @@ impl<const C: usize> RedBox<C> {
         })
     }
 
-    /// Sends a frame of this node's own (IEC 62439-3 clause 5.3): to a station of the interlink with no number and
-    /// by the interlink alone; any other with the next number by both ring ports, and one to a group by the interlink
-    /// too unless it is a supervision frame. It refuses a frame to itself, one of the type of a VLAN or HSR tag, any
+    /// Sends a frame of this node's own at a moment in microseconds (IEC 62439-3 clause 5.3): to a station of the
+    /// interlink with no number and by the interlink alone; any other with the next number by both ring ports, and one
+    /// to a group by the interlink too unless it is a supervision frame. It refuses a frame to itself, one of the type of a VLAN or HSR tag, any
     /// where `STEP_LIMIT` steps are spent, and one whose payload has more than `MAX_PAYLOAD` octets, in this order; a
     /// refusal changes nothing.
     pub fn send(

@@ -14,7 +14,9 @@
 //! 20      0-1500  payload
 //! ```
 ghost use Rattle.std.specs.Prelude.{◌≡◌, ◌+◌, ◌*◌, ◌<◌, ◌≤◌, ◌++◌, length};
-ghost use Rattle.hsr_frame.specs.Grammar.{spelling};
+ghost use Rattle.arrayvec.specs.ArrayVec.{array_vec_len};
+ghost use Rattle.hsr_frame.specs.Grammar.{pair, spelling};
+ghost use Rattle.hsr_frame.specs.Layout.{ethertype_hsr};
 ghost use Rattle.hsr_tag.specs.Tag.{tag_of, untag_of, IsPlain, IsTagged, tagged_spelling};
 
 use arrayvec::ArrayVec;
@@ -75,6 +77,27 @@ impl Model for Tagged {
     ghost invariant = { λ r. (¬ IsGroup r.src) × (r.kind ≢ ethertype_vlan) × (r.kind ≢ ethertype_hsr) × (r.path < 16) × (r.size < 4096) };
 }
 
+/// Puts an HSR tag and the type behind it: path below 16, size below 4096 (IEC 62439-3 clause 5.6).
+pub(crate) fn put_tag<const CAP: usize>(
+    out: &mut ArrayVec<u8, CAP>,
+    path: u8,
+    size: u16,
+    seq: u16,
+    kind: u16,
+)
+    requires path { path < 16 }
+    requires size { size < 4096 }
+    requires room { array_vec_len out.old + 8 ≤ CAP }
+    ensures { out.new.items
+        ≡ out.old.items ++ (pair ethertype_hsr ++ (pair (path * 4096 + size) ++ (pair seq ++ pair kind))) }
+{
+    put_u16(out, ETHERTYPE_HSR);
+    // Path and size are written as they came: neither is checked (RULES, Frames).
+    put_u16(out, u16::from(path) * 4096 + size);
+    put_u16(out, seq);
+    put_u16(out, kind);
+}
+
 impl Frame {
     /// The frame with a tag of this path, below 16, and number.
     pub fn tag(&self, path: u8, seq: u16) -> Tagged
@@ -130,11 +153,7 @@ impl Tagged {
     {
         let mut out = ArrayVec::new();
         put_head(&mut out, &self.dst, &self.src, self.vlan);
-        put_u16(&mut out, ETHERTYPE_HSR);
-        // Path and size are written as they came: neither is checked (RULES, Frames).
-        put_u16(&mut out, u16::from(self.path) * 4096 + self.size);
-        put_u16(&mut out, self.seq);
-        put_u16(&mut out, self.kind);
+        put_tag(&mut out, self.path, self.size, self.seq, self.kind);
         put(&mut out, self.payload.as_slice());
         out
     }

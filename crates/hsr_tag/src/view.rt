@@ -3,12 +3,12 @@ ghost use Rattle.std.specs.Prelude.{◌≡◌, ◌≤◌, ◌<◌, length};
 ghost use Rattle.hsr_frame.specs.Grammar.{spelling};
 ghost use Rattle.hsr_tag.specs.Tag.{IsPlain, IsTagged, tag_of, tagged_spelling, untag_of};
 
-use crate::frame::{Frame, Tagged};
+use crate::frame::{Frame, Tagged, put_tag};
 use crate::payload::Payload;
 use crate::seen::Seen;
 use crate::spelled::Spelled;
 use arrayvec::ArrayVec;
-use hsr_frame::{ETHERTYPE_HSR, Mac, TAG_LEN, copied, put_head, put_u16};
+use hsr_frame::{Mac, TAG_LEN, copied, put_head, put_u16};
 use std::marker::Model;
 
 /// A frame with no HSR tag, with a payload of at most `MAX_PAYLOAD` octets where it stands. No group sends it, and its
@@ -168,11 +168,7 @@ impl<'a> TaggedView<'a> {
     {
         let mut head = ArrayVec::new();
         put_head(&mut head, &self.dst, &self.src, self.vlan);
-        put_u16(&mut head, ETHERTYPE_HSR);
-        // Path and size are written as they came: neither is checked (RULES, Frames).
-        put_u16(&mut head, u16::from(self.path) * 4096 + self.size);
-        put_u16(&mut head, self.seq);
-        put_u16(&mut head, self.kind);
+        put_tag(&mut head, self.path, self.size, self.seq, self.kind);
         self.payload.behind(head)
     }
 }

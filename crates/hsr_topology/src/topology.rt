@@ -98,7 +98,7 @@ impl Topology {
         link_at(self.links.as_slice(), end)
     }
 
-    /// An equal topology; `NoMemory` where room for it is refused.
+    /// An equal topology; `NoMemory` where its allocation fails.
     pub fn copy(&self) -> Result<Topology, NoMemory>
         ensures { IfOk result (λ topology. topology ≡ self.now) }
     {

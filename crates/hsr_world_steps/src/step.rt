@@ -94,7 +94,7 @@ impl WorldFault {
         ensures { result ≡ world_fault fault }
     {
         match fault {
-            // Want of memory is no refusal by the node, so it is told in the same way wherever it comes.
+            // A failed allocation is no refusal by the node, so it is told in the same way wherever it comes.
             StepFault::NoMemory => WorldFault::NoMemory,
             _ => WorldFault::Node(fault),
         }
