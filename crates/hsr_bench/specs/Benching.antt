@@ -1,9 +1,9 @@
 -- What the program does, over arguments, a text that is read, and two writers: standard output and standard error.
-use Rattle.std.specs.Prelude.{ℕ, ◌<◌, ◌≡◌, ◌⊎◌, Bool, false, List, [], ◌++◌, length, codes, string_bytes, Option, Result, Ok, Err}
+use Rattle.std.specs.Prelude.{ℕ, ◌≡◌, ◌⊎◌, Bool, false, List, [], ◌++◌, codes, Option, Result, Ok, Err}
 use Rattle.std.specs.Io.KnownBytes.{Appends, Keeps}
 use Rattle.clap.specs.Words.{Text}
 use Rattle.hsr_commands.specs.Fault.{code_of, fault_line}
-use Rattle.hsr_commands.specs.declared.fault.Fault.TheVariants.{Memory, Write}
+use Rattle.hsr_commands.specs.declared.fault.Fault.TheVariants.{Write}
 use Rattle.hsr_commands.specs.declared.fault.Status.{Status}
 use Rattle.hsr_commands.specs.declared.fault.Status.TheVariants.{Certified, Fault as Stopped, Doubt, Open}
 use Rattle.hsr_explanation.specs.Lines.{lines_of}
@@ -11,7 +11,7 @@ use Rattle.hsr_options.specs.declared.chosen.Options.{Options}
 use Rattle.hsr_options.specs.declared.chosen.Options.TheVariants.{Node, Run, Threads, Audit}
 use Rattle.hsr_cli.specs.Options.{IsRefused, Says}
 use Rattle.hsr_cli.specs.declared.fault.OptionFault.{OptionFault}
-use Rattle.hsr_cli.specs.declared.fault.OptionFault.TheVariants.{Usage, Memory as NoRoom}
+use Rattle.hsr_cli.specs.Refusal.{IsTurnedAway, TurnsAway}
 use Rattle.hsr_bench.specs.Performing.{Performs}
 
 -- the line of a fault, of no other end
@@ -48,17 +48,10 @@ pub record IsDone (chosen : Options) (text : List ℕ) (held holds : Option (Lis
   pub left : Keeps written holds
   pub is : (status ≡ ended) ⊎ (status ≡ Stopped Write)
 
--- there was no memory to read the arguments
-pub record IsShort (held holds told tells : Option (List ℕ)) (code : ℕ) : Type 0 where
-  pub ends : Tells false told tells (Stopped Memory) code
-  pub kept : Keeps held holds
-
--- What the arguments choose is done and told; or the text by which they are refused is, and nothing is written; or there was no memory
--- to read them.
+-- What the arguments choose is done and told; or why they are refused is told, and nothing is written.
 abbrev pub Answers : Result Options OptionFault → List ℕ → Option (List ℕ) → Option (List ℕ) → Option (List ℕ) → Option (List ℕ) → ℕ → Type 0
 Answers (Ok chosen) text held holds told tells code = (status : Status) × IsDone chosen text held holds status × Tells (explains chosen) told tells status code
-Answers (Err (Usage why)) text held holds told tells code = (code ≡ 3) × Appends told tells (string_bytes why ++ codes "\n") × Keeps held holds
-Answers (Err NoRoom) text held holds told tells code = IsShort held holds told tells code
+Answers (Err fault) text held holds told tells code = TurnsAway fault told tells code × Keeps held holds
 
 -- the arguments say what is to be done, and it is done and told
 pub record IsAnswered (words : List Text) (text : List ℕ) (held holds told tells : Option (List ℕ)) (code : ℕ) : Type 0 where
@@ -68,15 +61,6 @@ pub record IsAnswered (words : List Text) (text : List ℕ) (held holds told tel
   pub done : IsDone chosen text held holds status
   pub ends : Tells (explains chosen) told tells status code
 
--- the arguments are refused by a text that isn't empty, and nothing is written
-pub record IsTurnedAway (words : List Text) (held holds told tells : Option (List ℕ)) (code : ℕ) : Type 0 where
-  pub why : Text
-  pub refused : IsRefused words why
-  pub some : 0 < length why
-  pub is_code : code ≡ 3
-  pub line : Appends told tells (why ++ codes "\n")
-  pub kept : Keeps held holds
-
 abbrev pub Benches : List Text → List ℕ → Option (List ℕ) → Option (List ℕ) → Option (List ℕ) → Option (List ℕ) → ℕ → Type 0
 Benches words text held holds told tells code =
-    IsAnswered words text held holds told tells code ⊎ (IsTurnedAway words held holds told tells code ⊎ IsShort held holds told tells code)
+    IsAnswered words text held holds told tells code ⊎ IsTurnedAway (IsRefused words) held holds told tells code

@@ -3,10 +3,9 @@ ghost use Rattle.std.specs.Prelude.{◌≡◌, IfOk, IfSome, OnOk, map};
 ghost use Rattle.hsr_bench.specs.Benching.{Answers, AppendsLines, Benches, IsDone, Tells, explains};
 
 use crate::performing::perform;
-use hsr_cli::{OptionFault, options};
+use hsr_cli::{OptionFault, options, turn_away};
 use hsr_commands::{Explanation, Fault, Notes, Status, put_explanation};
 use hsr_options::Options;
-use hsr_text::write_line;
 use std::alloc::Global;
 use std::io::{self, Read, Write};
 use std::marker::Sync;
@@ -96,16 +95,7 @@ fn answer<H: Threads + Wait + Sync, R: Read, W: Write, E: Write>(
             let status = done(rt, alloc, reader, writer, chosen, &mut notes);
             report_ending(alloc, errors, status, explains(chosen), &notes.explanation)
         }
-        Err(OptionFault::Usage { text }) => {
-            write_line(errors, text.as_str())?;
-            // A status of its own, so that scripts tell refused arguments from faults and doubts.
-            Ok(3)
-        }
-        Err(OptionFault::Memory) => {
-            // Before any choice is known, so nothing more is explained.
-            let short = Status::Fault(Fault::Memory);
-            report_ending(alloc, errors, short, false, &Explanation::new(alloc))
-        }
+        Err(fault) => turn_away(errors, fault),
     }
 }
 

@@ -1,10 +1,7 @@
 -- What a parse found, by the walk of its command.
-use Rattle.std.proofs.Common.{◌≡◌, ◌≢◌, ◌<◌, inl, inr, ⊎_elim, string_bytes, List, [], ◌∷◌, length, Option, Some, None, IfNone, IfSome, refl, sym, ap, subst, ◌∙◌, codes, arith, Bool, true, false}
-use Rattle.clap.specs.Kinds.{HasKind, IsAmong, Kinds}
-use Rattle.clap.specs.Words.{App, Row, Text, fault_of, first_of, is_simple, is_simple_and_free, kind_of, subcommand_of}
-use Rattle.clap.specs.declared.error.Error.{Error}
-use Rattle.clap.specs.declared.error.kind.ErrorKind.TheVariants.{OutOfMemory}
-use Rattle.hsr_cli.specs.Options.{Chosen, ChosenIn, IfUsage, IsAsked, IsBench, IsForm, IsRefused, IsShowing, IsTaken, ListsModes, ListsTables, ListsUnits, Says, SaysNothing, Listed, bench_app, flag_text, mac_usage}
+use Rattle.std.proofs.Common.{◌≡◌, ◌≢◌, ◌<◌, inl, inr, List, [], ◌∷◌, length, Option, Some, None, IfNone, IfSome, refl, sym, ap, subst, ◌∙◌, codes, arith, Bool, true, false}
+use Rattle.clap.specs.Words.{App, Row, Text, fault_of, first_of, is_simple, is_simple_and_free, subcommand_of}
+use Rattle.hsr_cli.specs.Options.{Chosen, ChosenIn, IsAsked, IsBench, IsForm, IsRefused, IsShowing, IsTaken, ListsModes, ListsTables, ListsUnits, Says, SaysNothing, Listed, bench_app, flag_text, mac_usage}
 use Rattle.hsr_frame.specs.Words.{mode_of, mode_word}
 use Rattle.hsr_frame.specs.declared.node.Mode.{Mode}
 use Rattle.hsr_frame.specs.declared.node.Mode.TheVariants.{H, N, U}
@@ -18,8 +15,6 @@ use Rattle.hsr_options.specs.declared.chosen.Form.{Form}
 use Rattle.hsr_options.specs.declared.chosen.Form.TheVariants.{Transcript, Report}
 use Rattle.hsr_duptable.specs.declared.size.TableSize.{TableSize}
 use Rattle.hsr_options.specs.declared.chosen.Asked.{Asked}
-use Rattle.hsr_cli.specs.declared.fault.OptionFault.{OptionFault}
-use Rattle.hsr_cli.specs.declared.fault.OptionFault.TheVariants.{Usage, Memory}
 use Rattle.hsr_options.specs.declared.chosen.Options.{Options}
 use Rattle.hsr_options.specs.declared.chosen.Options.TheVariants.{Node, Run, Threads, Audit}
 
@@ -85,14 +80,6 @@ pub silent : (words : List Text) (app : App) (text : Text) → 0 < length words 
     → text ≡ mac_usage → IsRefused words text
 silent [] app text h is none nothing said = absurd (omega arith)
 silent (w ∷ ws) app text h is none nothing said = (app, is, inr (none, nothing, said))
-
--- an error that isn't a failed allocation tells a fault
-pub fault_found : (kinds : Kinds) (e : Error) → HasKind kinds e → kind_of e ≢ OutOfMemory → kinds ≢ []
-fault_found kinds e h room = ⊎_elim (λ memory. absurd (room memory)) (λ among none. subst (IsAmong (kind_of e)) none among) h
-
-pub usage_weaker : (f : OptionFault) (P Q : Text → Type 0) → ((t : Text) → P t → Q t) → IfUsage f P → IfUsage f Q
-usage_weaker (Usage text) P Q f h = f (string_bytes text) h
-usage_weaker Memory P Q f h = tt
 
 -- ---- a mode, a size of tables and a unit, by their words
 

@@ -1,2 +1,3 @@
 pub mod BenchFound
 pub mod PlanFound
+pub mod Refusing

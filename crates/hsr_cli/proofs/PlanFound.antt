@@ -1,18 +1,13 @@
 -- What a parse found, by the walk of its command.
-use Rattle.std.proofs.Common.{◌≡◌, ◌≢◌, ⊎_elim, string_bytes, List, [], Option, Some, None, IfNone, IfSome, refl, sym, ap, subst, ◌∙◌, codes, true}
-use Rattle.clap.specs.Kinds.{HasKind, IsAmong, Kinds}
-use Rattle.clap.specs.Words.{App, Row, Text, first_of, first_value, found_of, is_simple, is_simple_and_free, kind_of, matches_of, rows_of, subcommand_of, subcommand_rows_of}
-use Rattle.clap.specs.declared.error.Error.{Error}
-use Rattle.clap.specs.declared.error.kind.ErrorKind.TheVariants.{OutOfMemory}
+use Rattle.std.proofs.Common.{◌≡◌, ◌≢◌, List, [], Option, Some, None, IfNone, IfSome, refl, sym, ap, subst, ◌∙◌, codes, true}
+use Rattle.clap.specs.Words.{App, Row, Text, first_of, first_value, found_of, is_simple, is_simple_and_free, matches_of, rows_of, subcommand_of, subcommand_rows_of}
 use Rattle.clap.specs.declared.parser.matches.ArgMatches.{ArgMatches}
 use Rattle.clap.proofs.WalkLemmas.{first_value-rows}
 use Rattle.hsr_duptable.proofs.Sizes.{table_again}
 use Rattle.hsr_duptable.specs.Sizes.{table_of, table_word}
 use Rattle.hsr_duptable.specs.declared.size.TableSize.{TableSize}
 use Rattle.hsr_cli.specs.declared.task.Task.{Task}
-use Rattle.hsr_cli.specs.declared.task.WordsFault.{WordsFault}
-use Rattle.hsr_cli.specs.declared.task.WordsFault.TheVariants.{Usage, Memory}
-use Rattle.hsr_cli.specs.Choices.{Chooses, Chosen, ChosenAlone, ChosenBefore, IfUsage, IsPlanner, IsTable, sub_values, values}
+use Rattle.hsr_cli.specs.Choices.{Chooses, Chosen, ChosenAlone, ChosenBefore, IsPlanner, IsTable, sub_values, values}
 
 -- ---- a subcommand
 
@@ -62,14 +57,6 @@ pub chosen : (app : App) (words : List Text) (m : ArgMatches) (task : Task) → 
     → Chooses app words task → Chosen (first_value (found_of m)) (sub_values (subcommand_rows_of m)) task
 chosen app words m task e s h =
     subst (λ x. Chosen (first_value (found_of m)) (sub_values x) task) (sym s) (chosen_same _ _ _ task (λ id. sym (same_values m (matches_of app words) e id)) h)
-
--- an error that isn't a failed allocation tells a fault
-pub fault_found : (kinds : Kinds) (e : Error) → HasKind kinds e → kind_of e ≢ OutOfMemory → kinds ≢ []
-fault_found kinds e h room = ⊎_elim (λ memory. absurd (room memory)) (λ among none. subst (IsAmong (kind_of e)) none among) h
-
-pub usage_weaker : (f : WordsFault) (P Q : Text → Type 0) → ((t : Text) → P t → Q t) → IfUsage f P → IfUsage f Q
-usage_weaker (Usage text) P Q f h = f (string_bytes text) h
-usage_weaker Memory P Q f h = tt
 
 -- ---- a size of tables, by its word
 

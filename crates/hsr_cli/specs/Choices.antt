@@ -1,5 +1,5 @@
 -- What the arguments of hsr_plan choose: by the values that clap's walk of this command finds.
-use Rattle.std.specs.Prelude.{◌≡◌, ◌≢◌, ◌⊎◌, ◌≤◌, ◌^◌, ⊤, ℕ, true, List, [], ◌∷◌, map, Option, Some, None, codes, string_bytes}
+use Rattle.std.specs.Prelude.{◌≡◌, ◌≢◌, ◌⊎◌, ◌≤◌, ◌^◌, ℕ, true, List, [], ◌∷◌, map, Option, Some, None, codes}
 use Rattle.std.specs.Borrow.{Bor}
 use Rattle.clap.specs.Words.{App, Row, Rule, Text, new_app, new_rule, with_rule, with_subcommand, matches_of, subcommand_of, first_of, fault_of}
 use Rattle.clap.specs.declared.builder.ArgAction.TheVariants.{SetTrue}
@@ -11,8 +11,6 @@ use Rattle.hsr_duptable.specs.declared.size.TableSize.TheVariants.{Small, Large}
 use Rattle.hsr_cli.specs.declared.plan_words.TheConstants.{TOGETHER}
 use Rattle.hsr_cli.specs.declared.task.Task.{Task}
 use Rattle.hsr_cli.specs.declared.task.Task.TheVariants.{Plan, Check, Sweep}
-use Rattle.hsr_cli.specs.declared.task.WordsFault.{WordsFault}
-use Rattle.hsr_cli.specs.declared.task.WordsFault.TheVariants.{Usage, Memory}
 
 -- ---- the command line
 
@@ -99,13 +97,3 @@ Says words task = (app : App) × IsPlanner app × (fault_of app words ≡ []) ×
 abbrev pub IsRefused : List Text → Text → Type 0
 IsRefused words text = (app : App) × IsPlanner app × ((fault_of app words ≢ [])
     ⊎ ((fault_of app words ≡ []) × ((task : Task) → ¬ Chooses app words task) × (text ≡ TOGETHER.now)))
-
--- a text, or another where it is empty
-abbrev pub or_else : Text → Text → Text
-or_else [] other = other
-or_else (c ∷ cs) other = c ∷ cs
-
--- P of the text of a refusal; of a failed allocation nothing
-abbrev pub IfUsage : WordsFault → (Text → Type 0) → Type 0
-IfUsage (Usage text) P = P (string_bytes text)
-IfUsage Memory P = ⊤

@@ -1,5 +1,5 @@
 -- What the arguments of hsr_bench say: the values that clap's walk of this command finds.
-use Rattle.std.specs.Prelude.{◌≡◌, ◌≢◌, ◌⊎◌, ⊤, ℕ, Bool, true, false, List, [], ◌∷◌, map, Option, Some, None, Ok, codes, string_bytes}
+use Rattle.std.specs.Prelude.{◌≡◌, ◌≢◌, ◌⊎◌, ⊤, ℕ, Bool, true, false, List, [], ◌∷◌, map, Option, Some, None, Ok, codes}
 use Rattle.std.specs.Borrow.{Bor}
 use Rattle.clap.specs.Words.{App, Row, Rule, Text, new_app, new_rule, with_rule, with_subcommand, subcommand_of, first_of, fault_of}
 use Rattle.clap.specs.declared.builder.ArgAction.TheVariants.{SetTrue}
@@ -19,8 +19,6 @@ use Rattle.hsr_options.specs.declared.chosen.Form.TheVariants.{Transcript, Repor
 use Rattle.hsr_options.specs.declared.chosen.Scope.{Scope}
 use Rattle.hsr_options.specs.declared.chosen.Scope.TheVariants.{Ring, Network}
 use Rattle.hsr_options.specs.declared.chosen.Asked.{Asked}
-use Rattle.hsr_cli.specs.declared.fault.OptionFault.{OptionFault}
-use Rattle.hsr_cli.specs.declared.fault.OptionFault.TheVariants.{Usage, Memory}
 use Rattle.hsr_options.specs.declared.chosen.Options.{Options}
 use Rattle.hsr_options.specs.declared.chosen.Options.TheVariants.{Node, Run, Threads, Audit}
 
@@ -177,13 +175,3 @@ abbrev pub IsRefused : List Text → Text → Type 0
 IsRefused [] text = ⊥
 IsRefused (w ∷ ws) text = (app : App) × IsBench app × ((fault_of app (w ∷ ws) ≢ [])
     ⊎ ((fault_of app (w ∷ ws) ≡ []) × SaysNothing (subcommand_of app (w ∷ ws)) × (text ≡ mac_usage)))
-
--- a text, or how help is asked for where it is empty
-abbrev pub or_help : Text → Text
-or_help [] = codes "usage: --help"
-or_help (c ∷ cs) = c ∷ cs
-
--- P of the text of a refusal; of a failed allocation nothing
-abbrev pub IfUsage : OptionFault → (Text → Type 0) → Type 0
-IfUsage (Usage text) P = P (string_bytes text)
-IfUsage Memory P = ⊤

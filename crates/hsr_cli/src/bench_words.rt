@@ -8,19 +8,17 @@ ghost use Rattle.hsr_duptable.specs.Sizes.{table_word};
 ghost use Rattle.clap.specs.Words.{Text, app_of, first_value, found_of, kind_of, new_app, rule_of, subcommand_rows_of, with_rule};
 ghost use Rattle.clap.specs.declared.builder.Command.TheViews.{out-Command as fields_of};
 ghost use Rattle.clap.specs.declared.error.kind.ErrorKind.TheVariants.{OutOfMemory};
-ghost use Rattle.hsr_cli.specs.declared.fault.OptionFault.TheVariants.{Memory};
-ghost use Rattle.hsr_cli.specs.Options.{Chosen, ChosenIn, IfUsage, IsAsked, IsForm, IsNode, IsRefused, IsScope, IsShowing, IsTaken, Says, SaysNothing, audit_app, bench_app, flag_rule, flag_text, mac_rule, mode_rule, node_app, or_help, run_app, table_rule, playing_app, top_app, unit_rule, with_asked, with_told};
+ghost use Rattle.hsr_cli.specs.Refusal.{IfUsage};
+ghost use Rattle.hsr_cli.specs.Options.{Chosen, ChosenIn, IsAsked, IsForm, IsNode, IsRefused, IsScope, IsShowing, IsTaken, Says, SaysNothing, audit_app, bench_app, flag_rule, flag_text, mac_rule, mode_rule, node_app, run_app, table_rule, playing_app, top_app, unit_rule, with_asked, with_told};
 
-use crate::fault::OptionFault;
-use clap::error::ErrorKind;
-use clap::{Arg, ArgAction, ArgMatches, Command, Error};
+use crate::fault::{OptionFault, refused, usage};
+use clap::{Arg, ArgAction, ArgMatches, Command};
 use hsr_duptable::TableSize;
 use hsr_frame::{Mac, Mode, NoMemory};
 use hsr_options::{Asked, Form, NodeOptions, Options, Scope, Showing};
 use hsr_text::TimeUnit;
 use hsr_version::VERSION;
 use std::alloc::Global;
-use std::fmt::Display;
 
 const NODE_LINES: &str = "\
 Each line of standard input, with one space between its words, is one of:
@@ -39,6 +37,9 @@ left, 4 over 1500 octets of payload). The last line counts what happened. A bad 
 status 1.
 
 Example: echo 'send 0 02-00-00-00-00-02 0800 AABB' | hsr_bench node";
+
+/// How help is asked for.
+const ASK_HELP: &str = "usage: --help";
 
 const NO_MAC: &str = "\
 usage: --mac
@@ -128,14 +129,6 @@ Status 0: every frame came exactly once to each node that it was for. Status 2: 
 doubt that, named in the last line. Status 1: there is no report, and one line on standard error says
 why: `fault: transcript line <n>` (bad, or not what the node answers), `fault: transcript version`,
 `fault: transcript end` (it breaks off), `fault: check <n>` (links and records disagree).";
-
-impl From<NoMemory> for OptionFault {
-    ghost from_gives = { λ _ f. f ≡ Memory };
-
-    fn from(_e: NoMemory) -> OptionFault {
-        OptionFault::Memory
-    }
-}
 
 fn mac_arg<'a>(alloc: Global) -> Arg<'a>
     ensures rule { rule_of result ≡ mac_rule }
@@ -334,51 +327,6 @@ fn bench_command<'a>(
     let three = two.subcommand(threads)?;
     let four = three.subcommand(audit)?;
     Ok(four)
-}
-
-/// A refusal by clap's error, by the text that it shows.
-fn refused(alloc: Global, error: &Error) -> OptionFault
-    ensures kind { IfUsage result (λ _. kind_of error.now ≢ OutOfMemory) }
-    ensures some { IfUsage result (λ t. 0 < length t) }
-{
-    if error.kind() == ErrorKind::OutOfMemory {
-        return OptionFault::Memory;
-    }
-    shown(alloc, error)
-}
-
-/// A refusal by the text that an error shows, without the end of its last line: whoever prints it ends the line. Of
-/// clap's errors the kit's clauses don't tell what they show, so there `text` says nothing.
-fn shown<D: Display + Drop>(alloc: Global, error: D) -> OptionFault
-    ensures text { IfUsage result (λ t. IfSome (D.output error) (λ whole. t
-        ≡ or_help (trim_end whole))) }
-    ensures some { IfUsage result (λ t. 0 < length t) }
-{
-    match error.to_string(alloc) {
-        Ok(text) => usage_or_help(alloc, text.trim_end()),
-        Err(_) => OptionFault::Memory,
-    }
-}
-
-/// A refusal by this text, or by one that names the help where it is empty.
-fn usage_or_help(alloc: Global, text: &str) -> OptionFault
-    ensures text { IfUsage result (λ t. t ≡ or_help text.now) }
-    ensures some { IfUsage result (λ t. 0 < length t) }
-{
-    // Clap's errors have a text, but no clause says so.
-    if text.is_empty() {
-        return usage(alloc, "usage: --help");
-    }
-    usage(alloc, text)
-}
-
-fn usage(alloc: Global, text: &str) -> OptionFault
-    ensures { IfUsage result (λ t. t ≡ text.now) }
-{
-    match String::from_str(alloc, text) {
-        Ok(text) => OptionFault::Usage { text },
-        Err(_) => OptionFault::Memory,
-    }
 }
 
 #[tactic(auto, using(crate::proofs::BenchFound::table_found, crate::proofs::BenchFound::table_unread))]
@@ -597,6 +545,6 @@ pub fn options<'a>(alloc: Global, words: &'a [&'a str]) -> Result<Options, Optio
             // All other values are from lists that clap compares, so this is about `--mac`.
             None => Err(usage(alloc, NO_MAC)),
         },
-        Err(error) => Err(refused(alloc, &error)),
+        Err(error) => Err(refused(alloc, &error, ASK_HELP)),
     }
 }

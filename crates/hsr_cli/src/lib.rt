@@ -1,9 +1,9 @@
 //! The command lines of hsr_bench and hsr_plan: what their arguments choose, and their help, by clap.
 //!
 //! Its modules, in the order in which to read them:
-//! - `fault`: why arguments of hsr_bench are refused
+//! - `fault`: why arguments are refused, and how that is told
 //! - `bench_words`: reads the arguments of hsr_bench
-//! - `task`: what arguments of hsr_plan choose, and why they are refused
+//! - `task`: what arguments of hsr_plan choose
 //! - `plan_words`: reads the arguments of hsr_plan
 #![tactic(auto)]
 
@@ -13,6 +13,6 @@ mod plan_words;
 mod task;
 
 pub use bench_words::options;
-pub use fault::OptionFault;
+pub use fault::{OptionFault, turn_away, usage};
 pub use plan_words::task_by;
-pub use task::{Task, WordsFault};
+pub use task::Task;

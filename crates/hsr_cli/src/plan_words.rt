@@ -6,18 +6,17 @@ ghost use Rattle.clap.specs.Words.{Text, app_of, first_value, found_of, kind_of,
 ghost use Rattle.clap.specs.declared.builder.command.Command.TheViews.{out-Command as fields_of};
 ghost use Rattle.clap.specs.declared.error.kind.ErrorKind.TheVariants.{OutOfMemory};
 ghost use Rattle.hsr_cli.specs.declared.task.Task.{Task as TaskOf};
-ghost use Rattle.hsr_cli.specs.declared.task.WordsFault.TheVariants.{Memory};
-ghost use Rattle.hsr_cli.specs.Choices.{Chosen, ChosenAlone, ChosenBefore, IfUsage, IsMoment, IsRefused, IsTable, Says, at_rule, check_rule, or_else, plan_app, sub_values, sweep_app, table_rule, top_app};
+ghost use Rattle.hsr_cli.specs.Refusal.{IfUsage};
+ghost use Rattle.hsr_cli.specs.Choices.{Chosen, ChosenAlone, ChosenBefore, IsMoment, IsRefused, IsTable, Says, at_rule, check_rule, plan_app, sub_values, sweep_app, table_rule, top_app};
 
-use crate::task::{Task, WordsFault};
-use clap::error::ErrorKind;
-use clap::{Arg, ArgAction, ArgMatches, Command, Error};
+use crate::fault::{OptionFault, refused, usage};
+use crate::task::Task;
+use clap::{Arg, ArgAction, ArgMatches, Command};
 use hsr_duptable::TableSize;
 use hsr_frame::NoMemory;
 use hsr_text::decimal;
 use hsr_version::VERSION;
 use std::alloc::Global;
-use std::fmt::Display;
 
 /// Which arguments go together.
 const TOGETHER: &str = "\
@@ -55,14 +54,6 @@ error says why, with line and column of the word. Status 3: the arguments are re
 
 Example: hsr_plan < plan.toml > plan.scenario && hsr_bench run --budget < plan.scenario
          hsr_plan sweep --at-us 5000 < plan.toml";
-
-impl From<NoMemory> for WordsFault {
-    ghost from_gives = { λ _ f. f ≡ Memory };
-
-    fn from(_e: NoMemory) -> WordsFault {
-        WordsFault::Memory
-    }
-}
 
 fn table_arg<'a>(alloc: Global, tables: &'a [&'a str]) -> Arg<'a>
     ensures rule { rule_of result ≡ table_rule tables.entry }
@@ -128,50 +119,6 @@ fn plan_command<'a>(alloc: Global, tables: &'a [&'a str]) -> Result<Command<'a>,
     let two = one.arg(check_arg(alloc))?;
     let three = two.subcommand(sweep)?;
     Ok(three)
-}
-
-/// A refusal by this text, or by which arguments go together where it is empty.
-fn usage_by(alloc: Global, text: &str) -> WordsFault
-    ensures text { IfUsage result (λ t. t ≡ or_else text.now TOGETHER.now) }
-    ensures some { IfUsage result (λ t. 0 < length t) }
-{
-    let said = if text.is_empty() { TOGETHER } else { text };
-    match String::from_str(alloc, said) {
-        Ok(text) => WordsFault::Usage { text },
-        Err(_) => WordsFault::Memory,
-    }
-}
-
-/// The text that says which arguments go together.
-fn usage(alloc: Global) -> WordsFault
-    ensures text { IfUsage result (λ t. t ≡ TOGETHER.now) }
-    ensures some { IfUsage result (λ t. 0 < length t) }
-{
-    usage_by(alloc, TOGETHER)
-}
-
-/// A refusal by clap's error, by the text that it shows.
-fn refused(alloc: Global, error: &Error) -> WordsFault
-    ensures kind { IfUsage result (λ _. kind_of error.now ≢ OutOfMemory) }
-    ensures some { IfUsage result (λ t. 0 < length t) }
-{
-    if error.kind() == ErrorKind::OutOfMemory {
-        return WordsFault::Memory;
-    }
-    shown(alloc, error)
-}
-
-/// A refusal by the text that an error shows, without the end of its last line: whoever prints it ends the line. Of
-/// clap's errors the kit's clauses don't tell what they show, so there `text` says nothing.
-fn shown<D: Display + Drop>(alloc: Global, error: D) -> WordsFault
-    ensures text { IfUsage result (λ t. IfSome (D.output error) (λ whole. t
-        ≡ or_else (trim_end whole) TOGETHER.now)) }
-    ensures some { IfUsage result (λ t. 0 < length t) }
-{
-    match error.to_string(alloc) {
-        Ok(text) => usage_by(alloc, text.trim_end()),
-        Err(_) => WordsFault::Memory,
-    }
 }
 
 /// The tables that the values name: large, where they don't say.
@@ -253,7 +200,7 @@ fn chosen_in(matches: &ArgMatches<'_>) -> Option<Task>
 /// that `--table` names (`small` or `large`, which is meant without it). Arguments that go together in none of these
 /// are refused by the text that says which do, and other arguments by clap's text, which isn't empty; `Memory` if
 /// allocation fails.
-pub fn task_by<'a>(alloc: Global, words: &'a [&'a str]) -> Result<Task, WordsFault>
+pub fn task_by<'a>(alloc: Global, words: &'a [&'a str]) -> Result<Task, OptionFault>
     ensures found { IfOk result (Says (map (λ s. s.now) words.entry.now)) }
     ensures refused { IfErr result (λ f. IfUsage f (IsRefused (map (λ s. s.now) words.entry.now))) }
     ensures some { IfErr result (λ f. IfUsage f (λ text. 0 < length text)) }
@@ -263,8 +210,8 @@ pub fn task_by<'a>(alloc: Global, words: &'a [&'a str]) -> Result<Task, WordsFau
     match command.try_get_matches_from(words) {
         Ok(matches) => match chosen_in(&matches) {
             Some(task) => Ok(task),
-            None => Err(usage(alloc)),
+            None => Err(usage(alloc, TOGETHER)),
         },
-        Err(error) => Err(refused(alloc, &error)),
+        Err(error) => Err(refused(alloc, &error, TOGETHER)),
     }
 }

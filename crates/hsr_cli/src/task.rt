@@ -1,4 +1,4 @@
-//! What arguments of hsr_plan choose, and why they are refused.
+//! What arguments of hsr_plan choose.
 use hsr_duptable::TableSize;
 
 /// What arguments of hsr_plan choose.
@@ -10,13 +10,4 @@ pub enum Task {
     Check,
     /// Each link and each node of a plan is off from a moment on, in microseconds, one by one.
     Sweep { at: u64 },
-}
-
-/// Why arguments of hsr_plan are refused.
-#[derive(Drop)]
-pub enum WordsFault {
-    /// The text says why, or is the help that was asked for.
-    Usage { text: String },
-    /// Allocation failed.
-    Memory,
 }

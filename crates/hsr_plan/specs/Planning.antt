@@ -1,13 +1,13 @@
 -- What the planner's program does, over arguments, a text that is read, and two writers: standard output and standard error.
-use Rattle.std.specs.Prelude.{ℕ, ◌<◌, ◌≡◌, ◌⊎◌, Bool, List, ◌++◌, length, codes, string_bytes, Option, Result, Ok, Err}
+use Rattle.std.specs.Prelude.{ℕ, ◌≡◌, ◌⊎◌, Bool, List, codes, Option, Result, Ok, Err}
 use Rattle.std.specs.Io.KnownBytes.{Appends, Keeps}
 use Rattle.clap.specs.Words.{Text}
 use Rattle.hsr_duptable.specs.Sizes.{capacity_of}
 use Rattle.hsr_cli.specs.Choices.{IsRefused, Says}
 use Rattle.hsr_cli.specs.declared.task.Task.{Task}
 use Rattle.hsr_cli.specs.declared.task.Task.TheVariants.{Plan, Check, Sweep}
-use Rattle.hsr_cli.specs.declared.task.WordsFault.{WordsFault}
-use Rattle.hsr_cli.specs.declared.task.WordsFault.TheVariants.{Usage, Memory}
+use Rattle.hsr_cli.specs.Refusal.{IsTurnedAway, TurnsAway}
+use Rattle.hsr_cli.specs.declared.fault.OptionFault.{OptionFault}
 use Rattle.hsr_plan_scenario.specs.Ends.{Checks, Ends, code_of}
 use Rattle.hsr_plan_scenario.specs.declared.planning.Ending.{Ending}
 use Rattle.hsr_plan_scenario.specs.declared.planning.Ending.TheVariants.{Planned, Refused, Failed, Unwritten}
@@ -34,18 +34,10 @@ pub record IsDone (task : Task) (text : List ℕ) (shown : Bool) (held holds tol
   pub ends : TellsWrite ending middle tells
   pub is_code : code ≡ code_of ending
 
--- there was no memory to read the arguments
-pub record IsShort (held holds told tells : Option (List ℕ)) (code : ℕ) : Type 0 where
-  pub is_code : code ≡ 1
-  pub line : Appends told tells (codes "fault: memory\n")
-  pub kept : Keeps held holds
-
--- What the arguments choose is done; or the text by which they are refused is told, and nothing is written; or there was no memory to read
--- them.
-abbrev pub Answers : Result Task WordsFault → List ℕ → Bool → Option (List ℕ) → Option (List ℕ) → Option (List ℕ) → Option (List ℕ) → ℕ → Type 0
+-- What the arguments choose is done; or why they are refused is told, and nothing is written.
+abbrev pub Answers : Result Task OptionFault → List ℕ → Bool → Option (List ℕ) → Option (List ℕ) → Option (List ℕ) → Option (List ℕ) → ℕ → Type 0
 Answers (Ok task) text shown held holds told tells code = IsDone task text shown held holds told tells code
-Answers (Err (Usage why)) text shown held holds told tells code = (code ≡ 3) × Appends told tells (string_bytes why ++ codes "\n") × Keeps held holds
-Answers (Err Memory) text shown held holds told tells code = IsShort held holds told tells code
+Answers (Err fault) text shown held holds told tells code = TurnsAway fault told tells code × Keeps held holds
 
 -- the arguments say what is to be done, and it is done
 pub record IsAnswered (words : List Text) (text : List ℕ) (shown : Bool) (held holds told tells : Option (List ℕ)) (code : ℕ) : Type 0 where
@@ -53,15 +45,6 @@ pub record IsAnswered (words : List Text) (text : List ℕ) (shown : Bool) (held
   pub says : Says words task
   pub done : IsDone task text shown held holds told tells code
 
--- the arguments are refused by a text that isn't empty, and nothing is written
-pub record IsTurnedAway (words : List Text) (held holds told tells : Option (List ℕ)) (code : ℕ) : Type 0 where
-  pub why : Text
-  pub refused : IsRefused words why
-  pub some : 0 < length why
-  pub is_code : code ≡ 3
-  pub line : Appends told tells (why ++ codes "\n")
-  pub kept : Keeps held holds
-
 abbrev pub Plans : List Text → List ℕ → Bool → Option (List ℕ) → Option (List ℕ) → Option (List ℕ) → Option (List ℕ) → ℕ → Type 0
 Plans words text shown held holds told tells code =
-    IsAnswered words text shown held holds told tells code ⊎ (IsTurnedAway words held holds told tells code ⊎ IsShort held holds told tells code)
+    IsAnswered words text shown held holds told tells code ⊎ IsTurnedAway (IsRefused words) held holds told tells code

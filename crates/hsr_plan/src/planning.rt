@@ -4,16 +4,12 @@ ghost use Rattle.hsr_duptable.specs.Sizes.{capacity_of};
 ghost use Rattle.hsr_plan_scenario.specs.Ends.{Ends, code_of};
 ghost use Rattle.hsr_plan.specs.Planning.{Answers, Does, IsDone, Plans, TellsWrite};
 
-use hsr_cli::{Task, WordsFault, task_by};
+use hsr_cli::{OptionFault, Task, task_by, turn_away};
 use hsr_duptable::TableSize;
 use hsr_plan_scenario::{Ending, check_run, plan_run};
 use hsr_plan_sweep::sweep_run;
-use hsr_text::write_line;
 use std::alloc::Global;
 use std::io::{self, Read, Write};
-
-/// The status where arguments are refused.
-const USAGE: u8 = 3;
 
 /// Writes the scenario of a plan, for a run with tables of this size.
 fn planned<R: Read, W: Write, E: Write>(
@@ -85,7 +81,7 @@ fn done<R: Read, W: Write, E: Write>(
 /// Does what was chosen, or tells why nothing was.
 fn answer<R: Read, W: Write, E: Write>(
     alloc: Global,
-    chosen: &Result<Task, WordsFault>,
+    chosen: &Result<Task, OptionFault>,
     is_terminal: bool,
     reader: &mut R,
     writer: &mut W,
@@ -97,14 +93,7 @@ fn answer<R: Read, W: Write, E: Write>(
 {
     match chosen {
         Ok(task) => done(alloc, *task, is_terminal, reader, writer, errors),
-        Err(WordsFault::Usage { text }) => {
-            write_line(errors, text.as_str())?;
-            Ok(USAGE)
-        }
-        Err(WordsFault::Memory) => {
-            errors.write_all(b"fault: memory\n")?;
-            Ok(1)
-        }
+        Err(fault) => turn_away(errors, fault),
     }
 }
 

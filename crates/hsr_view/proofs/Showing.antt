@@ -8,7 +8,7 @@ use Rattle.hsr_topology.specs.Topology.{Topology}
 use Rattle.hsr_finished_run.specs.Finished.{Finished}
 use Rattle.hsr_timeline.specs.Fronts.{lists_of}
 use Rattle.hsr_devices.specs.Listing.{IsListing}
-use Rattle.hsr_view.specs.Viewing.{AreNames, IsCaptureOf, IsPictured, IsSend, IsShown, Shows, send_words, topology_of}
+use Rattle.hsr_view.specs.Viewing.{AreNames, IsCaptureOf, IsPictured, IsSend, IsShown, Shows, topology_of}
 use Rattle.hsr_view.specs.declared.views.What.{What}
 use Rattle.hsr_view.specs.declared.views.What.TheVariants.{Capture, Devices, Picture}
 use Rattle.hsr_diagram.specs.declared.span.Span.{Span}
@@ -40,11 +40,11 @@ module _ (f : Finished) (t : Topology) (scenario : Option (List ℕ)) (names : N
       record { names = lists_of names; named = named_there f t scenario names places links named; shows = subst S (sym is) (subst Q second (subst P first picture)) }
 
   pub shown_capture : (what : What) (one two : Names) (link : Option ℕ) (send : Option (Bor (List ℕ) × ℕ)) (probe : Option Probe) (r : Result (Vec ℕ Global) Fault) →
-      what ≡ Capture link send → one ≡ names → IsSend (lists_of one) (send_words send) probe → two ≡ names →
+      what ≡ Capture link send → one ≡ names → IsSend (lists_of one) send probe → two ≡ names →
       IfOk r (λ octets. IsCaptureOf (lists_of two) f (record { link = link; send = probe }) octets.items) → IfOk r (λ octets. IsShown f what scenario octets.items)
   shown_capture what one two link send probe (Err fault) is first sends second capture = tt
   shown_capture what one two link send probe (Ok octets) is first sends second capture =
-      let P : Names → Type 0 = λ ns. IsSend (lists_of ns) (send_words send) probe in
+      let P : Names → Type 0 = λ ns. IsSend (lists_of ns) send probe in
       let Q : Names → Type 0 = λ ns. IsCaptureOf (lists_of ns) f (record { link = link; send = probe }) octets.items in
       let S : What → Type 0 = λ w. Shows (lists_of names) f scenario w octets.items in
       record { names = lists_of names; named = named_there f t scenario names places links named; shows = subst S (sym is) (probe, subst P first sends, subst Q second capture) }

@@ -9,7 +9,7 @@ use Rattle.hsr_finished_run.specs.Finished.{Finished}
 use Rattle.hsr_timeline.specs.Fronts.{lists_of}
 use Rattle.hsr_diagram.specs.declared.span.Span.{Span}
 use Rattle.hsr_view.specs.Refusals.{HasStray, IsBlank, IsStray, IsUncaptured, IsUndrawn, IsUnshown, IsUnshownBy}
-use Rattle.hsr_view.specs.Viewing.{AreNames, IsSend, send_words}
+use Rattle.hsr_view.specs.Viewing.{AreNames, IsSend}
 use Rattle.hsr_view.specs.declared.views.What.{What}
 use Rattle.hsr_view.specs.declared.views.What.TheVariants.{Capture, Picture}
 use Rattle.hsr_view.specs.declared.fault.Fault.{Fault}
@@ -20,18 +20,18 @@ module _ (f : Finished) (t : Topology) (scenario : Option (List ℕ)) (names : N
   by_names : (what : What) (why : Fault) → IsUnshownBy (lists_of names) f what why → IsUnshown f what scenario why
   by_names what why unshown = inr (inr (lists_of names, named_there f t scenario names places links named, unshown))
 
-  pub stray_send : (what : What) (one : Names) (link : Option ℕ) (send : Option (Bor (List ℕ) × ℕ)) (why : Fault) → what ≡ Capture link send → one ≡ names → (why ≡ fault.Send) × IsStray (lists_of one) (send_words send) → IsUnshown f what scenario why
+  pub stray_send : (what : What) (one : Names) (link : Option ℕ) (send : Option (Bor (List ℕ) × ℕ)) (why : Fault) → what ≡ Capture link send → one ≡ names → (why ≡ fault.Send) × IsStray (lists_of one) send → IsUnshown f what scenario why
   stray_send what one link send why is first stray =
-      let P : Names → Type 0 = λ ns. (why ≡ fault.Send) × IsStray (lists_of ns) (send_words send) in
+      let P : Names → Type 0 = λ ns. (why ≡ fault.Send) × IsStray (lists_of ns) send in
       let S : What → Type 0 = λ w. IsUnshownBy (lists_of names) f w why in
       by_names what why (subst S (sym is) (inl (subst P first stray)))
 
   pub unshown_capture : (what : What) (one two : Names) (link : Option ℕ) (send : Option (Bor (List ℕ) × ℕ)) (probe : Option Probe) (r : Result (Vec ℕ Global) Fault) →
-      what ≡ Capture link send → one ≡ names → IsSend (lists_of one) (send_words send) probe → two ≡ names →
+      what ≡ Capture link send → one ≡ names → IsSend (lists_of one) send probe → two ≡ names →
       IfErr r (IsUncaptured (lists_of two) f (record { link = link; send = probe })) → IfErr r (IsUnshown f what scenario)
   unshown_capture what one two link send probe (Ok octets) is first sends second uncaptured = tt
   unshown_capture what one two link send probe (Err why) is first sends second uncaptured =
-      let P : Names → Type 0 = λ ns. IsSend (lists_of ns) (send_words send) probe in
+      let P : Names → Type 0 = λ ns. IsSend (lists_of ns) send probe in
       let Q : Names → Type 0 = λ ns. IsUncaptured (lists_of ns) f (record { link = link; send = probe }) why in
       let S : What → Type 0 = λ w. IsUnshownBy (lists_of names) f w why in
       by_names what why (subst S (sym is) (inr (probe, subst P first sends, subst Q second uncaptured)))

@@ -12,7 +12,6 @@ use Rattle.hsr_topology.specs.Topology.{Topology}
 use Rattle.hsr_finished_run.specs.Finished.{Finished}
 use Rattle.hsr_scenario.specs.Names.{NamesMeant, names_meant}
 use Rattle.hsr_scenario.specs.declared.fault.ScenarioFault.{ScenarioFault}
-use Rattle.hsr_timeline.specs.Names.{node_called}
 use Rattle.hsr_timeline.specs.Choice.{checked, is_wanted}
 use Rattle.hsr_timeline.specs.Story.{HasNoStory, IsStory}
 use Rattle.hsr_timeline.specs.declared.choice.Choice.{Choice}
@@ -25,7 +24,7 @@ use Rattle.hsr_diagram.specs.declared.span.Span.{Span}
 use Rattle.hsr_transcript.specs.Answers.{Answers, IsTextOf}
 use Rattle.hsr_transcript.specs.declared.fault.ReadFault.{ReadFault}
 use Rattle.hsr_view.specs.Fault.{nothing_fault, picture_fault, fault_of_read}
-use Rattle.hsr_view.specs.Viewing.{AreNames, AreSends, IsSend, leaves_none, probe_of, send_words, topology_of}
+use Rattle.hsr_view.specs.Viewing.{AreNames, AreSends, IsSend, leaves_none, probe_of, topology_of}
 use Rattle.hsr_view.specs.declared.views.What.{What}
 use Rattle.hsr_view.specs.declared.views.What.TheVariants as asked
 use Rattle.hsr_view.specs.declared.fault.Fault.{Fault}
@@ -104,9 +103,9 @@ pub record IsBlank (names : List (List ℕ)) (f : Finished) (asked : List (Bor (
   pub told : TellsNothing f fault
 
 -- a send of no node
-abbrev pub IsStray : List (List ℕ) → Option (List ℕ × ℕ) → Type 0
+abbrev pub IsStray : List (List ℕ) → Option (Bor (List ℕ) × ℕ) → Type 0
 IsStray names None = ⊥
-IsStray names (Some asked) = node_called names asked.0 ≡ None
+IsStray names (Some asked) = probe_of names asked ≡ None
 
 -- one of the sends is of no node
 abbrev pub HasStray : List (List ℕ) → List (Bor (List ℕ) × ℕ) → Type 0
@@ -115,7 +114,7 @@ HasStray names asked = (i : ℕ) × (one : Bor (List ℕ) × ℕ) × (slice_get 
 -- with these names it can't be shown
 abbrev pub IsUnshownBy : List (List ℕ) → Finished → What → Fault → Type 0
 IsUnshownBy names f (asked.Capture link send) fault =
-    ((fault ≡ Send) × IsStray names (send_words send)) ⊎ ((probe : Option Probe) × IsSend names (send_words send) probe × IsUncaptured names f (record { link = link; send = probe }) fault)
+    ((fault ≡ Send) × IsStray names send) ⊎ ((probe : Option Probe) × IsSend names send probe × IsUncaptured names f (record { link = link; send = probe }) fault)
 IsUnshownBy names f (asked.Picture sends span) fault = ((fault ≡ Send) × HasStray names sends.items) ⊎ (IsUndrawn names f sends.items span fault ⊎ IsBlank names f sends.items span fault)
 IsUnshownBy names f asked.Devices fault = ⊥
 

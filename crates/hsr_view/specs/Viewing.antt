@@ -50,12 +50,13 @@ AreNames topology None names = names ≡ []
 AreNames topology (Some text) names = IsNamed topology text names
 
 -- the send that the name of a node and a place mean
-abbrev pub IsSend : List (List ℕ) → Option (List ℕ × ℕ) → Option Probe → Type 0
-IsSend names None send = send ≡ None
-IsSend names (Some asked) send = (node : ℕ) × (node_called names asked.0 ≡ Some node) × (send ≡ Some (record { node = node; place = asked.1 }))
-
 abbrev pub probe_of : List (List ℕ) → Bor (List ℕ) × ℕ → Option Probe
 probe_of names asked = option_map (λ node. record { node = node; place = asked.1 }) (node_called names asked.0.now)
+
+-- the send that is asked for, if one is
+abbrev pub IsSend : List (List ℕ) → Option (Bor (List ℕ) × ℕ) → Option Probe → Type 0
+IsSend names None send = send ≡ None
+IsSend names (Some asked) send = (one : Probe) × (probe_of names asked ≡ Some one) × (send ≡ Some one)
 
 abbrev pub AreSends : List (List ℕ) → List (Bor (List ℕ) × ℕ) → List Probe → Type 0
 AreSends names asked sends = map (probe_of names) asked ≡ map (λ send. Some send) sends
@@ -99,12 +100,9 @@ pub record IsPictured (names : List (List ℕ)) (f : Finished) (scenario : Optio
 abbrev pub topology_of : Run → Topology
 topology_of run = record { places = run.places; links = run.links }
 
-abbrev pub send_words : Option (Bor (List ℕ) × ℕ) → Option (List ℕ × ℕ)
-send_words send = option_map (λ s. (s.0.now, s.1)) send
-
 -- with these names this is the capture that is wanted, the drawing of the picture, or the list of devices
 abbrev pub Shows : List (List ℕ) → Finished → Option (List ℕ) → What → List ℕ → Type 0
-Shows names f scenario (asked.Capture link send) octets = (probe : Option Probe) × IsSend names (send_words send) probe × IsCaptureOf names f (record { link = link; send = probe }) octets
+Shows names f scenario (asked.Capture link send) octets = (probe : Option Probe) × IsSend names send probe × IsCaptureOf names f (record { link = link; send = probe }) octets
 Shows names f scenario (asked.Picture sends span) octets = IsPictured names f scenario sends.items span octets
 Shows names f scenario asked.Devices octets = IsListing names f.run octets
 

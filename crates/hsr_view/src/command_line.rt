@@ -3,6 +3,7 @@ use crate::asked::Asked;
 use crate::views::What;
 use clap::error::ErrorKind;
 use clap::{Arg, ArgAction, ArgMatches, Command, Error};
+use hsr_cli::{OptionFault, usage};
 use hsr_diagram::Span;
 use hsr_frame::NoMemory;
 use hsr_text::decimal;
@@ -81,27 +82,6 @@ const NO_UNTIL: &str =
 const FILE_AS_WORD: &str = "\
 A transcript isn't named but comes on standard input: use < FILE, as in hsr_view picture < run.transcript";
 
-/// Why arguments are refused.
-#[derive(Drop)]
-pub enum WordFault {
-    Usage { text: String },
-    Memory,
-}
-
-impl From<NoMemory> for WordFault {
-    fn from(_refused: NoMemory) -> WordFault {
-        WordFault::Memory
-    }
-}
-
-/// A refusal with a text of its own.
-fn usage(alloc: Global, text: &str) -> WordFault {
-    match String::from_str(alloc, text) {
-        Ok(text) => WordFault::Usage { text },
-        Err(_) => WordFault::Memory,
-    }
-}
-
 /// Whether a word looks like the name of a file: it is no option, and has a dot or a slash.
 fn is_file(word: &str) -> bool {
     !word.starts_with('-') && (word.contains('.') || word.contains('/'))
@@ -130,20 +110,20 @@ fn is_unknown(error: &Error) -> bool {
 
 /// The text of a refusal, without the end of its last line: whoever prints it ends the line. Where a word that nothing
 /// takes looks like the name of a file, it says how a file is read.
-fn refused(alloc: Global, error: &Error, words: &[&str]) -> WordFault {
+fn refused(alloc: Global, error: &Error, words: &[&str]) -> OptionFault {
     if error.kind() == ErrorKind::OutOfMemory {
-        return WordFault::Memory;
+        return OptionFault::Memory;
     }
     let Ok(text) = format!(in alloc; "{error}") else {
-        return WordFault::Memory;
+        return OptionFault::Memory;
     };
     let text = text.trim_end();
     if !is_unknown(error) || !has_file(words) {
         return usage(alloc, text);
     }
     match format!(in alloc; "{text}\n\n{FILE_AS_WORD}") {
-        Ok(text) => WordFault::Usage { text },
-        Err(_) => WordFault::Memory,
+        Ok(text) => OptionFault::Usage { text },
+        Err(_) => OptionFault::Memory,
     }
 }
 
@@ -217,7 +197,7 @@ fn view_command<'a>(alloc: Global) -> Result<Command<'a>, NoMemory> {
 }
 
 /// The link of `--link`, if it is there.
-fn link_of(alloc: Global, matches: &ArgMatches<'_>) -> Result<Option<usize>, WordFault> {
+fn link_of(alloc: Global, matches: &ArgMatches<'_>) -> Result<Option<usize>, OptionFault> {
     match matches.get_str("link") {
         Some(word) => match decimal(word.as_bytes()) {
             Some(link) => Ok(Some(link as usize)),
@@ -238,7 +218,7 @@ fn send_in(word: &str) -> Option<(&str, usize)> {
 fn send_of<'a>(
     alloc: Global,
     matches: &ArgMatches<'a>,
-) -> Result<Option<(&'a str, usize)>, WordFault> {
+) -> Result<Option<(&'a str, usize)>, OptionFault> {
     match matches.get_str("send") {
         Some(word) => match send_in(word) {
             Some(send) => Ok(Some(send)),
@@ -252,7 +232,7 @@ fn send_of<'a>(
 fn sends_of<'a>(
     alloc: Global,
     matches: &ArgMatches<'a>,
-) -> Result<Vec<(&'a str, usize)>, WordFault> {
+) -> Result<Vec<(&'a str, usize)>, OptionFault> {
     let mut sends = Vec::new(alloc);
     let Some(words) = matches.get_strs("send") else {
         return Ok(sends);
@@ -261,7 +241,7 @@ fn sends_of<'a>(
         match send_in(word) {
             Some(send) => {
                 if sends.push(send).is_err() {
-                    return Err(WordFault::Memory);
+                    return Err(OptionFault::Memory);
                 }
             }
             None => return Err(usage(alloc, NO_SEND)),
@@ -276,7 +256,7 @@ fn moment_of(
     matches: &ArgMatches<'_>,
     name: &str,
     text: &str,
-) -> Result<Option<u64>, WordFault> {
+) -> Result<Option<u64>, OptionFault> {
     match matches.get_str(name) {
         Some(word) => match decimal(word.as_bytes()) {
             Some(moment) => Ok(Some(moment)),
@@ -287,7 +267,7 @@ fn moment_of(
 }
 
 /// The picture that arguments ask for.
-fn picture_in<'a>(alloc: Global, matches: &ArgMatches<'a>) -> Result<What<'a>, WordFault> {
+fn picture_in<'a>(alloc: Global, matches: &ArgMatches<'a>) -> Result<What<'a>, OptionFault> {
     let sends = sends_of(alloc, matches)?;
     let from = moment_of(alloc, matches, "from", NO_FROM)?;
     let until = moment_of(alloc, matches, "until", NO_UNTIL)?;
@@ -302,7 +282,7 @@ fn asked_in<'a>(
     alloc: Global,
     name: &str,
     matches: &ArgMatches<'a>,
-) -> Result<Asked<'a>, WordFault> {
+) -> Result<Asked<'a>, OptionFault> {
     let what = if name == "devices" {
         What::Devices
     } else if name == "picture" {
@@ -320,7 +300,7 @@ fn asked_in<'a>(
 }
 
 /// What arguments ask for.
-pub(crate) fn asked<'a>(alloc: Global, words: &'a [&'a str]) -> Result<Asked<'a>, WordFault> {
+pub(crate) fn asked<'a>(alloc: Global, words: &'a [&'a str]) -> Result<Asked<'a>, OptionFault> {
     let command = view_command(alloc)?;
     match command.try_get_matches_from(words) {
         Ok(matches) => match matches.subcommand() {

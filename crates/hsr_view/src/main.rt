@@ -14,8 +14,7 @@
 //! - `command_line`: reads the arguments, by clap
 #![tactic(auto)]
 
-ghost use Rattle.std.specs.Prelude.{◌≡◌, ◌++◌, IfOk, OnOk, codes, drop, map, string_bytes};
-ghost use Rattle.std.specs.Io.KnownBytes.{Appends};
+ghost use Rattle.std.specs.Prelude.{◌≡◌, IfOk, drop, map, string_bytes};
 ghost use Rattle.std.specs.Process.{exit_status};
 
 mod agreeing;
@@ -30,21 +29,19 @@ mod viewing;
 mod views;
 
 use crate::asked::Asked;
-use crate::command_line::{WordFault, asked};
+use crate::command_line::asked;
 use crate::fault::Fault;
 use crate::running::{report_ending, view_run};
 use crate::unnamed::{Unnamed, no_text};
+use hsr_cli::turn_away;
 use hsr_scenario::TEXT_LIMIT;
-use hsr_text::{arguments, write_line};
+use hsr_text::arguments;
 use std::alloc::Global;
 use std::fs::{File, Files};
 use std::io::{ErrorKind, Read, Write};
 use std::process::ExitCode;
 use std::rt::Env;
 use std::{env, io};
-
-/// The status where arguments are refused.
-const USAGE: u8 = 3;
 
 /// The text of a file, or of a longer one a front that is longer than the text of a scenario may be.
 fn text_at<H: AllocGlobal + Files>(rt: &H, path: &str) -> io::Result<Vec<u8>> {
@@ -105,15 +102,6 @@ fn view_input<H: AllocGlobal + Files + Input + Print, E: Write>(
     )
 }
 
-/// Writes why arguments are refused, and gives the status of the process.
-fn refuse<E: Write>(errors: &mut E, text: &str) -> io::Result<u8>
-    ensures { OnOk result (Appends (E.contents errors.old) (E.contents errors.new) (text.now
-        ++ codes "\n")) }
-{
-    write_line(errors, text)?;
-    Ok(USAGE)
-}
-
 /// The end of the process with a status.
 fn exit_of(code: io::Result<u8>) -> io::Result<ExitCode>
     ensures { IfOk result (λ exit. IfOk code (λ status. exit_status exit ≡ status)) }
@@ -136,8 +124,7 @@ fn run<H: AllocGlobal + Env + Files + Input + Print, E: Write>(
     };
     let code = match asked(rt.alloc(), words.as_slice()) {
         Ok(asked) => view_input(rt, asked, errors),
-        Err(WordFault::Usage { text }) => refuse(errors, text.as_str()),
-        Err(WordFault::Memory) => report_ending(errors, Err(Fault::Memory)),
+        Err(fault) => turn_away(errors, &fault),
     };
     exit_of(code)
 }

@@ -199,18 +199,14 @@ fn picture_of<const C: usize>(
     Ok(octets)
 }
 
-/// The send that a node's name and a place mean; `Send` where no node has the name.
+/// The send that is asked for, if one is; `Send` where no node has the name.
 fn send_of(names: &[Vec<u8>], send: Option<(&str, usize)>) -> Result<Option<Probe>, Fault>
-    ensures known { IfOk result (IsSend (lists_of names.now)
-        (option_map (λ s. (s.0.now, s.1)) send.entry)) }
+    ensures known { IfOk result (IsSend (lists_of names.now) send.entry) }
     ensures stray { IfErr result (λ fault. (fault ≡ Send)
-        × IsStray (lists_of names.now) (option_map (λ s. (s.0.now, s.1)) send.entry)) }
+        × IsStray (lists_of names.now) send.entry) }
 {
-    match send {
-        Some((name, place)) => match node_called(names, name.as_bytes()) {
-            Some(node) => Ok(Some(Probe { node, place })),
-            None => Err(Fault::Send),
-        },
+    match &send {
+        Some(send) => Ok(Some(probe_of(names, send)?)),
         None => Ok(None),
     }
 }

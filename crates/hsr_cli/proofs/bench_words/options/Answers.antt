@@ -3,7 +3,8 @@ use Rattle.std.proofs.lemmas.List.{length-map}
 use Rattle.std.proofs.lemmas.Bool.Decides.{nat_tests}
 use Rattle.clap.specs.Words.{App, Text, app_of, is_simple, subcommand_of}
 use Rattle.hsr_cli.specs.Options.{ChosenIn, IsBench, SaysNothing}
-use Rattle.hsr_cli.proofs.BenchFound.{fault_found, faulty, is_free, is_simple_bench, is_simple_so, says, silent, taken, usage_weaker}
+use Rattle.hsr_cli.proofs.BenchFound.{faulty, is_free, is_simple_bench, is_simple_so, says, silent, taken}
+use Rattle.hsr_cli.proofs.Refusing.{fault_found, usage_weaker}
 use Rattle.hsr_cli.proofs.bench_words.options.Goals as goal
 
 pub returns-in-Some-clause-found : goal.returns-in-Some-clause-found

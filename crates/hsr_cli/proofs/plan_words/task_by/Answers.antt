@@ -1,7 +1,8 @@
 use Rattle.std.proofs.Common.{rules, inl, inr, map, List}
 use Rattle.clap.specs.Words.{Text, app_of}
 use Rattle.hsr_cli.specs.Choices.{IsPlanner}
-use Rattle.hsr_cli.proofs.PlanFound.{chooses, chosen, fault_found, is_free, is_simple_so, usage_weaker}
+use Rattle.hsr_cli.proofs.PlanFound.{chooses, chosen, is_free, is_simple_so}
+use Rattle.hsr_cli.proofs.Refusing.{fault_found, usage_weaker}
 use Rattle.hsr_cli.proofs.plan_words.task_by.Goals as goal
 
 pub returns-in-Some-clause-found : goal.returns-in-Some-clause-found
@@ -20,7 +21,7 @@ returns-in-Ok-clause-refused c =
     let found = c.in-Ok.ensures.matches (is_simple_so app is) in
     usage_weaker c.usage.result _ _
     (λ text said. (app, is, inr (c.in-Ok.ensures.kinds (is_free app is), λ task h. c.in-None.ensures.none task (chosen app words c.in-Ok.matches task found.0 found.1 h), said)))
-    c.usage.ensures.text
+    c.usage.ensures
 
 pub returns-clause-refused : goal.returns-clause-refused
 returns-clause-refused c =
