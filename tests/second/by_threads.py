@@ -6,13 +6,14 @@ COUNT (300) scenarios, from SEED (1) on, by the generator of compare.py, without
 all with small tables, each step is drained before the next one: then the counts of every node and link, the fault and the kind of the
 doubt have to be those of `run`. In the others each node has sent as often as the scenario says. In all of them each copy that was put was
 taken or lost, each arrival was judged by the worker of its port, each node's ager aged it at the last clock, and `audit` of the text has
-the status of `threads`, and prints the report that tells of the text. A run that hasn't ended after a minute is a failure. Each failure is
+the status of `threads`, and prints the report that tells of the text, with the lines of load and latency that the text tells. A run that hasn't ended after a minute is a failure. Each failure is
 shown; the last line says how many scenarios passed, and the status is 0 if all did.
 """
 import random
 import subprocess
 import sys
 from collections import Counter
+from itertools import accumulate
 
 import compare
 import model
@@ -103,6 +104,50 @@ def look_at_workers(made, text):
         look_at_record(made, node, lines)
 
 
+def send_of(word):
+    """A send, as a transcript names it."""
+    return tuple(map(int, word.split(":")))
+
+
+def load_and_latency(text):
+    """The lines of load and latency, told of a transcript's records and rows alone."""
+    records, links, rows, said = [], [], [], None
+    for line in text.splitlines():
+        word, *rest = line.split()
+        said = {"links": links, "main": None, "record": records, "carried": rows}.get(word, said)
+        if word in ("record", "carried"):
+            said.append([])
+        elif said is links and word != "links":
+            links.append([(int(end.split(".")[0]), end.split(".")[1]) for end in (word, *rest)])
+        elif said and word not in ("links", "main", "end"):
+            said[-1].append([word, *rest])
+    moments = [list(accumulate((int(entry[1]) for entry in record), max)) for record in records]
+    came, passed = [], {}
+    for number, record in enumerate(records):
+        came.append([])
+        for place, (_, _, done, *rest) in enumerate(record):
+            outcome = rest[rest.index("=") + 1 :]
+            send = send_of(rest[1]) if done == "arrive" else (number, place)
+            if done == "arrive":
+                came[-1].append((place, send, "up" in outcome))
+            for port in outcome[1:] if done != "age" else []:
+                if port in PORTS:
+                    passed.setdefault((number, port, send), []).append(moments[number][place])
+    channels = []
+    for ends, carried in zip(links, rows):
+        for dir, start in zip(("forth", "back"), ends):
+            copies, put = [], Counter()
+            for row_dir, send, octets, fate in carried:
+                if row_dir == dir:
+                    moment = passed[(*start, send_of(send))][put[send]]
+                    put[send] += 1
+                    if fate in ("taken", "cut"):
+                        frame = bytes.fromhex(octets)
+                        copies.append((moment, max(60 if model.read(frame).seq is None else 66, len(frame)) + 24))
+            channels.append((start, ends[dir == "forth"], copies))
+    return model.load_lines(channels) + model.latency_lines(came, moments)
+
+
 def try_one(program, seed):
     """What became of a scenario, in a word or two."""
     chance = random.Random(seed)
@@ -128,6 +173,8 @@ def try_one(program, seed):
         look_at_workers(made, text)
         audit_status, report, audit_fault = bench(program, ["audit", *table], text)
         expect("status of the audit", (audit_status, audit_fault), (status, ""))
+        more = bench(program, ["audit", "--load", "--latency", *table], text)[1]
+        expect("load and latency", [line for line in more.splitlines() if line.split()[0] in ("load", "latency")], load_and_latency(text))
         look_at(made, report)
         if is_drained:
             expect("status of the run", ran_status, status)

@@ -1,6 +1,6 @@
-"""Compares the program with model.py, a second implementation: random scenarios on networks of all kinds by `run` and `audit`, with and
-without each of `--deliveries`, `--needed`, `--budget` and `--network`, and by `run --transcript`, and random lines by `node`; every octet of
-what is printed, and the status.
+"""Compares the program with model.py, a second implementation: random scenarios on networks of all kinds by `run` and `audit`, with
+and without each of `--load`, `--latency`, `--deliveries`, `--needed`, `--budget` and `--network`, and by `run --transcript`, and
+random lines by `node`; every octet of what is printed, and the status.
 
     python3 tests/second/compare.py [COUNT [SEED [PROGRAM]]]
 
@@ -324,7 +324,7 @@ def compare_scenario(seed):
         made = scenario(chance, capacity)
     except model.Unsettled:
         return "left out"
-    asked = [part for part in ("deliveries", "needed", "budget", "network") if chance.random() < 0.8]
+    asked = [part for part in ("load", "latency", "deliveries", "needed", "budget", "network") if chance.random() < 0.8]
     return compare_made(f"seed {seed}", made, capacity, asked)
 
 
@@ -338,7 +338,7 @@ def far_edges():
     for later in (59999999, 60000000):
         steps = [{"do": "send", "node": "s0", "to": GROUP, "type": 0x88B5}, {"do": "drain"}, {"do": "clock", "at": later}]
         steps += [{"do": "send", "node": "n0", "to": mac(16), "type": 0x88B5}, {"do": "drain"}]
-        yield f"a station heard {later} us ago", {"unit": "us", "node": nodes, "link": links, "step": steps}, ["deliveries", "needed", "network"]
+        yield f"a station heard {later} us ago", {"unit": "us", "node": nodes, "link": links, "step": steps}, ["load", "latency", "deliveries", "needed", "network"]
 
 
 def compare_node(seed):

@@ -375,6 +375,7 @@ class World:
         self.ends = sorted(self.lanes, key=lambda end: (end[0], PORTS[self.nodes[end[0]].role].index(end[1])))
         self.outbox = {end: [] for end in self.ends}
         self.hand = dict.fromkeys(self.ends)
+        self.passes = {end: [] for end in self.ends}  # what entries passed there: place, send and octets
         self.at, self.was_injected, self.main = 0, False, []
 
     def end(self, text):
@@ -385,7 +386,10 @@ class World:
         self.nodes[number].record.append((worker, self.at, event, answer.outcome))
         for port, octets in answer.copies.items():
             if (number, port) in self.outbox:
-                self.outbox[number, port].append((octets, event.send or (number, len(self.nodes[number].record) - 1)))
+                place = len(self.nodes[number].record) - 1
+                send = event.send or (number, place)
+                self.outbox[number, port].append((octets, send))
+                self.passes[number, port].append((place, send, octets))
         if worker == 0:
             self.main.append(number)
 
@@ -580,6 +584,38 @@ class World:
         met = [node for node in self.nodes if node.needed[0] == most]
         return f"needed {most} {met[0].number} {met[0].needed[1]}" if most else "needed 0"
 
+    # -- what links carried, and how long frames took
+
+    def moments(self):
+        """The effective moments of entries, by node and place."""
+        return [list(accumulate((at for _, at, _, _ in node.record), max)) for node in self.nodes]
+
+    def carried(self, link, dir, moments):
+        """What a channel carried: of each copy its moment and its octets on the wire."""
+        start, copies, earlier = link.ends[dir], [], []
+        for row in link.rows:
+            if row.dir == dir:
+                passed = [place for place, send, octets in self.passes[start] if (send, octets) == (row.send, row.octets)]
+                place = passed[earlier.count((row.send, row.octets))]
+                earlier.append((row.send, row.octets))
+                if row.fate in ("taken", "cut"):
+                    least = 60 if read(row.octets).seq is None else 66
+                    copies.append((moments[start[0]][place], max(least, len(row.octets)) + 24))
+        return copies
+
+    def load(self):
+        """The lines of load."""
+        moments = self.moments()
+        return load_lines([(link.ends[dir], link.ends[1 - dir], self.carried(link, dir, moments)) for link in self.links for dir in (0, 1)])
+
+    def latency(self):
+        """The lines of latency."""
+        came = []
+        for node in self.nodes:
+            arrivals = [(place, event.send, "up" in outcome.split(" ")) for place, (_, _, event, outcome) in enumerate(node.record)]
+            came.append([(place, send, is_up) for place, send, is_up in arrivals if send])
+        return latency_lines(came, self.moments())
+
     # -- networks
 
     def network_verdict(self):
@@ -664,7 +700,7 @@ class World:
 
     def budget(self):
         """The line of the budget, by its definition: each arrival, and each window that begins with a send."""
-        moments = [list(accumulate((at for _, at, _, _ in node.record), max)) for node in self.nodes]
+        moments = self.moments()
         sends = []
         for node in self.nodes:
             for place, (_, _, event, _) in enumerate(node.record):
@@ -680,13 +716,15 @@ class World:
         return f"budget crowded {min(crowded)}" if crowded else f"budget {max(crowds.values(), default=0)}"
 
     def report(self, asked=()):
-        """Its report, with the parts that are asked for: deliveries, needed, budget; by the audit of networks where that is, with what
-        the network lacks."""
+        """Its report, with the parts that are asked for: load, latency, deliveries, needed, budget; by the audit of networks where that
+        is, with what the network lacks."""
         lines = [f"bench 1 table {self.capacity} nodes {len(self.nodes)} links {len(self.links)}"]
         lines += [f"node {node.number} {node.role} {node.counters()}" for node in self.nodes]
         for number, link in enumerate(self.links):
             taken = sum(row.fate == "taken" for row in link.rows)
             lines.append(f"link {number} put {len(link.rows)} taken {taken} lost {len(link.rows) - taken}")
+        lines += self.load() if "load" in asked else []
+        lines += self.latency() if "latency" in asked else []
         lines += self.deliveries() if "deliveries" in asked else []
         lines += [self.needed()] if "needed" in asked else []
         lines += [self.budget()] if "budget" in asked else []
@@ -730,6 +768,37 @@ def listed(words):
 
 def text(lines):
     return "".join(line + "\n" for line in lines)
+
+
+def load_lines(channels):
+    """The lines of load, of channels by their ends and the copies that they carried: of each its moment and its octets on the wire."""
+    all_moments = [moment for _, _, copies in channels for moment, _ in copies]
+    time = max(1000, max(all_moments) - min(all_moments)) if all_moments else 1000
+    lines, most = [], None
+    for start, goal, copies in channels:
+        if copies:
+            octets = sum(octets for _, octets in copies)
+            worst, at = max((sum(other for moment, other in copies if at <= moment < at + 1000) * 8, -at) for at, _ in copies)
+            ends = " ".join(f"{number}.{port}" for number, port in (start, goal))
+            lines.append(f"load {ends} frames {len(copies)} octets {octets} mean {octets * 8000 // time} worst-ms {worst} at {-at}")
+            most = (worst, start) if most is None or worst > most[0] else most
+    return lines + ["load most {} {}.{}".format(most[0], *most[1]) if most else "load none"]
+
+
+def latency_lines(came, moments):
+    """The lines of latency, of each node's arrivals, by place and send and whether they went up, and of the effective moments."""
+    lines, worst = [], None
+    for number, arrivals in enumerate(came):
+        times = {place: max(0, moments[number][place] - moments[send[0]][send[1]]) for place, send, _ in arrivals}
+        ups = [(times[place], send) for place, send, is_up in arrivals if is_up]
+        seconds = [(times[place], send) for place, send, _ in arrivals if any(s == send and p != place and up for p, s, up in arrivals)]
+        if ups:
+            slowest = [min(said, key=lambda one: (-one[0], one[1])) for said in (ups, seconds) if said]
+            told = [f"{time} at {named(send)}" for time, send in slowest] + ["-"]
+            lines.append(f"latency {number} frames {len(ups)} worst {told[0]} second {told[1]}")
+            if worst is None or slowest[0][0] > worst[0]:
+                worst = (slowest[0][0], number, named(slowest[0][1]))
+    return lines + ["latency worst {} {} at {}".format(*worst) if worst else "latency none"]
 
 
 def run(scenario, capacity, limit):

@@ -1,10 +1,10 @@
--- The effective moments of a run, read from lists.
+-- Arrivals in time, and the moments of sends.
 use Rattle.std.proofs.Common.{◌≡◌, ℕ, ◌+◌, ◌-◌, ◌<◌, ◌≤◌, ◌==◌, Bool, true, false, if◌then◌else◌, List, [], ◌∷◌, ◌++◌, length, map, reverse, take, get_or, slice_index_or, Option, Some, None, refl, sym, ap, ◌∙◌, subst, arith, zero, suc, ⊎_elim, eq-eqb, ne_eqb, leb-true, ltb-true, le-leb, lt-ltb}
 use Rattle.std.specs.Prelude.{max, nat_le, nat_lt, IsPermutation}
 use Rattle.std.specs.List.{cons_option}
 use Rattle.std.specs.List.Sorted.{IsNonDecreasing}
-use Rattle.std.proofs.lemmas.Bool.{and_from, and_parts, cases_lt, cases_order, cond-false, cond-true, false≢true}
-use Rattle.std.proofs.lemmas.List.{append-nil, get_or_append_left, get_or_past, get_or_push, get_or_read, length_push, map-append, reverse-append, take_all}
+use Rattle.std.proofs.lemmas.Bool.{and_from, and_parts, cases_lt, cond-false, cond-true, false≢true}
+use Rattle.std.proofs.lemmas.List.{append-nil, get_or_read, map-append, reverse-append, take_all}
 use Rattle.std.proofs.lemmas.List.Sorted.{IsPermutation-reverse, IsPermutation-trans}
 use Rattle.hsr_node.specs.Record.{now}
 use Rattle.hsr_node.specs.declared.entry.Entry.{Entry}
@@ -14,7 +14,7 @@ use Rattle.hsr_node.specs.declared.event.Probe.{Probe}
 use Rattle.hsr_run_laws.specs.Budget.{IsInTime, Sent, is_sending, moment_at, moment_of, sends_at, sends_below, sends_of}
 use Rattle.hsr_run_laws.specs.Run.{Run, past_of, record_of}
 use Rattle.hsr_audit.specs.Budgeted.{IsInTimeAt}
-use Rattle.hsr_audit.specs.Timed.{AreSendMoments, is_in_time, is_timely, is_timely_of, moment_in, moment_sent, moments_in, moments_of, moments_recorded, sent_moments, sent_moments_below}
+use Rattle.hsr_audit.specs.Timed.{AreSendMoments, is_in_time, is_timely, is_timely_of, moment_sent, sent_moments, sent_moments_below}
 use Rattle.hsr_table_demand.proofs.Places.{past_length, past_more}
 
 -- ---- one more entry
@@ -22,44 +22,12 @@ use Rattle.hsr_table_demand.proofs.Places.{past_length, past_more}
 pub now_more : (xs : List Entry) (i : ℕ) (d : Entry) → i < length xs → now (reverse (take (i + 1) xs)) ≡ max (now (reverse (take i xs))) (slice_index_or xs i d).at
 now_more xs i d below = ap now (past_more xs i d below)
 
-pub moments_more : (xs : List Entry) (i : ℕ) (d : Entry) → i < length xs →
-    moments_in (reverse (take (i + 1) xs)) ≡ moments_in (reverse (take i xs)) ++ max (now (reverse (take i xs))) (slice_index_or xs i d).at ∷ []
-moments_more xs i d below = ap moments_in (past_more xs i d below)
-
 pub sent_more : (xs : List Entry) (i : ℕ) (d : Entry) → i < length xs →
     sent_moments (reverse (take (i + 1) xs))
     ≡ sent_moments (reverse (take i xs)) ++ (if is_sending (slice_index_or xs i d).event then max (now (reverse (take i xs))) (slice_index_or xs i d).at ∷ [] else [])
 sent_more xs i d below = ap sent_moments (past_more xs i d below)
 
 -- ---- the moment of an entry
-
-length_moments : (past : List Entry) → length (moments_in past) ≡ length past
-length_moments [] = refl
-length_moments (x ∷ past) = let e = length_moments past in let more = length_push (moments_in past) (now (x ∷ past)) in omega arith
-
-moment_there : (past : List Entry) (n : ℕ) → get_or (moments_in past) n 0 ≡ moment_at n past
-moment_there [] n = refl
-moment_there (x ∷ past) n =
-    let many = length_moments past in
-    ⊎_elim
-    (λ last. get_or_push (moments_in past) (now (x ∷ past)) 0 n (many ∙ sym last) ∙ sym (cond-true (n == length past) (now (x ∷ past)) (moment_at n past) (eq-eqb n (length past) last)))
-    (λ other.
-    let earlier : moment_at n (x ∷ past) ≡ moment_at n past = cond-false (n == length past) (now (x ∷ past)) (moment_at n past) (ne_eqb n (length past) (λ same. ⊎_elim (λ low. omega (arith, low, same)) (λ high. omega (arith, high, same)) other)) in
-    ⊎_elim
-    (λ low. get_or_append_left (moments_in past) (now (x ∷ past) ∷ []) 0 n (omega (arith, low, many)) ∙ (moment_there past n ∙ sym earlier))
-    (λ high.
-    let more = length_push (moments_in past) (now (x ∷ past)) in
-    get_or_past (moments_in past ++ now (x ∷ past) ∷ []) n 0 (omega (arith, high, many, more)) ∙ (sym (get_or_past (moments_in past) n 0 (omega (arith, high, many))) ∙ (moment_there past n ∙ sym earlier)))
-    other)
-    (cases_order n (length past))
-
-recorded_at : (records : List (List Entry)) (k : ℕ) → slice_index_or (map moments_recorded records) k [] ≡ moments_in (reverse (slice_index_or records k []))
-recorded_at [] k = refl
-recorded_at (xs ∷ records) zero = refl
-recorded_at (xs ∷ records) (suc k) = recorded_at records k
-
-pub moment_is : (run : Run) (send : Probe) → moment_in (moments_of run) send ≡ moment_of run send
-moment_is run send = ap (λ ms. slice_index_or ms send.place 0) (recorded_at run.records send.node) ∙ moment_there (past_of run send.node) send.place
 
 -- the moment at a place of a record is that of its entry on its past
 moment_here : (xs : List Entry) (i : ℕ) (d : Entry) → i < length xs → moment_at i (reverse xs) ≡ now (slice_index_or xs i d ∷ reverse (take i xs))
@@ -97,51 +65,44 @@ timely sent at h =
 so_timely : (sent at : ℕ) → sent ≤ at → at < sent + 400000 → is_timely sent at ≡ true
 so_timely sent at since until = and_from (nat_le sent at) (nat_lt (at - sent) 400000) (le-leb sent at since) (lt-ltb (at - sent) 400000 (omega (arith, since, until)))
 
-in_time : (run : Run) (at : ℕ) (event : Event) → is_in_time (moments_of run) at event ≡ true → IsInTime run at event
+in_time : (run : Run) (at : ℕ) (event : Event) → is_in_time run at event ≡ true → IsInTime run at event
 in_time run at (Send from dst vlan ethertype payload) h = tt
 in_time run at (Supervise about) h = tt
 in_time run at Age h = tt
 in_time run at (Arrive port copy) h = λ send named.
-    let P : Option Probe → Type 0 = λ o. is_timely_of (moments_of run) at o ≡ true in
-    let Q : ℕ → Type 0 = λ sent. (sent ≤ at) × (at < sent + 400000) in
-    subst Q (moment_is run send) (timely (moment_in (moments_of run) send) at (subst P named h))
+    let P : Option Probe → Type 0 = λ o. is_timely_of run at o ≡ true in
+    timely (moment_of run send) at (subst P named h)
 
-late : (run : Run) (at : ℕ) (event : Event) → is_in_time (moments_of run) at event ≡ false → IsInTime run at event → ⊥
+late : (run : Run) (at : ℕ) (event : Event) → is_in_time run at event ≡ false → IsInTime run at event → ⊥
 late run at (Send from dst vlan ethertype payload) h all = false≢true (sym h)
 late run at (Supervise about) h all = false≢true (sym h)
 late run at Age h all = false≢true (sym h)
 late run at (Arrive port copy) h all = by_probe copy.probe h all
   where
-    by_probe : (o : Option Probe) → is_timely_of (moments_of run) at o ≡ false → ((send : Probe) → o ≡ Some send → (moment_of run send ≤ at) × (at < moment_of run send + 400000)) → ⊥
+    by_probe : (o : Option Probe) → is_timely_of run at o ≡ false → ((send : Probe) → o ≡ Some send → (moment_of run send ≤ at) × (at < moment_of run send + 400000)) → ⊥
     by_probe None not all = false≢true (sym not)
     by_probe (Some send) not all =
         let both = all send refl in
-        let P : ℕ → Type 0 = λ sent. is_timely sent at ≡ true in
-        false≢true (sym not ∙ subst P (sym (moment_is run send)) (so_timely (moment_of run send) at both.0 both.1))
-
--- an entry of a node's record, at its own moment
-moment_so : (run : Run) (k i : ℕ) (d : Entry) → i < length (record_of run k) →
-    moment_in (moments_of run) (record { node = k; place = i }) ≡ now (slice_index_or (record_of run k) i d ∷ reverse (take i (record_of run k)))
-moment_so run k i d below = moment_is run (record { node = k; place = i }) ∙ moment_here (record_of run k) i d below
+        false≢true (sym not ∙ so_timely (moment_of run send) at both.0 both.1)
 
 -- an entry as it was read, and its moment
-module _ (run : Run) (ms : List (List ℕ)) (k i at : ℕ) (x : Entry) (same : ms ≡ moments_of run) (below : i < length (record_of run k))
-    (at_is : at ≡ moment_in ms (record { node = k; place = i })) (x_is : x ≡ slice_index_or (record_of run k) i x) where
+module _ (run there : Run) (k i at : ℕ) (x : Entry) (same : there ≡ run) (below : i < length (record_of run k))
+    (at_is : at ≡ moment_of there (record { node = k; place = i })) (x_is : x ≡ slice_index_or (record_of run k) i x) where
   moment_as : (d : Entry) → at ≡ now (slice_index_or (record_of run k) i d ∷ reverse (take i (record_of run k)))
-  moment_as d = at_is ∙ (ap (λ ns. moment_in ns (record { node = k; place = i })) same ∙ moment_so run k i d below)
+  moment_as d = at_is ∙ (ap (λ r. moment_of r (record { node = k; place = i })) same ∙ moment_here (record_of run k) i d below)
 
-  as_read : (b : Bool) (d : Entry) → is_in_time ms at x.event ≡ b → is_in_time (moments_of run) (now (slice_index_or (record_of run k) i d ∷ reverse (take i (record_of run k)))) (slice_index_or (record_of run k) i d).event ≡ b
+  as_read : (b : Bool) (d : Entry) → is_in_time there at x.event ≡ b → is_in_time run (now (slice_index_or (record_of run k) i d ∷ reverse (take i (record_of run k)))) (slice_index_or (record_of run k) i d).event ≡ b
   as_read b d h =
-      let P : List (List ℕ) → Type 0 = λ ns. is_in_time ns at x.event ≡ b in
-      let Q : ℕ → Type 0 = λ m. is_in_time (moments_of run) m x.event ≡ b in
-      let R : Entry → Type 0 = λ y. is_in_time (moments_of run) (now (slice_index_or (record_of run k) i d ∷ reverse (take i (record_of run k)))) y.event ≡ b in
+      let P : Run → Type 0 = λ r. is_in_time r at x.event ≡ b in
+      let Q : ℕ → Type 0 = λ m. is_in_time run m x.event ≡ b in
+      let R : Entry → Type 0 = λ y. is_in_time run (now (slice_index_or (record_of run k) i d ∷ reverse (take i (record_of run k)))) y.event ≡ b in
       subst R (get_or_read (record_of run k) i x below x_is d) (subst Q (moment_as d) (subst P same h))
 
-  pub in_time_at : is_in_time ms at x.event ≡ true → IsInTimeAt run k i
+  pub in_time_at : is_in_time there at x.event ≡ true → IsInTimeAt run k i
   in_time_at h = λ d.
       in_time run (now (slice_index_or (record_of run k) i d ∷ reverse (take i (record_of run k)))) (slice_index_or (record_of run k) i d).event (as_read true d h)
 
-  pub late_at : is_in_time ms at x.event ≡ false → IsInTimeAt run k i → ⊥
+  pub late_at : is_in_time there at x.event ≡ false → IsInTimeAt run k i → ⊥
   late_at h all =
       late run (now (slice_index_or (record_of run k) i x ∷ reverse (take i (record_of run k)))) (slice_index_or (record_of run k) i x).event (as_read false x h) (all x)
 

@@ -1,7 +1,6 @@
--- The effective moments of a run, as lists of numbers.
---     moments_in       those of a record's entries
---     sent_moments     those of its sends
---     is_in_time       an event comes in time, by the moments of all entries
+-- The effective moments of a run's sends, and arrivals that come in time.
+--     sent_moments     those of a record's sends
+--     is_in_time       an event comes in time
 --     AreSendMoments   the moments of all sends, rising
 use Rattle.std.specs.Prelude.{ℕ, zero, suc, ◌-◌, ◌<◌, ◌&&◌, nat_le, nat_lt, Bool, true, List, [], ◌∷◌, ◌++◌, length, map, reverse, slice_index_or, if◌then◌else◌, Option, Some, None, Vec, IsPermutation}
 use Rattle.std.specs.Global.{Global}
@@ -12,18 +11,13 @@ use Rattle.hsr_node.specs.declared.entry.Entry.{Entry}
 use Rattle.hsr_node.specs.declared.event.Event.{Event}
 use Rattle.hsr_node.specs.declared.event.Event.TheVariants.{Arrive}
 use Rattle.hsr_node.specs.declared.event.Probe.{Probe}
-use Rattle.hsr_run_laws.specs.Budget.{Sent, is_sending, sends_of}
+use Rattle.hsr_run_laws.specs.Budget.{Sent, is_sending, moment_of, sends_of}
 use Rattle.hsr_run_laws.specs.Run.{Run, past_of, record_of}
 use Rattle.hsr_audit.specs.Budgeted.{IsInTimeAt}
 
 -- ---- moments
 
--- the effective moments of a record's entries, the oldest first
-abbrev pub moments_in : List Entry → List ℕ
-moments_in [] = []
-moments_in (x ∷ past) = moments_in past ++ now (x ∷ past) ∷ []
-
--- those of its sends
+-- the effective moments of a record's sends, the oldest first
 abbrev pub sent_moments : List Entry → List ℕ
 sent_moments [] = []
 sent_moments (x ∷ past) = sent_moments past ++ (if is_sending x.event then now (x ∷ past) ∷ [] else [])
@@ -32,25 +26,6 @@ sent_moments (x ∷ past) = sent_moments past ++ (if is_sending x.event then now
 abbrev pub sent_moments_below : Run → ℕ → List ℕ
 sent_moments_below run zero = []
 sent_moments_below run (suc k) = sent_moments_below run k ++ sent_moments (past_of run k)
-
--- those of a record as it is kept, the oldest entry first
-abbrev pub moments_recorded : List Entry → List ℕ
-moments_recorded entries = moments_in (reverse entries)
-
--- those of all entries, by node
-abbrev pub moments_of : Run → List (List ℕ)
-moments_of run = map moments_recorded run.records
-
--- lists in memory, as lists
-abbrev pub items_of : Vec ℕ Global → List ℕ
-items_of v = v.items
-
-abbrev pub lists_of : List (Vec ℕ Global) → List (List ℕ)
-lists_of vs = map items_of vs
-
--- the moment of an entry, 0 where there is no such entry
-abbrev pub moment_in : List (List ℕ) → Probe → ℕ
-moment_in moments here = slice_index_or (slice_index_or moments here.node []) here.place 0
 
 abbrev pub moment_sent : Sent → ℕ
 moment_sent sent = sent.moment
@@ -67,14 +42,14 @@ abbrev pub is_timely : ℕ → ℕ → Bool
 is_timely sent at = nat_le sent at && nat_lt (at - sent) entry_forget
 
 -- so it is for the send that a copy names, if it names one
-abbrev pub is_timely_of : List (List ℕ) → ℕ → Option Probe → Bool
-is_timely_of moments at None = true
-is_timely_of moments at (Some send) = is_timely (moment_in moments send) at
+abbrev pub is_timely_of : Run → ℕ → Option Probe → Bool
+is_timely_of run at None = true
+is_timely_of run at (Some send) = is_timely (moment_of run send) at
 
 -- an event at an effective moment, if it is an arrival, comes in time
-abbrev pub is_in_time : List (List ℕ) → ℕ → Event → Bool
-is_in_time moments at (Arrive port copy) = is_timely_of moments at copy.probe
-is_in_time moments at event = true
+abbrev pub is_in_time : Run → ℕ → Event → Bool
+is_in_time run at (Arrive port copy) = is_timely_of run at copy.probe
+is_in_time run at event = true
 
 -- the arrivals at the first places of a node's record come in time
 abbrev pub InTimeBelow : Run → ℕ → ℕ → Type 0

@@ -6,9 +6,10 @@ ghost use Rattle.hsr_audit.specs.Budgeted.{IsEnough, IsFirstBreach, IsMost, IsOv
 
 use crate::breach::{Budget, BudgetFault};
 use crate::late::first_late;
-use crate::moments::moments_of;
+use crate::moments::send_moments;
 use hsr_finished_run::Closed;
 use hsr_frame::NoMemory;
+use hsr_moments::Moments;
 use hsr_run_laws::{boxless, budget_keeps, budget_tells, no_storm, once_in_budget};
 use hsr_table_demand::{most_crowded, most_of};
 use std::alloc::Global;
@@ -20,14 +21,17 @@ fn budget_of<const C: usize>(alloc: Global, closed: &Closed<C>) -> Result<Budget
     ensures most { IfOk result (λ b. IsMost closed.now.run b.most) }
     ensures first { IfErr result (IsFirstBreach closed.now.run) }
 {
-    let Ok(moments) = moments_of(alloc, closed) else {
+    let Ok(sends) = send_moments(alloc, closed) else {
+        return Err(BudgetFault::NoMemory);
+    };
+    let Ok(moments) = Moments::new(alloc, closed) else {
         return Err(BudgetFault::NoMemory);
     };
     // A late arrival is named before a crowded window, whatever the moments (RULES, The report).
-    if let Some((node, place)) = first_late(closed, &moments.records) {
+    if let Some((node, place)) = first_late(closed, &moments) {
         return Err(BudgetFault::Late { node, place });
     }
-    match most_crowded(C, &moments.sends) {
+    match most_crowded(C, &sends) {
         Ok(most) => Ok(Budget { most }),
         Err(moment) => Err(BudgetFault::Crowded { moment }),
     }
@@ -68,6 +72,6 @@ pub fn budget<const C: usize>(alloc: Global, closed: &Closed<C>) -> Result<Budge
 pub fn most_sends<const C: usize>(alloc: Global, closed: &Closed<C>) -> Result<usize, NoMemory>
     ensures { IfOk result (IsMost closed.now.run) }
 {
-    let moments = moments_of(alloc, closed)?;
-    Ok(most_of(&moments.sends))
+    let sends = send_moments(alloc, closed)?;
+    Ok(most_of(&sends))
 }

@@ -4,7 +4,7 @@ use Rattle.hsr_text.specs.Lines.{lines_of}
 use Rattle.hsr_danh.specs.Machine.{new_machine}
 use Rattle.hsr_commands.specs.AuditRun.{AuditEnds}
 use Rattle.hsr_commands.specs.Output.{Ended, output}
-use Rattle.hsr_duptable.specs.Sizes.{capacity_of}
+use Rattle.hsr_table_size.specs.Sizes.{capacity_of}
 use Rattle.hsr_commands.specs.Reading.{scenario_of}
 use Rattle.hsr_commands.specs.OpenRun.{RunEnds}
 use Rattle.hsr_commands.specs.ThreadsRun.{ThreadsEnds}

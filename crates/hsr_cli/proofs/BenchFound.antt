@@ -8,12 +8,12 @@ use Rattle.hsr_frame.specs.declared.node.Mode.TheVariants.{H, N, U}
 use Rattle.hsr_text.proofs.Units.{unit_again}
 use Rattle.hsr_text.specs.Moments.{unit_of, unit_word}
 use Rattle.hsr_text.specs.declared.time_unit.TimeUnit.{TimeUnit}
-use Rattle.hsr_duptable.proofs.Sizes.{table_again}
-use Rattle.hsr_duptable.specs.Sizes.{table_of, table_word}
+use Rattle.hsr_table_size.proofs.Sizes.{table_again}
+use Rattle.hsr_table_size.specs.Sizes.{table_of, table_word}
 use Rattle.hsr_options.specs.declared.chosen.Showing.{Showing}
 use Rattle.hsr_options.specs.declared.chosen.Form.{Form}
 use Rattle.hsr_options.specs.declared.chosen.Form.TheVariants.{Transcript, Report}
-use Rattle.hsr_duptable.specs.declared.size.TableSize.{TableSize}
+use Rattle.hsr_table_size.specs.declared.size.TableSize.{TableSize}
 use Rattle.hsr_options.specs.declared.chosen.Asked.{Asked}
 use Rattle.hsr_options.specs.declared.chosen.Options.{Options}
 use Rattle.hsr_options.specs.declared.chosen.Options.TheVariants.{Node, Run, Threads, Audit}
@@ -21,7 +21,7 @@ use Rattle.hsr_options.specs.declared.chosen.Options.TheVariants.{Node, Run, Thr
 -- equal look-ups choose the same
 asked_same : (f g : Text → Option Text) (asked : Asked) → ((id : Text) → f id ≡ g id) → IsAsked f asked → IsAsked g asked
 asked_same f g asked e h =
-    (sym (e (codes "deliveries")) ∙ h.0, sym (e (codes "needed")) ∙ h.1, sym (e (codes "budget")) ∙ h.2)
+    (sym (e (codes "load")) ∙ h.0, sym (e (codes "latency")) ∙ h.1, sym (e (codes "deliveries")) ∙ h.2, sym (e (codes "needed")) ∙ h.3, sym (e (codes "budget")) ∙ h.4)
 
 form_same : (f g : Text → Option Text) (form : Form) → ((id : Text) → f id ≡ g id) → IsForm f form → IsForm g form
 form_same f g Transcript e h = sym (e (codes "transcript")) ∙ h

@@ -3,9 +3,9 @@ use Rattle.std.proofs.Common.{◌≡◌, ◌≢◌, List, [], Option, Some, None
 use Rattle.clap.specs.Words.{App, Row, Text, first_of, first_value, found_of, is_simple, is_simple_and_free, matches_of, rows_of, subcommand_of, subcommand_rows_of}
 use Rattle.clap.specs.declared.parser.matches.ArgMatches.{ArgMatches}
 use Rattle.clap.proofs.WalkLemmas.{first_value-rows}
-use Rattle.hsr_duptable.proofs.Sizes.{table_again}
-use Rattle.hsr_duptable.specs.Sizes.{table_of, table_word}
-use Rattle.hsr_duptable.specs.declared.size.TableSize.{TableSize}
+use Rattle.hsr_table_size.proofs.Sizes.{table_again}
+use Rattle.hsr_table_size.specs.Sizes.{table_of, table_word}
+use Rattle.hsr_table_size.specs.declared.size.TableSize.{TableSize}
 use Rattle.hsr_cli.specs.declared.task.Task.{Task}
 use Rattle.hsr_cli.specs.Choices.{Chooses, Chosen, ChosenAlone, ChosenBefore, IsPlanner, IsTable, sub_values, values}
 

@@ -5,9 +5,9 @@ use Rattle.clap.specs.Words.{App, Row, Rule, Text, new_app, new_rule, with_rule,
 use Rattle.clap.specs.declared.builder.ArgAction.TheVariants.{SetTrue}
 use Rattle.clap.specs.declared.builder.value_parser.ValueParser.TheVariants.{Names}
 use Rattle.hsr_text.specs.Words.{decimal_of}
-use Rattle.hsr_duptable.specs.Sizes.{table_word}
-use Rattle.hsr_duptable.specs.declared.size.TableSize.{TableSize}
-use Rattle.hsr_duptable.specs.declared.size.TableSize.TheVariants.{Small, Large}
+use Rattle.hsr_table_size.specs.Sizes.{table_word}
+use Rattle.hsr_table_size.specs.declared.size.TableSize.{TableSize}
+use Rattle.hsr_table_size.specs.declared.size.TableSize.TheVariants.{Small, Large}
 use Rattle.hsr_cli.specs.declared.plan_words.TheConstants.{TOGETHER}
 use Rattle.hsr_cli.specs.declared.task.Task.{Task}
 use Rattle.hsr_cli.specs.declared.task.Task.TheVariants.{Plan, Check, Sweep}

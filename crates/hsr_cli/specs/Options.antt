@@ -9,9 +9,9 @@ use Rattle.hsr_frame.specs.Words.{mode_word}
 use Rattle.hsr_frame.specs.declared.node.Mode.TheVariants.{H, N, U}
 use Rattle.hsr_text.specs.Moments.{unit_word}
 use Rattle.hsr_text.specs.declared.time_unit.TimeUnit.TheVariants.{Milliseconds, Microseconds}
-use Rattle.hsr_duptable.specs.Sizes.{table_word}
-use Rattle.hsr_duptable.specs.declared.size.TableSize.{TableSize}
-use Rattle.hsr_duptable.specs.declared.size.TableSize.TheVariants.{Small, Large}
+use Rattle.hsr_table_size.specs.Sizes.{table_word}
+use Rattle.hsr_table_size.specs.declared.size.TableSize.{TableSize}
+use Rattle.hsr_table_size.specs.declared.size.TableSize.TheVariants.{Small, Large}
 use Rattle.hsr_options.specs.declared.chosen.NodeOptions.{NodeOptions}
 use Rattle.hsr_options.specs.declared.chosen.Showing.{Showing}
 use Rattle.hsr_options.specs.declared.chosen.Form.{Form}
@@ -60,7 +60,9 @@ flag_rule name = record (new_rule name) { long = Some name; action = Some SetTru
 
 -- with the flags for the parts of a report
 abbrev pub with_asked : App → App
-with_asked app = with_rule (with_rule (with_rule app (flag_rule (codes "deliveries"))) (flag_rule (codes "needed"))) (flag_rule (codes "budget"))
+with_asked app =
+    with_rule (with_rule (with_rule (with_rule (with_rule app (flag_rule (codes "load"))) (flag_rule (codes "latency"))) (flag_rule (codes "deliveries")))
+    (flag_rule (codes "needed"))) (flag_rule (codes "budget"))
 
 -- and those for the audit of its last line, and for more about how the run ended
 abbrev pub with_told : App → App
@@ -112,7 +114,8 @@ IsNode found node = ((t : Text) × (found (codes "mac") ≡ Some t) × (address_
 
 -- which parts of a report are asked for is told by flags
 abbrev pub IsAsked : (Text → Option Text) → Asked → Type 0
-IsAsked found asked = IsSet found (codes "deliveries") asked.deliveries × IsSet found (codes "needed") asked.needed × IsSet found (codes "budget") asked.budget
+IsAsked found asked = IsSet found (codes "load") asked.load × IsSet found (codes "latency") asked.latency × IsSet found (codes "deliveries") asked.deliveries
+    × IsSet found (codes "needed") asked.needed × IsSet found (codes "budget") asked.budget
 
 -- and which audit the last line is of
 abbrev pub is_network : Scope → Bool

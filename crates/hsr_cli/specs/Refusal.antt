@@ -25,5 +25,5 @@ pub record IsTurnedAway (IsRefusedBy : Text → Type 0) (held holds told tells :
   pub fault : OptionFault
   pub refused : IfUsage fault IsRefusedBy
   pub some : IfUsage fault (λ text. 0 < length text)
-  pub tells : TurnsAway fault told tells code
+  pub turned_away : TurnsAway fault told tells code
   pub kept : Keeps held holds

@@ -4,7 +4,7 @@ ghost use Rattle.std.specs.Str.{trim_end};
 ghost use Rattle.hsr_frame.specs.Address.{IsGroup, address_of};
 ghost use Rattle.hsr_frame.specs.Words.{mode_word};
 ghost use Rattle.hsr_text.specs.Moments.{unit_word};
-ghost use Rattle.hsr_duptable.specs.Sizes.{table_word};
+ghost use Rattle.hsr_table_size.specs.Sizes.{table_word};
 ghost use Rattle.clap.specs.Words.{Text, app_of, first_value, found_of, kind_of, new_app, rule_of, subcommand_rows_of, with_rule};
 ghost use Rattle.clap.specs.declared.builder.Command.TheViews.{out-Command as fields_of};
 ghost use Rattle.clap.specs.declared.error.kind.ErrorKind.TheVariants.{OutOfMemory};
@@ -13,9 +13,9 @@ ghost use Rattle.hsr_cli.specs.Options.{Chosen, ChosenIn, IsAsked, IsForm, IsNod
 
 use crate::fault::{OptionFault, refused, usage};
 use clap::{Arg, ArgAction, ArgMatches, Command};
-use hsr_duptable::TableSize;
 use hsr_frame::{Mac, Mode, NoMemory};
 use hsr_options::{Asked, Form, NodeOptions, Options, Scope, Showing};
+use hsr_table_size::TableSize;
 use hsr_text::TimeUnit;
 use hsr_version::VERSION;
 use std::alloc::Global;
@@ -74,6 +74,13 @@ With --transcript the statuses are the same, and in place of the report comes th
 and links, the order of the steps at nodes, each node's record with its arrivals and what became of
 them, and each link's copies, with all moments in microseconds. `audit` reads it.
 
+With --load, lines before the report's last say how much each direction of a link carried: how many frames and octets on
+the wire, the mean in kbit/s from the run's first frame on a link to its last, and the most in a millisecond, with the
+moment at which that begins: `load 0.B 1.A frames 2 octets 180 mean 1440 worst-ms 1440 at 0`. Then `load most <kbit/s>
+<node>.<port>` names the direction with the worst millisecond. With --latency a line for each node that took up a frame
+says how long the slowest took from its send on, and the slowest second copy, each with its send:
+`latency 1 frames 2 worst 12 at 0:0 second 36 at 0:0`; then `latency worst <us> <node> at <send>`.
+
 With --deliveries, lines before the report's last say of each send that isn't complete which nodes it was
 due at and who missed it (or took it up twice, or strayed), and where copies of it were lost; then how many
 sends there are and how many are complete. With --needed a line says how many entries the fullest duplicate
@@ -103,6 +110,7 @@ lines of its nodes and links, and `open` as the last line, with status 2. Nothin
 
 Examples: hsr_bench run < scenario.toml
           hsr_bench run --table small --deliveries --needed --budget < scenario.toml
+          hsr_bench run --load --latency < scenario.toml
           hsr_bench run --network --explain < scenario.toml
           hsr_bench run --transcript < scenario.toml | hsr_bench audit";
 
@@ -123,7 +131,8 @@ Examples: hsr_bench threads < scenario.toml
 const AUDIT_ENDS: &str = "\
 The transcript is one that `run --transcript` wrote with a table of the same size; it may be of version 1,
 which tells moments in milliseconds. Each entry is done anew and compared, links and records are checked
-against each other, and the report is that of `run`, with --deliveries, --needed, --budget, --network and --explain too.
+against each other, and the report is that of `run`, with --load, --latency, --deliveries, --needed, --budget, --network
+and --explain too.
 
 Status 0: every frame came exactly once to each node that it was for. Status 2: the run gives reason to
 doubt that, named in the last line. Status 1: there is no report, and one line on standard error says
@@ -205,12 +214,16 @@ fn asking<'a>(alloc: Global, command: Command<'a>) -> Result<Command<'a>, NoMemo
     ensures app { IfOk result (λ c. app_of c ≡ with_asked (app_of command.entry)) }
     ensures own { IfOk result (λ c. (fields_of c).has_globals ≡ false) }
 {
+    let load = "Says in lines of the report how much each direction of a link carried";
+    let latency = "Says in lines of the report how long frames took to each node";
     let deliveries = "Says in lines of the report who missed which frame, and where it was lost";
     let needed = "Says in a line of the report how many table entries the run needed";
     let budget = "Says in a line of the report whether the run was within the budget of its tables";
-    let one = with_flag(alloc, command, "deliveries", deliveries)?;
-    let two = with_flag(alloc, one, "needed", needed)?;
-    with_flag(alloc, two, "budget", budget)
+    let one = with_flag(alloc, command, "load", load)?;
+    let two = with_flag(alloc, one, "latency", latency)?;
+    let three = with_flag(alloc, two, "deliveries", deliveries)?;
+    let four = with_flag(alloc, three, "needed", needed)?;
+    with_flag(alloc, four, "budget", budget)
 }
 
 /// A command, with these flags, and those for the audit of a report's last line and for more about how the run ended.
@@ -380,10 +393,14 @@ fn asked_of(matches: &ArgMatches<'_>) -> Option<Asked>
     ensures none { IfNone result ((asked : Asked)
         → ¬ IsAsked (first_value (found_of matches.now)) asked) }
 {
+    let load = flag_of(matches, "load")?;
+    let latency = flag_of(matches, "latency")?;
     let deliveries = flag_of(matches, "deliveries")?;
     let needed = flag_of(matches, "needed")?;
     let budget = flag_of(matches, "budget")?;
     Some(Asked {
+        load,
+        latency,
         deliveries,
         needed,
         budget,

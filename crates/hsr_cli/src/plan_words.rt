@@ -12,8 +12,8 @@ ghost use Rattle.hsr_cli.specs.Choices.{Chosen, ChosenAlone, ChosenBefore, IsMom
 use crate::fault::{OptionFault, refused, usage};
 use crate::task::Task;
 use clap::{Arg, ArgAction, ArgMatches, Command};
-use hsr_duptable::TableSize;
 use hsr_frame::NoMemory;
+use hsr_table_size::TableSize;
 use hsr_text::decimal;
 use hsr_version::VERSION;
 use std::alloc::Global;

@@ -1,5 +1,5 @@
 //! What arguments of hsr_plan choose.
-use hsr_duptable::TableSize;
+use hsr_table_size::TableSize;
 
 /// What arguments of hsr_plan choose.
 #[derive(Clone, Copy, Debug, PartialEq, Eq)]

@@ -3,15 +3,15 @@ ghost use Rattle.std.specs.Prelude.{◌≡◌, IfErr, IfOk, IfSome};
 ghost use Rattle.hsr_duptable.specs.Table.{IsTableSize};
 ghost use Rattle.hsr_transcript.specs.Answers.{IsTextOf};
 ghost use Rattle.hsr_commands.specs.AuditRun.{AuditEnds, IsAudited, IsUnread, transcript_fault};
-ghost use Rattle.hsr_duptable.specs.Sizes.{capacity_of};
+ghost use Rattle.hsr_table_size.specs.Sizes.{capacity_of};
 
 use crate::fault::{Fault, Status, TranscriptFault};
 use crate::notes::Notes;
 use crate::shown::{deliver, finding_of, report_of};
-use hsr_duptable::TableSize;
 use hsr_finished_run::Closed;
 use hsr_options::{Asked, Scope};
 use hsr_report::Finding;
+use hsr_table_size::TableSize;
 use hsr_transcript::{ReadFault, read};
 use std::alloc::Global;
 use std::io::{Read, Write};

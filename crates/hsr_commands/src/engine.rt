@@ -4,16 +4,16 @@ ghost use Rattle.hsr_text.specs.Lines.{ReadsFront, lines_of};
 ghost use Rattle.hsr_duptable.specs.Table.{IsTableSize};
 ghost use Rattle.hsr_danh.specs.Machine.{new_machine};
 ghost use Rattle.hsr_commands.specs.Output.{Ended, output};
-ghost use Rattle.hsr_duptable.specs.Sizes.{capacity_of};
+ghost use Rattle.hsr_table_size.specs.Sizes.{capacity_of};
 ghost use Rattle.hsr_commands.specs.Run.{Finished, Ran, Served, Turned};
 ghost use Rattle.hsr_commands.specs.declared.fault.Fault.TheVariants.{Read as ReadFailed};
 
 use crate::fault::{Fault, Status};
 use arrayvec::ArrayVec;
 use hsr_danh::Danh;
-use hsr_duptable::TableSize;
 use hsr_node_text::{answer_request, put_counters, read_request};
 use hsr_options::NodeOptions;
+use hsr_table_size::TableSize;
 use hsr_text::{Front, TimeUnit, WordFault, granted_reads, next_line};
 use std::alloc::Global;
 use std::io::{BufRead, BufReader, Read, Write};

@@ -28,6 +28,7 @@ pub use law::once_is_complete;
 pub use lines::put_deliveries;
 pub use loss::Loss;
 pub use losses::Losses;
+pub use tally::{Tally, taken_up};
 
 // Named here too for who lists what was delivered.
 pub use hsr_finished_run::push_if;

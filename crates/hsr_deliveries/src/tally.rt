@@ -14,9 +14,9 @@ use std::marker::Model;
 /// How often each send was counted, by its node and place.
 type Counts = IndexMap<(usize, usize), usize>;
 
-/// A node's record, and how often the node took each send up.
+/// A node's record, and how often the node took each send up, found in one walk over the record.
 #[derive(Drop)]
-pub(crate) struct Tally<'a> {
+pub struct Tally<'a> {
     // Kept for its model: contracts speak of a tally by the entries that it counts.
     entries: &'a [Entry],
     counts: Counts,
@@ -38,7 +38,7 @@ impl<'a> Model for Tally<'a> {
 }
 
 /// The send of an entry that is an arrival and went up; none of any other.
-fn taken_up(x: &Entry) -> Option<Probe>
+pub fn taken_up(x: &Entry) -> Option<Probe>
     ensures { (send : spec.Probe) → is_of send result ≡ delivers send x.now }
 {
     let Event::Arrive { port: _, carried } = &x.event else {
@@ -84,8 +84,8 @@ fn counted(alloc: Global, entries: &[Entry]) -> Result<Counts, NoMemory>
 }
 
 impl<'a> Tally<'a> {
-    /// The tally of a record.
-    pub(crate) fn new(alloc: Global, entries: &'a [Entry]) -> Result<Tally<'a>, NoMemory>
+    /// The tally of a record. `NoMemory` if allocation fails.
+    pub fn new(alloc: Global, entries: &'a [Entry]) -> Result<Tally<'a>, NoMemory>
         ensures { IfOk result (λ tally. tally ≡ entries.now) }
     {
         let counts = counted(alloc, entries)?;
@@ -93,7 +93,7 @@ impl<'a> Tally<'a> {
     }
 
     /// How often the node took a send up.
-    pub(crate) fn times(&self, send: Probe) -> usize
+    pub fn times(&self, send: Probe) -> usize
         ensures { result ≡ count_by (delivers send) self.now }
     {
         times_in(&self.counts, send)

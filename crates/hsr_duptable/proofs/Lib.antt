@@ -3,4 +3,3 @@ pub mod LogLaws
 pub mod Within
 pub mod Chains
 pub mod Walks
-pub mod Sizes

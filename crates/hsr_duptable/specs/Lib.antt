@@ -4,4 +4,3 @@ pub mod Buckets
 pub mod Chains
 pub mod Table
 pub mod Log
-pub mod Sizes

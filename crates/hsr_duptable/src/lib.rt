@@ -4,14 +4,11 @@
 //! - `note`: what a table holds
 //! - `chain`: notes in chains, and the search along one
 //! - `table`: the table, and its law
-//! - `size`: how many entries a table holds, by its word
 #![tactic(auto)]
 
 mod chain;
 mod note;
-mod size;
 mod table;
 
 pub use note::{ENTRY_FORGET, Key, Note};
-pub use size::TableSize;
 pub use table::{DupTable, answers_as_log};

@@ -1,13 +1,17 @@
 //! What a command line chooses.
 ghost use Rattle.hsr_frame.specs.Address.{IsGroup};
 
-use hsr_duptable::TableSize;
 use hsr_frame::{Mac, Mode};
+use hsr_table_size::TableSize;
 use hsr_text::TimeUnit;
 
 /// The parts that a report has before its last line, each where it is asked for, in this order.
 #[derive(Clone, Copy, Debug, PartialEq, Eq)]
 pub struct Asked {
+    /// A line for each direction of a link that carried a copy, and the one with the most in a millisecond.
+    pub load: bool,
+    /// A line for each node that took up a frame, and the slowest of all.
+    pub latency: bool,
     /// A line for each send that isn't complete, and how many are.
     pub deliveries: bool,
     /// A line of how many entries the duplicate tables needed.
@@ -19,6 +23,8 @@ pub struct Asked {
 impl Asked {
     /// None of them.
     pub const NOTHING: Asked = Asked {
+        load: false,
+        latency: false,
         deliveries: false,
         needed: false,
         budget: false,
@@ -26,6 +32,8 @@ impl Asked {
 
     /// All of them.
     pub const ALL: Asked = Asked {
+        load: true,
+        latency: true,
         deliveries: true,
         needed: true,
         budget: true,

@@ -1,4 +1,4 @@
-//! What a command line may choose: a command, the size of duplicate tables (hsr_duptable), and what is written of a run.
+//! What a command line may choose: a command, the size of duplicate tables (hsr_table_size), and what is written of a run.
 //!
 //! Its one module, `chosen`, has all of it.
 #![tactic(auto)]

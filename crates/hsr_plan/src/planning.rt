@@ -1,13 +1,13 @@
 //! The whole program, over arguments, a reader and two writers.
 ghost use Rattle.std.specs.Prelude.{◌≡◌, IfOk, IfSome, OnOk, map};
-ghost use Rattle.hsr_duptable.specs.Sizes.{capacity_of};
+ghost use Rattle.hsr_table_size.specs.Sizes.{capacity_of};
 ghost use Rattle.hsr_plan_scenario.specs.Ends.{Ends, code_of};
 ghost use Rattle.hsr_plan.specs.Planning.{Answers, Does, IsDone, Plans, TellsWrite};
 
 use hsr_cli::{OptionFault, Task, task_by, turn_away};
-use hsr_duptable::TableSize;
 use hsr_plan_scenario::{Ending, check_run, plan_run};
 use hsr_plan_sweep::sweep_run;
+use hsr_table_size::TableSize;
 use std::alloc::Global;
 use std::io::{self, Read, Write};
 

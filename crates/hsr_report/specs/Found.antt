@@ -11,6 +11,9 @@ use Rattle.hsr_audit.specs.NetworkCertificate.{IsNetworkCertified}
 use Rattle.hsr_audit.specs.declared.breach.BudgetFault.TheVariants as breach
 use Rattle.hsr_deliveries.specs.Delivered.{Delivery, deliveries}
 use Rattle.hsr_deliveries.specs.Lines.{delivery_lines}
+use Rattle.hsr_latency.specs.Latencies.{latencies}
+use Rattle.hsr_latency.specs.Lines.{latency_lines}
+use Rattle.hsr_load.specs.Lines.{TellsLoad}
 use Rattle.hsr_run_laws.specs.Budget.{IsBudgetHeld}
 use Rattle.hsr_run_laws.specs.Run.{Run}
 use Rattle.hsr_table_demand.specs.Needs.{IsMost as IsMostNeeded}
@@ -39,6 +42,10 @@ IsSpending run (Crowded moment) = IsFirstBreach run (breach.Crowded moment)
 
 -- ---- the parts that are asked for
 
+-- how long sends took
+abbrev pub TellsLatency : Run → List ℕ → Type 0
+TellsLatency run text = text ≡ latency_lines (latencies run)
+
 -- who got each send
 abbrev pub TellsDeliveries : Run → List ℕ → Type 0
 TellsDeliveries run text = text ≡ delivery_lines (deliveries run)
@@ -62,13 +69,17 @@ IsPart true Tells text = Tells text
 
 -- the parts that are asked for, one behind the other
 pub record TellsAsked (asked : Asked) (run : Run) (text : List ℕ) : Type 0 where
+  pub load : List ℕ
+  pub latency : List ℕ
   pub deliveries : List ℕ
   pub needed : List ℕ
   pub budget : List ℕ
+  pub of_load : IsPart asked.load (TellsLoad run) load
+  pub of_latency : IsPart asked.latency (TellsLatency run) latency
   pub of_deliveries : IsPart asked.deliveries (TellsDeliveries run) deliveries
   pub of_needed : IsPart asked.needed (TellsNeeded run) needed
   pub of_budget : IsPart asked.budget (TellsBudget run) budget
-  pub all : text ≡ deliveries ++ needed ++ budget
+  pub all : text ≡ load ++ latency ++ deliveries ++ needed ++ budget
 
 -- ---- the report
 

@@ -1,6 +1,6 @@
 //! The report of a finished run: its nodes with their counters, its links with what became of their copies, and what
-//! its audit found; and, where that is asked for, who got what, how many entries were needed, and what was spent of the
-//! tables. Of a network it tells which ports on rings have no link, and which sends no node is for.
+//! its audit found; and, where that is asked for, how much links carried, how long sends took, who got what, how many entries
+//! were needed, and what was spent of the tables. Of a network it tells which ports on rings have no link, and which sends no node is for.
 //!
 //! Its modules, in the order in which to read them:
 //! - `finding`: what the audit found

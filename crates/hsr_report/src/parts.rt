@@ -1,14 +1,37 @@
 //! The parts of a report that are asked for.
 ghost use Rattle.std.specs.Prelude.{IfOk};
-ghost use Rattle.hsr_report.specs.Found.{IsPart, TellsAsked, TellsBudget, TellsDeliveries, TellsNeeded};
+ghost use Rattle.hsr_load.specs.Lines.{TellsLoad};
+ghost use Rattle.hsr_report.specs.Found.{IsPart, TellsAsked, TellsBudget, TellsDeliveries, TellsLatency, TellsNeeded};
 
 use crate::needs::put_needed;
 use crate::spending::{put_spending, spending_of};
 use hsr_audit::{deliveries, needed, put_deliveries};
 use hsr_finished_run::Closed;
 use hsr_frame::NoMemory;
+use hsr_latency::{latency_of, put_latency};
+use hsr_load::{load_of, put_load};
 use hsr_options::Asked;
 use std::alloc::Global;
+
+/// The lines of load.
+fn load_text<const C: usize>(alloc: Global, closed: &Closed<C>) -> Result<Vec<u8>, NoMemory>
+    ensures { IfOk result (λ text. TellsLoad closed.now.run text.items) }
+{
+    let load = load_of(alloc, closed)?;
+    let mut text = Vec::new(alloc);
+    put_load(&mut text, closed.topology().places(), &load)?;
+    Ok(text)
+}
+
+/// The lines of latency.
+fn latency_text<const C: usize>(alloc: Global, closed: &Closed<C>) -> Result<Vec<u8>, NoMemory>
+    ensures { IfOk result (λ text. TellsLatency closed.now.run text.items) }
+{
+    let latency = latency_of(alloc, closed)?;
+    let mut text = Vec::new(alloc);
+    put_latency(&mut text, &latency)?;
+    Ok(text)
+}
 
 /// The lines of deliveries.
 fn deliveries_text<const C: usize>(alloc: Global, closed: &Closed<C>) -> Result<Vec<u8>, NoMemory>
@@ -38,6 +61,36 @@ fn budget_text<const C: usize>(alloc: Global, closed: &Closed<C>) -> Result<Vec<
     let mut text = Vec::new(alloc);
     put_spending(&mut text, spending)?;
     Ok(text)
+}
+
+/// The lines of load, where they are asked for.
+fn load_part<const C: usize>(
+    alloc: Global,
+    closed: &Closed<C>,
+    is_asked: bool,
+) -> Result<Vec<u8>, NoMemory>
+    ensures { IfOk result (λ text. IsPart is_asked (TellsLoad closed.now.run) text.items) }
+{
+    if is_asked {
+        load_text(alloc, closed)
+    } else {
+        Ok(Vec::new(alloc))
+    }
+}
+
+/// The lines of latency, where they are asked for.
+fn latency_part<const C: usize>(
+    alloc: Global,
+    closed: &Closed<C>,
+    is_asked: bool,
+) -> Result<Vec<u8>, NoMemory>
+    ensures { IfOk result (λ text. IsPart is_asked (TellsLatency closed.now.run) text.items) }
+{
+    if is_asked {
+        latency_text(alloc, closed)
+    } else {
+        Ok(Vec::new(alloc))
+    }
 }
 
 /// The lines of deliveries, where they are asked for.
@@ -85,7 +138,7 @@ fn budget_part<const C: usize>(
     }
 }
 
-/// The parts that are asked for, one behind the other: deliveries, entries needed, budget. `NoMemory` if allocation
+/// The parts that are asked for, one behind the other: load, latency, deliveries, entries needed, budget. `NoMemory` if allocation
 /// fails.
 pub fn parts<const C: usize>(
     alloc: Global,
@@ -95,7 +148,9 @@ pub fn parts<const C: usize>(
     ensures { IfOk result (λ text. TellsAsked asked closed.now.run text.items) }
 {
     // In this order, whatever order the flags have (RULES, The report).
-    let mut text = deliveries_part(alloc, closed, asked.deliveries)?;
+    let mut text = load_part(alloc, closed, asked.load)?;
+    text.extend_from_slice(latency_part(alloc, closed, asked.latency)?.as_slice())?;
+    text.extend_from_slice(deliveries_part(alloc, closed, asked.deliveries)?.as_slice())?;
     text.extend_from_slice(needed_part(alloc, closed, asked.needed)?.as_slice())?;
     text.extend_from_slice(budget_part(alloc, closed, asked.budget)?.as_slice())?;
     Ok(text)

@@ -11,7 +11,7 @@ use Rattle.hsr_run_index.specs.InOrder.{copy_of_passage}
 use Rattle.hsr_run_index.specs.declared.agreement.Passage.TheVariants.{Put, Taken}
 use Rattle.hsr_timeline.specs.declared.hop.Hop.{Hop}
 use Rattle.hsr_timeline.specs.declared.hopping.Side.{Side}
-use Rattle.hsr_timeline.specs.Hops.{came_at, hop_of, judged_place, passed_at, passed_place, spot_at}
+use Rattle.hsr_timeline.specs.Hops.{came_at, hop_of, judged_place, passed_at, passed_place, passed_places, spot_at}
 use Rattle.hsr_timeline.specs.Partners.{partner, partners}
 use Rattle.hsr_timeline.specs.Sides.{IsSide}
 
@@ -24,6 +24,15 @@ long xs ys = length-map (range_with_len 0 (length ys)) (partner xs ys) ∙ range
 
 at : (xs ys : List (Option Carried)) (j : ℕ) → j < length ys → get_or (partners xs ys) j None ≡ partner xs ys j
 at xs ys j below = get_or-map-range_with_len (partner xs ys) 0 (length ys) j j None below (omega arith)
+
+-- the place of the entry that passed the copy of a row
+pub places_long : (run : Run) (l : ℕ) (dir : Dir) → length (passed_places run l dir) ≡ length (rows_of run l)
+places_long run l dir = long (passed_at run (from_end dir (ends_of run l))) (map (copy_of_passage Put dir) (rows_of run l)) ∙ length-map (rows_of run l) (copy_of_passage Put dir)
+
+pub place_at : (run : Run) (l : ℕ) (dir : Dir) (j : ℕ) → j < length (rows_of run l) → get_or (passed_places run l dir) j None ≡ passed_place run l dir j
+place_at run l dir j below =
+    let m = length-map (rows_of run l) (copy_of_passage Put dir) in
+    at (passed_at run (from_end dir (ends_of run l))) (map (copy_of_passage Put dir) (rows_of run l)) j (omega (arith, m, below))
 
 pub passed_long : (run : Run) (l : ℕ) (dir : Dir) (side : Side) (j : ℕ) → IsSide run l dir side → j < length (rows_of run l) → j < length side.passed.items
 passed_long run l dir side j is below =

@@ -1,6 +1,7 @@
 -- The hops of a finished run: each copy that was put on a link, with the entry that passed it and the entry that judged it.
---     hop_of       that of a row
---     hops         those of all rows, by link and index
+--     passed_places   of a direction, row by row, the places of the entries that passed the copies
+--     hop_of          that of a row
+--     hops            those of all rows, by link and index
 use Rattle.std.specs.Prelude.{ℕ, zero, suc, ◌+◌, List, [], ◌∷◌, ◌++◌, length, map, Option, option_map}
 use Rattle.hsr_node.specs.Record.{Owner}
 use Rattle.hsr_node.specs.declared.entry.Entry.{Entry}
@@ -13,7 +14,7 @@ use Rattle.hsr_run_index.specs.InOrder.{came_by, passed_by, copy_of_passage}
 use Rattle.hsr_run_index.specs.declared.agreement.Passage.TheVariants.{Put, Taken}
 use Rattle.hsr_timeline.specs.declared.origin.Spot.{Spot}
 use Rattle.hsr_timeline.specs.declared.hop.Hop.{Hop}
-use Rattle.hsr_timeline.specs.Partners.{partner}
+use Rattle.hsr_timeline.specs.Partners.{partner, partners}
 
 -- what each entry passed by a port, the n-th entry first
 abbrev pub passed_from : Owner → ℕ → ℕ → List Entry → List (Option Carried)
@@ -34,6 +35,10 @@ passed_place run l dir j =
 
 abbrev pub judged_place : Run → ℕ → Dir → ℕ → Option ℕ
 judged_place run l dir j = partner (came_at run (to_end dir (ends_of run l))) (map (copy_of_passage Taken dir) (rows_of run l)) j
+
+-- those of the entries that passed, of a direction, row by row; none where a row is of the other one
+abbrev pub passed_places : Run → ℕ → Dir → List (Option ℕ)
+passed_places run l dir = partners (passed_at run (from_end dir (ends_of run l))) (map (copy_of_passage Put dir) (rows_of run l))
 
 abbrev pub spot_at : ℕ → Option ℕ → Option Spot
 spot_at node place = option_map (λ p. record { node = node; place = p }) place

@@ -2,7 +2,7 @@
 ghost use Rattle.std.specs.Prelude.{◌≡◌, ◌<◌, ◌∷◌, [], ◌++◌, length, IfOk, OnOk};
 ghost use Rattle.hsr_link.specs.declared.row.Dir.TheVariants.{Forth, Back};
 ghost use Rattle.hsr_run_laws.specs.Run.{rows_of};
-ghost use Rattle.hsr_timeline.specs.Hops.{hop_of, hops, hops_from, spot_at};
+ghost use Rattle.hsr_timeline.specs.Hops.{hop_of, hops, hops_from, passed_places, spot_at};
 ghost use Rattle.hsr_timeline.specs.Sides.{IsSide};
 
 use crate::copies::{came_at, passed_at};
@@ -25,6 +25,24 @@ pub(crate) struct Side {
     judged: Vec<Option<usize>>,
 }
 
+/// The place of the entry that passed the copy of each row of a link, in the record of the node at the end from which the copies
+/// of a direction come; none where a row is of the other direction. `NoMemory` if allocation fails.
+pub fn passed_places<const C: usize>(
+    alloc: Global,
+    closed: &Closed<C>,
+    link: usize,
+    dir: Dir,
+) -> Result<Vec<Option<usize>>, NoMemory>
+    requires { link < length closed.now.run.links }
+    ensures { IfOk result (λ places. places.items ≡ passed_places closed.now.run link dir) }
+{
+    let from = closed.from_end(link, dir);
+    let sent = passed_at(alloc, closed, from)?;
+    let rows = closed.rows(link);
+    let places = partners(alloc, sent.as_slice(), Passage::Put, dir, rows)?;
+    Ok(places)
+}
+
 /// A direction of a link.
 fn direction<const C: usize>(
     alloc: Global,
@@ -38,8 +56,7 @@ fn direction<const C: usize>(
     let from = closed.from_end(link, dir);
     let to = closed.to_end(link, dir);
     let rows = closed.rows(link);
-    let sent = passed_at(alloc, closed, from)?;
-    let passed = partners(alloc, sent.as_slice(), Passage::Put, dir, rows)?;
+    let passed = passed_places(alloc, closed, link, dir)?;
     let came = came_at(alloc, closed, to)?;
     let judged = partners(alloc, came.as_slice(), Passage::Taken, dir, rows)?;
     Ok(Side {

@@ -24,8 +24,8 @@ pub fn put_name(text: &mut Vec<u8>, names: &[Vec<u8>], node: usize) -> Result<()
     Ok(())
 }
 
-/// Puts the letter of a port last, if there is such a node.
-fn put_letter(text: &mut Vec<u8>, places: &[Place], end: End) -> Result<(), NoMemory>
+/// Puts the letter of a port last, if there is such a node. `NoMemory` if allocation fails.
+pub fn put_letter(text: &mut Vec<u8>, places: &[Place], end: End) -> Result<(), NoMemory>
     ensures { OnOk result (text.new.items ≡ text.old.items
         ++ letter_if (slice_get places.now end.node) end.port) }
 {

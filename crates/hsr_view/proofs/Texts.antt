@@ -4,7 +4,7 @@ use Rattle.std.specs.Global.{Global}
 use Rattle.std.specs.Prelude.{IfErr, IfOk, IfSome, Vec}
 use Rattle.std.specs.Io.KnownBytes.{Keeps}
 use Rattle.hsr_finished_run.specs.Finished.{Finished}
-use Rattle.hsr_duptable.specs.Sizes.{capacity_of}
+use Rattle.hsr_table_size.specs.Sizes.{capacity_of}
 use Rattle.hsr_transcript.specs.Answers.{Answers, IsTextOf}
 use Rattle.hsr_transcript.specs.declared.fault.ReadFault.{ReadFault}
 use Rattle.hsr_view.specs.Ends.{Ends}

@@ -3,7 +3,7 @@
 --     Views   that, what stands on the other writer, and the status
 use Rattle.std.specs.Prelude.{ℕ, ◌≡◌, ◌⊎◌, List, [], ◌++◌, codes, Option, Result, Ok, Err}
 use Rattle.std.specs.Io.KnownBytes.{Appends, Keeps}
-use Rattle.hsr_duptable.specs.Sizes.{capacity_of}
+use Rattle.hsr_table_size.specs.Sizes.{capacity_of}
 use Rattle.hsr_view.specs.Fault.{fault_line}
 use Rattle.hsr_view.specs.Given.{given_of}
 use Rattle.hsr_view.specs.Reads.{front}

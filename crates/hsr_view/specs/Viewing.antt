@@ -7,8 +7,8 @@
 --     table_of      the size of the tables, by a text's front
 --     IsShownOf     what is shown of the text of a run
 use Rattle.std.specs.Prelude.{ℕ, ◌≡◌, ◌<◌, ◌==◌, ◌&&◌, ◌||◌, Bool, false, List, map, filter, length, Ok, [], Option, Some, None, is_some, option_map, codes, if◌then◌else◌}
-use Rattle.hsr_duptable.specs.declared.size.TableSize.{TableSize}
-use Rattle.hsr_duptable.specs.declared.size.TableSize.TheVariants.{Small, Large}
+use Rattle.hsr_table_size.specs.declared.size.TableSize.{TableSize}
+use Rattle.hsr_table_size.specs.declared.size.TableSize.TheVariants.{Small, Large}
 use Rattle.hsr_node.specs.declared.event.Probe.{Probe}
 use Rattle.hsr_topology.specs.Topology.{Topology}
 use Rattle.hsr_finished_run.specs.Finished.{Finished}

@@ -1,6 +1,6 @@
 //! What is asked for of a transcript that a reader gives, written; or a fault's line.
 ghost use Rattle.std.specs.Prelude.{◌≡◌, ◌⊎◌, IfErr, IfOk, IfSome, option_map};
-ghost use Rattle.hsr_duptable.specs.Sizes.{capacity_of};
+ghost use Rattle.hsr_table_size.specs.Sizes.{capacity_of};
 ghost use Rattle.hsr_view.specs.Ends.{Ends, IsDelivered, Tells, Views, code_of};
 ghost use Rattle.hsr_view.specs.Given.{given_of};
 ghost use Rattle.hsr_view.specs.Reads.{front};

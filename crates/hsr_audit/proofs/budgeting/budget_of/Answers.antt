@@ -8,7 +8,7 @@ use Rattle.hsr_audit.proofs.budgeting.budget_of.Goals as goal
 pub returns-in-Ok-most_crowded-clause-held : goal.returns-in-Ok-most_crowded-clause-held
 returns-in-Ok-most_crowded-clause-held g c =
     let run : Run = c.args.closed.now.run in
-    let ms = c.in-Ok.moments.sends.items in
+    let ms = c.in-Ok.sends.items in
     let most = c.in-Ok-most_crowded.most in
     let timed : AreInTime run = search rules in
     let windows : IsMostBelow ms (length ms) most = search rules in
@@ -17,14 +17,14 @@ returns-in-Ok-most_crowded-clause-held g c =
 
 pub returns-in-Ok-most_crowded-clause-most : goal.returns-in-Ok-most_crowded-clause-most
 returns-in-Ok-most_crowded-clause-most g c =
-    let ms = c.in-Ok.moments.sends.items in
+    let ms = c.in-Ok.sends.items in
     let windows : IsMostBelow ms (length ms) c.in-Ok-most_crowded.most = search rules in
     most_is c.args.closed.now.run ms c.in-Ok.ensures.sends c.in-Ok-most_crowded.most windows
 
 pub returns-clause-first : goal.returns-clause-first
 returns-clause-first g c =
     let run : Run = c.args.closed.now.run in
-    let ms = c.in-Ok.moments.sends.items in
+    let ms = c.in-Ok.sends.items in
     let timed : AreInTime run = search rules in
     let crowd : IsFirstOver run.capacity ms c.in-Err.moment = search rules in
     first_crowded run ms c.in-Ok.ensures.sends c.in-Err.moment timed crowd

@@ -3,7 +3,7 @@ use borrow.Author.Count.{below_more}
 use Rattle.hsr_node.specs.declared.entry.Entry.{Entry}
 use Rattle.hsr_run_laws.specs.Run.{Run, record_of}
 use Rattle.hsr_audit.specs.Budgeted.{IsInTimeAt}
-use Rattle.hsr_audit.specs.Timed.{is_in_time, lists_of}
+use Rattle.hsr_audit.specs.Timed.{is_in_time}
 use Rattle.hsr_audit.proofs.Timing.{in_time_at, late_at}
 use Rattle.hsr_audit.proofs.late.late_in.Goals as goal
 
@@ -13,10 +13,10 @@ returns-then-not-is_in_time g c =
     let x : Entry = c.x-item.result in
     let below : c.loop-place.place < length (record_of run c.args.node) = search rules in
     let x_is : x ≡ slice_index_or (record_of run c.args.node) c.loop-place.place x = search rules in
-    let not : is_in_time (lists_of c.args.moments.now) c.moment_in-at.result x.event ≡ false = search rules in
+    let not : is_in_time c.args.moments.now c.at-at.result x.event ≡ false = search rules in
     record {
       below = below;
-      late = late_at run (lists_of c.args.moments.now) c.args.node c.loop-place.place c.moment_in-at.result x c.requires.moments below c.moment_in-at.ensures x_is not;
+      late = late_at run c.args.moments.now c.args.node c.loop-place.place c.at-at.result x c.requires.moments below c.at-at.ensures x_is not;
       before = c.loop-place.invariant;
     }
 
@@ -26,6 +26,6 @@ loop-place-preserved g c =
     let x : Entry = c.x-item.result in
     let below : c.loop-place.place < length (record_of run c.args.node) = search rules in
     let x_is : x ≡ slice_index_or (record_of run c.args.node) c.loop-place.place x = search rules in
-    let timely : is_in_time (lists_of c.args.moments.now) c.moment_in-at.result x.event ≡ true = search rules in
+    let timely : is_in_time c.args.moments.now c.at-at.result x.event ≡ true = search rules in
     below_more (IsInTimeAt run c.args.node) c.loop-place.place c.loop-place.invariant
-    (in_time_at run (lists_of c.args.moments.now) c.args.node c.loop-place.place c.moment_in-at.result x c.requires.moments below c.moment_in-at.ensures x_is timely)
+    (in_time_at run c.args.moments.now c.args.node c.loop-place.place c.at-at.result x c.requires.moments below c.at-at.ensures x_is timely)

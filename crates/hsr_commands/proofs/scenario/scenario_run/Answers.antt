@@ -1,5 +1,5 @@
 use Rattle.std.proofs.Common.{ℕ, ◌^◌, IfSome, List, subst, sym}
-use Rattle.hsr_duptable.specs.Sizes.{capacity_of}
+use Rattle.hsr_table_size.specs.Sizes.{capacity_of}
 use Rattle.hsr_text.specs.Whole.{IsWhole}
 use Rattle.hsr_commands.proofs.Opening.{run_told_text}
 use Rattle.hsr_commands.proofs.scenario.scenario_run.Goals as goal

@@ -1,5 +1,5 @@
 use Rattle.std.proofs.Common.{ℕ, ◌^◌, IfSome, List, subst, sym}
-use Rattle.hsr_duptable.specs.Sizes.{capacity_of}
+use Rattle.hsr_table_size.specs.Sizes.{capacity_of}
 use Rattle.hsr_text.specs.Whole.{IsWhole}
 use Rattle.hsr_commands.proofs.Telling.{run_text_told}
 use Rattle.hsr_commands.proofs.threads.threads_run.Goals as goal

@@ -13,7 +13,7 @@ plans : (chosen : Result Task OptionFault) (words : List Text) (text : List ℕ)
     Answers chosen text shown held holds told tells code → Plans words text shown held holds told tells code
 plans (Ok task) words text shown held holds told tells code says refused some done = inl (record { task = task; says = says; done = done })
 plans (Err fault) words text shown held holds told tells code says refused some done =
-    inr (record { fault = fault; refused = refused; some = some; tells = done.0; kept = done.1 })
+    inr (record { fault = fault; refused = refused; some = some; turned_away = done.0; kept = done.1 })
 
 -- of a result's value, and of a text that is told, more holds
 further : {A E T : Type 0} (P Q : A → T → Type 0) (r : Result A E) (told : Option T) → ((a : A) (t : T) → P a t → Q a t) → IfOk r (λ a. IfSome told (P a)) → IfOk r (λ a. IfSome told (Q a))

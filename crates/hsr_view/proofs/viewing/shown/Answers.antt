@@ -1,6 +1,6 @@
 use Rattle.std.specs.Prelude.{option_map}
 use Rattle.std.proofs.Common.{sym, ap, ◌∙◌}
-use Rattle.hsr_duptable.specs.Sizes.{capacity_of}
+use Rattle.hsr_table_size.specs.Sizes.{capacity_of}
 use Rattle.hsr_view.specs.Given.{given_of}
 use Rattle.hsr_view.specs.Reads.{front}
 use Rattle.hsr_view.specs.Viewing.{table_of}

@@ -1,0 +1,6 @@
+pub mod Wire
+pub mod Carried
+pub mod Windows
+pub mod Sums
+pub mod Loads
+pub mod Lines

@@ -1,0 +1,26 @@
+//! The load of a finished run: how many frames and octets each channel carried, a direction of a link, and how many kbit/s that
+//! was over the whole run and in its worst millisecond.
+//!
+//! Its modules, in the order in which to read them:
+//! - `wire`: how many octets of a link a frame takes
+//! - `transit`: a copy that a channel carried
+//! - `carrying`: what each channel carried
+//! - `span`: how long copies went over the channels
+//! - `window`: the worst millisecond of a channel
+//! - `load`: the load of a channel
+//! - `loading`: the loads of a run, its call
+//! - `lines`: their lines in a report
+#![tactic(auto)]
+
+mod carrying;
+mod lines;
+mod load;
+mod loading;
+mod span;
+mod transit;
+mod window;
+mod wire;
+
+pub use lines::put_load;
+pub use load::{ChannelLoad, Load};
+pub use loading::load_of;
